@@ -1,0 +1,15 @@
+//! Values, rows with their order, and the schemas of tables.
+#![tactic(auto)]
+
+mod name;
+mod row;
+mod schema;
+mod value;
+
+pub use name::name_ok;
+pub use row::Row;
+pub use schema::{Column, RelId, RowFault, Schema};
+pub use value::{Kind, Value};
+
+#[cfg(test)]
+mod tests;

@@ -1,0 +1,124 @@
+//! Names of roles, relations and columns.
+ghost use Rattle.std.specs.Prelude.{◌≡◌, bytes_eq, nat_le, length};
+ghost use Rattle.std.specs.List.{list_all, list_any};
+ghost use Rattle.iv_rows.specs.Names.{is_name, is_first, is_further, is_reserved, begins_well};
+
+/// The words that are never names.
+const RESERVED: [&str; 46] = [
+    "all",
+    "and",
+    "as",
+    "between",
+    "by",
+    "case",
+    "cast",
+    "count",
+    "cross",
+    "current_user",
+    "distinct",
+    "except",
+    "exists",
+    "false",
+    "fetch",
+    "for",
+    "from",
+    "full",
+    "group",
+    "having",
+    "in",
+    "inner",
+    "intersect",
+    "is",
+    "join",
+    "left",
+    "like",
+    "limit",
+    "natural",
+    "not",
+    "null",
+    "offset",
+    "on",
+    "or",
+    "order",
+    "outer",
+    "public",
+    "right",
+    "select",
+    "sum",
+    "true",
+    "union",
+    "using",
+    "where",
+    "window",
+    "with",
+];
+
+/// Whether the byte may begin a name: a to z or an underscore.
+fn is_first(byte: u8) -> bool
+    ensures { result ≡ is_first byte }
+{
+    (b'a' <= byte && byte <= b'z') || byte == b'_'
+}
+
+/// Whether the byte may stand in a name: a to z, an underscore or a digit.
+fn is_further(byte: u8) -> bool
+    ensures { result ≡ is_further byte }
+{
+    is_first(byte) || (b'0' <= byte && byte <= b'9')
+}
+
+/// Whether the first byte may begin a name.
+fn begins_well(bytes: &[u8]) -> bool
+    ensures { result ≡ begins_well bytes.now }
+{
+    if bytes.len() == 0 {
+        return false;
+    }
+    is_first(bytes[0])
+}
+
+/// Whether the text is one of the words.
+fn is_one_of(words: &[&str], text: &str) -> bool
+    ensures { result ≡ list_any (λ word. bytes_eq word.now text.now) words.now }
+{
+    words.iter().any(|word| *word == text)
+}
+
+/// Whether the text is a word that is never a name.
+fn is_reserved(text: &str) -> bool
+    ensures { result ≡ is_reserved text.now }
+{
+    is_one_of(&RESERVED, text)
+}
+
+/// Whether each byte may stand in a name.
+fn are_further(bytes: &[u8]) -> bool
+    ensures { result ≡ list_all is_further bytes.now }
+{
+    bytes.iter().all(|byte| is_further(*byte))
+}
+
+/// Whether there are at most 63 bytes.
+fn is_short(bytes: &[u8]) -> bool
+    ensures { result ≡ nat_le (length bytes.now) 63 }
+{
+    bytes.len() <= 63
+}
+
+/// Whether the text may be a name: a to z or an underscore first, then a to z, digits and underscores, at most 63
+/// bytes, and no reserved word. It takes no memory.
+pub fn name_ok(text: &str) -> bool
+    ensures { result ≡ is_name text.now }
+{
+    let bytes = text.as_bytes();
+    if !begins_well(bytes) {
+        return false;
+    }
+    if !are_further(bytes) {
+        return false;
+    }
+    if !is_short(bytes) {
+        return false;
+    }
+    !is_reserved(text)
+}

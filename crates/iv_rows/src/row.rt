@@ -1,0 +1,134 @@
+//! Rows, their equality, order and hash.
+ghost use Rattle.std.specs.Prelude.{◌≡◌, ◌++◌, IfOk, IsTrue, OnOk, ◌↔◌, refl};
+ghost use Rattle.std.specs.Cmp.{partial_equiv_from_equiv, partial_order_from_total};
+ghost use Rattle.std.specs.List.{list_all};
+ghost use Rattle.std.specs.Ordering.{as_partial_cmp};
+ghost use Rattle.iv_rows.specs.Fed.{row_fed};
+ghost use Rattle.iv_rows.specs.Order.{row_cmp, row_eq};
+ghost use Rattle.iv_rows.specs.OrderLaws.{row_cmp_total, row_eq_equiv, row_fed_alike};
+ghost use Rattle.iv_rows.specs.Texts.{is_well, is_well_cell};
+ghost use Rattle.iv_rows.specs.View.{cell_of, cells_of};
+
+use crate::value::Value;
+use std::alloc::AllocError;
+use std::cmp::Ordering;
+use std::hash::{Hash, Hasher};
+use std::marker::Model;
+
+/// The values of the columns of a row, from the left.
+///
+/// Rows compare from the left, column by column; a row that is the front of another stands before it.
+#[derive(Drop)]
+pub struct Row(pub Vec<Value>);
+
+impl Model for Row {
+    ghost use Rattle.std.specs.Prelude.{List};
+    ghost use Rattle.iv_rows.specs.Cell.{Cell};
+
+    ghost Value = { List Cell };
+
+    ghost use Rattle.iv_rows.specs.View.{cells_of};
+
+    ghost view = { λ r. cells_of r.0.items };
+}
+
+impl Row {
+    /// The values of the columns, from the left.
+    pub fn values(&self) -> &[Value]
+        ensures { cells_of result.now ≡ self.now }
+    {
+        &self.0
+    }
+
+    /// An equal row, in memory of the same allocator.
+    ///
+    /// # Errors
+    /// `AllocError` where a growth of memory was refused.
+    pub fn copy(&self) -> Result<Row, AllocError>
+        ensures { IfOk result (λ row. row ≡ self.now) }
+    {
+        let mut copies = Vec::with_capacity(*self.0.allocator(), self.0.len())?;
+        copy_values(&self.0, &mut copies)?;
+        Ok(Row(copies))
+    }
+
+    /// Whether a table may hold the row: each text has at most 1,024 bytes and no U+0000.
+    pub fn well(&self) -> bool
+        ensures { result ≡ is_well self.now }
+    {
+        are_well(&self.0)
+    }
+
+    /// Whether the two are one row.
+    #[tactic(auto, using(crate::specs::OrderLaws::row_eq_decides))]
+    pub fn same(&self, other: &Row) -> bool
+        ensures { IsTrue result ↔ (self.now ≡ other.now) }
+    {
+        *self == *other
+    }
+}
+
+/// Appends equal values, in their order.
+fn copy_values(values: &[Value], copies: &mut Vec<Value>) -> Result<(), AllocError>
+    ensures { OnOk result (cells_of copies.new.items ≡ cells_of copies.old.items ++ cells_of values.now) }
+{
+    for value in values {
+        copies.push(value.copy()?)?;
+    }
+    Ok(())
+}
+
+/// Whether a table may hold all the values.
+fn are_well(values: &[Value]) -> bool
+    ensures { result ≡ list_all (λ v. is_well_cell (cell_of v)) values.now }
+{
+    values.iter().all(Value::well)
+}
+
+impl PartialEq for Row {
+    ghost eq = { row_eq };
+
+    ghost laws = { partial_equiv_from_equiv row_eq_equiv };
+
+    fn eq(&self, other: &Row) -> bool {
+        self.cmp(other).is_eq()
+    }
+}
+
+impl Eq for Row {
+    ghost laws = { row_eq_equiv };
+}
+
+impl PartialOrd for Row {
+    ghost partial_cmp = { as_partial_cmp row_cmp };
+
+    ghost laws = { partial_order_from_total row_cmp_total };
+
+    fn partial_cmp(&self, other: &Row) -> Option<Ordering> {
+        Some(self.cmp(other))
+    }
+}
+
+impl Ord for Row {
+    ghost cmp = { row_cmp };
+
+    ghost total = { row_cmp_total };
+
+    ghost matches_partial_cmp = { λ _ _. refl };
+
+    ghost matches_eq = { λ _ _. refl };
+
+    fn cmp(&self, other: &Row) -> Ordering {
+        self.0.cmp(&other.0)
+    }
+}
+
+impl Hash for Row {
+    ghost hash_input = { row_fed };
+
+    ghost respects_eq = { row_fed_alike };
+
+    fn hash<H: Hasher>(&self, state: &mut H) {
+        self.0.hash(state);
+    }
+}

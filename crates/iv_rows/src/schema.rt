@@ -1,0 +1,156 @@
+//! The columns of a table, and numbers of relations.
+ghost use Rattle.std.specs.Prelude.{◌≡◌, ◌↔◌, ◌&&◌, IfOk, not, true, false};
+ghost use Rattle.std.specs.Prelude.{bytes_eq};
+ghost use Rattle.std.specs.List.{list_all, list_any};
+ghost use Rattle.iv_rows.specs.Columns.{accepts, kinds_of, has_columns, has_distinct_names, is_wide};
+ghost use Rattle.iv_rows.specs.Names.{is_name};
+ghost use Rattle.iv_rows.specs.View.{cells_of};
+
+use crate::name::name_ok;
+use crate::row::Row;
+use crate::value::{Kind, Value};
+use std::marker::Model;
+
+/// The number of a table or a view.
+#[derive(Clone, Copy, Debug, PartialEq, Eq, PartialOrd, Ord, Hash)]
+pub struct RelId(pub u32);
+
+/// A column of a table or a view.
+#[derive(Drop)]
+pub struct Column {
+    /// What queries and policies call it.
+    pub name: String,
+    /// The kind of its values.
+    pub kind: Kind,
+}
+
+impl Model for Column {
+    ghost use Rattle.std.specs.Prelude.{string_bytes};
+    ghost use Rattle.iv_rows.specs.Columns.{Column};
+
+    ghost Value = { Column };
+
+    ghost view = { λ c. record { name = string_bytes c.name; kind = c.kind } };
+}
+
+/// Why columns are no schema.
+#[derive(Clone, Copy, Debug, PartialEq, Eq)]
+pub enum RowFault {
+    /// There is no column, there are more than 16, or a name is none (see [`crate::name_ok`]).
+    Columns,
+    /// Two columns have one name.
+    Duplicate,
+}
+
+/// The columns of a table or a view, from the left: 1 to 16, with distinct names.
+#[derive(Drop)]
+pub struct Schema {
+    columns: Vec<Column>,
+}
+
+impl Model for Schema {
+    ghost use Rattle.std.specs.Prelude.{List, IsTrue, ◌&&◌};
+    ghost use Rattle.iv_rows.specs.Columns.{Column, has_columns, has_distinct_names};
+
+    ghost Value = { List Column };
+
+    ghost view = { λ s. s.columns.items };
+
+    ghost invariant = { λ s. IsTrue (has_columns s.columns.items && has_distinct_names s.columns.items) };
+}
+
+impl Schema {
+    /// The schema with these columns. It takes no memory.
+    ///
+    /// # Errors
+    /// `Columns` where there is no column, where there are more than 16, or where a name is none; else `Duplicate`
+    /// where two columns have one name.
+    pub fn try_new(columns: Vec<Column>) -> Result<Schema, RowFault>
+        ensures ok { IfOk result (λ schema. schema ≡ columns.items) }
+        ensures columns { result ≡ Err RowFault.Columns ↔ (has_columns columns.items ≡ false) }
+        ensures duplicate { result ≡ Err RowFault.Duplicate ↔ ((has_columns columns.items && not (has_distinct_names columns.items)) ≡ true) }
+    {
+        if !has_columns(&columns) {
+            return Err(RowFault::Columns);
+        }
+        if !are_distinct(&columns) {
+            return Err(RowFault::Duplicate);
+        }
+        Ok(Schema { columns })
+    }
+
+    /// The columns, from the left.
+    pub fn columns(&self) -> &[Column]
+        ensures columns { result.now ≡ self.now }
+        ensures schema { (has_columns self.now && has_distinct_names self.now) ≡ true }
+    {
+        &self.columns
+    }
+
+    /// Whether the row has as many values as there are columns, each of its column's kind.
+    pub fn accepts(&self, row: &Row) -> bool
+        ensures { result ≡ accepts (kinds_of self.now) row.now }
+    {
+        are_of(&self.columns, row.values())
+    }
+}
+
+/// Whether each value is of its column's kind, and there are as many.
+fn are_of(columns: &[Column], values: &[Value]) -> bool
+    ensures { result ≡ accepts (kinds_of columns.now) (cells_of values.now) }
+{
+    if values.len() != columns.len() {
+        return false;
+    }
+    for place in 0..columns.len() {
+        let column = &columns[place];
+        if !values[place].is_of(column.kind) {
+            return false;
+        }
+    }
+    true
+}
+
+/// Whether there are 1 to 16 columns.
+fn is_wide(columns: &[Column]) -> bool
+    ensures { result ≡ is_wide columns.now }
+{
+    1 <= columns.len() && columns.len() <= 16
+}
+
+/// Whether there are 1 to 16 columns, each with a name.
+fn has_columns(columns: &[Column]) -> bool
+    ensures { result ≡ has_columns columns.now }
+{
+    if !is_wide(columns) {
+        return false;
+    }
+    are_named(columns)
+}
+
+/// Whether each column's name is one.
+fn are_named(columns: &[Column]) -> bool
+    ensures { result ≡ list_all (λ c. is_name c.name) columns.now }
+{
+    columns.iter().all(|column| name_ok(column.name.as_str()))
+}
+
+/// Whether a column has the name.
+fn has_name(columns: &[Column], name: &str) -> bool
+    ensures { result ≡ list_any (λ c. bytes_eq name.now c.name) columns.now }
+{
+    columns.iter().any(|column| name == column.name.as_str())
+}
+
+/// Whether no two columns have one name.
+fn are_distinct(columns: &[Column]) -> bool
+    ensures { result ≡ has_distinct_names columns.now }
+{
+    for place in 0..columns.len() {
+        let column = &columns[place];
+        if has_name(&columns[place + 1..], column.name.as_str()) {
+            return false;
+        }
+    }
+    true
+}
