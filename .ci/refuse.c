@@ -1,0 +1,34 @@
+/* Put before a program by LD_PRELOAD: refuses the request for memory whose number REFUSE gives, none
+   where it is 0. At the end it writes the number of requests to the file descriptor REFUSE_TELL. */
+typedef __SIZE_TYPE__ size_t;
+
+extern void *__libc_malloc(size_t);
+extern void *__libc_realloc(void *, size_t);
+extern void *__libc_calloc(size_t, size_t);
+extern char *getenv(const char *);
+extern long strtol(const char *, char **, int);
+extern int dprintf(int, const char *, ...);
+
+static long asked;
+static long at = -1;
+
+static int is_refused(void) {
+  if (at < 0) {
+    const char *number = getenv("REFUSE");
+    at = number ? strtol(number, 0, 10) : 0;
+  }
+  asked++;
+  return asked == at;
+}
+
+void *malloc(size_t size) { return is_refused() ? 0 : __libc_malloc(size); }
+
+void *realloc(void *block, size_t size) { return is_refused() ? 0 : __libc_realloc(block, size); }
+
+void *calloc(size_t count, size_t size) { return is_refused() ? 0 : __libc_calloc(count, size); }
+
+__attribute__((destructor)) static void tell(void) {
+  const char *descriptor = getenv("REFUSE_TELL");
+  if (descriptor)
+    dprintf((int)strtol(descriptor, 0, 10), "%ld\n", asked);
+}

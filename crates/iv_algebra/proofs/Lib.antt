@@ -1,0 +1,9 @@
+pub mod Answering
+pub mod Changing
+pub mod Columns
+pub mod Groups
+pub mod Growing
+pub mod Holding
+pub mod Once
+pub mod Operators
+pub mod Shares

@@ -1,0 +1,9 @@
+pub mod Answers
+pub mod Contents
+pub mod Data
+pub mod Fits
+pub mod Groups
+pub mod Plans
+pub mod Predicates
+pub mod Rows
+pub mod Steps

@@ -1,0 +1,72 @@
+-- A step from its answer, and the lines of a list of commands one by one.
+use Rattle.std.proofs.Common.{◌≡◌, ℕ, Bool, true, false, ◌&&◌, List, [], ◌∷◌, ◌++◌, map, length, Option, None, Some, refl, sym, ap, ◌∙◌, append_assoc, arith, subst}
+use Rattle.std.specs.List.{list_all}
+use Rattle.iv_rows.specs.Columns.{Column, has_columns, has_distinct_names}
+use Rattle.iv_rows.specs.Names.{is_name}
+use Rattle.iv_machine.specs.Act as machine
+use Rattle.iv_machine.specs.Act.{create_table}
+use Rattle.iv_machine.specs.Machine.{outcome, run, step}
+use Rattle.iv_machine.specs.State.{Lists, State}
+use Rattle.iv_machine.specs.Well.{is_well_act, is_well_command}
+use Rattle.iv_engine.specs.Answering.{IsAnswer, IsKept, IsLeft, IsStep, said}
+use Rattle.iv_engine.specs.Seen.{Seen, at, IsBehind}
+use Rattle.iv_engine.specs.Stands.{Stands}
+use Rattle.iv_engine.specs.Views.{refusal_of, reply_of, line_of}
+use Rattle.iv_engine.specs.declared.answer.Answer.{Answer}
+use Rattle.iv_engine.specs.declared.answer.Answer.TheVariants.{Refused, Accepted}
+
+-- ---- one step
+
+module _ (e : Seen) (T : Lists) (n : ℕ) (act : machine.Act) where
+  abbrev told : machine.Command
+  told = record { session = n; act = act }
+
+  pub said_lines : (a : Answer) → IsAnswer e T n act a → said n a ≡ (step (at e T) told).lines
+  said_lines (Refused r) h = sym (ap (λ o. (outcome (at e T) told o).lines) h)
+  said_lines (Accepted reply lines) h = (λ i. machine.reply n (h.1 i) ∷ h.2 i) ∙ sym (ap (λ o. (outcome (at e T) told o).lines) h.0)
+
+  pub left_state : (a : Answer) (new : Seen) → IsAnswer e T n act a → IsLeft e T n act a new → IsKept e a new → Stands T e.bags → IsBehind (step (at e T) told).state new
+  left_state (Refused r) new h l k s = subst (λ (t : State). IsBehind t new) (sym (ap (λ o. (outcome (at e T) told o).state) h))
+      (record { frame = ap (λ (v : Seen). v.frame) (sym k); rows = subst (λ (v : Seen). Stands T v.bags) (sym k) s })
+  left_state (Accepted reply lines) new h l k s = subst (λ (t : State). IsBehind t new) (sym (ap (λ o. (outcome (at e T) told o).state) h.0)) l
+
+head_reply : (n k : ℕ) (r : machine.Reply) (x : machine.Refusal) (ls : List machine.Line) → machine.reply n r ∷ ls ≡ machine.reply k (machine.refused x) ∷ [] → r ≡ machine.refused x
+head_reply n k r x ls h = cc
+
+pub kept_refused : (e new : Seen) (n : ℕ) (a : Answer) → IsKept e a new → (k : ℕ) (x : machine.Refusal) → said n a ≡ machine.reply k (machine.refused x) ∷ [] → new ≡ e
+kept_refused e new n (Refused r) h k x l = h
+kept_refused e new n (Accepted reply lines) h k x l = absurd (h x (head_reply n k (reply_of reply) x (map line_of lines.items) l))
+
+-- ---- commands that keep the rules on shape
+
+and_first : (b c : Bool) → (b && c) ≡ true → b ≡ true
+and_first true c h = refl
+and_first false c h = cc
+
+and_second : (b c : Bool) → (b && c) ≡ true → c ≡ true
+and_second true c h = h
+and_second false c h = cc
+
+pub well_columns : (name owner : List ℕ) (columns : List Column) → is_well_act (create_table name owner columns) ≡ true → (has_columns columns && has_distinct_names columns) ≡ true
+well_columns name owner columns h = and_second (is_name owner) (has_columns columns && has_distinct_names columns) (and_second (is_name name) (is_name owner && (has_columns columns && has_distinct_names columns)) h)
+
+pub well_first : (c : machine.Command) (cs : List machine.Command) → list_all is_well_command (c ∷ cs) ≡ true → is_well_command c ≡ true
+well_first c cs h = and_first (is_well_command c) (list_all is_well_command cs) h
+
+pub well_others : (c : machine.Command) (cs : List machine.Command) → list_all is_well_command (c ∷ cs) ≡ true → list_all is_well_command cs ≡ true
+well_others c cs h = and_second (is_well_command c) (list_all is_well_command cs) h
+
+-- ---- many
+
+pub run_more : (t : State) (cmd : machine.Command) (rest : List machine.Command) (old said new all : List machine.Line) → new ≡ old ++ said → said ≡ (step t cmd).lines → old ++ (run t (cmd ∷ rest)).lines ≡ all → new ++ (run (step t cmd).state rest).lines ≡ all
+run_more t cmd rest old said new all e f h =
+    (λ i. e i ++ (run (step t cmd).state rest).lines) ∙ append_assoc old said (run (step t cmd).state rest).lines
+    ∙ ap (λ ls. old ++ (ls ++ (run (step t cmd).state rest).lines)) f ∙ h
+
+pub no_items : {A : Type 0} (xs : List A) → length xs ≡ 0 → xs ≡ []
+no_items [] h = refl
+no_items (x ∷ xs) h = absurd (omega arith)
+
+pub nothing_more : {A : Type 0} (xs : List A) → xs ≡ xs ++ []
+nothing_more [] = refl
+nothing_more (x ∷ xs) = ap (λ ys. x ∷ ys) (nothing_more xs)

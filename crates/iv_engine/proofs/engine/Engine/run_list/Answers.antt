@@ -1,0 +1,60 @@
+use Rattle.std.proofs.Common.{◌≡◌, ◌∙◌, sym, ap, List, map, ◌++◌, ◌∷◌, [], subst, cond, ℕ, length, arith, true, false}
+use Rattle.std.specs.List.{list_all}
+use Rattle.std.proofs.lemmas.List.{map-append}
+use Rattle.std.specs.Vec.Iter.{into_iter_items}
+use Rattle.iv_machine.proofs.Adding.{adds_up}
+use Rattle.iv_machine.specs.Held.{held}
+use Rattle.iv_machine.specs.Machine.{run, step}
+use Rattle.iv_machine.specs.Reached.{IsReached}
+use Rattle.iv_machine.specs.State.{Frame, State}
+use Rattle.iv_machine.specs.Well.{is_well_command}
+use Rattle.iv_engine.specs.declared.command.Command.{Command}
+use Rattle.iv_engine.specs.Answering.{IsSound}
+use Rattle.iv_engine.specs.Seen.{Seen, IsBehind}
+use Rattle.iv_engine.specs.Views.{command_of, line_of}
+use Rattle.iv_engine.proofs.Running.{no_items, nothing_more, run_more, well_others}
+use Rattle.iv_engine.proofs.engine.Engine.run_list.Goals as goal
+
+pub loop-command-preserved : goal.loop-command-preserved
+loop-command-preserved c =
+    let next = c.in-Some.ensures.steps.0 in
+    let cmd = command_of c.in-Some.command in
+    let rest = map command_of (into_iter_items c.next.new.self) in
+    let old = c.loop-command.lines.items in (
+      tt,
+      tt,
+      well_others cmd rest (sym (ap (λ (cs : List Command). list_all is_well_command (map command_of cs)) next) ∙ c.loop-command.invariant.2),
+      c.in_ok-said.ensures.went_on,
+      λ s b.
+          let x = c.loop-command.invariant.4 s b in
+          let items : c.append.new.self.items ≡ old ++ c.in_ok-said.said.items = c.append.ensures.items ∙ ap (λ t. cond t (old ++ c.in_ok-said.said.items) old) c.if-is_err.ensures.negation in (
+            (step x.0 cmd).state,
+            c.in_ok-said.ensures.state x.0 x.1,
+            run_more x.0 cmd rest (map line_of old) (map line_of c.in_ok-said.said.items) (map line_of c.append.new.self.items) (run s (map command_of c.args.commands.items)).lines
+                (ap (map line_of) items ∙ map-append line_of old c.in_ok-said.said.items) (c.in_ok-said.ensures.lines x.0 x.1)
+                (sym (ap (λ (cs : List Command). map line_of old ++ (run x.0 (map command_of cs)).lines) next) ∙ x.2),
+            sym (ap (λ (cs : List Command). (run x.0 (map command_of cs)).state) next) ∙ x.3,
+          ),
+    )
+
+pub returns-clause-lines : goal.returns-clause-lines
+returns-clause-lines c = λ s b.
+    let x = c.loop-command.invariant.4 s b in
+    let none : into_iter_items c.loop-command.command-iterator ≡ [] = no_items (into_iter_items c.loop-command.command-iterator) (let empty = c.in-None.ensures.steps.0 in let ok = c.loop-command.command-iterator.rest.ok in omega (arith, empty, ok)) in
+    nothing_more (map line_of c.loop-command.lines.items) ∙ sym (ap (λ (cs : List Command). map line_of c.loop-command.lines.items ++ (run x.0 (map command_of cs)).lines) none) ∙ x.2
+
+pub returns-clause-state : goal.returns-clause-state
+returns-clause-state c = λ s b.
+    let x = c.loop-command.invariant.4 s b in
+    let none : into_iter_items c.loop-command.command-iterator ≡ [] = no_items (into_iter_items c.loop-command.command-iterator) (let empty = c.in-None.ensures.steps.0 in let ok = c.loop-command.command-iterator.rest.ok in omega (arith, empty, ok)) in
+    subst (λ (t : State). IsBehind t c.loop-command.self) (sym (ap (λ (cs : List Command). (run x.0 (map command_of cs)).state) none) ∙ x.3) x.1
+
+pub returns-clause-held : goal.returns-clause-held
+returns-clause-held c = λ s b k q.
+    let x = c.loop-command.invariant.4 s b in
+    let none : into_iter_items c.loop-command.command-iterator ≡ [] = no_items (into_iter_items c.loop-command.command-iterator) (let empty = c.in-None.ensures.steps.0 in let ok = c.loop-command.command-iterator.rest.ok in omega (arith, empty, ok)) in
+    let lines : map line_of c.loop-command.lines.items ≡ (run s (map command_of c.args.commands.items)).lines = nothing_more (map line_of c.loop-command.lines.items) ∙ sym (ap (λ (cs : List Command). map line_of c.loop-command.lines.items ++ (run x.0 (map command_of cs)).lines) none) ∙ x.2 in
+    let went : c.self.inside.failed ≡ false = ap (λ (v : Seen). v.failed) c.self.view_is ∙ sym c.is_failed.ensures ∙ c.if-is_failed.false in
+    let sound : IsSound c.self.inside.store = c.self.invariant went in
+    let reached : IsReached s.frame = subst IsReached (ap (λ (v : Seen). v.frame) c.self.view_is ∙ sym b.frame) sound.reached in
+    ap (held k q) lines ∙ adds_up s (map command_of c.args.commands.items) reached k q

@@ -1,0 +1,45 @@
+-- What commands and lines of the code are to the machine.
+use Rattle.std.specs.Prelude.{string_bytes}
+use Rattle.iv_machine.specs.Act as machine
+use Rattle.iv_engine.specs.declared.command.Command.{Command}
+use Rattle.iv_engine.specs.declared.command.Act.{Act}
+use Rattle.iv_engine.specs.declared.command.Act.TheVariants.{Begin, CreateRole, CreateTable, Grant, Write, Subscribe}
+use Rattle.iv_engine.specs.declared.command.Refusal.{Refusal}
+use Rattle.iv_engine.specs.declared.command.Refusal.TheVariants.{NoSession, SessionInUse, UnknownRole, NameTaken, UnknownRelation, BadRow, NotAdministrator, NotOwner, MissingPrivilege, Limit, TooMany}
+use Rattle.iv_engine.specs.declared.command.Reply.{Reply}
+use Rattle.iv_engine.specs.declared.command.Reply.TheVariants as said
+use Rattle.iv_engine.specs.declared.command.Line.{Line}
+use Rattle.iv_engine.specs.declared.command.Line.TheVariants as line
+
+abbrev pub act_of : Act → machine.Act
+act_of (Begin role) = machine.begin (string_bytes role)
+act_of (CreateRole name) = machine.create_role (string_bytes name)
+act_of (CreateTable name owner columns) = machine.create_table (string_bytes name) (string_bytes owner) columns.items
+act_of (Grant rel privileges grantee) = machine.grant (string_bytes rel) privileges.items (string_bytes grantee)
+act_of (Write entries) = machine.write entries.items
+act_of (Subscribe rel) = machine.subscribe (string_bytes rel)
+
+abbrev pub command_of : Command → machine.Command
+command_of c = record { session = c.session; act = act_of c.act }
+
+abbrev pub refusal_of : Refusal → machine.Refusal
+refusal_of NoSession = machine.no_session
+refusal_of SessionInUse = machine.session_in_use
+refusal_of UnknownRole = machine.unknown_role
+refusal_of NameTaken = machine.name_taken
+refusal_of UnknownRelation = machine.unknown_relation
+refusal_of (BadRow n) = machine.bad_row n
+refusal_of NotAdministrator = machine.not_administrator
+refusal_of (NotOwner rel) = machine.not_owner (string_bytes rel)
+refusal_of (MissingPrivilege p rel) = machine.missing_privilege p (string_bytes rel)
+refusal_of Limit = machine.limit
+refusal_of TooMany = machine.too_many
+
+abbrev pub reply_of : Reply → machine.Reply
+reply_of said.Ok = machine.done
+reply_of (said.Subscribed k) = machine.subscribed k
+reply_of (said.Refused r) = machine.refused (refusal_of r)
+
+abbrev pub line_of : Line → machine.Line
+line_of (line.Reply n r) = machine.reply n (reply_of r)
+line_of (line.Change n k rows) = machine.change n k rows.items

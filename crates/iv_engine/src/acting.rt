@@ -1,0 +1,81 @@
+//! One step: a command to its lines.
+ghost use Rattle.std.specs.Prelude.{◌≡◌, ℕ, ◌∷◌, [], IfOk, OnOk, map, true};
+ghost use Rattle.iv_machine.specs.Act as machine;
+ghost use Rattle.iv_machine.specs.Machine.{step};
+ghost use Rattle.iv_machine.specs.State.{Lists};
+ghost use Rattle.iv_machine.specs.Well.{is_well_act, is_well_command};
+ghost use Rattle.iv_engine.specs.Answering.{IsPlain, IsSound, IsStep};
+ghost use Rattle.iv_engine.specs.Seen.{IsBehind, at};
+ghost use Rattle.iv_engine.specs.Stands.{Stands};
+ghost use Rattle.iv_engine.specs.Views.{act_of, command_of, line_of};
+
+use crate::answer::{Answer, lines_of};
+use crate::command::{Act, Command, Line, Refusal, Reply};
+use crate::store::Store;
+use std::alloc::{AllocError, Global};
+
+/// The answer of a request that shows nothing.
+fn plain(alloc: Global, refusal: Option<Refusal>) -> Answer
+    ensures { IsPlain refusal result }
+{
+    match refusal {
+        None => Answer::Accepted {
+            reply: Reply::Ok,
+            changes: Vec::new(alloc),
+        },
+        Some(refusal) => Answer::Refused(refusal),
+    }
+}
+
+impl Store {
+    /// Makes the tests of a request, and the change where all pass.
+    fn act(&mut self, session: u32, act: Act) -> Result<Answer, AllocError>
+        requires well { is_well_act (act_of act) ≡ true }
+        requires sound { IsSound self.old }
+        ensures { IfOk result (λ answer. IsStep self.old session (act_of act) answer self.new) }
+    {
+        match act {
+            Act::Begin { role } => {
+                let refusal = self.begin(session, role)?;
+                Ok(plain(self.alloc, refusal))
+            }
+            Act::CreateRole { name } => {
+                let refusal = self.create_role(session, name)?;
+                Ok(plain(self.alloc, refusal))
+            }
+            Act::CreateTable {
+                name,
+                owner,
+                columns,
+            } => {
+                let refusal = self.create_table(session, name, owner, columns)?;
+                Ok(plain(self.alloc, refusal))
+            }
+            Act::Grant {
+                rel,
+                privileges,
+                grantee,
+            } => {
+                let refusal = self.grant(session, rel, &privileges, grantee.as_str())?;
+                Ok(plain(self.alloc, refusal))
+            }
+            Act::Write { entries } => self.write(session, entries),
+            Act::Subscribe { rel } => self.subscribe(session, rel),
+        }
+    }
+
+    /// One step of the machine.
+    pub fn step(&mut self, command: Command) -> Result<Vec<Line>, AllocError>
+        requires well { is_well_command (command_of command) ≡ true }
+        requires sound { IsSound self.old }
+        ensures lines { IfOk result (λ lines. (T : Lists) → Stands T self.old.bags → map line_of lines.items ≡ (step (at self.old T) (command_of command)).lines) }
+        ensures state { OnOk result ((T : Lists) → Stands T self.old.bags → IsBehind (step (at self.old T) (command_of command)).state self.new) }
+        ensures refused { IfOk result (λ lines. (n : ℕ) (r : machine.Refusal) → map line_of lines.items ≡ machine.reply n (machine.refused r) ∷ [] → self.new ≡ self.old) }
+        ensures sound { OnOk result (IsSound self.new) }
+    {
+        let session = command.session;
+        let answer = self.act(session, command.act)?;
+        let lines = lines_of(self.alloc, session, answer)?;
+        Ok(lines)
+    }
+}

@@ -1,0 +1,151 @@
+//! What the engine is asked, and what it says.
+ghost use Rattle.std.specs.Prelude.{◌≡◌};
+
+use iv_machine::Privilege;
+use iv_rows::{Column, Row};
+use std::alloc::AllocError;
+use std::marker::Model;
+
+/// A request of a session.
+#[derive(Drop)]
+pub struct Command {
+    /// The session's number, from 1 on.
+    pub session: u32,
+    /// What it asks.
+    pub act: Act,
+}
+
+/// What a session asks.
+#[derive(Drop)]
+pub enum Act {
+    /// Opens the session for a role.
+    Begin {
+        role: String,
+    },
+    /// Adds a role. Only `admin` may.
+    CreateRole {
+        name: String,
+    },
+    /// Adds a table of an owner, who is granted all four privileges on it. Only `admin` may.
+    CreateTable {
+        name: String,
+        owner: String,
+        columns: Vec<Column>,
+    },
+    /// Gives a role privileges on a relation. Only its owner and `admin` may.
+    Grant {
+        rel: String,
+        privileges: Vec<Privilege>,
+        grantee: String,
+    },
+    /// Writes all the entries, in their order, or none.
+    Write {
+        entries: Vec<Entry>,
+    },
+    /// Opens a subscription to a relation.
+    Subscribe {
+        rel: String,
+    },
+}
+
+/// One entry of a write.
+#[derive(Drop)]
+pub struct Entry {
+    /// The table.
+    pub rel: String,
+    /// What is done.
+    pub op: Op,
+    /// How often, from 1 on.
+    pub copies: i64,
+}
+
+impl Model for Entry {
+    ghost use Rattle.std.specs.Prelude.{string_bytes};
+    ghost use Rattle.iv_machine.specs.Act.{Entry};
+    ghost use Rattle.iv_engine.specs.Entries.{op_of, copies_of};
+
+    ghost Value = { Entry };
+
+    ghost view = { λ e. record { rel = string_bytes e.rel; op = op_of e.op; copies = copies_of e.copies } };
+}
+
+/// What an entry does.
+#[derive(Drop)]
+pub enum Op {
+    /// Adds copies of a row.
+    Insert(Row),
+}
+
+/// The first test of a request that failed.
+#[derive(Drop)]
+pub enum Refusal {
+    /// The session is not open.
+    NoSession,
+    /// The session is open already.
+    SessionInUse,
+    /// No role has the name.
+    UnknownRole,
+    /// The name is taken.
+    NameTaken,
+    /// No relation has the name.
+    UnknownRelation,
+    /// The number or the kinds of an entry's values are not those of the table. Entries count from 1.
+    BadRow { entry: usize },
+    /// The role is not `admin`.
+    NotAdministrator,
+    /// The role is neither the relation's owner nor `admin`.
+    NotOwner { rel: String },
+    /// The role lacks a privilege on a relation.
+    MissingPrivilege { privilege: Privilege, rel: String },
+    /// A table would not be within the limits of rows and copies.
+    Limit,
+    /// There are as many of them as there may be.
+    TooMany,
+}
+
+/// What a request is answered.
+#[derive(Drop)]
+pub enum Reply {
+    /// It is done.
+    Ok,
+    /// A subscription with this number was opened.
+    Subscribed(u64),
+    /// It is refused, and nothing has changed.
+    Refused(Refusal),
+}
+
+/// A line of the answer.
+#[derive(Drop)]
+pub enum Line {
+    /// The reply to the session's request.
+    Reply {
+        session: u32,
+        reply: Reply,
+    },
+    /// What the view of a subscription has more than before: each row once, in rising order, with its weight, which is
+    /// not 0.
+    Change {
+        session: u32,
+        sub: u64,
+        rows: Vec<(Row, i64)>,
+    },
+}
+
+/// Why the engine gives no answer.
+#[derive(Clone, Copy, Debug, PartialEq, Eq)]
+pub enum EngineFault {
+    /// A growth of memory was refused. The engine has failed.
+    Memory,
+    /// The engine had failed before.
+    Failed,
+}
+
+impl From<AllocError> for EngineFault {
+    ghost use Rattle.iv_engine.specs.declared.command.EngineFault.TheVariants.{Memory};
+
+    ghost from_gives = { λ _ fault. fault ≡ Memory };
+
+    fn from(_error: AllocError) -> EngineFault {
+        EngineFault::Memory
+    }
+}

@@ -1,0 +1,120 @@
+//! The engine.
+ghost use Rattle.std.specs.Prelude.{◌≡◌, ◌↔◌, ◌∷◌, ◌&&◌, [], ℕ, List, IfOk, OnOk, OnErr, map, true, false};
+ghost use Rattle.std.specs.List.{list_all};
+ghost use Rattle.iv_rows.specs.Cell.{Cell};
+ghost use Rattle.iv_machine.specs.Act as machine;
+ghost use Rattle.iv_machine.specs.Held.{held};
+ghost use Rattle.iv_machine.specs.Machine.{step, run, weight};
+ghost use Rattle.iv_machine.specs.State.{State, start, shown};
+ghost use Rattle.iv_machine.specs.Well.{is_well_command};
+ghost use Rattle.iv_engine.specs.Seen.{IsBehind};
+ghost use Rattle.iv_engine.specs.Views.{command_of, line_of};
+
+use crate::command::{Command, EngineFault, Line};
+use crate::store::Store;
+use std::alloc::{AllocError, Global};
+use std::marker::Model;
+
+/// The roles, the tables with their rows, the grants, the sessions and the subscriptions. It answers commands as the
+/// access machine does, and after a refused growth of memory none any more.
+#[derive(Drop)]
+pub struct Engine {
+    store: Store,
+    failed: bool,
+}
+
+impl Model for Engine {
+    ghost use Rattle.std.specs.Prelude.{◌≡◌, false};
+    ghost use Rattle.iv_engine.specs.Answering.{IsSound};
+    ghost use Rattle.iv_engine.specs.Seen.{Seen};
+
+    ghost Value = { Seen };
+
+    ghost view = { λ e. record e.store { failed = e.failed } };
+
+    ghost invariant = { λ e. e.failed ≡ false → IsSound e.store };
+}
+
+impl Engine {
+    /// An engine with the role `admin`, no table and no session.
+    ///
+    /// # Errors
+    /// `AllocError` where a growth of memory was refused.
+    pub fn new(alloc: Global) -> Result<Engine, AllocError>
+        ensures start { IfOk result (λ engine. IsBehind start engine) }
+        ensures failed { IfOk result (λ engine. engine.failed ≡ false) }
+    {
+        Ok(Engine {
+            store: Store::new(alloc)?,
+            failed: false,
+        })
+    }
+
+    /// Whether the engine has failed: then no command is answered any more.
+    pub fn is_failed(&self) -> bool
+        ensures { result ≡ self.now.failed }
+    {
+        self.failed
+    }
+
+    /// The engine has failed from now on.
+    pub fn fail(&mut self)
+        ensures { self.new ≡ record self.old { failed = true } }
+    {
+        self.failed = true;
+    }
+
+    /// Answers a command: one step of the access machine.
+    ///
+    /// # Errors
+    /// `Failed` exactly where the engine had failed; `Memory` where a growth of memory was refused. The engine has
+    /// failed after either.
+    pub fn apply(&mut self, command: Command) -> Result<Vec<Line>, EngineFault>
+        requires { is_well_command (command_of command) ≡ true }
+        ensures lines { IfOk result (λ lines. (s : State) → IsBehind s self.old → map line_of lines.items ≡ (step s (command_of command)).lines) }
+        ensures state { OnOk result ((s : State) → IsBehind s self.old → IsBehind (step s (command_of command)).state self.new) }
+        ensures refused { IfOk result (λ lines. (n : ℕ) (r : machine.Refusal) → map line_of lines.items ≡ machine.reply n (machine.refused r) ∷ [] → self.new ≡ self.old) }
+        ensures went_on { OnOk result (self.new.failed ≡ false) }
+        ensures fails { OnErr result (self.new.failed ≡ true) }
+        ensures failed { result ≡ Err EngineFault.Failed ↔ (self.old.failed ≡ true) }
+    {
+        if self.is_failed() {
+            return Err(EngineFault::Failed);
+        }
+        match self.store.step(command) {
+            Ok(lines) => Ok(lines),
+            Err(_) => {
+                self.failed = true;
+                Err(EngineFault::Memory)
+            }
+        }
+    }
+
+    /// Answers commands in their order, and stops at the first fault; then no line is handed out.
+    ///
+    /// # Errors
+    /// `Failed` exactly where the engine had failed; `Memory` where a growth of memory was refused. The engine has
+    /// failed after either.
+    pub fn run_list(&mut self, commands: Vec<Command>) -> Result<Vec<Line>, EngineFault>
+        requires { list_all is_well_command (map command_of commands.items) ≡ true }
+        ensures lines { IfOk result (λ lines. (s : State) → IsBehind s self.old → map line_of lines.items ≡ (run s (map command_of commands.items)).lines) }
+        ensures state { OnOk result ((s : State) → IsBehind s self.old → IsBehind (run s (map command_of commands.items)).state self.new) }
+        ensures held { IfOk result (λ lines. (s : State) → IsBehind s self.old → (k : ℕ) (q : List Cell) → held k q (map line_of lines.items) ≡ weight (shown s k) (shown (run s (map command_of commands.items)).state k) q) }
+        ensures went_on { OnOk result (self.new.failed ≡ false) }
+        ensures fails { OnErr result (self.new.failed ≡ true) }
+        ensures failed { result ≡ Err EngineFault.Failed ↔ (self.old.failed ≡ true) }
+    {
+        if self.is_failed() {
+            return Err(EngineFault::Failed);
+        }
+        let mut lines = Vec::new(self.store.alloc);
+        for command in commands {
+            let mut said = self.apply(command)?;
+            if lines.append(&mut said).is_err() {
+                self.fail();
+                return Err(EngineFault::Memory);
+            }
+        }
+        Ok(lines)
+    }
+}

@@ -1,0 +1,15 @@
+pub mod Adding
+pub mod Alike
+pub mod Changes
+pub mod Counting
+pub mod Distinct
+pub mod Granting
+pub mod Numbers
+pub mod Order
+pub mod Reached
+pub mod Rising
+pub mod Sending
+pub mod Sound
+pub mod Steps
+pub mod Tests
+pub mod Within

@@ -1,0 +1,17 @@
+pub mod Act
+pub mod State
+pub mod Refusing
+pub mod Changing
+pub mod Machine
+pub mod Given
+pub mod Held
+pub mod Reached
+pub mod FirstChange
+pub mod Well
+pub mod Lines
+pub mod Added
+pub mod Sound
+pub mod Refusals
+pub mod Owners
+pub mod Counts
+pub mod Shapes

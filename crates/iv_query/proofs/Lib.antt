@@ -1,0 +1,14 @@
+pub mod Loop
+pub mod Bytes
+pub mod Numbers
+pub mod Quotes
+pub mod Lexes
+pub mod Steps
+pub mod ManyLaws
+pub mod TextLaws
+pub mod PartLaws
+pub mod PredLaws
+pub mod QueryLaws
+pub mod SelectLaws
+pub mod WellLaws
+pub mod WellTokens

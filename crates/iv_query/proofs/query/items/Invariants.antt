@@ -1,0 +1,12 @@
+use Rattle.std.proofs.Common.{◌≡◌, ◌-◌, map}
+use Rattle.iv_query.specs.declared.token.Symbol.TheVariants as symbol
+use Rattle.iv_query.specs.Tokens.{toks, after}
+use Rattle.iv_query.specs.Trees.{item_tree}
+use Rattle.iv_query.specs.Rules.{push}
+use Rattle.iv_query.specs.Reading.{many_at, column_at}
+use Rattle.iv_query.specs.QueryReading.{item_at, items_at}
+use Rattle.iv_query.proofs.query.items.Given as goal
+
+-- what is still read behind what was read gives what all of it does
+abbrev pub invariant-loop : goal.invariant-loop
+invariant-loop l = many_at (after symbol.Comma) (λ _. item_at l.stop) push (l.end - l.counter) (map item_tree l.list.items) (toks l.rest) ≡ items_at l.stop (toks l.tokens)

@@ -1,0 +1,11 @@
+pub mod Tokens
+pub mod Trees
+pub mod Answers
+pub mod Grammar
+pub mod Reading
+pub mod Rules
+pub mod Query
+pub mod QueryReading
+pub mod Lexing
+pub mod Texts
+pub mod Well

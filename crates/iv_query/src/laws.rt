@@ -1,0 +1,15 @@
+//! What the grammar promises of every text, as contracts of functions that do nothing.
+
+ghost use Rattle.std.specs.Prelude.{ℕ, List};
+ghost use Rattle.std.specs.Str.{IsUtf8};
+ghost use Rattle.iv_query.specs.Texts.{IsPredText, HasPredFault, IsQueryText, HasQueryFault, HasOneOutcome};
+
+/// Each text is a query with one tree, or has one fault, and not both.
+pub fn each_query_text_has_one_outcome()
+    ensures { (bs : List ℕ) → IsUtf8 bs → HasOneOutcome IsQueryText HasQueryFault bs }
+{}
+
+/// Each text is a policy's predicate with one tree, or has one fault, and not both.
+pub fn each_policy_text_has_one_outcome()
+    ensures { (bs : List ℕ) → IsUtf8 bs → HasOneOutcome IsPredText HasPredFault bs }
+{}

@@ -1,0 +1,451 @@
+//! Queries, from tokens to trees.
+
+ghost use Rattle.std.specs.Prelude.{◌≡◌, ◌-◌, map, option_map};
+ghost use Rattle.iv_query.specs.Tokens.{toks};
+ghost use Rattle.iv_query.specs.Trees.{name_tree, column_tree, source_tree, pair_tree, join_tree, item_tree, list_tree, pred_tree, select_tree, query_tree};
+ghost use Rattle.iv_query.specs.Answers.{Gives};
+ghost use Rattle.iv_query.specs.Query.{starts_alias, long, starts_join, starts_set_op, HeadOf, FromOf, NextOf, sources_in};
+ghost use Rattle.iv_query.specs.QueryReading.{skip, alias_at, may_alias_at, source_at, pair_at, pairs_at, plain_join_at, join_at, joins_at, column_item_at, sum_at, count_at, item_at, items_at, list_at, head_at, from_at, filter_at, keys_at, group_at, select_at, set_op_at, next_at, query_at};
+ghost use Rattle.iv_query.specs.Answers.{at};
+ghost use Rattle.iv_query.specs.Tokens.{starts_name};
+
+use crate::fault::{Fault, QueryFault, Why};
+use crate::parts::{after, column, first_place, name, need};
+use crate::predicate::pred;
+use crate::token::{Lexeme, Symbol, Token};
+use crate::tree::{
+    Column, Columns, Dialect, Item, Join, Name, Pair, Pred, Query, Select, SetOp, Source,
+};
+use std::alloc::Global;
+
+// The tokens behind a symbol if it comes first, else all.
+fn skip(symbol: Symbol, tokens: &[Token]) -> &[Token]
+    ensures { toks result.now ≡ skip symbol (toks tokens.now) }
+{
+    match after(symbol, tokens) {
+        Some(rest) => rest,
+        None => tokens,
+    }
+}
+
+fn starts_name(tokens: &[Token]) -> bool
+    ensures { result ≡ starts_name (toks tokens.now) }
+{
+    match tokens {
+        [] => false,
+        [first, ..] => matches!(&first.lexeme, Lexeme::Name(_)),
+    }
+}
+
+fn starts_alias(tokens: &[Token]) -> bool
+    ensures { result ≡ starts_alias (toks tokens.now) }
+{
+    match after(Symbol::As, tokens) {
+        Some(_) => true,
+        None => starts_name(tokens),
+    }
+}
+
+#[tactic(auto, unfolding(crate::specs::QueryReading::alias_at))]
+fn alias(alloc: Global, tokens: &[Token], stop: Fault) -> Result<(Name, &[Token]), QueryFault>
+    ensures { Gives (λ x. (name_tree x.0, toks x.1.now)) result (alias_at stop (toks tokens.now)) }
+{
+    name(alloc, skip(Symbol::As, tokens), stop)
+}
+
+#[tactic(auto, unfolding(crate::specs::QueryReading::may_alias_at))]
+fn may_alias(
+    alloc: Global,
+    tokens: &[Token],
+    stop: Fault,
+) -> Result<(Option<Name>, &[Token]), QueryFault>
+    ensures { Gives (λ x. (option_map name_tree x.0, toks x.1.now)) result (may_alias_at stop (toks tokens.now)) }
+{
+    if !starts_alias(tokens) {
+        return Ok((None, tokens));
+    }
+    let (name, rest) = alias(alloc, tokens, stop)?;
+    Ok((Some(name), rest))
+}
+
+// The fault of a ninth source.
+fn long(place: usize) -> QueryFault
+    ensures { result ≡ at (long place) }
+{
+    QueryFault::At {
+        place,
+        why: Why::TooLong,
+    }
+}
+
+// A source, where `left` may still be named.
+#[tactic(auto, unfolding(crate::specs::QueryReading::source_at))]
+fn source(
+    alloc: Global,
+    tokens: &[Token],
+    left: usize,
+    stop: Fault,
+) -> Result<(Source, &[Token]), QueryFault>
+    ensures { Gives (λ x. (source_tree x.0, toks x.1.now)) result (source_at stop left (toks tokens.now)) }
+{
+    let (name, rest) = name(alloc, tokens, stop)?;
+    if left == 0 {
+        return Err(long(first_place(tokens, stop)));
+    }
+    let (alias, rest) = may_alias(alloc, rest, stop)?;
+    Ok((Source { name, alias }, rest))
+}
+
+#[tactic(auto, unfolding(crate::specs::QueryReading::pair_at))]
+fn pair(alloc: Global, tokens: &[Token], stop: Fault) -> Result<(Pair, &[Token]), QueryFault>
+    ensures { Gives (λ x. (pair_tree x.0, toks x.1.now)) result (pair_at stop (toks tokens.now)) }
+{
+    let (left, rest) = column(alloc, tokens, stop)?;
+    let rest = need(Symbol::Equal, rest, stop)?;
+    let (right, rest) = column(alloc, rest, stop)?;
+    Ok((Pair { left, right }, rest))
+}
+
+#[tactic(auto, unfolding(crate::specs::QueryReading::pairs_at))]
+fn pairs(alloc: Global, tokens: &[Token], stop: Fault) -> Result<(Vec<Pair>, &[Token]), QueryFault>
+    ensures { Gives (λ x. (map pair_tree x.0.items, toks x.1.now)) result (pairs_at stop (toks tokens.now)) }
+{
+    let (first, mut rest) = pair(alloc, tokens, stop)?;
+    let mut list = Vec::new(alloc);
+    list.push(first)?;
+    for _ in 0..rest.len() {
+        let Some(behind) = after(Symbol::And, rest) else {
+            return Ok((list, rest));
+        };
+        let (next, behind) = pair(alloc, behind, stop)?;
+        list.push(next)?;
+        rest = behind;
+    }
+    Ok((list, rest))
+}
+
+#[tactic(auto, unfolding(crate::specs::QueryReading::plain_join_at))]
+fn plain_join(
+    alloc: Global,
+    tokens: &[Token],
+    left: usize,
+    stop: Fault,
+) -> Result<(Join, &[Token]), QueryFault>
+    ensures { Gives (λ x. (join_tree x.0, toks x.1.now)) result (plain_join_at stop left (toks tokens.now)) }
+{
+    let rest = need(Symbol::Join, tokens, stop)?;
+    let (source, rest) = source(alloc, rest, left, stop)?;
+    let rest = need(Symbol::On, rest, stop)?;
+    let (on, rest) = pairs(alloc, rest, stop)?;
+    Ok((Join { source, on }, rest))
+}
+
+#[tactic(auto, unfolding(crate::specs::QueryReading::join_at))]
+fn join(
+    alloc: Global,
+    tokens: &[Token],
+    left: usize,
+    stop: Fault,
+) -> Result<(Join, &[Token]), QueryFault>
+    ensures { Gives (λ x. (join_tree x.0, toks x.1.now)) result (join_at stop left (toks tokens.now)) }
+{
+    plain_join(alloc, skip(Symbol::Inner, tokens), left, stop)
+}
+
+fn starts_join(tokens: &[Token]) -> bool
+    ensures { result ≡ starts_join (toks tokens.now) }
+{
+    match after(Symbol::Inner, tokens) {
+        Some(_) => true,
+        None => after(Symbol::Join, tokens).is_some(),
+    }
+}
+
+// The joins behind a source, where `left` sources may still be named.
+#[tactic(auto, unfolding(crate::specs::QueryReading::joins_at))]
+fn joins(
+    alloc: Global,
+    tokens: &[Token],
+    left: usize,
+    stop: Fault,
+) -> Result<(Vec<Join>, &[Token]), QueryFault>
+    ensures { Gives (λ x. (map join_tree x.0.items, toks x.1.now)) result (joins_at stop left (toks tokens.now)) }
+{
+    let mut list = Vec::new(alloc);
+    let mut rest = tokens;
+    for _ in 0..tokens.len() {
+        if !starts_join(rest) {
+            return Ok((list, rest));
+        }
+        let (next, behind) = join(alloc, rest, left.saturating_sub(list.len()), stop)?;
+        list.push(next)?;
+        rest = behind;
+    }
+    Ok((list, rest))
+}
+
+#[tactic(auto, unfolding(crate::specs::QueryReading::column_item_at))]
+fn column_item(alloc: Global, tokens: &[Token], stop: Fault) -> Result<(Item, &[Token]), QueryFault>
+    ensures { Gives (λ x. (item_tree x.0, toks x.1.now)) result (column_item_at stop (toks tokens.now)) }
+{
+    let (column, rest) = column(alloc, tokens, stop)?;
+    let (alias, rest) = may_alias(alloc, rest, stop)?;
+    Ok((Item::Column { column, alias }, rest))
+}
+
+// What stands behind the word `sum`, which stands at `place`.
+#[tactic(auto, unfolding(crate::specs::QueryReading::sum_at))]
+fn sum(
+    alloc: Global,
+    place: usize,
+    tokens: &[Token],
+    stop: Fault,
+) -> Result<(Item, &[Token]), QueryFault>
+    ensures { Gives (λ x. (item_tree x.0, toks x.1.now)) result (sum_at stop place (toks tokens.now)) }
+{
+    let rest = need(Symbol::Open, tokens, stop)?;
+    let (column, rest) = column(alloc, rest, stop)?;
+    let rest = need(Symbol::Close, rest, stop)?;
+    let (alias, rest) = alias(alloc, rest, stop)?;
+    let item = Item::Sum {
+        place,
+        column,
+        alias,
+    };
+    Ok((item, rest))
+}
+
+// What stands behind the word `count`, which stands at `place`.
+#[tactic(auto, unfolding(crate::specs::QueryReading::count_at))]
+fn count(
+    alloc: Global,
+    place: usize,
+    tokens: &[Token],
+    stop: Fault,
+) -> Result<(Item, &[Token]), QueryFault>
+    ensures { Gives (λ x. (item_tree x.0, toks x.1.now)) result (count_at stop place (toks tokens.now)) }
+{
+    let rest = need(Symbol::Open, tokens, stop)?;
+    let rest = need(Symbol::Star, rest, stop)?;
+    let rest = need(Symbol::Close, rest, stop)?;
+    let (alias, rest) = alias(alloc, rest, stop)?;
+    Ok((Item::Count { place, alias }, rest))
+}
+
+#[tactic(auto, unfolding(crate::specs::QueryReading::item_at))]
+fn item(alloc: Global, tokens: &[Token], stop: Fault) -> Result<(Item, &[Token]), QueryFault>
+    ensures { Gives (λ x. (item_tree x.0, toks x.1.now)) result (item_at stop (toks tokens.now)) }
+{
+    if let Some(rest) = after(Symbol::Sum, tokens) {
+        return sum(alloc, first_place(tokens, stop), rest, stop);
+    }
+    if let Some(rest) = after(Symbol::Count, tokens) {
+        return count(alloc, first_place(tokens, stop), rest, stop);
+    }
+    column_item(alloc, tokens, stop)
+}
+
+#[tactic(auto, unfolding(crate::specs::QueryReading::items_at))]
+fn items(alloc: Global, tokens: &[Token], stop: Fault) -> Result<(Vec<Item>, &[Token]), QueryFault>
+    ensures { Gives (λ x. (map item_tree x.0.items, toks x.1.now)) result (items_at stop (toks tokens.now)) }
+{
+    let (first, mut rest) = item(alloc, tokens, stop)?;
+    let mut list = Vec::new(alloc);
+    list.push(first)?;
+    for _ in 0..rest.len() {
+        let Some(behind) = after(Symbol::Comma, rest) else {
+            return Ok((list, rest));
+        };
+        let (next, behind) = item(alloc, behind, stop)?;
+        list.push(next)?;
+        rest = behind;
+    }
+    Ok((list, rest))
+}
+
+#[tactic(auto, unfolding(crate::specs::QueryReading::list_at))]
+fn list(alloc: Global, tokens: &[Token], stop: Fault) -> Result<(Columns, &[Token]), QueryFault>
+    ensures { Gives (λ x. (list_tree x.0, toks x.1.now)) result (list_at stop (toks tokens.now)) }
+{
+    if let Some(rest) = after(Symbol::Star, tokens) {
+        let place = first_place(tokens, stop);
+        return Ok((Columns::All { place }, rest));
+    }
+    let (items, rest) = items(alloc, tokens, stop)?;
+    Ok((Columns::Items(items), rest))
+}
+
+// The columns of a group.
+#[tactic(auto, unfolding(crate::specs::QueryReading::keys_at))]
+fn keys(alloc: Global, tokens: &[Token], stop: Fault) -> Result<(Vec<Column>, &[Token]), QueryFault>
+    ensures { Gives (λ x. (map column_tree x.0.items, toks x.1.now)) result (keys_at stop (toks tokens.now)) }
+{
+    let (first, mut rest) = column(alloc, tokens, stop)?;
+    let mut list = Vec::new(alloc);
+    list.push(first)?;
+    for _ in 0..rest.len() {
+        let Some(behind) = after(Symbol::Comma, rest) else {
+            return Ok((list, rest));
+        };
+        let (next, behind) = column(alloc, behind, stop)?;
+        list.push(next)?;
+        rest = behind;
+    }
+    Ok((list, rest))
+}
+
+#[tactic(auto, unfolding(crate::specs::QueryReading::group_at))]
+fn group(
+    alloc: Global,
+    tokens: &[Token],
+    stop: Fault,
+) -> Result<(Vec<Column>, &[Token]), QueryFault>
+    ensures { Gives (λ x. (map column_tree x.0.items, toks x.1.now)) result (group_at stop (toks tokens.now)) }
+{
+    match after(Symbol::Group, tokens) {
+        Some(rest) => {
+            let rest = need(Symbol::By, rest, stop)?;
+            keys(alloc, rest, stop)
+        }
+        None => Ok((Vec::new(alloc), tokens)),
+    }
+}
+
+#[tactic(auto, unfolding(crate::specs::QueryReading::filter_at))]
+fn filter(
+    alloc: Global,
+    tokens: &[Token],
+    stop: Fault,
+) -> Result<(Option<Pred>, &[Token]), QueryFault>
+    ensures { Gives (λ x. (option_map pred_tree x.0, toks x.1.now)) result (filter_at stop (toks tokens.now)) }
+{
+    match after(Symbol::Where, tokens) {
+        Some(rest) => {
+            let (tree, rest) = pred(alloc, rest, Dialect::Query, 32, stop)?;
+            Ok((Some(tree), rest))
+        }
+        None => Ok((None, tokens)),
+    }
+}
+
+// The word `select`, whether `distinct` follows, and what is selected.
+#[tactic(auto, unfolding(crate::specs::QueryReading::head_at))]
+fn head(
+    alloc: Global,
+    tokens: &[Token],
+    stop: Fault,
+) -> Result<(usize, bool, Columns, &[Token]), QueryFault>
+    ensures { Gives (λ x. (HeadOf x.0 x.1 (list_tree x.2), toks x.3.now)) result (head_at stop (toks tokens.now)) }
+{
+    let rest = need(Symbol::Select, tokens, stop)?;
+    let distinct = after(Symbol::Distinct, rest).is_some();
+    let (columns, rest) = list(alloc, skip(Symbol::Distinct, rest), stop)?;
+    Ok((first_place(tokens, stop), distinct, columns, rest))
+}
+
+// The word `from`, the first source and the joins, where `left` sources may still be named.
+#[tactic(auto, unfolding(crate::specs::QueryReading::from_at))]
+fn sources(
+    alloc: Global,
+    tokens: &[Token],
+    left: usize,
+    stop: Fault,
+) -> Result<(Source, Vec<Join>, &[Token]), QueryFault>
+    ensures { Gives (λ x. (FromOf (source_tree x.0) (map join_tree x.1.items), toks x.2.now)) result (from_at stop left (toks tokens.now)) }
+{
+    let rest = need(Symbol::From, tokens, stop)?;
+    let (source, rest) = source(alloc, rest, left, stop)?;
+    let (joins, rest) = joins(alloc, rest, left.saturating_sub(1), stop)?;
+    Ok((source, joins, rest))
+}
+
+// A select, where `left` sources may still be named.
+#[tactic(auto, unfolding(crate::specs::QueryReading::select_at))]
+fn select(
+    alloc: Global,
+    tokens: &[Token],
+    left: usize,
+    stop: Fault,
+) -> Result<(Select, &[Token]), QueryFault>
+    ensures { Gives (λ x. (select_tree x.0, toks x.1.now)) result (select_at stop left (toks tokens.now)) }
+{
+    let (place, distinct, columns, rest) = head(alloc, tokens, stop)?;
+    let (source, joins, rest) = sources(alloc, rest, left, stop)?;
+    let (filter, rest) = filter(alloc, rest, stop)?;
+    let (group, rest) = group(alloc, rest, stop)?;
+    let select = Select {
+        place,
+        distinct,
+        columns,
+        source,
+        joins,
+        filter,
+        group,
+    };
+    Ok((select, rest))
+}
+
+fn starts_set_op(tokens: &[Token]) -> bool
+    ensures { result ≡ starts_set_op (toks tokens.now) }
+{
+    match after(Symbol::Union, tokens) {
+        Some(_) => true,
+        None => after(Symbol::Except, tokens).is_some(),
+    }
+}
+
+#[tactic(auto, unfolding(crate::specs::QueryReading::set_op_at))]
+fn set_op(tokens: &[Token], stop: Fault) -> Result<(SetOp, &[Token]), QueryFault>
+    ensures { Gives (λ x. (x.0, toks x.1.now)) result (set_op_at stop (toks tokens.now)) }
+{
+    if let Some(rest) = after(Symbol::Union, tokens) {
+        return match after(Symbol::All, rest) {
+            Some(rest) => Ok((SetOp::UnionAll, rest)),
+            None => Ok((SetOp::Union, rest)),
+        };
+    }
+    let rest = need(Symbol::Except, tokens, stop)?;
+    Ok((SetOp::Except, rest))
+}
+
+// A set operation and its right select, where `left` sources may still be named.
+#[tactic(auto, unfolding(crate::specs::QueryReading::next_at))]
+fn next(
+    alloc: Global,
+    tokens: &[Token],
+    left: usize,
+    stop: Fault,
+) -> Result<(SetOp, Select, &[Token]), QueryFault>
+    ensures { Gives (λ x. (NextOf x.0 (select_tree x.1), toks x.2.now)) result (next_at stop left (toks tokens.now)) }
+{
+    let (op, rest) = set_op(tokens, stop)?;
+    let (right, rest) = select(alloc, rest, left, stop)?;
+    Ok((op, right, rest))
+}
+
+// How many sources may still be named behind a select.
+fn left_behind(left: usize, select: &Select) -> usize
+    ensures { result ≡ left - sources_in (select_tree select.now) }
+{
+    left.saturating_sub(1).saturating_sub(select.joins.len())
+}
+
+/// A query with at most eight sources, and the tokens behind it.
+#[tactic(auto, unfolding(crate::specs::QueryReading::query_at))]
+pub fn query(alloc: Global, tokens: &[Token], stop: Fault) -> Result<(Query, &[Token]), QueryFault>
+    ensures { Gives (λ x. (query_tree x.0, toks x.1.now)) result (query_at stop (toks tokens.now)) }
+{
+    let (first, mut rest) = select(alloc, tokens, 8, stop)?;
+    let mut left = left_behind(8, &first);
+    let mut query = Query::Select(first);
+    for _ in 0..rest.len() {
+        if !starts_set_op(rest) {
+            return Ok((query, rest));
+        }
+        let (op, right, behind) = next(alloc, rest, left, stop)?;
+        left = left_behind(left, &right);
+        query = Query::Combined(Box::new(alloc, query)?, op, right);
+        rest = behind;
+    }
+    Ok((query, rest))
+}

@@ -1,0 +1,111 @@
+-- Each command that is well is asked by its JSON value.
+use Rattle.std.proofs.Common.{◌≡◌, ℕ, ◌^◌, ◌==◌, ◌&&◌, Bool, true, false, ℤ, pos, negsuc, List, [], ◌∷◌, length, map, cond, Option, Some, None, option_map, option_and_then, ap, ◌∙◌, sym, refl, arith}
+use Rattle.std.specs.Prelude.{codes, nat_lt}
+use Rattle.std.specs.List.{list_all}
+use Rattle.std.proofs.lemmas.Bool.Decides.{nat_tests}
+use Rattle.serde_json.specs.Data.{Data, Items, item, no_items}
+use Rattle.serde_json.specs.View.{items_of}
+use Rattle.iv_rows.specs.Cell.{Cell, num, text, flag}
+use Rattle.iv_rows.specs.Columns.{Column, has_columns, has_distinct_names}
+use Rattle.iv_rows.specs.Names.{is_name}
+use Rattle.iv_rows.specs.Texts.{is_well, is_well_cell, is_well_text}
+use Rattle.iv_rows.specs.declared.value.Kind.{Kind}
+use Rattle.iv_rows.specs.declared.value.Kind.TheVariants.{Int, Text, Flag}
+use Rattle.iv_machine.specs.Act.{Act, begin, create_role, create_table, grant, write, subscribe, Command, Entry, Op, insert}
+use Rattle.iv_machine.specs.Well.{is_between, is_well_op, is_well_entry, is_well_act, is_well_command}
+use Rattle.iv_machine.specs.declared.Privilege.{Privilege}
+use Rattle.iv_machine.specs.declared.Privilege.TheVariants.{Select, Insert, Update, Delete}
+use Rattle.iv_wire.specs.Asked.{column_data, privilege_data, entry_data, row_of, act_data, command_data, is_small, is_plain_entry, is_plain}
+use Rattle.iv_wire.specs.Request.{each, cell_of, column_of, privilege_of, entry_of, is_schema, is_session, command, request}
+use Rattle.iv_wire.specs.Texts.{cell_data}
+
+left_true : (a b : Bool) → (a && b) ≡ true → a ≡ true
+left_true true b h = refl
+left_true false b h = h
+
+right_true : (a b : Bool) → (a && b) ≡ true → b ≡ true
+right_true true b h = h
+right_true false b h = cc
+
+each_asked : {X : Type 0} (p : X → Bool) (f : Data → Option X) (g : X → Data) → ((x : X) → p x ≡ true → f (g x) ≡ Some x) → (xs : List X) → list_all p xs ≡ true → each f (items_of (map g xs)) ≡ Some xs
+each_asked p f g k [] h = refl
+each_asked p f g k (x ∷ xs) h =
+    ap (option_and_then (λ y. option_map (λ ys. y ∷ ys) (each f (items_of (map g xs))))) (k x (left_true (p x) (list_all p xs) h))
+    ∙ ap (option_map (λ ys. x ∷ ys)) (each_asked p f g k xs (right_true (p x) (list_all p xs) h))
+
+all_true : {X : Type 0} (xs : List X) → list_all (λ _. true) xs ≡ true
+all_true [] = refl
+all_true (x ∷ xs) = all_true xs
+
+both_pass : {X : Type 0} (p q : X → Bool) (xs : List X) → list_all p xs ≡ true → list_all q xs ≡ true → list_all (λ x. p x && q x) xs ≡ true
+both_pass p q [] h k = refl
+both_pass p q (x ∷ xs) h k = rw (left_true (p x) (list_all p xs) h, left_true (q x) (list_all q xs) k) (both_pass p q xs (right_true (p x) (list_all p xs) h) (right_true (q x) (list_all q xs) k))
+
+-- ---- parts
+
+cell_asked : (c : Cell) → (is_well_cell c && is_small c) ≡ true → cell_of (cell_data c) ≡ Some c
+cell_asked (num (pos n)) h = rw h refl
+cell_asked (num (negsuc n)) h = refl
+cell_asked (text t) h = rw (left_true (is_well_text t) true h) refl
+cell_asked (flag b) h = refl
+
+cells_asked : (row : List Cell) → is_well row ≡ true → list_all is_small row ≡ true → each cell_of (items_of (map cell_data row)) ≡ Some row
+cells_asked row h k = each_asked (λ c. is_well_cell c && is_small c) cell_of cell_data cell_asked row (both_pass is_well_cell is_small row h k)
+
+kind_asked : (name : List ℕ) (k : Kind) → is_name name ≡ true → column_of (column_data (record { name = name; kind = k })) ≡ Some (record { name = name; kind = k })
+kind_asked name Int h = rw h refl
+kind_asked name Text h = rw h refl
+kind_asked name Flag h = rw h refl
+
+column_asked : (c : Column) → is_name c.name ≡ true → column_of (column_data c) ≡ Some c
+column_asked c h = kind_asked c.name c.kind h
+
+columns_asked : (cs : List Column) → is_schema cs ≡ true → each column_of (items_of (map column_data cs)) ≡ Some cs
+columns_asked cs h = each_asked (λ c. is_name c.name) column_of column_data column_asked cs (right_true _ _ (left_true (has_columns cs) (has_distinct_names cs) h))
+
+privilege_asked : (p : Privilege) → privilege_of (privilege_data p) ≡ Some p
+privilege_asked Select = refl
+privilege_asked Insert = refl
+privilege_asked Update = refl
+privilege_asked Delete = refl
+
+privileges_asked : (ps : List Privilege) → each privilege_of (items_of (map privilege_data ps)) ≡ Some ps
+privileges_asked ps = each_asked (λ _. true) privilege_of privilege_data (λ p _. privilege_asked p) ps (all_true ps)
+
+one_copy : (n : ℕ) → (n == 1) ≡ true → n ≡ 1
+one_copy n h = grind (arith, nat_tests)
+
+inserted_asked : (rel : List ℕ) (row : List Cell) (copies : ℕ) → is_name rel ≡ true → is_well row ≡ true → list_all is_small row ≡ true → copies ≡ 1 → entry_of (entry_data (record { rel = rel; op = insert row; copies = copies })) ≡ Some (record { rel = rel; op = insert row; copies = copies })
+inserted_asked rel row copies h k s e = rw (h, cells_asked row k s, e) refl
+
+op_asked : (rel : List ℕ) (op : Op) (copies : ℕ) → is_name rel ≡ true → is_well_op op ≡ true → list_all is_small (row_of op) ≡ true → copies ≡ 1 → entry_of (entry_data (record { rel = rel; op = op; copies = copies })) ≡ Some (record { rel = rel; op = op; copies = copies })
+op_asked rel (insert row) copies h k s e = inserted_asked rel row copies h k s e
+
+entry_asked : (e : Entry) → (is_well_entry e && is_plain_entry e) ≡ true → entry_of (entry_data e) ≡ Some e
+entry_asked e h =
+    let w = left_true (is_well_entry e) (is_plain_entry e) h in
+    let p = right_true (is_well_entry e) (is_plain_entry e) h in
+    op_asked e.rel e.op e.copies (left_true (is_name e.rel) _ w) (left_true (is_well_op e.op) _ (right_true (is_name e.rel) _ w)) (right_true (e.copies == 1) _ p) (one_copy e.copies (left_true (e.copies == 1) _ p))
+
+entries_asked : (es : List Entry) → list_all is_well_entry es ≡ true → list_all is_plain_entry es ≡ true → each entry_of (items_of (map entry_data es)) ≡ Some es
+entries_asked es h k = each_asked (λ e. is_well_entry e && is_plain_entry e) entry_of entry_data entry_asked es (both_pass is_well_entry is_plain_entry es h k)
+
+-- ---- requests
+
+act_asked : (n : ℕ) (a : Act) → is_session n ≡ true → is_well_act a ≡ true → is_plain a ≡ true → request (act_data n a) ≡ Some (command n a)
+act_asked n (begin role) s h p = rw (s, h) refl
+act_asked n (create_role name) s h p = rw (s, h) refl
+act_asked n (create_table name owner columns) s h p =
+    let r = right_true (is_name name) _ h in
+    let k = right_true (is_name owner) _ r in
+    rw (s, left_true (is_name name) _ h, left_true (is_name owner) _ r, columns_asked columns k, k) refl
+act_asked n (grant rel privileges grantee) s h p =
+    let r = right_true (is_name rel) _ h in
+    rw (s, left_true (is_name rel) _ h, right_true (is_between 1 4 (length privileges)) _ r, privileges_asked privileges, left_true (is_between 1 4 (length privileges)) _ r) refl
+act_asked n (write entries) s h p =
+    let c = left_true (is_between 1 1000 (length entries)) _ h in
+    rw (s, entries_asked entries (right_true (is_between 1 1000 (length entries)) _ h) p, c) refl
+act_asked n (subscribe rel) s h p = rw (s, h) refl
+
+pub command_asked : (c : Command) → is_well_command c ≡ true → is_plain c.act ≡ true → request (command_data c) ≡ Some c
+command_asked c h p = act_asked c.session c.act (left_true (is_session c.session) (is_well_act c.act) h) (right_true (is_session c.session) (is_well_act c.act) h) p

@@ -1,0 +1,12 @@
+pub mod Ahead
+pub mod Answering
+pub mod Asking
+pub mod Cutting
+pub mod Each
+pub mod Joining
+pub mod Known
+pub mod Members
+pub mod Reading
+pub mod Sums
+pub mod Well
+pub mod Writing

@@ -1,0 +1,32 @@
+use Rattle.std.proofs.Common.{refl}
+use Rattle.serde_json.proofs.OnLiterals.{serde_json_on_literals}
+use Rattle.std.specs.Fmt.{digits}
+use Rattle.iv_wire.proofs.laws.lines_are_written.Goals as goal
+
+pub returns-clause-done : goal.returns-clause-done
+unfolding serde_json_on_literals digits
+returns-clause-done c = refl
+
+pub returns-clause-subscribed : goal.returns-clause-subscribed
+unfolding serde_json_on_literals digits
+returns-clause-subscribed c = refl
+
+pub returns-clause-change : goal.returns-clause-change
+unfolding serde_json_on_literals digits
+returns-clause-change c = refl
+
+pub returns-clause-no_session : goal.returns-clause-no_session
+unfolding serde_json_on_literals digits
+returns-clause-no_session c = refl
+
+pub returns-clause-bad_row : goal.returns-clause-bad_row
+unfolding serde_json_on_literals digits
+returns-clause-bad_row c = refl
+
+pub returns-clause-privilege : goal.returns-clause-privilege
+unfolding serde_json_on_literals digits
+returns-clause-privilege c = refl
+
+pub returns-clause-fault : goal.returns-clause-fault
+unfolding serde_json_on_literals digits
+returns-clause-fault c = refl

@@ -1,0 +1,71 @@
+use Rattle.std.proofs.Common.{◌≡◌, ◌≤◌, ◌<◌, ◌+◌, ◌*◌, ◌||◌, ◌∙◌, sym, ap, subst, ℕ, List, take, true, false, arith, rules, inl, inr, Err}
+use Rattle.std.proofs.Math.Bool.{or-false}
+use Rattle.std.proofs.lemmas.Result.{err_from_is_err_and}
+use Rattle.iv_wire.specs.Ahead.{known}
+use Rattle.iv_wire.proofs.Answering.{told_first, told_more, tells, answered_input, answered_endless, answered_lines, answered_read, answered_memory, answered_write, answered_write_endless}
+use Rattle.iv_wire.proofs.running.run_lines.Goals as goal
+
+pub loop-init : goal.loop-init
+loop-init g c = record {
+  told = λ s b. told_first s c.args.engine.now (g.R.Source.left c.args.reader.now) (g.W.Sink.taken c.args.writer.now) _ b c.new-room.ensures;
+  went_on = search rules;
+  read = search rules;
+  write = search rules;
+  flushed = search rules;
+  reads = omega arith;
+}
+
+pub returns-in-Nothing-clause-answered : goal.returns-in-Nothing-clause-answered
+returns-in-Nothing-clause-answered g c =
+    let k = rw c.in-Nothing.is at c.in_ok-next_line.ensures.cut in
+    λ s b. answered_input s c.loop.engine _ _ (known c.loop.room (g.R.Source.left c.loop.reader)) _ _ _ c.args.lines c.loop.counter c.loop-test.true (c.loop.invariant.told s b) k
+
+pub returns-in_err-text-in-Endless-clause-answered : goal.returns-in_err-text-in-Endless-clause-answered
+returns-in_err-text-in-Endless-clause-answered g c =
+    let p = err_from_is_err_and c.from_residual-in_err-text-in-Endless.result c.from_residual-in_err-text-in-Endless.ensures.1 in
+    rw (p.1, p.2) (λ s b. answered_memory s c.loop.engine c.loop.engine _ (known c.loop.room (g.R.Source.left c.loop.reader)) _ _ _ c.args.lines c.loop.counter c.loop-test.true (c.loop.invariant.told s b))
+
+pub returns-in_err-say-in-Endless-clause-answered : goal.returns-in_err-say-in-Endless-clause-answered
+returns-in_err-say-in-Endless-clause-answered g c =
+    let k = rw c.in-Endless.is at c.in_ok-next_line.ensures.cut in
+    let p = err_from_is_err_and c.from_residual-in_err-say-in-Endless.result c.from_residual-in_err-say-in-Endless.ensures.1 in
+    rw (p.1, p.2, c.in_err-say-in-Endless.ensures.fault) (λ s b. answered_write_endless s c.loop.engine _ _ (known c.loop.room (g.R.Source.left c.loop.reader)) _ _ (g.W.Sink.taken c.loop.writer) _ c.args.lines c.loop.counter _ c.loop-test.true (c.loop.invariant.told s b) k (c.deref.ensures.value ∙ c.in_ok-text-in-Endless.ensures) c.in_err-say-in-Endless.ensures.front)
+
+pub returns-in-Endless-clause-answered : goal.returns-in-Endless-clause-answered
+returns-in-Endless-clause-answered g c =
+    let k = rw c.in-Endless.is at c.in_ok-next_line.ensures.cut in
+    λ s b. answered_endless s c.loop.engine _ _ (known c.loop.room (g.R.Source.left c.loop.reader)) _ _ (g.W.Sink.taken c.loop.writer) _ c.args.lines c.loop.counter _ c.loop-test.true (c.loop.invariant.told s b) k (c.deref.ensures.value ∙ c.in_ok-text-in-Endless.ensures) c.in_ok-say-in-Endless.ensures.ok
+
+pub returns-in_err-text-in-Line-clause-answered : goal.returns-in_err-text-in-Line-clause-answered
+returns-in_err-text-in-Line-clause-answered g c =
+    let p = err_from_is_err_and c.from_residual-in_err-text-in-Line.result c.from_residual-in_err-text-in-Line.ensures.1 in
+    rw (p.1, p.2) (λ s b. answered_memory s c.loop.engine c.tell.new.engine _ (known c.loop.room (g.R.Source.left c.loop.reader)) _ _ _ c.args.lines c.loop.counter c.loop-test.true (c.loop.invariant.told s b))
+
+pub returns-in_err-say-in-Line-clause-answered : goal.returns-in_err-say-in-Line-clause-answered
+returns-in_err-say-in-Line-clause-answered g c =
+    let k = rw c.in-Line.is at c.in_ok-next_line.ensures.cut in
+    let p = err_from_is_err_and c.from_residual-in_err-say-in-Line.result c.from_residual-in_err-say-in-Line.ensures.1 in
+    rw (p.1, p.2, c.in_err-say-in-Line.ensures.fault) (λ s b. answered_write s c.loop.engine c.tell.new.engine _ _ (known c.loop.room (g.R.Source.left c.loop.reader)) _ _ (g.W.Sink.taken c.loop.writer) _ c.args.lines c.loop.counter c.in-Line.line _ c.loop-test.true (c.loop.invariant.told s b) k (tells c.loop.engine c.tell.new.engine c.in-Line.line.items _ _ _ c.deref-in-Line.ensures.value c.deref-in-Line-2.ensures.value c.in_ok-text-in-Line.ensures.text c.in_ok-text-in-Line.ensures.state) c.in_err-say-in-Line.ensures.front)
+
+pub loop-preserved : goal.loop-preserved
+loop-preserved g c =
+    let k = rw c.in-Line.is at c.in_ok-next_line.ensures.cut in
+    record {
+      told = λ s b. told_more s c.loop.engine c.tell.new.engine _ (known c.loop.room (g.R.Source.left c.loop.reader)) _ _ (g.W.Sink.taken c.loop.writer) _ c.loop.counter c.in-Line.line _ (c.loop.invariant.told s b) k (tells c.loop.engine c.tell.new.engine c.in-Line.line.items _ _ _ c.deref-in-Line.ensures.value c.deref-in-Line-2.ensures.value c.in_ok-text-in-Line.ensures.text c.in_ok-text-in-Line.ensures.state) c.in_ok-say-in-Line.ensures.ok;
+      went_on = λ h. c.in_ok-text-in-Line.ensures.failed (c.loop.invariant.went_on h);
+      read = c.in_ok-next_line.ensures.failed ∙ (or-false (g.R.Source.has_failed c.loop.reader) ∙ c.loop.invariant.read);
+      write = c.in_ok-say-in-Line.ensures.failed ∙ (or-false (g.W.Sink.has_failed c.loop.writer) ∙ c.loop.invariant.write);
+      flushed = λ _. c.in_ok-say-in-Line.ensures.flushed;
+      reads = omega (arith, c.in_ok-next_line.ensures.reads);
+    }
+
+pub returns-clause-answered : goal.returns-clause-answered
+returns-clause-answered g c = λ s b. answered_lines s c.loop.engine _ _ (known c.loop.room (g.R.Source.left c.loop.reader)) _ _ c.args.lines c.loop.counter (omega arith) (c.loop.invariant.told s b)
+
+pub returns-in_err-next_line-clause-answered : goal.returns-in_err-next_line-clause-answered
+returns-in_err-next_line-clause-answered g c =
+    let p = err_from_is_err_and c.from_residual.result c.from_residual.ensures.1 in
+    elim c.in_err-next_line.ensures.fault [
+      | inl f ↦ rw (p.1, p.2, f) (λ s b. answered_read s c.loop.engine _ (known c.loop.room (g.R.Source.left c.loop.reader)) _ _ _ c.args.lines c.loop.counter c.loop-test.true (c.loop.invariant.told s b) (c.in_err-next_line.ensures.short (ap Err f)))
+      | inr f ↦ rw (p.1, p.2, f) (λ s b. answered_memory s c.loop.engine c.loop.engine _ (known c.loop.room (g.R.Source.left c.loop.reader)) _ _ _ c.args.lines c.loop.counter c.loop-test.true (c.loop.invariant.told s b))
+    ]

@@ -1,0 +1,16 @@
+use Rattle.std.proofs.Common.{◌≡◌, ◌≤◌, ◌+◌, ◌*◌, true, false}
+use Rattle.iv_machine.specs.State.{State}
+use Rattle.iv_engine.specs.Seen.{IsBehind}
+use Rattle.iv_wire.specs.Ahead.{known}
+use Rattle.iv_wire.specs.Endings.{HasTold}
+use Rattle.iv_wire.proofs.running.run_lines.Given as goal
+
+abbrev pub invariant-loop : goal.invariant-loop
+invariant-loop g l = record {
+  told : (s : State) → IsBehind s l.fn.engine → HasTold s (g.R.Source.left l.fn.reader) l.counter (g.W.Sink.taken l.fn.writer) (g.W.Sink.taken l.writer) l.engine (known l.room (g.R.Source.left l.reader));
+  went_on : l.fn.engine.failed ≡ false → l.engine.failed ≡ false;
+  read : g.R.Source.has_failed l.reader ≡ g.R.Source.has_failed l.fn.reader;
+  write : g.W.Sink.has_failed l.writer ≡ g.W.Sink.has_failed l.fn.writer;
+  flushed : g.W.Sink.is_flushed l.fn.writer ≡ true → g.W.Sink.is_flushed l.writer ≡ true;
+  reads : g.R.Source.reads l.reader ≤ g.R.Source.reads l.fn.reader + l.counter * 65537;
+}

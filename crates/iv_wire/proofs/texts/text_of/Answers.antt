@@ -1,0 +1,7 @@
+use Rattle.std.proofs.Common.{◌≡◌, ◌++◌, ◌∷◌, [], ℕ, List, ap, ◌∙◌}
+use Rattle.std.specs.Prelude.{Vec}
+use Rattle.std.specs.declared.alloc.Global.{Global}
+use Rattle.iv_wire.proofs.texts.text_of.Goals as goal
+
+pub returns : goal.returns
+returns c = λ plain. c.in_ok-push.ensures.items ∙ ap (λ (v : List ℕ). v ++ 10 ∷ []) (ap (λ (v : Vec ℕ Global). v.items) c.into_bytes-text.ensures.value ∙ c.in_ok-to_string.ensures.text plain)

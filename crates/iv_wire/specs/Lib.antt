@@ -1,0 +1,9 @@
+pub mod Ahead
+pub mod Answer
+pub mod Asked
+pub mod Cut
+pub mod Endings
+pub mod Reads
+pub mod Request
+pub mod Sums
+pub mod Texts

@@ -1,0 +1,170 @@
+-- The shape rules: which command a JSON value is.
+use Rattle.std.specs.Prelude.{ℕ, zero, suc, ◌^◌, ◌==◌, ◌&&◌, Bool, true, false, List, [], ◌∷◌, codes, length, nat_le, nat_lt, bytes_eq, Option, Some, None, option_map, option_and_then, if◌then◌else◌}
+use Rattle.iv_rows.specs.Cell.{Cell, num, text, flag}
+use Rattle.iv_rows.specs.Columns.{Column, has_columns, has_distinct_names}
+use Rattle.iv_rows.specs.Names.{is_name}
+use Rattle.iv_rows.specs.Texts.{is_well_cell}
+use Rattle.iv_rows.specs.declared.value.Kind.{Kind}
+use Rattle.iv_rows.specs.declared.value.Kind.TheVariants.{Int, Text, Flag}
+use Rattle.iv_machine.specs.Act as machine
+use Rattle.iv_machine.specs.Well.{is_between}
+use Rattle.iv_machine.specs.declared.Privilege.{Privilege}
+use Rattle.iv_machine.specs.declared.Privilege.TheVariants.{Select, Insert, Update, Delete}
+use Rattle.serde_json.specs.Data.{Data, null, boolean, number, string, array, object, Items, no_items, item, Members}
+use Rattle.serde_json.specs.Events.{members_len, items_len}
+use Rattle.serde_json.specs.Find.{get, at, as_str, as_number, as_u64, as_i64, as_array, as_object}
+
+-- ---- parts of a value
+
+abbrev pub size_of : Option Members → ℕ
+size_of None = 0
+size_of (Some ms) = members_len ms
+
+-- how many keys an object has; no key stands twice
+abbrev pub size : Data → ℕ
+size d = size_of (as_object d)
+
+abbrev pub count_of : Option Items → ℕ
+count_of None = 0
+count_of (Some ds) = items_len ds
+
+-- how many items a list has
+abbrev pub count : Data → ℕ
+count d = count_of (as_array d)
+
+-- the value, where it passes
+abbrev pub passing : {X : Type 0} → (X → Bool) → X → Option X
+passing t x = if t x then Some x else None
+
+-- what each item is, where each is something
+abbrev pub each : {X : Type 0} → (Data → Option X) → Items → Option (List X)
+each f no_items = Some []
+each f (item d ds) = option_and_then (λ x. option_map (λ xs. x ∷ xs) (each f ds)) (f d)
+
+-- what the items of the list at a key are
+abbrev pub list_at : {X : Type 0} → (Data → Option X) → List ℕ → Data → Option (List X)
+list_at f key d = option_and_then (each f) (option_and_then as_array (get key d))
+
+abbrev pub text_at : List ℕ → Data → Option (List ℕ)
+text_at key d = option_and_then as_str (get key d)
+
+-- the name at a key
+abbrev pub name_at : List ℕ → Data → Option (List ℕ)
+name_at key d = option_and_then (passing is_name) (text_at key d)
+
+-- ---- the parts of requests
+
+abbrev pub kind_of : List ℕ → Option Kind
+kind_of s =
+    if bytes_eq s (codes "int") then Some Int
+    else if bytes_eq s (codes "text") then Some Text
+    else if bytes_eq s (codes "flag") then Some Flag
+    else None
+
+abbrev pub column : List ℕ → Kind → Column
+column name kind = record { name = name; kind = kind }
+
+-- [name, kind]
+abbrev pub column_of : Data → Option Column
+column_of d =
+    if count d == 2
+    then option_and_then (λ name. option_map (column name) (option_and_then kind_of (option_and_then as_str (at 1 d)))) (option_and_then (passing is_name) (option_and_then as_str (at 0 d)))
+    else None
+
+-- 1 to 16 columns with distinct names
+abbrev pub is_schema : List Column → Bool
+is_schema cs = has_columns cs && has_distinct_names cs
+
+abbrev pub columns_at : Data → Option (List Column)
+columns_at d = option_and_then (passing is_schema) (list_at column_of (codes "columns") d)
+
+abbrev pub privilege_named : List ℕ → Option Privilege
+privilege_named s =
+    if bytes_eq s (codes "select") then Some Select
+    else if bytes_eq s (codes "insert") then Some Insert
+    else if bytes_eq s (codes "update") then Some Update
+    else if bytes_eq s (codes "delete") then Some Delete
+    else None
+
+abbrev pub privilege_of : Data → Option Privilege
+privilege_of d = option_and_then privilege_named (as_str d)
+
+-- 1 to 4 privileges
+abbrev pub privileges_at : Data → Option (List Privilege)
+privileges_at d = option_and_then (passing (λ ps. is_between 1 4 (length ps))) (list_at privilege_of (codes "privileges") d)
+
+-- a whole number of 64 bits, a text that a table may hold, or a truth value
+abbrev pub cell_of : Data → Option Cell
+cell_of null = None
+cell_of (boolean b) = Some (flag b)
+cell_of (number n) = option_map num (as_i64 n)
+cell_of (string s) = passing is_well_cell (text s)
+cell_of (array ds) = None
+cell_of (object ms) = None
+
+abbrev pub inserted : List ℕ → List Cell → machine.Entry
+inserted rel row = record { rel = rel; op = machine.insert row; copies = 1 }
+
+-- the keys are `on` and `insert`
+abbrev pub entry_of : Data → Option machine.Entry
+entry_of d =
+    if size d == 2
+    then option_and_then (λ rel. option_map (inserted rel) (list_at cell_of (codes "insert") d)) (name_at (codes "on") d)
+    else None
+
+-- 1 to 1,000 entries
+abbrev pub entries_at : Data → Option (List machine.Entry)
+entries_at d = option_and_then (passing (λ es. is_between 1 1000 (length es))) (list_at entry_of (codes "entries") d)
+
+-- ---- requests: the keys are `do`, `session` and the ones that are looked for; each is there, and there are no more
+
+abbrev pub begin_of : Data → Option machine.Act
+begin_of d = if size d == 3 then option_map machine.begin (name_at (codes "role") d) else None
+
+abbrev pub create_role_of : Data → Option machine.Act
+create_role_of d = if size d == 3 then option_map machine.create_role (name_at (codes "name") d) else None
+
+abbrev pub create_table_of : Data → Option machine.Act
+create_table_of d =
+    if size d == 5
+    then option_and_then (λ name. option_and_then (λ owner. option_map (machine.create_table name owner) (columns_at d)) (name_at (codes "owner") d)) (name_at (codes "name") d)
+    else None
+
+abbrev pub grant_of : Data → Option machine.Act
+grant_of d =
+    if size d == 5
+    then option_and_then (λ rel. option_and_then (λ grantee. option_map (λ ps. machine.grant rel ps grantee) (privileges_at d)) (name_at (codes "to") d)) (name_at (codes "on") d)
+    else None
+
+abbrev pub write_of : Data → Option machine.Act
+write_of d = if size d == 3 then option_map machine.write (entries_at d) else None
+
+abbrev pub subscribe_of : Data → Option machine.Act
+subscribe_of d = if size d == 3 then option_map machine.subscribe (name_at (codes "on") d) else None
+
+abbrev pub act_for : List ℕ → Data → Option machine.Act
+act_for word d =
+    if bytes_eq word (codes "begin") then begin_of d
+    else if bytes_eq word (codes "create_role") then create_role_of d
+    else if bytes_eq word (codes "create_table") then create_table_of d
+    else if bytes_eq word (codes "grant") then grant_of d
+    else if bytes_eq word (codes "write") then write_of d
+    else if bytes_eq word (codes "subscribe") then subscribe_of d
+    else None
+
+-- 1 to 2^32 - 1
+abbrev pub is_session : ℕ → Bool
+is_session n = nat_le 1 n && nat_lt n (2 ^ 32)
+
+abbrev pub session_of : Data → Option ℕ
+session_of d = option_and_then (passing is_session) (option_and_then as_u64 (option_and_then as_number (get (codes "session") d)))
+
+abbrev pub asked_act : Data → Option machine.Act
+asked_act d = option_and_then (λ word. act_for word d) (text_at (codes "do") d)
+
+abbrev pub command : ℕ → machine.Act → machine.Command
+command n act = record { session = n; act = act }
+
+-- the command that a value is
+abbrev pub request : Data → Option machine.Command
+request d = option_and_then (λ n. option_map (command n) (asked_act d)) (session_of d)

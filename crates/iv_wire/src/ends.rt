@@ -1,0 +1,76 @@
+//! What bytes are read from and written to.
+ghost use Rattle.std.specs.Prelude.{◌≡◌, ◌≤◌, ◌<◌, ◌+◌, ◌||◌, ℕ, List, Bool, Option, true, length, take, IfOk, OnOk, OnErr, is_err};
+ghost use Rattle.std.specs.Io.KnownBytes.{Appends, Keeps, ReadConsumes, WriteAppends};
+
+/// A read, a write or a flush has failed.
+#[derive(Clone, Copy, Debug, PartialEq, Eq)]
+pub struct EndFault;
+
+/// What bytes are read from.
+pub trait Source {
+    /// The bytes that are left, where the end tells them.
+    ghost left: { Self → Option (List ℕ) };
+
+    /// Whether it has failed.
+    ghost has_failed: { Self → Bool };
+
+    /// How many reads were made, where the end counts them.
+    ghost reads: { Self → ℕ };
+
+    /// Reads some bytes into the room. It answers 0 only where there is no room or no byte is left.
+    ///
+    /// # Errors
+    /// Where the end fails. What is left is as it was.
+    fn read(&mut self, room: &mut [u8]) -> Result<usize, EndFault>
+        ensures bound { IfOk result (λ n. n ≤ length room.new) }
+        ensures bytes { ReadConsumes (left self.old) (left self.new) result room.new }
+        ensures failed { has_failed self.new ≡ (has_failed self.old || is_err result) }
+        ensures counted { reads self.new ≤ reads self.old + 1 };
+}
+
+/// What bytes are written to.
+pub trait Sink {
+    /// The bytes that were taken, where the end tells them.
+    ghost taken: { Self → Option (List ℕ) };
+
+    /// Whether it has failed.
+    ghost has_failed: { Self → Bool };
+
+    /// Whether all that was taken is flushed.
+    ghost is_flushed: { Self → Bool };
+
+    /// Takes a front of the bytes, at least one where there is one.
+    ///
+    /// # Errors
+    /// Where the end fails. What was taken is as it was.
+    fn write(&mut self, bytes: &[u8]) -> Result<usize, EndFault>
+        ensures bound { IfOk result (λ n. n ≤ length bytes.now) }
+        ensures some { IfOk result (λ n. 0 < length bytes.now → 0 < n) }
+        ensures bytes { WriteAppends (taken self.old) (taken self.new) result bytes.now }
+        ensures failed { has_failed self.new ≡ (has_failed self.old || is_err result) };
+
+    /// Passes on all that was taken.
+    ///
+    /// # Errors
+    /// Where the end fails.
+    fn flush(&mut self) -> Result<(), EndFault>
+        ensures bytes { Keeps (taken self.old) (taken self.new) }
+        ensures flushed { OnOk result (is_flushed self.new ≡ true) }
+        ensures failed { has_failed self.new ≡ (has_failed self.old || is_err result) };
+}
+
+/// Writes all the bytes.
+///
+/// # Errors
+/// Where the end fails. A front of the bytes was taken then.
+pub fn write_all<W: Sink>(writer: &mut W, bytes: &[u8]) -> Result<(), EndFault>
+    ensures ok { OnOk result (Appends (W.taken writer.old) (W.taken writer.new) bytes.now) }
+    ensures err { OnErr result ((n : ℕ) × Appends (W.taken writer.old) (W.taken writer.new) (take n bytes.now)) }
+    ensures failed { W.has_failed writer.new ≡ (W.has_failed writer.old || is_err result) }
+{
+    let mut at = 0;
+    while at < bytes.len() {
+        at += writer.write(&bytes[at..])?;
+    }
+    Ok(())
+}

@@ -1,0 +1,107 @@
+//! Bytes as lines.
+ghost use Rattle.std.specs.Prelude.{◌≡◌, ◌≤◌, ◌+◌, ◌||◌, ◌⊎◌, [], option_map, IfOk, IfErr, OnOk, IsErrOf};
+ghost use Rattle.iv_wire.specs.Cut.{is_blank};
+ghost use Rattle.iv_wire.specs.Ahead.{known};
+ghost use Rattle.iv_wire.specs.Reads.{IsCut, IsCutShort, is_read};
+
+use crate::ends::Source;
+use crate::room::Room;
+use std::alloc::{AllocError, AllocFailed, Global};
+
+/// How a run ends.
+#[derive(Clone, Copy, Debug, PartialEq, Eq)]
+pub enum End {
+    /// The input was at its end.
+    Input,
+    /// As many lines as were asked for were taken.
+    Lines,
+    /// A line of more than 65,536 bytes was answered.
+    TooLong,
+}
+
+/// Why a run stops.
+#[derive(Clone, Copy, Debug, PartialEq, Eq)]
+pub enum RunFault {
+    /// The reader failed. All whole lines before are answered.
+    Read,
+    /// The writer failed. A front of the answers was written.
+    Write,
+    /// A growth of memory was refused. The engine has failed.
+    Memory,
+    /// The engine had failed before the run.
+    Failed,
+}
+
+impl From<AllocError> for RunFault {
+    ghost use Rattle.std.specs.Prelude.{◌≡◌};
+    ghost use Rattle.iv_wire.specs.declared.lines.RunFault.TheVariants.{Memory};
+
+    ghost from_gives = { λ _ e. e ≡ Memory };
+
+    fn from(_: AllocError) -> Self {
+        RunFault::Memory
+    }
+}
+
+impl<T: Drop> From<AllocFailed<T>> for RunFault {
+    ghost use Rattle.std.specs.Prelude.{◌≡◌};
+    ghost use Rattle.iv_wire.specs.declared.lines.RunFault.TheVariants.{Memory};
+
+    ghost from_gives = { λ _ e. e ≡ Memory };
+
+    fn from(_: AllocFailed<T>) -> Self {
+        RunFault::Memory
+    }
+}
+
+/// What comes next from a source.
+#[derive(Drop)]
+pub enum Next {
+    /// No byte is left.
+    Nothing,
+    /// A line, without its newline.
+    Line(Vec<u8>),
+    /// 65,537 bytes without a newline.
+    Endless,
+}
+
+/// The next line.
+pub fn next_line<R: Source>(
+    alloc: Global,
+    room: &mut Room,
+    reader: &mut R,
+) -> Result<Next, RunFault>
+    ensures cut { IfOk result (λ next. IsCut (known room.old (R.left reader.old)) next (known room.new (R.left reader.new))) }
+    ensures fault { IfErr result (λ e. (e ≡ RunFault.Read) ⊎ (e ≡ RunFault.Memory)) }
+    ensures short { IsErrOf result RunFault.Read → IsCutShort (known room.old (R.left reader.old)) (R.left reader.new) }
+    ensures failed { R.has_failed reader.new ≡ (R.has_failed reader.old || is_read result) }
+    ensures reads { R.reads reader.new ≤ R.reads reader.old + 65537 }
+{
+    let mut line = Vec::new(alloc);
+    for _ in 0..65537u32 {
+        match room.next_byte(reader) {
+            Err(_) => return Err(RunFault::Read),
+            Ok(None) => {
+                if line.is_empty() {
+                    return Ok(Next::Nothing);
+                }
+                return Ok(Next::Line(line));
+            }
+            Ok(Some(byte)) => {
+                if byte == b'\n' {
+                    return Ok(Next::Line(line));
+                }
+                line.push(byte)?;
+            }
+        }
+    }
+    Ok(Next::Endless)
+}
+
+/// Whether the line is of spaces, tabs and carriage returns alone.
+pub fn is_blank_line(line: &[u8]) -> bool
+    ensures { result ≡ is_blank line.now }
+{
+    line.iter()
+        .all(|b| *b == b' ' || *b == b'\t' || *b == b'\r')
+}

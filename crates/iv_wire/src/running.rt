@@ -1,0 +1,134 @@
+//! Lines, each answered in turn.
+ghost use Rattle.std.specs.Prelude.{◌≡◌, ◌≤◌, ◌+◌, ◌*◌, ◌||◌, ◌↔◌, ℕ, take, true, false, IfOk, IfErr, IfSome, OnOk, OnErr, IsErrOf};
+ghost use Rattle.std.specs.Io.KnownBytes.{Appends};
+ghost use Rattle.iv_machine.specs.Reached.{IsReached};
+ghost use Rattle.iv_machine.specs.State.{State};
+ghost use Rattle.iv_machine.specs.Well.{is_well_command};
+ghost use Rattle.iv_engine.specs.Seen.{IsBehind};
+ghost use Rattle.iv_engine.specs.Views.{command_of};
+ghost use Rattle.iv_wire.specs.Answer.{told, told_line, asked};
+ghost use Rattle.iv_wire.specs.Reads.{is_read, is_write, is_memory};
+ghost use Rattle.iv_wire.specs.Endings.{IsAnswered};
+ghost use Rattle.iv_wire.specs.Sums.{HasWritten};
+
+use crate::ends::{Sink, Source, write_all};
+use crate::lines::{End, Next, RunFault, is_blank_line, next_line};
+use crate::requests::{WireFault, read_line};
+use crate::room::Room;
+use crate::texts::{write_fault, write_lines};
+use iv_engine::{Command, Engine};
+use std::alloc::{AllocError, Global};
+
+/// The text of the lines that answer a command.
+fn answer_text(alloc: Global, engine: &mut Engine, command: Command) -> Result<Vec<u8>, AllocError>
+    requires { is_well_command (command_of command) ≡ true }
+    ensures text { IfOk result (λ text. (s : State) → IsBehind s engine.old → text.items ≡ (told s (asked (command_of command))).text) }
+    ensures state { OnOk result ((s : State) → IsBehind s engine.old → IsBehind (told s (asked (command_of command))).state engine.new) }
+    ensures failed { OnOk result (engine.new.failed ≡ false) }
+{
+    match engine.apply(command) {
+        Err(_) => Err(AllocError),
+        Ok(lines) => write_lines(alloc, &lines),
+    }
+}
+
+/// Answers one line.
+fn tell(alloc: Global, engine: &mut Engine, line: &[u8]) -> Result<Vec<u8>, AllocError>
+    ensures text { IfOk result (λ text. (s : State) → IsBehind s engine.old → text.items ≡ (told_line s line.now).text) }
+    ensures state { OnOk result ((s : State) → IsBehind s engine.old → IsBehind (told_line s line.now).state engine.new) }
+    ensures failed { OnOk result (engine.old.failed ≡ false → engine.new.failed ≡ false) }
+{
+    if is_blank_line(line) {
+        return Ok(Vec::new(alloc));
+    }
+    match read_line(alloc, line) {
+        Err(WireFault::Memory) => Err(AllocError),
+        Err(WireFault::BadJson) => write_fault(alloc, 1),
+        Err(WireFault::BadRequest) => write_fault(alloc, 2),
+        Ok(command) => answer_text(alloc, engine, command),
+    }
+}
+
+/// Writes a text whole, and flushes.
+fn say<W: Sink>(writer: &mut W, text: &[u8]) -> Result<(), RunFault>
+    ensures ok { OnOk result (Appends (W.taken writer.old) (W.taken writer.new) text.now) }
+    ensures flushed { OnOk result (W.is_flushed writer.new ≡ true) }
+    ensures front { OnErr result ((n : ℕ) × Appends (W.taken writer.old) (W.taken writer.new) (take n text.now)) }
+    ensures fault { IfErr result (λ e. e ≡ RunFault.Write) }
+    ensures failed { W.has_failed writer.new ≡ (W.has_failed writer.old || is_write result) }
+{
+    match write_all(writer, text) {
+        Err(_) => Err(RunFault::Write),
+        Ok(()) => match writer.flush() {
+            Err(_) => Err(RunFault::Write),
+            Ok(()) => Ok(()),
+        },
+    }
+}
+
+/// Answers up to `lines` lines. On `Memory` the engine is still to be failed.
+fn run_lines<R: Source, W: Sink>(
+    alloc: Global,
+    engine: &mut Engine,
+    reader: &mut R,
+    writer: &mut W,
+    lines: u32,
+) -> Result<End, RunFault>
+    ensures answered { (s : State) → IsBehind s engine.old → IsAnswered s (R.left reader.old) lines (W.taken writer.old) (W.taken writer.new) engine.new (R.left reader.new) result }
+    ensures went_on { (is_memory result ≡ false) → engine.old.failed ≡ false → engine.new.failed ≡ false }
+    ensures fault { IsErrOf result RunFault.Failed → ⊥ }
+    ensures read { R.has_failed reader.new ≡ (R.has_failed reader.old || is_read result) }
+    ensures write { W.has_failed writer.new ≡ (W.has_failed writer.old || is_write result) }
+    ensures flushed { (is_write result ≡ false) → W.is_flushed writer.old ≡ true → W.is_flushed writer.new ≡ true }
+    ensures reads { R.reads reader.new ≤ R.reads reader.old + (lines * 65537) }
+{
+    let mut room = Room::new();
+    for _ in 0..lines {
+        match next_line(alloc, &mut room, reader)? {
+            Next::Nothing => return Ok(End::Input),
+            Next::Endless => {
+                let text = write_fault(alloc, 22)?;
+                say(writer, &text)?;
+                return Ok(End::TooLong);
+            }
+            Next::Line(line) => {
+                let text = tell(alloc, engine, &line)?;
+                say(writer, &text)?;
+            }
+        }
+    }
+    Ok(End::Lines)
+}
+
+/// Answers up to `lines` lines of the reader, skipped ones counted, and no more; each command's answer is written whole
+/// and flushed before the next line is read.
+///
+/// # Errors
+/// `Read` and `Write` where the reader or the writer failed; `Memory` where a growth of memory was refused: the engine
+/// has failed then; `Failed` exactly where it had failed before.
+pub fn run<R: Source, W: Sink>(
+    alloc: Global,
+    engine: &mut Engine,
+    reader: &mut R,
+    writer: &mut W,
+    lines: u32,
+) -> Result<End, RunFault>
+    ensures answered { (s : State) → IsBehind s engine.old → IsAnswered s (R.left reader.old) lines (W.taken writer.old) (W.taken writer.new) engine.new (R.left reader.new) result }
+    ensures adds_up { OnOk result ((s : State) → IsBehind s engine.old → IsReached s.frame → IfSome (R.left reader.old) (λ _. HasWritten s (W.taken writer.old) (W.taken writer.new) engine.new)) }
+    ensures failed { engine.new.failed ≡ (engine.old.failed || is_memory result) }
+    ensures refused { IsErrOf result RunFault.Failed ↔ (engine.old.failed ≡ true) }
+    ensures untouched { engine.old.failed ≡ true → (reader.new ≡ reader.old) × (writer.new ≡ writer.old) × (engine.new ≡ engine.old) }
+    ensures read { R.has_failed reader.new ≡ (R.has_failed reader.old || is_read result) }
+    ensures write { W.has_failed writer.new ≡ (W.has_failed writer.old || is_write result) }
+    ensures flushed { (is_write result ≡ false) → W.is_flushed writer.old ≡ true → W.is_flushed writer.new ≡ true }
+    ensures reads { R.reads reader.new ≤ R.reads reader.old + (lines * 65537) }
+{
+    if engine.is_failed() {
+        return Err(RunFault::Failed);
+    }
+    let ended = run_lines(alloc, engine, reader, writer, lines);
+    if let Err(RunFault::Memory) = ended {
+        engine.fail();
+    }
+    ended
+}

@@ -1,0 +1,170 @@
+//! Lines as texts.
+ghost use Rattle.std.specs.Prelude.{◌≡◌, map, flat_map, false, IfOk};
+ghost use Rattle.serde_json.specs.View.{view};
+ghost use Rattle.serde_json.specs.Written.{has_float};
+ghost use Rattle.iv_rows.specs.View.{cell_of, cells_of};
+ghost use Rattle.iv_engine.specs.Views.{refusal_of, reply_of, line_of};
+ghost use Rattle.iv_wire.specs.Texts as texts;
+ghost use Rattle.iv_wire.specs.Texts.{cell_data, row_data, entry_data, rows_data, privilege_text, line_data, line_text, text_of, fault_text};
+
+use iv_engine::{Line, Privilege, Refusal, Reply};
+use iv_rows::{Row, Value};
+use serde_json::{Value as Json, json};
+use std::alloc::{AllocError, Global};
+
+fn cell_value(alloc: Global, cell: &Value) -> Result<Json, AllocError>
+    ensures { IfOk result (λ v. view v ≡ cell_data (cell_of cell.now)) }
+{
+    match cell {
+        Value::Int(n) => json!(in alloc; *n),
+        Value::Text(text) => json!(in alloc; text.as_str()),
+        Value::Flag(flag) => json!(in alloc; *flag),
+    }
+}
+
+fn cells_value(alloc: Global, cells: &[Value]) -> Result<Json, AllocError>
+    ensures { IfOk result (λ v. view v ≡ row_data (cells_of cells.now)) }
+{
+    let mut values = Vec::new(alloc);
+    for cell in cells {
+        values.push(cell_value(alloc, cell)?)?;
+    }
+    Ok(Json::from(values))
+}
+
+fn entry_value(alloc: Global, entry: &(Row, i64)) -> Result<Json, AllocError>
+    ensures { IfOk result (λ v. view v ≡ entry_data entry.now) }
+{
+    let row = cells_value(alloc, entry.0.values())?;
+    json!(in alloc; [entry.1, row])
+}
+
+fn rows_value(alloc: Global, rows: &[(Row, i64)]) -> Result<Json, AllocError>
+    ensures { IfOk result (λ v. view v ≡ rows_data rows.now) }
+{
+    let mut values = Vec::new(alloc);
+    for entry in rows {
+        values.push(entry_value(alloc, entry)?)?;
+    }
+    Ok(Json::from(values))
+}
+
+fn privilege_text(privilege: Privilege) -> &'static str
+    ensures { result.now ≡ privilege_text privilege }
+{
+    match privilege {
+        Privilege::Select => "select",
+        Privilege::Insert => "insert",
+        Privilege::Update => "update",
+        Privilege::Delete => "delete",
+    }
+}
+
+/// A refusal without further keys.
+fn plain_value(alloc: Global, session: u32, number: u64) -> Result<Json, AllocError>
+    ensures { IfOk result (λ v. view v ≡ texts.plain_data number session) }
+{
+    json!(in alloc; {"error": number, "session": session})
+}
+
+fn refused_value(alloc: Global, session: u32, refusal: &Refusal) -> Result<Json, AllocError>
+    ensures { IfOk result (λ v. view v ≡ texts.refused_data session (refusal_of refusal.now)) }
+{
+    match refusal {
+        Refusal::NoSession => plain_value(alloc, session, 3),
+        Refusal::SessionInUse => plain_value(alloc, session, 4),
+        Refusal::UnknownRole => plain_value(alloc, session, 5),
+        Refusal::NameTaken => plain_value(alloc, session, 6),
+        Refusal::UnknownRelation => plain_value(alloc, session, 7),
+        Refusal::BadRow { entry } => {
+            json!(in alloc; {"entry": *entry, "error": 9, "session": session})
+        }
+        Refusal::NotAdministrator => plain_value(alloc, session, 11),
+        Refusal::NotOwner { rel } => {
+            json!(in alloc; {"error": 12, "on": rel.as_str(), "session": session})
+        }
+        Refusal::MissingPrivilege { privilege, rel } => {
+            let privilege = privilege_text(*privilege);
+            json!(in alloc; {"error": 13, "on": rel.as_str(), "privilege": privilege, "session": session})
+        }
+        Refusal::Limit => plain_value(alloc, session, 17),
+        Refusal::TooMany => plain_value(alloc, session, 20),
+    }
+}
+
+fn reply_value(alloc: Global, session: u32, reply: &Reply) -> Result<Json, AllocError>
+    ensures { IfOk result (λ v. view v ≡ texts.reply_data session (reply_of reply.now)) }
+{
+    match reply {
+        Reply::Ok => json!(in alloc; {"ok": true, "session": session}),
+        Reply::Subscribed(sub) => { json!(in alloc; {"ok": true, "session": session, "sub": *sub}) }
+        Reply::Refused(refusal) => refused_value(alloc, session, refusal),
+    }
+}
+
+fn change_value(
+    alloc: Global,
+    session: u32,
+    sub: u64,
+    rows: &[(Row, i64)],
+) -> Result<Json, AllocError>
+    ensures { IfOk result (λ v. view v ≡ texts.change_data session sub rows.now) }
+{
+    let changes = rows_value(alloc, rows)?;
+    json!(in alloc; {"changes": changes, "session": session, "sub": sub})
+}
+
+fn line_value(alloc: Global, line: &Line) -> Result<Json, AllocError>
+    ensures { IfOk result (λ v. view v ≡ line_data (line_of line.now)) }
+{
+    match line {
+        Line::Reply { session, reply } => reply_value(alloc, *session, reply),
+        Line::Change { session, sub, rows } => change_value(alloc, *session, *sub, rows),
+    }
+}
+
+/// The compact text of a value, with a newline.
+fn text_of(alloc: Global, value: &Json) -> Result<Vec<u8>, AllocError>
+    ensures { IfOk result (λ text. has_float (view value.now) ≡ false → text.items ≡ text_of (view value.now)) }
+{
+    let mut text = value.to_string(alloc)?.into_bytes();
+    text.push(b'\n')?;
+    Ok(text)
+}
+
+/// The text of a line, with its newline.
+///
+/// # Errors
+/// `AllocError` where a growth of memory was refused.
+pub fn write_line(alloc: Global, line: &Line) -> Result<Vec<u8>, AllocError>
+    ensures { IfOk result (λ text. text.items ≡ line_text (line_of line.now)) }
+{
+    let value = line_value(alloc, line)?;
+    text_of(alloc, &value)
+}
+
+/// The texts of the lines of a command.
+pub fn write_lines(alloc: Global, lines: &[Line]) -> Result<Vec<u8>, AllocError>
+    ensures { IfOk result (λ text. text.items ≡ flat_map line_text (map line_of lines.now)) }
+{
+    let mut text = Vec::new(alloc);
+    for line in lines {
+        let part = write_line(alloc, line)?;
+        text.extend_from_slice(&part)?;
+    }
+    Ok(text)
+}
+
+fn fault_value(alloc: Global, number: u64) -> Result<Json, AllocError>
+    ensures { IfOk result (λ v. view v ≡ texts.fault_data number) }
+{
+    json!(in alloc; {"error": number})
+}
+
+/// What a line that is no request is answered.
+pub fn write_fault(alloc: Global, number: u64) -> Result<Vec<u8>, AllocError>
+    ensures { IfOk result (λ text. text.items ≡ fault_text number) }
+{
+    let value = fault_value(alloc, number)?;
+    text_of(alloc, &value)
+}

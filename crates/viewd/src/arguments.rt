@@ -1,0 +1,81 @@
+//! The words after the program's name.
+
+ghost use Rattle.std.specs.Prelude.{◌≤◌, IfOk, IfSome};
+ghost use Rattle.viewd.specs.Arguments.{InRange};
+
+use crate::asked::Settings;
+use clap::error::ErrorKind;
+use clap::{Arg, ArgMatches, Command, Error, value_parser};
+use std::alloc::{AllocError, Global};
+use std::{env, io};
+
+fn count<'a>(alloc: Global, name: &'a str, help: &'a str) -> Arg<'a> {
+    Arg::new(alloc, name)
+        .long(name)
+        .value_name("N")
+        .help(help)
+        .value_parser(value_parser!(u32).range(1..))
+        .default_value("1000000")
+}
+
+fn command<'a>(alloc: Global) -> Result<Command<'a>, Error> {
+    let replay = Command::new(alloc, "replay")
+        .about("Answers the request lines of standard input on standard output")
+        .arg(count(alloc, "lines", "The number of lines to take at most"))?;
+    let command = Command::new(alloc, "viewd")
+        .bin_name("viewd")?
+        .about("Keeps tables, and tells subscribers what changes in them")
+        .no_binary_name(true)
+        .subcommand_required(true)
+        .disable_help_subcommand(true)
+        .subcommand(replay)?;
+    Ok(command)
+}
+
+fn count_of(matches: &ArgMatches<'_>, name: &str) -> Option<u32>
+    ensures { IfSome result (λ n. 1 ≤ n) }
+{
+    matches.get_one::<u32>(name).filter(|n| *n >= 1)
+}
+
+fn found(matches: &ArgMatches<'_>) -> Option<Settings>
+    ensures { IfSome result InRange }
+{
+    match matches.subcommand() {
+        Some(("replay", inner)) => {
+            let lines = count_of(inner, "lines")?;
+            Some(Settings::Replay { lines })
+        }
+        _ => None,
+    }
+}
+
+/// Reads the words after the program's name: `replay`, and `--lines N` with N from 1 to
+/// 4,294,967,295, by default 1,000,000. Other words, and a call for help, are an error whose text
+/// is for the user. Want of memory is the kind `OutOfMemory`.
+pub fn settings<'a>(alloc: Global, words: &'a [&'a str]) -> Result<Settings, Error>
+    ensures { IfOk result InRange }
+{
+    let mut command = command(alloc)?;
+    let matches = command.try_get_matches_from_mut(words)?;
+    match found(&matches) {
+        Some(settings) => Ok(settings),
+        None => Err(command.error(ErrorKind::InvalidValue, "a number is out of range")?),
+    }
+}
+
+/// All words of the command line, the program's name first. A word that is not text is an error of
+/// the kind `InvalidValue`, want of memory one of the kind `OutOfMemory`.
+pub fn read_words(rt: &HostRuntime) -> Result<Vec<String>, Error> {
+    let alloc = rt.alloc();
+    match env::args(rt) {
+        Ok(all) => Ok(all.collect(alloc)?),
+        Err(error) => {
+            if error.kind() == io::ErrorKind::OutOfMemory {
+                return Err(Error::from(AllocError));
+            }
+            let mut command = command(alloc)?;
+            Err(command.error(ErrorKind::InvalidValue, "an argument is not text")?)
+        }
+    }
+}

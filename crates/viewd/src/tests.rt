@@ -1,0 +1,68 @@
+use crate::arguments::settings;
+use crate::asked::Settings;
+use crate::fault::Fault;
+use clap::error::ErrorKind;
+use std::test::Fail;
+
+#[test]
+fn reads_settings(rt: HostRuntime) -> Result<(), Fail> {
+    let alloc = rt.alloc();
+    let most = Settings::Replay {
+        lines: 4_294_967_295,
+    };
+    assert!(rt; settings(alloc, &["replay"])? == Settings::Replay { lines: 1_000_000 });
+    assert!(rt; settings(alloc, &["replay", "--lines", "1"])? == Settings::Replay { lines: 1 });
+    assert!(rt; settings(alloc, &["replay", "--lines=4294967295"])? == most);
+    Ok(())
+}
+
+#[test]
+fn refuses_words(rt: HostRuntime) -> Result<(), Fail> {
+    let alloc = rt.alloc();
+    let refused = [
+        (["replay", "--lines", "0"], ErrorKind::ValueValidation),
+        (
+            ["replay", "--lines", "4294967296"],
+            ErrorKind::ValueValidation,
+        ),
+        (["replay", "--lines", "-1"], ErrorKind::UnknownArgument),
+        (["replay", "--lines", "one"], ErrorKind::ValueValidation),
+        (["replay", "--lines", ""], ErrorKind::ValueValidation),
+        (["replay", "--port", "1"], ErrorKind::UnknownArgument),
+        (["serve", "--port", "1"], ErrorKind::InvalidSubcommand),
+    ];
+    for (words, kind) in refused.iter() {
+        let Err(error) = settings(alloc, words) else {
+            return Err(Fail::new("words were taken"));
+        };
+        assert!(rt; error.kind() == *kind, "{words:?} gave {error}");
+        assert!(rt; error.use_stderr());
+    }
+    Ok(())
+}
+
+#[test]
+fn shows_help(rt: HostRuntime) -> Result<(), Fail> {
+    let alloc = rt.alloc();
+    let Err(error) = settings(alloc, &["--help"]) else {
+        return Err(Fail::new("no help"));
+    };
+    assert!(rt; error.kind() == ErrorKind::DisplayHelp);
+    assert!(rt; !error.use_stderr());
+    Ok(())
+}
+
+#[test]
+fn tells_faults(rt: HostRuntime) -> Result<(), Fail> {
+    let alloc = rt.alloc();
+    let told = [
+        (Fault::Read, "viewd: read failed", 2),
+        (Fault::Write, "viewd: write failed", 2),
+        (Fault::Memory, "viewd: out of memory", 3),
+    ];
+    for (fault, text, status) in told {
+        assert_eq!(rt; format!(in alloc; "{fault}")?.as_str(), text);
+        assert_eq!(rt; fault.status(), status);
+    }
+    Ok(())
+}
