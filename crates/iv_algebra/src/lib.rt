@@ -12,6 +12,8 @@ mod plan;
 mod pred;
 mod rows;
 mod tables;
+#[cfg(test)]
+mod tests;
 
 pub use evaluation::eval;
 pub use iv_zset::LimitFault as AlgFault;
