@@ -1,0 +1,213 @@
+-- What the sources of a select keep: the plan fits, and the columns have its rows' kinds.
+use Rattle.std.proofs.Common.{◌≡◌, ℕ, zero, suc, ◌-◌, ◌<◌, ◌≤◌, Bool, true, false, cond, List, [], ◌∷◌, ◌++◌, length, Option, Some, None, Ok, Err, refl, sym, ap, subst, ◌∙◌, arith, inl, inr}
+use Rattle.std.specs.Prelude.{◌&&◌, ◌⊎◌, slice_get, nat_lt, nat_le, bytes_eq, find, IfSome, if◌then◌else◌}
+use Rattle.std.specs.List.{list_all}
+use Rattle.std.proofs.lemmas.List.{map-append}
+use Rattle.std.proofs.lemmas.List.Folds.{list_all-append}
+use borrow.Author.Tests.{ltb-true, leb-true}
+use Rattle.std.proofs.Common.{length-append}
+use Rattle.iv_rows.specs.Names.{is_name}
+use Rattle.iv_rows.specs.Columns.{Column, kinds_of, is_wide, has_columns, has_distinct_names}
+use Rattle.iv_rows.specs.declared.value.Kind.{Kind}
+use Rattle.iv_rows.specs.declared.value.Kind.TheVariants as kind
+use Rattle.iv_query.specs.Trees.{PairTree, PairOf, SourceTree, JoinTree, JoinOf, PredTree}
+use Rattle.iv_algebra.specs.Predicates.{kind_eq, same_kind}
+use Rattle.iv_algebra.specs.Fits.{Heads, pair_fits}
+use Rattle.iv_bind.specs.declared.fault.BindWhy.TheVariants as why
+use Rattle.iv_bind.specs.Faults.{FaultAt, ◌>>=◌, if_some, through}
+use Rattle.iv_bind.specs.Shapes.{Shape, Scan, Filter}
+use Rattle.iv_bind.specs.Catalogs.{Held, Table, View, Entry, named, columns_of, plan_of}
+use Rattle.iv_bind.specs.Binding.{Named, From, place_of, place_of_name, text_of, relation_name, called, under, is_used, source_of, column_at, sides, pair_at, pairs_at, joined, joined_at, source_at, join_at, from_at, filter_at, pred_at}
+use Rattle.iv_query.specs.declared.tree.Dialect.TheVariants.{Query}
+use Rattle.iv_query.specs.Well.{IsWellPred}
+use Rattle.iv_bind.specs.Sound.{if_fits, condition_fits, type_of, held_agrees, Agrees, is_schema, HeldIsSound, AreSound, IsSound}
+use Rattle.iv_bind.proofs.Inversion.{both_ok, then_ok, else_ok, some_ok, kept}
+use Rattle.iv_bind.proofs.Columns.{kinds_in, found}
+use Rattle.iv_bind.proofs.Predicates.{and_parts, and_whole, bound_fits}
+
+-- over all tables of the catalog's kinds the plan fits and its rows have the columns' kinds; the names are names, and there is a column
+pub record IsFrom (catalog : List Entry) (f : From) : Type 0 where
+  pub typed : (heads : Heads) → Agrees catalog heads → type_of heads f.plan ≡ Some (kinds_in f.scope)
+  pub names : list_all (λ n. is_name n.name) f.scope ≡ true
+  pub some : 1 ≤ length f.scope
+
+-- ---- a source
+
+abbrev EntryKeeps : List Entry → List Entry → Entry → Type 0
+EntryKeeps catalog es e = HeldIsSound catalog e.held × ((heads : Heads) → Agrees es heads → held_agrees heads e.rel e.held)
+
+entry_case : (catalog : List Entry) (x : Entry) (es : List Entry) (e : Entry) (rest : Option Entry) (b : Bool) → AreSound catalog (x ∷ es) → (rest ≡ Some e → EntryKeeps catalog es e) → cond b (Some x) rest ≡ Some e → EntryKeeps catalog (x ∷ es) e
+entry_case catalog x es e rest true s later h =
+    let q : x ≡ e = cc in
+    let P : Entry → Type 0 = λ y. EntryKeeps catalog (x ∷ es) y in
+    subst P q (s.0, λ heads a. a.0)
+entry_case catalog x es e rest false s later h = let l = later h in (l.0, λ heads a. l.1 heads a.1)
+
+entry_keeps : (catalog : List Entry) (test : Entry → Bool) (es : List Entry) (e : Entry) → AreSound catalog es → find test es ≡ Some e → EntryKeeps catalog es e
+entry_keeps catalog test [] e s h = cc
+entry_keeps catalog test (x ∷ es) e s h = entry_case catalog x es e (find test es) (test x) s (entry_keeps catalog test es e s.1) h
+
+pub same_kinds : (name : List ℕ) (cs : List Column) → kinds_in (under name cs) ≡ kinds_of cs
+same_kinds name [] = refl
+same_kinds name (c ∷ cs) = ap (λ ks. c.kind ∷ ks) (same_kinds name cs)
+
+same_names : (name : List ℕ) (cs : List Column) → list_all (λ n. is_name n.name) (under name cs) ≡ list_all (λ c. is_name c.name) cs
+same_names name [] = refl
+same_names name (c ∷ cs) = ap (λ b. is_name c.name && b) (same_names name cs)
+
+same_length : (name : List ℕ) (cs : List Column) → length (under name cs) ≡ length cs
+same_length name [] = refl
+same_length name (c ∷ cs) = ap suc (same_length name cs)
+
+from_schema : (catalog : List Entry) (plan : Shape) (reached : List ℕ) (name : List ℕ) (cs : List Column) → is_schema cs ≡ true
+    → ((heads : Heads) → Agrees catalog heads → type_of heads plan ≡ Some (kinds_of cs)) → IsFrom catalog (record { plan = plan; scope = under name cs; reached = reached })
+from_schema catalog plan reached name cs s t =
+    let a = and_parts (has_columns cs) (has_distinct_names cs) s in
+    let b = and_parts (is_wide cs) (list_all (λ c. is_name c.name) cs) a.0 in
+    let w = and_parts (nat_le 1 (length cs)) (nat_le (length cs) 16) b.0 in
+    let l : 1 ≤ length cs = leb-true 1 (length cs) w.0 in
+    record {
+      typed = λ heads g. t heads g ∙ ap Some (sym (same_kinds name cs));
+      names = same_names name cs ∙ b.1;
+      some = omega (arith, l, same_length name cs);
+    }
+
+held_from : (catalog : List Entry) (rel : ℕ) (held : Held) (reached : List ℕ) (name : List ℕ) → HeldIsSound catalog held → ((heads : Heads) → Agrees catalog heads → held_agrees heads rel held)
+    → IsFrom catalog (record { plan = plan_of rel held; scope = under name (columns_of held); reached = reached })
+held_from catalog rel (Table cs) reached name s a = from_schema catalog (Scan rel) reached name cs s a
+held_from catalog rel (View v) reached name s a = from_schema catalog v.plan reached name v.schema s.0 s.1
+
+pub source_keeps : (catalog : List Entry) (scope : List Named) (s : SourceTree) (f : From) → IsSound catalog → source_at catalog scope s ≡ Ok f → IsFrom catalog f
+unfolding source_at
+source_keeps catalog scope s f sound h =
+    let e = some_ok (named catalog (text_of (relation_name s))) (FaultAt (place_of_name (relation_name s)) why.UnknownRelation)
+    (λ e. if is_used scope (text_of (called s)) then Err (FaultAt (place_of_name (called s)) why.DuplicateName) else Ok (source_of e (text_of (called s)))) f h in
+    let u = else_ok (is_used scope (text_of (called s))) (FaultAt (place_of_name (called s)) why.DuplicateName) (Ok (source_of e.0 (text_of (called s)))) f e.2 in
+    let q : source_of e.0 (text_of (called s)) ≡ f = cc in
+    let k = entry_keeps catalog (λ x. bytes_eq (text_of (relation_name s)) x.name) catalog e.0 sound e.1 in
+    let P : From → Type 0 = λ g. IsFrom catalog g in
+    subst P q (held_from catalog e.0.rel e.0.held _ (text_of (called s)) k.0 k.1)
+
+-- ---- pairs
+
+pub get_front : {A : Type 0} (xs ys : List A) (i : ℕ) → i < length xs → slice_get (xs ++ ys) i ≡ slice_get xs i
+get_front [] ys i h = absurd (omega arith)
+get_front (x ∷ xs) ys zero h = refl
+get_front (x ∷ xs) ys (suc i) h = get_front xs ys i (omega arith)
+
+pub get_back : {A : Type 0} (xs ys : List A) (i : ℕ) → length xs ≤ i → slice_get (xs ++ ys) i ≡ slice_get ys (i - length xs)
+get_back [] ys i h = let e : i ≡ i - 0 = omega arith in ap (slice_get ys) e
+get_back (x ∷ xs) ys zero h = absurd (omega arith)
+get_back (x ∷ xs) ys (suc i) h = let e : i - length xs ≡ suc i - suc (length xs) = omega arith in get_back xs ys i (omega arith) ∙ ap (slice_get ys) e
+
+as_many : (scope : List Named) → length (kinds_in scope) ≡ length scope
+as_many [] = refl
+as_many (n ∷ ns) = ap suc (as_many ns)
+
+kind_eq_sym : (a b : Kind) → kind_eq a b ≡ kind_eq b a
+kind_eq_sym kind.Int kind.Int = refl
+kind_eq_sym kind.Int kind.Text = refl
+kind_eq_sym kind.Int kind.Flag = refl
+kind_eq_sym kind.Text kind.Int = refl
+kind_eq_sym kind.Text kind.Text = refl
+kind_eq_sym kind.Text kind.Flag = refl
+kind_eq_sym kind.Flag kind.Int = refl
+kind_eq_sym kind.Flag kind.Text = refl
+kind_eq_sym kind.Flag kind.Flag = refl
+
+-- one column on each side, of one kind
+side_fits : (left right : List Named) (i j : ℕ) (a b : Kind) → (nat_lt i (length left) && nat_le (length left) j) ≡ true → slice_get (kinds_in (left ++ right)) i ≡ Some a → slice_get (kinds_in (left ++ right)) j ≡ Some b → kind_eq a b ≡ true
+    → pair_fits (kinds_in left) (kinds_in right) (i, j - length left) ≡ true
+side_fits left right i j a b t x y k =
+    let p = and_parts (nat_lt i (length left)) (nat_le (length left) j) t in
+    let lt : i < length (kinds_in left) = omega (arith, ltb-true i (length left) p.0, as_many left) in
+    let le : length (kinds_in left) ≤ j = omega (arith, leb-true (length left) j p.1, as_many left) in
+    let split : kinds_in (left ++ right) ≡ kinds_in left ++ kinds_in right = map-append (λ n. n.kind) left right in
+    let l : slice_get (kinds_in left) i ≡ Some a = sym (get_front (kinds_in left) (kinds_in right) i lt) ∙ ap (λ ks. slice_get ks i) (sym split) ∙ x in
+    let r : slice_get (kinds_in right) (j - length left) ≡ Some b = ap (λ n. slice_get (kinds_in right) (j - n)) (sym (as_many left)) ∙ sym (get_back (kinds_in left) (kinds_in right) j le) ∙ ap (λ ks. slice_get ks j) (sym split) ∙ y in
+    (λ m. same_kind (l m) (r m)) ∙ k
+
+sides_case : (b c : Bool) (p q pr : ℕ × ℕ) → (if b then Some p else (if c then Some q else None)) ≡ Some pr → ((b ≡ true) × (p ≡ pr)) ⊎ ((c ≡ true) × (q ≡ pr))
+sides_case true c p q pr h = let e : p ≡ pr = cc in inl (refl, e)
+sides_case false true p q pr h = let e : q ≡ pr = cc in inr (refl, e)
+sides_case false false p q pr h = cc
+
+sides_fit : (left right : List Named) (x y : ℕ × Kind) (pr : ℕ × ℕ) → slice_get (kinds_in (left ++ right)) x.0 ≡ Some x.1 → slice_get (kinds_in (left ++ right)) y.0 ≡ Some y.1 → kind_eq x.1 y.1 ≡ true
+    → ((((nat_lt x.0 (length left) && nat_le (length left) y.0) ≡ true) × ((x.0, y.0 - length left) ≡ pr)) ⊎ (((nat_lt y.0 (length left) && nat_le (length left) x.0) ≡ true) × ((y.0, x.0 - length left) ≡ pr)))
+    → pair_fits (kinds_in left) (kinds_in right) pr ≡ true
+sides_fit left right x y pr fx fy k (inl h) = let P : ℕ × ℕ → Type 0 = λ p. pair_fits (kinds_in left) (kinds_in right) p ≡ true in subst P h.1 (side_fits left right x.0 y.0 x.1 y.1 h.0 fx fy k)
+sides_fit left right x y pr fx fy k (inr h) = let P : ℕ × ℕ → Type 0 = λ p. pair_fits (kinds_in left) (kinds_in right) p ≡ true in subst P h.1 (side_fits left right y.0 x.0 y.1 x.1 h.0 fy fx (kind_eq_sym y.1 x.1 ∙ k))
+
+pair_keeps : (left right : List Named) (p : PairTree) (pr : ℕ × ℕ) → pair_at (length left) (left ++ right) p ≡ Ok pr → pair_fits (kinds_in left) (kinds_in right) pr ≡ true
+unfolding pair_at
+pair_keeps left right (PairOf a b) pr h =
+    let n = length left in
+    let scope = left ++ right in
+    let s = both_ok (column_at scope a) (λ x. column_at scope b >>= λ y. if_some (sides n x.0 y.0) (Err (FaultAt (place_of b) why.UnknownColumn)) (λ pair. if kind_eq x.1 y.1 then Ok pair else Err (FaultAt (place_of b) why.KindMismatch))) pr h in
+    let x = s.0 in
+    let t = both_ok (column_at scope b) (λ y. if_some (sides n x.0 y.0) (Err (FaultAt (place_of b) why.UnknownColumn)) (λ pair. if kind_eq x.1 y.1 then Ok pair else Err (FaultAt (place_of b) why.KindMismatch))) pr s.2 in
+    let y = t.0 in
+    let o = some_ok (sides n x.0 y.0) (FaultAt (place_of b) why.UnknownColumn) (λ pair. if kind_eq x.1 y.1 then Ok pair else Err (FaultAt (place_of b) why.KindMismatch)) pr t.2 in
+    let u = then_ok (kind_eq x.1 y.1) (Ok o.0) (FaultAt (place_of b) why.KindMismatch) pr o.2 in
+    let q : o.0 ≡ pr = cc in
+    let c = sides_case (nat_lt x.0 n && nat_le n y.0) (nat_lt y.0 n && nat_le n x.0) (x.0, y.0 - n) (y.0, x.0 - n) o.0 o.1 in
+    let P : ℕ × ℕ → Type 0 = λ p. pair_fits (kinds_in left) (kinds_in right) p ≡ true in
+    subst P {x = o.0} q (sides_fit left right x y o.0 (found scope a x s.1) (found scope b y t.1) u.0 c)
+
+pub all_push : {A : Type 0} (t : A → Bool) (xs : List A) (x : A) → list_all t xs ≡ true → t x ≡ true → list_all t (xs ++ x ∷ []) ≡ true
+all_push t xs x h g = list_all-append t xs (x ∷ []) ∙ and_whole (list_all t xs) (list_all t (x ∷ [])) h (and_whole (t x) true g refl)
+
+pairs_keep : (left right : List Named) (on : List PairTree) (pairs : List (ℕ × ℕ)) → pairs_at (length left) (left ++ right) on ≡ Ok pairs → list_all (pair_fits (kinds_in left) (kinds_in right)) pairs ≡ true
+unfolding pairs_at
+pairs_keep left right on pairs h =
+    kept (λ ps. list_all (pair_fits (kinds_in left) (kinds_in right)) ps ≡ true) (λ ps p. pair_at (length left) (left ++ right) p >>= λ pair. Ok (ps ++ pair ∷ []))
+    (λ ps p qs g step.
+    let s = both_ok (pair_at (length left) (left ++ right) p) (λ pair. Ok (ps ++ pair ∷ [])) qs step in
+    let e : ps ++ s.0 ∷ [] ≡ qs = cc in
+    let P : List (ℕ × ℕ) → Type 0 = λ rs. list_all (pair_fits (kinds_in left) (kinds_in right)) rs ≡ true in
+    subst P e (all_push (pair_fits (kinds_in left) (kinds_in right)) ps s.0 g (pair_keeps left right p s.0 s.1)))
+    [] on pairs refl h
+
+-- ---- joins
+
+joined_keeps : (catalog : List Entry) (left right : From) (on : List PairTree) (f : From) → IsFrom catalog left → IsFrom catalog right → joined_at left right on ≡ Ok f → IsFrom catalog f
+unfolding joined_at
+joined_keeps catalog left right on f l r h =
+    let s = both_ok (pairs_at (length left.scope) (left.scope ++ right.scope) on) (λ pairs. Ok (joined left right pairs)) f h in
+    let e : joined left right s.0 ≡ f = cc in
+    let fit = pairs_keep left.scope right.scope on s.0 s.1 in
+    let P : From → Type 0 = λ g. IsFrom catalog g in
+    subst P e (record {
+      typed = λ heads a.
+          (λ i. if_some (l.typed heads a i) None (λ ks. if_some (r.typed heads a i) None (λ ls. if_fits (list_all (pair_fits ks ls) s.0) (ks ++ ls))))
+          ∙ (λ i. if_fits (fit i) (kinds_in left.scope ++ kinds_in right.scope))
+          ∙ ap Some (sym (map-append (λ n. n.kind) left.scope right.scope));
+      names = list_all-append (λ n. is_name n.name) left.scope right.scope ∙ and_whole (list_all (λ n. is_name n.name) left.scope) (list_all (λ n. is_name n.name) right.scope) l.names r.names;
+      some = omega (arith, l.some, length-append left.scope right.scope);
+    })
+
+join_keeps : (catalog : List Entry) (left : From) (j : JoinTree) (f : From) → IsSound catalog → IsFrom catalog left → join_at catalog left j ≡ Ok f → IsFrom catalog f
+unfolding join_at
+join_keeps catalog left (JoinOf s on) f sound l h =
+    let t = both_ok (source_at catalog left.scope s) (λ right. joined_at left right on) f h in
+    joined_keeps catalog left t.0 on f l (source_keeps catalog left.scope s t.0 sound t.1) t.2
+
+pub from_keeps : (catalog : List Entry) (s : SourceTree) (joins : List JoinTree) (f : From) → IsSound catalog → from_at catalog s joins ≡ Ok f → IsFrom catalog f
+unfolding from_at
+from_keeps catalog s joins f sound h =
+    let t = both_ok (source_at catalog [] s) (λ first. through (join_at catalog) first joins) f h in
+    kept (λ g. IsFrom catalog g) (join_at catalog) (λ a j c p step. join_keeps catalog a j c sound p step) t.0 joins f (source_keeps catalog [] s t.0 sound t.1) t.2
+
+pub filter_keeps : (catalog : List Entry) (from : From) (filter : Option PredTree) (f : From) → IsFrom catalog from → IfSome filter (IsWellPred Query) → filter_at from filter ≡ Ok f → IsFrom catalog f
+unfolding filter_at
+filter_keeps catalog from None f k w h = let e : from ≡ f = cc in let P : From → Type 0 = λ g. IsFrom catalog g in subst P e k
+filter_keeps catalog from (Some p) f k w h =
+    let s = both_ok (pred_at from.scope p) (λ c. Ok (record from { plan = Filter c from.plan })) f h in
+    let e : record from { plan = Filter s.0 from.plan } ≡ f = cc in
+    let fit = bound_fits Query from.scope p s.0 w s.1 in
+    let P : From → Type 0 = λ g. IsFrom catalog g in
+    subst P e (record {
+      typed = λ heads a. (λ i. if_some (k.typed heads a i) None (λ ks. if_fits (condition_fits Query ks s.0) ks)) ∙ (λ i. if_fits (fit i) (kinds_in from.scope));
+      names = k.names;
+      some = k.some;
+    })

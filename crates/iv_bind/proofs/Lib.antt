@@ -1,0 +1,12 @@
+pub mod Alike
+pub mod Nodes
+pub mod Inversion
+pub mod Fitting
+pub mod Columns
+pub mod Predicates
+pub mod Joins
+pub mod Outputs
+pub mod Whole
+pub mod Growing
+pub mod Policies
+pub mod Examples

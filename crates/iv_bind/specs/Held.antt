@@ -1,0 +1,18 @@
+-- What a relation of the program stands for.
+use Rattle.std.specs.Prelude.{List, map, string_bytes}
+use Rattle.iv_bind.specs.declared.catalog.Held.{Held}
+use Rattle.iv_bind.specs.declared.catalog.Held.TheVariants as variant
+use Rattle.iv_bind.specs.declared.catalog.Relation.{Relation}
+use Rattle.iv_bind.specs.Catalogs as seen
+use Rattle.iv_bind.specs.Catalogs.{Entry, answer_of}
+
+abbrev pub held_of : Held → seen.Held
+held_of (variant.Table schema) = seen.Table schema
+held_of (variant.View bound) = seen.View (answer_of bound)
+
+abbrev pub entry_of : Relation → Entry
+entry_of r = record { name = string_bytes r.name; rel = r.rel.0; held = held_of r.held }
+
+-- what a catalog holds
+abbrev pub entries : List Relation → List Entry
+entries = map entry_of

@@ -1,0 +1,16 @@
+-- What the parts that the program builds stand for.
+use Rattle.iv_bind.specs.declared.sources.From.{From}
+use Rattle.iv_bind.specs.declared.items.Out.{Out}
+use Rattle.iv_bind.specs.declared.select.Part.{Part}
+use Rattle.iv_bind.specs.Shapes.{shape_of}
+use Rattle.iv_bind.specs.Catalogs.{Answer, numbers}
+use Rattle.iv_bind.specs.Binding as seen
+
+abbrev pub from_of : From → seen.From
+from_of f = record { plan = shape_of f.plan; scope = f.scope.items; reached = numbers f.reached.items }
+
+abbrev pub out_of : Out → seen.Out
+out_of o = record { columns = o.columns.items; schema = o.schema.items; aggs = o.aggs.items }
+
+abbrev pub part_of : Part → Answer
+part_of p = record { plan = shape_of p.plan; schema = p.schema.items; needs = numbers p.reached.items }

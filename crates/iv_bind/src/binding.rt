@@ -1,0 +1,145 @@
+//! Queries over a catalog to their plans.
+
+ghost use Rattle.std.specs.Prelude.{◌≡◌, ◌==◌, ◌-◌, ◌≤◌, [], true, nat_le, SomeIff, IfOk};
+ghost use Rattle.iv_zset.specs.Bags.{stands};
+ghost use Rattle.iv_query.specs.Trees.{query_tree, pred_tree};
+ghost use Rattle.iv_query.specs.Well.{IsWellQuery, IsWellPred};
+ghost use Rattle.iv_query.specs.declared.tree.Dialect.TheVariants.{Policy};
+ghost use Rattle.iv_rows.specs.Columns.{kinds_of};
+ghost use Rattle.iv_algebra.specs.Predicates.{pred_fits};
+ghost use Rattle.iv_bind.specs.Faults.{Gives};
+ghost use Rattle.iv_bind.specs.Shapes.{shape_of, condition_of, nodes};
+ghost use Rattle.iv_bind.specs.Catalogs.{numbers, answer_of};
+ghost use Rattle.iv_bind.specs.Held.{entries};
+ghost use Rattle.iv_bind.specs.Parts.{part_of};
+ghost use Rattle.iv_bind.specs.Sound.{is_schema, Fits};
+ghost use Rattle.iv_bind.specs.Binding.{once, finished, bound, bound_pred};
+
+use crate::bound::Bound;
+use crate::catalog::Catalog;
+use crate::fault::{BindFault, BindWhy};
+use crate::predicate::pred;
+use crate::scope::fault;
+use crate::select::{Part, query};
+use crate::sources::under;
+use iv_algebra::{Plan, Pred};
+use iv_query::{PredText, Query};
+use iv_rows::{Column, RelId, Schema};
+use std::alloc::{AllocError, Global};
+
+// How many nodes are left of `left`, if the plan has no more.
+fn after_nodes(plan: &Plan, left: usize) -> Option<usize>
+    ensures { SomeIff result (nodes (shape_of plan.now) ≤ left) (left - nodes (shape_of plan.now)) }
+{
+    let left = left.checked_sub(1)?;
+    match plan {
+        Plan::Scan(_) => Some(left),
+        Plan::Filter(_, input) => after_nodes(input, left),
+        Plan::Project(_, input) => after_nodes(input, left),
+        Plan::Join {
+            left: a,
+            right: b,
+            ..
+        } => after_nodes(b, after_nodes(a, left)?),
+        Plan::Union(a, b) => after_nodes(b, after_nodes(a, left)?),
+        Plan::Distinct(input) => after_nodes(input, left),
+        Plan::Except(a, b) => after_nodes(b, after_nodes(a, left)?),
+        Plan::Group { input, .. } => after_nodes(input, left),
+    }
+}
+
+// Whether the relation stands in the list.
+fn stands(list: &[RelId], rel: RelId) -> bool
+    ensures { result ≡ stands ◌==◌ rel.0 (numbers list.now) }
+{
+    for other in list {
+        if rel.0 == other.0 {
+            return true;
+        }
+    }
+    false
+}
+
+// Each relation once, at its first place.
+fn once(alloc: Global, reached: &[RelId]) -> Result<Vec<RelId>, AllocError>
+    ensures { IfOk result (λ list. numbers list.items ≡ once [] (numbers reached.now)) }
+{
+    let mut list = Vec::new(alloc);
+    for rel in reached {
+        if !stands(&list, *rel) {
+            list.push(*rel)?;
+        }
+    }
+    Ok(list)
+}
+
+// Whether the plan has at most 256 nodes.
+fn is_small(plan: &Plan) -> bool
+    ensures { result ≡ nat_le (nodes (shape_of plan.now)) 256 }
+{
+    after_nodes(plan, 256).is_some()
+}
+
+// The schema of columns that are one.
+fn schema_of(columns: Vec<Column>) -> Schema
+    requires { is_schema columns.items ≡ true }
+    ensures { result ≡ columns.items }
+{
+    match Schema::try_new(columns) {
+        Ok(schema) => schema,
+        Err(_) => unreachable!(),
+    }
+}
+
+// What is left to do behind the last select.
+#[tactic(auto, unfolding(crate::specs::Binding::finished))]
+fn finished(alloc: Global, part: Part) -> Result<Bound, BindFault>
+    requires { is_schema part.schema.items ≡ true }
+    ensures answer { Gives answer_of result (finished (part_of part)) }
+    ensures plan { IfOk result (λ b. b.plan ≡ part.plan) }
+    ensures schema { IfOk result (λ b. b.schema ≡ part.schema.items) }
+{
+    if !is_small(&part.plan) {
+        return Err(fault(0, BindWhy::TooManyNodes));
+    }
+    let needs = once(alloc, &part.reached)?;
+    Ok(Bound {
+        plan: part.plan,
+        schema: schema_of(part.schema),
+        needs,
+    })
+}
+
+/// What a query is bound to over a catalog.
+///
+/// # Errors
+/// `At` with the place and the reason of the first fault, in the order of binding; `Memory` where a growth of memory was
+/// refused.
+#[tactic(auto, unfolding(crate::specs::Binding::bound))]
+pub fn bind(alloc: Global, tree: &Query, catalog: &Catalog) -> Result<Bound, BindFault>
+    requires { IsWellQuery (query_tree tree.now) }
+    // The answer is the query's over the catalog, and a fault that is told is its first one; unless memory runs out.
+    ensures bound { Gives answer_of result (bound (entries catalog.now) (query_tree tree.now)) }
+    // Over all tables of the catalog's kinds the plan fits, and its rows have the kinds of the columns.
+    ensures fits { IfOk result (λ b. Fits (entries catalog.now) b) }
+{
+    catalog.keeps();
+    let part = query(alloc, catalog, tree)?;
+    finished(alloc, part)
+}
+
+/// What a policy's predicate is bound to over the columns of its table. The user's name is a text.
+///
+/// # Errors
+/// `At` with the place and the reason of the first fault; `Memory` where a growth of memory was refused.
+#[tactic(auto, unfolding(crate::specs::Binding::bound_pred))]
+pub fn bind_pred(alloc: Global, tree: &PredText, schema: &Schema) -> Result<Pred, BindFault>
+    requires { IsWellPred Policy (pred_tree tree.now.pred) }
+    // The answer is the predicate's over the columns, and a fault that is told is its first one; unless memory runs out.
+    ensures bound { Gives condition_of result (bound_pred schema.now (pred_tree tree.now.pred)) }
+    // It fits rows of the columns' kinds.
+    ensures fits { IfOk result (λ p. pred_fits p (kinds_of schema.now) ≡ true) }
+{
+    let scope = under(alloc, "", schema.columns())?;
+    pred(alloc, &scope, &tree.pred)
+}

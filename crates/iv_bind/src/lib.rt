@@ -1,0 +1,23 @@
+//! Trees of queries to plans, over a catalog of tables and views.
+#![tactic(auto)]
+
+mod binding;
+mod bound;
+mod catalog;
+mod copy;
+mod fault;
+mod items;
+mod laws;
+mod predicate;
+mod scope;
+mod select;
+mod sources;
+
+pub use binding::{bind, bind_pred};
+pub use bound::Bound;
+pub use catalog::Catalog;
+pub use fault::{BindFault, BindWhy};
+pub use laws::examples_are_bound;
+
+#[cfg(test)]
+mod tests;

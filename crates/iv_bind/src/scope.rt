@@ -1,0 +1,81 @@
+//! The columns that the sources of a select have, and which of them a text means.
+
+ghost use Rattle.std.specs.Prelude.{◌≡◌};
+ghost use Rattle.iv_query.specs.Trees.{column_tree};
+ghost use Rattle.iv_bind.specs.Faults.{Gives};
+ghost use Rattle.iv_bind.specs.Binding.{is_meant, is_used, column_at};
+
+use crate::fault::{BindFault, BindWhy};
+use iv_query::Column;
+use iv_rows::Kind;
+use std::marker::Model;
+
+/// A column of a source.
+#[derive(Drop)]
+pub(crate) struct Named {
+    /// The name that the source has in the select.
+    pub(crate) source: String,
+    /// The column's name.
+    pub(crate) name: String,
+    pub(crate) kind: Kind,
+}
+
+impl Model for Named {
+    ghost use Rattle.std.specs.Prelude.{string_bytes};
+    ghost use Rattle.iv_bind.specs.Binding.{Named};
+
+    ghost Value = { Named };
+
+    ghost view = { λ n. record { source = string_bytes n.source; name = string_bytes n.name; kind = n.kind } };
+}
+
+/// The fault at a place.
+pub(crate) fn fault(place: usize, why: BindWhy) -> BindFault
+    ensures { result ≡ BindFault.At place why }
+{
+    BindFault::At { place, why }
+}
+
+// Whether the text says this column.
+fn is_meant(column: &Column, named: &Named) -> bool
+    ensures { result ≡ is_meant (column_tree column.now) named.now }
+{
+    if column.name != named.name {
+        return false;
+    }
+    match &column.source {
+        Some(source) => *source == named.source,
+        None => true,
+    }
+}
+
+/// Whether a source has the name.
+pub(crate) fn is_used(scope: &[Named], name: &str) -> bool
+    ensures { result ≡ is_used scope.now name.now }
+{
+    scope.iter().any(|named| name == named.source.as_str())
+}
+
+/// The place and the kind of the column that a text means.
+///
+/// # Errors
+/// `UnknownColumn` where no column is meant, `AmbiguousColumn` where two are.
+#[tactic(auto, unfolding(crate::specs::Binding::column_at))]
+pub(crate) fn column(scope: &[Named], column: &Column) -> Result<(usize, Kind), BindFault>
+    ensures { Gives (λ x. x) result (column_at scope.now (column_tree column.now)) }
+{
+    let mut found = None;
+    for place in 0..scope.len() {
+        let named = &scope[place];
+        if is_meant(column, named) {
+            if found.is_some() {
+                return Err(fault(column.place, BindWhy::AmbiguousColumn));
+            }
+            found = Some((place, named.kind));
+        }
+    }
+    match found {
+        Some(found) => Ok(found),
+        None => Err(fault(column.place, BindWhy::UnknownColumn)),
+    }
+}

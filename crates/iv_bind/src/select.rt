@@ -1,0 +1,156 @@
+//! Selects and queries.
+
+ghost use Rattle.std.specs.Prelude.{◌≡◌, map, IfOk};
+ghost use Rattle.iv_rows.specs.Columns.{kinds_of};
+ghost use Rattle.iv_query.specs.Trees.{column_tree, list_tree, select_tree, query_tree};
+ghost use Rattle.iv_algebra.specs.Fits.{kinds_eq};
+ghost use Rattle.iv_bind.specs.Faults.{Gives};
+ghost use Rattle.iv_bind.specs.Shapes.{shape_of};
+ghost use Rattle.iv_bind.specs.Held.{entries};
+ghost use Rattle.iv_bind.specs.Parts.{from_of, out_of, part_of};
+ghost use Rattle.iv_bind.specs.Binding.{grouped, distinctly, selected, output_of, select_at, combined_plan, combined, query_at};
+
+use crate::catalog::Catalog;
+use crate::fault::{BindFault, BindWhy};
+use crate::items::{Out, keys, list, ungrouped};
+use crate::predicate::is_same;
+use crate::scope::fault;
+use crate::sources::{From, all_sources, filter};
+use iv_algebra::{Agg, Plan};
+use iv_query::{Query, Select, SetOp};
+use iv_rows::{Column, RelId};
+use std::alloc::{AllocError, Global};
+
+/// What a select or a query gives.
+#[derive(Drop)]
+pub(crate) struct Part {
+    pub(crate) plan: Plan,
+    pub(crate) schema: Vec<Column>,
+    /// The relations that it reaches, each as often as it does.
+    pub(crate) reached: Vec<RelId>,
+}
+
+// The groups of a plan's rows, where there are keys.
+fn grouped(alloc: Global, keys: Vec<usize>, aggs: Vec<Agg>, plan: Plan) -> Result<Plan, AllocError>
+    ensures { IfOk result (λ p. shape_of p ≡ grouped keys.items aggs.items (shape_of plan)) }
+{
+    if keys.is_empty() {
+        return Ok(plan);
+    }
+    let input = Box::new(alloc, plan)?;
+    Ok(Plan::Group { keys, aggs, input })
+}
+
+fn distinctly(alloc: Global, distinct: bool, plan: Plan) -> Result<Plan, AllocError>
+    ensures { IfOk result (λ p. shape_of p ≡ distinctly distinct (shape_of plan)) }
+{
+    if !distinct {
+        return Ok(plan);
+    }
+    Ok(Plan::Distinct(Box::new(alloc, plan)?))
+}
+
+fn selected(
+    alloc: Global,
+    distinct: bool,
+    from: From,
+    keys: Vec<usize>,
+    out: Out,
+) -> Result<Part, AllocError>
+    ensures { IfOk result (λ p. part_of p ≡ selected distinct (from_of from) keys.items (out_of out)) }
+{
+    let plan = grouped(alloc, keys, out.aggs, from.plan)?;
+    let plan = Plan::Project(out.columns, Box::new(alloc, plan)?);
+    let plan = distinctly(alloc, distinct, plan)?;
+    Ok(Part {
+        plan,
+        schema: out.schema,
+        reached: from.reached,
+    })
+}
+
+// Group by, items and the number of columns of a select.
+#[tactic(auto, unfolding(crate::specs::Binding::output_of))]
+fn output_of(alloc: Global, select: &Select, from: From) -> Result<Part, BindFault>
+    ensures { Gives part_of result (output_of select.now.place select.now.distinct (list_tree select.now.columns) (from_of from) (map column_tree select.now.group.items)) }
+{
+    let keys = keys(alloc, &from.scope, &select.group)?;
+    if let Some(place) = ungrouped(&keys, &select.columns) {
+        return Err(fault(place, BindWhy::NotGrouped));
+    }
+    let out = list(alloc, &from.scope, &keys, &select.columns)?;
+    if out.columns.len() > 16 {
+        return Err(fault(select.place, BindWhy::TooManyColumns));
+    }
+    Ok(selected(alloc, select.distinct, from, keys, out)?)
+}
+
+#[tactic(auto, unfolding(crate::specs::Binding::select_at))]
+fn select(alloc: Global, catalog: &Catalog, select: &Select) -> Result<Part, BindFault>
+    ensures { Gives part_of result (select_at (entries catalog.now) (select_tree select.now)) }
+{
+    let all = all_sources(alloc, catalog, &select.source, &select.joins)?;
+    let from = filter(alloc, all, &select.filter)?;
+    output_of(alloc, select, from)
+}
+
+// Whether the columns are of the same number and kinds.
+fn are_alike(a: &[Column], b: &[Column]) -> bool
+    ensures { result ≡ kinds_eq (kinds_of a.now) (kinds_of b.now) }
+{
+    if a.len() != b.len() {
+        return false;
+    }
+    for place in 0..a.len() {
+        let left = &a[place];
+        let right = &b[place];
+        if !is_same(left.kind, right.kind) {
+            return false;
+        }
+    }
+    true
+}
+
+fn combined_plan(alloc: Global, op: SetOp, left: Plan, right: Plan) -> Result<Plan, AllocError>
+    ensures { IfOk result (λ p. shape_of p ≡ combined_plan op (shape_of left) (shape_of right)) }
+{
+    let left = Box::new(alloc, left)?;
+    let right = Box::new(alloc, right)?;
+    match op {
+        SetOp::UnionAll => Ok(Plan::Union(left, right)),
+        SetOp::Union => Ok(Plan::Distinct(Box::new(alloc, Plan::Union(left, right))?)),
+        SetOp::Except => Ok(Plan::Except(left, right)),
+    }
+}
+
+fn combined(alloc: Global, op: SetOp, left: Part, right: Part) -> Result<Part, AllocError>
+    ensures { IfOk result (λ p. part_of p ≡ combined op (part_of left) (part_of right)) }
+{
+    let plan = combined_plan(alloc, op, left.plan, right.plan)?;
+    let mut reached = left.reached;
+    let mut more = right.reached;
+    reached.append(&mut more)?;
+    Ok(Part {
+        plan,
+        schema: left.schema,
+        reached,
+    })
+}
+
+/// A query, from the left.
+#[tactic(auto, unfolding(crate::specs::Binding::query_at))]
+pub(crate) fn query(alloc: Global, catalog: &Catalog, tree: &Query) -> Result<Part, BindFault>
+    ensures { Gives part_of result (query_at (entries catalog.now) (query_tree tree.now)) }
+{
+    match tree {
+        Query::Select(only) => select(alloc, catalog, only),
+        Query::Combined(before, op, last) => {
+            let left = query(alloc, catalog, before)?;
+            let right = select(alloc, catalog, last)?;
+            if !are_alike(&left.schema, &right.schema) {
+                return Err(fault(last.place, BindWhy::ColumnsDiffer));
+            }
+            Ok(combined(alloc, *op, left, right)?)
+        }
+    }
+}
