@@ -115,6 +115,8 @@ fn finished(alloc: Global, part: Part) -> Result<Bound, BindFault>
 /// # Errors
 /// `At` with the place and the reason of the first fault, in the order of binding; `Memory` where a growth of memory was
 /// refused.
+///
+/// Source: PostgreSQL 16, SELECT, in the profile of docs/PROTOCOL.md, Queries.
 #[tactic(auto, unfolding(crate::specs::Binding::bound))]
 pub fn bind(alloc: Global, tree: &Query, catalog: &Catalog) -> Result<Bound, BindFault>
     requires { IsWellQuery (query_tree tree.now) }
@@ -132,6 +134,8 @@ pub fn bind(alloc: Global, tree: &Query, catalog: &Catalog) -> Result<Bound, Bin
 ///
 /// # Errors
 /// `At` with the place and the reason of the first fault; `Memory` where a growth of memory was refused.
+///
+/// Source: PostgreSQL 16, CREATE POLICY, in the profile of docs/PROTOCOL.md, Queries.
 #[tactic(auto, unfolding(crate::specs::Binding::bound_pred))]
 pub fn bind_pred(alloc: Global, tree: &PredText, schema: &Schema) -> Result<Pred, BindFault>
     requires { IsWellPred Policy (pred_tree tree.now.pred) }

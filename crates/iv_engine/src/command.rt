@@ -16,6 +16,8 @@ pub struct Command {
 }
 
 /// What a session asks.
+///
+/// Source: docs/PROTOCOL.md, Requests; PostgreSQL 16, CREATE ROLE, GRANT and Privileges.
 #[derive(Drop)]
 pub enum Act {
     /// Opens the session for a role.

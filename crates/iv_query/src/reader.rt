@@ -64,6 +64,8 @@ fn whole_pred(
 
 /// The predicate of a policy text, or its first fault: `At` exactly where the text has no tree, with the place and
 /// the reason; `Memory` where a growth was refused.
+///
+/// Source: PostgreSQL 16, CREATE POLICY, in the profile of docs/PROTOCOL.md, Queries.
 pub fn read_pred(alloc: Global, text: &str) -> Result<PredText, QueryFault>
     // A tree that is read is the text's, and a text's tree is read, unless memory runs out.
     ensures found { IfOk result (λ p. IsPredText text.now (pred_tree p.pred)) }
@@ -94,6 +96,8 @@ fn whole_query(
 
 /// The query of a view's text, or its first fault: `At` exactly where the text has no tree, with the place and the
 /// reason; `Memory` where a growth was refused.
+///
+/// Source: PostgreSQL 16, SELECT, in the profile of docs/PROTOCOL.md, Queries.
 pub fn read_query(alloc: Global, text: &str) -> Result<Query, QueryFault>
     // A tree that is read is the text's, and a text's tree is read, unless memory runs out.
     ensures found { IfOk result (λ q. IsQueryText text.now (query_tree q)) }

@@ -107,6 +107,8 @@ fn is_short(bytes: &[u8]) -> bool
 
 /// Whether the text may be a name: a to z or an underscore first, then a to z, digits and underscores, at most 63
 /// bytes, and no reserved word. It takes no memory.
+///
+/// Source: PostgreSQL 16, identifiers and key words, in the profile of docs/PROTOCOL.md, Names and values.
 pub fn name_ok(text: &str) -> bool
     ensures { result ≡ is_name text.now }
 {

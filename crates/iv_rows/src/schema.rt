@@ -43,6 +43,8 @@ pub enum RowFault {
 }
 
 /// The columns of a table or a view, from the left: 1 to 16, with distinct names.
+///
+/// Source: PostgreSQL 16, CREATE TABLE, in the profile of docs/PROTOCOL.md.
 #[derive(Drop)]
 pub struct Schema {
     columns: Vec<Column>,

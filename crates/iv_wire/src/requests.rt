@@ -275,6 +275,8 @@ fn read_value(alloc: Global, line: &[u8]) -> Result<Option<Value>, AllocError>
 /// # Errors
 /// `BadJson` where the line is no JSON value; `BadRequest` where the value is no request; `Memory` where a growth of
 /// memory was refused, which may come in place of the others.
+///
+/// Source: RFC 8259; docs/PROTOCOL.md, Requests.
 pub fn read_line(alloc: Global, line: &[u8]) -> Result<Command, WireFault>
     ensures command { IfOk result (λ command. reading_of line.now ≡ asked (command_of command)) }
     ensures well { IfOk result (λ command. is_well_command (command_of command) ≡ true) }

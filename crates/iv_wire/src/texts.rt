@@ -136,6 +136,8 @@ fn text_of(alloc: Global, value: &Json) -> Result<Vec<u8>, AllocError>
 ///
 /// # Errors
 /// `AllocError` where a growth of memory was refused.
+///
+/// Source: RFC 8259, compact, keys in the order of their bytes.
 pub fn write_line(alloc: Global, line: &Line) -> Result<Vec<u8>, AllocError>
     ensures { IfOk result (λ text. text.items ≡ line_text (line_of line.now)) }
 {
