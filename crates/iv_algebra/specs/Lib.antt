@@ -1,5 +1,6 @@
 pub mod Answers
 pub mod Contents
+pub mod Counting
 pub mod Data
 pub mod Fits
 pub mod Groups
@@ -7,3 +8,6 @@ pub mod Plans
 pub mod Predicates
 pub mod Rows
 pub mod Steps
+pub mod Shapes
+pub mod Evaluation
+pub mod Codes

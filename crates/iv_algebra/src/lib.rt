@@ -7,16 +7,18 @@ mod except;
 mod fits;
 mod group;
 mod join;
+mod laws;
 mod linear;
 mod plan;
 mod pred;
 mod rows;
 mod tables;
-#[cfg(test)]
-mod tests;
 
 pub use evaluation::eval;
+pub use group::group as group_rows;
 pub use iv_zset::LimitFault as AlgFault;
+pub use laws::{copies_are_counted, operators_count_rows, results_depend_on_counts};
 pub use plan::{Agg, Plan};
 pub use pred::{Comparison, Operand, Pred};
+pub use rows::{joined_row, picked, rows_match};
 pub use tables::Tables;

@@ -1,21 +1,27 @@
 -- A catalog with one relation more.
-use Rattle.std.proofs.Common.{◌≡◌, List, [], ◌∷◌, ◌++◌, sym, subst, ap, ◌∙◌}
+use Rattle.std.proofs.Common.{◌≡◌, ◌==◌, ℕ, Some, List, [], ◌∷◌, ◌++◌, sym, subst, ap, ◌∙◌}
 use Rattle.std.proofs.lemmas.List.{map-append}
 use Rattle.iv_algebra.specs.Fits.{Heads}
 use Rattle.iv_bind.specs.declared.bound.Bound.{Bound}
+use Rattle.iv_bind.specs.declared.catalog.Held as variants
+use Rattle.iv_bind.specs.declared.catalog.Held.TheVariants as variant
 use Rattle.iv_bind.specs.declared.catalog.Relation.{Relation}
 use Rattle.iv_bind.specs.Held.{held_of, entry_of, entries}
-use Rattle.iv_bind.specs.Catalogs.{Held, Table, View, Entry, answer_of}
-use Rattle.iv_bind.specs.Sound.{Agrees, Fits, HeldIsSound, AreSound, IsSound, IsTyped}
-use Rattle.iv_bind.proofs.Fitting.{type_from_fits}
+use Rattle.iv_bind.specs.Catalogs.{Held, Table, View, Entry, Answer, answer_of, numbered}
+use Rattle.iv_bind.specs.Sound.{Agrees, HeldIsSound, AreSound, IsSound, IsSoundView, IsTyped}
+use Rattle.iv_bind.proofs.Joins.{entry_keeps}
 
 agrees_before : (es : List Entry) (e : Entry) (heads : Heads) → Agrees (es ++ e ∷ []) heads → Agrees es heads
 agrees_before [] e heads a = tt
 agrees_before (x ∷ es) e heads a = (a.0, agrees_before es e heads a.1)
 
-still_sound : (es : List Entry) (e : Entry) (h : Held) → HeldIsSound es h → HeldIsSound (es ++ e ∷ []) h
+-- a plan that fits goes on fitting
+pub typed_still : (es : List Entry) (e : Entry) (a : Answer) → IsTyped es a → IsTyped (es ++ e ∷ []) a
+typed_still es e a t = λ heads g. t heads (agrees_before es e heads g)
+
+pub still_sound : (es : List Entry) (e : Entry) (h : Held) → HeldIsSound es h → HeldIsSound (es ++ e ∷ []) h
 still_sound es e (Table columns) s = s
-still_sound es e (View answer) s = (s.0, λ heads a. s.1 heads (agrees_before es e heads a))
+still_sound es e (View answer) s = record { schema = s.schema; typed = typed_still es e answer s.typed; scanned = s.scanned }
 
 all_sound : (catalog : List Entry) (x : Entry) (es : List Entry) → AreSound catalog es → HeldIsSound catalog x.held → AreSound (catalog ++ x ∷ []) (es ++ x ∷ [])
 all_sound catalog x [] s h = (still_sound catalog x x.held h, tt)
@@ -30,5 +36,9 @@ relation_push rs qs r e s h =
     let P : List Entry → Type 0 = λ es. IsSound es in
     subst P (sym (ap entries e ∙ map-append entry_of rs (r ∷ []))) (sound_push (entries rs) (entry_of r) s h)
 
-pub typed_from_fits : (es : List Entry) (b : Bound) → Fits es b → IsTyped es (answer_of b)
-typed_from_fits es b f = λ heads a. let x = f heads a in type_from_fits heads b.plan _ x.0 x.1
+-- the view of a number
+pub view_sound : (es : List Entry) (n : ℕ) (r : Relation) (b : Bound) → IsSound es → Some (entry_of r) ≡ numbered es n → r.held ≡ variant.View b → IsSoundView es (answer_of b)
+view_sound es n r b s found is =
+    let k = entry_keeps es (λ e. n == e.rel) es (entry_of r) s (sym found) in
+    let P : variants.Held → Type 0 = λ h. HeldIsSound es (held_of h) in
+    subst P is k.0

@@ -1,5 +1,5 @@
 -- What the sources of a select keep: the plan fits, and the columns have its rows' kinds.
-use Rattle.std.proofs.Common.{◌≡◌, ℕ, zero, suc, ◌-◌, ◌<◌, ◌≤◌, Bool, true, false, cond, List, [], ◌∷◌, ◌++◌, length, Option, Some, None, Ok, Err, refl, sym, ap, subst, ◌∙◌, arith, inl, inr}
+use Rattle.std.proofs.Common.{◌≡◌, ℕ, zero, suc, ◌-◌, ◌<◌, ◌≤◌, Bool, true, false, cond, List, [], ◌∷◌, ◌++◌, length, Option, Some, None, option_and_then, Ok, Err, refl, sym, ap, subst, ◌∙◌, arith, inl, inr}
 use Rattle.std.specs.Prelude.{◌&&◌, ◌⊎◌, slice_get, nat_lt, nat_le, bytes_eq, find, IfSome, if◌then◌else◌}
 use Rattle.std.specs.List.{list_all}
 use Rattle.std.proofs.lemmas.List.{map-append}
@@ -12,28 +12,31 @@ use Rattle.iv_rows.specs.declared.value.Kind.{Kind}
 use Rattle.iv_rows.specs.declared.value.Kind.TheVariants as kind
 use Rattle.iv_query.specs.Trees.{PairTree, PairOf, SourceTree, JoinTree, JoinOf, PredTree}
 use Rattle.iv_algebra.specs.Predicates.{kind_eq, same_kind}
-use Rattle.iv_algebra.specs.Fits.{Heads, pair_fits}
+use Rattle.iv_algebra.specs.Fits.{Heads, pair_fits, if_fits, condition_fits, type_of}
 use Rattle.iv_bind.specs.declared.fault.BindWhy.TheVariants as why
 use Rattle.iv_bind.specs.Faults.{FaultAt, ◌>>=◌, if_some, through}
-use Rattle.iv_bind.specs.Shapes.{Shape, Scan, Filter}
-use Rattle.iv_bind.specs.Catalogs.{Held, Table, View, Entry, named, columns_of, plan_of}
+use Rattle.iv_algebra.specs.Shapes.{Shape, Scan, Filter, scans}
+use Rattle.iv_bind.specs.Catalogs.{Held, Table, View, Entry, AreAmong, named, columns_of, plan_of, reached_by}
 use Rattle.iv_bind.specs.Binding.{Named, From, place_of, place_of_name, text_of, relation_name, called, under, is_used, source_of, column_at, sides, pair_at, pairs_at, joined, joined_at, source_at, join_at, from_at, filter_at, pred_at}
 use Rattle.iv_query.specs.declared.tree.Dialect.TheVariants.{Query}
 use Rattle.iv_query.specs.Well.{IsWellPred}
-use Rattle.iv_bind.specs.Sound.{if_fits, condition_fits, type_of, held_agrees, Agrees, is_schema, HeldIsSound, AreSound, IsSound}
+use Rattle.iv_bind.specs.Sound.{held_agrees, Agrees, is_schema, HeldIsSound, AreSound, IsSound}
 use Rattle.iv_bind.proofs.Inversion.{both_ok, then_ok, else_ok, some_ok, kept}
 use Rattle.iv_bind.proofs.Columns.{kinds_in, found}
+use Rattle.iv_bind.proofs.Needs.{among_behind, among_both}
 use Rattle.iv_bind.proofs.Predicates.{and_parts, and_whole, bound_fits}
 
--- over all tables of the catalog's kinds the plan fits and its rows have the columns' kinds; the names are names, and there is a column
+-- over all tables of the catalog's kinds the plan fits and its rows have the columns' kinds; the names are names, there is a column,
+-- and the tables that the plan scans are reached
 pub record IsFrom (catalog : List Entry) (f : From) : Type 0 where
   pub typed : (heads : Heads) → Agrees catalog heads → type_of heads f.plan ≡ Some (kinds_in f.scope)
   pub names : list_all (λ n. is_name n.name) f.scope ≡ true
   pub some : 1 ≤ length f.scope
+  pub scanned : AreAmong (scans f.plan) f.reached
 
 -- ---- a source
 
-abbrev EntryKeeps : List Entry → List Entry → Entry → Type 0
+abbrev pub EntryKeeps : List Entry → List Entry → Entry → Type 0
 EntryKeeps catalog es e = HeldIsSound catalog e.held × ((heads : Heads) → Agrees es heads → held_agrees heads e.rel e.held)
 
 entry_case : (catalog : List Entry) (x : Entry) (es : List Entry) (e : Entry) (rest : Option Entry) (b : Bool) → AreSound catalog (x ∷ es) → (rest ≡ Some e → EntryKeeps catalog es e) → cond b (Some x) rest ≡ Some e → EntryKeeps catalog (x ∷ es) e
@@ -43,7 +46,7 @@ entry_case catalog x es e rest true s later h =
     subst P q (s.0, λ heads a. a.0)
 entry_case catalog x es e rest false s later h = let l = later h in (l.0, λ heads a. l.1 heads a.1)
 
-entry_keeps : (catalog : List Entry) (test : Entry → Bool) (es : List Entry) (e : Entry) → AreSound catalog es → find test es ≡ Some e → EntryKeeps catalog es e
+pub entry_keeps : (catalog : List Entry) (test : Entry → Bool) (es : List Entry) (e : Entry) → AreSound catalog es → find test es ≡ Some e → EntryKeeps catalog es e
 entry_keeps catalog test [] e s h = cc
 entry_keeps catalog test (x ∷ es) e s h = entry_case catalog x es e (find test es) (test x) s (entry_keeps catalog test es e s.1) h
 
@@ -60,8 +63,8 @@ same_length name [] = refl
 same_length name (c ∷ cs) = ap suc (same_length name cs)
 
 from_schema : (catalog : List Entry) (plan : Shape) (reached : List ℕ) (name : List ℕ) (cs : List Column) → is_schema cs ≡ true
-    → ((heads : Heads) → Agrees catalog heads → type_of heads plan ≡ Some (kinds_of cs)) → IsFrom catalog (record { plan = plan; scope = under name cs; reached = reached })
-from_schema catalog plan reached name cs s t =
+    → ((heads : Heads) → Agrees catalog heads → type_of heads plan ≡ Some (kinds_of cs)) → AreAmong (scans plan) reached → IsFrom catalog (record { plan = plan; scope = under name cs; reached = reached })
+from_schema catalog plan reached name cs s t r =
     let a = and_parts (has_columns cs) (has_distinct_names cs) s in
     let b = and_parts (is_wide cs) (list_all (λ c. is_name c.name) cs) a.0 in
     let w = and_parts (nat_le 1 (length cs)) (nat_le (length cs) 16) b.0 in
@@ -70,12 +73,13 @@ from_schema catalog plan reached name cs s t =
       typed = λ heads g. t heads g ∙ ap Some (sym (same_kinds name cs));
       names = same_names name cs ∙ b.1;
       some = omega (arith, l, same_length name cs);
+      scanned = r;
     }
 
-held_from : (catalog : List Entry) (rel : ℕ) (held : Held) (reached : List ℕ) (name : List ℕ) → HeldIsSound catalog held → ((heads : Heads) → Agrees catalog heads → held_agrees heads rel held)
-    → IsFrom catalog (record { plan = plan_of rel held; scope = under name (columns_of held); reached = reached })
-held_from catalog rel (Table cs) reached name s a = from_schema catalog (Scan rel) reached name cs s a
-held_from catalog rel (View v) reached name s a = from_schema catalog v.plan reached name v.schema s.0 s.1
+held_from : (catalog : List Entry) (rel : ℕ) (held : Held) (name : List ℕ) → HeldIsSound catalog held → ((heads : Heads) → Agrees catalog heads → held_agrees heads rel held)
+    → IsFrom catalog (record { plan = plan_of rel held; scope = under name (columns_of held); reached = reached_by rel held })
+held_from catalog rel (Table cs) name s a = from_schema catalog (Scan rel) (rel ∷ []) name cs s a (λ n c. c)
+held_from catalog rel (View v) name s a = from_schema catalog v.plan (rel ∷ v.needs) name v.schema s.schema s.typed (among_behind rel (scans v.plan) v.needs s.scanned)
 
 pub source_keeps : (catalog : List Entry) (scope : List Named) (s : SourceTree) (f : From) → IsSound catalog → source_at catalog scope s ≡ Ok f → IsFrom catalog f
 unfolding source_at
@@ -86,7 +90,7 @@ source_keeps catalog scope s f sound h =
     let q : source_of e.0 (text_of (called s)) ≡ f = cc in
     let k = entry_keeps catalog (λ x. bytes_eq (text_of (relation_name s)) x.name) catalog e.0 sound e.1 in
     let P : From → Type 0 = λ g. IsFrom catalog g in
-    subst P q (held_from catalog e.0.rel e.0.held _ (text_of (called s)) k.0 k.1)
+    subst P q (held_from catalog e.0.rel e.0.held (text_of (called s)) k.0 k.1)
 
 -- ---- pairs
 
@@ -179,11 +183,12 @@ joined_keeps catalog left right on f l r h =
     let P : From → Type 0 = λ g. IsFrom catalog g in
     subst P e (record {
       typed = λ heads a.
-          (λ i. if_some (l.typed heads a i) None (λ ks. if_some (r.typed heads a i) None (λ ls. if_fits (list_all (pair_fits ks ls) s.0) (ks ++ ls))))
+          (λ i. option_and_then (λ ks. option_and_then (λ ls. if_fits (list_all (pair_fits ks ls) s.0) (ks ++ ls)) (r.typed heads a i)) (l.typed heads a i))
           ∙ (λ i. if_fits (fit i) (kinds_in left.scope ++ kinds_in right.scope))
           ∙ ap Some (sym (map-append (λ n. n.kind) left.scope right.scope));
       names = list_all-append (λ n. is_name n.name) left.scope right.scope ∙ and_whole (list_all (λ n. is_name n.name) left.scope) (list_all (λ n. is_name n.name) right.scope) l.names r.names;
       some = omega (arith, l.some, length-append left.scope right.scope);
+      scanned = among_both (scans left.plan) (scans right.plan) left.reached right.reached l.scanned r.scanned;
     })
 
 join_keeps : (catalog : List Entry) (left : From) (j : JoinTree) (f : From) → IsSound catalog → IsFrom catalog left → join_at catalog left j ≡ Ok f → IsFrom catalog f
@@ -207,7 +212,8 @@ filter_keeps catalog from (Some p) f k w h =
     let fit = bound_fits Query from.scope p s.0 w s.1 in
     let P : From → Type 0 = λ g. IsFrom catalog g in
     subst P e (record {
-      typed = λ heads a. (λ i. if_some (k.typed heads a i) None (λ ks. if_fits (condition_fits Query ks s.0) ks)) ∙ (λ i. if_fits (fit i) (kinds_in from.scope));
+      typed = λ heads a. (λ i. option_and_then (λ ks. if_fits (condition_fits None ks s.0) ks) (k.typed heads a i)) ∙ (λ i. if_fits (fit i) (kinds_in from.scope));
       names = k.names;
       some = k.some;
+      scanned = k.scanned;
     })

@@ -1,9 +1,9 @@
 pub mod Alike
 pub mod Nodes
 pub mod Inversion
-pub mod Fitting
 pub mod Columns
 pub mod Predicates
+pub mod Needs
 pub mod Joins
 pub mod Outputs
 pub mod Whole

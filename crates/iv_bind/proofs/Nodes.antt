@@ -1,6 +1,6 @@
 -- Each plan has a node.
 use Rattle.std.proofs.Common.{◌≤◌, arith}
-use Rattle.iv_bind.specs.Shapes.{Shape, Scan, Filter, Project, Join, Union, Distinct, Except, Group, nodes}
+use Rattle.iv_algebra.specs.Shapes.{Shape, Scan, Filter, Project, Join, Union, Distinct, Except, Group, nodes}
 
 pub has_nodes : (a : Shape) → 1 ≤ nodes a
 has_nodes (Scan t) = omega arith

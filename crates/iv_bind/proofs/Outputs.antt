@@ -16,12 +16,11 @@ use Rattle.iv_query.specs.Trees.{NameTree, Called, ColumnTree, ColumnAt, ItemTre
 use Rattle.iv_algebra.specs.declared.plan.Agg.{Agg}
 use Rattle.iv_algebra.specs.declared.plan.Agg.TheVariants.{Sum, Count}
 use Rattle.iv_algebra.specs.Predicates.{kind_eq, same_kind}
-use Rattle.iv_algebra.specs.Fits.{or_flag, kind_at, are_there, agg_fits}
+use Rattle.iv_algebra.specs.Fits.{or_flag, kind_at, are_there, agg_fits, group_kinds}
 use Rattle.iv_bind.specs.declared.fault.BindWhy.TheVariants as why
 use Rattle.iv_bind.specs.Faults.{FaultAt, ◌>>=◌, if_some, through}
 use Rattle.iv_bind.specs.Binding.{Named, Out, place_of, column_at, keys_at, first_aggregate, nothing, output_at, within_group, output_name, text_of, aggregated, item_at, star_at}
 use Rattle.iv_query.specs.Well.{IsWellName, IsWellItem}
-use Rattle.iv_bind.specs.Sound.{group_kinds}
 use Rattle.iv_bind.proofs.Inversion.{both_ok, then_ok, else_ok, some_ok, kept, all_head, all_tail}
 use Rattle.iv_bind.proofs.Columns.{kinds_in, found}
 use Rattle.iv_bind.proofs.Predicates.{and_parts, and_whole}

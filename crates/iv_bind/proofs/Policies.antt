@@ -1,25 +1,22 @@
 -- The predicate of a policy fits the columns of its table.
-use Rattle.std.proofs.Common.{◌≡◌, List, [], true, Result, Ok, Err, sym, ap, ◌∙◌}
+use Rattle.std.proofs.Common.{◌≡◌, List, [], true, Result, Ok, Err, Some, sym, ap, ◌∙◌}
 use Rattle.std.specs.Prelude.{IfOk}
 use Rattle.iv_rows.specs.Columns.{Column, kinds_of}
+use Rattle.iv_rows.specs.declared.value.Kind.TheVariants.{Text}
 use Rattle.iv_query.specs.declared.tree.Dialect.TheVariants.{Policy}
 use Rattle.iv_query.specs.Trees.{PredTree}
 use Rattle.iv_query.specs.Well.{IsWellPred}
 use Rattle.iv_algebra.specs.declared.pred.Pred.{Pred}
-use Rattle.iv_algebra.specs.Predicates.{pred_fits}
+use Rattle.iv_algebra.specs.Fits.{condition_fits}
 use Rattle.iv_bind.specs.declared.fault.BindFault.{BindFault}
 use Rattle.iv_bind.specs.Faults.{Gives}
-use Rattle.iv_bind.specs.Shapes.{condition_of}
+use Rattle.iv_algebra.specs.Shapes.{condition_of}
 use Rattle.iv_bind.specs.Binding.{Named, under, pred_at}
-use Rattle.iv_bind.specs.Sound.{condition_fits}
 use Rattle.iv_bind.proofs.Columns.{kinds_in}
 use Rattle.iv_bind.proofs.Predicates.{bound_fits}
-use Rattle.iv_bind.proofs.Fitting.{fits_policy}
 use Rattle.iv_bind.proofs.Joins.{same_kinds}
 
-pub policy_fits : (columns : List Column) (scope : List Named) (t : PredTree) (r : Result Pred BindFault) → scope ≡ under [] columns → IsWellPred Policy t → Gives condition_of r (pred_at scope t) → IfOk r (λ p. pred_fits p (kinds_of columns) ≡ true)
-policy_fits columns scope t (Ok p) e w g =
-    sym (fits_policy (kinds_of columns) p)
-    ∙ (λ i. condition_fits Policy (sym (ap kinds_in e ∙ same_kinds [] columns) i) (condition_of p))
-    ∙ bound_fits Policy scope t (condition_of p) w g
+pub policy_fits : (columns : List Column) (scope : List Named) (t : PredTree) (r : Result Pred BindFault) → scope ≡ under [] columns → IsWellPred Policy t → Gives condition_of r (pred_at scope t)
+    → IfOk r (λ p. condition_fits (Some Text) (kinds_of columns) (condition_of p) ≡ true)
+policy_fits columns scope t (Ok p) e w g = (λ i. condition_fits (Some Text) (sym (ap kinds_in e ∙ same_kinds [] columns) i) (condition_of p)) ∙ bound_fits Policy scope t (condition_of p) w g
 policy_fits columns scope t (Err f) e w g = tt

@@ -20,8 +20,8 @@ use Rattle.iv_algebra.specs.Predicates.{kind_of, kind_eq}
 use Rattle.iv_algebra.specs.Fits.{kinds_eq}
 use Rattle.iv_bind.specs.declared.fault.BindWhy.TheVariants as why
 use Rattle.iv_bind.specs.Faults.{Fault, FaultAt, ◌>>=◌, if_some, through}
-use Rattle.iv_bind.specs.Shapes.{Term, Condition, Shape, Filter, Project, Join, Union, Distinct, Except, Group, nodes}
-use Rattle.iv_bind.specs.Shapes as shape
+use Rattle.iv_algebra.specs.Shapes.{Term, Condition, Shape, Filter, Project, Join, Union, Distinct, Except, Group, nodes}
+use Rattle.iv_algebra.specs.Shapes as shape
 use Rattle.iv_bind.specs.Catalogs.{Answer, Entry, named, columns_of, plan_of, reached_by}
 
 -- ---- columns

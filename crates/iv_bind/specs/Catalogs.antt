@@ -1,10 +1,10 @@
 -- What a catalog holds: tables and views, by name and by number, in the order of adding.
-use Rattle.std.specs.Prelude.{ℕ, ◌==◌, List, [], ◌∷◌, map, find, Option, Some, None, bytes_eq}
+use Rattle.std.specs.Prelude.{ℕ, ◌==◌, List, [], ◌∷◌, ◌++◌, map, find, Option, Some, None, bytes_eq, Contains}
 use Rattle.iv_rows.specs.Columns.{Column}
 use Rattle.iv_rows.specs.declared.schema.RelId.{RelId}
 use Rattle.iv_bind.specs.declared.bound.Bound.{Bound}
 use Rattle.iv_bind.specs.Faults.{if_some}
-use Rattle.iv_bind.specs.Shapes.{Shape, Scan, shape_of}
+use Rattle.iv_algebra.specs.Shapes.{Shape, Scan, shape_of}
 
 -- a query that is bound: its plan, its columns, and the relations that it reaches
 pub record Answer : Type 0 where
@@ -35,6 +35,10 @@ named catalog name = find (λ e. bytes_eq name e.name) catalog
 abbrev pub numbered : List Entry → ℕ → Option Entry
 numbered catalog n = find (λ e. n == e.rel) catalog
 
+-- each of the numbers is one of the others
+abbrev pub AreAmong : List ℕ → List ℕ → Type 0
+AreAmong ns others = (n : ℕ) → Contains ns n → Contains others n
+
 abbrev pub columns_of : Held → List Column
 columns_of (Table columns) = columns
 columns_of (View answer) = answer.schema
@@ -56,6 +60,10 @@ table_in (View answer) = None
 abbrev pub view_in : Held → Option Answer
 view_in (Table columns) = None
 view_in (View answer) = Some answer
+
+-- a catalog with one relation more, behind the others
+abbrev pub extended : List Entry → List ℕ → ℕ → Held → List Entry
+extended catalog name rel held = catalog ++ (record { name = name; rel = rel; held = held }) ∷ []
 
 -- the columns of the table of a number
 abbrev pub schema_of : List Entry → ℕ → Option (List Column)

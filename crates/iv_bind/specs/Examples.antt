@@ -11,8 +11,8 @@ use Rattle.iv_algebra.specs.declared.pred.Comparison.TheVariants as comparison
 use Rattle.iv_algebra.specs.declared.plan.Agg.TheVariants.{Sum, Count}
 use Rattle.iv_bind.specs.declared.fault.BindWhy.TheVariants as why
 use Rattle.iv_bind.specs.Faults.{FaultAt}
-use Rattle.iv_bind.specs.Shapes.{Shape, Scan, Filter, Project, Join, Union, Distinct, Except, Group}
-use Rattle.iv_bind.specs.Shapes as shape
+use Rattle.iv_algebra.specs.Shapes.{Shape, Scan, Filter, Project, Join, Union, Distinct, Except, Group}
+use Rattle.iv_algebra.specs.Shapes as shape
 use Rattle.iv_bind.specs.Catalogs.{Entry, Table, View}
 use Rattle.iv_bind.specs.Binding.{bound}
 

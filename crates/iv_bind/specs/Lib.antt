@@ -1,8 +1,9 @@
 pub mod Faults
-pub mod Shapes
 pub mod Catalogs
+pub mod Codes
 pub mod Binding
 pub mod Examples
 pub mod Held
 pub mod Parts
 pub mod Sound
+pub mod BoundTexts

@@ -2,7 +2,7 @@
 use Rattle.iv_bind.specs.declared.sources.From.{From}
 use Rattle.iv_bind.specs.declared.items.Out.{Out}
 use Rattle.iv_bind.specs.declared.select.Part.{Part}
-use Rattle.iv_bind.specs.Shapes.{shape_of}
+use Rattle.iv_algebra.specs.Shapes.{shape_of}
 use Rattle.iv_bind.specs.Catalogs.{Answer, numbers}
 use Rattle.iv_bind.specs.Binding as seen
 

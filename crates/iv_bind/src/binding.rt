@@ -1,18 +1,17 @@
 //! Queries over a catalog to their plans.
 
-ghost use Rattle.std.specs.Prelude.{◌≡◌, ◌==◌, ◌-◌, ◌≤◌, [], true, nat_le, SomeIff, IfOk};
+ghost use Rattle.std.specs.Prelude.{◌≡◌, ◌==◌, ◌-◌, ◌≤◌, [], true, Some, nat_le, SomeIff, IfOk};
 ghost use Rattle.iv_zset.specs.Bags.{stands};
 ghost use Rattle.iv_query.specs.Trees.{query_tree, pred_tree};
 ghost use Rattle.iv_query.specs.Well.{IsWellQuery, IsWellPred};
 ghost use Rattle.iv_query.specs.declared.tree.Dialect.TheVariants.{Policy};
 ghost use Rattle.iv_rows.specs.Columns.{kinds_of};
-ghost use Rattle.iv_algebra.specs.Predicates.{pred_fits};
+ghost use Rattle.iv_algebra.specs.Fits.{condition_fits};
 ghost use Rattle.iv_bind.specs.Faults.{Gives};
-ghost use Rattle.iv_bind.specs.Shapes.{shape_of, condition_of, nodes};
-ghost use Rattle.iv_bind.specs.Catalogs.{numbers, answer_of};
-ghost use Rattle.iv_bind.specs.Held.{entries};
+ghost use Rattle.iv_algebra.specs.Shapes.{shape_of, condition_of, nodes, scans};
+ghost use Rattle.iv_bind.specs.Catalogs.{AreAmong, numbers, answer_of};
 ghost use Rattle.iv_bind.specs.Parts.{part_of};
-ghost use Rattle.iv_bind.specs.Sound.{is_schema, Fits};
+ghost use Rattle.iv_bind.specs.Sound.{is_schema, IsTyped};
 ghost use Rattle.iv_bind.specs.Binding.{once, finished, bound, bound_pred};
 
 use crate::bound::Bound;
@@ -24,8 +23,11 @@ use crate::select::{Part, query};
 use crate::sources::under;
 use iv_algebra::{Plan, Pred};
 use iv_query::{PredText, Query};
-use iv_rows::{Column, RelId, Schema};
+use iv_rows::{Column, Kind, RelId, Schema};
 use std::alloc::{AllocError, Global};
+
+/// How many nodes the plan of a view may have.
+const NODES: usize = 256;
 
 // How many nodes are left of `left`, if the plan has no more.
 fn after_nodes(plan: &Plan, left: usize) -> Option<usize>
@@ -73,11 +75,11 @@ fn once(alloc: Global, reached: &[RelId]) -> Result<Vec<RelId>, AllocError>
     Ok(list)
 }
 
-// Whether the plan has at most 256 nodes.
+// Whether the plan has few enough nodes.
 fn is_small(plan: &Plan) -> bool
     ensures { result ≡ nat_le (nodes (shape_of plan.now)) 256 }
 {
-    after_nodes(plan, 256).is_some()
+    after_nodes(plan, NODES).is_some()
 }
 
 // The schema of columns that are one.
@@ -95,9 +97,7 @@ fn schema_of(columns: Vec<Column>) -> Schema
 #[tactic(auto, unfolding(crate::specs::Binding::finished))]
 fn finished(alloc: Global, part: Part) -> Result<Bound, BindFault>
     requires { is_schema part.schema.items ≡ true }
-    ensures answer { Gives answer_of result (finished (part_of part)) }
-    ensures plan { IfOk result (λ b. b.plan ≡ part.plan) }
-    ensures schema { IfOk result (λ b. b.schema ≡ part.schema.items) }
+    ensures { Gives answer_of result (finished (part_of part)) }
 {
     if !is_small(&part.plan) {
         return Err(fault(0, BindWhy::TooManyNodes));
@@ -121,9 +121,11 @@ fn finished(alloc: Global, part: Part) -> Result<Bound, BindFault>
 pub fn bind(alloc: Global, tree: &Query, catalog: &Catalog) -> Result<Bound, BindFault>
     requires { IsWellQuery (query_tree tree.now) }
     // The answer is the query's over the catalog, and a fault that is told is its first one; unless memory runs out.
-    ensures bound { Gives answer_of result (bound (entries catalog.now) (query_tree tree.now)) }
+    ensures bound { Gives answer_of result (bound catalog.now (query_tree tree.now)) }
     // Over all tables of the catalog's kinds the plan fits, and its rows have the kinds of the columns.
-    ensures fits { IfOk result (λ b. Fits (entries catalog.now) b) }
+    ensures typed { IfOk result (λ b. IsTyped catalog.now (answer_of b)) }
+    // Each table that the plan scans is among the needs.
+    ensures scanned { IfOk result (λ b. AreAmong (scans (answer_of b).plan) (answer_of b).needs) }
 {
     catalog.keeps();
     let part = query(alloc, catalog, tree)?;
@@ -142,7 +144,7 @@ pub fn bind_pred(alloc: Global, tree: &PredText, schema: &Schema) -> Result<Pred
     // The answer is the predicate's over the columns, and a fault that is told is its first one; unless memory runs out.
     ensures bound { Gives condition_of result (bound_pred schema.now (pred_tree tree.now.pred)) }
     // It fits rows of the columns' kinds.
-    ensures fits { IfOk result (λ p. pred_fits p (kinds_of schema.now) ≡ true) }
+    ensures fits { IfOk result (λ p. condition_fits (Some Kind.Text) (kinds_of schema.now) (condition_of p) ≡ true) }
 {
     let scope = under(alloc, "", schema.columns())?;
     pred(alloc, &scope, &tree.pred)

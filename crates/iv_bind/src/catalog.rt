@@ -1,10 +1,10 @@
 //! The tables and views that queries may name.
 
-ghost use Rattle.std.specs.Prelude.{◌≡◌, ◌==◌, ◌∷◌, [], ◌++◌, map, find, Some, None, option_map, OnOk, OnErr, bytes_eq};
-ghost use Rattle.iv_rows.specs.Columns.{Column};
-ghost use Rattle.iv_bind.specs.Catalogs.{Entry, Table, View, answer_of, named, numbered, schema_of, view_of};
+ghost use Rattle.std.specs.Prelude.{◌≡◌, ◌&&◌, [], None, is_none, option_map, IfSome, OnOk, OnErr};
+ghost use Rattle.iv_algebra.specs.Shapes.{scans};
+ghost use Rattle.iv_bind.specs.Catalogs.{Table, View, AreAmong, answer_of, named, numbered, schema_of, view_of, extended};
 ghost use Rattle.iv_bind.specs.Held.{entry_of, held_of, entries};
-ghost use Rattle.iv_bind.specs.Sound.{IsSound, HeldIsSound, Fits};
+ghost use Rattle.iv_bind.specs.Sound.{IsSound, HeldIsSound, IsTyped};
 
 use crate::bound::Bound;
 use iv_rows::{RelId, Schema};
@@ -34,18 +34,17 @@ pub struct Catalog {
 
 impl Model for Catalog {
     ghost use Rattle.std.specs.Prelude.{List};
-    ghost use Rattle.std.specs.Coded.{codes};
-    ghost use Rattle.iv_algebra.specs.contracts.pred.Pred as pred;
-    ghost use Rattle.iv_algebra.specs.contracts.plan.Plan as plan;
-    ghost use Rattle.iv_bind.specs.declared.catalog.Relation.{Relation};
+    ghost use Rattle.iv_bind.specs.Catalogs.{Entry};
+    ghost use Rattle.iv_bind.specs.Codes.{entries_code};
 
-    ghost Value = { List Relation };
+    ghost Value = { List Entry };
 
-    ghost coded = { Prim.hlevel (codes, pred.the_row.coded, plan.the_row.coded) };
-
-    ghost view = { λ c. c.relations.items };
+    ghost coded = { entries_code };
 
     ghost use Rattle.iv_bind.specs.Held.{entries};
+
+    ghost view = { λ c. entries c.relations.items };
+
     ghost use Rattle.iv_bind.specs.Sound.{IsSound};
 
     ghost invariant = { λ c. IsSound (entries c.relations.items) };
@@ -87,15 +86,15 @@ impl Catalog {
 
     /// What the relations keep, for proofs alone.
     pub(crate) fn keeps(&self)
-        ensures { IsSound (entries self.now) }
+        ensures { IsSound self.now }
     {
         let _ = &self.relations;
     }
 
     // A relation behind the others.
     fn add(&mut self, name: &str, rel: RelId, held: Held) -> Result<(), AllocError>
-        requires { HeldIsSound (entries self.old) (held_of held) }
-        ensures added { OnOk result (entries self.new ≡ entries self.old ++ (record { name = name.now; rel = rel.0; held = held_of held }) ∷ []) }
+        requires { HeldIsSound self.old (held_of held) }
+        ensures added { OnOk result (self.new ≡ extended self.old name.now rel.0 (held_of held)) }
         ensures unchanged { OnErr result (self.new ≡ self.old) }
     {
         let name = String::from_str(*self.relations.allocator(), name)?;
@@ -103,25 +102,38 @@ impl Catalog {
         Ok(())
     }
 
-    /// Adds a table behind the relations that are there. A name or a number that stands twice is that of the first.
+    /// Whether no relation has the name, and none the number. It takes no memory.
+    pub fn is_new(&self, name: &str, rel: RelId) -> bool
+        ensures { result ≡ (is_none (named self.now name.now) && is_none (numbered self.now rel.0)) }
+    {
+        named(&self.relations, name).is_none() && numbered(&self.relations, rel).is_none()
+    }
+
+    /// Adds a table, of a new name and number, behind the relations that are there.
     ///
     /// # Errors
     /// `AllocError` where a growth of memory was refused; the catalog is unchanged then.
     pub fn add_table(&mut self, name: &str, rel: RelId, schema: Schema) -> Result<(), AllocError>
-        ensures added { OnOk result (entries self.new ≡ entries self.old ++ (record { name = name.now; rel = rel.0; held = Table schema }) ∷ []) }
+        requires name { named self.old name.now ≡ None }
+        requires number { numbered self.old rel.0 ≡ None }
+        ensures added { OnOk result (self.new ≡ extended self.old name.now rel.0 (Table schema)) }
         ensures unchanged { OnErr result (self.new ≡ self.old) }
     {
         let _ = schema.columns();
         self.add(name, rel, Held::Table(schema))
     }
 
-    /// Adds a view behind the relations that are there. A name or a number that stands twice is that of the first.
+    /// Adds a view, of a new name and number, behind the relations that are there.
     ///
     /// # Errors
     /// `AllocError` where a growth of memory was refused; the catalog is unchanged then.
     pub fn add_view(&mut self, name: &str, rel: RelId, bound: Bound) -> Result<(), AllocError>
-        requires { Fits (entries self.old) bound }
-        ensures added { OnOk result (entries self.new ≡ entries self.old ++ (record { name = name.now; rel = rel.0; held = View (answer_of bound) }) ∷ []) }
+        requires name { named self.old name.now ≡ None }
+        requires number { numbered self.old rel.0 ≡ None }
+        // Over all tables of the catalog's kinds the plan fits, and its rows have the kinds of the columns.
+        requires typed { IsTyped self.old (answer_of bound) }
+        requires scanned { AreAmong (scans (answer_of bound).plan) (answer_of bound).needs }
+        ensures added { OnOk result (self.new ≡ extended self.old name.now rel.0 (View (answer_of bound))) }
         ensures unchanged { OnErr result (self.new ≡ self.old) }
     {
         let _ = bound.schema.columns();
@@ -130,14 +142,14 @@ impl Catalog {
 
     /// The relation of a name.
     pub(crate) fn named(&self, name: &str) -> Option<&Relation>
-        ensures { option_map (λ r. entry_of r.now) result ≡ named (entries self.now) name.now }
+        ensures { option_map (λ r. entry_of r.now) result ≡ named self.now name.now }
     {
         named(&self.relations, name)
     }
 
     /// The columns of the table of a number; none where there is no table of it. It takes no memory.
     pub fn schema(&self, rel: RelId) -> Option<&Schema>
-        ensures { option_map (λ s. s.now) result ≡ schema_of (entries self.now) rel.0 }
+        ensures { option_map (λ s. s.now) result ≡ schema_of self.now rel.0 }
     {
         match numbered(&self.relations, rel) {
             Some(relation) => match &relation.held {
@@ -150,7 +162,10 @@ impl Catalog {
 
     /// The view of a number; none where there is no view of it. It takes no memory.
     pub fn view(&self, rel: RelId) -> Option<&Bound>
-        ensures { option_map (λ b. answer_of b.now) result ≡ view_of (entries self.now) rel.0 }
+        ensures found { option_map (λ b. answer_of b.now) result ≡ view_of self.now rel.0 }
+        // Over all tables of the catalog's kinds the plan fits, and its rows have the kinds of the columns.
+        ensures typed { IfSome result (λ b. IsTyped self.now (answer_of b.now)) }
+        ensures scanned { IfSome result (λ b. AreAmong (scans (answer_of b.now).plan) (answer_of b.now).needs) }
     {
         match numbered(&self.relations, rel) {
             Some(relation) => match &relation.held {

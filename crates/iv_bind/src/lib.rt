@@ -17,7 +17,4 @@ pub use binding::{bind, bind_pred};
 pub use bound::Bound;
 pub use catalog::Catalog;
 pub use fault::{BindFault, BindWhy};
-pub use laws::examples_are_bound;
-
-#[cfg(test)]
-mod tests;
+pub use laws::{bound_queries_are_sound, examples_are_bound, sound_catalogs_grow};

@@ -5,7 +5,7 @@ ghost use Rattle.iv_rows.specs.Columns.{kinds_of};
 ghost use Rattle.iv_query.specs.Trees.{column_tree, list_tree, select_tree, query_tree};
 ghost use Rattle.iv_algebra.specs.Fits.{kinds_eq};
 ghost use Rattle.iv_bind.specs.Faults.{Gives};
-ghost use Rattle.iv_bind.specs.Shapes.{shape_of};
+ghost use Rattle.iv_algebra.specs.Shapes.{shape_of};
 ghost use Rattle.iv_bind.specs.Held.{entries};
 ghost use Rattle.iv_bind.specs.Parts.{from_of, out_of, part_of};
 ghost use Rattle.iv_bind.specs.Binding.{grouped, distinctly, selected, output_of, select_at, combined_plan, combined, query_at};
@@ -20,6 +20,9 @@ use iv_algebra::{Agg, Plan};
 use iv_query::{Query, Select, SetOp};
 use iv_rows::{Column, RelId};
 use std::alloc::{AllocError, Global};
+
+/// How many columns a select may give.
+const COLUMNS: usize = 16;
 
 /// What a select or a query gives.
 #[derive(Drop)]
@@ -79,7 +82,7 @@ fn output_of(alloc: Global, select: &Select, from: From) -> Result<Part, BindFau
         return Err(fault(place, BindWhy::NotGrouped));
     }
     let out = list(alloc, &from.scope, &keys, &select.columns)?;
-    if out.columns.len() > 16 {
+    if out.columns.len() > COLUMNS {
         return Err(fault(select.place, BindWhy::TooManyColumns));
     }
     Ok(selected(alloc, select.distinct, from, keys, out)?)
@@ -87,7 +90,7 @@ fn output_of(alloc: Global, select: &Select, from: From) -> Result<Part, BindFau
 
 #[tactic(auto, unfolding(crate::specs::Binding::select_at))]
 fn select(alloc: Global, catalog: &Catalog, select: &Select) -> Result<Part, BindFault>
-    ensures { Gives part_of result (select_at (entries catalog.now) (select_tree select.now)) }
+    ensures { Gives part_of result (select_at catalog.now (select_tree select.now)) }
 {
     let all = all_sources(alloc, catalog, &select.source, &select.joins)?;
     let from = filter(alloc, all, &select.filter)?;
@@ -140,7 +143,7 @@ fn combined(alloc: Global, op: SetOp, left: Part, right: Part) -> Result<Part, A
 /// A query, from the left.
 #[tactic(auto, unfolding(crate::specs::Binding::query_at))]
 pub(crate) fn query(alloc: Global, catalog: &Catalog, tree: &Query) -> Result<Part, BindFault>
-    ensures { Gives part_of result (query_at (entries catalog.now) (query_tree tree.now)) }
+    ensures { Gives part_of result (query_at catalog.now (query_tree tree.now)) }
 {
     match tree {
         Query::Select(only) => select(alloc, catalog, only),

@@ -3,7 +3,7 @@
 ghost use Rattle.std.specs.Prelude.{◌≡◌, map, option_map, IfOk};
 ghost use Rattle.iv_query.specs.Trees.{name_tree, source_tree, pair_tree, join_tree, pred_tree};
 ghost use Rattle.iv_bind.specs.Faults.{Gives};
-ghost use Rattle.iv_bind.specs.Shapes.{shape_of};
+ghost use Rattle.iv_algebra.specs.Shapes.{shape_of};
 ghost use Rattle.iv_bind.specs.Catalogs.{numbers, columns_of, plan_of, reached_by};
 ghost use Rattle.iv_bind.specs.Held.{held_of, entry_of, entries};
 ghost use Rattle.iv_bind.specs.Parts.{from_of};
@@ -107,7 +107,7 @@ fn source(
     scope: &[Named],
     source: &Source,
 ) -> Result<From, BindFault>
-    ensures { Gives from_of result (source_at (entries catalog.now) scope.now (source_tree source.now)) }
+    ensures { Gives from_of result (source_at catalog.now scope.now (source_tree source.now)) }
 {
     let Some(relation) = catalog.named(source.name.text.as_str()) else {
         return Err(fault(source.name.place, BindWhy::UnknownRelation));
@@ -190,7 +190,7 @@ fn joined(alloc: Global, left: From, right: From, on: &[Pair]) -> Result<From, B
 // The sources so far and one more.
 #[tactic(auto, unfolding(crate::specs::Binding::join_at))]
 fn join(alloc: Global, catalog: &Catalog, left: From, join: &Join) -> Result<From, BindFault>
-    ensures { Gives from_of result (join_at (entries catalog.now) (from_of left) (join_tree join.now)) }
+    ensures { Gives from_of result (join_at catalog.now (from_of left) (join_tree join.now)) }
 {
     let right = source(alloc, catalog, &left.scope, &join.source)?;
     joined(alloc, left, right, &join.on)
@@ -204,7 +204,7 @@ pub(crate) fn all_sources(
     first: &Source,
     joins: &[Join],
 ) -> Result<From, BindFault>
-    ensures { Gives from_of result (from_at (entries catalog.now) (source_tree first.now) (map join_tree joins.now)) }
+    ensures { Gives from_of result (from_at catalog.now (source_tree first.now) (map join_tree joins.now)) }
 {
     let mut all = source(alloc, catalog, &[], first)?;
     for next in joins {

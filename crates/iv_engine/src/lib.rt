@@ -19,6 +19,3 @@ mod writing;
 pub use command::{Act, Command, EngineFault, Entry, Line, Op, Refusal, Reply};
 pub use engine::Engine;
 pub use iv_machine::Privilege;
-
-#[cfg(test)]
-mod tests;

@@ -1,5 +1,5 @@
 -- Where a text may be cut.
-use Rattle.std.proofs.Common.{◌≡◌, ℕ, ◌+◌, ◌<◌, ◌≤◌, Bool, true, List, length, get_or, take, get_or-take, length-take, arith, inl, inr}
+use Rattle.std.proofs.Common.{◌≡◌, ℕ, ◌<◌, Bool, true, List, get_or, take, get_or-take, length-take, arith, inl, inr}
 use Rattle.std.specs.List.{prefix_len}
 use Rattle.iv_query.specs.Lexing.{is_word_byte}
 use Rattle.std.specs.Str.{IsUtf8, IsCharBoundary}

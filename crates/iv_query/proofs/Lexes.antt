@@ -1,6 +1,6 @@
 -- One step of the lexer.
-use Rattle.std.proofs.Common.{◌≡◌, ℕ, zero, suc, ◌+◌, ◌-◌, ◌<◌, ◌≤◌, Bool, true, false, cond, List, [], ◌∷◌, ◌++◌, length, drop, map, refl, sym, ap, subst, ◌∙◌, append_assoc, arith, length-drop}
-use Rattle.std.specs.Prelude.{◌||◌, ◌==◌, nat_lt}
+use Rattle.std.proofs.Common.{◌≡◌, ℕ, zero, suc, ◌+◌, ◌-◌, ◌<◌, ◌≤◌, Bool, true, false, cond, List, [], ◌∷◌, ◌++◌, length, drop, refl, ap, subst, ◌∙◌, append_assoc, arith, length-drop}
+use Rattle.std.specs.Prelude.{◌==◌, nat_lt}
 use Rattle.std.proofs.Common.{lit<}
 use Rattle.std.specs.Str.{IsUtf8}
 use Rattle.std.proofs.lemmas.Bool.{eqb-true}
@@ -16,13 +16,14 @@ use Rattle.std.specs.Prelude.{nat_le, Option, Some, None}
 use Rattle.iv_query.proofs.Quotes.{Closed, quoted_closed}
 use Rattle.iv_query.proofs.Bytes.{boundary, word_byte_low}
 use Rattle.std.specs.List.{prefix_len}
-use Rattle.std.proofs.lemmas.List.{map_push, append-nil, nil_from_length}
+use Rattle.std.proofs.lemmas.List.{map_push, append-nil}
 use Rattle.iv_query.specs.declared.fault.Fault.{Fault}
 use Rattle.iv_query.specs.declared.fault.Why.TheVariants as why
 use Rattle.iv_query.specs.declared.token.Token.{Token}
-use Rattle.iv_query.specs.Tokens.{Tok, Fixed, Quoted, tok, tok_of, toks, if_some}
+use Rattle.iv_query.specs.Tokens.{Tok, Quoted, tok, toks, if_some}
 use Rattle.iv_query.specs.Lexing.{is_blank, is_letter, is_word_byte, is_plain, after_quote, onto, quoted, starts_letter, starts_digit, number_at, negative_at, minus_at, text_at, Ahead, Gap, Nothing, word_token, word_at, less_at, greater_at, not_equal_at, sign_at, ahead, Lexes, at_end, gap, token, broken}
 use Rattle.iv_query.specs.Lexing as lexing
+use Rattle.iv_query.specs.TextReading.{Lexed, lexed_from, lexed}
 
 -- what stands behind is shorter than n, and text
 pub record Behind (n : ℕ) (rest : List ℕ) : Type 0 where
@@ -190,23 +191,32 @@ same (broken {b = b} {bs = bs} g) k P p = let o = subst (Opened _ (b ∷ bs) _ _
 
 -- ---- each text is read
 
-abbrev pub IsLexed : ℕ → List ℕ → Type 0
-IsLexed total bs = (ts : List Tok) × (stop : Fault) × (ends : Bool) × Lexes total bs ts stop ends
-
-pub lexed : (total n : ℕ) (bs : List ℕ) → length bs ≤ n → IsUtf8 bs → IsLexed total bs
-lexed total n [] le u = ([], _, true, at_end)
-lexed total zero (b ∷ bs) le u = absurd (omega arith)
-lexed total (suc n) (b ∷ bs) le u = go (ahead (b ∷ bs)) refl (λ rest below text. lexed total n rest below text)
+pub lexed_lexes : (total most : ℕ) (bs : List ℕ) → length bs ≤ most → IsUtf8 bs → let l = lexed total most bs in Lexes total bs l.tokens l.stop l.ends
+unfolding lexed
+lexed_lexes total most [] le u = at_end
+lexed_lexes total zero (b ∷ bs) le u = absurd (omega arith)
+lexed_lexes total (suc most) (b ∷ bs) le u = go (ahead (b ∷ bs)) refl (λ rest below text. lexed_lexes total most rest below text)
   where
-    go : (a : Ahead) → ahead (b ∷ bs) ≡ a → ((rest : List ℕ) → length rest ≤ n → IsUtf8 rest → IsLexed total rest) → IsLexed total (b ∷ bs)
+    Is : List ℕ → Lexed → Type 0
+    Is bs l = Lexes total bs l.tokens l.stop l.ends
+
+    go : (a : Ahead) → ahead (b ∷ bs) ≡ a → ((rest : List ℕ) → length rest ≤ most → IsUtf8 rest → Is rest (lexed total most rest)) → Is (b ∷ bs) (lexed_from (total - length (b ∷ bs)) (lexed total most) a)
     go (Gap rest) e more =
         let h = gap_behind (b ∷ bs) rest u e in
         let s : length rest < length (b ∷ bs) = h.shorter in
-        let r = more rest (omega arith) h.text in
-        (r.0, r.1, r.2, gap e r.3)
+        gap e (more rest (omega arith) h.text)
     go (lexing.Token k rest) e more =
         let h = token_behind (b ∷ bs) rest k u e in
         let s : length rest < length (b ∷ bs) = h.shorter in
-        let r = more rest (omega arith) h.text in
-        (_, r.1, r.2, token e r.3)
-    go Nothing e more = ([], _, false, broken e)
+        token e (more rest (omega arith) h.text)
+    go Nothing e more = broken e
+
+-- the tokens of a text, the fault behind them, and whether the text ends there
+pub whole_lexes : (bs : List ℕ) → IsUtf8 bs → let l = lexed (length bs) (length bs) bs in Lexes (length bs) bs l.tokens l.stop l.ends
+whole_lexes bs u = let all : length bs ≤ length bs = omega arith in lexed_lexes (length bs) (length bs) bs all u
+
+abbrev pub of_parts : List Tok → Fault → Bool → Lexed
+of_parts ts stop full = record { tokens = ts; stop = stop; ends = full }
+
+pub is_lexed : (bs : List ℕ) (ts : List Tok) (stop : Fault) (full : Bool) → IsUtf8 bs → Lexes (length bs) bs ts stop full → of_parts ts stop full ≡ lexed (length bs) (length bs) bs
+is_lexed bs ts stop full u k = same k (whole_lexes bs u) (λ us s e. of_parts ts stop full ≡ of_parts us s e) refl

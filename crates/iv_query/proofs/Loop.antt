@@ -1,10 +1,10 @@
 -- Items behind signs, one after the other, as a loop reads them.
-use Rattle.std.proofs.Common.{◌≡◌, ℕ, zero, suc, ◌-◌, ◌+◌, ◌≤◌, ◌<◌, List, Option, Some, None, Result, Ok, Err, refl, sym, ap, ◌∙◌, arith}
+use Rattle.std.proofs.Common.{◌≡◌, ℕ, zero, suc, ◌-◌, ◌+◌, ◌≤◌, ◌<◌, List, Option, Some, None, Ok, Err, refl, sym, ◌∙◌, arith}
 use Rattle.iv_query.specs.declared.fault.QueryFault.{QueryFault}
 use Rattle.iv_query.specs.declared.fault.QueryFault.TheVariants as faults
-use Rattle.iv_query.specs.Tokens.{Tok, if_some}
+use Rattle.iv_query.specs.Tokens.{Tok}
 use Rattle.iv_query.specs.Answers.{Fails}
-use Rattle.iv_query.specs.Reading.{◌>>=◌, Read, many_at}
+use Rattle.iv_query.specs.Reading.{Read, many_at}
 
 module _ {A B : Type 0} (sign : List Tok → Option (List Tok)) (item : A → List Tok → Read B) (join : A → B → A) where
   pub goes_on : (n i : ℕ) (left : A) (ts us vs : List Tok) (b : B) (total : Read A) → i < n → sign ts ≡ Some us → item left us ≡ Ok (b, vs)

@@ -1,5 +1,5 @@
 -- { sign item }: the function that reads and the grammar say the same, for any item.
-use Rattle.std.proofs.Common.{◌≡◌, ℕ, zero, suc, ◌≤◌, ◌<◌, List, [], ◌∷◌, length, Option, Some, None, Result, Ok, Err, refl, arith}
+use Rattle.std.proofs.Common.{◌≡◌, ℕ, zero, suc, ◌≤◌, ◌<◌, List, [], ◌∷◌, length, Option, Some, None, Ok, Err, refl, arith}
 use Rattle.iv_query.specs.declared.fault.Fault.{Fault}
 use Rattle.iv_query.specs.Tokens.{Tok, if_some}
 use Rattle.iv_query.specs.Rules.{Many, many_end, many_more, ManyFault, many_first, many_later}

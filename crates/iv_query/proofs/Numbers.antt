@@ -1,5 +1,5 @@
 -- What std's parse gives of the digits in front.
-use Rattle.std.proofs.Common.{◌≡◌, ℕ, ◌+◌, ◌<◌, ◌≤◌, ◌^◌, Bool, true, false, ltb, leb, List, [], ◌∷◌, length, get_or, take, drop, Result, Ok, Err, ℤ, pos, refl, sym, ap, subst, ◌∙◌, add-one, inl, inr, get_or-take, length-take, arith}
+use Rattle.std.proofs.Common.{◌≡◌, ℕ, ◌+◌, ◌<◌, ◌≤◌, ◌^◌, true, false, ltb, leb, List, [], ◌∷◌, length, get_or, take, drop, Result, Err, ℤ, pos, refl, subst, add-one, inl, inr, get_or-take, length-take, arith}
 use Rattle.std.specs.Prelude.{IsTrue, neg_ℤ}
 use Rattle.std.specs.Int.{w64, IsInRange}
 use Rattle.std.specs.Char.{is_ascii_digit}
@@ -12,10 +12,8 @@ use Rattle.std.proofs.lemmas.List.Sums.{prefix_len_passes}
 use Rattle.std.specs.Str.{IsUtf8, IsCharBoundary}
 use Rattle.std.proofs.lemmas.Str.{IsCharBoundary-from_rest}
 use Rattle.iv_query.proofs.Bytes.{boundary}
-use Rattle.std.proofs.lemmas.Str.Parse.{IsNumeralModel, numerals_by_value, tells_by_index, parse_signed_digits, parse_signed_minus}
-use Rattle.iv_query.specs.Tokens.{Number}
-use Rattle.iv_query.specs.Lexing.{Ahead, Nothing, starts_letter, starts_digit, number_at, negative_at}
-use Rattle.iv_query.specs.Lexing as lexing
+use Rattle.std.proofs.lemmas.Str.Parse.{numerals_by_value, tells_by_index, parse_signed_digits, parse_signed_minus}
+use Rattle.iv_query.specs.Lexing.{Nothing, starts_letter, starts_digit, number_at, negative_at}
 
 pub digit_range : (b : ℕ) → is_ascii_digit b ≡ true → IsInRange 48 57 b
 digit_range b e = grind (arith, nat_tests)

@@ -1,15 +1,14 @@
 -- The parts that queries and predicates share: the function that reads and the grammar say the same.
-use Rattle.std.proofs.Common.{◌≡◌, ℕ, ◌+◌, ◌≤◌, ◌<◌, Bool, true, false, List, [], ◌∷◌, length, Option, Some, None, Result, Ok, Err, refl, sym, ap, ◌∙◌, arith}
-use Rattle.iv_rows.specs.Cell.{num, text, flag}
+use Rattle.std.proofs.Common.{◌≡◌, ℕ, ◌≤◌, false, List, [], ◌∷◌, length, Option, Some, None, Ok, Err, refl, ◌∙◌, arith}
 use Rattle.iv_query.specs.declared.fault.Fault.{Fault}
 use Rattle.iv_query.specs.declared.token.Symbol.{Symbol}
 use Rattle.iv_query.specs.declared.token.Symbol.TheVariants as symbol
 use Rattle.iv_query.specs.declared.tree.Dialect.{Dialect}
 use Rattle.iv_query.specs.declared.tree.Dialect.TheVariants.{Query, Policy}
 use Rattle.iv_query.specs.Tokens.{Tok, Fixed, Name, Number, Quoted, after, starts_name, unexpected, if_some}
-use Rattle.iv_query.specs.Trees.{NameTree, Called, ColumnTree, ColumnAt, OperandTree, OfColumn, Literal, CurrentUser}
+use Rattle.iv_query.specs.Trees.{Called, ColumnTree, OperandTree, OfColumn}
 use Rattle.iv_query.specs.Grammar.{IsColumn, plain, dotted, ColumnFault, no_column, no_name, IsOperand, column_is, name_is, number_is, text_is, true_is, false_is, user_is, is_operand_word, starts_operand, OperandFault, no_operand, in_column}
-use Rattle.iv_query.specs.Reading.{◌>>=◌, Read, name_at, alone, dotted as dotted_tree, column_at, word_operand, name_operand_at, operand_at}
+use Rattle.iv_query.specs.Reading.{◌>>=◌, name_at, alone, dotted as dotted_tree, column_at, word_operand, name_operand_at, operand_at}
 use Rattle.iv_query.proofs.Steps.{Front, there, absent, front, Outcome, good, bad, bind}
 
 -- ---- columns

@@ -1,14 +1,13 @@
 -- Predicates: the function that reads and the grammar say the same.
-use Rattle.std.proofs.Common.{◌≡◌, ℕ, zero, suc, ◌+◌, ◌≤◌, ◌<◌, Bool, true, false, List, [], ◌∷◌, length, Option, Some, None, Result, Ok, Err, refl, sym, ap, subst, ◌∙◌, arith}
+use Rattle.std.proofs.Common.{◌≡◌, ℕ, zero, suc, ◌≤◌, false, List, [], ◌∷◌, length, Option, Some, None, Ok, Err, refl, ◌∙◌, arith}
 use Rattle.iv_rows.specs.Cell.{num, text, flag}
 use Rattle.iv_query.specs.declared.fault.Fault.{Fault}
-use Rattle.iv_query.specs.declared.token.Symbol.{Symbol}
 use Rattle.iv_query.specs.declared.token.Symbol.TheVariants as symbol
 use Rattle.iv_query.specs.declared.tree.Op.{Op}
 use Rattle.iv_query.specs.declared.tree.Dialect.{Dialect}
-use Rattle.iv_query.specs.Tokens.{Tok, Fixed, Name, Number, Quoted, after, after_op, op_of, first_place, unexpected, deep, if_some}
+use Rattle.iv_query.specs.Tokens.{Tok, Fixed, after, after_op, first_place, unexpected, deep, if_some}
 use Rattle.iv_query.specs.Trees.{OperandTree, OfColumn, Literal, CurrentUser, PredTree, Either, Both, Negation, Constant, Comparison}
-use Rattle.iv_query.specs.Grammar.{IsOperand, column_is, name_is, number_is, text_is, true_is, false_is, user_is, OperandFault, stands_alone, Part, pred, conj, term, ors, ands, Reads, pred_is, ors_end, ors_more, conj_is, ands_end, ands_more, not_is, group_is, holds_is, fails_is, comparison_is, Faults, pred_first, pred_later, ors_first, ors_later, conj_first, conj_later, ands_first, ands_later, not_deep, not_in, group_deep, group_in, group_left, no_left, no_op, no_right, plain, dotted}
+use Rattle.iv_query.specs.Grammar.{IsOperand, column_is, name_is, number_is, text_is, true_is, false_is, user_is, stands_alone, Part, pred, conj, term, ors, ands, Reads, pred_is, ors_end, ors_more, conj_is, ands_end, ands_more, not_is, group_is, holds_is, fails_is, comparison_is, Faults, pred_first, pred_later, ors_first, ors_later, conj_first, conj_later, ands_first, ands_later, not_deep, not_in, group_deep, group_in, group_left, no_left, no_op, no_right, plain, dotted}
 use Rattle.iv_query.specs.Reading.{◌>>=◌, Read, need, operand_at, truth_of, comparison_at, many_at, conj_at, pred_at, term_at}
 use Rattle.iv_query.proofs.Loop.{is_last}
 use Rattle.iv_query.proofs.Steps.{Front, there, absent, front, FrontOp, op_there, op_absent, front_op, Outcome, good, bad, bind}

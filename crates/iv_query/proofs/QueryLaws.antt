@@ -1,17 +1,14 @@
 -- Queries: the function that reads and the grammar say the same, up to joins.
-use Rattle.std.proofs.Common.{◌≡◌, ℕ, zero, suc, ◌-◌, ◌≤◌, ◌<◌, Bool, true, false, cond, List, [], ◌∷◌, length, Option, Some, None, is_some, Result, Ok, Err, refl, sym, ap, ◌∙◌, arith}
-use Rattle.std.specs.Prelude.{◌||◌}
+use Rattle.std.proofs.Common.{◌≡◌, ℕ, zero, suc, ◌-◌, ◌≤◌, ◌<◌, Bool, true, false, cond, List, [], ◌∷◌, length, Option, Some, None, Ok, Err, refl, ap, arith}
 use Rattle.iv_query.specs.declared.fault.Fault.{Fault}
-use Rattle.iv_query.specs.declared.token.Symbol.{Symbol}
 use Rattle.iv_query.specs.declared.token.Symbol.TheVariants.{And, As, Equal, Inner, Join, On}
-use Rattle.iv_query.specs.Tokens.{Tok, Fixed, Name, Number, Quoted, after, starts_name, first_place, unexpected, if_some}
-use Rattle.iv_query.specs.Trees.{NameTree, Called, ColumnTree, SourceTree, SourceOf, PairTree, PairOf, JoinTree, JoinOf}
-use Rattle.iv_query.specs.Grammar.{IsColumn}
-use Rattle.iv_query.specs.Rules.{First, first, IsName, name_is, NameFault, no_name, Many, ManyFault, push}
+use Rattle.iv_query.specs.Tokens.{Tok, Fixed, Name, Number, Quoted, after, first_place}
+use Rattle.iv_query.specs.Trees.{NameTree, Called, SourceTree, PairTree, JoinTree}
+use Rattle.iv_query.specs.Rules.{IsName, name_is, NameFault, no_name, push}
 use Rattle.iv_query.specs.Query.{IsAlias, as_alias, bare_alias, AliasFault, no_as_alias, no_bare_alias, starts_alias, MayAlias, some_alias, no_alias, MayAliasFault, in_alias, IsSource, source_is, long, SourceFault, no_source, one_too_many, in_source_alias, IsPair, pair_is, PairFault, no_left, no_equal, no_right, IsPairs, pairs_is, PairsFault, first_pair, later_pair, IsPlainJoin, plain_join_is, PlainJoinFault, no_join, no_join_source, no_on, no_pairs, IsJoin, inner_join, bare_join, JoinFault, in_inner_join, in_bare_join, starts_join, at_join, AreJoins, JoinsFault}
-use Rattle.iv_query.specs.Reading.{◌>>=◌, Read, need, name_at, column_at, many_at}
-use Rattle.iv_query.specs.QueryReading.{skip, alias_at, may_alias_at, source_at, pair_at, pairs_at, plain_join_at, join_at, joins_at}
-use Rattle.iv_query.proofs.Steps.{Outcome, good, bad, bind, comes, needs, needs_not, stands, skips, skips_not, first_shorter, after_first, needed, chosen, skipped, tested, weaken}
+use Rattle.iv_query.specs.Reading.{list_of, name_at, column_at}
+use Rattle.iv_query.specs.QueryReading.{alias_at, may_alias_at, source_at, pair_at, plain_join_at, join_at, joins_at}
+use Rattle.iv_query.proofs.Steps.{Outcome, good, bad, bind, comes, needs, needs_not, first_shorter, after_first, needed, skipped, tested, weaken}
 use Rattle.iv_query.proofs.ManyLaws.{Itemwise, many_judged, many_agrees, many_fault_agrees, many_consumes}
 use Rattle.iv_query.proofs.PartLaws.{no_name_at, column_judged, column_agrees, column_fault_agrees, column_consumes}
 
@@ -126,16 +123,16 @@ pair_items stop = record {
   fails = λ a ts f h. pair_fails stop h;
 }
 
-pub pairs_judged : (stop : Fault) (ts : List Tok) → Outcome (IsPairs ts) (PairsFault stop ts) (pairs_at stop ts)
-unfolding pairs_at
+pub pairs_judged : (stop : Fault) (ts : List Tok) → Outcome (IsPairs ts) (PairsFault stop ts) (list_of And (pair_at stop) ts)
+unfolding list_of
 pairs_judged stop ts = bind (pair_at stop ts) _ (pair_judged stop ts) (λ x h. weaken _ (many_judged (pair_items stop) push (length x.1) (x.0 ∷ []) x.1 (omega arith)) (λ bs us k. pairs_is h k) (λ f k. later_pair h k)) (λ f h. first_pair h)
 
-pub pairs_agrees : (stop : Fault) {ts us : List Tok} {bs : List PairTree} → IsPairs ts bs us → pairs_at stop ts ≡ Ok (bs, us)
-unfolding pairs_at
+pub pairs_agrees : (stop : Fault) {ts us : List Tok} {bs : List PairTree} → IsPairs ts bs us → list_of And (pair_at stop) ts ≡ Ok (bs, us)
+unfolding list_of
 pairs_agrees stop (pairs_is h k) = rw (pair_agrees stop h) (many_agrees (pair_items stop) push k _ (omega arith))
 
-pub pairs_fails : (stop : Fault) {ts : List Tok} {f : Fault} → PairsFault stop ts f → pairs_at stop ts ≡ Err f
-unfolding pairs_at
+pub pairs_fails : (stop : Fault) {ts : List Tok} {f : Fault} → PairsFault stop ts f → list_of And (pair_at stop) ts ≡ Err f
+unfolding list_of
 pairs_fails stop (first_pair h) = rw (pair_fails stop h) refl
 pairs_fails stop (later_pair h k) = rw (pair_agrees stop h) (many_fault_agrees (pair_items stop) push k _ (omega arith))
 
@@ -147,7 +144,7 @@ pairs_consumes stop (pairs_is h k) = omega (arith, pair_consumes h, many_consume
 pub plain_join_judged : (stop : Fault) (left : ℕ) (ts : List Tok) → Outcome (IsPlainJoin left ts) (PlainJoinFault stop left ts) (plain_join_at stop left ts)
 unfolding plain_join_at
 plain_join_judged stop left ts = needed Join stop ts _ (λ e. no_join e) (λ us e. bind (source_at stop left us) _ (source_judged stop left us)
-    (λ x h. needed On stop x.1 _ (λ o. no_on e h o) (λ vs o. bind (pairs_at stop vs) _ (pairs_judged stop vs) (λ y k. good (plain_join_is e h o k)) (λ f k. no_pairs e h o k)))
+    (λ x h. needed On stop x.1 _ (λ o. no_on e h o) (λ vs o. bind (list_of And (pair_at stop) vs) _ (pairs_judged stop vs) (λ y k. good (plain_join_is e h o k)) (λ f k. no_pairs e h o k)))
     (λ f h. no_join_source e h))
 
 pub plain_join_agrees : (stop : Fault) {left : ℕ} {ts us : List Tok} {j : JoinTree} → IsPlainJoin left ts j us → plain_join_at stop left ts ≡ Ok (j, us)

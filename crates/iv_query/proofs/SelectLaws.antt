@@ -1,19 +1,17 @@
 -- Queries: the function that reads and the grammar say the same, from items to whole queries.
-use Rattle.std.proofs.Common.{◌≡◌, ℕ, ◌+◌, ◌-◌, ◌≤◌, ◌<◌, Bool, true, false, cond, List, [], ◌∷◌, length, Option, Some, None, is_some, Result, Ok, Err, refl, sym, ap, subst, ◌∙◌, arith}
-use Rattle.std.specs.Prelude.{◌||◌}
+use Rattle.std.proofs.Common.{◌≡◌, ℕ, ◌-◌, ◌≤◌, ◌<◌, Bool, true, false, cond, List, [], ◌∷◌, length, Option, Some, None, is_some, Ok, Err, refl, ap, subst, arith}
 use Rattle.iv_query.specs.declared.fault.Fault.{Fault}
 use Rattle.iv_query.specs.declared.token.Symbol.TheVariants.{All, By, Close, Comma, Count, Distinct, Except, From, Group, Open, Select, Star, Sum, Union, Where}
 use Rattle.iv_query.specs.declared.tree.Dialect.TheVariants as dialect
 use Rattle.iv_query.specs.declared.tree.SetOp.{SetOp}
-use Rattle.iv_query.specs.declared.tree.SetOp.TheVariants as set
-use Rattle.iv_query.specs.Tokens.{Tok, after, first_place, unexpected, if_some}
-use Rattle.iv_query.specs.Trees.{NameTree, ColumnTree, PredTree, SourceTree, JoinTree, ItemTree, ItemOf, SumOf, CountOf, ListTree, StarAt, ItemsOf, SelectTree, SelectOf, QueryTree, One, Combined}
-use Rattle.iv_query.specs.Grammar.{IsColumn, ColumnFault, pred, Reads, Faults}
-use Rattle.iv_query.specs.Rules.{First, first, Many, ManyFault, push}
-use Rattle.iv_query.specs.Query.{IsItem, column_item, sum_item, count_item, ItemFault, no_item, in_item_alias, no_sum_open, no_sum_column, no_sum_close, no_sum_alias, no_count_open, no_count_star, no_count_close, no_count_alias, IsList, star_is, items_is, ListFault, first_item, later_item, HeadTree, HeadOf, IsHead, distinct_is, head_is, HeadFault, no_select, no_distinct_list, no_list, FromTree, FromOf, IsFrom, from_is, FromFault, no_from, no_first_source, in_joins, MayFilter, some_filter, no_filter, FilterFault, in_filter, MayGroup, some_group, no_group, GroupFault, no_by, first_key, later_key, IsSelect, select_is, SelectFault, in_head, in_from, in_where, in_group, IsSetOp, union_all_is, union_is, except_is, starts_set_op, at_set_op, NextTree, NextOf, IsNext, next_is, NextFault, in_next, combine, sources_of, IsQuery, query_is, IsQueryFault, first_select, later_select}
-use Rattle.iv_query.specs.Reading.{◌>>=◌, Read, need, column_at, many_at, pred_at, term_at}
-use Rattle.iv_query.specs.QueryReading.{skip, alias_at, may_alias_at, column_item_at, sum_at, count_at, item_at, items_at, list_at, head_at, source_at, joins_at, from_at, filter_at, keys_at, group_at, select_of, select_at, set_op_at, next_at, query_at}
-use Rattle.iv_query.proofs.Steps.{Outcome, good, bad, bind, comes, needs, needs_not, stands, skips, first_shorter, after_first, needed, chosen, skipped, tested, weaken}
+use Rattle.iv_query.specs.Tokens.{Tok, after, first_place, if_some}
+use Rattle.iv_query.specs.Trees.{ColumnTree, PredTree, ItemTree, ListTree, SelectTree, QueryTree, One}
+use Rattle.iv_query.specs.Grammar.{IsColumn, ColumnFault}
+use Rattle.iv_query.specs.Rules.{First, first, Many, push}
+use Rattle.iv_query.specs.Query.{IsItem, column_item, sum_item, count_item, ItemFault, no_item, in_item_alias, no_sum_open, no_sum_column, no_sum_close, no_sum_alias, no_count_open, no_count_star, no_count_close, no_count_alias, IsList, star_is, items_is, ListFault, first_item, later_item, HeadTree, HeadOf, IsHead, distinct_is, head_is, HeadFault, no_select, no_distinct_list, no_list, FromTree, FromOf, IsFrom, from_is, FromFault, no_from, no_first_source, in_joins, MayFilter, some_filter, no_filter, FilterFault, in_filter, MayGroup, some_group, no_group, GroupFault, no_by, first_key, later_key, IsSelect, select_is, SelectFault, in_head, in_from, in_where, in_group, IsSetOp, union_all_is, union_is, except_is, starts_set_op, at_set_op, NextTree, IsNext, next_is, NextFault, in_next, combine, sources_of, IsQuery, query_is, IsQueryFault, first_select, later_select}
+use Rattle.iv_query.specs.Reading.{list_of, ◌>>=◌, column_at, pred_at, term_at}
+use Rattle.iv_query.specs.QueryReading.{alias_at, may_alias_at, column_item_at, sum_at, count_at, item_at, list_at, head_at, source_at, joins_at, from_at, filter_at, group_at, select_of, select_at, set_op_at, next_at, query_at}
+use Rattle.iv_query.proofs.Steps.{Outcome, good, bind, comes, needs, needs_not, stands, first_shorter, after_first, needed, chosen, weaken}
 use Rattle.iv_query.proofs.ManyLaws.{Itemwise, many_judged, many_agrees, many_fault_agrees, many_consumes}
 use Rattle.iv_query.proofs.PartLaws.{column_judged, column_agrees, column_fault_agrees, column_consumes}
 use Rattle.iv_query.proofs.PredLaws.{pred_agreement, consumes}
@@ -83,20 +81,20 @@ item_items stop = record {
 -- ---- lists
 
 list_judged : (stop : Fault) (ts : List Tok) → Outcome (IsList ts) (ListFault stop ts) (list_at stop ts)
-unfolding list_at items_at
+unfolding list_at list_of
 list_judged stop ts = chosen Star stop ts _ _
-    (λ s. bind (items_at stop ts) _ (bind {G' = λ is us. (i : ItemTree) × (vs : List Tok) × IsItem ts i vs × Many (after Comma) (λ _. IsItem) push (i ∷ []) vs is us} {F' = ListFault stop ts} (item_at stop ts) _ (item_judged stop ts)
+    (λ s. bind (list_of Comma (item_at stop) ts) _ (bind {G' = λ is us. (i : ItemTree) × (vs : List Tok) × IsItem ts i vs × Many (after Comma) (λ _. IsItem) push (i ∷ []) vs is us} {F' = ListFault stop ts} (item_at stop ts) _ (item_judged stop ts)
     (λ x h. weaken _ (many_judged (item_items stop) push (length x.1) (x.0 ∷ []) x.1 (omega arith)) (λ is us k. (x.0, x.1, h, k)) (λ f k. later_item s h k)) (λ f h. first_item s h))
     (λ y k. good (items_is s k.2 k.3)) (λ f k. k))
     (λ us e. good (star_is e))
 
 list_agrees : (stop : Fault) {ts us : List Tok} {l : ListTree} → IsList ts l us → list_at stop ts ≡ Ok (l, us)
-unfolding list_at items_at
+unfolding list_at list_of
 list_agrees stop (star_is e) = rw (comes e, stands stop e) refl
 list_agrees stop (items_is {us = us} s h k) = let le : length us ≤ length us = omega arith in rw (s, item_agrees stop h, many_agrees (item_items stop) push k (length us) le) refl
 
 list_fails : (stop : Fault) {ts : List Tok} {f : Fault} → ListFault stop ts f → list_at stop ts ≡ Err f
-unfolding list_at items_at
+unfolding list_at list_of
 list_fails stop (first_item s h) = rw (s, item_fails stop h) refl
 list_fails stop (later_item {us = us} s h k) = let le : length us ≤ length us = omega arith in rw (s, item_agrees stop h, many_fault_agrees (item_items stop) push k (length us) le) refl
 
@@ -182,18 +180,18 @@ key_items stop = record {
 }
 
 group_judged : (stop : Fault) (ts : List Tok) → Outcome (MayGroup ts) (GroupFault stop ts) (group_at stop ts)
-unfolding group_at keys_at
+unfolding group_at list_of
 group_judged stop ts = chosen Group stop ts _ _ (λ e. good (no_group e)) (λ us e. needed By stop us _ (λ b. no_by e b) (λ vs b. bind (column_at stop vs) _ (column_judged stop vs)
     (λ x h. weaken _ (many_judged (key_items stop) push (length x.1) (x.0 ∷ []) x.1 (omega arith)) (λ cs ws k. some_group e b h k) (λ f k. later_key e b h k))
     (λ f h. first_key e b h)))
 
 group_agrees : (stop : Fault) {ts us : List Tok} {g : List ColumnTree} → MayGroup ts g us → group_at stop ts ≡ Ok (g, us)
-unfolding group_at keys_at
+unfolding group_at list_of
 group_agrees stop (some_group e b h k) = rw (comes e, needs stop b, column_agrees stop h) (many_agrees (key_items stop) push k _ (omega arith))
 group_agrees stop (no_group e) = rw e refl
 
 group_fails : (stop : Fault) {ts : List Tok} {f : Fault} → GroupFault stop ts f → group_at stop ts ≡ Err f
-unfolding group_at keys_at
+unfolding group_at list_of
 group_fails stop (no_by {us = us} e b) = rw (comes e, needs_not By us stop b) refl
 group_fails stop (first_key e b h) = rw (comes e, needs stop b, column_fault_agrees stop h) refl
 group_fails stop (later_key e b h k) = rw (comes e, needs stop b, column_agrees stop h) (many_fault_agrees (key_items stop) push k _ (omega arith))

@@ -1,5 +1,5 @@
 -- One step after the other: what comes first, and what a sequence of readers gives.
-use Rattle.std.proofs.Common.{◌≡◌, ℕ, Bool, true, false, cond, List, [], ◌∷◌, Option, Some, None, Result, Ok, Err, refl, sym, ap, subst, ◌∙◌, ◌<◌, length, arith}
+use Rattle.std.proofs.Common.{◌≡◌, ℕ, Bool, true, false, cond, List, [], ◌∷◌, Option, Some, None, Ok, Err, refl, sym, subst, ◌<◌, length, arith}
 use denote.Enum.Bare.{sameb, same_true, true_same}
 use Rattle.iv_query.specs.contracts.token.Symbol.{the_type}
 use Rattle.iv_query.specs.declared.fault.Fault.{Fault}

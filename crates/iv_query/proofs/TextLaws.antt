@@ -1,19 +1,21 @@
 -- From tokens to texts.
-use Rattle.std.proofs.Common.{◌≡◌, ℕ, ◌<◌, ◌≤◌, Bool, true, false, List, [], ◌∷◌, length, Result, Ok, Err, refl, sym, ap, subst, ◌∙◌, inl, inr, arith}
-use Rattle.std.specs.Prelude.{IfOk, IfErr}
+use Rattle.std.proofs.Common.{◌≡◌, ℕ, ◌<◌, ◌≤◌, Bool, true, false, cond, List, [], ◌∷◌, length, Result, Ok, Err, refl, sym, ap, subst, arith}
+use Rattle.std.specs.Prelude.{IfOk}
 use Rattle.iv_query.specs.declared.fault.Fault.{Fault}
 use Rattle.iv_query.specs.declared.fault.Why.TheVariants as why
 use Rattle.iv_query.specs.declared.fault.QueryFault.{QueryFault}
 use Rattle.iv_query.specs.declared.fault.QueryFault.TheVariants as faults
-use Rattle.iv_query.specs.Tokens.{Tok, unexpected}
+use Rattle.iv_query.specs.Tokens.{Tok}
 use Rattle.iv_query.specs.Answers.{Gives, Fails, IfAt}
 use Rattle.iv_query.specs.Reading.{◌>>=◌, Read, end_at, whole_at}
 use Rattle.iv_query.specs.Lexing.{Lexes}
 use Rattle.iv_query.specs.Texts.{IsText, text_is, TextFault, too_long, inside, behind, unfinished, IsOutcome, HasOneOutcome}
 use Rattle.iv_query.proofs.Steps.{Outcome, good, bad}
-use Rattle.std.proofs.lemmas.Bool.{cases_lt}
+use Rattle.std.proofs.lemmas.Bool.Decides.{nat_tests}
+use Rattle.std.specs.Prelude.{nat_lt}
 use Rattle.std.specs.Str.{IsUtf8}
-use Rattle.iv_query.proofs.Lexes.{same, lexed}
+use Rattle.iv_query.specs.TextReading.{Lexed, lexed, read_tokens, read_text}
+use Rattle.iv_query.proofs.Lexes.{same, whole_lexes}
 
 -- what a function reads is what a rule reads, and its faults are the rule's
 pub record Agreement {T : Type 0} (Reads : List Tok → T → List Tok → Type 0) (Faults : Fault → List Tok → Fault → Type 0) (read : Fault → List Tok → Read T) : Type 0 where
@@ -21,86 +23,96 @@ pub record Agreement {T : Type 0} (Reads : List Tok → T → List Tok → Type 
   pub reads : (stop : Fault) {ts us : List Tok} {t : T} → Reads ts t us → read stop ts ≡ Ok (t, us)
   pub faults : (stop : Fault) {ts : List Tok} {f : Fault} → Faults stop ts f → read stop ts ≡ Err f
 
-module _ {T : Type 0} (Reads : List Tok → T → List Tok → Type 0) (Faults : Fault → List Tok → Fault → Type 0) (read : Fault → List Tok → Read T) (agreement : Agreement Reads Faults read) (bs : List ℕ) (short : length bs ≤ 4096) where
-  abbrev Right : Result T Fault → Type 0
-  Right (Ok t) = IsText Reads bs t
-  Right (Err f) = TextFault Reads Faults bs f
+-- ---- tokens of a text that is not too long
 
-  ended : (ts us : List Tok) (stop : Fault) (ends : Bool) (t : T) → Lexes (length bs) bs ts stop ends → Reads ts t us → Right (end_at stop ends us >>= λ _. Ok t)
+module _ {T : Type 0} (R : List Tok → T → List Tok → Type 0) (F : Fault → List Tok → Fault → Type 0) (read : Fault → List Tok → Read T) (agreement : Agreement R F read) (bs : List ℕ) (short : length bs ≤ 4096) where
+  abbrev Right : Result T Fault → Type 0
+  Right = IsOutcome (IsText R) (TextFault R F) bs
+
+  ended : (ts us : List Tok) (stop : Fault) (ends : Bool) (t : T) → Lexes (length bs) bs ts stop ends → R ts t us → Right (end_at stop ends us >>= λ _. Ok t)
   unfolding end_at
   ended ts [] stop true t k h = text_is short k h
   ended ts [] stop false t k h = unfinished short k h
   ended ts (u ∷ us) stop true t k h = behind short k h
   ended ts (u ∷ us) stop false t k h = behind short k h
 
-  pub is_right : (ts : List Tok) (stop : Fault) (ends : Bool) → Lexes (length bs) bs ts stop ends → Right (whole_at (read stop) stop ends ts)
+  pub tokens_read : (l : Lexed) → Lexes (length bs) bs l.tokens l.stop l.ends → Right (read_tokens read l)
   unfolding whole_at
-  is_right ts stop ends k = go (read stop ts) (agreement.judged stop ts)
+  tokens_read l k = go (read l.stop l.tokens) (agreement.judged l.stop l.tokens)
     where
-      go : (r : Read T) → Outcome (Reads ts) (Faults stop ts) r → Right (r >>= λ x. end_at stop ends x.1 >>= λ _. Ok x.0)
-      go (Ok x) (good h) = ended ts x.1 stop ends x.0 k h
+      go : (r : Read T) → Outcome (R l.tokens) (F l.stop l.tokens) r → Right (r >>= λ x. end_at l.stop l.ends x.1 >>= λ _. Ok x.0)
+      go (Ok x) (good h) = ended l.tokens x.1 l.stop l.ends x.0 k h
       go (Err f) (bad h) = inside short k h
 
-  pub text_agrees : (ts : List Tok) (stop : Fault) (ends : Bool) (t : T) → Lexes (length bs) bs ts stop ends → IsText Reads bs t → whole_at (read stop) stop ends ts ≡ Ok t
+  pub tree_alone : (l : Lexed) (t : T) → Lexes (length bs) bs l.tokens l.stop l.ends → IsText R bs t → Ok t ≡ read_tokens read l
   unfolding whole_at end_at
-  text_agrees ts stop ends t k (text_is le l h) = same l k (λ us s e. whole_at (read s) s e us ≡ Ok t) (rw (agreement.reads _ h) refl)
+  tree_alone l t k (text_is le m h) = same m k (λ us s e. Ok t ≡ whole_at (read s) s e us) (rw (agreement.reads _ h) refl)
 
-  pub fault_agrees : (ts : List Tok) (stop : Fault) (ends : Bool) (f : Fault) → Lexes (length bs) bs ts stop ends → TextFault Reads Faults bs f → whole_at (read stop) stop ends ts ≡ Err f
+  pub fault_alone : (l : Lexed) (f : Fault) → Lexes (length bs) bs l.tokens l.stop l.ends → TextFault R F bs f → Err f ≡ read_tokens read l
   unfolding whole_at end_at
-  fault_agrees ts stop ends f k (too_long lt) = absurd (omega arith)
-  fault_agrees ts stop ends f k (inside le l h) = same l k (λ us s e. whole_at (read s) s e us ≡ Err f) (rw (agreement.faults _ h) refl)
-  fault_agrees ts stop ends f k (behind {stop = s} {ends = true} le l h) = same l k (λ us s e. whole_at (read s) s e us ≡ Err f) (rw (agreement.reads s h) refl)
-  fault_agrees ts stop ends f k (behind {stop = s} {ends = false} le l h) = same l k (λ us s e. whole_at (read s) s e us ≡ Err f) (rw (agreement.reads s h) refl)
-  fault_agrees ts stop ends f k (unfinished le l h) = same l k (λ us s e. whole_at (read s) s e us ≡ Err f) (rw (agreement.reads f h) refl)
+  fault_alone l f k (too_long lt) = absurd (omega arith)
+  fault_alone l f k (inside le m h) = same m k (λ us s e. Err f ≡ whole_at (read s) s e us) (rw (agreement.faults _ h) refl)
+  fault_alone l f k (behind {stop = s} {ends = true} le m h) = same m k (λ us s e. Err f ≡ whole_at (read s) s e us) (rw (agreement.reads s h) refl)
+  fault_alone l f k (behind {stop = s} {ends = false} le m h) = same m k (λ us s e. Err f ≡ whole_at (read s) s e us) (rw (agreement.reads s h) refl)
+  fault_alone l f k (unfinished le m h) = same m k (λ us s e. Err f ≡ whole_at (read s) s e us) (rw (agreement.reads f h) refl)
 
-  module _ {X : Type 0} (view : X → T) (ts : List Tok) (stop : Fault) (ends : Bool) (lexes : Lexes (length bs) bs ts stop ends) where
-    pub is_found : (r : Result X QueryFault) → Gives view r (whole_at (read stop) stop ends ts) → IfOk r (λ x. IsText Reads bs (view x))
-    is_found (Ok x) g = subst Right g (is_right ts stop ends lexes)
-    is_found (Err e) g = tt
+-- ---- each text
 
-    at_fault : (e : QueryFault) → Fails e (whole_at (read stop) stop ends ts) → IfAt e (TextFault Reads Faults bs)
-    at_fault faults.Memory g = tt
-    at_fault (faults.At p w) g = subst Right g (is_right ts stop ends lexes)
+module _ {T : Type 0} (R : List Tok → T → List Tok → Type 0) (F : Fault → List Tok → Fault → Type 0) (read : Fault → List Tok → Read T) (agreement : Agreement R F read) (bs : List ℕ) (u : IsUtf8 bs) where
+  abbrev by_length : Bool → Result T Fault
+  by_length b = cond b (Err (record { place = 4096; why = why.TooLong })) (read_tokens read (lexed (length bs) (length bs) bs))
 
-    pub is_fault : (r : Result X QueryFault) → Gives view r (whole_at (read stop) stop ends ts) → IfErr r (λ e. IfAt e (TextFault Reads Faults bs))
-    is_fault (Ok x) g = tt
-    is_fault (Err e) g = at_fault e g
+  pub text_read : IsOutcome (IsText R) (TextFault R F) bs (read_text read bs)
+  text_read = go (nat_lt 4096 (length bs)) refl
+    where
+      go : (b : Bool) → nat_lt 4096 (length bs) ≡ b → IsOutcome (IsText R) (TextFault R F) bs (by_length b)
+      go true h = too_long (grind (arith, nat_tests))
+      go false h =
+          let short : length bs ≤ 4096 = grind (arith, nat_tests) in
+          tokens_read R F read agreement bs short (lexed (length bs) (length bs) bs) (whole_lexes bs u)
 
-    pub is_only : (r : Result X QueryFault) → Gives view r (whole_at (read stop) stop ends ts) → (t : T) → IsText Reads bs t → Gives view r (Ok t)
-    is_only r g t h = subst (Gives view r) (text_agrees ts stop ends t lexes h) g
+  alone : (other : Result T Fault) → IsOutcome (IsText R) (TextFault R F) bs other → other ≡ read_text read bs
+  alone other h = go (nat_lt 4096 (length bs)) refl other h
+    where
+      long : 4096 < length bs → (other : Result T Fault) → IsOutcome (IsText R) (TextFault R F) bs other → other ≡ Err (record { place = 4096; why = why.TooLong })
+      long lt (Ok t) (text_is le k h) = absurd (omega arith)
+      long lt (Err f) (too_long l) = refl
+      long lt (Err f) (inside le k h) = absurd (omega arith)
+      long lt (Err f) (behind le k h) = absurd (omega arith)
+      long lt (Err f) (unfinished le k h) = absurd (omega arith)
 
-    pub is_fault_only : (r : Result X QueryFault) → Gives view r (whole_at (read stop) stop ends ts) → (f : Fault) → TextFault Reads Faults bs f → Gives view r (Err f)
-    is_fault_only r g f h = subst (Gives view r) (fault_agrees ts stop ends f lexes h) g
+      short : length bs ≤ 4096 → (other : Result T Fault) → IsOutcome (IsText R) (TextFault R F) bs other → other ≡ read_tokens read (lexed (length bs) (length bs) bs)
+      short le (Ok t) h = tree_alone R F read agreement bs le (lexed (length bs) (length bs) bs) t (whole_lexes bs u) h
+      short le (Err f) h = fault_alone R F read agreement bs le (lexed (length bs) (length bs) bs) f (whole_lexes bs u) h
 
--- a long text has its fault alone
-pub long_fault : {T : Type 0} (Reads : List Tok → T → List Tok → Type 0) (Faults : Fault → List Tok → Fault → Type 0) (bs : List ℕ) (e : QueryFault) → IfAt e (λ f. 4096 < length bs) → IfAt e (λ f. f ≡ record { place = 4096; why = why.TooLong }) → IfAt e (TextFault Reads Faults bs)
-long_fault R F bs faults.Memory lt is = tt
-long_fault R F bs (faults.At p w) lt is = subst (TextFault R F bs) (sym is) (too_long lt)
+      go : (b : Bool) → nat_lt 4096 (length bs) ≡ b → (other : Result T Fault) → IsOutcome (IsText R) (TextFault R F) bs other → other ≡ by_length b
+      go true e = long (grind (arith, nat_tests))
+      go false e = short (grind (arith, nat_tests))
 
--- ---- exactly one of tree and fault
+  pub one_outcome : HasOneOutcome (IsText R) (TextFault R F) bs
+  one_outcome = record { outcome = read_text read bs; holds = text_read; alone = alone }
 
-long_alone : {T : Type 0} (Reads : List Tok → T → List Tok → Type 0) (Faults : Fault → List Tok → Fault → Type 0) (bs : List ℕ) → 4096 < length bs → (other : Result T Fault) → IsOutcome (IsText Reads) (TextFault Reads Faults) bs other → other ≡ Err (record { place = 4096; why = why.TooLong })
-long_alone R F bs lt (Ok t) (text_is le k h) = absurd (omega arith)
-long_alone R F bs lt (Err f) (too_long l) = refl
-long_alone R F bs lt (Err f) (inside le k h) = absurd (omega arith)
-long_alone R F bs lt (Err f) (behind le k h) = absurd (omega arith)
-long_alone R F bs lt (Err f) (unfinished le k h) = absurd (omega arith)
+-- ---- what a function answers
 
-pub one_outcome : {T : Type 0} (Reads : List Tok → T → List Tok → Type 0) (Faults : Fault → List Tok → Fault → Type 0) (read : Fault → List Tok → Read T) → Agreement Reads Faults read → (bs : List ℕ) → IsUtf8 bs → HasOneOutcome (IsText Reads) (TextFault Reads Faults) bs
-one_outcome {T} R F read agreement bs u = elim (cases_lt 4096 (length bs)) [
-  | inl lt ↦ record { outcome = Err (record { place = 4096; why = why.TooLong }); holds = too_long lt; alone = long_alone R F bs lt }
-  | inr le ↦
-      let l = lexed (length bs) (length bs) bs (omega arith) u in
-      record { outcome = whole_at (read l.1) l.1 l.2 l.0; holds = right le l.0 l.1 l.2 l.3; alone = alone le l.0 l.1 l.2 l.3 }
-]
-  where
-    outcome_of : (r : Result T Fault) (short : length bs ≤ 4096) → Right R F read agreement bs short r → IsOutcome (IsText R) (TextFault R F) bs r
-    outcome_of (Ok t) short h = h
-    outcome_of (Err f) short h = h
+module _ {T X : Type 0} (read : Fault → List Tok → Read T) (bs : List ℕ) (view : X → T) where
+  -- tokens that are the text's give what the text gives
+  pub gives_text : (l : Lexed) (r : Result X QueryFault) → length bs ≤ 4096 → l ≡ lexed (length bs) (length bs) bs → Gives view r (read_tokens read l) → Gives view r (read_text read bs)
+  gives_text l r le e g = go (nat_lt 4096 (length bs)) refl
+    where
+      go : (b : Bool) → nat_lt 4096 (length bs) ≡ b → Gives view r (cond b (Err (record { place = 4096; why = why.TooLong })) (read_tokens read (lexed (length bs) (length bs) bs)))
+      go true h = absurd (grind (arith, nat_tests))
+      go false h = subst (λ (m : Lexed). Gives view r (read_tokens read m)) e g
 
-    right : (short : length bs ≤ 4096) (ts : List Tok) (stop : Fault) (ends : Bool) → Lexes (length bs) bs ts stop ends → IsOutcome (IsText R) (TextFault R F) bs (whole_at (read stop) stop ends ts)
-    right short ts stop ends k = outcome_of (whole_at (read stop) stop ends ts) short (is_right R F read agreement bs short ts stop ends k)
+  -- a long text has its fault alone
+  pub gives_long : (e : QueryFault) → IfAt e (λ f. 4096 < length bs) → IfAt e (λ f. f ≡ record { place = 4096; why = why.TooLong }) → Fails e (read_text read bs)
+  gives_long faults.Memory lt is = tt
+  gives_long (faults.At p w) lt is = go (nat_lt 4096 (length bs)) refl
+    where
+      go : (b : Bool) → nat_lt 4096 (length bs) ≡ b → cond b (Err (record { place = 4096; why = why.TooLong })) (read_tokens read (lexed (length bs) (length bs) bs)) ≡ Err (record { place = p; why = w })
+      go true h = ap Err (sym is)
+      go false h = absurd (grind (arith, nat_tests))
 
-    alone : (short : length bs ≤ 4096) (ts : List Tok) (stop : Fault) (ends : Bool) → Lexes (length bs) bs ts stop ends → (other : Result T Fault) → IsOutcome (IsText R) (TextFault R F) bs other → other ≡ whole_at (read stop) stop ends ts
-    alone short ts stop ends k (Ok t) h = sym (text_agrees R F read agreement bs short ts stop ends t k h)
-    alone short ts stop ends k (Err f) h = sym (fault_agrees R F read agreement bs short ts stop ends f k h)
+-- what is read is the text's
+pub found : {T X : Type 0} (Is : List ℕ → T → Type 0) (Has : List ℕ → Fault → Type 0) (bs : List ℕ) (view : X → T) (r : Result X QueryFault) (o : Result T Fault) → Gives view r o → IsOutcome Is Has bs o → IfOk r (λ x. Is bs (view x))
+found Is Has bs view (Ok x) o g h = subst (IsOutcome Is Has bs) g h
+found Is Has bs view (Err e) o g h = tt

@@ -1,22 +1,20 @@
 -- Each tree that is read keeps the rules.
-use Rattle.std.proofs.Common.{◌≡◌, ℕ, ◌+◌, ◌-◌, ◌≤◌, ◌<◌, Bool, true, false, cond, List, [], ◌∷◌, length, Option, Some, None, Result, Ok, Err, refl, sym, ap, subst, ◌∙◌, arith}
-use Rattle.std.specs.Prelude.{IsTrue, IfSome, IfOk, All}
+use Rattle.std.proofs.Common.{◌≡◌, ℕ, ◌-◌, ◌≤◌, ◌<◌, Bool, true, false, cond, List, [], ◌∷◌, length, Option, Some, None, refl, subst, arith}
+use Rattle.std.specs.Prelude.{IsTrue, IfSome, All}
 use Rattle.std.proofs.lemmas.List.{length_push}
 use Rattle.std.proofs.lemmas.List.Elements.{All-nil, All-push}
-use Rattle.iv_rows.specs.Cell.{num, text, flag}
 use Rattle.iv_rows.specs.Names.{is_name}
-use Rattle.iv_rows.specs.Texts.{is_well_text, is_well_cell}
-use Rattle.iv_query.specs.declared.fault.Fault.{Fault}
+use Rattle.iv_rows.specs.Texts.{is_well_text}
 use Rattle.iv_query.specs.declared.token.Symbol.{Symbol}
 use Rattle.iv_query.specs.declared.token.Symbol.TheVariants as symbol
 use Rattle.iv_query.specs.declared.tree.SetOp.{SetOp}
 use Rattle.iv_query.specs.declared.tree.Dialect.{Dialect}
 use Rattle.iv_query.specs.declared.tree.Dialect.TheVariants.{Query, Policy}
-use Rattle.iv_query.specs.Tokens.{Tok, Fixed, Name, Number, Quoted, after, if_some}
-use Rattle.iv_query.specs.Trees.{NameTree, Called, ColumnTree, ColumnAt, OperandTree, OfColumn, Literal, CurrentUser, PredTree, Either, Both, Negation, Constant, Comparison, SourceTree, SourceOf, PairTree, PairOf, JoinTree, JoinOf, ItemTree, ItemOf, SumOf, CountOf, ListTree, StarAt, ItemsOf, SelectTree, SelectOf, QueryTree, One, Combined}
+use Rattle.iv_query.specs.Tokens.{Tok, Fixed, Name, Number, Quoted, after}
+use Rattle.iv_query.specs.Trees.{NameTree, ColumnTree, OperandTree, PredTree, SourceTree, PairTree, JoinTree, ItemTree, ListTree, SelectTree, QueryTree}
 use Rattle.iv_query.specs.Grammar.{IsColumn, plain, dotted, IsOperand, column_is, name_is as name_operand, number_is, text_is as text_operand, true_is, false_is, user_is, Part, pred, conj, term, ors, ands, Reads, pred_is, ors_end, ors_more, conj_is, ands_end, ands_more, not_is, group_is, holds_is, fails_is, comparison_is}
 use Rattle.iv_query.specs.Rules.{First, first, IsName, name_is, Many, many_end, many_more, push}
-use Rattle.iv_query.specs.Query.{IsAlias, as_alias, bare_alias, MayAlias, some_alias, no_alias, IsSource, source_is, IsPair, pair_is, IsPairs, pairs_is, IsPlainJoin, plain_join_is, IsJoin, inner_join, bare_join, starts_join, at_join, AreJoins, IsItem, column_item, sum_item, count_item, IsList, star_is, items_is, HeadTree, HeadOf, IsHead, distinct_is, head_is, FromTree, FromOf, IsFrom, from_is, MayFilter, some_filter, no_filter, MayGroup, some_group, no_group, IsSelect, select_is, IsSetOp, union_all_is, union_is, except_is, starts_set_op, at_set_op, NextTree, NextOf, IsNext, next_is, combine, sources_in, sources_of, IsQuery, query_is}
+use Rattle.iv_query.specs.Query.{IsAlias, as_alias, bare_alias, MayAlias, some_alias, no_alias, IsSource, source_is, IsPair, pair_is, IsPairs, pairs_is, IsPlainJoin, plain_join_is, IsJoin, inner_join, bare_join, starts_join, AreJoins, IsItem, column_item, sum_item, count_item, IsList, star_is, items_is, HeadTree, HeadOf, IsHead, distinct_is, head_is, FromTree, FromOf, IsFrom, from_is, MayFilter, some_filter, no_filter, MayGroup, some_group, no_group, IsSelect, select_is, IsSetOp, union_all_is, union_is, except_is, starts_set_op, NextTree, IsNext, next_is, combine, sources_in, sources_of, IsQuery, query_is}
 use Rattle.iv_query.specs.Well.{IsWellName, IsWellColumn, IsWellOperand, IsWellPred, IsWellSource, IsWellPair, IsWellJoin, IsWellItem, IsWellList, IsWellSelect, IsWellQuery}
 use Rattle.iv_query.proofs.Steps.{after_first}
 

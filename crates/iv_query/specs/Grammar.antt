@@ -1,5 +1,5 @@
 -- The grammar of predicates: which trees a list of tokens has, and which fault a list without one has.
-use Rattle.std.specs.Prelude.{◌≡◌, ℕ, zero, suc, ℤ, Bool, true, false, List, [], ◌∷◌, Option, Some, None}
+use Rattle.std.specs.Prelude.{◌≡◌, ℕ, suc, ℤ, Bool, true, false, List, [], ◌∷◌, Some, None}
 use Rattle.iv_rows.specs.Cell.{num, text, flag}
 use Rattle.iv_query.specs.declared.fault.Fault.{Fault}
 use Rattle.iv_query.specs.declared.token.Symbol.{Symbol}

@@ -6,6 +6,7 @@ use Rattle.std.specs.Str.{bytes_eq}
 use Rattle.std.specs.Str.Parse.{digits_value}
 use Rattle.iv_rows.specs.Names.{is_name}
 use Rattle.iv_rows.specs.Texts.{is_well_text}
+use Rattle.iv_query.specs.Limits.{word_bytes}
 use Rattle.iv_query.specs.declared.fault.Fault.{Fault}
 use Rattle.iv_query.specs.declared.fault.Why.TheVariants as why
 use Rattle.iv_query.specs.declared.token.Symbol.{Symbol}
@@ -69,7 +70,7 @@ word_token w = if_some (word_symbol w) (if is_name w then Name w else Fixed symb
 -- a letter and the letters and digits after it, at most 63 bytes
 unfoldable pub word_at : List ℕ → Ahead
 word_at bs = let n = prefix_len is_word_byte bs in
-    if nat_lt 63 n then Nothing else Token (word_token (map to_ascii_lowercase (take n bs))) (drop n bs)
+    if nat_lt word_bytes n then Nothing else Token (word_token (map to_ascii_lowercase (take n bs))) (drop n bs)
 
 -- the signs that may go on
 abbrev pub less_at : List ℕ → Ahead

@@ -1,3 +1,4 @@
+pub mod Limits
 pub mod Tokens
 pub mod Trees
 pub mod Answers
@@ -8,4 +9,5 @@ pub mod Query
 pub mod QueryReading
 pub mod Lexing
 pub mod Texts
+pub mod TextReading
 pub mod Well

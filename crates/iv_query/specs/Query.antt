@@ -1,5 +1,6 @@
 -- The grammar of queries: which trees a list of tokens has, and which fault a list without one has.
-use Rattle.std.specs.Prelude.{◌≡◌, ℕ, zero, suc, ◌+◌, ◌-◌, Bool, true, false, ◌||◌, if◌then◌else◌, List, [], ◌∷◌, length, Option, Some, None, is_some}
+use Rattle.std.specs.Prelude.{◌≡◌, ℕ, suc, ◌+◌, ◌-◌, Bool, true, false, ◌||◌, if◌then◌else◌, List, [], ◌∷◌, length, Option, Some, None, is_some}
+use Rattle.iv_query.specs.Limits.{nesting, sources}
 use Rattle.iv_query.specs.declared.fault.Fault.{Fault}
 use Rattle.iv_query.specs.declared.fault.Why.TheVariants as why
 use Rattle.iv_query.specs.declared.token.Symbol.TheVariants.{All, And, As, By, Close, Comma, Count, Distinct, Equal, Except, From, Group, Inner, Join, On, Open, Select, Star, Sum, Union, Where}
@@ -148,11 +149,11 @@ pub data FromFault (stop : Fault) : ℕ → List Tok → Fault → Type 0 where
 
 -- [ "where" pred ]
 pub data MayFilter : List Tok → Option PredTree → List Tok → Type 0 where
-  some_filter : {p : ℕ} {ts us vs : List Tok} {t : PredTree} → First Where p ts us → Reads dialect.Query pred 32 us t vs → MayFilter ts (Some t) vs
+  some_filter : {p : ℕ} {ts us vs : List Tok} {t : PredTree} → First Where p ts us → Reads dialect.Query pred nesting us t vs → MayFilter ts (Some t) vs
   no_filter : {ts : List Tok} → after Where ts ≡ None → MayFilter ts None ts
 
 pub data FilterFault (stop : Fault) : List Tok → Fault → Type 0 where
-  in_filter : {p : ℕ} {ts us : List Tok} {f : Fault} → First Where p ts us → Faults stop dialect.Query pred 32 us f → FilterFault stop ts f
+  in_filter : {p : ℕ} {ts us : List Tok} {f : Fault} → First Where p ts us → Faults stop dialect.Query pred nesting us f → FilterFault stop ts f
 
 -- [ "group" "by" column { "," column } ]
 pub data MayGroup : List Tok → List ColumnTree → List Tok → Type 0 where
@@ -211,8 +212,8 @@ sources_of (Combined q o s) = sources_of q + sources_in s
 
 -- query = select { ( "union" [ "all" ] | "except" ) select }, grouped from the left, with at most eight sources
 pub data IsQuery : List Tok → QueryTree → List Tok → Type 0 where
-  query_is : {ts us vs : List Tok} {s : SelectTree} {t : QueryTree} → IsSelect 8 ts s us → Many at_set_op (λ q. IsNext (8 - sources_of q)) combine (One s) us t vs → IsQuery ts t vs
+  query_is : {ts us vs : List Tok} {s : SelectTree} {t : QueryTree} → IsSelect sources ts s us → Many at_set_op (λ q. IsNext (sources - sources_of q)) combine (One s) us t vs → IsQuery ts t vs
 
 pub data IsQueryFault (stop : Fault) : List Tok → Fault → Type 0 where
-  first_select : {ts : List Tok} {f : Fault} → SelectFault stop 8 ts f → IsQueryFault stop ts f
-  later_select : {ts us : List Tok} {s : SelectTree} {f : Fault} → IsSelect 8 ts s us → ManyFault at_set_op (λ q. IsNext (8 - sources_of q)) (λ q. NextFault stop (8 - sources_of q)) combine (One s) us f → IsQueryFault stop ts f
+  first_select : {ts : List Tok} {f : Fault} → SelectFault stop sources ts f → IsQueryFault stop ts f
+  later_select : {ts us : List Tok} {s : SelectTree} {f : Fault} → IsSelect sources ts s us → ManyFault at_set_op (λ q. IsNext (sources - sources_of q)) (λ q. NextFault stop (sources - sources_of q)) combine (One s) us f → IsQueryFault stop ts f

@@ -1,16 +1,17 @@
 -- Reading queries from left to right, with the first fault that is met.
-use Rattle.std.specs.Prelude.{ℕ, zero, suc, ◌+◌, ◌-◌, Bool, true, false, if◌then◌else◌, List, [], ◌∷◌, length, Option, Some, None, is_some, Result, Ok, Err}
+use Rattle.std.specs.Prelude.{ℕ, zero, suc, ◌-◌, if◌then◌else◌, List, [], length, Option, Some, None, is_some, Ok, Err}
+use Rattle.iv_query.specs.Limits.{nesting, sources}
 use Rattle.iv_query.specs.declared.fault.Fault.{Fault}
 use Rattle.iv_query.specs.declared.token.Symbol.{Symbol}
 use Rattle.iv_query.specs.declared.token.Symbol.TheVariants.{All, And, As, By, Close, Comma, Count, Distinct, Equal, Except, From, Group, Inner, Join, On, Open, Select, Star, Sum, Union, Where}
 use Rattle.iv_query.specs.declared.tree.Dialect.TheVariants as dialect
 use Rattle.iv_query.specs.declared.tree.SetOp.{SetOp}
 use Rattle.iv_query.specs.declared.tree.SetOp.TheVariants as set
-use Rattle.iv_query.specs.Tokens.{Tok, after, first_place, unexpected, if_some}
+use Rattle.iv_query.specs.Tokens.{Tok, after, first_place, if_some}
 use Rattle.iv_query.specs.Trees.{NameTree, ColumnTree, PredTree, SourceTree, SourceOf, PairTree, PairOf, JoinTree, JoinOf, ItemTree, ItemOf, SumOf, CountOf, ListTree, StarAt, ItemsOf, SelectTree, SelectOf, QueryTree, One}
 use Rattle.iv_query.specs.Rules.{push}
 use Rattle.iv_query.specs.Query.{starts_alias, long, at_join, HeadTree, HeadOf, FromTree, FromOf, at_set_op, NextTree, NextOf, combine, sources_of}
-use Rattle.iv_query.specs.Reading.{◌>>=◌, Read, need, name_at, column_at, many_at, pred_at, term_at}
+use Rattle.iv_query.specs.Reading.{◌>>=◌, Read, need, name_at, column_at, many_at, list_of, pred_at, term_at}
 
 -- what stands behind the symbol if it comes first, else all
 abbrev pub skip : Symbol → List Tok → List Tok
@@ -29,11 +30,8 @@ source_at stop (suc left) ts = name_at stop ts >>= λ x. may_alias_at stop x.1 >
 unfoldable pub pair_at : Fault → List Tok → Read PairTree
 pair_at stop ts = column_at stop ts >>= λ x. need Equal stop x.1 >>= λ us. column_at stop us >>= λ y. Ok (PairOf x.0 y.0, y.1)
 
-unfoldable pub pairs_at : Fault → List Tok → Read (List PairTree)
-pairs_at stop ts = pair_at stop ts >>= λ x. many_at (after And) (λ _. pair_at stop) push (length x.1) (x.0 ∷ []) x.1
-
 unfoldable pub plain_join_at : Fault → ℕ → List Tok → Read JoinTree
-plain_join_at stop left ts = need Join stop ts >>= λ us. source_at stop left us >>= λ x. need On stop x.1 >>= λ vs. pairs_at stop vs >>= λ y. Ok (JoinOf x.0 y.0, y.1)
+plain_join_at stop left ts = need Join stop ts >>= λ us. source_at stop left us >>= λ x. need On stop x.1 >>= λ vs. list_of And (pair_at stop) vs >>= λ y. Ok (JoinOf x.0 y.0, y.1)
 
 unfoldable pub join_at : Fault → ℕ → List Tok → Read JoinTree
 join_at stop left ts = plain_join_at stop left (skip Inner ts)
@@ -54,11 +52,8 @@ count_at stop p ts = need Open stop ts >>= λ us. need Star stop us >>= λ vs. n
 unfoldable pub item_at : Fault → List Tok → Read ItemTree
 item_at stop ts = if_some (after Sum ts) (if_some (after Count ts) (column_item_at stop ts) (λ us. count_at stop (first_place stop ts) us)) (λ us. sum_at stop (first_place stop ts) us)
 
-unfoldable pub items_at : Fault → List Tok → Read (List ItemTree)
-items_at stop ts = item_at stop ts >>= λ x. many_at (after Comma) (λ _. item_at stop) push (length x.1) (x.0 ∷ []) x.1
-
 unfoldable pub list_at : Fault → List Tok → Read ListTree
-list_at stop ts = if_some (after Star ts) (items_at stop ts >>= λ x. Ok (ItemsOf x.0, x.1)) (λ us. Ok (StarAt (first_place stop ts), us))
+list_at stop ts = if_some (after Star ts) (list_of Comma (item_at stop) ts >>= λ x. Ok (ItemsOf x.0, x.1)) (λ us. Ok (StarAt (first_place stop ts), us))
 
 unfoldable pub head_at : Fault → List Tok → Read HeadTree
 head_at stop ts = need Select stop ts >>= λ us. list_at stop (skip Distinct us) >>= λ x. Ok (HeadOf (first_place stop ts) (is_some (after Distinct us)) x.0, x.1)
@@ -67,13 +62,10 @@ unfoldable pub from_at : Fault → ℕ → List Tok → Read FromTree
 from_at stop left ts = need From stop ts >>= λ us. source_at stop left us >>= λ x. joins_at stop (left - 1) x.1 >>= λ y. Ok (FromOf x.0 y.0, y.1)
 
 unfoldable pub filter_at : Fault → List Tok → Read (Option PredTree)
-filter_at stop ts = if_some (after Where ts) (Ok (None, ts)) (λ us. pred_at (term_at dialect.Query stop 32) us >>= λ x. Ok (Some x.0, x.1))
-
-unfoldable pub keys_at : Fault → List Tok → Read (List ColumnTree)
-keys_at stop ts = column_at stop ts >>= λ x. many_at (after Comma) (λ _. column_at stop) push (length x.1) (x.0 ∷ []) x.1
+filter_at stop ts = if_some (after Where ts) (Ok (None, ts)) (λ us. pred_at (term_at dialect.Query stop nesting) us >>= λ x. Ok (Some x.0, x.1))
 
 unfoldable pub group_at : Fault → List Tok → Read (List ColumnTree)
-group_at stop ts = if_some (after Group ts) (Ok ([], ts)) (λ us. need By stop us >>= λ vs. keys_at stop vs)
+group_at stop ts = if_some (after Group ts) (Ok ([], ts)) (λ us. need By stop us >>= λ vs. list_of Comma (column_at stop) vs)
 
 abbrev pub select_of : HeadTree → FromTree → Option PredTree → List ColumnTree → SelectTree
 select_of (HeadOf p d l) (FromOf s js) w g = SelectOf p d l s js w g
@@ -88,4 +80,4 @@ unfoldable pub next_at : Fault → ℕ → List Tok → Read NextTree
 next_at stop left ts = set_op_at stop ts >>= λ o. select_at stop left o.1 >>= λ s. Ok (NextOf o.0 s.0, s.1)
 
 unfoldable pub query_at : Fault → List Tok → Read QueryTree
-query_at stop ts = select_at stop 8 ts >>= λ x. many_at at_set_op (λ q. next_at stop (8 - sources_of q)) combine (length x.1) (One x.0) x.1
+query_at stop ts = select_at stop sources ts >>= λ x. many_at at_set_op (λ q. next_at stop (sources - sources_of q)) combine (length x.1) (One x.0) x.1

@@ -1,5 +1,5 @@
 -- Reading from left to right, with the first fault that is met.
-use Rattle.std.specs.Prelude.{◌≡◌, ℕ, zero, suc, Bool, true, false, List, [], ◌∷◌, length, Option, Some, None, Result, Ok, Err}
+use Rattle.std.specs.Prelude.{ℕ, zero, suc, Bool, true, false, List, [], ◌∷◌, length, Option, Some, None, Result, Ok, Err}
 use Rattle.iv_rows.specs.Cell.{num, text, flag}
 use Rattle.iv_query.specs.declared.fault.Fault.{Fault}
 use Rattle.iv_query.specs.declared.token.Symbol.{Symbol}
@@ -7,6 +7,7 @@ use Rattle.iv_query.specs.declared.token.Symbol.TheVariants as symbol
 use Rattle.iv_query.specs.declared.tree.Dialect.{Dialect}
 use Rattle.iv_query.specs.declared.tree.Dialect.TheVariants as dialect
 use Rattle.iv_query.specs.Tokens.{Tok, Fixed, Name, Number, Quoted, after, first_place, unexpected, deep, if_some, after_op}
+use Rattle.iv_query.specs.Rules.{push}
 use Rattle.iv_query.specs.Trees.{NameTree, Called, ColumnTree, ColumnAt, OperandTree, OfColumn, Literal, CurrentUser, PredTree, Either, Both, Negation, Constant, Comparison}
 
 infixl 10 ◌>>=◌
@@ -68,6 +69,10 @@ comparison_at d stop ts = operand_at d stop ts >>= λ x. if_some (after_op x.1)
 unfoldable pub many_at : {A B : Type 0} → (List Tok → Option (List Tok)) → (A → List Tok → Read B) → (A → B → A) → ℕ → A → List Tok → Read A
 many_at sign item join zero a ts = Ok (a, ts)
 many_at sign item join (suc n) a ts = if_some (sign ts) (Ok (a, ts)) (λ us. item a us >>= λ x. many_at sign item join n (join a x.0) x.1)
+
+-- item { sign item }
+unfoldable pub list_of : {B : Type 0} → Symbol → (List Tok → Read B) → List Tok → Read (List B)
+list_of sign item ts = item ts >>= λ x. many_at (after sign) (λ _. item) push (length x.1) (x.0 ∷ []) x.1
 
 unfoldable pub conj_at : (List Tok → Read PredTree) → List Tok → Read PredTree
 conj_at term ts = term ts >>= λ x. many_at (after symbol.And) (λ _. term) Both (length x.1) x.0 x.1

@@ -1,5 +1,6 @@
 -- Which trees a text has, and which fault a text without one has.
 use Rattle.std.specs.Prelude.{◌≡◌, ℕ, ◌<◌, ◌≤◌, Bool, true, false, List, [], ◌∷◌, length, Result, Ok, Err}
+use Rattle.iv_query.specs.Limits.{text_bytes, nesting}
 use Rattle.iv_query.specs.declared.fault.Fault.{Fault}
 use Rattle.iv_query.specs.declared.fault.Why.TheVariants as why
 use Rattle.iv_query.specs.declared.tree.Dialect.TheVariants.{Policy}
@@ -11,21 +12,21 @@ use Rattle.iv_query.specs.Lexing.{Lexes}
 
 -- A text of at most 4,096 bytes is tokens that a rule reads, and nothing else.
 pub data IsText {T : Type 0} (Reads : List Tok → T → List Tok → Type 0) : List ℕ → T → Type 0 where
-  text_is : {bs : List ℕ} {ts : List Tok} {stop : Fault} {t : T} → length bs ≤ 4096 → Lexes (length bs) bs ts stop true → Reads ts t [] → IsText Reads bs t
+  text_is : {bs : List ℕ} {ts : List Tok} {stop : Fault} {t : T} → length bs ≤ text_bytes → Lexes (length bs) bs ts stop true → Reads ts t [] → IsText Reads bs t
 
 -- A text is too long; or a rule has a fault in its tokens; or a token, or a place where no token stands, comes behind what a rule reads.
 pub data TextFault {T : Type 0} (Reads : List Tok → T → List Tok → Type 0) (Faults : Fault → List Tok → Fault → Type 0) : List ℕ → Fault → Type 0 where
-  too_long : {bs : List ℕ} → 4096 < length bs → TextFault Reads Faults bs (record { place = 4096; why = why.TooLong })
-  inside : {bs : List ℕ} {ts : List Tok} {stop f : Fault} {ends : Bool} → length bs ≤ 4096 → Lexes (length bs) bs ts stop ends → Faults stop ts f → TextFault Reads Faults bs f
-  behind : {bs : List ℕ} {ts us : List Tok} {u : Tok} {stop : Fault} {ends : Bool} {t : T} → length bs ≤ 4096 → Lexes (length bs) bs ts stop ends → Reads ts t (u ∷ us) → TextFault Reads Faults bs (unexpected stop (u ∷ us))
-  unfinished : {bs : List ℕ} {ts : List Tok} {stop : Fault} {t : T} → length bs ≤ 4096 → Lexes (length bs) bs ts stop false → Reads ts t [] → TextFault Reads Faults bs stop
+  too_long : {bs : List ℕ} → text_bytes < length bs → TextFault Reads Faults bs (record { place = text_bytes; why = why.TooLong })
+  inside : {bs : List ℕ} {ts : List Tok} {stop f : Fault} {ends : Bool} → length bs ≤ text_bytes → Lexes (length bs) bs ts stop ends → Faults stop ts f → TextFault Reads Faults bs f
+  behind : {bs : List ℕ} {ts us : List Tok} {u : Tok} {stop : Fault} {ends : Bool} {t : T} → length bs ≤ text_bytes → Lexes (length bs) bs ts stop ends → Reads ts t (u ∷ us) → TextFault Reads Faults bs (unexpected stop (u ∷ us))
+  unfinished : {bs : List ℕ} {ts : List Tok} {stop : Fault} {t : T} → length bs ≤ text_bytes → Lexes (length bs) bs ts stop false → Reads ts t [] → TextFault Reads Faults bs stop
 
 -- policy text = pred, with nesting of at most 32
 abbrev pub IsPredText : List ℕ → PredTree → Type 0
-IsPredText = IsText (Reads Policy pred 32)
+IsPredText = IsText (Reads Policy pred nesting)
 
 abbrev pub HasPredFault : List ℕ → Fault → Type 0
-HasPredFault = TextFault (Reads Policy pred 32) (λ stop. Faults stop Policy pred 32)
+HasPredFault = TextFault (Reads Policy pred nesting) (λ stop. Faults stop Policy pred nesting)
 
 -- view text = query
 abbrev pub IsQueryText : List ℕ → QueryTree → Type 0

@@ -1,5 +1,5 @@
 -- Trees without where they lie in memory.
-use Rattle.std.specs.Prelude.{ℕ, ℤ, Bool, List, map, Option, option_map, string_bytes}
+use Rattle.std.specs.Prelude.{ℕ, Bool, List, map, Option, option_map, string_bytes}
 use Rattle.iv_rows.specs.Cell.{Cell}
 use Rattle.iv_rows.specs.View.{cell_of}
 use Rattle.iv_query.specs.declared.tree.Op.{Op}

@@ -2,7 +2,14 @@
 
 ghost use Rattle.std.specs.Prelude.{ℕ, List};
 ghost use Rattle.std.specs.Str.{IsUtf8};
-ghost use Rattle.iv_query.specs.Texts.{IsPredText, HasPredFault, IsQueryText, HasQueryFault, HasOneOutcome};
+ghost use Rattle.iv_query.specs.Texts.{IsPredText, HasPredFault, IsQueryText, HasQueryFault, IsOutcome, HasOneOutcome};
+ghost use Rattle.iv_query.specs.TextReading.{read_pred, read_query};
+
+/// What a text is read as from left to right is a tree that the grammar has for it, or a fault that it has by the grammar.
+pub fn texts_are_read()
+    ensures query { (bs : List ℕ) → IsUtf8 bs → IsOutcome IsQueryText HasQueryFault bs (read_query bs) }
+    ensures pred { (bs : List ℕ) → IsUtf8 bs → IsOutcome IsPredText HasPredFault bs (read_pred bs) }
+{}
 
 /// Each text is a query with one tree, or has one fault, and not both.
 pub fn each_query_text_has_one_outcome()

@@ -4,10 +4,12 @@ ghost use Rattle.std.specs.Prelude.{◌≡◌, ◌==◌, ◌<◌, ◌∷◌, len
 ghost use Rattle.std.specs.Char.{is_ascii_digit};
 ghost use Rattle.std.specs.List.{list_any, prefix_len};
 ghost use Rattle.iv_rows.specs.Texts.{is_well_text};
-ghost use Rattle.iv_query.specs.Tokens.{toks, tok_of};
-ghost use Rattle.iv_query.specs.Lexing.{is_blank, is_letter, is_word_byte, starts_letter, starts_digit, ahead_of, word_symbol, word_token, word_at, sign_at, number_at, negative_at, minus_at, is_plain, after_quote, quoted, text_at, ahead, Lexes};
+ghost use Rattle.iv_query.specs.Tokens.{tok_of};
+ghost use Rattle.iv_query.specs.Lexing.{is_blank, is_letter, is_word_byte, starts_letter, starts_digit, ahead_of, word_symbol, word_token, word_at, sign_at, number_at, negative_at, minus_at, is_plain, after_quote, quoted, text_at, ahead};
+ghost use Rattle.iv_query.specs.TextReading.{lexed, tokens_lexed};
 
 use crate::fault::{Fault, Why};
+use crate::limits::{VALUE_BYTES, WORD_BYTES};
 use crate::token::{Lexeme, Symbol, Token};
 use iv_rows::name_ok;
 use std::alloc::{AllocError, Global};
@@ -112,7 +114,7 @@ fn word(alloc: Global, text: &str) -> Result<Front<'_>, AllocError>
     ensures { IfOk result (λ f. ahead_of f ≡ word_at text.now) }
 {
     let n = word_len(text.as_bytes());
-    if n > 63 {
+    if n > WORD_BYTES {
         return Ok(Front::Nothing);
     }
     let (word, rest) = text.split_at(n);
@@ -238,7 +240,7 @@ fn has_zero(text: &str) -> bool
 fn is_well_text(text: &str) -> bool
     ensures { result ≡ is_well_text text.now }
 {
-    if text.len() > 1024 {
+    if text.len() > VALUE_BYTES {
         return false;
     }
     !has_zero(text)
@@ -304,8 +306,8 @@ pub struct Tokens {
     pub ends: bool,
 }
 
-pub fn read_text(alloc: Global, text: &str) -> Result<Tokens, AllocError>
-    ensures { IfOk result (λ t. Lexes (length text.now) text.now (toks t.list.items) t.stop t.ends) }
+pub fn lexed(alloc: Global, text: &str) -> Result<Tokens, AllocError>
+    ensures { IfOk result (λ t. tokens_lexed t ≡ lexed (length text.now) (length text.now) text.now) }
 {
     let mut list = Vec::new(alloc);
     let mut rest = text;

@@ -1,15 +1,16 @@
 //! Queries, from tokens to trees.
 
 ghost use Rattle.std.specs.Prelude.{◌≡◌, ◌-◌, map, option_map};
-ghost use Rattle.iv_query.specs.Tokens.{toks};
-ghost use Rattle.iv_query.specs.Trees.{name_tree, column_tree, source_tree, pair_tree, join_tree, item_tree, list_tree, pred_tree, select_tree, query_tree};
-ghost use Rattle.iv_query.specs.Answers.{Gives};
+ghost use Rattle.iv_query.specs.Tokens.{starts_name, toks};
+ghost use Rattle.iv_query.specs.Trees.{ColumnTree, PairTree, ItemTree, name_tree, column_tree, source_tree, pair_tree, join_tree, item_tree, list_tree, pred_tree, select_tree, query_tree};
+ghost use Rattle.iv_query.specs.Answers.{at, Gives};
+ghost use Rattle.iv_query.specs.Reading.{column_at};
 ghost use Rattle.iv_query.specs.Query.{starts_alias, long, starts_join, starts_set_op, HeadOf, FromOf, NextOf, sources_in};
-ghost use Rattle.iv_query.specs.QueryReading.{skip, alias_at, may_alias_at, source_at, pair_at, pairs_at, plain_join_at, join_at, joins_at, column_item_at, sum_at, count_at, item_at, items_at, list_at, head_at, from_at, filter_at, keys_at, group_at, select_at, set_op_at, next_at, query_at};
-ghost use Rattle.iv_query.specs.Answers.{at};
-ghost use Rattle.iv_query.specs.Tokens.{starts_name};
+ghost use Rattle.iv_query.specs.QueryReading.{skip, alias_at, may_alias_at, source_at, pair_at, plain_join_at, join_at, joins_at, column_item_at, sum_at, count_at, item_at, list_at, head_at, from_at, filter_at, group_at, select_at, set_op_at, next_at, query_at};
 
 use crate::fault::{Fault, QueryFault, Why};
+use crate::limits::{NESTING, SOURCES};
+use crate::list::{Listed, list_of};
 use crate::parts::{after, column, first_place, name, need};
 use crate::predicate::pred;
 use crate::token::{Lexeme, Symbol, Token};
@@ -106,22 +107,16 @@ fn pair(alloc: Global, tokens: &[Token], stop: Fault) -> Result<(Pair, &[Token])
     Ok((Pair { left, right }, rest))
 }
 
-#[tactic(auto, unfolding(crate::specs::QueryReading::pairs_at))]
-fn pairs(alloc: Global, tokens: &[Token], stop: Fault) -> Result<(Vec<Pair>, &[Token]), QueryFault>
-    ensures { Gives (λ x. (map pair_tree x.0.items, toks x.1.now)) result (pairs_at stop (toks tokens.now)) }
-{
-    let (first, mut rest) = pair(alloc, tokens, stop)?;
-    let mut list = Vec::new(alloc);
-    list.push(first)?;
-    for _ in 0..rest.len() {
-        let Some(behind) = after(Symbol::And, rest) else {
-            return Ok((list, rest));
-        };
-        let (next, behind) = pair(alloc, behind, stop)?;
-        list.push(next)?;
-        rest = behind;
+impl Listed for Pair {
+    ghost Tree = { PairTree };
+
+    ghost tree = { pair_tree };
+
+    ghost item_at = { pair_at };
+
+    fn read(alloc: Global, tokens: &[Token], stop: Fault) -> Result<(Pair, &[Token]), QueryFault> {
+        pair(alloc, tokens, stop)
     }
-    Ok((list, rest))
 }
 
 #[tactic(auto, unfolding(crate::specs::QueryReading::plain_join_at))]
@@ -136,7 +131,7 @@ fn plain_join(
     let rest = need(Symbol::Join, tokens, stop)?;
     let (source, rest) = source(alloc, rest, left, stop)?;
     let rest = need(Symbol::On, rest, stop)?;
-    let (on, rest) = pairs(alloc, rest, stop)?;
+    let (on, rest) = list_of(alloc, Symbol::And, rest, stop)?;
     Ok((Join { source, on }, rest))
 }
 
@@ -245,22 +240,16 @@ fn item(alloc: Global, tokens: &[Token], stop: Fault) -> Result<(Item, &[Token])
     column_item(alloc, tokens, stop)
 }
 
-#[tactic(auto, unfolding(crate::specs::QueryReading::items_at))]
-fn items(alloc: Global, tokens: &[Token], stop: Fault) -> Result<(Vec<Item>, &[Token]), QueryFault>
-    ensures { Gives (λ x. (map item_tree x.0.items, toks x.1.now)) result (items_at stop (toks tokens.now)) }
-{
-    let (first, mut rest) = item(alloc, tokens, stop)?;
-    let mut list = Vec::new(alloc);
-    list.push(first)?;
-    for _ in 0..rest.len() {
-        let Some(behind) = after(Symbol::Comma, rest) else {
-            return Ok((list, rest));
-        };
-        let (next, behind) = item(alloc, behind, stop)?;
-        list.push(next)?;
-        rest = behind;
+impl Listed for Item {
+    ghost Tree = { ItemTree };
+
+    ghost tree = { item_tree };
+
+    ghost item_at = { item_at };
+
+    fn read(alloc: Global, tokens: &[Token], stop: Fault) -> Result<(Item, &[Token]), QueryFault> {
+        item(alloc, tokens, stop)
     }
-    Ok((list, rest))
 }
 
 #[tactic(auto, unfolding(crate::specs::QueryReading::list_at))]
@@ -271,27 +260,24 @@ fn list(alloc: Global, tokens: &[Token], stop: Fault) -> Result<(Columns, &[Toke
         let place = first_place(tokens, stop);
         return Ok((Columns::All { place }, rest));
     }
-    let (items, rest) = items(alloc, tokens, stop)?;
+    let (items, rest) = list_of(alloc, Symbol::Comma, tokens, stop)?;
     Ok((Columns::Items(items), rest))
 }
 
-// The columns of a group.
-#[tactic(auto, unfolding(crate::specs::QueryReading::keys_at))]
-fn keys(alloc: Global, tokens: &[Token], stop: Fault) -> Result<(Vec<Column>, &[Token]), QueryFault>
-    ensures { Gives (λ x. (map column_tree x.0.items, toks x.1.now)) result (keys_at stop (toks tokens.now)) }
-{
-    let (first, mut rest) = column(alloc, tokens, stop)?;
-    let mut list = Vec::new(alloc);
-    list.push(first)?;
-    for _ in 0..rest.len() {
-        let Some(behind) = after(Symbol::Comma, rest) else {
-            return Ok((list, rest));
-        };
-        let (next, behind) = column(alloc, behind, stop)?;
-        list.push(next)?;
-        rest = behind;
+impl Listed for Column {
+    ghost Tree = { ColumnTree };
+
+    ghost tree = { column_tree };
+
+    ghost item_at = { column_at };
+
+    fn read(
+        alloc: Global,
+        tokens: &[Token],
+        stop: Fault,
+    ) -> Result<(Column, &[Token]), QueryFault> {
+        column(alloc, tokens, stop)
     }
-    Ok((list, rest))
 }
 
 #[tactic(auto, unfolding(crate::specs::QueryReading::group_at))]
@@ -305,7 +291,7 @@ fn group(
     match after(Symbol::Group, tokens) {
         Some(rest) => {
             let rest = need(Symbol::By, rest, stop)?;
-            keys(alloc, rest, stop)
+            list_of(alloc, Symbol::Comma, rest, stop)
         }
         None => Ok((Vec::new(alloc), tokens)),
     }
@@ -321,7 +307,7 @@ fn filter(
 {
     match after(Symbol::Where, tokens) {
         Some(rest) => {
-            let (tree, rest) = pred(alloc, rest, Dialect::Query, 32, stop)?;
+            let (tree, rest) = pred(alloc, rest, Dialect::Query, NESTING, stop)?;
             Ok((Some(tree), rest))
         }
         None => Ok((None, tokens)),
@@ -435,8 +421,8 @@ fn left_behind(left: usize, select: &Select) -> usize
 pub fn query(alloc: Global, tokens: &[Token], stop: Fault) -> Result<(Query, &[Token]), QueryFault>
     ensures { Gives (λ x. (query_tree x.0, toks x.1.now)) result (query_at stop (toks tokens.now)) }
 {
-    let (first, mut rest) = select(alloc, tokens, 8, stop)?;
-    let mut left = left_behind(8, &first);
+    let (first, mut rest) = select(alloc, tokens, SOURCES, stop)?;
+    let mut left = left_behind(SOURCES, &first);
     let mut query = Query::Select(first);
     for _ in 0..rest.len() {
         if !starts_set_op(rest) {

@@ -1,11 +1,11 @@
 -- The first line, as it is read byte by byte.
-use Rattle.std.proofs.Common.{◌≡◌, ◌≢◌, ℕ, zero, suc, ◌+◌, ◌-◌, ◌<◌, ◌≤◌, ◌==◌, Bool, true, false, List, [], ◌∷◌, ◌++◌, length, take, get_or, Option, Some, None, ap, ◌∙◌, sym, refl, arith, rules, cond, subst, append_assoc, length-append}
+use Rattle.std.proofs.Common.{◌≡◌, ◌≢◌, ℕ, zero, suc, ◌+◌, ◌-◌, ◌<◌, ◌==◌, true, false, List, [], ◌∷◌, ◌++◌, length, take, Option, Some, None, ap, ◌∙◌, sym, refl, arith, cond, subst, append_assoc, length-append}
 use Rattle.std.specs.Prelude.{Vec}
 use Rattle.std.specs.declared.alloc.Global.{Global}
 use Rattle.std.proofs.lemmas.Bool.Decides.{nat_tests}
 use Rattle.std.specs.Io.KnownBytes.{Consumes, IsAtEnd, Keeps}
 use Rattle.std.specs.List.{All}
-use Rattle.iv_wire.specs.Cut.{Cut, nothing, whole, endless, cut, cut_from, last_line}
+use Rattle.iv_wire.specs.Cut.{nothing, whole, cut_from, last_line}
 use Rattle.iv_wire.specs.Reads.{IsCut, IsCutShort, IsBegun, cut_of}
 use Rattle.iv_wire.specs.declared.lines.Next.{Next}
 use Rattle.iv_wire.specs.declared.lines.Next.TheVariants.{Nothing, Line, Endless}

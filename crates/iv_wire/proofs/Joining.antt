@@ -1,9 +1,9 @@
 -- Lines that are joined by newlines are cut again.
-use Rattle.std.proofs.Common.{◌≡◌, ◌≢◌, ℕ, zero, suc, ◌+◌, ◌<◌, ◌≤◌, ◌==◌, Bool, true, false, List, [], ◌∷◌, ◌++◌, length, cond, ap, ◌∙◌, sym, refl, arith, append_assoc, append-nil}
+use Rattle.std.proofs.Common.{◌≡◌, ◌≢◌, ℕ, zero, suc, ◌<◌, ◌≤◌, ◌==◌, false, List, [], ◌∷◌, ◌++◌, length, cond, ap, ◌∙◌, sym, refl, arith, append_assoc, append-nil}
 use Rattle.std.specs.List.{All}
 use Rattle.std.proofs.lemmas.List.Elements.{All-head, All-tail}
 use Rattle.std.proofs.lemmas.Bool.Decides.{nat_tests}
-use Rattle.iv_wire.specs.Cut.{Cut, nothing, whole, endless, cut, cut_from, last_line}
+use Rattle.iv_wire.specs.Cut.{whole, endless, cut, cut_from, last_line}
 
 no_newline : (b : ℕ) → b ≢ 10 → (b == 10) ≡ false
 no_newline b h = grind (arith, nat_tests)
@@ -48,10 +48,10 @@ cut_endless (suc room) begun (b ∷ line) rest p l =
     byte_on room begun b (line ++ rest) (All-head (λ b. b ≢ 10) b line p)
     ∙ cut_endless room (begun ++ b ∷ []) line rest (All-tail (λ b. b ≢ 10) b line p) (omega arith)
 
-pub line_is_cut : (line rest : List ℕ) → All (λ b. b ≢ 10) line → length line ≤ 65536 → cut (line ++ 10 ∷ rest) ≡ whole line rest
+pub line_is_cut : (line rest : List ℕ) → All (λ b. b ≢ 10) line → length line < 65537 → cut (line ++ 10 ∷ rest) ≡ whole line rest
 line_is_cut line rest p l = cut_line 65537 [] line rest p (omega arith)
 
-pub last_is_cut : (line : List ℕ) → All (λ b. b ≢ 10) line → length line ≤ 65536 → cut line ≡ last_line line
+pub last_is_cut : (line : List ℕ) → All (λ b. b ≢ 10) line → length line < 65537 → cut line ≡ last_line line
 last_is_cut line p l = cut_last 65537 [] line p (omega arith)
 
 pub too_long_is_cut : (line rest : List ℕ) → All (λ b. b ≢ 10) line → 65537 ≤ length line → cut (line ++ rest) ≡ endless

@@ -1,14 +1,14 @@
 -- An object has as many members as its map, and a list as many items as its vector.
-use Rattle.std.proofs.Common.{◌≡◌, ℕ, List, [], ◌∷◌, length, ap, ◌∙◌, refl, suc, Option, Some}
+use Rattle.std.proofs.Common.{◌≡◌, ℕ, List, [], ◌∷◌, length, ap, ◌∙◌, refl, suc, Some}
 use Rattle.std.specs.Prelude.{String, Vec}
 use Rattle.std.specs.Vec.{vec_len}
 use Rattle.std.specs.declared.alloc.Global.{Global}
-use Rattle.serde_json.specs.Data.{Data, Members}
+use Rattle.serde_json.specs.Data.{Data}
 use Rattle.serde_json.specs.Events.{members_len, items_len}
 use Rattle.serde_json.specs.Find.{as_object, as_array}
 use Rattle.serde_json.specs.View.{members_view, items_view}
 use Rattle.serde_json.specs.declared.value.Value.{Value}
-use Rattle.iv_wire.specs.Request.{size, size_of, count, count_of}
+use Rattle.iv_wire.specs.Request.{size, count}
 
 members_len-view : (ms : List (String Global × Value)) → members_len (members_view ms) ≡ length ms
 members_len-view [] = refl

@@ -1,10 +1,10 @@
 -- Each command that a JSON value is, is well.
-use Rattle.std.proofs.Common.{◌≡◌, ℕ, sym, Bool, true, false, ◌&&◌, List, [], ◌∷◌, length, Option, Some, None, option_map, option_and_then, cond, refl, ap, ◌∙◌, subst}
+use Rattle.std.proofs.Common.{◌≡◌, ℕ, sym, Bool, true, false, ◌&&◌, List, ◌∷◌, length, Option, Some, None, option_map, option_and_then, cond, refl, subst}
 use Rattle.std.specs.Prelude.{codes, bytes_eq, IfSome}
 use Rattle.std.specs.List.{list_all}
 use Rattle.serde_json.specs.Data.{Data, null, boolean, number, string, array, object, Num, Items, no_items, item}
 use Rattle.serde_json.specs.Find.{get, as_array, as_number, as_i64, as_u64}
-use Rattle.iv_rows.specs.Cell.{Cell, num, text, flag}
+use Rattle.iv_rows.specs.Cell.{Cell, num, text}
 use Rattle.iv_rows.specs.Columns.{Column}
 use Rattle.iv_rows.specs.Names.{is_name}
 use Rattle.iv_rows.specs.Texts.{is_well, is_well_cell}

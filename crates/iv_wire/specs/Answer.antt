@@ -1,8 +1,8 @@
--- The bytes that answer bytes.
-use Rattle.std.specs.Prelude.{ℕ, zero, suc, List, [], ◌++◌, flat_map, if◌then◌else◌, Option, Some, None}
+-- The bytes that answer bytes: lines are cut and read, and the machine runs the commands among them.
+use Rattle.std.specs.Prelude.{ℕ, zero, suc, List, [], ◌∷◌, ◌++◌, flat_map, if◌then◌else◌, Option, Some, None}
 use Rattle.std.specs.Str.{is_utf8}
-use Rattle.iv_machine.specs.Act.{Command, Line}
-use Rattle.iv_machine.specs.Machine.{step}
+use Rattle.iv_machine.specs.Act.{Command}
+use Rattle.iv_machine.specs.Machine.{run, step}
 use Rattle.iv_machine.specs.State.{State}
 use Rattle.serde_json.specs.Data.{Data}
 use Rattle.serde_json.specs.Read.{read}
@@ -14,11 +14,20 @@ use Rattle.iv_wire.specs.declared.lines.End.TheVariants.{Input, Lines, TooLong}
 
 -- ---- one line
 
--- what a line is: no JSON, a JSON value that is no request, or a command
+-- what a line is: a command, or none, which is answered by this number
 pub data Reading : Type 0 where
-  bad_json : Reading
-  bad_request : Reading
+  faulty : ℕ → Reading
   asked : Command → Reading
+
+-- no JSON; a JSON value that is no request; a line without an end
+abbrev pub bad_json : Reading
+bad_json = faulty 1
+
+abbrev pub bad_request : Reading
+bad_request = faulty 2
+
+abbrev pub too_long : Reading
+too_long = faulty 22
 
 -- a line that is no UTF-8 is no JSON
 abbrev pub value_of : List ℕ → Option Data
@@ -35,44 +44,60 @@ reading_by (Some d) = asked_by (request d)
 abbrev pub reading_of : List ℕ → Reading
 reading_of line = reading_by (value_of line)
 
--- what was said: the state then, the lines of the machine, and the text
-pub record Told : Type 0 where
-  pub state : State
-  pub lines : List Line
-  pub text : List ℕ
-
-abbrev pub fault : State → ℕ → Told
-fault s n = record { state = s; lines = []; text = fault_text n }
-
-abbrev pub told : State → Reading → Told
-told s bad_json = fault s 1
-told s bad_request = fault s 2
-told s (asked c) = let one = step s c in record { state = one.state; lines = one.lines; text = flat_map line_text one.lines }
-
--- a blank line is not answered
-abbrev pub told_line : State → List ℕ → Told
-told_line s line = if is_blank line then record { state = s; lines = []; text = [] } else told s (reading_of line)
+-- a blank line is passed over
+abbrev pub readings_of : List ℕ → List Reading
+readings_of line = if is_blank line then [] else reading_of line ∷ []
 
 -- ---- up to n lines
 
-pub record Answer : Type 0 where
-  pub state : State
-  pub lines : List Line
-  pub text : List ℕ
+-- what the lines are, how they end, and what stands behind those that were taken
+pub record Heard : Type 0 where
+  pub readings : List Reading
   pub end : End
-  -- what stands behind the lines that were taken
   pub rest : List ℕ
 
--- behind what was said
-abbrev pub after : List Line → List ℕ → Answer → Answer
-after lines text a = record { state = a.state; lines = lines ++ a.lines; text = text ++ a.text; end = a.end; rest = a.rest }
+abbrev pub behind : List Reading → Heard → Heard
+behind rs h = record { readings = rs ++ h.readings; end = h.end; rest = h.rest }
 
--- what the cut gives, where `more` answers what is behind the line
-abbrev pub answer_cut : (State → List ℕ → Answer) → State → Cut → Answer
-answer_cut more s nothing = record { state = s; lines = []; text = []; end = Input; rest = [] }
-answer_cut more s endless = record { state = s; lines = []; text = fault_text 22; end = TooLong; rest = [] }
-answer_cut more s (whole line bytes) = let said = told_line s line in after said.lines said.text (more said.state bytes)
+-- what the cut gives, where `more` hears what is behind the line
+abbrev pub heard_cut : (List ℕ → Heard) → Cut → Heard
+heard_cut more nothing = record { readings = []; end = Input; rest = [] }
+heard_cut more endless = record { readings = too_long ∷ []; end = TooLong; rest = [] }
+heard_cut more (whole line bytes) = behind (readings_of line) (more bytes)
+
+abbrev pub heard : ℕ → List ℕ → Heard
+heard zero bytes = record { readings = []; end = Lines; rest = bytes }
+heard (suc n) bytes = heard_cut (heard n) (cut bytes)
+
+-- ---- what they are answered
+
+abbrev pub commands_of : List Reading → List Command
+commands_of [] = []
+commands_of (faulty n ∷ rs) = commands_of rs
+commands_of (asked c ∷ rs) = c ∷ commands_of rs
+
+-- the texts of the machine's lines, command after command, and between them what is answered to the others
+abbrev pub text_of : State → List Reading → List ℕ
+text_of s [] = []
+text_of s (faulty n ∷ rs) = fault_text n ++ text_of s rs
+text_of s (asked c ∷ rs) = let one = step s c in flat_map line_text one.lines ++ text_of one.state rs
+
+-- the state then, and the text
+pub record Told : Type 0 where
+  pub state : State
+  pub text : List ℕ
+
+abbrev pub told : State → List Reading → Told
+told s rs = record { state = (run s (commands_of rs)).state; text = text_of s rs }
+
+pub record Answer : Type 0 where
+  pub state : State
+  pub text : List ℕ
+  pub end : End
+  pub rest : List ℕ
+
+abbrev pub answer_to : State → Heard → Answer
+answer_to s h = let t = told s h.readings in record { state = t.state; text = t.text; end = h.end; rest = h.rest }
 
 abbrev pub answer : ℕ → State → List ℕ → Answer
-answer zero s bytes = record { state = s; lines = []; text = []; end = Lines; rest = bytes }
-answer (suc n) s bytes = answer_cut (answer n) s (cut bytes)
+answer n s bytes = answer_to s (heard n bytes)

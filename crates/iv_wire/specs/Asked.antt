@@ -1,5 +1,5 @@
 -- The JSON value that asks for a command.
-use Rattle.std.specs.Prelude.{ℕ, ◌^◌, ◌==◌, ◌&&◌, pos, negsuc, Bool, true, List, [], ◌∷◌, map, codes, nat_lt}
+use Rattle.std.specs.Prelude.{ℕ, ◌^◌, ◌==◌, ◌&&◌, pos, negsuc, Bool, true, List, map, codes, nat_lt}
 use Rattle.std.specs.List.{list_all}
 use Rattle.iv_rows.specs.Cell.{Cell, num, text, flag}
 use Rattle.iv_rows.specs.Columns.{Column}

@@ -2,7 +2,7 @@
 use Rattle.std.specs.Prelude.{ℕ, zero, suc, ◌==◌, ◌||◌, Bool, List, [], ◌∷◌, ◌++◌, if◌then◌else◌}
 use Rattle.std.specs.List.{list_all}
 
--- no byte is left; a line and the bytes behind it; no newline in 65,537 bytes
+-- no byte is left; a line and the bytes behind it; no newline in as many bytes as a line may have with it
 pub data Cut : Type 0 where
   nothing : Cut
   whole : List ℕ → List ℕ → Cut
@@ -19,9 +19,13 @@ cut_from zero line bytes = endless
 cut_from (suc room) line [] = last_line line
 cut_from (suc room) line (b ∷ bytes) = if b == 10 then whole line bytes else cut_from room (line ++ b ∷ []) bytes
 
+-- the bytes of the longest line, with its newline
+abbrev pub line_room : ℕ
+line_room = 65537
+
 -- the first line of the bytes
 abbrev pub cut : List ℕ → Cut
-cut bytes = cut_from 65537 [] bytes
+cut bytes = cut_from line_room [] bytes
 
 -- spaces, tabs and carriage returns alone
 abbrev pub is_blank : List ℕ → Bool

@@ -7,36 +7,50 @@ use Rattle.iv_wire.specs.declared.lines.End.{End}
 use Rattle.iv_wire.specs.declared.lines.End.TheVariants.{Lines}
 use Rattle.iv_wire.specs.declared.lines.RunFault.{RunFault}
 use Rattle.iv_wire.specs.declared.lines.RunFault.TheVariants.{Read, Write, Memory, Failed}
-use Rattle.iv_wire.specs.Answer.{answer}
+use Rattle.iv_wire.specs.Answer.{Answer, answer}
 use Rattle.iv_wire.specs.Reads.{BeginsLine}
 
--- k lines were there, and this was written for them
-abbrev pub HasAnswered : State → List ℕ → ℕ → Option (List ℕ) → Option (List ℕ) → Type 0
-HasAnswered s bytes k old new = ((answer k s bytes).end ≡ Lines) × Appends old new (answer k s bytes).text
+-- what a run was asked for and given, and what it leaves: how many lines at most; the bytes that the reader had, and has
+-- left; the bytes that the writer had taken, and has taken now; and the engine
+pub record Run : Type 0 where
+  pub lines : ℕ
+  pub given : Option (List ℕ)
+  pub left : Option (List ℕ)
+  pub taken : Option (List ℕ)
+  pub written : Option (List ℕ)
+  pub now : Seen
 
--- k lines are answered, this is the state, and these bytes are left behind them
-abbrev pub HasTold : State → Option (List ℕ) → ℕ → Option (List ℕ) → Option (List ℕ) → Seen → Option (List ℕ) → Type 0
-HasTold s None k old new now left = ⊤
-HasTold s (Some bytes) k old new now None = ⊥
-HasTold s (Some bytes) k old new now (Some left) = HasAnswered s bytes k old new × IsBehind (answer k s bytes).state now × ((answer k s bytes).rest ≡ left)
+-- k lines were there, and their answers were written
+abbrev pub HasAnswered : State → List ℕ → ℕ → Run → Type 0
+HasAnswered s bytes k r = let a = answer k s bytes in (a.end ≡ Lines) × Appends r.taken r.written a.text
 
--- all whole lines before what is left
-abbrev pub AtRead : State → List ℕ → ℕ → Option (List ℕ) → Option (List ℕ) → Seen → Option (List ℕ) → Type 0
-AtRead s bytes k old new now None = ⊥
-AtRead s bytes k old new now (Some left) = HasAnswered s bytes k old new × IsBehind (answer k s bytes).state now × BeginsLine (answer k s bytes).rest left
+-- the answer is written whole, and its state stands behind the engine
+abbrev pub IsWhole : Answer → End → Run → Type 0
+IsWhole a end r = Appends r.taken r.written a.text × IsBehind a.state r.now × (end ≡ a.end)
 
--- from these bytes: what is written, and the state
-abbrev pub Ends : State → List ℕ → ℕ → Option (List ℕ) → Option (List ℕ) → Seen → Option (List ℕ) → Result End RunFault → Type 0
-Ends s bytes lines old new now left (Ok end) =
-    let a = answer lines s bytes in Appends old new a.text × IsBehind a.state now × (end ≡ a.end)
-Ends s bytes lines old new now left (Err Read) = (k : ℕ) × (k < lines) × AtRead s bytes k old new now left
-Ends s bytes lines old new now left (Err Write) = (k : ℕ) × (k < lines) × ((answer k s bytes).end ≡ Lines)
-    × IsBehind (answer (k + 1) s bytes).state now
-    × ((n : ℕ) × (length (answer k s bytes).text ≤ n) × Appends old new (take n (answer (k + 1) s bytes).text))
-Ends s bytes lines old new now left (Err Memory) = (k : ℕ) × (k < lines) × HasAnswered s bytes k old new
-Ends s bytes lines old new now left (Err Failed) = ⊤
+-- what is left begins a line cut short, behind those that were answered
+abbrev pub StopsBehind : Answer → Option (List ℕ) → Run → Type 0
+StopsBehind a None r = ⊥
+StopsBehind a (Some left) r = IsBehind a.state r.now × BeginsLine a.rest left
+
+-- the line behind k others is applied, and a front of the answers was written, which has those to the k lines whole
+abbrev pub StopsWriting : State → List ℕ → ℕ → Run → Type 0
+StopsWriting s bytes k r =
+    let a = answer k s bytes in let b = answer (k + 1) s bytes in
+    (a.end ≡ Lines) × IsBehind b.state r.now × ((n : ℕ) × (length a.text ≤ n) × Appends r.taken r.written (take n b.text))
+
+-- how a run over these bytes ends
+abbrev pub Ends : State → List ℕ → Run → Result End RunFault → Type 0
+Ends s bytes r (Ok end) = IsWhole (answer r.lines s bytes) end r
+Ends s bytes r (Err Read) = (k : ℕ) × (k < r.lines) × HasAnswered s bytes k r × StopsBehind (answer k s bytes) r.left r
+Ends s bytes r (Err Write) = (k : ℕ) × (k < r.lines) × StopsWriting s bytes k r
+Ends s bytes r (Err Memory) = (k : ℕ) × (k < r.lines) × HasAnswered s bytes k r
+Ends s bytes r (Err Failed) = ⊤
 
 -- where the reader tells the bytes that it has left
-abbrev pub IsAnswered : State → Option (List ℕ) → ℕ → Option (List ℕ) → Option (List ℕ) → Seen → Option (List ℕ) → Result End RunFault → Type 0
-IsAnswered s None lines old new now left r = ⊤
-IsAnswered s (Some bytes) lines old new now left r = Ends s bytes lines old new now left r
+abbrev pub Answers : State → Option (List ℕ) → Run → Result End RunFault → Type 0
+Answers s None r result = ⊤
+Answers s (Some bytes) r result = Ends s bytes r result
+
+abbrev pub IsAnswered : State → Run → Result End RunFault → Type 0
+IsAnswered s r result = Answers s r.given r result

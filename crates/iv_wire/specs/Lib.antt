@@ -1,6 +1,7 @@
 pub mod Ahead
 pub mod Answer
 pub mod Asked
+pub mod Calls
 pub mod Cut
 pub mod Endings
 pub mod Reads

@@ -1,10 +1,10 @@
 -- What is read of the next line, and which fault a run has.
-use Rattle.std.specs.Prelude.{◌≡◌, ◌≢◌, ◌<◌, ◌++◌, ℕ, Bool, true, false, List, [], All, length, Option, Some, None, ⊤, Result, Ok, Err}
+use Rattle.std.specs.Prelude.{◌≡◌, ◌≢◌, ◌<◌, ◌++◌, ℕ, Bool, true, false, List, All, length, Option, Some, None, ⊤, Result, Ok, Err}
 use Rattle.iv_wire.specs.declared.lines.Next.{Next}
 use Rattle.iv_wire.specs.declared.lines.Next.TheVariants.{Nothing, Line, Endless}
 use Rattle.iv_wire.specs.declared.lines.RunFault.{RunFault}
 use Rattle.iv_wire.specs.declared.lines.RunFault.TheVariants.{Read, Write, Memory, Failed}
-use Rattle.iv_wire.specs.Cut.{Cut, nothing, whole, endless, cut, cut_from}
+use Rattle.iv_wire.specs.Cut.{Cut, nothing, whole, endless, cut, cut_from, line_room}
 
 -- the cut that it stands for, where these bytes are left behind it
 abbrev pub cut_of : Next → List ℕ → Cut
@@ -20,7 +20,7 @@ IsCut (Some bytes) next (Some left) = cut bytes ≡ cut_of next left
 
 -- between the two stands the beginning of one line, and no whole line
 abbrev pub BeginsLine : List ℕ → List ℕ → Type 0
-BeginsLine bytes left = (part : List ℕ) × (bytes ≡ part ++ left) × All (λ b. b ≢ 10) part × (length part < 65537)
+BeginsLine bytes left = (part : List ℕ) × (bytes ≡ part ++ left) × All (λ b. b ≢ 10) part × (length part < line_room)
 
 abbrev pub IsCutShort : Option (List ℕ) → Option (List ℕ) → Type 0
 IsCutShort None new = ⊤

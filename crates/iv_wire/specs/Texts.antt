@@ -1,5 +1,5 @@
 -- The texts of lines: compact JSON with keys in the order of their bytes, and a newline.
-use Rattle.std.specs.Prelude.{ℕ, ℤ, Bool, true, List, [], ◌∷◌, ◌++◌, map, codes}
+use Rattle.std.specs.Prelude.{ℕ, ℤ, true, List, [], ◌∷◌, ◌++◌, map, codes}
 use Rattle.iv_rows.specs.Cell.{Cell, num, text, flag}
 use Rattle.iv_machine.specs.Act.{Refusal, no_session, session_in_use, unknown_role, name_taken, unknown_relation, bad_row, not_administrator, not_owner, missing_privilege, limit, too_many, Reply, done, subscribed, refused, Line, reply, change}
 use Rattle.iv_machine.specs.declared.Privilege.{Privilege}

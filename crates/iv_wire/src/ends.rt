@@ -39,6 +39,9 @@ pub trait Sink {
     /// Whether all that was taken is flushed.
     ghost is_flushed: { Self → Bool };
 
+    /// How many writes and flushes were made, where the end counts them.
+    ghost calls: { Self → ℕ };
+
     /// Takes a front of the bytes, at least one where there is one.
     ///
     /// # Errors
@@ -47,7 +50,8 @@ pub trait Sink {
         ensures bound { IfOk result (λ n. n ≤ length bytes.now) }
         ensures some { IfOk result (λ n. 0 < length bytes.now → 0 < n) }
         ensures bytes { WriteAppends (taken self.old) (taken self.new) result bytes.now }
-        ensures failed { has_failed self.new ≡ (has_failed self.old || is_err result) };
+        ensures failed { has_failed self.new ≡ (has_failed self.old || is_err result) }
+        ensures counted { calls self.new ≤ calls self.old + 1 };
 
     /// Passes on all that was taken.
     ///
@@ -56,7 +60,8 @@ pub trait Sink {
     fn flush(&mut self) -> Result<(), EndFault>
         ensures bytes { Keeps (taken self.old) (taken self.new) }
         ensures flushed { OnOk result (is_flushed self.new ≡ true) }
-        ensures failed { has_failed self.new ≡ (has_failed self.old || is_err result) };
+        ensures failed { has_failed self.new ≡ (has_failed self.old || is_err result) }
+        ensures counted { calls self.new ≤ calls self.old + 1 };
 }
 
 /// Writes all the bytes.

@@ -1,27 +1,27 @@
 //! Laws of the definitions, and cases computed from them. Each is the contract of a function that does nothing.
-ghost use Rattle.std.specs.Prelude.{◌≡◌, ◌≢◌, ◌≤◌, ◌∷◌, ◌++◌, [], ℕ, List, All, length, codes, pos, option_and_then, Some, None, IfSome, true};
+ghost use Rattle.std.specs.Prelude.{◌≡◌, ◌≢◌, ◌≤◌, ◌<◌, ◌∷◌, ◌++◌, [], ℕ, List, All, length, codes, pos, option_and_then, Some, None, IfSome, true};
 ghost use Rattle.iv_rows.specs.Cell.{num, text};
 ghost use Rattle.iv_rows.specs.declared.value.Kind.TheVariants as kind;
 ghost use Rattle.iv_machine.specs.Act as machine;
 ghost use Rattle.iv_machine.specs.FirstChange.{ann, notes};
 ghost use Rattle.iv_wire.specs.Asked.{command_data, is_plain};
-ghost use Rattle.iv_wire.specs.Cut.{cut, endless, last_line, whole};
-ghost use Rattle.iv_machine.specs.Reached.{IsReached};
+ghost use Rattle.iv_wire.specs.Cut.{cut, endless, last_line, line_room, whole};
+ghost use Rattle.iv_machine.specs.Machine.{run};
 ghost use Rattle.iv_machine.specs.State.{State, admin};
 ghost use Rattle.iv_machine.specs.Well.{is_well_command};
 ghost use Rattle.iv_machine.specs.declared.Privilege.TheVariants as privilege;
-ghost use Rattle.iv_wire.specs.Answer.{answer};
+ghost use Rattle.iv_wire.specs.Answer.{Reading, commands_of, text_of};
 ghost use Rattle.iv_wire.specs.Request.{column, command, inserted, request};
-ghost use Rattle.iv_wire.specs.Sums.{AnswerAddsUp, IsTextOf};
+ghost use Rattle.iv_wire.specs.Sums.{IsTextOf};
 ghost use Rattle.iv_wire.specs.Texts.{fault_text, line_text};
 ghost use Rattle.serde_json.specs.Data.{Data};
 ghost use Rattle.serde_json.specs.Read.{read};
 
 /// A line of at most 65,536 bytes is cut again where a newline stands behind it, or nothing; a longer one has no end.
 pub fn lines_are_cut()
-    ensures line { (line rest : List ℕ) → All (λ b. b ≢ 10) line → length line ≤ 65536 → cut (line ++ 10 ∷ rest) ≡ whole line rest }
-    ensures last { (line : List ℕ) → All (λ b. b ≢ 10) line → length line ≤ 65536 → cut line ≡ last_line line }
-    ensures too_long { (line rest : List ℕ) → All (λ b. b ≢ 10) line → 65537 ≤ length line → cut (line ++ rest) ≡ endless }
+    ensures line { (line rest : List ℕ) → All (λ b. b ≢ 10) line → length line < line_room → cut (line ++ 10 ∷ rest) ≡ whole line rest }
+    ensures last { (line : List ℕ) → All (λ b. b ≢ 10) line → length line < line_room → cut line ≡ last_line line }
+    ensures too_long { (line rest : List ℕ) → All (λ b. b ≢ 10) line → line_room ≤ length line → cut (line ++ rest) ≡ endless }
 {}
 
 /// Each command that keeps the rules of commands, with whole numbers of 64 bits and one copy an entry, is what its JSON
@@ -64,18 +64,7 @@ pub fn requests_are_well()
     ensures { (d : Data) → IfSome (request d) (λ c. is_well_command c ≡ true) }
 {}
 
-/// The lines of an answer add up: for each subscription and row, to what it shows after it, minus what it showed
-/// before.
-pub fn answers_add_up()
-    ensures { (n : ℕ) (s : State) (bytes : List ℕ) → IsReached s.frame → AnswerAddsUp n s bytes }
-{}
-
-/// Answers lead from reached states to reached states.
-pub fn answers_keep_reached()
-    ensures { (n : ℕ) (s : State) (bytes : List ℕ) → IsReached s.frame → IsReached (answer n s bytes).state.frame }
-{}
-
-/// The text of an answer is that of its lines, with faults of lines that are no request between them.
+/// The text of an answer is that of the lines of the machine's run, with faults of lines that are no request between them.
 pub fn answers_are_texts()
-    ensures { (n : ℕ) (s : State) (bytes : List ℕ) → IsTextOf (answer n s bytes).lines (answer n s bytes).text }
+    ensures { (s : State) (rs : List Reading) → IsTextOf (run s (commands_of rs)).lines (text_of s rs) }
 {}

@@ -1,6 +1,7 @@
 //! Bytes in, bytes out: lines of JSON through an engine.
 #![tactic(auto)]
 
+mod calls;
 mod columns;
 mod ends;
 mod entries;
@@ -11,6 +12,7 @@ mod room;
 mod running;
 mod std_ends;
 mod texts;
+mod watched;
 
 pub use ends::{EndFault, Sink, Source};
 pub use lines::{End, RunFault};
@@ -18,10 +20,3 @@ pub use requests::{WireFault, read_line};
 pub use running::run;
 pub use std_ends::{FromRead, FromWrite};
 pub use texts::write_line;
-
-#[cfg(test)]
-mod failing;
-#[cfg(test)]
-mod refused;
-#[cfg(test)]
-mod worked;

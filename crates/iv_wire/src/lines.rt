@@ -1,12 +1,15 @@
 //! Bytes as lines.
 ghost use Rattle.std.specs.Prelude.{◌≡◌, ◌≤◌, ◌+◌, ◌||◌, ◌⊎◌, [], option_map, IfOk, IfErr, OnOk, IsErrOf};
-ghost use Rattle.iv_wire.specs.Cut.{is_blank};
+ghost use Rattle.iv_wire.specs.Cut.{is_blank, line_room};
 ghost use Rattle.iv_wire.specs.Ahead.{known};
 ghost use Rattle.iv_wire.specs.Reads.{IsCut, IsCutShort, is_read};
 
 use crate::ends::Source;
 use crate::room::Room;
 use std::alloc::{AllocError, AllocFailed, Global};
+
+/// The bytes of the longest line, with its newline.
+const LINE_ROOM: u32 = 65_537;
 
 /// How a run ends.
 #[derive(Clone, Copy, Debug, PartialEq, Eq)]
@@ -61,7 +64,7 @@ pub enum Next {
     Nothing,
     /// A line, without its newline.
     Line(Vec<u8>),
-    /// 65,537 bytes without a newline.
+    /// No newline in as many bytes as the longest line has with it.
     Endless,
 }
 
@@ -75,10 +78,10 @@ pub fn next_line<R: Source>(
     ensures fault { IfErr result (λ e. (e ≡ RunFault.Read) ⊎ (e ≡ RunFault.Memory)) }
     ensures short { IsErrOf result RunFault.Read → IsCutShort (known room.old (R.left reader.old)) (R.left reader.new) }
     ensures failed { R.has_failed reader.new ≡ (R.has_failed reader.old || is_read result) }
-    ensures reads { R.reads reader.new ≤ R.reads reader.old + 65537 }
+    ensures reads { R.reads reader.new ≤ R.reads reader.old + line_room }
 {
     let mut line = Vec::new(alloc);
-    for _ in 0..65537u32 {
+    for _ in 0..LINE_ROOM {
         match room.next_byte(reader) {
             Err(_) => return Err(RunFault::Read),
             Ok(None) => {

@@ -4,10 +4,13 @@ ghost use Rattle.std.specs.Io.KnownBytes.{Keeps, IsAtEnd};
 
 use crate::ends::{EndFault, Source};
 
+/// How many bytes are read at most at a time.
+const ROOM: usize = 4096;
+
 /// Bytes that were read and not taken yet.
 #[derive(Drop)]
 pub struct Room {
-    bytes: [u8; 4096],
+    bytes: [u8; ROOM],
     at: usize,
     filled: usize,
     ghost within: { filled ≤ 4096 },
@@ -21,7 +24,7 @@ impl Room {
         ensures { ahead result ≡ [] }
     {
         Room {
-            bytes: [0; 4096],
+            bytes: [0; ROOM],
             at: 0,
             filled: 0,
         }

@@ -1,12 +1,15 @@
 //! Lines, each answered in turn.
-ghost use Rattle.std.specs.Prelude.{◌≡◌, ◌≤◌, ◌+◌, ◌*◌, ◌||◌, ◌↔◌, ℕ, take, true, false, IfOk, IfErr, IfSome, OnOk, OnErr, IsErrOf};
+ghost use Rattle.std.specs.Prelude.{◌≡◌, ◌≤◌, ◌+◌, ◌*◌, ◌||◌, ◌↔◌, ℕ, take, flat_map, true, false, IfOk, IfErr, IfSome, OnOk, OnErr, IsErrOf};
 ghost use Rattle.std.specs.Io.KnownBytes.{Appends};
 ghost use Rattle.iv_machine.specs.Reached.{IsReached};
 ghost use Rattle.iv_machine.specs.State.{State};
 ghost use Rattle.iv_machine.specs.Well.{is_well_command};
 ghost use Rattle.iv_engine.specs.Seen.{IsBehind};
 ghost use Rattle.iv_engine.specs.Views.{command_of};
-ghost use Rattle.iv_wire.specs.Answer.{told, told_line, asked};
+ghost use Rattle.iv_wire.specs.Answer.{told, readings_of};
+ghost use Rattle.iv_wire.specs.Cut.{line_room};
+ghost use Rattle.iv_wire.specs.Texts.{line_text};
+ghost use Rattle.iv_machine.specs.Machine.{step};
 ghost use Rattle.iv_wire.specs.Reads.{is_read, is_write, is_memory};
 ghost use Rattle.iv_wire.specs.Endings.{IsAnswered};
 ghost use Rattle.iv_wire.specs.Sums.{HasWritten};
@@ -20,10 +23,14 @@ use iv_engine::{Command, Engine};
 use std::alloc::{AllocError, Global};
 
 /// The text of the lines that answer a command.
-fn answer_text(alloc: Global, engine: &mut Engine, command: Command) -> Result<Vec<u8>, AllocError>
+fn answer_command(
+    alloc: Global,
+    engine: &mut Engine,
+    command: Command,
+) -> Result<Vec<u8>, AllocError>
     requires { is_well_command (command_of command) ≡ true }
-    ensures text { IfOk result (λ text. (s : State) → IsBehind s engine.old → text.items ≡ (told s (asked (command_of command))).text) }
-    ensures state { OnOk result ((s : State) → IsBehind s engine.old → IsBehind (told s (asked (command_of command))).state engine.new) }
+    ensures text { IfOk result (λ text. (s : State) → IsBehind s engine.old → text.items ≡ flat_map line_text (step s (command_of command)).lines) }
+    ensures state { OnOk result ((s : State) → IsBehind s engine.old → IsBehind (step s (command_of command)).state engine.new) }
     ensures failed { OnOk result (engine.new.failed ≡ false) }
 {
     match engine.apply(command) {
@@ -33,9 +40,9 @@ fn answer_text(alloc: Global, engine: &mut Engine, command: Command) -> Result<V
 }
 
 /// Answers one line.
-fn tell(alloc: Global, engine: &mut Engine, line: &[u8]) -> Result<Vec<u8>, AllocError>
-    ensures text { IfOk result (λ text. (s : State) → IsBehind s engine.old → text.items ≡ (told_line s line.now).text) }
-    ensures state { OnOk result ((s : State) → IsBehind s engine.old → IsBehind (told_line s line.now).state engine.new) }
+fn answer_line(alloc: Global, engine: &mut Engine, line: &[u8]) -> Result<Vec<u8>, AllocError>
+    ensures text { IfOk result (λ text. (s : State) → IsBehind s engine.old → text.items ≡ (told s (readings_of line.now)).text) }
+    ensures state { OnOk result ((s : State) → IsBehind s engine.old → IsBehind (told s (readings_of line.now)).state engine.new) }
     ensures failed { OnOk result (engine.old.failed ≡ false → engine.new.failed ≡ false) }
 {
     if is_blank_line(line) {
@@ -45,12 +52,12 @@ fn tell(alloc: Global, engine: &mut Engine, line: &[u8]) -> Result<Vec<u8>, Allo
         Err(WireFault::Memory) => Err(AllocError),
         Err(WireFault::BadJson) => write_fault(alloc, 1),
         Err(WireFault::BadRequest) => write_fault(alloc, 2),
-        Ok(command) => answer_text(alloc, engine, command),
+        Ok(command) => answer_command(alloc, engine, command),
     }
 }
 
 /// Writes a text whole, and flushes.
-fn say<W: Sink>(writer: &mut W, text: &[u8]) -> Result<(), RunFault>
+fn send_answer<W: Sink>(writer: &mut W, text: &[u8]) -> Result<(), RunFault>
     ensures ok { OnOk result (Appends (W.taken writer.old) (W.taken writer.new) text.now) }
     ensures flushed { OnOk result (W.is_flushed writer.new ≡ true) }
     ensures front { OnErr result ((n : ℕ) × Appends (W.taken writer.old) (W.taken writer.new) (take n text.now)) }
@@ -74,13 +81,20 @@ fn run_lines<R: Source, W: Sink>(
     writer: &mut W,
     lines: u32,
 ) -> Result<End, RunFault>
-    ensures answered { (s : State) → IsBehind s engine.old → IsAnswered s (R.left reader.old) lines (W.taken writer.old) (W.taken writer.new) engine.new (R.left reader.new) result }
+    ensures answered { (s : State) → IsBehind s engine.old → IsAnswered s (record {
+      lines = lines;
+      given = R.left reader.old;
+      left = R.left reader.new;
+      taken = W.taken writer.old;
+      written = W.taken writer.new;
+      now = engine.new;
+    }) result }
     ensures went_on { (is_memory result ≡ false) → engine.old.failed ≡ false → engine.new.failed ≡ false }
     ensures fault { IsErrOf result RunFault.Failed → ⊥ }
     ensures read { R.has_failed reader.new ≡ (R.has_failed reader.old || is_read result) }
     ensures write { W.has_failed writer.new ≡ (W.has_failed writer.old || is_write result) }
     ensures flushed { (is_write result ≡ false) → W.is_flushed writer.old ≡ true → W.is_flushed writer.new ≡ true }
-    ensures reads { R.reads reader.new ≤ R.reads reader.old + (lines * 65537) }
+    ensures reads { R.reads reader.new ≤ R.reads reader.old + (lines * line_room) }
 {
     let mut room = Room::new();
     for _ in 0..lines {
@@ -88,12 +102,12 @@ fn run_lines<R: Source, W: Sink>(
             Next::Nothing => return Ok(End::Input),
             Next::Endless => {
                 let text = write_fault(alloc, 22)?;
-                say(writer, &text)?;
+                send_answer(writer, &text)?;
                 return Ok(End::TooLong);
             }
             Next::Line(line) => {
-                let text = tell(alloc, engine, &line)?;
-                say(writer, &text)?;
+                let text = answer_line(alloc, engine, &line)?;
+                send_answer(writer, &text)?;
             }
         }
     }
@@ -113,15 +127,30 @@ pub fn run<R: Source, W: Sink>(
     writer: &mut W,
     lines: u32,
 ) -> Result<End, RunFault>
-    ensures answered { (s : State) → IsBehind s engine.old → IsAnswered s (R.left reader.old) lines (W.taken writer.old) (W.taken writer.new) engine.new (R.left reader.new) result }
-    ensures adds_up { OnOk result ((s : State) → IsBehind s engine.old → IsReached s.frame → IfSome (R.left reader.old) (λ _. HasWritten s (W.taken writer.old) (W.taken writer.new) engine.new)) }
+    ensures answered { (s : State) → IsBehind s engine.old → IsAnswered s (record {
+      lines = lines;
+      given = R.left reader.old;
+      left = R.left reader.new;
+      taken = W.taken writer.old;
+      written = W.taken writer.new;
+      now = engine.new;
+    }) result }
+    ensures adds_up { OnOk result ((s : State) → IsBehind s engine.old → IsReached s.frame
+        → IfSome (R.left reader.old) (λ _. HasWritten s (record {
+          lines = lines;
+          given = R.left reader.old;
+          left = R.left reader.new;
+          taken = W.taken writer.old;
+          written = W.taken writer.new;
+          now = engine.new;
+        }))) }
     ensures failed { engine.new.failed ≡ (engine.old.failed || is_memory result) }
     ensures refused { IsErrOf result RunFault.Failed ↔ (engine.old.failed ≡ true) }
     ensures untouched { engine.old.failed ≡ true → (reader.new ≡ reader.old) × (writer.new ≡ writer.old) × (engine.new ≡ engine.old) }
     ensures read { R.has_failed reader.new ≡ (R.has_failed reader.old || is_read result) }
     ensures write { W.has_failed writer.new ≡ (W.has_failed writer.old || is_write result) }
     ensures flushed { (is_write result ≡ false) → W.is_flushed writer.old ≡ true → W.is_flushed writer.new ≡ true }
-    ensures reads { R.reads reader.new ≤ R.reads reader.old + (lines * 65537) }
+    ensures reads { R.reads reader.new ≤ R.reads reader.old + (lines * line_room) }
 {
     if engine.is_failed() {
         return Err(RunFault::Failed);

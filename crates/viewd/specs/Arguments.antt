@@ -1,8 +1,12 @@
 -- What holds of the settings that the words on the command line give.
-use Rattle.std.specs.Prelude.{◌≤◌, ◌<◌, ◌^◌}
+use Rattle.std.specs.Prelude.{ℕ, ◌≤◌, ◌<◌, ◌^◌}
 use Rattle.viewd.specs.declared.asked.Settings.{Settings}
 use Rattle.viewd.specs.declared.asked.Settings.TheVariants.{Replay}
 
 -- each number lies in the range that the command line allows
 abbrev pub InRange : Settings → Type 0
 InRange (Replay lines) = (1 ≤ lines) × (lines < 2 ^ 32)
+
+-- how many lines to take at most
+abbrev pub lines_of : Settings → ℕ
+lines_of (Replay lines) = lines

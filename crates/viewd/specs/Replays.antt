@@ -1,24 +1,27 @@
--- What a replay leaves written.
-use Rattle.std.specs.Prelude.{◌<◌, ◌+◌, ℕ, List, take, Option, Some, None, ⊤, Result, Ok, Err}
-use Rattle.std.specs.Io.KnownBytes.{Appends}
+-- How a replay ends, and what stands written then.
+use Rattle.std.specs.Prelude.{Bool, true, false, Result, Ok, Err}
 use Rattle.iv_machine.specs.State.{start}
-use Rattle.iv_wire.specs.Answer.{answer}
-use Rattle.iv_wire.specs.Endings.{HasAnswered}
+use Rattle.iv_wire.specs.Endings.{Run, IsAnswered}
+use Rattle.iv_wire.specs.declared.lines.End.{End}
+use Rattle.iv_wire.specs.declared.lines.RunFault.TheVariants as run
 use Rattle.viewd.specs.declared.fault.Fault.{Fault}
 use Rattle.viewd.specs.declared.fault.Fault.TheVariants.{Read, Write, Memory}
 
--- the answers to the first so many lines, and nothing more
-abbrev pub AnswersSome : List ℕ → ℕ → Option (List ℕ) → Option (List ℕ) → Type 0
-AnswersSome bytes lines old new = (k : ℕ) × (k < lines) × HasAnswered start bytes k old new
+-- the ending of a run from the machine's start, with the same fault
+abbrev pub Replays : Run → Result (Unit {0}) Fault → Type 0
+Replays r (Ok _) = (end : End) × IsAnswered start r (Ok end)
+Replays r (Err Read) = IsAnswered start r (Err run.Read)
+Replays r (Err Write) = IsAnswered start r (Err run.Write)
+Replays r (Err Memory) = IsAnswered start r (Err run.Memory)
 
--- the access machine's answer to the bytes, from its start: whole, or a front of it where the program gives up
-abbrev pub Answers : List ℕ → ℕ → Option (List ℕ) → Option (List ℕ) → Result (Unit {0}) Fault → Type 0
-Answers bytes lines old new (Ok _) = Appends old new (answer lines start bytes).text
-Answers bytes lines old new (Err Read) = AnswersSome bytes lines old new
-Answers bytes lines old new (Err Write) = (k : ℕ) × (k < lines) × ((n : ℕ) × Appends old new (take n (answer (k + 1) start bytes).text))
-Answers bytes lines old new (Err Memory) = AnswersSome bytes lines old new
+abbrev pub is_read : Result (Unit {0}) Fault → Bool
+is_read (Ok _) = false
+is_read (Err Read) = true
+is_read (Err Write) = false
+is_read (Err Memory) = false
 
--- where the reader tells its bytes
-abbrev pub Replays : Option (List ℕ) → ℕ → Option (List ℕ) → Option (List ℕ) → Result (Unit {0}) Fault → Type 0
-Replays None lines old new result = ⊤
-Replays (Some bytes) lines old new result = Answers bytes lines old new result
+abbrev pub is_write : Result (Unit {0}) Fault → Bool
+is_write (Ok _) = false
+is_write (Err Read) = false
+is_write (Err Write) = true
+is_write (Err Memory) = false

@@ -9,6 +9,9 @@ use clap::{Arg, ArgMatches, Command, Error, value_parser};
 use std::alloc::{AllocError, Global};
 use std::{env, io};
 
+/// The program's version.
+const VERSION: &str = "0.1.0";
+
 fn count<'a>(alloc: Global, name: &'a str, help: &'a str) -> Arg<'a> {
     Arg::new(alloc, name)
         .long(name)
@@ -24,6 +27,7 @@ fn command<'a>(alloc: Global) -> Result<Command<'a>, Error> {
         .arg(count(alloc, "lines", "The number of lines to take at most"))?;
     let command = Command::new(alloc, "viewd")
         .bin_name("viewd")?
+        .version(VERSION)
         .about("Keeps tables, and tells subscribers what changes in them")
         .no_binary_name(true)
         .subcommand_required(true)

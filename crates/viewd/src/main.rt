@@ -11,9 +11,8 @@ mod replaying;
 
 use arguments::{read_words, settings};
 use asked::Settings;
-use fault::Fault;
 use iv_wire::{FromRead, FromWrite};
-use replaying::replay;
+use replaying::work;
 use std::alloc::AllocError;
 use std::process::ExitCode;
 
@@ -43,24 +42,17 @@ fn asked_for(rt: &HostRuntime) -> Result<Settings, ExitCode>
     })
 }
 
-fn work(rt: &HostRuntime, settings: Settings) -> Result<(), Fault>
-    requires { InRange settings }
-{
-    match settings {
-        Settings::Replay { lines } => {
-            let mut reader = FromRead::new(rt.stdin());
-            let mut writer = FromWrite::new(rt.stdout());
-            replay(rt.alloc(), &mut reader, &mut writer, lines)
-        }
-    }
-}
-
 fn main(rt: HostRuntime) -> ExitCode {
     let settings = match asked_for(&rt) {
         Ok(settings) => settings,
         Err(status) => return status,
     };
-    match work(&rt, settings) {
+    match work(
+        rt.alloc(),
+        settings,
+        &mut FromRead::new(rt.stdin()),
+        &mut FromWrite::new(rt.stdout()),
+    ) {
         Ok(()) => ExitCode::SUCCESS,
         Err(fault) => {
             let _ = eprintln!(rt; "{fault}");

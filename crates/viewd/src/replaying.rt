@@ -1,8 +1,12 @@
 //! Request lines in, answer lines out, through a new engine.
 
-ghost use Rattle.std.specs.Prelude.{◌≡◌, ◌≤◌, true, IsErrOf};
-ghost use Rattle.viewd.specs.Replays.{Replays};
+ghost use Rattle.std.specs.Prelude.{◌≡◌, ◌≤◌, ◌+◌, ◌*◌, ◌||◌, true, false};
+ghost use Rattle.iv_engine.specs.Seen.{Seen};
+ghost use Rattle.iv_wire.specs.Cut.{line_room};
+ghost use Rattle.viewd.specs.Arguments.{InRange, lines_of};
+ghost use Rattle.viewd.specs.Replays.{Replays, is_read, is_write};
 
+use crate::asked::Settings;
 use crate::fault::Fault;
 use iv_engine::Engine;
 use iv_wire::{RunFault, Sink, Source, run};
@@ -13,16 +17,25 @@ use std::alloc::Global;
 /// # Errors
 /// `Read` and `Write` where the reader or the writer failed; `Memory` where a growth of memory was
 /// refused.
-pub fn replay<R: Source, W: Sink>(
+fn replay<R: Source, W: Sink>(
     alloc: Global,
     reader: &mut R,
     writer: &mut W,
     lines: u32,
 ) -> Result<(), Fault>
     requires { 1 ≤ lines }
-    ensures answers { Replays (R.left reader.old) lines (W.taken writer.old) (W.taken writer.new) result }
-    ensures read { IsErrOf result Fault.Read → R.has_failed reader.new ≡ true }
-    ensures write { IsErrOf result Fault.Write → W.has_failed writer.new ≡ true }
+    ensures answers { (now : Seen) × Replays (record {
+      lines = lines;
+      given = R.left reader.old;
+      left = R.left reader.new;
+      taken = W.taken writer.old;
+      written = W.taken writer.new;
+      now = now;
+    }) result }
+    ensures read { R.has_failed reader.new ≡ (R.has_failed reader.old || is_read result) }
+    ensures write { W.has_failed writer.new ≡ (W.has_failed writer.old || is_write result) }
+    ensures flushed { (is_write result ≡ false) → W.is_flushed writer.old ≡ true → W.is_flushed writer.new ≡ true }
+    ensures reads { R.reads reader.new ≤ R.reads reader.old + lines * line_room }
 {
     let Ok(mut engine) = Engine::new(alloc) else {
         return Err(Fault::Memory);
@@ -33,5 +46,35 @@ pub fn replay<R: Source, W: Sink>(
         Err(RunFault::Write) => Err(Fault::Write),
         Err(RunFault::Memory) => Err(Fault::Memory),
         Err(RunFault::Failed) => unreachable!(),
+    }
+}
+
+/// Does what the settings ask, with these ends in place of standard input and output.
+///
+/// # Errors
+/// `Read` and `Write` where the reader or the writer failed; `Memory` where a growth of memory was
+/// refused.
+pub fn work<R: Source, W: Sink>(
+    alloc: Global,
+    settings: Settings,
+    reader: &mut R,
+    writer: &mut W,
+) -> Result<(), Fault>
+    requires { InRange settings }
+    ensures answers { (now : Seen) × Replays (record {
+      lines = lines_of settings;
+      given = R.left reader.old;
+      left = R.left reader.new;
+      taken = W.taken writer.old;
+      written = W.taken writer.new;
+      now = now;
+    }) result }
+    ensures read { R.has_failed reader.new ≡ (R.has_failed reader.old || is_read result) }
+    ensures write { W.has_failed writer.new ≡ (W.has_failed writer.old || is_write result) }
+    ensures flushed { (is_write result ≡ false) → W.is_flushed writer.old ≡ true → W.is_flushed writer.new ≡ true }
+    ensures reads { R.reads reader.new ≤ R.reads reader.old + (lines_of settings * line_room) }
+{
+    match settings {
+        Settings::Replay { lines } => replay(alloc, reader, writer, lines),
     }
 }

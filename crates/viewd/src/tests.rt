@@ -13,6 +13,19 @@ fn reads_settings(rt: HostRuntime) -> Result<(), Fail> {
     assert!(rt; settings(alloc, &["replay"])? == Settings::Replay { lines: 1_000_000 });
     assert!(rt; settings(alloc, &["replay", "--lines", "1"])? == Settings::Replay { lines: 1 });
     assert!(rt; settings(alloc, &["replay", "--lines=4294967295"])? == most);
+    for (word, lines) in [
+        ("2", 2),
+        ("10", 10),
+        ("007", 7),
+        ("65536", 65536),
+        ("1000001", 1_000_001),
+    ] {
+        let words = ["replay", "--lines", word];
+        assert!(rt;
+            settings(alloc, &words)? == Settings::Replay { lines },
+            "{word}"
+        );
+    }
     Ok(())
 }
 
@@ -28,6 +41,8 @@ fn refuses_words(rt: HostRuntime) -> Result<(), Fail> {
         (["replay", "--lines", "-1"], ErrorKind::UnknownArgument),
         (["replay", "--lines", "one"], ErrorKind::ValueValidation),
         (["replay", "--lines", ""], ErrorKind::ValueValidation),
+        (["replay", "--lines", "1.0"], ErrorKind::ValueValidation),
+        (["replay", "--lines", "1 "], ErrorKind::ValueValidation),
         (["replay", "--port", "1"], ErrorKind::UnknownArgument),
         (["serve", "--port", "1"], ErrorKind::InvalidSubcommand),
     ];
@@ -49,6 +64,18 @@ fn shows_help(rt: HostRuntime) -> Result<(), Fail> {
     };
     assert!(rt; error.kind() == ErrorKind::DisplayHelp);
     assert!(rt; !error.use_stderr());
+    Ok(())
+}
+
+#[test]
+fn shows_version(rt: HostRuntime) -> Result<(), Fail> {
+    let alloc = rt.alloc();
+    let Err(error) = settings(alloc, &["--version"]) else {
+        return Err(Fail::new("no version"));
+    };
+    assert!(rt; error.kind() == ErrorKind::DisplayVersion);
+    assert!(rt; !error.use_stderr());
+    assert_eq!(rt; format!(in alloc; "{error}")?.as_str(), "viewd 0.1.0\n");
     Ok(())
 }
 

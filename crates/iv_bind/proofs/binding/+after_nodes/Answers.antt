@@ -1,5 +1,5 @@
 use Rattle.std.proofs.Common.{arith}
-use Rattle.iv_bind.specs.Shapes.{shape_of}
+use Rattle.iv_algebra.specs.Shapes.{shape_of}
 use Rattle.iv_bind.proofs.Nodes.{has_nodes}
 use Rattle.iv_bind.proofs.binding.+after_nodes.Goals as goal
 

@@ -1,4 +1,4 @@
-use Rattle.std.proofs.Common.{◌≡◌, ℤ, List, ℕ, false, take, drop, sym, ap, subst, ◌∙◌}
+use Rattle.std.proofs.Common.{List, ℕ, take, drop, sym, ap, subst, ◌∙◌}
 use Rattle.std.specs.Char.{is_ascii_digit}
 use Rattle.std.specs.Int.{w64}
 use Rattle.std.specs.List.{prefix_len}

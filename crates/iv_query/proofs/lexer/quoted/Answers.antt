@@ -1,4 +1,4 @@
-use Rattle.std.proofs.Common.{◌≡◌, ℕ, List, take, drop, string_bytes, sym, ap, subst, ◌∙◌}
+use Rattle.std.proofs.Common.{ℕ, take, drop, string_bytes, sym, ap, subst, ◌∙◌}
 use Rattle.std.specs.List.{prefix_len}
 use Rattle.std.specs.Str.{IsCharBoundary}
 use Rattle.iv_query.specs.Lexing.{is_plain}

@@ -1,4 +1,4 @@
-use Rattle.std.proofs.Common.{◌≡◌, ℕ, ◌+◌, ◌-◌, ◌*◌}
+use Rattle.std.proofs.Common.{◌≡◌, ◌+◌, ◌-◌, ◌*◌}
 use Rattle.iv_query.specs.declared.token.Symbol.TheVariants as symbol
 use Rattle.iv_query.specs.Tokens.{toks, after}
 use Rattle.iv_query.specs.Trees.{pred_tree, Both, Either}

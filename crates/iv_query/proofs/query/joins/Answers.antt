@@ -1,5 +1,5 @@
-use Rattle.std.proofs.Common.{◌≡◌, ◌-◌, ℕ, List, Option, Some, None, length, map, sym, ap, refl, subst, ◌∙◌, arith}
-use Rattle.std.specs.Prelude.{Bool, true, false}
+use Rattle.std.proofs.Common.{◌≡◌, ◌-◌, ℕ, List, Some, None, length, map, sym, ap, refl, subst, ◌∙◌}
+use Rattle.std.specs.Prelude.{true, false}
 use Rattle.std.proofs.lemmas.List.{map_push, length-map}
 use Rattle.std.proofs.lemmas.Result.{err_from_is_err_and}
 use Rattle.iv_query.specs.Tokens.{Tok, toks}
@@ -7,7 +7,7 @@ use Rattle.iv_query.specs.Trees.{JoinTree, join_tree}
 use Rattle.iv_query.specs.Rules.{push}
 use Rattle.iv_query.specs.Answers.{Fails}
 use Rattle.iv_query.specs.Query.{starts_join, at_join}
-use Rattle.iv_query.specs.QueryReading.{join_at, joins_at}
+use Rattle.iv_query.specs.QueryReading.{join_at}
 use Rattle.iv_query.proofs.Loop.{goes_on, fails_there, is_last, is_done}
 use Rattle.iv_query.proofs.query.joins.Goals as goal
 

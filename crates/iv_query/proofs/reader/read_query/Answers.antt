@@ -1,48 +1,29 @@
-use Rattle.std.proofs.Common.{List, length, sym, subst}
 use Rattle.std.proofs.lemmas.Result.{err_from_is_err_and}
-use Rattle.iv_query.specs.declared.token.Token.{Token}
-use Rattle.iv_query.specs.Tokens.{toks}
 use Rattle.iv_query.specs.Trees.{query_tree}
 use Rattle.iv_query.specs.Query.{IsQuery, IsQueryFault}
-use Rattle.iv_query.specs.Lexing.{Lexes}
-use Rattle.iv_query.proofs.TextLaws.{is_found, is_fault, is_only, is_fault_only, long_fault}
+use Rattle.iv_query.specs.QueryReading.{query_at}
+use Rattle.iv_query.specs.Texts.{IsQueryText, HasQueryFault}
+use Rattle.iv_query.specs.TextReading.{read_query}
+use Rattle.iv_query.proofs.TextLaws.{text_read, gives_text, gives_long, found}
 use Rattle.iv_query.proofs.SelectLaws.{query_agreement}
 use Rattle.iv_query.proofs.WellTokens.{queries_well, queries_small}
 use Rattle.iv_query.proofs.reader.read_query.Goals as goal
 
-pub returns-in_err-tokens-clause-fault : goal.returns-in_err-tokens-clause-fault
-returns-in_err-tokens-clause-fault c =
+pub returns-in_err-tokens-clause-read : goal.returns-in_err-tokens-clause-read
+returns-in_err-tokens-clause-read c =
     let p = err_from_is_err_and c.from_residual.result c.from_residual.ensures.1 in
-    rw (p.1, p.2) (long_fault IsQuery IsQueryFault c.args.text.now c.in_err-tokens.field-0.0 c.in_err-tokens.ensures.long c.in_err-tokens.ensures.fault)
+    rw (p.1, p.2) (gives_long query_at c.args.text.now query_tree c.in_err-tokens.field-0.0 c.in_err-tokens.ensures.long c.in_err-tokens.ensures.fault)
 
-pub returns-clause-found : goal.returns-clause-found
-returns-clause-found c =
-    let k = subst (λ (ts : List Token). Lexes (length c.args.text.now) c.args.text.now (toks ts) c.in_ok-tokens.tokens.stop c.in_ok-tokens.tokens.ends) (sym c.deref.ensures.value) c.in_ok-tokens.ensures.lexes in
-    is_found _ _ _ query_agreement c.args.text.now c.in_ok-tokens.ensures.short query_tree _ _ _ k c.whole_query.result c.whole_query.ensures
-
-pub returns-clause-only : goal.returns-clause-only
-returns-clause-only c =
-    let k = subst (λ (ts : List Token). Lexes (length c.args.text.now) c.args.text.now (toks ts) c.in_ok-tokens.tokens.stop c.in_ok-tokens.tokens.ends) (sym c.deref.ensures.value) c.in_ok-tokens.ensures.lexes in
-    is_only _ _ _ query_agreement c.args.text.now c.in_ok-tokens.ensures.short query_tree _ _ _ k c.whole_query.result c.whole_query.ensures
-
-pub returns-clause-fault : goal.returns-clause-fault
-returns-clause-fault c =
-    let k = subst (λ (ts : List Token). Lexes (length c.args.text.now) c.args.text.now (toks ts) c.in_ok-tokens.tokens.stop c.in_ok-tokens.tokens.ends) (sym c.deref.ensures.value) c.in_ok-tokens.ensures.lexes in
-    is_fault _ _ _ query_agreement c.args.text.now c.in_ok-tokens.ensures.short query_tree _ _ _ k c.whole_query.result c.whole_query.ensures
-
-pub returns-clause-fault_only : goal.returns-clause-fault_only
-returns-clause-fault_only c =
-    let k = subst (λ (ts : List Token). Lexes (length c.args.text.now) c.args.text.now (toks ts) c.in_ok-tokens.tokens.stop c.in_ok-tokens.tokens.ends) (sym c.deref.ensures.value) c.in_ok-tokens.ensures.lexes in
-    is_fault_only _ _ _ query_agreement c.args.text.now c.in_ok-tokens.ensures.short query_tree _ _ _ k c.whole_query.result c.whole_query.ensures
+pub returns-clause-read : goal.returns-clause-read
+returns-clause-read c =
+    gives_text query_at c.args.text.now query_tree _ c.whole_query.result c.in_ok-tokens.ensures.short c.in_ok-tokens.ensures.lexed c.whole_query.ensures
 
 pub returns-clause-well : goal.returns-clause-well
 returns-clause-well c =
-    let k = subst (λ (ts : List Token). Lexes (length c.args.text.now) c.args.text.now (toks ts) c.in_ok-tokens.tokens.stop c.in_ok-tokens.tokens.ends) (sym c.deref.ensures.value) c.in_ok-tokens.ensures.lexes in
     queries_well c.args.text.now query_tree c.whole_query.result
-    (is_found _ _ _ query_agreement c.args.text.now c.in_ok-tokens.ensures.short query_tree _ _ _ k c.whole_query.result c.whole_query.ensures)
+    (found IsQueryText HasQueryFault c.args.text.now query_tree c.whole_query.result (read_query c.args.text.now) (returns-clause-read c) (text_read IsQuery IsQueryFault query_at query_agreement c.args.text.now c.utf8.text))
 
 pub returns-clause-sources : goal.returns-clause-sources
 returns-clause-sources c =
-    let k = subst (λ (ts : List Token). Lexes (length c.args.text.now) c.args.text.now (toks ts) c.in_ok-tokens.tokens.stop c.in_ok-tokens.tokens.ends) (sym c.deref.ensures.value) c.in_ok-tokens.ensures.lexes in
     queries_small c.args.text.now query_tree c.whole_query.result
-    (is_found _ _ _ query_agreement c.args.text.now c.in_ok-tokens.ensures.short query_tree _ _ _ k c.whole_query.result c.whole_query.ensures)
+    (found IsQueryText HasQueryFault c.args.text.now query_tree c.whole_query.result (read_query c.args.text.now) (returns-clause-read c) (text_read IsQuery IsQueryFault query_at query_agreement c.args.text.now c.utf8.text))

@@ -1,4 +1,4 @@
-use Rattle.std.proofs.Common.{◌≡◌, ◌≤◌, ◌<◌, ◌+◌, ◌*◌, ◌||◌, ◌∙◌, sym, ap, subst, ℕ, List, take, true, false, arith, rules, inl, inr, Err}
+use Rattle.std.proofs.Common.{◌∙◌, ap, arith, rules, inl, inr, Err}
 use Rattle.std.proofs.Math.Bool.{or-false}
 use Rattle.std.proofs.lemmas.Result.{err_from_is_err_and}
 use Rattle.iv_wire.specs.Ahead.{known}
@@ -25,37 +25,37 @@ returns-in_err-text-in-Endless-clause-answered g c =
     let p = err_from_is_err_and c.from_residual-in_err-text-in-Endless.result c.from_residual-in_err-text-in-Endless.ensures.1 in
     rw (p.1, p.2) (λ s b. answered_memory s c.loop.engine c.loop.engine _ (known c.loop.room (g.R.Source.left c.loop.reader)) _ _ _ c.args.lines c.loop.counter c.loop-test.true (c.loop.invariant.told s b))
 
-pub returns-in_err-say-in-Endless-clause-answered : goal.returns-in_err-say-in-Endless-clause-answered
-returns-in_err-say-in-Endless-clause-answered g c =
+pub returns-in_err-send_answer-in-Endless-clause-answered : goal.returns-in_err-send_answer-in-Endless-clause-answered
+returns-in_err-send_answer-in-Endless-clause-answered g c =
     let k = rw c.in-Endless.is at c.in_ok-next_line.ensures.cut in
-    let p = err_from_is_err_and c.from_residual-in_err-say-in-Endless.result c.from_residual-in_err-say-in-Endless.ensures.1 in
-    rw (p.1, p.2, c.in_err-say-in-Endless.ensures.fault) (λ s b. answered_write_endless s c.loop.engine _ _ (known c.loop.room (g.R.Source.left c.loop.reader)) _ _ (g.W.Sink.taken c.loop.writer) _ c.args.lines c.loop.counter _ c.loop-test.true (c.loop.invariant.told s b) k (c.deref.ensures.value ∙ c.in_ok-text-in-Endless.ensures) c.in_err-say-in-Endless.ensures.front)
+    let p = err_from_is_err_and c.from_residual-in_err-send_answer-in-Endless.result c.from_residual-in_err-send_answer-in-Endless.ensures.1 in
+    rw (p.1, p.2, c.in_err-send_answer-in-Endless.ensures.fault) (λ s b. answered_write_endless s c.loop.engine _ _ (known c.loop.room (g.R.Source.left c.loop.reader)) _ _ (g.W.Sink.taken c.loop.writer) _ c.args.lines c.loop.counter _ c.loop-test.true (c.loop.invariant.told s b) k (c.deref.ensures.value ∙ c.in_ok-text-in-Endless.ensures) c.in_err-send_answer-in-Endless.ensures.front)
 
 pub returns-in-Endless-clause-answered : goal.returns-in-Endless-clause-answered
 returns-in-Endless-clause-answered g c =
     let k = rw c.in-Endless.is at c.in_ok-next_line.ensures.cut in
-    λ s b. answered_endless s c.loop.engine _ _ (known c.loop.room (g.R.Source.left c.loop.reader)) _ _ (g.W.Sink.taken c.loop.writer) _ c.args.lines c.loop.counter _ c.loop-test.true (c.loop.invariant.told s b) k (c.deref.ensures.value ∙ c.in_ok-text-in-Endless.ensures) c.in_ok-say-in-Endless.ensures.ok
+    λ s b. answered_endless s c.loop.engine _ _ (known c.loop.room (g.R.Source.left c.loop.reader)) _ _ (g.W.Sink.taken c.loop.writer) _ c.args.lines c.loop.counter _ c.loop-test.true (c.loop.invariant.told s b) k (c.deref.ensures.value ∙ c.in_ok-text-in-Endless.ensures) c.in_ok-send_answer-in-Endless.ensures.ok
 
 pub returns-in_err-text-in-Line-clause-answered : goal.returns-in_err-text-in-Line-clause-answered
 returns-in_err-text-in-Line-clause-answered g c =
     let p = err_from_is_err_and c.from_residual-in_err-text-in-Line.result c.from_residual-in_err-text-in-Line.ensures.1 in
-    rw (p.1, p.2) (λ s b. answered_memory s c.loop.engine c.tell.new.engine _ (known c.loop.room (g.R.Source.left c.loop.reader)) _ _ _ c.args.lines c.loop.counter c.loop-test.true (c.loop.invariant.told s b))
+    rw (p.1, p.2) (λ s b. answered_memory s c.loop.engine c.answer_line.new.engine _ (known c.loop.room (g.R.Source.left c.loop.reader)) _ _ _ c.args.lines c.loop.counter c.loop-test.true (c.loop.invariant.told s b))
 
-pub returns-in_err-say-in-Line-clause-answered : goal.returns-in_err-say-in-Line-clause-answered
-returns-in_err-say-in-Line-clause-answered g c =
+pub returns-in_err-send_answer-in-Line-clause-answered : goal.returns-in_err-send_answer-in-Line-clause-answered
+returns-in_err-send_answer-in-Line-clause-answered g c =
     let k = rw c.in-Line.is at c.in_ok-next_line.ensures.cut in
-    let p = err_from_is_err_and c.from_residual-in_err-say-in-Line.result c.from_residual-in_err-say-in-Line.ensures.1 in
-    rw (p.1, p.2, c.in_err-say-in-Line.ensures.fault) (λ s b. answered_write s c.loop.engine c.tell.new.engine _ _ (known c.loop.room (g.R.Source.left c.loop.reader)) _ _ (g.W.Sink.taken c.loop.writer) _ c.args.lines c.loop.counter c.in-Line.line _ c.loop-test.true (c.loop.invariant.told s b) k (tells c.loop.engine c.tell.new.engine c.in-Line.line.items _ _ _ c.deref-in-Line.ensures.value c.deref-in-Line-2.ensures.value c.in_ok-text-in-Line.ensures.text c.in_ok-text-in-Line.ensures.state) c.in_err-say-in-Line.ensures.front)
+    let p = err_from_is_err_and c.from_residual-in_err-send_answer-in-Line.result c.from_residual-in_err-send_answer-in-Line.ensures.1 in
+    rw (p.1, p.2, c.in_err-send_answer-in-Line.ensures.fault) (λ s b. answered_write s c.loop.engine c.answer_line.new.engine _ _ (known c.loop.room (g.R.Source.left c.loop.reader)) _ _ (g.W.Sink.taken c.loop.writer) _ c.args.lines c.loop.counter c.in-Line.line _ c.loop-test.true (c.loop.invariant.told s b) k (tells c.loop.engine c.answer_line.new.engine c.in-Line.line.items _ _ _ c.deref-in-Line.ensures.value c.deref-in-Line-2.ensures.value c.in_ok-text-in-Line.ensures.text c.in_ok-text-in-Line.ensures.state) c.in_err-send_answer-in-Line.ensures.front)
 
 pub loop-preserved : goal.loop-preserved
 loop-preserved g c =
     let k = rw c.in-Line.is at c.in_ok-next_line.ensures.cut in
     record {
-      told = λ s b. told_more s c.loop.engine c.tell.new.engine _ (known c.loop.room (g.R.Source.left c.loop.reader)) _ _ (g.W.Sink.taken c.loop.writer) _ c.loop.counter c.in-Line.line _ (c.loop.invariant.told s b) k (tells c.loop.engine c.tell.new.engine c.in-Line.line.items _ _ _ c.deref-in-Line.ensures.value c.deref-in-Line-2.ensures.value c.in_ok-text-in-Line.ensures.text c.in_ok-text-in-Line.ensures.state) c.in_ok-say-in-Line.ensures.ok;
+      told = λ s b. told_more s c.loop.engine c.answer_line.new.engine _ (known c.loop.room (g.R.Source.left c.loop.reader)) _ _ (g.W.Sink.taken c.loop.writer) _ c.loop.counter c.in-Line.line _ (c.loop.invariant.told s b) k (tells c.loop.engine c.answer_line.new.engine c.in-Line.line.items _ _ _ c.deref-in-Line.ensures.value c.deref-in-Line-2.ensures.value c.in_ok-text-in-Line.ensures.text c.in_ok-text-in-Line.ensures.state) c.in_ok-send_answer-in-Line.ensures.ok;
       went_on = λ h. c.in_ok-text-in-Line.ensures.failed (c.loop.invariant.went_on h);
       read = c.in_ok-next_line.ensures.failed ∙ (or-false (g.R.Source.has_failed c.loop.reader) ∙ c.loop.invariant.read);
-      write = c.in_ok-say-in-Line.ensures.failed ∙ (or-false (g.W.Sink.has_failed c.loop.writer) ∙ c.loop.invariant.write);
-      flushed = λ _. c.in_ok-say-in-Line.ensures.flushed;
+      write = c.in_ok-send_answer-in-Line.ensures.failed ∙ (or-false (g.W.Sink.has_failed c.loop.writer) ∙ c.loop.invariant.write);
+      flushed = λ _. c.in_ok-send_answer-in-Line.ensures.flushed;
       reads = omega (arith, c.in_ok-next_line.ensures.reads);
     }
 

@@ -2,7 +2,7 @@ use Rattle.std.proofs.Common.{◌≡◌, ◌≤◌, ◌+◌, ◌*◌, true, fals
 use Rattle.iv_machine.specs.State.{State}
 use Rattle.iv_engine.specs.Seen.{IsBehind}
 use Rattle.iv_wire.specs.Ahead.{known}
-use Rattle.iv_wire.specs.Endings.{HasTold}
+use Rattle.iv_wire.proofs.Answering.{HasTold}
 use Rattle.iv_wire.proofs.running.run_lines.Given as goal
 
 abbrev pub invariant-loop : goal.invariant-loop

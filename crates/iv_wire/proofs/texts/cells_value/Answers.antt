@@ -1,4 +1,4 @@
-use Rattle.std.proofs.Common.{◌≡◌, ◌∙◌, map, take, arith}
+use Rattle.std.proofs.Common.{◌∙◌, arith}
 use Rattle.iv_wire.specs.Texts.{cell_data}
 use Rattle.iv_rows.specs.View.{cell_of}
 use Rattle.iv_wire.proofs.Writing.{pushes, all_pushed}

@@ -1,4 +1,4 @@
-use Rattle.std.proofs.Common.{◌≡◌, ◌∙◌, map, take, arith}
+use Rattle.std.proofs.Common.{◌∙◌, arith}
 use Rattle.iv_wire.specs.Texts.{entry_data}
 use Rattle.iv_wire.proofs.Writing.{pushes, all_pushed_as}
 use Rattle.iv_wire.proofs.texts.rows_value.Goals as goal

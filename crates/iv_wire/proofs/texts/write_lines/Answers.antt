@@ -1,4 +1,4 @@
-use Rattle.std.proofs.Common.{◌≡◌, ◌∙◌, take, arith}
+use Rattle.std.proofs.Common.{◌∙◌, arith}
 use Rattle.iv_wire.specs.Texts.{line_text}
 use Rattle.iv_engine.specs.Views.{line_of}
 use Rattle.iv_wire.proofs.Writing.{appends_text, all_texts}

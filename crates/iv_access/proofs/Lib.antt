@@ -1,0 +1,6 @@
+pub mod Lists
+pub mod Granting
+pub mod Counting
+pub mod Entering
+pub mod Policies
+pub mod Naming

@@ -1,0 +1,114 @@
+-- Tests and places in a list of which each element is seen by a function.
+use Rattle.std.proofs.Common.{◌≡◌, ℕ, suc, ◌+◌, ◌<◌, ◌≤◌, List, [], ◌∷◌, map, length, Bool, true, false, cond, not, ◌&&◌, ◌||◌, refl, sym, ap, ◌∙◌, arith, Some, None}
+use Rattle.std.specs.Prelude.{nat_lt}
+use Rattle.std.specs.Map.{lookup}
+use Rattle.std.specs.List.{list_all, list_any, position, position_or_len, prefix_len}
+use Rattle.std.proofs.lemmas.Bool.{lt-ltb, ltb-true, ltb-false}
+use Rattle.std.proofs.lemmas.List.{length-map}
+
+prefix_map : {A B : Type 0} (p : B → Bool) (f : A → B) (xs : List A) → prefix_len p (map f xs) ≡ prefix_len (λ x. p (f x)) xs
+prefix_map p f [] = refl
+prefix_map p f (x ∷ xs) = ap (λ n. cond (p (f x)) (1 + n) 0) (prefix_map p f xs)
+
+pub position_map : {A B : Type 0} (p : B → Bool) (f : A → B) (xs : List A) → position p (map f xs) ≡ position (λ x. p (f x)) xs
+position_map p f xs = λ i. cond (nat_lt (prefix_map (λ x. not (p x)) f xs i) (length-map xs f i)) (Some (prefix_map (λ x. not (p x)) f xs i)) None
+
+pub any_map : {A B : Type 0} (p : B → Bool) (f : A → B) (xs : List A) → list_any p (map f xs) ≡ list_any (λ x. p (f x)) xs
+any_map p f [] = refl
+any_map p f (x ∷ xs) = ap (λ b. p (f x) || b) (any_map p f xs)
+
+differs : {A : Type 0} → false ≡ true → A
+differs h = cc
+
+pub found : {A : Type 0} (p : A → Bool) (xs : List A) → list_any p xs ≡ true → position_or_len p xs < length xs
+found p [] e = differs e
+found p (x ∷ xs) e =
+    elim (p x) as (λ b. (b || list_any p xs) ≡ true → cond (not b) (1 + position_or_len p xs) 0 < suc (length xs)) [
+      | true ↦ λ _. omega arith
+      | false ↦ λ h. let ih = found p xs h in omega (arith, ih)
+    ] e
+
+not_none : {A : Type 0} (x : A) → Some x ≡ None → ⊥
+not_none x e = cc
+
+pub absent : {A : Type 0} (p : A → Bool) (xs : List A) → position p xs ≡ None → list_any p xs ≡ false
+absent p xs e =
+    elim (list_any p xs) as (λ b. list_any p xs ≡ b → b ≡ false) [
+      | true ↦ λ t. absurd (not_none (position_or_len p xs) (ap (λ b. cond b (Some (position_or_len p xs)) None) (sym (lt-ltb (position_or_len p xs) (length xs) (found p xs t))) ∙ e))
+      | false ↦ λ _. refl
+    ] refl
+
+-- what is not there by its image is not there
+pub absent_map : {A B : Type 0} (p : B → Bool) (f : A → B) (xs : List A) → position p (map f xs) ≡ None → list_any (λ x. p (f x)) xs ≡ false
+absent_map p f xs e = sym (any_map p f xs) ∙ absent p (map f xs) e
+
+pub or_left : (a b : Bool) → (a || b) ≡ false → a ≡ false
+or_left true b e = e
+or_left false b e = refl
+
+pub or_right : (a b : Bool) → (a || b) ≡ false → b ≡ false
+or_right true b e = differs (sym e)
+or_right false b e = e
+
+-- a key that no test finds has no value
+pub no_value : {K X : Type 0} (test : K → Bool) (es : List (K × X)) → list_any (λ e. test e.0) es ≡ false → lookup test es ≡ None
+no_value test [] e = refl
+no_value test (x ∷ xs) e =
+    elim (test x.0) as (λ b. (b || list_any (λ e. test e.0) xs) ≡ false → cond b (Some x.1) (lookup test xs) ≡ None) [
+      | true ↦ λ h. differs (sym h)
+      | false ↦ λ h. no_value test xs h
+    ] e
+
+-- ---- the place of a new element
+
+pub prefix_short : {A : Type 0} (p : A → Bool) (xs : List A) → prefix_len p xs ≤ length xs
+prefix_short p [] = omega arith
+prefix_short p (x ∷ xs) =
+    elim (p x) as (λ b. cond b (1 + prefix_len p xs) 0 ≤ suc (length xs)) [
+      | true ↦ let ih = prefix_short p xs in omega (arith, ih)
+      | false ↦ omega arith
+    ]
+
+same_some : {A : Type 0} (x y : A) → Some x ≡ Some y → x ≡ y
+same_some x y e = cc
+
+pub place_some : {A : Type 0} (p : A → Bool) (xs : List A) (n : ℕ) → Some n ≡ position p xs → n ≡ position_or_len p xs
+place_some p xs n e =
+    elim (nat_lt (position_or_len p xs) (length xs)) as (λ b. Some n ≡ cond b (Some (position_or_len p xs)) None → n ≡ position_or_len p xs) [
+      | true ↦ λ h. same_some n (position_or_len p xs) h
+      | false ↦ λ h. absurd (not_none n h)
+    ] e
+
+pub place_none : {A : Type 0} (p : A → Bool) (xs : List A) → None ≡ position p xs → length xs ≡ position_or_len p xs
+place_none p xs e =
+    let short = prefix_short (λ x. not (p x)) xs in
+    elim (nat_lt (position_or_len p xs) (length xs)) as (λ b. nat_lt (position_or_len p xs) (length xs) ≡ b → None ≡ cond b (Some (position_or_len p xs)) None → length xs ≡ position_or_len p xs) [
+      | true ↦ λ _ h. absurd (not_none (position_or_len p xs) (sym h))
+      | false ↦ λ t _. let far = ltb-false (position_or_len p xs) (length xs) t in omega (arith, short, far)
+    ] refl e
+
+none_found : {A : Type 0} (p : A → Bool) (xs : List A) → list_any p xs ≡ false → position_or_len p xs ≡ length xs
+none_found p [] e = refl
+none_found p (x ∷ xs) e =
+    elim (p x) as (λ b. (b || list_any p xs) ≡ false → cond (not b) (1 + position_or_len p xs) 0 ≡ suc (length xs)) [
+      | true ↦ λ h. differs (sym h)
+      | false ↦ λ h. let ih = none_found p xs h in omega (arith, ih)
+    ] e
+
+no_less : (m n : ℕ) → m ≡ n → nat_lt m n ≡ false
+no_less m n e =
+    elim (nat_lt m n) as (λ b. nat_lt m n ≡ b → b ≡ false) [
+      | true ↦ λ t. let less = ltb-true m n t in absurd (omega (arith, less, e))
+      | false ↦ λ t. refl
+    ] refl
+
+pub position_any : {A : Type 0} (p : A → Bool) (xs : List A) → nat_lt (position_or_len p xs) (length xs) ≡ list_any p xs
+position_any p xs =
+    elim (list_any p xs) as (λ b. list_any p xs ≡ b → nat_lt (position_or_len p xs) (length xs) ≡ b) [
+      | true ↦ λ t. lt-ltb (position_or_len p xs) (length xs) (found p xs t)
+      | false ↦ λ t. no_less (position_or_len p xs) (length xs) (none_found p xs t)
+    ] refl
+
+pub map_map : {A B C : Type 0} (p : B → C) (f : A → B) (xs : List A) → map p (map f xs) ≡ map (λ x. p (f x)) xs
+map_map p f [] = refl
+map_map p f (x ∷ xs) = ap (λ ys. p (f x) ∷ ys) (map_map p f xs)

@@ -1,0 +1,5 @@
+use Rattle.iv_access.proofs.Naming.{among_given}
+use Rattle.iv_access.proofs.laws.grants_give_what_they_name.Goals as goal
+
+pub returns : goal.returns
+returns c = λ r rel ps to g. among_given rel ps to g r.grants

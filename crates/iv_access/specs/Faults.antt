@@ -1,0 +1,67 @@
+-- When a change of rights is refused, and why: the tests in their order.
+use Rattle.std.specs.Prelude.{ℕ, Bool, true, not, if◌then◌else◌, List, [], ◌∷◌, length, Option, Some, None, is_some, nat_le, slice_get, count_by}
+use Rattle.std.specs.Bool.{beq}
+use Rattle.std.specs.List.{list_all}
+use Rattle.iv_access.specs.declared.fault.AccessFault.{AccessFault}
+use Rattle.iv_access.specs.declared.fault.AccessFault.TheVariants as fault
+use Rattle.iv_access.specs.Rights.{Name, Rights}
+use Rattle.iv_access.specs.Privileges.{role_of, is_admin, owns}
+use Rattle.iv_access.specs.Policies.{policies_of, policy_of}
+use Rattle.iv_access.specs.Known.{Known, Relation, relation_of}
+
+-- the first fault whose test is true
+abbrev pub first : List (Bool × AccessFault) → Option AccessFault
+first [] = None
+first (t ∷ ts) = if t.0 then Some t.1 else first ts
+
+abbrev pub is_role : Rights → Name → Bool
+is_role r name = is_some (role_of r name)
+
+-- all roles, or a role that is there
+abbrev pub is_grantee : Rights → Option Name → Bool
+is_grantee r None = true
+is_grantee r (Some name) = is_role r name
+
+-- ---- roles and relations
+
+-- at most 256 roles, with `admin`
+abbrev pub create_role_fault : Rights → ℕ → Name → Option AccessFault
+create_role_fault r acting name =
+    first ((not (is_admin acting), fault.NotAdmin) ∷ (is_role r name, fault.Taken) ∷ (nat_le 256 (length r.roles), fault.TooMany) ∷ [])
+
+-- how many tables there are, or how many views
+abbrev pub count_like : Bool → List Relation → ℕ
+count_like table rs = count_by (λ r. beq table (is_some r.kinds)) rs
+
+-- at most 64 tables, and at most 64 views
+abbrev pub add_relation_fault : Known → ℕ → Name → Name → Bool → Option AccessFault
+add_relation_fault k acting name owner table =
+    first (
+    (not (is_admin acting), fault.NotAdmin)
+    ∷ (not (is_role k.rights owner), fault.Role)
+    ∷ (is_some (relation_of k.relations name), fault.Taken)
+    ∷ (nat_le 64 (count_like table k.relations), fault.TooMany)
+    ∷ [])
+
+-- ---- grants
+
+abbrev pub grant_fault : Rights → ℕ → ℕ → Option Name → Option AccessFault
+grant_fault r acting rel to = first ((not (owns r acting rel), fault.NotOwner) ∷ (not (is_grantee r to), fault.Role) ∷ [])
+
+-- ---- row security and policies
+
+abbrev pub row_security_fault : Rights → ℕ → ℕ → Option AccessFault
+row_security_fault r acting table = first ((not (owns r acting table), fault.NotOwner) ∷ [])
+
+-- at most 32 policies on a table
+abbrev pub create_policy_fault : Rights → ℕ → ℕ → Name → List (Option Name) → Option AccessFault
+create_policy_fault r acting table name to =
+    first (
+    (not (owns r acting table), fault.NotOwner)
+    ∷ (not (list_all (is_grantee r) to), fault.Role)
+    ∷ (is_some (policy_of r table name), fault.Taken)
+    ∷ (nat_le 32 (length (policies_of (slice_get r.guards table))), fault.TooMany)
+    ∷ [])
+
+abbrev pub drop_policy_fault : Rights → ℕ → ℕ → Name → Option AccessFault
+drop_policy_fault r acting table name = first ((not (owns r acting table), fault.NotOwner) ∷ (not (is_some (policy_of r table name)), fault.Policy) ∷ [])

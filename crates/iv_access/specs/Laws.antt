@@ -1,0 +1,56 @@
+-- Laws of rights.
+use Rattle.std.specs.Prelude.{◌≡◌, ℕ, ◌&&◌, ◌||◌, not, true, false, List, length, slice_get}
+use Rattle.std.specs.List.{AllPass, list_any}
+use Rattle.iv_algebra.specs.Rows.{Cells}
+use Rattle.iv_access.specs.declared.policy.Check.{Check}
+use Rattle.iv_access.specs.declared.policy.Verdict.TheVariants.{NoPermissive}
+use Rattle.iv_access.specs.declared.privilege.Privilege.{Privilege}
+use Rattle.iv_access.specs.Rights.{Grant, Grantee, Public, Role, Rights}
+use Rattle.iv_access.specs.Privileges.{has, is_admin}
+use Rattle.iv_access.specs.Policies.{permits, forbids, policies_of, is_exempt, is_pass, verdict}
+use Rattle.iv_access.specs.Changing.{with_grants, without_grants, with_relation}
+use Rattle.iv_access.specs.Given.{grant_to, is_among, is_named_by, may_permit}
+
+-- ---- grants
+
+-- those are held that were held, and those that are named
+abbrev pub GrantsGive : Type 0
+GrantsGive =
+    (r : Rights) (rel : ℕ) (ps : List Privilege) (to : Grantee) (g : Grant)
+    → is_among (with_grants rel ps to r).grants g ≡ (is_among r.grants g || is_named_by rel ps to g)
+
+-- those are held that were held, without those that are named
+abbrev pub RevokesTake : Type 0
+RevokesTake =
+    (r : Rights) (rel : ℕ) (ps : List Privilege) (to : Grantee) (g : Grant)
+    → is_among (without_grants rel ps to r).grants g ≡ (not (is_named_by rel ps to g) && is_among r.grants g)
+
+abbrev pub HeldGrantsChangeNothing : Type 0
+HeldGrantsChangeNothing =
+    (r : Rights) (rel : ℕ) (ps : List Privilege) (to : Grantee) → AllPass (λ p. is_among r.grants (grant_to to p rel)) ps → with_grants rel ps to r ≡ r
+
+-- as `admin`, by a grant to all roles, or by one of its own
+abbrev pub RolesHaveTheirOwn : Type 0
+RolesHaveTheirOwn =
+    (r : Rights) (role : ℕ) (p : Privilege) (rel : ℕ)
+    → has r role p rel ≡ (is_admin role || (is_among r.grants (grant_to Public p rel) || is_among r.grants (grant_to (Role role) p rel)))
+
+abbrev pub OwnersHaveAll : Type 0
+OwnersHaveAll = (r : Rights) (owner : ℕ) (p : Privilege) → has (with_relation owner r) owner p (length r.guards) ≡ true
+
+-- ---- policies
+
+-- the role is exempt, or some permissive policy that applies passes the row and no restrictive one that applies fails it
+abbrev pub RowsPassWherePermitted : Type 0
+RowsPassWherePermitted =
+    (r : Rights) (role table : ℕ) (test : Check) (row : Cells)
+    → is_pass (verdict r role table test row)
+    ≡ (is_exempt r role (slice_get r.guards table)
+    || (list_any (permits r role test row) (policies_of (slice_get r.guards table)) && not (list_any (forbids r role test row) (policies_of (slice_get r.guards table)))))
+
+abbrev pub NothingPassesWithoutPermissive : Type 0
+NothingPassesWithoutPermissive =
+    (r : Rights) (role table : ℕ) (test : Check) (row : Cells)
+    → is_exempt r role (slice_get r.guards table) ≡ false
+    → list_any (may_permit r role test) (policies_of (slice_get r.guards table)) ≡ false
+    → verdict r role table test row ≡ NoPermissive

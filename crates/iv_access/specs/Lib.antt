@@ -1,0 +1,14 @@
+pub mod Rights
+pub mod Privileges
+pub mod Policies
+pub mod Changing
+pub mod Known
+pub mod Faults
+pub mod Codes
+pub mod Fed
+pub mod Grants
+pub mod Stored
+pub mod Asked
+pub mod Filters
+pub mod Given
+pub mod Laws

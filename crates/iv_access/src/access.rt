@@ -1,0 +1,123 @@
+//! Who may do what.
+ghost use Rattle.std.specs.Prelude.{◌≡◌, ◌&&◌, IfOk, map, option_map};
+ghost use Rattle.iv_access.specs.Known.{known_at_start, relation_of, relation_name};
+ghost use Rattle.iv_access.specs.Privileges.{acts_as, has, first_missing, owns, role_of};
+
+use crate::grant::{self, Grant};
+use crate::guard::Guard;
+use crate::privilege::{Missing, Privilege};
+use crate::relations::Relations;
+use crate::role::RoleId;
+use crate::roles::Roles;
+use indexmap::IndexSet;
+use iv_rows::RelId;
+use std::alloc::{AllocError, Global};
+use std::marker::Model;
+
+/// Roles, relations with their owners, and grants; row security and policies of tables. Roles and relations are numbered
+/// as they come.
+///
+/// Source: PostgreSQL 16, Privileges, and Row Security Policies.
+#[derive(Drop)]
+pub struct Access {
+    pub(crate) roles: Roles,
+    pub(crate) relations: Relations,
+    pub(crate) guards: Vec<Guard>,
+    pub(crate) grants: IndexSet<Grant>,
+}
+
+impl Model for Access {
+    ghost use Rattle.iv_access.specs.Known.{Known};
+    ghost use Rattle.iv_access.specs.Codes.{known_code};
+
+    ghost Value = { Known };
+
+    ghost coded = { known_code };
+
+    ghost view = { λ a. record { relations = a.relations; rights = record { roles = a.roles; guards = a.guards.items; grants = a.grants.keys } } };
+
+    ghost use Rattle.std.specs.Prelude.{◌≡◌, length};
+
+    ghost invariant = { λ a. length a.guards.items ≡ length a.relations };
+}
+
+impl Access {
+    /// One role, `admin`, and no relation.
+    ///
+    /// # Errors
+    /// `AllocError` where a growth of memory was refused.
+    pub fn new(alloc: Global) -> Result<Access, AllocError>
+        ensures { IfOk result (λ access. access ≡ known_at_start) }
+    {
+        let mut roles = Roles::new(alloc);
+        roles.push("admin")?;
+        Ok(Access {
+            roles,
+            relations: Relations::new(alloc),
+            guards: Vec::new(alloc),
+            grants: IndexSet::new(alloc),
+        })
+    }
+
+    /// The role of that name. It takes no memory.
+    pub fn role(&self, name: &str) -> Option<RoleId>
+        ensures { option_map (λ r. r.0) result ≡ role_of self.now.rights name.now }
+    {
+        self.roles.number(name)
+    }
+
+    /// The relation of that name. It takes no memory.
+    pub fn relation(&self, name: &str) -> Option<RelId>
+        ensures { option_map (λ r. r.0) result ≡ relation_of self.now.relations name.now }
+    {
+        self.relations.number(name)
+    }
+
+    /// The name of a relation. It takes no memory.
+    pub fn relation_name(&self, rel: RelId) -> Option<&str>
+        ensures { option_map (λ n. n.now) result ≡ relation_name self.now.relations rel.0 }
+    {
+        self.relations.name(rel)
+    }
+
+    /// Whether the role has what the other has: it is the other.
+    pub(crate) fn acts_as(&self, role: RoleId, other: RoleId) -> bool
+        ensures { result ≡ acts_as self.now.rights role.0 other.0 }
+    {
+        role == other
+    }
+
+    /// Whether the role is `admin`, or the owner of the relation. It takes no memory.
+    pub fn owns(&self, role: RoleId, rel: RelId) -> bool
+        ensures { result ≡ owns self.now.rights role.0 rel.0 }
+    {
+        if role.is_admin() {
+            return true;
+        }
+        match self.guards.get(rel.0 as usize) {
+            Some(guard) => self.acts_as(role, guard.owner),
+            None => false,
+        }
+    }
+
+    /// Whether the role is `admin`, or the privilege on the relation was granted to it or to all roles. It takes no
+    /// memory.
+    pub fn has(&self, role: RoleId, privilege: Privilege, rel: RelId) -> bool
+        ensures { result ≡ has self.now.rights role.0 privilege rel.0 }
+    {
+        role.is_admin() || grant::is_granted(&self.grants, role, privilege, rel)
+    }
+
+    /// The first of the needs that the role has not. It takes no memory.
+    pub fn first_missing(&self, role: RoleId, needs: &[(Privilege, RelId)]) -> Option<Missing>
+        ensures { option_map (λ m. (m.privilege, m.rel.0)) result ≡ first_missing self.now.rights role.0 (map (λ n. (n.0, n.1.0)) needs.now) }
+    {
+        for need in needs {
+            let (privilege, rel) = *need;
+            if !self.has(role, privilege, rel) {
+                return Some(Missing { privilege, rel });
+            }
+        }
+        None
+    }
+}

@@ -1,0 +1,178 @@
+//! How rights change.
+ghost use Rattle.std.specs.Prelude.{◌≡◌, ◌⊎◌, ◌<◌, ◌∷◌, [], ◌++◌, None, Some, IfOk, IfErr, IfSome, OnOk, OnErr, is_some, length, option_map};
+ghost use Rattle.iv_access.specs.declared.fault.AccessFault.TheVariants.{Memory};
+ghost use Rattle.iv_access.specs.Changing.{with_role, with_relation, with_grants, without_grants};
+ghost use Rattle.iv_access.specs.Faults.{count_like, is_grantee, create_role_fault, add_relation_fault, grant_fault};
+ghost use Rattle.iv_access.specs.Grants.{seen};
+ghost use Rattle.iv_access.specs.Known.{relation_of, relation_with, role_number, grantee_of, named};
+
+use crate::access::Access;
+use crate::fault::AccessFault;
+use crate::grant::{self, Grantee};
+use crate::guard::Guard;
+use crate::privilege::Privilege;
+use crate::relations::MOST_RELATIONS;
+use crate::role::RoleId;
+use crate::roles::MOST_ROLES;
+use iv_rows::{Kind, RelId};
+
+impl Access {
+    /// Adds a role. After an error nothing has changed.
+    ///
+    /// # Errors
+    /// In this order: `NotAdmin`, `Taken`, `TooMany`; `Memory` where a growth was refused.
+    pub fn create_role(&mut self, acting: RoleId, name: &str) -> Result<(), AccessFault>
+        ensures ok { OnOk result (self.new.rights ≡ with_role name.now self.old.rights) }
+        ensures relations { self.new.relations ≡ self.old.relations }
+        ensures ok_when { OnOk result (create_role_fault self.old.rights acting.0 name.now ≡ None) }
+        ensures err_when { IfErr result (λ e. (e ≡ Memory) ⊎ (create_role_fault self.old.rights acting.0 name.now ≡ Some e)) }
+        ensures unchanged { OnErr result (self.new ≡ self.old) }
+    {
+        if !acting.is_admin() {
+            return Err(AccessFault::NotAdmin);
+        }
+        if self.role(name).is_some() {
+            return Err(AccessFault::Taken);
+        }
+        if self.roles.len() >= MOST_ROLES {
+            return Err(AccessFault::TooMany);
+        }
+        self.roles.push(name)?;
+        Ok(())
+    }
+
+    /// The owner of a table or a view that is not there yet, or why it is refused.
+    fn owner_of_new(
+        &self,
+        acting: RoleId,
+        name: &str,
+        owner: &str,
+        table: bool,
+    ) -> Result<RoleId, AccessFault>
+        ensures owner { IfOk result (λ role. role.0 ≡ role_number self.now.rights owner.now) }
+        ensures new { OnOk result (relation_of self.now.relations name.now ≡ None) }
+        ensures room { OnOk result (count_like table self.now.relations < 64) }
+        ensures ok_when { OnOk result (add_relation_fault self.now acting.0 name.now owner.now table ≡ None) }
+        ensures err_when { IfErr result (λ e. add_relation_fault self.now acting.0 name.now owner.now table ≡ Some e) }
+    {
+        if !acting.is_admin() {
+            return Err(AccessFault::NotAdmin);
+        }
+        let Some(role) = self.role(owner) else {
+            return Err(AccessFault::Role);
+        };
+        if self.relation(name).is_some() {
+            return Err(AccessFault::Taken);
+        }
+        if self.relations.count_like(table) >= MOST_RELATIONS {
+            return Err(AccessFault::TooMany);
+        }
+        Ok(role)
+    }
+
+    /// Adds a table, which has the kinds of its columns, or a view, which has none, and answers its number. It has no
+    /// row security, and its owner is granted everything. After an error nothing has changed.
+    ///
+    /// # Errors
+    /// In this order: `NotAdmin`, `Role` (the owner), `Taken`, `TooMany`; `Memory` where a growth was refused.
+    pub fn add_relation(
+        &mut self,
+        acting: RoleId,
+        name: &str,
+        owner: &str,
+        kinds: Option<Vec<Kind>>,
+    ) -> Result<RelId, AccessFault>
+        ensures ok { OnOk result (self.new.rights ≡ with_relation (role_number self.old.rights owner.now) self.old.rights) }
+        ensures relations { OnOk result (self.new.relations ≡ self.old.relations ++ relation_with name.now kinds ∷ []) }
+        ensures number { IfOk result (λ rel. rel.0 ≡ length self.old.relations) }
+        ensures ok_when { OnOk result (add_relation_fault self.old acting.0 name.now owner.now (is_some kinds) ≡ None) }
+        ensures err_when { IfErr result (λ e. (e ≡ Memory) ⊎ (add_relation_fault self.old acting.0 name.now owner.now (is_some kinds) ≡ Some e)) }
+        ensures unchanged { OnErr result (self.new ≡ self.old) }
+    {
+        let owner = self.owner_of_new(acting, name, owner, kinds.is_some())?;
+        let all = [
+            Privilege::Select,
+            Privilege::Insert,
+            Privilege::Update,
+            Privilege::Delete,
+        ];
+        let rel = self.relations.next();
+        self.guards.reserve(1)?;
+        self.grants.reserve(all.len())?;
+        self.relations.push(name, kinds)?;
+        let guard = Guard::new(*self.guards.allocator(), owner);
+        self.guards.push(guard).unwrap();
+        grant::give(&mut self.grants, rel, &all, Grantee::Role(owner));
+        Ok(rel)
+    }
+
+    /// To whom the name goes, where it is a role's: all roles where there is none.
+    fn grantee(&self, to: Option<&str>) -> Option<Grantee>
+        ensures grantee { IfSome result (λ g. seen g ≡ grantee_of self.now.rights (named to.entry)) }
+        ensures known { is_some result ≡ is_grantee self.now.rights (named to.entry) }
+    {
+        match to {
+            Some(name) => {
+                let role = self.role(name)?;
+                Some(Grantee::Role(role))
+            }
+            None => Some(Grantee::Public),
+        }
+    }
+
+    /// Grants the privileges to the role of that name, or to all roles. After an error nothing has changed.
+    ///
+    /// # Errors
+    /// In this order: `NotOwner`, `Role`; `Memory` where a growth was refused.
+    pub fn grant(
+        &mut self,
+        acting: RoleId,
+        rel: RelId,
+        privileges: &[Privilege],
+        to: Option<&str>,
+    ) -> Result<(), AccessFault>
+        ensures ok { OnOk result (self.new.rights ≡ with_grants rel.0 privileges.now (grantee_of self.old.rights (named to.entry)) self.old.rights) }
+        ensures relations { self.new.relations ≡ self.old.relations }
+        ensures ok_when { OnOk result (grant_fault self.old.rights acting.0 rel.0 (named to.entry) ≡ None) }
+        ensures err_when { IfErr result (λ e. (e ≡ Memory) ⊎ (grant_fault self.old.rights acting.0 rel.0 (named to.entry) ≡ Some e)) }
+        ensures unchanged { OnErr result (self.new ≡ self.old) }
+    {
+        if !self.owns(acting, rel) {
+            return Err(AccessFault::NotOwner);
+        }
+        let Some(grantee) = self.grantee(to) else {
+            return Err(AccessFault::Role);
+        };
+        self.grants.reserve(privileges.len())?;
+        grant::give(&mut self.grants, rel, privileges, grantee);
+        Ok(())
+    }
+
+    /// Revokes the privileges from the role of that name, or from all roles. It takes no memory. After an error nothing
+    /// has changed.
+    ///
+    /// # Errors
+    /// In this order: `NotOwner`, `Role`.
+    pub fn revoke(
+        &mut self,
+        acting: RoleId,
+        rel: RelId,
+        privileges: &[Privilege],
+        to: Option<&str>,
+    ) -> Result<(), AccessFault>
+        ensures ok { OnOk result (self.new.rights ≡ without_grants rel.0 privileges.now (grantee_of self.old.rights (named to.entry)) self.old.rights) }
+        ensures relations { self.new.relations ≡ self.old.relations }
+        ensures ok_when { OnOk result (grant_fault self.old.rights acting.0 rel.0 (named to.entry) ≡ None) }
+        ensures err_when { IfErr result (λ e. grant_fault self.old.rights acting.0 rel.0 (named to.entry) ≡ Some e) }
+        ensures unchanged { OnErr result (self.new ≡ self.old) }
+    {
+        if !self.owns(acting, rel) {
+            return Err(AccessFault::NotOwner);
+        }
+        let Some(grantee) = self.grantee(to) else {
+            return Err(AccessFault::Role);
+        };
+        grant::take(&mut self.grants, rel, privileges, grantee);
+        Ok(())
+    }
+}

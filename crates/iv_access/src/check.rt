@@ -1,0 +1,169 @@
+//! What policies say of a row.
+ghost use Rattle.std.specs.Prelude.{◌≡◌, Some, option_map, position, slice_get};
+ghost use Rattle.std.specs.List.{list_any};
+ghost use Rattle.iv_access.specs.Grants.{seen};
+ghost use Rattle.iv_access.specs.Policies.{applies, permits, forbids, is_exempt, by_policies, verdict, is_named, policy_of, policy_name};
+ghost use Rattle.iv_access.specs.Privileges.{is_for, role_name};
+
+use crate::access::Access;
+use crate::grant::Grantee;
+use crate::guard::Guard;
+use crate::policy::{Check, Stored, Verdict, covers};
+use crate::role::RoleId;
+use iv_rows::{RelId, Row};
+
+/// The place of the first policy of the name.
+fn place_of(policies: &[Stored], name: &str) -> Option<usize>
+    ensures { result ≡ position (is_named name.now) policies.now }
+{
+    policies.iter().position(|policy| policy.is_named(name))
+}
+
+/// The name of the policy at a place.
+fn name_at(policies: &[Stored], place: usize) -> Option<&str>
+    ensures { option_map (λ n. n.now) result ≡ option_map (λ p. p.name) (slice_get policies.now place) }
+{
+    match policies.get(place) {
+        Some(policy) => Some(policy.name.as_str()),
+        None => None,
+    }
+}
+
+impl Access {
+    /// The name of a role, which policies see as the user.
+    pub(crate) fn user(&self, role: RoleId) -> &str
+        ensures { result.now ≡ role_name self.now.rights role.0 }
+    {
+        match self.roles.name(role) {
+            Some(name) => name,
+            None => "",
+        }
+    }
+
+    /// Whether what goes to the grantee goes to the role.
+    fn is_for(&self, role: RoleId, to: Grantee) -> bool
+        ensures { result ≡ is_for self.now.rights role.0 (seen to) }
+    {
+        match to {
+            Grantee::Public => true,
+            Grantee::Role(other) => self.acts_as(role, other),
+        }
+    }
+
+    /// Whether what goes to the grantees goes to the role.
+    fn goes_to(&self, to: &[Grantee], role: RoleId) -> bool
+        ensures { result ≡ list_any (λ t. is_for self.now.rights role.0 (seen t)) to.now }
+    {
+        to.iter().any(|to| self.is_for(role, *to))
+    }
+
+    /// Whether the policy applies to the role and the test.
+    pub(crate) fn applies(&self, role: RoleId, test: Check, policy: &Stored) -> bool
+        ensures { result ≡ applies self.now.rights role.0 test policy.now }
+    {
+        covers(policy.command, test) && self.goes_to(&policy.to, role)
+    }
+
+    /// Whether it is a permissive policy that applies and passes.
+    fn permits(&self, role: RoleId, test: Check, row: &Row, policy: &Stored) -> bool
+        ensures { result ≡ permits self.now.rights role.0 test row.now policy.now }
+    {
+        !policy.restrictive
+            && (self.applies(role, test, policy) && policy.passes(self.user(role), test, row))
+    }
+
+    /// Whether it is a restrictive policy that applies and fails.
+    fn forbids(&self, role: RoleId, test: Check, row: &Row, policy: &Stored) -> bool
+        ensures { result ≡ forbids self.now.rights role.0 test row.now policy.now }
+    {
+        policy.restrictive
+            && (self.applies(role, test, policy) && !policy.passes(self.user(role), test, row))
+    }
+
+    /// Whether some permissive policy applies and passes.
+    fn is_permitted(&self, role: RoleId, test: Check, row: &Row, policies: &[Stored]) -> bool
+        ensures { result ≡ list_any (permits self.now.rights role.0 test row.now) policies.now }
+    {
+        policies
+            .iter()
+            .any(|policy| self.permits(role, test, row, policy))
+    }
+
+    /// The place of the first restrictive policy that applies and fails.
+    fn first_forbids(
+        &self,
+        role: RoleId,
+        test: Check,
+        row: &Row,
+        policies: &[Stored],
+    ) -> Option<usize>
+        ensures { result ≡ position (forbids self.now.rights role.0 test row.now) policies.now }
+    {
+        policies
+            .iter()
+            .position(|policy| self.forbids(role, test, row, policy))
+    }
+
+    /// What the policies say of the row: some permissive one has to pass, and then each restrictive one.
+    fn by_policies(&self, role: RoleId, test: Check, row: &Row, policies: &[Stored]) -> Verdict
+        ensures { result ≡ by_policies self.now.rights role.0 test row.now policies.now }
+    {
+        if !self.is_permitted(role, test, row, policies) {
+            return Verdict::NoPermissive;
+        }
+        match self.first_forbids(role, test, row, policies) {
+            Some(place) => Verdict::Restrictive(place),
+            None => Verdict::Pass,
+        }
+    }
+
+    /// Whether policies have no effect on the role.
+    pub(crate) fn is_exempt(&self, role: RoleId, guard: &Guard) -> bool
+        ensures { result ≡ is_exempt self.now.rights role.0 (Some guard.now) }
+    {
+        !guard.enabled || (role.is_admin() || (self.acts_as(role, guard.owner) && !guard.forced))
+    }
+
+    /// The guard of a relation.
+    pub(crate) fn guard(&self, rel: RelId) -> Option<&Guard>
+        ensures { option_map (λ g. g.now) result ≡ slice_get self.now.rights.guards rel.0 }
+    {
+        self.guards.get(rel.0 as usize)
+    }
+
+    /// What row security says of the row. It takes no memory.
+    pub fn check(&self, role: RoleId, table: RelId, test: Check, row: &Row) -> Verdict
+        ensures { result ≡ verdict self.now.rights role.0 table.0 test row.now }
+    {
+        match self.guard(table) {
+            Some(guard) => {
+                if self.is_exempt(role, guard) {
+                    Verdict::Pass
+                } else {
+                    self.by_policies(role, test, row, &guard.policies)
+                }
+            }
+            None => Verdict::NoPermissive,
+        }
+    }
+
+    /// The place of the table's policy of that name. It takes no memory.
+    pub fn policy(&self, table: RelId, name: &str) -> Option<usize>
+        ensures { result ≡ policy_of self.now.rights table.0 name.now }
+    {
+        match self.guard(table) {
+            Some(guard) => place_of(&guard.policies, name),
+            None => None,
+        }
+    }
+
+    /// The name of the table's policy at a place. It takes no memory.
+    pub fn policy_name(&self, table: RelId, place: usize) -> Option<&str>
+        ensures { option_map (λ n. n.now) result ≡ policy_name self.now.rights table.0 place }
+    {
+        match self.guard(table) {
+            Some(guard) => name_at(&guard.policies, place),
+            None => None,
+        }
+    }
+}

@@ -1,0 +1,24 @@
+//! Rights: who may do what with a relation, and which rows a reader sees.
+#![tactic(auto)]
+
+mod access;
+mod changes;
+mod check;
+mod fault;
+mod filter;
+mod grant;
+mod guard;
+pub mod laws;
+pub mod policy;
+pub mod privilege;
+mod relations;
+mod role;
+mod roles;
+mod row_security;
+
+pub use access::Access;
+pub use fault::AccessFault;
+pub use filter::ReaderFilter;
+pub use policy::{Check, Policy, PolicyCommand, Verdict};
+pub use privilege::{Missing, Privilege};
+pub use role::{ADMIN, RoleId};

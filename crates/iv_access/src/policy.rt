@@ -1,0 +1,158 @@
+//! Policies of a table.
+ghost use Rattle.std.specs.Prelude.{◌≡◌, option_map};
+ghost use Rattle.iv_algebra.specs.Shapes.{condition_of};
+ghost use Rattle.iv_access.specs.Policies.{covers, is_met, is_named, or_else, passes};
+
+use crate::grant::Grantee;
+use iv_algebra::Pred;
+use iv_rows::Row;
+use std::marker::Model;
+
+/// What a policy is for (PostgreSQL 16, CREATE POLICY: FOR).
+#[derive(Clone, Copy, Debug, PartialEq, Eq)]
+pub enum PolicyCommand {
+    /// Each of the others.
+    All,
+    /// Rows that are read.
+    Select,
+    /// Rows that are added.
+    Insert,
+    /// Rows that are replaced, and those in their place.
+    Update,
+    /// Rows that are removed.
+    Delete,
+}
+
+/// What a row is tested for (PostgreSQL 16, CREATE POLICY, Policies Applied by Command Type).
+#[derive(Clone, Copy, Debug, PartialEq, Eq)]
+pub enum Check {
+    /// It is read.
+    Select,
+    /// It is added.
+    Insert,
+    /// It is replaced.
+    UpdateOld,
+    /// It takes a replaced row's place.
+    UpdateNew,
+    /// It is removed.
+    Delete,
+}
+
+/// What the policies of a table say of a row (PostgreSQL 16, Row Security Policies).
+#[derive(Clone, Copy, Debug, PartialEq, Eq)]
+pub enum Verdict {
+    /// It passes.
+    Pass,
+    /// No permissive policy passes.
+    NoPermissive,
+    /// The restrictive policy at this place fails, the first in the order of the table's policies.
+    Restrictive(usize),
+}
+
+/// A policy as it is asked for (PostgreSQL 16, CREATE POLICY).
+#[derive(Drop)]
+pub struct Policy {
+    /// Its name, unique on its table.
+    pub name: String,
+    /// Whether it is restrictive, and not permissive.
+    pub restrictive: bool,
+    /// What it is for.
+    pub command: PolicyCommand,
+    /// The names of the roles that it is for; none stands for all roles.
+    pub to: Vec<Option<String>>,
+    /// The predicate of rows that are there.
+    pub using: Option<Pred>,
+    /// The predicate of rows that are added.
+    pub check: Option<Pred>,
+}
+
+impl Model for Policy {
+    ghost use Rattle.std.specs.Prelude.{map, option_map, string_bytes};
+    ghost use Rattle.iv_algebra.specs.Shapes.{condition_of};
+    ghost use Rattle.iv_access.specs.Asked.{Asked};
+    ghost use Rattle.iv_access.specs.Codes.{asked_code};
+
+    ghost Value = { Asked };
+
+    ghost coded = { asked_code };
+
+    ghost view = { λ p. record { name = string_bytes p.name; restrictive = p.restrictive; command = p.command; to = map (option_map string_bytes) p.to.items; using = option_map condition_of p.using; check = option_map condition_of p.check } };
+}
+
+/// A policy as a table keeps it, with its roles by number.
+#[derive(Drop)]
+pub(crate) struct Stored {
+    pub(crate) name: String,
+    pub(crate) restrictive: bool,
+    pub(crate) command: PolicyCommand,
+    pub(crate) to: Vec<Grantee>,
+    pub(crate) using: Option<Pred>,
+    pub(crate) check: Option<Pred>,
+}
+
+impl Model for Stored {
+    ghost use Rattle.std.specs.Prelude.{map, option_map, string_bytes};
+    ghost use Rattle.iv_algebra.specs.Shapes.{condition_of};
+    ghost use Rattle.iv_access.specs.Rights.{Policy};
+    ghost use Rattle.iv_access.specs.Codes.{policy_code};
+
+    ghost Value = { Policy };
+
+    ghost coded = { policy_code };
+
+    ghost use Rattle.iv_access.specs.Grants.{seen};
+
+    ghost view = { λ p. record { name = string_bytes p.name; restrictive = p.restrictive; command = p.command; to = map seen p.to.items; using = option_map condition_of p.using; check = option_map condition_of p.check } };
+}
+
+/// Whether a policy for the command applies to the test.
+pub(crate) fn covers(command: PolicyCommand, test: Check) -> bool
+    ensures { result ≡ covers command test }
+{
+    match command {
+        PolicyCommand::All => true,
+        PolicyCommand::Select => matches!(test, Check::Select),
+        PolicyCommand::Insert => matches!(test, Check::Insert),
+        PolicyCommand::Update => matches!(test, Check::UpdateOld | Check::UpdateNew),
+        PolicyCommand::Delete => matches!(test, Check::Delete),
+    }
+}
+
+/// Whether the predicate is there and holds.
+fn is_met(pred: &Option<Pred>, user: &str, row: &Row) -> bool
+    ensures { result ≡ is_met (option_map condition_of pred.now) user.now row.now }
+{
+    match pred {
+        Some(pred) => pred.holds(row, user),
+        None => false,
+    }
+}
+
+/// Whether the check is met, or the other predicate where there is no check.
+fn is_checked(check: &Option<Pred>, otherwise: &Option<Pred>, user: &str, row: &Row) -> bool
+    ensures { result ≡ is_met (or_else (option_map condition_of check.now) (option_map condition_of otherwise.now)) user.now row.now }
+{
+    match check {
+        Some(check) => check.holds(row, user),
+        None => is_met(otherwise, user, row),
+    }
+}
+
+impl Stored {
+    /// Whether the policy has the name.
+    pub(crate) fn is_named(&self, name: &str) -> bool
+        ensures { result ≡ is_named name.now self.now }
+    {
+        name == self.name.as_str()
+    }
+
+    /// Whether the row passes the predicate of the test.
+    pub(crate) fn passes(&self, user: &str, test: Check, row: &Row) -> bool
+        ensures { result ≡ passes user.now test row.now self.now }
+    {
+        match test {
+            Check::Insert | Check::UpdateNew => is_checked(&self.check, &self.using, user, row),
+            _ => is_met(&self.using, user, row),
+        }
+    }
+}

@@ -1,8 +1,0 @@
-use Rattle.std.proofs.Common.{◌≡◌, ℕ, length, take, sym, arith}
-use Rattle.std.proofs.lemmas.List.{take_all}
-use Rattle.std.specs.Io.KnownBytes.{Appends}
-use Rattle.iv_wire.proofs.Known.{kept_whole}
-use Rattle.iv_wire.proofs.running.say.Goals as goal
-
-pub returns-in-Err-flush-clause-front : goal.returns-in-Err-flush-clause-front
-returns-in-Err-flush-clause-front g c = (length c.args.text.now, kept_whole _ (g.W.Sink.taken c.write_all.new.writer) _ c.args.text.now c.in-Ok.ensures.ok c.in-Err-flush.ensures.bytes)

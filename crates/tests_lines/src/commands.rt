@@ -1,0 +1,298 @@
+//! Commands through an engine, where no line shows it: numbers of copies, lists of commands, the rules on shape, and a
+//! failed engine.
+ghost use Rattle.std.specs.Prelude.{◌≡◌, map};
+ghost use Rattle.std.specs.List.{list_all};
+ghost use Rattle.iv_machine.specs.Well.{is_well_command};
+ghost use Rattle.iv_engine.specs.Views.{command_of};
+
+use crate::replayed::{ANSWERS, REQUESTS};
+use iv_engine::{Act, Command, Engine, EngineFault, Entry, Line, Op};
+use iv_rows::{Column, Kind, Row, Value};
+use iv_wire::{read_line, write_line};
+use std::alloc::{AllocError, Global};
+use std::test::Fail;
+
+/// The command of a line.
+fn command(alloc: Global, line: &str) -> Result<Command, Fail> {
+    match read_line(alloc, line.as_bytes()) {
+        Ok(command) => Ok(command),
+        Err(_) => Err(Fail::new("the line is no command")),
+    }
+}
+
+/// The command of a line, with this number of copies of the first entry of a write.
+fn command_of_copies(alloc: Global, line: &str, copies: i64) -> Result<Command, Fail> {
+    let mut command = command(alloc, line)?;
+    if let Act::Write { entries } = &mut command.act {
+        if !entries.is_empty() {
+            let entry = &mut entries[0];
+            entry.copies = copies;
+        }
+    }
+    Ok(command)
+}
+
+/// The texts of the lines.
+fn texts(alloc: Global, lines: &[Line]) -> Result<Vec<u8>, AllocError> {
+    let mut text = Vec::new(alloc);
+    for line in lines {
+        text.extend_from_slice(&write_line(alloc, line)?)?;
+    }
+    Ok(text)
+}
+
+/// What a command that keeps the rules on shape is answered.
+fn applied(alloc: Global, engine: &mut Engine, command: Command) -> Result<Vec<u8>, Fail> {
+    if !command.well() {
+        return Err(Fail::new("the command breaks the rules on shape"));
+    }
+    match engine.apply(command) {
+        Ok(lines) => Ok(texts(alloc, &lines)?),
+        Err(_) => Err(Fail::new("the engine gave no answer")),
+    }
+}
+
+/// The text of what the line is answered, the first entry of a write with this number of copies.
+fn told(alloc: Global, engine: &mut Engine, line: &str, copies: i64) -> Result<Vec<u8>, Fail> {
+    let command = command_of_copies(alloc, line, copies)?;
+    applied(alloc, engine, command)
+}
+
+/// What the lines are answered, each with its number of copies.
+fn all_told(alloc: Global, engine: &mut Engine, lines: &[(&str, i64)]) -> Result<Vec<u8>, Fail> {
+    let mut text = Vec::new(alloc);
+    for (line, copies) in lines {
+        text.extend_from_slice(&told(alloc, engine, line, *copies)?)?;
+    }
+    Ok(text)
+}
+
+/// The requests of `first_change`, asked of the engine.
+fn tell_first(alloc: Global, engine: &mut Engine) -> Result<(), Fail> {
+    for line in REQUESTS.split('\n').take(7) {
+        told(alloc, engine, line, 1)?;
+    }
+    Ok(())
+}
+
+/// What the lines are answered behind `first_change`.
+fn answered(alloc: Global, lines: &[(&str, i64)]) -> Result<Vec<u8>, Fail> {
+    let mut engine = Engine::new(alloc)?;
+    tell_first(alloc, &mut engine)?;
+    all_told(alloc, &mut engine, lines)
+}
+
+const SUBSCRIBE: &str = r#"{"do":"subscribe","on":"notes","session":1}"#;
+
+const SUBSCRIBE_ANN: &str = r#"{"do":"subscribe","on":"notes","session":2}"#;
+
+const INSERT_ANN: &str =
+    r#"{"do":"write","entries":[{"on":"notes","insert":[1,"ann"]}],"session":1}"#;
+
+const INSERT_X: &str = r#"{"do":"write","entries":[{"on":"notes","insert":[2,"x"]}],"session":1}"#;
+
+const INSERT_TWO: &str =
+    r#"{"do":"write","entries":[{"on":"notes","insert":[2,"x"]},{"on":"notes","insert":[2,"x"]}],"session":1}"#;
+
+const INSERT_BAD: &str =
+    r#"{"do":"write","entries":[{"on":"notes","insert":[2,"x"]},{"on":"notes","insert":[]}],"session":1}"#;
+
+#[test]
+fn always_out_of_memory(rt: HostRuntime) -> Result<(), Fail> {
+    let text = r#"{"ok":true,"session":1,"sub":2}
+{"changes":[[1,[1,"ann"]]],"session":1,"sub":2}
+{"ok":true,"session":1}
+{"changes":[[4,[1,"ann"]]],"session":1,"sub":2}
+{"changes":[[4,[1,"ann"]]],"session":2,"sub":1}
+"#;
+    let found = answered(rt.alloc(), &[(SUBSCRIBE, 0), (INSERT_ANN, 4)])?;
+    assert_eq!(rt; found.as_slice(), text.as_bytes());
+    Ok(())
+}
+
+#[test]
+fn refused_batch_leaves_nothing(rt: HostRuntime) -> Result<(), Fail> {
+    let text = r#"{"error":17,"session":1}
+{"entry":2,"error":9,"session":1}
+{"ok":true,"session":2,"sub":2}
+{"changes":[[1,[1,"ann"]]],"session":2,"sub":2}
+"#;
+    let lines = [
+        (INSERT_TWO, i64::MAX),
+        (INSERT_BAD, i64::MAX),
+        (SUBSCRIBE_ANN, 0),
+    ];
+    assert_eq!(rt; answered(rt.alloc(), &lines)?.as_slice(), text.as_bytes());
+    Ok(())
+}
+
+#[test]
+fn copies_have_a_limit(rt: HostRuntime) -> Result<(), Fail> {
+    let text = r#"{"ok":true,"session":1}
+{"changes":[[9223372036854775807,[2,"x"]]],"session":2,"sub":1}
+{"error":17,"session":1}
+{"ok":true,"session":1}
+{"changes":[[1,[1,"ann"]]],"session":2,"sub":1}
+"#;
+    let lines = [(INSERT_X, i64::MAX), (INSERT_X, 1), (INSERT_ANN, 1)];
+    assert_eq!(rt; answered(rt.alloc(), &lines)?.as_slice(), text.as_bytes());
+    Ok(())
+}
+
+/// Whether all commands keep the rules on shape.
+fn are_well(commands: &[Command]) -> bool
+    ensures { result ≡ list_all is_well_command (map command_of commands.now) }
+{
+    for command in commands {
+        if !command.well() {
+            return false;
+        }
+    }
+    true
+}
+
+/// The commands of `first_change`.
+fn first_commands(alloc: Global) -> Result<Vec<Command>, Fail> {
+    let mut commands = Vec::new(alloc);
+    for line in REQUESTS.split('\n').take(7) {
+        commands.push(command(alloc, line)?)?;
+    }
+    Ok(commands)
+}
+
+/// What a list of commands is answered, where they keep the rules on shape, or why it is not.
+fn listed(
+    alloc: Global,
+    engine: &mut Engine,
+    commands: Vec<Command>,
+) -> Result<Vec<u8>, AllocError> {
+    if !are_well(&commands) {
+        return Vec::from_slice(alloc, b"not well");
+    }
+    match engine.run_list(commands) {
+        Ok(lines) => texts(alloc, &lines),
+        Err(EngineFault::Memory) => Vec::from_slice(alloc, b"memory"),
+        Err(EngineFault::Failed) => Vec::from_slice(alloc, b"failed"),
+    }
+}
+
+/// What `first_change` is answered as a list.
+fn first_listed(alloc: Global, engine: &mut Engine) -> Result<Vec<u8>, Fail> {
+    let commands = first_commands(alloc)?;
+    Ok(listed(alloc, engine, commands)?)
+}
+
+/// What a new engine answers to it, and whether the engine has failed then.
+fn first_run(alloc: Global) -> Result<(Vec<u8>, bool), Fail> {
+    let mut engine = Engine::new(alloc)?;
+    let text = first_listed(alloc, &mut engine)?;
+    Ok((text, engine.is_failed()))
+}
+
+#[test]
+fn first_change_as_a_list(rt: HostRuntime) -> Result<(), Fail> {
+    let (text, is_failed) = first_run(rt.alloc())?;
+    assert_eq!(rt; text.as_slice(), ANSWERS.as_bytes());
+    assert!(rt; !is_failed);
+    Ok(())
+}
+
+/// What an engine answers to a command, where the command keeps the rules on shape.
+fn fault_of(engine: &mut Engine, command: Command) -> Option<EngineFault> {
+    if !command.well() {
+        return None;
+    }
+    engine.apply(command).err()
+}
+
+/// What an engine that has failed answers to a command, and to a list of none.
+fn answered_after_failure(alloc: Global) -> Result<(Option<EngineFault>, Vec<u8>), Fail> {
+    let begin = command(alloc, r#"{"do":"begin","role":"admin","session":1}"#)?;
+    let mut engine = Engine::new(alloc)?;
+    engine.fail();
+    let fault = fault_of(&mut engine, begin);
+    let text = listed(alloc, &mut engine, Vec::new(alloc))?;
+    Ok((fault, text))
+}
+
+#[test]
+fn nothing_is_answered_after_a_failure(rt: HostRuntime) -> Result<(), Fail> {
+    let (fault, text) = answered_after_failure(rt.alloc())?;
+    assert!(rt; fault == Some(EngineFault::Failed));
+    assert_eq!(rt; text.as_slice(), b"failed".as_slice());
+    Ok(())
+}
+
+#[test]
+fn an_engine_fails(rt: HostRuntime) -> Result<(), Fail> {
+    let mut engine = Engine::new(rt.alloc())?;
+    assert!(rt; !engine.is_failed());
+    engine.fail();
+    assert!(rt; engine.is_failed());
+    Ok(())
+}
+
+/// Whether a begin keeps the rules on shape.
+fn is_begin(alloc: Global, session: u32, role: &str) -> Result<bool, AllocError> {
+    let role = String::from_str(alloc, role)?;
+    let act = Act::Begin { role };
+    Ok(Command { session, act }.well())
+}
+
+fn column(alloc: Global, name: &str, kind: Kind) -> Result<Column, AllocError> {
+    let name = String::from_str(alloc, name)?;
+    Ok(Column { name, kind })
+}
+
+/// Whether a table of a number `id` and a text `who` does.
+fn is_table(alloc: Global, name: &str) -> Result<bool, AllocError> {
+    let name = String::from_str(alloc, name)?;
+    let owner = String::from_str(alloc, "admin")?;
+    let mut columns = Vec::new(alloc);
+    columns.push(column(alloc, "id", Kind::Int)?)?;
+    columns.push(column(alloc, "who", Kind::Text)?)?;
+    let act = Act::CreateTable {
+        name,
+        owner,
+        columns,
+    };
+    Ok(Command { session: 1, act }.well())
+}
+
+/// An insert of a note.
+fn entry(alloc: Global, who: &str, copies: i64) -> Result<Entry, AllocError> {
+    let rel = String::from_str(alloc, "notes")?;
+    let who = String::from_str(alloc, who)?;
+    let mut values = Vec::new(alloc);
+    values.push(Value::Int(1))?;
+    values.push(Value::Text(who))?;
+    let op = Op::Insert(Row(values));
+    Ok(Entry { rel, op, copies })
+}
+
+/// Whether a write of so many equal entries does.
+fn is_write(alloc: Global, who: &str, copies: i64, count: u32) -> Result<bool, AllocError> {
+    let mut entries = Vec::new(alloc);
+    for _ in 0..count {
+        entries.push(entry(alloc, who, copies)?)?;
+    }
+    let act = Act::Write { entries };
+    Ok(Command { session: 1, act }.well())
+}
+
+#[test]
+fn shapes_are_told(rt: HostRuntime) -> Result<(), Fail> {
+    let alloc = rt.alloc();
+    assert!(rt; is_begin(alloc, 1, "admin")?);
+    assert!(rt; !is_begin(alloc, 0, "admin")?);
+    assert!(rt; !is_begin(alloc, 1, "public")?);
+    assert!(rt; is_table(alloc, "notes")?);
+    assert!(rt; !is_table(alloc, "Notes")?);
+    assert!(rt; is_write(alloc, "x", i64::MAX, 1)?);
+    assert!(rt; !is_write(alloc, "x", 0, 1)?);
+    assert!(rt; !is_write(alloc, "\0", 1, 1)?);
+    assert!(rt; is_write(alloc, "x", 1, 1000)?);
+    assert!(rt; !is_write(alloc, "x", 1, 1001)?);
+    assert!(rt; !is_write(alloc, "x", 1, 0)?);
+    Ok(())
+}

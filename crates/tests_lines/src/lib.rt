@@ -1,0 +1,17 @@
+//! Tests of the public calls of iv_engine and iv_wire, most of them as lines in and lines out.
+#![tactic(auto)]
+
+#[cfg(test)]
+mod commands;
+#[cfg(test)]
+mod damaged;
+#[cfg(test)]
+mod failing;
+#[cfg(test)]
+mod limits;
+#[cfg(test)]
+mod refused;
+#[cfg(test)]
+mod replayed;
+#[cfg(test)]
+mod worked;

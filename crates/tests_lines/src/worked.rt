@@ -1,0 +1,144 @@
+//! The worked examples, byte for byte.
+use crate::replayed::{ANSWERS, REQUESTS, answers, joined, replayed, writes};
+use iv_engine::{Act, Line, Privilege, Refusal, Reply};
+use iv_rows::{Row, Value};
+use iv_wire::{read_line, write_line};
+use std::alloc::{AllocError, Global};
+use std::test::Fail;
+
+#[test]
+fn empty_input(rt: HostRuntime) -> Result<(), Fail> {
+    assert!(rt; writes(rt.alloc(), b"", "", "end of input")?);
+    Ok(())
+}
+
+#[test]
+fn first_change(rt: HostRuntime) -> Result<(), Fail> {
+    let alloc = rt.alloc();
+    assert!(rt; answers(alloc, "", "")?);
+    let whole = joined(alloc, &[ANSWERS, "lines taken"])?;
+    assert_eq!(rt; replayed(alloc, REQUESTS.as_bytes(), 7)?, whole);
+    let first = b"{\"ok\":true,\"session\":1}\nlines taken";
+    assert_eq!(rt;
+        replayed(alloc, REQUESTS.as_bytes(), 1)?.as_slice(),
+        first.as_slice()
+    );
+    Ok(())
+}
+
+#[test]
+fn one_of_each_refusal(rt: HostRuntime) -> Result<(), Fail> {
+    let lines = r#"{"do":"subscribe","on":"notes","session":9}
+{"do":"create_role","name":"bob","session":2}
+{"do":"write","entries":[{"on":"notes","insert":[2,"x"]}],"session":2}
+{"do":"write","entries":[{"on":"notes","insert":["x",1]}],"session":1}
+{"do":"begin","role":"ann","session":2}
+{"do":"begin","role":"bob","session":3}
+{"do":"create_role","name":"ann","session":1}
+{"do":"subscribe","on":"other","session":1}
+{"do":"grant","on":"notes","privileges":["select"],"to":"ann","session":2}
+{"do":"write","entries":[{"on":"notes","insert":[2,"x"]},{"on":"notes","insert":[]}],"session":1}
+"#;
+    let text = r#"{"error":3,"session":9}
+{"error":11,"session":2}
+{"error":13,"on":"notes","privilege":"insert","session":2}
+{"entry":1,"error":9,"session":1}
+{"error":4,"session":2}
+{"error":5,"session":3}
+{"error":6,"session":1}
+{"error":7,"session":1}
+{"error":12,"on":"notes","session":2}
+{"entry":2,"error":9,"session":1}
+"#;
+    assert!(rt; answers(rt.alloc(), lines, text)?);
+    Ok(())
+}
+
+#[test]
+fn shapely_lines(rt: HostRuntime) -> Result<(), Fail> {
+    let lines = r#"{"session":4294967295,"role":"admin","do":"begin"}
+ {"do":"begin","role":"-","role":"ann","session":3}
+{"do":"grant","on":"notes","privileges":["insert","update","delete","insert"],"to":"admin","session":1}
+{"do":"create_table","name":"t","owner":"ann","columns":[["c1","int"],["c2","text"],["c3","flag"],["c4","int"],["c5","int"],["c6","int"],["c7","int"],["c8","int"],["c9","int"],["c10","int"],["c11","int"],["c12","int"],["c13","int"],["c14","int"],["c15","int"],["c16","int"]],"session":1}
+{"do":"create_table","name":"t","owner":"ann","columns":[["c1","int"],["c2","text"],["c3","flag"],["c4","int"],["c5","int"],["c6","int"],["c7","int"],["c8","int"],["c9","int"],["c10","int"],["c11","int"],["c12","int"],["c13","int"],["c14","int"],["c15","int"],["c16","int"],["c17","int"]],"session":1}
+{"do":"write","entries":[{"on":"notes","insert":[-9223372036854775808,"a\"\u00e9\n"]}],"session":1}
+"#;
+    let text = r#"{"ok":true,"session":4294967295}
+{"ok":true,"session":3}
+{"ok":true,"session":1}
+{"ok":true,"session":1}
+{"error":2}
+{"ok":true,"session":1}
+{"changes":[[1,[-9223372036854775808,"a\"é\n"]]],"session":2,"sub":1}
+"#;
+    assert!(rt; answers(rt.alloc(), lines, text)?);
+    assert!(rt;
+        answers(
+            rt.alloc(),
+            " {\"do\":\"begin\",\"role\":\"-\",\"role\":\"ann\",\"session\":3}\r",
+            "{\"ok\":true,\"session\":3}\n"
+        )?
+    );
+    Ok(())
+}
+
+/// The session of a write of one entry, its table, and the entry's number of copies.
+fn write_read(alloc: Global, line: &[u8]) -> Result<(u32, String, i64), Fail> {
+    let Ok(command) = read_line(alloc, line) else {
+        return Err(Fail::new("the line was not read"));
+    };
+    let session = command.session;
+    match command.act {
+        Act::Write { mut entries } => match entries.pop() {
+            Some(entry) if entries.is_empty() => Ok((session, entry.rel, entry.copies)),
+            _ => Err(Fail::new("the write is of one entry")),
+        },
+        _ => Err(Fail::new("the line is a write")),
+    }
+}
+
+#[test]
+fn a_line_is_read(rt: HostRuntime) -> Result<(), Fail> {
+    let line = br#"{"do":"write","entries":[{"on":"notes","insert":[1,"ann",true]}],"session":7}"#;
+    let (session, rel, copies) = write_read(rt.alloc(), line)?;
+    assert_eq!(rt; session, 7);
+    assert_eq!(rt; rel.as_str(), "notes");
+    assert_eq!(rt; copies, 1);
+    Ok(())
+}
+
+/// The text of a refusal for want of the privilege to update.
+fn missing_written(alloc: Global) -> Result<Vec<u8>, AllocError> {
+    let rel = String::from_str(alloc, "notes")?;
+    let privilege = Privilege::Update;
+    let reply = Reply::Refused(Refusal::MissingPrivilege { privilege, rel });
+    write_line(alloc, &Line::Reply { session: 2, reply })
+}
+
+/// The text of a change of a row of three values, the greatest weight, and one of none, the least weight.
+fn change_written(alloc: Global) -> Result<Vec<u8>, AllocError> {
+    let mut values = Vec::new(alloc);
+    values.push(Value::Int(-1))?;
+    values.push(Value::Text(String::from_str(alloc, "a\"n")?))?;
+    values.push(Value::Flag(true))?;
+    let mut rows = Vec::new(alloc);
+    rows.push((Row(values), i64::MAX))?;
+    rows.push((Row(Vec::new(alloc)), -i64::MAX))?;
+    let change = Line::Change {
+        session: 4294967295,
+        sub: 9223372036854775807,
+        rows,
+    };
+    write_line(alloc, &change)
+}
+
+#[test]
+fn a_line_is_written(rt: HostRuntime) -> Result<(), Fail> {
+    let alloc = rt.alloc();
+    let text = b"{\"error\":13,\"on\":\"notes\",\"privilege\":\"update\",\"session\":2}\n";
+    assert_eq!(rt; missing_written(alloc)?.as_slice(), text.as_slice());
+    let text =
+        b"{\"changes\":[[9223372036854775807,[-1,\"a\\\"n\",true]],[-9223372036854775807,[]]],\"session\":4294967295,\"sub\":9223372036854775807}\n";
+    assert_eq!(rt; change_written(alloc)?.as_slice(), text.as_slice());
+    Ok(())
+}

@@ -1,0 +1,7 @@
+//! Tests of the public calls of iv_access.
+#![tactic(auto)]
+
+#[cfg(test)]
+mod grants;
+#[cfg(test)]
+mod policies;

@@ -1,0 +1,13 @@
+//! Tests of the steps of iv_delta, and operators of their own that its laws carry.
+#![tactic(auto)]
+
+mod pairs;
+mod positive;
+mod product;
+mod sets;
+mod singles;
+#[cfg(test)]
+mod tests;
+
+pub use positive::Positive;
+pub use product::Product;

@@ -1,0 +1,86 @@
+use crate::pairs::{counted, emptied, joined, multiplied, replaced, summed};
+use crate::sets::Seen;
+use crate::singles::{alone, filtered, once, projected, signs, united};
+use iv_delta::DeltaFault;
+
+const MAX: i64 = i64::MAX;
+
+const CAP: usize = 65_536;
+
+type Answer = Result<Seen, DeltaFault>;
+
+#[test]
+fn linear_operators(rt: HostRuntime) {
+    assert!(rt; filtered(rt.alloc()) == Ok((1, 0, -1)));
+    assert!(rt; projected(rt.alloc()) == Ok((0, 0, 0)));
+    assert!(rt; signs(rt.alloc()) == Ok((2, 2, 1)));
+}
+
+#[test]
+fn unions(rt: HostRuntime) {
+    let cases: [((i64, i64), (i64, i64), usize, Answer); 5] = [
+        ((1, 0), (-1, 0), CAP, Ok((0, 0, 0))),
+        ((1, 0), (0, 0), CAP, Err(DeltaFault::Limit)),
+        ((-MAX, 1), (0, 0), 1, Ok((2, -MAX, 1))),
+        ((0, 1), (0, 0), 1, Err(DeltaFault::Limit)),
+        ((0, 1), (0, 0), 2, Ok((1, 0, 1))),
+    ];
+    for (left, right, cap, want) in cases {
+        assert!(rt; united(rt.alloc(), MAX, left, right, cap) == want);
+    }
+}
+
+#[test]
+fn sets(rt: HostRuntime) {
+    for (old, change, want) in [(1, 1, 0), (2, -1, 0), (1, -1, -1), (0, 2, 1)] {
+        let rows = if want == 0 { 0 } else { 1 };
+        assert!(rt; once(rt.alloc(), old, change) == Ok((rows, want, want)));
+    }
+    for (left, right, want) in [
+        ((3, 0), (0, 1), -1),
+        ((3, -3), (1, -1), 0),
+        ((3, 0), (1, -1), 1),
+    ] {
+        let rows = if want == 0 { 0 } else { 1 };
+        assert!(rt; alone(rt.alloc(), left, right) == Ok((rows, want, want)));
+    }
+}
+
+#[test]
+fn pairs(rt: HostRuntime) {
+    assert!(rt; joined(rt.alloc(), 2, 1, 3, -1, 6) == Ok((0, 0, 0)));
+    assert!(rt; joined(rt.alloc(), 2, 1, 3, 0, 6) == Ok((1, 3, 3)));
+    let change = 4 - 4_611_686_018_427_387_904;
+    let answer = joined(
+        rt.alloc(),
+        1,
+        3,
+        4_611_686_018_427_387_904,
+        -4_611_686_018_427_387_903,
+        4_611_686_018_427_387_904,
+    );
+    assert!(rt; answer == Ok((1, change, change)));
+    let answer = joined(
+        rt.alloc(),
+        1,
+        1,
+        4_611_686_018_427_387_904,
+        0,
+        4_611_686_018_427_387_904,
+    );
+    assert!(rt; answer == Err(DeltaFault::Limit));
+}
+
+#[test]
+fn products(rt: HostRuntime) {
+    assert!(rt; multiplied(rt.alloc(), 2, 1, 3, -1, 6) == Ok((0, 0, 0)));
+    assert!(rt; multiplied(rt.alloc(), 2, 1, 3, 0, 6) == Ok((1, 3, 3)));
+}
+
+#[test]
+fn groups(rt: HostRuntime) {
+    assert!(rt; counted(rt.alloc(), 5, 10, &[10, 2], &[10, 1]) == Ok((2, -1, 1)));
+    assert!(rt; summed(rt.alloc(), 5, 10, 10, 10) == Ok((0, 0, 0)));
+    assert!(rt; replaced(rt.alloc(), MAX, 1) == Ok((2, -1, 1)));
+    assert!(rt; emptied(rt.alloc(), 5) == Ok((1, -1, 0)));
+}

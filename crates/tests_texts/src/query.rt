@@ -1,0 +1,327 @@
+//! Reading queries and policies: tables with a text a line, ` => `, and the tree with all places or the fault.
+
+use crate::shown::{Kind, shown};
+use iv_query::{QueryFault, read_pred, read_query};
+use std::alloc::{AllocError, Global};
+
+fn is(alloc: Global, kind: Kind, text: &str, want: &str) -> bool {
+    match shown(alloc, kind, text) {
+        Ok(found) => found.as_str() == want,
+        Err(_) => false,
+    }
+}
+
+// The first line of a table that does not hold.
+fn first_wrong(alloc: Global, kind: Kind, table: &str) -> Option<&str> {
+    for line in table.lines() {
+        match line.split_once(" => ") {
+            Some((text, want)) if is(alloc, kind, text, want) => {}
+            _ => return Some(line),
+        }
+    }
+    None
+}
+
+#[test]
+fn views_of_the_worked_examples(rt: HostRuntime) {
+    let table = "\
+select who, sum(id) as s, count(*) as n from notes where id < 100 group by who => select@0 who@7 sum@12(id@16) as s@23 count@26 as n@38 from notes@45 where id@57 < 100@62 by who@75
+select a.x, b.y from a join b on a.k = b.k => select@0 a.x@7 b.y@12 from a@21 join b@28 on a.k@33 = b.k@39
+select x from a union select y from b => [select@0 x@7 from a@14] union select@22 y@29 from b@36
+select x from a union all select y from b => [select@0 x@7 from a@14] union all select@26 y@33 from b@40
+select x from a except select y from b => [select@0 x@7 from a@14] except select@23 y@30 from b@37
+select id from notes => select@0 id@7 from notes@15
+select id from v => select@0 id@7 from v@15
+select id, from notes => 11 unexpected
+select nope from notes => select@0 nope@7 from notes@17
+select who, count(*) as n from notes => select@0 who@7 count@12 as n@24 from notes@31";
+    assert_eq!(rt; first_wrong(rt.alloc(), Kind::View, table), None);
+}
+
+#[test]
+fn view_texts_of_the_table(rt: HostRuntime) {
+    let table = "\
+select x from a where x = 1-1 => 27 unexpected
+ => 0 unexpected
+select x from a where x = 1a => 26 token
+select x from a where x = 9223372036854775808 => 26 token
+select a.x from a join b on a.k = b.z => select@0 a.x@7 from a@16 join b@23 on a.k@28 = b.z@34
+select a.x from a join b on a.k = a.x => select@0 a.x@7 from a@16 join b@23 on a.k@28 = a.x@34
+select * from a join b on a.k = b.k => select@0 *@7 from a@14 join b@21 on a.k@26 = b.k@32";
+    assert_eq!(rt; first_wrong(rt.alloc(), Kind::View, table), None);
+}
+
+#[test]
+fn forms_of_queries(rt: HostRuntime) {
+    let table = "\
+SELECT DISTINCT n.Id AS i, who w FROM Notes AS n INNER JOIN b x ON n.id = x.k AND x.y = n.id => select@0 distinct n.id@16 as i@24 who@27 as w@31 from notes@38 as n@47 join b@60 as x@62 on n.id@67 = x.k@74 x.y@82 = n.id@88
+select a from t union select b from u except select c from v union all select d from w => [[[select@0 a@7 from t@14] union select@22 b@29 from u@36] except select@45 c@52 from v@59] union all select@71 d@78 from w@85
+select k,sum(x)as s,count(*)c from a where not x<>1 and(k='it''s'or true)group by k,a.x => select@0 k@7 sum@9(x@13) as s@18 count@20 as c@28 from a@35 where (not x@47 <> 1@50 and (k@56 = 'it's'@58 or true)) by k@82 by a.x@84
+select x from a join b on a.k = b.k join c on c.k = a.k where x >= -5 or y <= 007 and x > y or z < 'a' => select@0 x@7 from a@14 join b@21 on a.k@26 = b.k@32 join c@41 on c.k@46 = a.k@52 where ((x@62 >= -5@67 or (y@73 <= 7@78 and x@86 > y@90)) or z@95 < 'a'@99)";
+    assert_eq!(rt; first_wrong(rt.alloc(), Kind::View, table), None);
+}
+
+#[test]
+fn faults_of_queries(rt: HostRuntime) {
+    let table = "\
+selec x from a => 0 unexpected
+select => 6 unexpected
+select distinct => 15 unexpected
+select distinct distinct x from a => 16 unexpected
+select x => 8 unexpected
+select x, => 9 unexpected
+select x y z from a => 11 unexpected
+select x as from a => 12 unexpected
+select x. from a => 10 unexpected
+select x.* from a => 9 unexpected
+select sum x from a => 11 unexpected
+select sum(*) as s from a => 11 unexpected
+select sum(x from a => 13 unexpected
+select sum(x) from a => 14 unexpected
+select count(x) as n from a => 13 unexpected
+select count(*) from a => 16 unexpected
+select count * as n from a => 13 unexpected
+select *, x from a => 8 unexpected
+select x from => 13 unexpected
+select x from select => 14 unexpected
+select x from a as => 18 unexpected
+select x from a, b => 15 unexpected
+select x from a inner b => 22 unexpected
+select x from a join on => 21 unexpected
+select x from a join b where => 23 unexpected
+select x from a join b on k => 27 unexpected
+select x from a join b on k < j => 28 unexpected
+select x from a join b on k = 1 => 30 unexpected
+select x from a join b on k = j and => 35 unexpected
+select x from a where => 21 unexpected
+select x from a where x => 23 unexpected
+select x from a where x =  => 26 unexpected
+select x from a where x = current_user => 26 unexpected
+select x from a where (x = 1 => 28 unexpected
+select x from a where x = 1 group x => 34 unexpected
+select x from a group by => 24 unexpected
+select x from a group by x, => 27 unexpected
+select x from a where x = 1 where x = 2 => 28 unexpected
+select x from a group by x where x = 1 => 27 unexpected
+select x from a union => 21 unexpected
+select x from a union distinct select x from b => 22 unexpected
+select x from a except all select x from b => 23 unexpected
+select x from a intersect select x from b => 16 unexpected
+(select x from a) => 0 unexpected
+select x from a b c => 18 unexpected
+select x from order => 14 unexpected
+select id from t; => 16 token
+select x from a where x = 'b => 26 token
+select x from a where x = 'b'' => 26 token
+select x from a where x = - 1 => 26 token
+select \"x\" from a => 7 token
+select x from a where x = 9223372036854775807 and y = -9223372036854775808 and z = 9223372036854775809 => 83 token
+select x from a where x = 1_ => 26 token
+select x from a where x = 1é => 27 token
+select x ? from select => 9 token
+select x from ? where => 14 token";
+    assert_eq!(rt; first_wrong(rt.alloc(), Kind::View, table), None);
+}
+
+#[test]
+fn policies(rt: HostRuntime) {
+    let table = "\
+who = Current_User => who@0 = current_user@6
+1 = 'a' => 1@0 = 'a'@4
+true = false => true@0 = false@7
+id > 0 => id@0 > 0@5
+id > 0 and id < 150 => (id@0 > 0@5 and id@11 < 150@16)
+true => true
+false => false
+x <= 256 => x@0 <= 256@5
+x != 1 => x@0 <> 1@5
+x<>-1 => x@0 <> -1@3
+a = 1 or b = 2 or c = 3 => ((a@0 = 1@4 or b@9 = 2@13) or c@18 = 3@22)
+a = 1 and b = 2 and c = 3 => ((a@0 = 1@4 and b@10 = 2@14) and c@20 = 3@24)
+a = 1 or b = 2 and c = 3 => (a@0 = 1@4 or (b@9 = 2@13 and c@19 = 3@23))
+(a = 1 or b = 2) and not c = 3 => ((a@1 = 1@5 or b@10 = 2@14) and not c@25 = 3@29)
+not true and false or true => ((not true and false) or true)
+true = true and true => (true@0 = true@7 and true)
+_x9 >= '' and current_user <> 'a''b' => (_x9@0 >= ''@7 and current_user@14 <> 'a'b'@30)
+x = -9223372036854775808 => x@0 = -9223372036854775808@4
+x = 00012 => x@0 = 12@4
+x = -0 => x@0 = 0@4
+x = 'ä''ö' => x@0 = 'ä'ö'@4";
+    assert_eq!(rt; first_wrong(rt.alloc(), Kind::Policy, table), None);
+    assert!(rt; is(rt.alloc(), Kind::Policy, "\tx\n=\r1", "x@1 = 1@5"));
+}
+
+#[test]
+fn faults_of_policies(rt: HostRuntime) {
+    let table = "\
+ä = 1 => 0 token
+ => 0 unexpected
+x => 1 unexpected
+a.b = 1 => 1 unexpected
+x = a.b => 5 unexpected
+not => 3 unexpected
+() => 1 unexpected
+(true => 5 unexpected
+true) => 4 unexpected
+true and => 8 unexpected
+true or or true => 8 unexpected
+x = 1 y => 6 unexpected
+x = 1 = 2 => 6 unexpected
+= 1 => 0 unexpected
+order = 1 => 0 unexpected
+x = select => 4 unexpected
+x = 1 ? => 6 token
+? x => 0 token
+x ! 1 => 2 token
+x = 1a => 4 token
+x = -9223372036854775809 => 4 token
+x = 9223372036854775808 => 4 token
+x = - => 4 token
+x = 'a => 4 token
+x = 'a'' => 4 token
+x = 'a\0b' => 4 token
+x = 1; => 5 token";
+    assert_eq!(rt; first_wrong(rt.alloc(), Kind::Policy, table), None);
+}
+
+// `part` so many times, and then `end`.
+fn repeated(alloc: Global, part: &str, times: usize, end: &str) -> Result<String, AllocError> {
+    let mut text = String::new(alloc);
+    for _ in 0..times {
+        text.push_str(part)?;
+    }
+    text.push_str(end)?;
+    Ok(text)
+}
+
+fn repeated_is(alloc: Global, part: &str, times: usize, end: &str, want: &str) -> bool {
+    match repeated(alloc, part, times, end) {
+        Ok(text) => is(alloc, Kind::Policy, &text, want),
+        Err(_) => false,
+    }
+}
+
+fn pred_is_read(alloc: Global, text: &str) -> bool {
+    read_pred(alloc, text).is_ok()
+}
+
+fn repeated_is_read(alloc: Global, part: &str, times: usize, end: &str) -> bool {
+    match repeated(alloc, part, times, end) {
+        Ok(text) => pred_is_read(alloc, &text),
+        Err(_) => false,
+    }
+}
+
+#[test]
+fn nesting(rt: HostRuntime) {
+    assert!(rt; repeated_is_read(rt.alloc(), "not ", 32, "true"));
+    assert!(rt; repeated_is(rt.alloc(), "not ", 33, "true", "128 too deep"));
+    assert!(rt; repeated_is(rt.alloc(), "not ", 32, "", "128 unexpected"));
+    assert!(rt;
+        repeated_is(
+            rt.alloc(),
+            "(",
+            32,
+            "true))))))))))))))))))))))))))))))))",
+            "true"
+        )
+    );
+    assert!(rt; repeated_is(rt.alloc(), "(", 33, "true", "32 too deep"));
+    assert!(rt; repeated_is_read(rt.alloc(), "(true) and ", 40, "(true)"));
+}
+
+#[test]
+fn lengths(rt: HostRuntime) {
+    // Words of 63 and of 64 bytes.
+    assert!(rt; repeated_is_read(rt.alloc(), "a", 63, " = 1"));
+    assert!(rt; repeated_is(rt.alloc(), "a", 64, " = 1", "0 token"));
+    // A text of 4,096 bytes, and one of 4,097.
+    assert!(rt; repeated_is_read(rt.alloc(), " ", 4091, "x = 1"));
+    assert!(rt; repeated_is(rt.alloc(), " ", 4092, "x = 1", "4096 too long"));
+    assert!(rt; repeated_is(rt.alloc(), "?", 4097, "", "4096 too long"));
+    assert!(rt; repeated_is(rt.alloc(), " ", 4096, "", "4096 unexpected"));
+    // Values of 1,024 bytes and of 1,025: the first quote stands behind `x = `.
+    assert!(rt; quoted_is_read(rt.alloc(), 1024));
+    assert!(rt; !quoted_is_read(rt.alloc(), 1025));
+}
+
+fn quoted_is_read(alloc: Global, times: usize) -> bool {
+    match quoted_text(alloc, times) {
+        Ok(text) => pred_is_read(alloc, &text),
+        Err(_) => false,
+    }
+}
+
+// A comparison with a value of so many bytes, each a doubled quote.
+fn quoted_text(alloc: Global, times: usize) -> Result<String, AllocError> {
+    let mut text = String::from_str(alloc, "x = '")?;
+    for _ in 0..times {
+        text.push_str("''")?;
+    }
+    text.push('\'')?;
+    Ok(text)
+}
+
+fn query_is_read(alloc: Global, text: &str) -> bool {
+    read_query(alloc, text).is_ok()
+}
+
+#[test]
+fn nine_sources(rt: HostRuntime) {
+    let table = "\
+select x from a join b on k = k join c on k = k join d on k = k join e on k = k join f on k = k join g on k = k join h on k = k join i on k = k => 133 too long
+select x from a union select x from b union select x from c union select x from d union select x from e union select x from f union select x from g union select x from h union select x from i as => 190 too long
+select x from a join b on k = k join c on k = k join d on k = k union select x from e join f on k = k join g on k = k except select x from h union all select x from ? => 165 token
+select x from a join b on k = k join c on k = k join d on k = k union select x from e join f on k = k join g on k = k except select x from h inner join i i on k = k => 152 too long";
+    assert_eq!(rt; first_wrong(rt.alloc(), Kind::View, table), None);
+    let eight =
+        "select x from a join b on k = k join c on k = k join d on k = k union select x from e join f on k = k join g on k = k except select x from h";
+    assert!(rt; query_is_read(rt.alloc(), eight));
+}
+
+fn fault_of(alloc: Global, text: &str) -> Option<QueryFault> {
+    read_query(alloc, text).err()
+}
+
+// The place of a query's fault, or 0 where it has none.
+fn fault_place(alloc: Global, text: &str) -> usize {
+    match fault_of(alloc, text) {
+        Some(QueryFault::At { place, .. }) => place,
+        _ => 0,
+    }
+}
+
+// Whether each text that begins the given one is read, or has a fault in its own bytes.
+fn prefixes_are_read(alloc: Global, text: &str) -> bool {
+    for end in 0..=text.len() {
+        match text.get(..end) {
+            Some(prefix) if fault_place(alloc, prefix) <= end => {}
+            _ => return false,
+        }
+    }
+    true
+}
+
+#[test]
+fn prefixes(rt: HostRuntime) {
+    let texts = "\
+select who, sum(id) as s, count(*) as n from notes where id < 100 group by who
+select a.x, b.y from a join b on a.k = b.k
+select x from a union select y from b
+select x from a union all select y from b
+select x from a except select y from b
+select id from notes
+select id from v
+select id, from notes
+select nope from notes
+select who, count(*) as n from notes
+select x from a where x = 1-1
+select x from a where x = 1a
+select x from a where x = 9223372036854775808
+select a.x from a join b on a.k = b.z
+select a.x from a join b on a.k = a.x
+select * from a join b on a.k = b.k";
+    for text in texts.lines() {
+        assert!(rt; prefixes_are_read(rt.alloc(), text), "{text}");
+    }
+}
