@@ -1,6 +1,12 @@
-pub mod Fitting
-pub mod Gathering
-pub mod Lines
-pub mod Refusals
-pub mod Running
-pub mod Stepping
+mod Tables
+mod Showing
+mod Sound
+mod Stepping
+mod Telling
+mod Lines
+mod Opening
+mod Fitting
+mod Checking
+mod Gathering
+mod Running
+mod Ending

@@ -6,18 +6,25 @@ use Rattle.iv_rows.specs.Names.{is_name}
 use Rattle.iv_machine.specs.Act as machine
 use Rattle.iv_machine.specs.Act.{create_table}
 use Rattle.iv_machine.specs.Machine.{outcome, run, step}
-use Rattle.iv_machine.specs.State.{Lists, State}
+use Rattle.iv_algebra.specs.Plans.{Lists}
+use Rattle.iv_machine.specs.State.{State}
 use Rattle.iv_machine.specs.Well.{is_well_act, is_well_command}
-use Rattle.iv_engine.specs.Answering.{IsAnswer, IsKept, IsLeft, IsStep, said}
-use Rattle.iv_engine.specs.Seen.{Seen, at, IsBehind}
+use Rattle.iv_engine.specs.Answering.{IsAnswer, IsKept, IsLeft, said, seen}
+use Rattle.iv_engine.specs.Kept.{Kept, at, frame_of}
+use Rattle.iv_engine.specs.Seen.{IsBehind}
 use Rattle.iv_engine.specs.Stands.{Stands}
-use Rattle.iv_engine.specs.Views.{refusal_of, reply_of, line_of}
+use Rattle.iv_machine.specs.Held.{closed, closed_in}
+use Rattle.iv_machine.specs.Refusing.{refusal}
+use Rattle.iv_engine.specs.Views.{act_of, command_of, reply_of, line_of}
+use Rattle.iv_engine.specs.declared.command.Act.{Act}
+use Rattle.iv_engine.specs.declared.command.Act.TheVariants.{Begin, CreateRole, CreateTable, Grant, Revoke, Write, Subscribe}
+use Rattle.iv_engine.specs.declared.command.Command.{Command}
 use Rattle.iv_engine.specs.declared.answer.Answer.{Answer}
 use Rattle.iv_engine.specs.declared.answer.Answer.TheVariants.{Refused, Accepted}
 
 -- ---- one step
 
-module _ (e : Seen) (T : Lists) (n : ℕ) (act : machine.Act) where
+module _ (e : Kept) (T : Lists) (n : ℕ) (act : machine.Act) where
   abbrev told : machine.Command
   told = record { session = n; act = act }
 
@@ -25,15 +32,15 @@ module _ (e : Seen) (T : Lists) (n : ℕ) (act : machine.Act) where
   said_lines (Refused r) h = sym (ap (λ o. (outcome (at e T) told o).lines) h)
   said_lines (Accepted reply lines) h = (λ i. machine.reply n (h.1 i) ∷ h.2 i) ∙ sym (ap (λ o. (outcome (at e T) told o).lines) h.0)
 
-  pub left_state : (a : Answer) (new : Seen) → IsAnswer e T n act a → IsLeft e T n act a new → IsKept e a new → Stands T e.bags → IsBehind (step (at e T) told).state new
-  left_state (Refused r) new h l k s = subst (λ (t : State). IsBehind t new) (sym (ap (λ o. (outcome (at e T) told o).state) h))
-      (record { frame = ap (λ (v : Seen). v.frame) (sym k); rows = subst (λ (v : Seen). Stands T v.bags) (sym k) s })
-  left_state (Accepted reply lines) new h l k s = subst (λ (t : State). IsBehind t new) (sym (ap (λ o. (outcome (at e T) told o).state) h.0)) l
+  pub left_state : (a : Answer) (new : Kept) → IsAnswer e T n act a → IsLeft e T n act a new → IsKept e a new → Stands T e.bags → IsBehind (step (at e T) told).state (seen new)
+  left_state (Refused r) new h l k s = subst (λ (t : State). IsBehind t (seen new)) (sym (ap (λ o. (outcome (at e T) told o).state) h))
+      (record { frame = ap frame_of (sym k); rows = subst (λ (v : Kept). Stands T v.bags) (sym k) s })
+  left_state (Accepted reply lines) new h l k s = subst (λ (t : State). IsBehind t (seen new)) (sym (ap (λ o. (outcome (at e T) told o).state) h.0)) l
 
 head_reply : (n k : ℕ) (r : machine.Reply) (x : machine.Refusal) (ls : List machine.Line) → machine.reply n r ∷ ls ≡ machine.reply k (machine.refused x) ∷ [] → r ≡ machine.refused x
 head_reply n k r x ls h = cc
 
-pub kept_refused : (e new : Seen) (n : ℕ) (a : Answer) → IsKept e a new → (k : ℕ) (x : machine.Refusal) → said n a ≡ machine.reply k (machine.refused x) ∷ [] → new ≡ e
+pub kept_refused : (e new : Kept) (n : ℕ) (a : Answer) → IsKept e a new → (k : ℕ) (x : machine.Refusal) → said n a ≡ machine.reply k (machine.refused x) ∷ [] → new ≡ e
 kept_refused e new n (Refused r) h k x l = h
 kept_refused e new n (Accepted reply lines) h k x l = absurd (h x (head_reply n k (reply_of reply) x (map line_of lines.items) l))
 
@@ -70,3 +77,19 @@ no_items (x ∷ xs) h = absurd (omega arith)
 pub nothing_more : {A : Type 0} (xs : List A) → xs ≡ xs ++ []
 nothing_more [] = refl
 nothing_more (x ∷ xs) = ap (λ ys. x ∷ ys) (nothing_more xs)
+
+-- ---- no command of the code closes a subscription
+
+nothing_closed : (s : State) (a : Act) (n : ℕ) (o : Option machine.Refusal) → closed_in s (record { session = n; act = act_of a }) o ≡ []
+nothing_closed s (Begin role) n None = refl
+nothing_closed s (CreateRole name) n None = refl
+nothing_closed s (CreateTable name owner columns) n None = refl
+nothing_closed s (Grant rel privileges grantee) n None = refl
+nothing_closed s (Revoke rel privileges grantee) n None = refl
+nothing_closed s (Write entries) n None = refl
+nothing_closed s (Subscribe rel) n None = refl
+nothing_closed s a n (Some r) = refl
+
+pub none_closed : (s : State) (cs : List Command) → closed s (map command_of cs) ≡ []
+none_closed s [] = refl
+none_closed s (c ∷ cs) = (λ i. nothing_closed s c.act c.session (refusal s c.session (act_of c.act)) i ++ none_closed (step s (command_of c)).state cs i)

@@ -1,17 +1,18 @@
--- What private functions promise of an answer: its lines, and what is stored afterwards.
-use Rattle.std.specs.Prelude.{◌≡◌, ℕ, ◌<◌, ◌≤◌, ℤ, pos, Bool, List, [], ◌∷◌, ◌++◌, map, filter, flat_map, length, Option, Some, None}
+-- What private functions promise of an answer: its lines, and what is kept afterwards.
+use Rattle.std.specs.Prelude.{◌≡◌, ℕ, zero, suc, ◌<◌, ◌≤◌, ◌&&◌, ℤ, pos, Bool, true, cond, List, [], ◌∷◌, ◌++◌, map, filter, flat_map, length, Option, Some, None, false}
 use Rattle.std.specs.Ordering.{int_eq}
 use Rattle.iv_rows.specs.Cell.{Cell}
-use Rattle.iv_zset.specs.Weights.{Weighed, weight_of, SameZ, InRange, AllInRange, IsZSet}
-use Rattle.iv_zset.specs.Limits.{copies}
+use Rattle.iv_zset.specs.Weights.{Weighed, weight_of, SameZ, AllInRange, IsZSet}
+use Rattle.iv_zset.specs.Limits.{copies, within}
+use Rattle.iv_algebra.specs.Plans.{Lists}
 use Rattle.iv_machine.specs.Act as machine
-use Rattle.iv_machine.specs.State.{Lists, Head, Subscription, number_of, rows_at}
+use Rattle.iv_machine.specs.State.{Subscription}
 use Rattle.iv_machine.specs.Refusing.{refusal}
 use Rattle.iv_machine.specs.Changing.{after}
-use Rattle.iv_machine.specs.Machine.{reply_to, changes, change_line, difference, weight}
-use Rattle.iv_machine.specs.Added.{added}
-use Rattle.iv_machine.specs.Reached.{IsReached}
-use Rattle.iv_engine.specs.Seen.{Seen, at, IsBehind}
+use Rattle.iv_machine.specs.Machine.{reply_to, changes, settled, line_of as machine_line, difference, weight}
+use Rattle.iv_machine.specs.declared.Cause.TheVariants as cause
+use Rattle.iv_engine.specs.Kept.{Kept, IsSound, frame_of, at, may_read}
+use Rattle.iv_engine.specs.Seen.{Seen, IsBehind}
 use Rattle.iv_engine.specs.Stands.{Stands, bag_at}
 use Rattle.iv_engine.specs.Views.{refusal_of, reply_of, line_of}
 use Rattle.iv_engine.specs.declared.command.Refusal.{Refusal}
@@ -19,35 +20,36 @@ use Rattle.iv_engine.specs.declared.command.Reply.TheVariants.{Ok}
 use Rattle.iv_engine.specs.declared.answer.Answer.{Answer}
 use Rattle.iv_engine.specs.declared.answer.Answer.TheVariants.{Refused, Accepted}
 
--- the frame is one that the machine reaches, and there is a bag for each table, with at most 65,536 rows
-pub record IsSound (e : Seen) : Type 0 where
-  pub cap : e.frame.cap ≡ 65536
-  pub reached : IsReached e.frame
-  pub tables : length e.bags ≡ length e.frame.heads
-  pub small : (t : ℕ) → t < length e.bags → length (bag_at e.bags t) ≤ 65536
+-- what the engine shows of itself while it has not failed
+abbrev pub seen : Kept → Seen
+seen e = record { frame = frame_of e; bags = e.bags; failed = false }
 
 -- the lines of an answer
 abbrev pub said : ℕ → Answer → List machine.Line
 said n (Refused r) = machine.reply n (machine.refused (refusal_of r)) ∷ []
 said n (Accepted reply lines) = machine.reply n (reply_of reply) ∷ map line_of lines.items
 
+-- the lines that the machine sends for an accepted request in the state with the lists T
+abbrev pub sent : Kept → Lists → ℕ → machine.Act → List machine.Line
+sent e T n act = let changed = after (at e T) n act in changes act (at e T) changed (settled act changed)
+
 -- the machine gives the answer in the state with the lists T
-abbrev pub IsAnswer : Seen → Lists → ℕ → machine.Act → Answer → Type 0
+abbrev pub IsAnswer : Kept → Lists → ℕ → machine.Act → Answer → Type 0
 IsAnswer e T n act (Refused r) = refusal (at e T) n act ≡ Some (refusal_of r)
-IsAnswer e T n act (Accepted reply lines) = (refusal (at e T) n act ≡ None) × (reply_of reply ≡ reply_to e.frame act) × (map line_of lines.items ≡ changes (at e T) (after (at e T) n act))
+IsAnswer e T n act (Accepted reply lines) = (refusal (at e T) n act ≡ None) × (reply_of reply ≡ reply_to (frame_of e) act) × (map line_of lines.items ≡ sent e T n act)
 
 -- an accepted request leaves what the machine leaves
-abbrev pub IsLeft : Seen → Lists → ℕ → machine.Act → Answer → Seen → Type 0
+abbrev pub IsLeft : Kept → Lists → ℕ → machine.Act → Answer → Kept → Type 0
 IsLeft e T n act (Refused r) new = Unit {0}
-IsLeft e T n act (Accepted reply lines) new = IsBehind (after (at e T) n act) new
+IsLeft e T n act (Accepted reply lines) new = IsBehind (settled act (after (at e T) n act)) (seen new)
 
 -- a refused one leaves all, and a reply to an accepted one is no refusal
-abbrev pub IsKept : Seen → Answer → Seen → Type 0
+abbrev pub IsKept : Kept → Answer → Kept → Type 0
 IsKept old (Refused r) new = new ≡ old
 IsKept old (Accepted reply lines) new = (r : machine.Refusal) → reply_of reply ≡ machine.refused r → ⊥
 
 -- one step of the machine from e to new, for all lists behind e
-pub record IsStep (e : Seen) (n : ℕ) (act : machine.Act) (a : Answer) (new : Seen) : Type 0 where
+pub record IsStep (e : Kept) (n : ℕ) (act : machine.Act) (a : Answer) (new : Kept) : Type 0 where
   pub answer : (T : Lists) → Stands T e.bags → IsAnswer e T n act a
   pub left : (T : Lists) → Stands T e.bags → IsLeft e T n act a new
   pub kept : IsKept e a new
@@ -67,16 +69,20 @@ Moved changes T U = (t : ℕ) (q : List Cell) → weight_of (bag_at changes t) q
 abbrev pub Grows : Lists → Lists → Type 0
 Grows T U = (t : ℕ) (q : List Cell) → copies q (T t) ≤ copies q (U t)
 
-abbrev pub moved_line : List Head → Lists → Lists → Subscription → List machine.Line
-moved_line heads T U e = change_line e.session e.number (difference (rows_at T (number_of heads e.rel)) (rows_at U (number_of heads e.rel)))
+abbrev pub moved_line : Lists → Lists → Subscription → List machine.Line
+moved_line T U s = machine_line None s (difference (T s.rel) (U s.rel))
 
 -- the lines of subscriptions that were open before
-abbrev pub moved_lines : List Head → Lists → Lists → List Subscription → List machine.Line
-moved_lines heads T U es = flat_map (moved_line heads T U) es
+abbrev pub moved_lines : Lists → Lists → List Subscription → List machine.Line
+moved_lines T U es = flat_map (moved_line T U) es
 
--- the entries add more copies of some row to a table than a weight can be
-abbrev pub IsOver : List Head → List machine.Entry → Type 0
-IsOver heads es = (t : ℕ) × (t < length heads) × ((q : List Cell) × (InRange (pos (added heads es t q)) → ⊥))
+-- the line that ends a subscription, which takes back all that it shows
+abbrev pub last_line : Lists → Subscription → machine.Line
+last_line T s = machine.ended s.session s.number cause.Privilege (difference (T s.rel) [])
+
+-- the last line of a subscription whose reader may not select any more
+abbrev pub ended_line : Kept → Lists → Subscription → List machine.Line
+ended_line e T s = cond (may_read e s) [] (last_line T s ∷ [])
 
 -- a row of a change that its bag does not have
 abbrev pub is_new : Weighed → List Cell × ℤ → Bool
@@ -97,3 +103,8 @@ pub record AreSums (k : ℕ) (old changes new : List Weighed) : Type 0 where
   pub stored : (t : ℕ) → t < k → IsZSet (bag_at new t)
   pub sums : (t : ℕ) → t < k → SameZ (bag_at new t) (bag_at old t ++ bag_at changes t)
   pub others : (t : ℕ) → k ≤ t → bag_at new t ≡ bag_at old t
+
+-- the rows of each table below n are within the limits
+abbrev pub all_within : ℕ → ℕ → Lists → Bool
+all_within cap zero T = true
+all_within cap (suc n) T = all_within cap n T && within cap (T n)

@@ -1,6 +1,11 @@
-pub mod Answering
 pub mod Entries
 pub mod Views
 pub mod Stands
 pub mod Seen
+pub mod Kept
+pub mod Codes
 pub mod Next
+pub mod Telling
+pub mod Answering
+pub mod Placed
+pub mod Resolving

@@ -1,24 +1,40 @@
--- What is stored after a request that looks at no row.
+-- What is kept after a request that shows nothing.
 use Rattle.std.specs.Prelude.{ℕ, List, [], ◌∷◌, ◌++◌, Option, Some, None}
+use Rattle.iv_rows.specs.Columns.{Column, kinds_of}
 use Rattle.iv_zset.specs.Weights.{Weighed}
-use Rattle.iv_machine.specs.Act.{Act, begin, create_role, create_table, grant, write, subscribe, Refusal}
+use Rattle.iv_access.specs.Known.{Relation}
+use Rattle.iv_machine.specs.Act.{Act, create_table, Refusal}
 use Rattle.iv_machine.specs.Refusing.{frame_refusal}
-use Rattle.iv_machine.specs.Changing.{after_frame}
-use Rattle.iv_engine.specs.Seen.{Seen}
+use Rattle.iv_machine.specs.Changing.{after_rights, after_sessions}
+use Rattle.iv_engine.specs.Kept.{Kept, frame_of}
+
+abbrev pub relations_after : List Relation → Act → List Relation
+relations_after relations (create_table name owner columns) = relations ++ record { name = name; kinds = Some (kinds_of columns) } ∷ []
+relations_after relations _ = relations
+
+abbrev pub columns_after : List (List Column) → Act → List (List Column)
+columns_after all (create_table name owner columns) = all ++ columns ∷ []
+columns_after all _ = all
 
 -- a new table has no row
 abbrev pub bags_after : List Weighed → Act → List Weighed
-bags_after bags (begin role) = bags
-bags_after bags (create_role name) = bags
 bags_after bags (create_table name owner columns) = bags ++ [] ∷ []
-bags_after bags (grant rel privileges grantee) = bags
-bags_after bags (write entries) = bags
-bags_after bags (subscribe rel) = bags
+bags_after bags _ = bags
+
+abbrev pub kept_after : Kept → ℕ → Act → Kept
+kept_after e n act = record {
+  known = record { relations = relations_after e.known.relations act; rights = after_rights (frame_of e) act };
+  columns = columns_after e.columns act;
+  sessions = after_sessions (frame_of e) n act;
+  subscriptions = e.subscriptions;
+  last = e.last;
+  bags = bags_after e.bags act;
+}
 
 -- as before where it is refused
-abbrev pub next_by : Seen → ℕ → Act → Option Refusal → Seen
-next_by e n act None = record e { frame = after_frame e.frame n act; bags = bags_after e.bags act }
+abbrev pub next_by : Kept → ℕ → Act → Option Refusal → Kept
+next_by e n act None = kept_after e n act
 next_by e n act (Some r) = e
 
-abbrev pub next : Seen → ℕ → Act → Seen
-next e n act = next_by e n act (frame_refusal e.frame n act)
+abbrev pub next : Kept → ℕ → Act → Kept
+next e n act = next_by e n act (frame_refusal (frame_of e) n act)

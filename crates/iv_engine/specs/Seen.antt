@@ -1,7 +1,7 @@
 -- What contracts see of an engine, and the machine's states that stand behind it.
 use Rattle.std.specs.Prelude.{◌≡◌, Bool, List}
 use Rattle.iv_zset.specs.Weights.{Weighed}
-use Rattle.iv_machine.specs.State.{Frame, Lists, State}
+use Rattle.iv_machine.specs.State.{Frame, State}
 use Rattle.iv_engine.specs.Stands.{Stands}
 
 -- all but the rows, a bag of rows for each table, and whether the engine has failed
@@ -9,10 +9,6 @@ pub record Seen : Type 0 where
   pub frame : Frame
   pub bags : List Weighed
   pub failed : Bool
-
--- the state with these lists of rows
-abbrev pub at : Seen → Lists → State
-at e T = record { frame = e.frame; rows = T }
 
 -- the state is the engine's, but for the order of rows in its lists
 pub record IsBehind (s : State) (e : Seen) : Type 0 where

@@ -1,9 +1,9 @@
 -- What commands and lines of the code are to the machine.
-use Rattle.std.specs.Prelude.{string_bytes}
+use Rattle.std.specs.Prelude.{string_bytes, option_map}
 use Rattle.iv_machine.specs.Act as machine
 use Rattle.iv_engine.specs.declared.command.Command.{Command}
 use Rattle.iv_engine.specs.declared.command.Act.{Act}
-use Rattle.iv_engine.specs.declared.command.Act.TheVariants.{Begin, CreateRole, CreateTable, Grant, Write, Subscribe}
+use Rattle.iv_engine.specs.declared.command.Act.TheVariants.{Begin, CreateRole, CreateTable, Grant, Revoke, Write, Subscribe}
 use Rattle.iv_engine.specs.declared.command.Refusal.{Refusal}
 use Rattle.iv_engine.specs.declared.command.Refusal.TheVariants.{NoSession, SessionInUse, UnknownRole, NameTaken, UnknownRelation, BadRow, NotAdministrator, NotOwner, MissingPrivilege, Limit, TooMany}
 use Rattle.iv_engine.specs.declared.command.Reply.{Reply}
@@ -15,7 +15,8 @@ abbrev pub act_of : Act → machine.Act
 act_of (Begin role) = machine.begin (string_bytes role)
 act_of (CreateRole name) = machine.create_role (string_bytes name)
 act_of (CreateTable name owner columns) = machine.create_table (string_bytes name) (string_bytes owner) columns.items
-act_of (Grant rel privileges grantee) = machine.grant (string_bytes rel) privileges.items (string_bytes grantee)
+act_of (Grant rel privileges grantee) = machine.grant (string_bytes rel) privileges.items (option_map string_bytes grantee)
+act_of (Revoke rel privileges grantee) = machine.revoke (string_bytes rel) privileges.items (option_map string_bytes grantee)
 act_of (Write entries) = machine.write entries.items
 act_of (Subscribe rel) = machine.subscribe (string_bytes rel)
 
@@ -43,3 +44,4 @@ reply_of (said.Refused r) = machine.refused (refusal_of r)
 abbrev pub line_of : Line → machine.Line
 line_of (line.Reply n r) = machine.reply n (reply_of r)
 line_of (line.Change n k rows) = machine.change n k rows.items
+line_of (line.Ended n k cause rows) = machine.ended n k cause rows.items

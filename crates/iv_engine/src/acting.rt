@@ -1,11 +1,12 @@
 //! One step: a command to its lines.
-ghost use Rattle.std.specs.Prelude.{◌≡◌, ℕ, ◌∷◌, [], IfOk, OnOk, map, true};
+ghost use Rattle.std.specs.Prelude.{◌≡◌, ℕ, ◌∷◌, [], IfOk, OnOk, map, option_map, string_bytes, true};
+ghost use Rattle.iv_algebra.specs.Plans.{Lists};
 ghost use Rattle.iv_machine.specs.Act as machine;
 ghost use Rattle.iv_machine.specs.Machine.{step};
-ghost use Rattle.iv_machine.specs.State.{Lists};
 ghost use Rattle.iv_machine.specs.Well.{is_well_act, is_well_command};
-ghost use Rattle.iv_engine.specs.Answering.{IsPlain, IsSound, IsStep};
-ghost use Rattle.iv_engine.specs.Seen.{IsBehind, at};
+ghost use Rattle.iv_engine.specs.Answering.{IsPlain, IsStep, seen};
+ghost use Rattle.iv_engine.specs.Kept.{IsSound, at};
+ghost use Rattle.iv_engine.specs.Seen.{IsBehind};
 ghost use Rattle.iv_engine.specs.Stands.{Stands};
 ghost use Rattle.iv_engine.specs.Views.{act_of, command_of, line_of};
 
@@ -27,6 +28,16 @@ fn plain(alloc: Global, refusal: Option<Refusal>) -> Answer
     }
 }
 
+/// The text of a name, if there is one.
+fn text_of(name: &Option<String>) -> Option<&str>
+    ensures { option_map (λ n. n.now) result ≡ option_map string_bytes name.now }
+{
+    match name {
+        None => None,
+        Some(name) => Some(name.as_str()),
+    }
+}
+
 impl Store {
     /// Makes the tests of a request, and the change where all pass.
     fn act(&mut self, session: u32, act: Act) -> Result<Answer, AllocError>
@@ -36,7 +47,7 @@ impl Store {
     {
         match act {
             Act::Begin { role } => {
-                let refusal = self.begin(session, role)?;
+                let refusal = self.begin(session, role.as_str())?;
                 Ok(plain(self.alloc, refusal))
             }
             Act::CreateRole { name } => {
@@ -48,7 +59,7 @@ impl Store {
                 owner,
                 columns,
             } => {
-                let refusal = self.create_table(session, name, owner, columns)?;
+                let refusal = self.create_table(session, name, owner.as_str(), columns)?;
                 Ok(plain(self.alloc, refusal))
             }
             Act::Grant {
@@ -56,9 +67,14 @@ impl Store {
                 privileges,
                 grantee,
             } => {
-                let refusal = self.grant(session, rel, &privileges, grantee.as_str())?;
+                let refusal = self.grant(session, rel, &privileges, text_of(&grantee))?;
                 Ok(plain(self.alloc, refusal))
             }
+            Act::Revoke {
+                rel,
+                privileges,
+                grantee,
+            } => self.revoke(session, rel, &privileges, text_of(&grantee)),
             Act::Write { entries } => self.write(session, entries),
             Act::Subscribe { rel } => self.subscribe(session, rel),
         }
@@ -69,7 +85,7 @@ impl Store {
         requires well { is_well_command (command_of command) ≡ true }
         requires sound { IsSound self.old }
         ensures lines { IfOk result (λ lines. (T : Lists) → Stands T self.old.bags → map line_of lines.items ≡ (step (at self.old T) (command_of command)).lines) }
-        ensures state { OnOk result ((T : Lists) → Stands T self.old.bags → IsBehind (step (at self.old T) (command_of command)).state self.new) }
+        ensures state { OnOk result ((T : Lists) → Stands T self.old.bags → IsBehind (step (at self.old T) (command_of command)).state (seen self.new)) }
         ensures refused { IfOk result (λ lines. (n : ℕ) (r : machine.Refusal) → map line_of lines.items ≡ machine.reply n (machine.refused r) ∷ [] → self.new ≡ self.old) }
         ensures sound { OnOk result (IsSound self.new) }
     {

@@ -1,7 +1,8 @@
 //! What the engine is asked, and what it says.
 ghost use Rattle.std.specs.Prelude.{◌≡◌};
 
-use iv_machine::Privilege;
+use iv_access::Privilege;
+use iv_machine::Cause;
 use iv_rows::{Column, Row};
 use std::alloc::AllocError;
 use std::marker::Model;
@@ -17,7 +18,7 @@ pub struct Command {
 
 /// What a session asks.
 ///
-/// Source: docs/PROTOCOL.md, Requests; PostgreSQL 16, CREATE ROLE, GRANT and Privileges.
+/// Source: docs/PROTOCOL.md, Requests; PostgreSQL 16, CREATE ROLE, GRANT, REVOKE and Privileges.
 #[derive(Drop)]
 pub enum Act {
     /// Opens the session for a role.
@@ -34,11 +35,17 @@ pub enum Act {
         owner: String,
         columns: Vec<Column>,
     },
-    /// Gives a role privileges on a relation. Only its owner and `admin` may.
+    /// Gives a role, or PUBLIC where none is named, privileges on a relation. Only its owner and `admin` may.
     Grant {
         rel: String,
         privileges: Vec<Privilege>,
-        grantee: String,
+        grantee: Option<String>,
+    },
+    /// Takes privileges on a relation from a role, or from PUBLIC where none is named. Only its owner and `admin` may.
+    Revoke {
+        rel: String,
+        privileges: Vec<Privilege>,
+        grantee: Option<String>,
     },
     /// Writes all the entries, in their order, or none.
     Write {
@@ -78,30 +85,30 @@ pub enum Op {
     Insert(Row),
 }
 
-/// The first test of a request that failed.
+/// The first test of a request that failed, with its number in docs/PROTOCOL.md.
 #[derive(Drop)]
 pub enum Refusal {
-    /// The session is not open.
+    /// 3: the session is not open.
     NoSession,
-    /// The session is open already.
+    /// 4: the session is open already.
     SessionInUse,
-    /// No role has the name.
+    /// 5: no role has the name.
     UnknownRole,
-    /// The name is taken.
+    /// 6: the name is taken.
     NameTaken,
-    /// No relation has the name.
+    /// 7: no relation has the name.
     UnknownRelation,
-    /// The number or the kinds of an entry's values are not those of the table. Entries count from 1.
+    /// 9: the number or the kinds of an entry's values are not those of the table. Entries count from 1.
     BadRow { entry: usize },
-    /// The role is not `admin`.
+    /// 11: the role is not `admin`.
     NotAdministrator,
-    /// The role is neither the relation's owner nor `admin`.
+    /// 12: the role is neither the relation's owner nor `admin`.
     NotOwner { rel: String },
-    /// The role lacks a privilege on a relation.
+    /// 13: the role lacks a privilege on a relation.
     MissingPrivilege { privilege: Privilege, rel: String },
-    /// A table would not be within the limits of rows and copies.
+    /// 17: a table would not be within the limits of rows and copies.
     Limit,
-    /// There are as many of them as there may be.
+    /// 20: there are as many of them as there may be.
     TooMany,
 }
 
@@ -129,6 +136,14 @@ pub enum Line {
     Change {
         session: u32,
         sub: u64,
+        rows: Vec<(Row, i64)>,
+    },
+    /// The subscription is ended, and nothing is sent for it again: what its view showed, each row once, in rising
+    /// order, with its weight below 0; perhaps no row.
+    Ended {
+        session: u32,
+        sub: u64,
+        cause: Cause,
         rows: Vec<(Row, i64)>,
     },
 }

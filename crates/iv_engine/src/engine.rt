@@ -5,6 +5,7 @@ ghost use Rattle.iv_rows.specs.Cell.{Cell};
 ghost use Rattle.iv_machine.specs.Act as machine;
 ghost use Rattle.iv_machine.specs.Held.{held};
 ghost use Rattle.iv_machine.specs.Machine.{step, run, weight};
+ghost use Rattle.iv_machine.specs.Reached.{IsReached};
 ghost use Rattle.iv_machine.specs.State.{State, start, shown};
 ghost use Rattle.iv_machine.specs.Well.{is_well_command};
 ghost use Rattle.iv_engine.specs.Seen.{IsBehind};
@@ -15,7 +16,7 @@ use crate::store::Store;
 use std::alloc::{AllocError, Global};
 use std::marker::Model;
 
-/// The roles, the tables with their rows, the grants, the sessions and the subscriptions. It answers commands as the
+/// Rights, tables with their rows, sessions and subscriptions. It answers commands as the
 /// access machine does, and after a refused growth of memory none any more.
 #[derive(Drop)]
 pub struct Engine {
@@ -25,12 +26,15 @@ pub struct Engine {
 
 impl Model for Engine {
     ghost use Rattle.std.specs.Prelude.{◌≡◌, false};
-    ghost use Rattle.iv_engine.specs.Answering.{IsSound};
+    ghost use Rattle.iv_engine.specs.Codes.{seen_code};
+    ghost use Rattle.iv_engine.specs.Kept.{IsSound, frame_of};
     ghost use Rattle.iv_engine.specs.Seen.{Seen};
 
     ghost Value = { Seen };
 
-    ghost view = { λ e. record e.store { failed = e.failed } };
+    ghost coded = { seen_code };
+
+    ghost view = { λ e. record { frame = frame_of e.store; bags = e.store.bags; failed = e.failed } };
 
     ghost invariant = { λ e. e.failed ≡ false → IsSound e.store };
 }
@@ -41,7 +45,7 @@ impl Engine {
     /// # Errors
     /// `AllocError` where a growth of memory was refused.
     pub fn new(alloc: Global) -> Result<Engine, AllocError>
-        ensures start { IfOk result (λ engine. IsBehind start engine) }
+        ensures start { IfOk result (λ engine. IsBehind (start 65536) engine) }
         ensures failed { IfOk result (λ engine. engine.failed ≡ false) }
     {
         Ok(Engine {
@@ -50,9 +54,11 @@ impl Engine {
         })
     }
 
-    /// Whether the engine has failed: then no command is answered any more.
+    /// Whether the engine has failed: then no command is answered any more. Until then its frame is one that the machine
+    /// reaches.
     pub fn is_failed(&self) -> bool
-        ensures { result ≡ self.now.failed }
+        ensures failed { result ≡ self.now.failed }
+        ensures reached { result ≡ false → IsReached self.now.frame }
     {
         self.failed
     }
@@ -77,6 +83,7 @@ impl Engine {
         ensures went_on { OnOk result (self.new.failed ≡ false) }
         ensures fails { OnErr result (self.new.failed ≡ true) }
         ensures failed { result ≡ Err EngineFault.Failed ↔ (self.old.failed ≡ true) }
+        ensures failed_unchanged { self.old.failed ≡ true → self.new ≡ self.old }
     {
         if self.is_failed() {
             return Err(EngineFault::Failed);
@@ -103,6 +110,7 @@ impl Engine {
         ensures went_on { OnOk result (self.new.failed ≡ false) }
         ensures fails { OnErr result (self.new.failed ≡ true) }
         ensures failed { result ≡ Err EngineFault.Failed ↔ (self.old.failed ≡ true) }
+        ensures failed_unchanged { self.old.failed ≡ true → self.new ≡ self.old }
     {
         if self.is_failed() {
             return Err(EngineFault::Failed);

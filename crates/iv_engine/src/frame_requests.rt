@@ -1,70 +1,83 @@
 //! The requests that look at no row: `begin`, `create_role`, `create_table` and `grant`.
-ghost use Rattle.std.specs.Prelude.{◌≡◌, ◌&&◌, ◌++◌, ◌∷◌, [], IfOk, OnOk, option_map, string_bytes, true};
-ghost use Rattle.iv_rows.specs.Columns.{has_columns, has_distinct_names};
+ghost use Rattle.std.specs.Prelude.{◌≡◌, ◌&&◌, IfOk, OnOk, option_map, string_bytes, true};
+ghost use Rattle.iv_rows.specs.Columns.{has_columns, has_distinct_names, kinds_of};
 ghost use Rattle.iv_machine.specs.Act as machine;
-ghost use Rattle.iv_machine.specs.Changing.{after_frame};
 ghost use Rattle.iv_machine.specs.Refusing.{frame_refusal};
+ghost use Rattle.iv_engine.specs.Kept.{IsStored, frame_of};
 ghost use Rattle.iv_engine.specs.Next.{next};
+ghost use Rattle.iv_engine.specs.Telling.{IsAdded, IsTold};
 ghost use Rattle.iv_engine.specs.Views.{refusal_of};
 
 use crate::command::Refusal;
-use crate::names::Name;
 use crate::store::Store;
-use crate::stored::{Head, Session, add_grants};
-use iv_machine::Privilege;
-use iv_rows::{Column, Schema};
+use crate::stored::Session;
+use iv_access::{AccessFault, Privilege, RoleId};
+use iv_rows::{Column, Kind, Schema};
 use iv_zset::ZSet;
-use std::alloc::AllocError;
+use std::alloc::{AllocError, Global};
 
-/// The privileges of a table's owner.
-const ALL: [Privilege; 4] = [
-    Privilege::Select,
-    Privilege::Insert,
-    Privilege::Update,
-    Privilege::Delete,
-];
+/// The most sessions that are open at once.
+const MOST_SESSIONS: usize = 256;
+
+/// What a change of rights is answered: `rel` is the relation that the request names.
+pub fn outcome(change: Result<(), AccessFault>, rel: String) -> Result<Option<Refusal>, AllocError>
+    ensures { IfOk result (λ r. IsTold change (string_bytes rel) (option_map refusal_of r)) }
+{
+    match change {
+        Ok(()) => Ok(None),
+        Err(AccessFault::Role) => Ok(Some(Refusal::UnknownRole)),
+        Err(AccessFault::Taken) => Ok(Some(Refusal::NameTaken)),
+        Err(AccessFault::NotAdmin) => Ok(Some(Refusal::NotAdministrator)),
+        Err(AccessFault::NotOwner) => Ok(Some(Refusal::NotOwner { rel })),
+        Err(AccessFault::TooMany) => Ok(Some(Refusal::TooMany)),
+        Err(AccessFault::Policy) => Ok(None),
+        Err(AccessFault::Memory) => Err(AllocError),
+    }
+}
+
+/// The kinds of the columns.
+fn kinds(alloc: Global, columns: &[Column]) -> Result<Vec<Kind>, AllocError>
+    ensures { IfOk result (λ kinds. kinds.items ≡ kinds_of columns.now) }
+{
+    let mut kinds = Vec::with_capacity(alloc, columns.len())?;
+    for column in columns {
+        kinds.push(column.kind)?;
+    }
+    Ok(kinds)
+}
 
 impl Store {
     /// Opens a session, or says which test fails first.
-    pub fn begin(&mut self, session: u32, role: String) -> Result<Option<Refusal>, AllocError>
-        ensures refused { IfOk result (λ r. option_map refusal_of r ≡ frame_refusal self.old.frame session (machine.begin (string_bytes role))) }
-        ensures state { OnOk result (self.new ≡ next self.old session (machine.begin (string_bytes role))) }
+    pub fn begin(&mut self, session: u32, role: &str) -> Result<Option<Refusal>, AllocError>
+        ensures refused { IfOk result (λ r. option_map refusal_of r ≡ frame_refusal (frame_of self.old) session (machine.begin role.now)) }
+        ensures state { OnOk result (self.new ≡ next self.old session (machine.begin role.now)) }
     {
-        if self.has_session(session) {
+        if self.actor(session).is_some() {
             return Ok(Some(Refusal::SessionInUse));
         }
-        if !self.is_role(role.as_str()) {
+        let Some(role) = self.access.role(role) else {
             return Ok(Some(Refusal::UnknownRole));
-        }
-        if self.sessions.len() >= 256 {
+        };
+        if self.sessions.len() >= MOST_SESSIONS {
             return Ok(Some(Refusal::TooMany));
         }
         self.sessions.push(Session {
             number: session,
-            role: Name::of(role),
+            role,
         })?;
         Ok(None)
     }
 
     /// Adds a role, or says which test fails first.
     pub fn create_role(&mut self, session: u32, name: String) -> Result<Option<Refusal>, AllocError>
-        ensures refused { IfOk result (λ r. option_map refusal_of r ≡ frame_refusal self.old.frame session (machine.create_role (string_bytes name))) }
+        ensures refused { IfOk result (λ r. option_map refusal_of r ≡ frame_refusal (frame_of self.old) session (machine.create_role (string_bytes name))) }
         ensures state { OnOk result (self.new ≡ next self.old session (machine.create_role (string_bytes name))) }
     {
-        if !self.has_session(session) {
+        let Some(acting) = self.actor(session) else {
             return Ok(Some(Refusal::NoSession));
-        }
-        if !self.is_admin(session) {
-            return Ok(Some(Refusal::NotAdministrator));
-        }
-        if self.is_role(name.as_str()) {
-            return Ok(Some(Refusal::NameTaken));
-        }
-        if self.roles.len() >= 256 {
-            return Ok(Some(Refusal::TooMany));
-        }
-        self.roles.push(Name::of(name))?;
-        Ok(None)
+        };
+        let change = self.access.create_role(acting, name.as_str());
+        outcome(change, name)
     }
 
     /// Adds a table, with each privilege for its owner, or says which test fails first.
@@ -72,53 +85,43 @@ impl Store {
         &mut self,
         session: u32,
         name: String,
-        owner: String,
+        owner: &str,
         columns: Vec<Column>,
     ) -> Result<Option<Refusal>, AllocError>
-        requires { (has_columns columns.items && has_distinct_names columns.items) ≡ true }
-        ensures refused { IfOk result (λ r. option_map refusal_of r ≡ frame_refusal self.old.frame session (machine.create_table (string_bytes name) (string_bytes owner) columns.items)) }
-        ensures state { OnOk result (self.new ≡ next self.old session (machine.create_table (string_bytes name) (string_bytes owner) columns.items)) }
+        requires columns { (has_columns columns.items && has_distinct_names columns.items) ≡ true }
+        requires stored { IsStored self.old }
+        ensures refused { IfOk result (λ r. option_map refusal_of r ≡ frame_refusal (frame_of self.old) session (machine.create_table (string_bytes name) owner.now columns.items)) }
+        ensures state { OnOk result (self.new ≡ next self.old session (machine.create_table (string_bytes name) owner.now columns.items)) }
     {
-        if !self.has_session(session) {
+        let Some(acting) = self.actor(session) else {
             return Ok(Some(Refusal::NoSession));
-        }
-        if !self.is_admin(session) {
-            return Ok(Some(Refusal::NotAdministrator));
-        }
-        if !self.is_role(owner.as_str()) {
-            return Ok(Some(Refusal::UnknownRole));
-        }
-        if self.has_table(name.as_str()) {
-            return Ok(Some(Refusal::NameTaken));
-        }
-        if self.heads.len() >= 64 {
-            return Ok(Some(Refusal::TooMany));
+        };
+        let kinds = kinds(self.alloc, &columns)?;
+        let change = self.add_table(acting, name.as_str(), owner, kinds, columns)?;
+        outcome(change, name)
+    }
+
+    /// Adds a table without rows where the rights admit it.
+    fn add_table(
+        &mut self,
+        acting: RoleId,
+        name: &str,
+        owner: &str,
+        kinds: Vec<Kind>,
+        columns: Vec<Column>,
+    ) -> Result<Result<(), AccessFault>, AllocError>
+        requires { (has_columns columns.items && has_distinct_names columns.items) ≡ true }
+        ensures { IfOk result (λ change. IsAdded self.old acting.0 name.now owner.now kinds.items columns.items change self.new) }
+    {
+        if let Err(fault) = self.access.add_relation(acting, name, owner, Some(kinds)) {
+            return Ok(Err(fault));
         }
         let Ok(schema) = Schema::try_new(columns) else {
             unreachable!()
         };
-        self.add_table(name, owner, schema)?;
-        Ok(None)
-    }
-
-    /// Adds a table, with each privilege for its owner.
-    fn add_table(&mut self, name: String, owner: String, schema: Schema) -> Result<(), AllocError>
-        ensures { OnOk result (self.new ≡ record self.old { frame = after_frame self.old.frame 0 (machine.create_table (string_bytes name) (string_bytes owner) schema); bags = self.old.bags ++ [] ∷ [] }) }
-    {
-        add_grants(
-            self.alloc,
-            &mut self.grants,
-            name.as_str(),
-            &ALL,
-            owner.as_str(),
-        )?;
+        self.schemas.push(schema)?;
         self.bags.push(ZSet::new(self.alloc))?;
-        self.heads.push(Head {
-            name: Name::of(name),
-            owner: Name::of(owner),
-            schema,
-        })?;
-        Ok(())
+        Ok(Ok(()))
     }
 
     /// Grants privileges on a table, or says which test fails first.
@@ -127,30 +130,19 @@ impl Store {
         session: u32,
         rel: String,
         privileges: &[Privilege],
-        grantee: &str,
+        grantee: Option<&str>,
     ) -> Result<Option<Refusal>, AllocError>
-        ensures refused { IfOk result (λ r. option_map refusal_of r ≡ frame_refusal self.old.frame session (machine.grant (string_bytes rel) privileges.now grantee.now)) }
-        ensures state { OnOk result (self.new ≡ next self.old session (machine.grant (string_bytes rel) privileges.now grantee.now)) }
+        requires { IsStored self.old }
+        ensures refused { IfOk result (λ r. option_map refusal_of r ≡ frame_refusal (frame_of self.old) session (machine.grant (string_bytes rel) privileges.now (option_map (λ n. n.now) grantee.entry))) }
+        ensures state { OnOk result (self.new ≡ next self.old session (machine.grant (string_bytes rel) privileges.now (option_map (λ n. n.now) grantee.entry))) }
     {
-        if !self.has_session(session) {
+        let Some(acting) = self.actor(session) else {
             return Ok(Some(Refusal::NoSession));
-        }
-        if !self.has_table(rel.as_str()) {
+        };
+        let Some(number) = self.table(rel.as_str()) else {
             return Ok(Some(Refusal::UnknownRelation));
-        }
-        if !self.owns(session, rel.as_str()) {
-            return Ok(Some(Refusal::NotOwner { rel }));
-        }
-        if !self.is_role(grantee) {
-            return Ok(Some(Refusal::UnknownRole));
-        }
-        add_grants(
-            self.alloc,
-            &mut self.grants,
-            rel.as_str(),
-            privileges,
-            grantee,
-        )?;
-        Ok(None)
+        };
+        let change = self.access.grant(acting, number, privileges, grantee);
+        outcome(change, rel)
     }
 }

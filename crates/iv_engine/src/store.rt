@@ -1,26 +1,24 @@
-//! All that the engine stores, and the tests that look at no row.
-ghost use Rattle.std.specs.Prelude.{◌≡◌, IfOk, is_some, true};
-ghost use Rattle.iv_machine.specs.Refusing.{is_open};
-ghost use Rattle.iv_machine.specs.State as machine;
-ghost use Rattle.iv_machine.specs.State.{start};
-ghost use Rattle.iv_engine.specs.Answering.{IsSound};
+//! All that the engine stores.
+ghost use Rattle.std.specs.Prelude.{◌≡◌, ◌<◌, IfOk, IfSome, is_some, length, option_map, slice_get};
+ghost use Rattle.iv_bind.specs.Catalogs.{named};
+ghost use Rattle.iv_machine.specs.State.{name_of, rel_of, session_of, start, table_columns};
+ghost use Rattle.iv_engine.specs.Answering.{seen};
+ghost use Rattle.iv_engine.specs.Kept.{IsSound, IsStored, cap, frame_of};
 ghost use Rattle.iv_engine.specs.Seen.{IsBehind};
 
-use crate::names::Name;
-use crate::stored::{
-    Grant, Head, Session, Subscription, find_head, find_session, has, is_name, owns,
-};
-use iv_machine::Privilege;
+use crate::stored::{Session, Subscription, find_session};
+use iv_access::{Access, RoleId};
+use iv_rows::{RelId, Schema};
 use iv_zset::ZSet;
 use std::alloc::{AllocError, Global};
 use std::marker::Model;
 
-/// Roles, tables with their rows, grants, sessions and subscriptions.
+/// Rights, tables with their rows, sessions and subscriptions. A table's columns and rows stand at its number, and
+/// subscriptions in the order of their lines.
 #[derive(Drop)]
 pub struct Store {
-    pub roles: Vec<Name>,
-    pub heads: Vec<Head>,
-    pub grants: Vec<Grant>,
+    pub access: Access,
+    pub schemas: Vec<Schema>,
     pub sessions: Vec<Session>,
     pub subscriptions: Vec<Subscription>,
     pub last: u64,
@@ -29,26 +27,25 @@ pub struct Store {
 }
 
 impl Model for Store {
-    ghost use Rattle.std.specs.Prelude.{false};
-    ghost use Rattle.iv_engine.specs.Seen.{Seen};
+    ghost use Rattle.iv_engine.specs.Codes.{kept_code};
+    ghost use Rattle.iv_engine.specs.Kept.{Kept};
 
-    ghost Value = { Seen };
+    ghost Value = { Kept };
 
-    ghost view = { λ s. record { frame = record { cap = 65536; roles = s.roles.items; heads = s.heads.items; grants = s.grants.items; sessions = s.sessions.items; subscriptions = s.subscriptions.items; last = s.last }; bags = s.bags.items; failed = false } };
+    ghost coded = { kept_code };
+
+    ghost view = { λ s. record { known = s.access; columns = s.schemas.items; sessions = s.sessions.items; subscriptions = s.subscriptions.items; last = s.last; bags = s.bags.items } };
 }
 
 impl Store {
     /// One role, `admin`, and nothing else.
     pub fn new(alloc: Global) -> Result<Store, AllocError>
-        ensures start { IfOk result (λ store. IsBehind start store) }
+        ensures start { IfOk result (λ store. IsBehind (start cap) (seen store)) }
         ensures sound { IfOk result (λ store. IsSound store) }
     {
-        let mut roles = Vec::new(alloc);
-        roles.push(Name::new(alloc, "admin")?)?;
         Ok(Store {
-            roles,
-            heads: Vec::new(alloc),
-            grants: Vec::new(alloc),
+            access: Access::new(alloc)?,
+            schemas: Vec::new(alloc),
             sessions: Vec::new(alloc),
             subscriptions: Vec::new(alloc),
             last: 0,
@@ -57,59 +54,25 @@ impl Store {
         })
     }
 
-    /// Whether the session is open.
-    pub fn has_session(&self, session: u32) -> bool
-        ensures { result ≡ is_open self.now.frame session }
-    {
-        find_session(&self.sessions, session).is_some()
-    }
-
-    /// Whether a table has the name.
-    pub fn has_table(&self, name: &str) -> bool
-        ensures { result ≡ is_some (machine.head_of self.now.frame.heads name.now) }
-    {
-        find_head(&self.heads, name).is_some()
-    }
-
-    /// Whether a role has the name.
-    pub fn is_role(&self, name: &str) -> bool
-        ensures { result ≡ machine.is_role self.now.frame name.now }
-    {
-        is_name(&self.roles, name)
-    }
-
-    /// Whether the session's role is `admin`.
-    pub fn is_admin(&self, session: u32) -> bool
-        ensures { result ≡ machine.is_admin (machine.actor self.now.frame session) }
+    /// The role that acts in the session; none where it is not open.
+    pub fn actor(&self, session: u32) -> Option<RoleId>
+        ensures { option_map (λ r. r.0) result ≡ option_map (λ s. s.role) (session_of self.now.sessions session) }
     {
         match find_session(&self.sessions, session) {
-            None => false,
-            Some(found) => found.role.is_admin(),
+            Some(found) => Some(found.role),
+            None => None,
         }
     }
 
-    /// Whether the session's role is `admin`, or owns the table.
-    pub fn owns(&self, session: u32, name: &str) -> bool
-        requires { is_open self.now.frame session ≡ true }
-        ensures { result ≡ machine.owns self.now.frame.heads (machine.actor self.now.frame session) name.now }
+    /// The table of a name; none where there is none.
+    pub fn table(&self, name: &str) -> Option<RelId>
+        requires { IsStored self.now }
+        ensures known { is_some result ≡ is_some (named (frame_of self.now).catalog name.now) }
+        ensures number { IfSome result (λ rel. rel_of (frame_of self.now).catalog name.now ≡ rel.0) }
+        ensures name { IfSome result (λ rel. name_of (frame_of self.now).catalog rel.0 ≡ name.now) }
+        ensures columns { IfSome result (λ rel. table_columns (frame_of self.now).catalog name.now ≡ slice_get self.now.columns rel.0) }
+        ensures below { IfSome result (λ rel. rel.0 < length self.now.columns) }
     {
-        match find_session(&self.sessions, session) {
-            None => false,
-            Some(found) => match find_head(&self.heads, name) {
-                None => found.role.is_admin(),
-                Some(head) => owns(&found.role, head),
-            },
-        }
-    }
-
-    /// Whether the session's role has the privilege on the table.
-    pub fn may(&self, session: u32, privilege: Privilege, name: &str) -> bool
-        requires { is_open self.now.frame session ≡ true }
-        ensures { result ≡ machine.has self.now.frame.grants (machine.actor self.now.frame session) privilege name.now }
-    {
-        match find_session(&self.sessions, session) {
-            None => false,
-            Some(found) => has(&self.grants, &found.role, privilege, name),
-        }
+        self.access.relation(name)
     }
 }

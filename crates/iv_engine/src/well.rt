@@ -1,9 +1,11 @@
 //! The rules on the shape of commands.
-ghost use Rattle.std.specs.Prelude.{◌≡◌, ◌&&◌, ◌^◌, length, nat_le, nat_lt, bytes_eq};
+ghost use Rattle.std.specs.Prelude.{◌≡◌, ◌&&◌, ◌^◌, length, nat_le, nat_lt, bytes_eq, option_map, string_bytes};
 ghost use Rattle.std.specs.List.{list_all, list_any};
 ghost use Rattle.iv_rows.specs.Columns.{has_columns, has_distinct_names, is_wide};
 ghost use Rattle.iv_rows.specs.Names.{is_name};
-ghost use Rattle.iv_machine.specs.Well.{is_between, is_well_act, is_well_command, is_well_entry, is_well_op};
+ghost use Rattle.iv_rows.specs.Texts.{is_well};
+ghost use Rattle.iv_machine.specs.Refusing.{rows_in};
+ghost use Rattle.iv_machine.specs.Well.{is_between, is_grantee, is_positive, is_well_act, is_well_command, is_well_entry};
 ghost use Rattle.iv_engine.specs.Entries.{copies_of, op_of};
 ghost use Rattle.iv_engine.specs.Views.{act_of, command_of};
 
@@ -46,10 +48,24 @@ fn is_well_act(act: &Act) -> bool
             rel,
             privileges,
             grantee,
-        } => name_ok(rel.as_str())
-            && (is_between(1, 4, privileges.len()) && name_ok(grantee.as_str())),
+        } => name_ok(rel.as_str()) && (is_between(1, 4, privileges.len()) && is_grantee(grantee)),
+        Act::Revoke {
+            rel,
+            privileges,
+            grantee,
+        } => name_ok(rel.as_str()) && (is_between(1, 4, privileges.len()) && is_grantee(grantee)),
         Act::Write { entries } => is_between(1, 1000, entries.len()) && are_well(entries),
         Act::Subscribe { rel } => name_ok(rel.as_str()),
+    }
+}
+
+/// Whether it is no name, which stands for PUBLIC, or a name.
+fn is_grantee(grantee: &Option<String>) -> bool
+    ensures { result ≡ is_grantee (option_map string_bytes grantee.now) }
+{
+    match grantee {
+        None => true,
+        Some(name) => name_ok(name.as_str()),
     }
 }
 
@@ -76,7 +92,7 @@ fn is_well_entry(entry: &Entry) -> bool
 
 /// Whether its texts are ones that a table may hold.
 fn is_well_op(op: &Op) -> bool
-    ensures { result ≡ is_well_op (op_of op.now) }
+    ensures { result ≡ list_all is_well (rows_in (op_of op.now)) }
 {
     match op {
         Op::Insert(row) => row.well(),
@@ -85,7 +101,7 @@ fn is_well_op(op: &Op) -> bool
 
 /// Whether it is a number of copies: 1 to 2^63 - 1.
 fn are_copies(number: i64) -> bool
-    ensures { result ≡ (nat_le 1 (copies_of number) && nat_lt (copies_of number) (2 ^ 63)) }
+    ensures { result ≡ is_positive (copies_of number) }
 {
     number >= 1
 }

@@ -1,20 +1,23 @@
 -- The lines of a run add up.
-use Rattle.std.proofs.Common.{◌≡◌, ℕ, ◌+◌, Bool, true, false, cond, List, [], ◌∷◌, ◌++◌, ℤ, pos, Option, Some, None, ap, ◌∙◌, sym, refl, subst, arith}
+use Rattle.std.proofs.Common.{◌≡◌, ℕ, Bool, true, false, cond, ◌||◌, List, [], ◌∷◌, ◌++◌, ℤ, pos, Option, Some, None, ap, ◌∙◌, sym, refl, arith}
 use Rattle.std.proofs.lemmas.Int.{ints}
 use Rattle.std.proofs.lemmas.Bool.Decides.{nat_tests}
-use Rattle.std.specs.Prelude.{◌==◌, flat_map, find, is_some, nat_lt, ◌-ℤ◌, ◌+ℤ◌}
+use Rattle.std.specs.Prelude.{◌==◌, flat_map, find, ◌-ℤ◌, ◌+ℤ◌}
+use Rattle.std.specs.List.{list_any}
+use Rattle.iv_bind.specs.Faults.{if_some}
 use Rattle.iv_rows.specs.Cell.{Cell}
 use Rattle.iv_zset.specs.Weights.{Weighed, weight_of}
 use Rattle.iv_zset.specs.Limits.{copies}
-use Rattle.iv_machine.specs.Act.{Act, begin, create_role, create_table, grant, write, subscribe, Command, Line, Refusal}
-use Rattle.iv_machine.specs.State.{State, Subscription, subscription_of, rows_of, shown, shown_at, start}
+use Rattle.iv_machine.specs.Act.{Act, Command, Line, Refusal}
+use Rattle.iv_machine.specs.State.{State, Subscription, view_of, shown, start}
 use Rattle.iv_machine.specs.Refusing.{refusal}
-use Rattle.iv_machine.specs.Changing.{insert_subscription, after_frame, after}
-use Rattle.iv_machine.specs.Machine.{weight, difference, change_line, shown_before, lines_for, changes, outcome, step, run}
-use Rattle.iv_machine.specs.Held.{line_weight, held}
+use Rattle.iv_machine.specs.Changing.{after_frame, after}
+use Rattle.iv_machine.specs.Machine.{weight, difference, line_of, line_for, changes, ending_by, settled, outcome, step, run}
+use Rattle.iv_machine.specs.Held.{line_weight, held, closed_by, closed_in, closed}
 use Rattle.iv_machine.specs.Reached.{AreUnique, IsReached, AddsUp}
-use Rattle.iv_machine.proofs.Rising.{difference_weighs, zero_left, zero_right}
-use Rattle.iv_machine.proofs.Reached.{has_number, neither, next_is_new, after_reached}
+use Rattle.iv_machine.proofs.Rising.{difference_weighs, zero_left, zero_right, once}
+use Rattle.iv_machine.proofs.Reached.{has_number, neither, none_kept, settled_reached, after_reached, was_not_open}
+use Rattle.iv_machine.specs.declared.Cause.{Cause}
 
 plus_assoc : (x y z : ℤ) → (x +ℤ y) +ℤ z ≡ x +ℤ (y +ℤ z)
 plus_assoc x y z = omega (arith, ints)
@@ -36,133 +39,82 @@ none : (b : Bool) → pos 0 ≡ cond b (pos 0) (pos 0)
 none true = refl
 none false = refl
 
--- a change line, or none where nothing changes
-line_held : (k : ℕ) (q : List Cell) (n j : ℕ) (ps : Weighed) → held k q (change_line n j ps) ≡ cond (k == j) (weight_of ps q) (pos 0)
-line_held k q n j [] = none (k == j)
-line_held k q n j (p ∷ ps) = zero_right _
-
--- ---- the subscription that has a number
+-- the line of a subscription, or none where nothing changes
+line_held : (k : ℕ) (q : List Cell) (o : Option Cause) (e : Subscription) (ps : Weighed) → held k q (line_of o e ps) ≡ cond (k == e.number) (weight_of ps q) (pos 0)
+line_held k q (Some why) e ps = zero_right _
+line_held k q None e [] = none (k == e.number)
+line_held k q None e (p ∷ ps) = zero_right _
 
 same_number : (k n : ℕ) → (k == n) ≡ true → k ≡ n
 same_number k n h = grind (arith, nat_tests)
+
+-- ---- the lines of a step
+
+pub lines_held : (k : ℕ) (q : List Cell) (old new : State) (ends : Subscription → Option Cause) (es : List Subscription) → AreUnique es → held k q (flat_map (line_for old new ends) es) ≡ cond (has_number k es) (weight (shown old k) (shown new k) q) (pos 0)
+lines_held k q old new ends [] u = refl
+lines_held k q old new ends (e ∷ es) u = held-append k q (line_for old new ends e) (flat_map (line_for old new ends) es)
+    ∙ ap (λ z. z +ℤ held k q (flat_map (line_for old new ends) es)) (line_held k q (ends e) e (difference (shown old e.number) (shown new e.number)))
+    ∙ once (k == e.number) (has_number k es) (weight (shown old k) (shown new k) q) (weight_of (difference (shown old e.number) (shown new e.number)) q) (held k q (flat_map (line_for old new ends) es))
+    (λ h. difference_weighs (shown old e.number) (shown new e.number) q ∙ ap (λ j. weight (shown old j) (shown new j) q) (sym (same_number k e.number h)))
+    (λ h. ap (λ j. has_number j es) (same_number k e.number h) ∙ u.0)
+    (lines_held k q old new ends es u.1)
+
+weight_itself : (rows : List (List Cell)) (q : List Cell) → weight rows rows q ≡ pos 0
+weight_itself rows q = minus_itself (pos (copies q rows))
 
 found_none : (k : ℕ) (es : List Subscription) → has_number k es ≡ false → find (λ e. k == e.number) es ≡ None
 found_none k [] h = refl
 found_none k (e ∷ es) h = let a = neither (k == e.number) (has_number k es) h in ap (λ b. cond b (Some e) (find (λ f. k == f.number) es)) a.0 ∙ found_none k es a.1
 
-some_is : (b : Bool) (k : ℕ) (e f : Subscription) (o : Option Subscription) → (k == f.number) ≡ b → (o ≡ Some e → k ≡ e.number) → cond b (Some f) o ≡ Some e → k ≡ e.number
-some_is true k e f o t go h = let s : f ≡ e = cc in same_number k f.number t ∙ ap (λ x. x.number) s
-some_is false k e f o t go h = go h
+-- a subscription that is not open shows nothing
+pub shows_nothing : (s : State) (k : ℕ) → has_number k s.frame.subscriptions ≡ false → shown s k ≡ []
+shows_nothing s k h = ap (λ o. if_some o [] (view_of s)) (found_none k s.frame.subscriptions h)
 
-found_number : (k : ℕ) (es : List Subscription) (e : Subscription) → find (λ f. k == f.number) es ≡ Some e → k ≡ e.number
-found_number k [] e h = cc
-found_number k (f ∷ es) e h = some_is (k == f.number) k e f (find (λ g. k == g.number) es) refl (found_number k es e) h
+-- what is neither open afterwards nor closed was not open before
+pick : (s : State) (n : ℕ) (act : Act) (k : ℕ) (q : List Cell) (b : Bool) → list_any (λ j. k == j) (closed_by s.frame n act) ≡ false → has_number k (after_frame s.frame n act).subscriptions ≡ b → cond b (weight (shown s k) (shown (settled act (after s n act)) k) q) (pos 0) ≡ weight (shown s k) (shown (settled act (after s n act)) k) q
+pick s n act k q true c e = refl
+pick s n act k q false c e = sym ((λ i. weight (shows_nothing s k (was_not_open s.frame n act k c e) i) (shows_nothing (settled act (after s n act)) k (none_kept k _ (after_frame s.frame n act).subscriptions e) i) q) ∙ weight_itself [] q)
 
-swapped : (b c : Bool) (e f : Subscription) (o : Option Subscription) → (b ≡ true → c ≡ true → ⊥) → cond c (Some f) (cond b (Some e) o) ≡ cond b (Some e) (cond c (Some f) o)
-swapped true true e f o h = absurd (h refl refl)
-swapped true false e f o h = refl
-swapped false c e f o h = refl
-
-placed_found : (t : Bool) (k : ℕ) (e f : Subscription) (fs gs : List Subscription) → (e.number == f.number) ≡ false → find (λ g. k == g.number) gs ≡ cond (k == e.number) (Some e) (find (λ g. k == g.number) fs) → find (λ g. k == g.number) (cond t (e ∷ f ∷ fs) (f ∷ gs)) ≡ cond (k == e.number) (Some e) (cond (k == f.number) (Some f) (find (λ g. k == g.number) fs))
-placed_found true k e f fs gs n h = refl
-placed_found false k e f fs gs n h = ap (λ o. cond (k == f.number) (Some f) o) h
-    ∙ swapped (k == e.number) (k == f.number) e f (find (λ g. k == g.number) fs) (λ x y. apart (same_number k e.number x) (same_number k f.number y))
-  where
-    apart : k ≡ e.number → k ≡ f.number → ⊥
-    apart x y = let z : e.number ≡ f.number = sym x ∙ y in grind (arith, nat_tests)
-
-inserted_found : (k : ℕ) (e : Subscription) (fs : List Subscription) → has_number e.number fs ≡ false → find (λ g. k == g.number) (insert_subscription e fs) ≡ cond (k == e.number) (Some e) (find (λ g. k == g.number) fs)
-inserted_found k e [] n = refl
-inserted_found k e (f ∷ fs) n = let a = neither (e.number == f.number) (has_number e.number fs) n in
-    placed_found (nat_lt e.session f.session) k e f fs (insert_subscription e fs) a.0 (inserted_found k e fs a.1)
-
--- ---- the lines of a step
-
--- the change of a subscription, and none where there is none
-abbrev change_at : State → State → List Cell → Option Subscription → ℤ
-change_at old new q None = pos 0
-change_at old new q (Some e) = weight (shown_before old e) (rows_of new e.rel) q
-
-one_held : (b : Bool) (old new : State) (q : List Cell) (e : Subscription) (o : Option Subscription) (w i : ℤ) → w ≡ weight (shown_before old e) (rows_of new e.rel) q → i ≡ change_at old new q o → (b ≡ true → o ≡ None) → cond b w (pos 0) +ℤ i ≡ change_at old new q (cond b (Some e) o)
-one_held true old new q e o w i h g n = (λ j. h j +ℤ g j) ∙ ap (λ x. change_at old new q (Some e) +ℤ change_at old new q x) (n refl) ∙ zero_right (change_at old new q (Some e))
-one_held false old new q e o w i h g n = zero_left i ∙ g
-
-lines_held : (k : ℕ) (q : List Cell) (old new : State) (es : List Subscription) → AreUnique es → held k q (flat_map (lines_for old new) es) ≡ change_at old new q (find (λ e. k == e.number) es)
-lines_held k q old new [] u = refl
-lines_held k q old new (e ∷ es) u = held-append k q (lines_for old new e) (flat_map (lines_for old new) es)
-    ∙ ap (λ z. z +ℤ held k q (flat_map (lines_for old new) es)) (line_held k q e.session e.number (difference (shown_before old e) (rows_of new e.rel)))
-    ∙ one_held (k == e.number) old new q e (find (λ f. k == f.number) es) (weight_of (difference (shown_before old e) (rows_of new e.rel)) q) (held k q (flat_map (lines_for old new) es))
-    (difference_weighs (shown_before old e) (rows_of new e.rel) q) (lines_held k q old new es u.1)
-    (λ h. found_none k es (ap (λ j. has_number j es) (same_number k e.number h) ∙ u.0))
-
-weight_itself : (rows : List (List Cell)) (q : List Cell) → weight rows rows q ≡ pos 0
-weight_itself rows q = minus_itself (pos (copies q rows))
-
--- what the subscription found afterwards showed before
-abbrev WasShown : State → ℕ → Option Subscription → Type 0
-WasShown s k None = shown s k ≡ []
-WasShown s k (Some e) = shown_before s e ≡ shown s k
-
-was_open : (s : State) (k : ℕ) (o : Option Subscription) → subscription_of s.frame k ≡ o → WasShown s k o
-was_open s k None h = ap (shown_at s) h
-was_open s k (Some e) h =
-    let here : subscription_of s.frame e.number ≡ Some e = ap (subscription_of s.frame) (sym (found_number k s.frame.subscriptions e h)) ∙ h in
-    ap (λ o. cond (is_some o) (rows_of s e.rel) []) here ∙ sym (ap (shown_at s) h)
-
-was_new : (s : State) (k : ℕ) (e : Subscription) → k ≡ e.number → subscription_of s.frame k ≡ None → WasShown s k (Some e)
-was_new s k e n h = ap (λ o. cond (is_some o) (rows_of s e.rel) []) (ap (subscription_of s.frame) (sym n) ∙ h) ∙ sym (ap (shown_at s) h)
-
-was_either : (b : Bool) (s : State) (k : ℕ) (e : Subscription) → (k == e.number) ≡ b → subscription_of s.frame e.number ≡ None → WasShown s k (cond b (Some e) (subscription_of s.frame k))
-was_either true s k e t h = let n = same_number k e.number t in was_new s k e n (ap (subscription_of s.frame) n ∙ h)
-was_either false s k e t h = was_open s k (subscription_of s.frame k) refl
-
-was_shown : (s : State) (n k : ℕ) (act : Act) → IsReached s.frame → WasShown s k (subscription_of (after_frame s.frame n act) k)
-was_shown s n k (begin role) h = was_open s k _ refl
-was_shown s n k (create_role name) h = was_open s k _ refl
-was_shown s n k (create_table name owner columns) h = was_open s k _ refl
-was_shown s n k (grant rel privileges grantee) h = was_open s k _ refl
-was_shown s n k (write entries) h = was_open s k _ refl
-was_shown s n k (subscribe rel) h =
-    let e : Subscription = record { session = n; number = s.frame.last + 1; rel = rel } in
-    let new : has_number e.number s.frame.subscriptions ≡ false = next_is_new s.frame.last s.frame.subscriptions h.given in
-    subst (WasShown s k) (sym (inserted_found k e s.frame.subscriptions new)) (was_either (k == e.number) s k e refl (found_none e.number s.frame.subscriptions new))
-
-change_is : (s new : State) (k : ℕ) (q : List Cell) (o : Option Subscription) → WasShown s k o → change_at s new q o ≡ weight (shown s k) (shown_at new o) q
-change_is s new k q None h = sym (ap (λ rows. weight rows [] q) h ∙ weight_itself [] q)
-change_is s new k q (Some e) h = ap (λ rows. weight rows (rows_of new e.rel) q) h
-
-changes_add : (s : State) (n k : ℕ) (q : List Cell) (act : Act) → IsReached s.frame → held k q (changes s (after s n act)) ≡ weight (shown s k) (shown (after s n act) k) q
-changes_add s n k q act h = lines_held k q s (after s n act) (after_frame s.frame n act).subscriptions (after_reached s.frame n act h).unique
-    ∙ change_is s (after s n act) k q (subscription_of (after_frame s.frame n act) k) (was_shown s n k act h)
+changes_add : (s : State) (n : ℕ) (act : Act) (k : ℕ) (q : List Cell) → IsReached s.frame → list_any (λ j. k == j) (closed_by s.frame n act) ≡ false → held k q (changes act s (after s n act) (settled act (after s n act))) ≡ weight (shown s k) (shown (settled act (after s n act)) k) q
+changes_add s n act k q h c = let changed = after s n act in
+    lines_held k q s (settled act changed) (ending_by act changed) (after_frame s.frame n act).subscriptions (after_reached s.frame n act h).unique
+    ∙ pick s n act k q (has_number k (after_frame s.frame n act).subscriptions) c refl
 
 -- ---- one command, and many
 
-step_by : (s : State) (c : Command) (o : Option Refusal) (k : ℕ) (q : List Cell) → IsReached s.frame → held k q (outcome s c o).lines ≡ weight (shown s k) (shown (outcome s c o).state k) q
-step_by s c None k q h = zero_left (held k q (changes s (after s c.session c.act))) ∙ changes_add s c.session k q c.act h
-step_by s c (Some r) k q h = sym (weight_itself (shown s k) q)
-
-pub step_adds : (s : State) (c : Command) (k : ℕ) (q : List Cell) → IsReached s.frame → held k q (step s c).lines ≡ weight (shown s k) (shown (step s c).state k) q
-step_adds s c k q h = step_by s c (refusal s c.session c.act) k q h
+step_by : (s : State) (c : Command) (o : Option Refusal) (k : ℕ) (q : List Cell) → IsReached s.frame → list_any (λ j. k == j) (closed_in s c o) ≡ false → held k q (outcome s c o).lines ≡ weight (shown s k) (shown (outcome s c o).state k) q
+step_by s c None k q h n = zero_left (held k q (changes c.act s (after s c.session c.act) (settled c.act (after s c.session c.act)))) ∙ changes_add s c.session c.act k q h n
+step_by s c (Some r) k q h n = sym (weight_itself (shown s k) q)
 
 reached_by : (s : State) (c : Command) (o : Option Refusal) → IsReached s.frame → IsReached (outcome s c o).state.frame
-reached_by s c None h = after_reached s.frame c.session c.act h
+reached_by s c None h = settled_reached c.act (after s c.session c.act) (after_reached s.frame c.session c.act h)
 reached_by s c (Some r) h = h
 
 pub step_reached : (s : State) (c : Command) → IsReached s.frame → IsReached (step s c).state.frame
 step_reached s c h = reached_by s c (refusal s c.session c.act) h
 
+none_of_both : (k : ℕ) (xs ys : List ℕ) → list_any (λ j. k == j) (xs ++ ys) ≡ false → (list_any (λ j. k == j) xs ≡ false) × (list_any (λ j. k == j) ys ≡ false)
+none_of_both k [] ys h = (refl, h)
+none_of_both k (x ∷ xs) ys h =
+    let a = neither (k == x) (list_any (λ j. k == j) (xs ++ ys)) h in
+    let b = none_of_both k xs ys a.1 in
+    (ap (λ z. z || list_any (λ j. k == j) xs) a.0 ∙ b.0, b.1)
+
 pub adds_up : (s : State) (cs : List Command) → IsReached s.frame → AddsUp s cs
-adds_up s [] h = λ k q. sym (weight_itself (shown s k) q)
-adds_up s (c ∷ cs) h = λ k q. held-append k q (step s c).lines (run (step s c).state cs).lines
-    ∙ (λ i. step_adds s c k q h i +ℤ adds_up (step s c).state cs (step_reached s c h) k q i)
+adds_up s [] h = λ k q n. sym (weight_itself (shown s k) q)
+adds_up s (c ∷ cs) h = λ k q n.
+    let o = none_of_both k (closed_in s c (refusal s c.session c.act)) (closed (step s c).state cs) n in
+    held-append k q (step s c).lines (run (step s c).state cs).lines
+    ∙ (λ i. step_by s c (refusal s c.session c.act) k q h o.0 i +ℤ adds_up (step s c).state cs (step_reached s c h) k q o.1 i)
     ∙ through (pos (copies q (shown s k))) (pos (copies q (shown (step s c).state k))) (pos (copies q (shown (run (step s c).state cs).state k)))
 
 pub run_reached : (s : State) (cs : List Command) → IsReached s.frame → IsReached (run s cs).state.frame
 run_reached s [] h = h
 run_reached s (c ∷ cs) h = run_reached (step s c).state cs (step_reached s c h)
 
-pub start_reached : IsReached start.frame
-start_reached = record { unique = tt; given = tt }
+pub start_reached : (cap : ℕ) → IsReached (start cap).frame
+start_reached cap = record { unique = tt; given = tt }
 
-pub adds_up_to_view : (cs : List Command) (k : ℕ) (q : List Cell) → held k q (run start cs).lines ≡ pos (copies q (shown (run start cs).state k))
-adds_up_to_view cs k q = adds_up start cs start_reached k q ∙ minus_none (copies q (shown (run start cs).state k))
+-- from the start the lines add up to what is shown
+pub adds_up_to_view : (cap : ℕ) (cs : List Command) (k : ℕ) (q : List Cell) → list_any (λ j. k == j) (closed (start cap) cs) ≡ false → held k q (run (start cap) cs).lines ≡ pos (copies q (shown (run (start cap) cs).state k))
+adds_up_to_view cap cs k q n = adds_up (start cap) cs (start_reached cap) k q n ∙ minus_none (copies q (shown (run (start cap) cs).state k))

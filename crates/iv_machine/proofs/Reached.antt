@@ -1,11 +1,13 @@
--- What every reached frame has is kept by an accepted command.
-use Rattle.std.proofs.Common.{◌≡◌, ℕ, ◌+◌, ◌≤◌, Bool, true, false, cond, ◌||◌, List, [], ◌∷◌, ap, ◌∙◌, sym, refl, arith}
+-- What every reached state has is kept by an accepted command.
+use Rattle.std.proofs.Common.{◌≡◌, ℕ, ◌+◌, ◌≤◌, Bool, true, false, cond, not, ◌||◌, List, [], ◌∷◌, map, ap, ◌∙◌, sym, refl, arith}
 use Rattle.std.proofs.lemmas.Bool.Decides.{nat_tests}
-use Rattle.std.specs.Prelude.{◌==◌, nat_lt}
+use Rattle.std.specs.Prelude.{◌==◌, nat_lt, filter}
 use Rattle.std.specs.List.{list_any}
-use Rattle.iv_machine.specs.Act.{Act, begin, create_role, create_table, grant, write, subscribe}
-use Rattle.iv_machine.specs.State.{Frame, Subscription}
-use Rattle.iv_machine.specs.Changing.{insert_subscription, after_frame}
+use Rattle.iv_machine.specs.Act.{Act, finish, subscribe, unsubscribe}
+use Rattle.iv_machine.specs.State.{State, Frame, Subscription, rel_of}
+use Rattle.iv_machine.specs.Changing.{insert_subscription, after_subscriptions, after_frame}
+use Rattle.iv_machine.specs.Machine.{settled}
+use Rattle.iv_machine.specs.Held.{closed_by}
 use Rattle.iv_machine.specs.Reached.{AreUnique, AreGiven, IsReached}
 
 -- some subscription has the number
@@ -15,6 +17,11 @@ has_number k es = list_any (λ e. k == e.number) es
 pub neither : (b c : Bool) → (b || c) ≡ false → (b ≡ false) × (c ≡ false)
 neither true c h = cc
 neither false c h = (refl, h)
+
+pub both_false : (b c : Bool) → b ≡ false → c ≡ false → (b || c) ≡ false
+both_false b c h k = ap (λ x. x || c) h ∙ k
+
+-- ---- one more
 
 or_swap : (a b c : Bool) → (a || (b || c)) ≡ (b || (a || c))
 or_swap true true c = refl
@@ -28,9 +35,6 @@ placed_has n false e f fs gs h = ap (λ b. (n == f.number) || b) h ∙ or_swap (
 pub inserted_has : (n : ℕ) (e : Subscription) (fs : List Subscription) → has_number n (insert_subscription e fs) ≡ ((n == e.number) || has_number n fs)
 inserted_has n e [] = refl
 inserted_has n e (f ∷ fs) = placed_has n (nat_lt e.session f.session) e f fs (insert_subscription e fs) (inserted_has n e fs)
-
-both_false : (b c : Bool) → b ≡ false → c ≡ false → (b || c) ≡ false
-both_false b c h k = ap (λ x. x || c) h ∙ k
 
 differs_back : (m n : ℕ) → (m == n) ≡ false → (n == m) ≡ false
 differs_back m n h = grind (arith, nat_tests)
@@ -63,22 +67,72 @@ given_inserted : (m : ℕ) (e : Subscription) (fs : List Subscription) → e.num
 given_inserted m e [] l h = (l, tt)
 given_inserted m e (f ∷ fs) l h = given_placed m (nat_lt e.session f.session) e f fs (insert_subscription e fs) l h (given_inserted m e fs l h.1)
 
+-- ---- some fewer
+
+kept_none : (b : Bool) (k : ℕ) (e : Subscription) (fs : List Subscription) → (k == e.number) ≡ false → has_number k fs ≡ false → has_number k (cond b (e ∷ fs) fs) ≡ false
+kept_none true k e fs d h = both_false (k == e.number) (has_number k fs) d h
+kept_none false k e fs d h = h
+
+pub none_kept : (k : ℕ) (p : Subscription → Bool) (es : List Subscription) → has_number k es ≡ false → has_number k (filter p es) ≡ false
+none_kept k p [] h = refl
+none_kept k p (e ∷ es) h = let a = neither (k == e.number) (has_number k es) h in kept_none (p e) k e (filter p es) a.0 (none_kept k p es a.1)
+
+unique_kept_by : (b : Bool) (e : Subscription) (fs : List Subscription) → has_number e.number fs ≡ false → AreUnique fs → AreUnique (cond b (e ∷ fs) fs)
+unique_kept_by true e fs n u = (n, u)
+unique_kept_by false e fs n u = u
+
+pub unique_kept : (p : Subscription → Bool) (es : List Subscription) → AreUnique es → AreUnique (filter p es)
+unique_kept p [] u = tt
+unique_kept p (e ∷ es) u = unique_kept_by (p e) e (filter p es) (none_kept e.number p es u.0) (unique_kept p es u.1)
+
+given_kept_by : (m : ℕ) (b : Bool) (e : Subscription) (fs : List Subscription) → e.number ≤ m → AreGiven m fs → AreGiven m (cond b (e ∷ fs) fs)
+given_kept_by m true e fs l h = (l, h)
+given_kept_by m false e fs l h = h
+
+pub given_kept : (m : ℕ) (p : Subscription → Bool) (es : List Subscription) → AreGiven m es → AreGiven m (filter p es)
+given_kept m p [] h = tt
+given_kept m p (e ∷ es) h = given_kept_by m (p e) e (filter p es) h.0 (given_kept m p es h.1)
+
+-- ---- a command
+
+pub settled_reached : (act : Act) (s : State) → IsReached s.frame → IsReached (settled act s).frame
+settled_reached act s h = record { unique = unique_kept _ s.frame.subscriptions h.unique; given = given_kept s.frame.last _ s.frame.subscriptions h.given }
+
 pub after_reached : (f : Frame) (n : ℕ) (act : Act) → IsReached f → IsReached (after_frame f n act)
-after_reached f n (begin role) h = record { unique = h.unique; given = h.given }
-after_reached f n (create_role name) h = record { unique = h.unique; given = h.given }
-after_reached f n (create_table name owner columns) h = record { unique = h.unique; given = h.given }
-after_reached f n (grant rel privileges grantee) h = record { unique = h.unique; given = h.given }
-after_reached f n (write entries) h = h
-after_reached f n (subscribe rel) h = let e : Subscription = record { session = n; number = f.last + 1; rel = rel } in record {
+after_reached f n finish h = record { unique = unique_kept _ f.subscriptions h.unique; given = given_kept f.last _ f.subscriptions h.given }
+after_reached f n (subscribe rel) h = let e : Subscription = record { session = n; number = f.last + 1; rel = rel_of f.catalog rel } in record {
   unique = unique_inserted e f.subscriptions (next_is_new f.last f.subscriptions h.given) h.unique;
   given = given_inserted (f.last + 1) e f.subscriptions (omega arith) (given_more f.last f.subscriptions h.given);
 }
+after_reached f n (unsubscribe k) h = record { unique = unique_kept _ f.subscriptions h.unique; given = given_kept f.last _ f.subscriptions h.given }
+after_reached f n _ h = record { unique = h.unique; given = h.given }
 
--- what is not open afterwards was not open before
-pub open_stays : (f : Frame) (n k : ℕ) (act : Act) → has_number k (after_frame f n act).subscriptions ≡ false → has_number k f.subscriptions ≡ false
-open_stays f n k (begin role) h = h
-open_stays f n k (create_role name) h = h
-open_stays f n k (create_table name owner columns) h = h
-open_stays f n k (grant rel privileges grantee) h = h
-open_stays f n k (write entries) h = h
-open_stays f n k (subscribe rel) h = (neither (k == (f.last + 1)) (has_number k f.subscriptions) (sym (inserted_has k (record { session = n; number = f.last + 1; rel = rel }) f.subscriptions) ∙ h)).1
+-- ---- what is not open afterwards, and was not closed, was not open before
+
+abbrev is_in : ℕ → List ℕ → Bool
+is_in k ks = list_any (λ j. k == j) ks
+
+split_by : (b : Bool) (k : ℕ) (e : Subscription) (es fs gs : List Subscription) → is_in k (map (λ f. f.number) (cond b (e ∷ fs) fs)) ≡ false → has_number k (cond (not b) (e ∷ gs) gs) ≡ false → (is_in k (map (λ f. f.number) fs) ≡ false → has_number k gs ≡ false → has_number k es ≡ false) → has_number k (e ∷ es) ≡ false
+split_by true k e es fs gs h g more = let a = neither (k == e.number) (is_in k (map (λ f. f.number) fs)) h in both_false (k == e.number) (has_number k es) a.0 (more a.1 g)
+split_by false k e es fs gs h g more = let a = neither (k == e.number) (has_number k gs) g in both_false (k == e.number) (has_number k es) a.0 (more h a.1)
+
+split_none : (p : Subscription → Bool) (k : ℕ) (es : List Subscription) → is_in k (map (λ f. f.number) (filter p es)) ≡ false → has_number k (filter (λ e. not (p e)) es) ≡ false → has_number k es ≡ false
+split_none p k [] h g = refl
+split_none p k (e ∷ es) h g = split_by (p e) k e es (filter p es) (filter (λ f. not (p f)) es) h g (split_none p k es)
+
+other_number : (k j n : ℕ) → (k == j) ≡ false → (j == n) ≡ true → (k == n) ≡ false
+other_number k j n h g = grind (arith, nat_tests)
+
+others_by : (b : Bool) (k : ℕ) (e : Subscription) (es gs : List Subscription) → (b ≡ true → (k == e.number) ≡ false) → has_number k (cond (not b) (e ∷ gs) gs) ≡ false → (has_number k gs ≡ false → has_number k es ≡ false) → has_number k (e ∷ es) ≡ false
+others_by true k e es gs d g more = both_false (k == e.number) (has_number k es) (d refl) (more g)
+others_by false k e es gs d g more = let a = neither (k == e.number) (has_number k gs) g in both_false (k == e.number) (has_number k es) a.0 (more a.1)
+
+others_none : (k j : ℕ) (es : List Subscription) → (k == j) ≡ false → has_number k (filter (λ e. not (j == e.number)) es) ≡ false → has_number k es ≡ false
+others_none k j [] d g = refl
+others_none k j (e ∷ es) d g = others_by (j == e.number) k e es (filter (λ f. not (j == f.number)) es) (other_number k j e.number d) g (others_none k j es d)
+
+pub was_not_open : (f : Frame) (n : ℕ) (act : Act) (k : ℕ) → list_any (λ j. k == j) (closed_by f n act) ≡ false → has_number k (after_subscriptions f n act) ≡ false → has_number k f.subscriptions ≡ false
+was_not_open f n finish k c h = split_none (λ e. n == e.session) k f.subscriptions c h
+was_not_open f n (subscribe rel) k c h = (neither (k == (f.last + 1)) (has_number k f.subscriptions) (sym (inserted_has k (record { session = n; number = f.last + 1; rel = rel_of f.catalog rel }) f.subscriptions) ∙ h)).1
+was_not_open f n (unsubscribe j) k c h = others_none k j f.subscriptions (neither (k == j) false c).0 h
+was_not_open f n _ k c h = h

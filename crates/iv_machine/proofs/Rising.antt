@@ -102,7 +102,7 @@ below_none r [] b = refl
 below_none r (s ∷ rows) b = ap (λ x. x || list_any (row_eq r) rows) (less_apart (row_cmp r s) b.0) ∙ below_none r rows b.1
 
 -- the weight of a row, where the rows are different
-once : (b t : Bool) (w v i : ℤ) → (b ≡ true → v ≡ w) → (b ≡ true → t ≡ false) → i ≡ cond t w (pos 0) → cond b v (pos 0) +ℤ i ≡ cond (b || t) w (pos 0)
+pub once : (b t : Bool) (w v i : ℤ) → (b ≡ true → v ≡ w) → (b ≡ true → t ≡ false) → i ≡ cond t w (pos 0) → cond b v (pos 0) +ℤ i ≡ cond (b || t) w (pos 0)
 once true t w v i h k e = ap (λ x. v +ℤ x) (e ∙ ap (λ c. cond c w (pos 0)) (k refl)) ∙ zero_right v ∙ h refl
 once false t w v i h k e = zero_left i ∙ e
 

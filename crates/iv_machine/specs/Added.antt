@@ -1,21 +1,29 @@
 -- What a write adds to a table, row by row.
-use Rattle.std.specs.Prelude.{ℕ, ◌+◌, Bool, cond, List, [], ◌∷◌}
-use Rattle.std.specs.List.{list_any}
+use Rattle.std.specs.Prelude.{◌≡◌, ℕ, ◌==◌, ℤ, pos, ◌+ℤ◌, ◌-ℤ◌, cond, List, [], ◌∷◌}
 use Rattle.iv_rows.specs.Cell.{Cell}
 use Rattle.iv_rows.specs.Order.{row_eq}
-use Rattle.iv_machine.specs.Act.{Entry, Op, insert}
-use Rattle.iv_machine.specs.State.{Head, number_of}
-use Rattle.iv_machine.specs.Changing.{is_at}
+use Rattle.iv_zset.specs.Limits.{copies}
+use Rattle.iv_algebra.specs.Plans.{Lists}
+use Rattle.iv_bind.specs.Catalogs as catalogs
+use Rattle.iv_machine.specs.Act.{Entry, Op, insert, delete, update}
+use Rattle.iv_machine.specs.Changing.{written}
+use Rattle.iv_machine.specs.State.{rel_of}
+
+-- how many of c copies of a row are copies of the row q
+abbrev pub copies_in : ℕ → List Cell → List Cell → ℤ
+copies_in c row q = pos (cond (row_eq q row) c 0)
 
 -- how many copies of the row q an entry of c copies adds to its table
-abbrev pub adds : Op → ℕ → List Cell → ℕ
-adds (insert row) c q = cond (row_eq q row) c 0
+abbrev pub adds : Op → ℕ → List Cell → ℤ
+adds (insert new) c q = copies_in c new q
+adds (delete old) c q = pos 0 -ℤ copies_in c old q
+adds (update old new) c q = copies_in c new q -ℤ copies_in c old q
 
 -- how many copies of the row q the entries add to table t
-abbrev pub added : List Head → List Entry → ℕ → List Cell → ℕ
-added heads [] t q = 0
-added heads (e ∷ es) t q = cond (is_at (number_of heads e.rel) t) (adds e.op e.copies q) 0 + added heads es t q
+abbrev pub added : List catalogs.Entry → List Entry → ℕ → List Cell → ℤ
+added catalog [] t q = pos 0
+added catalog (e ∷ es) t q = cond (rel_of catalog e.rel == t) (adds e.op e.copies q) (pos 0) +ℤ added catalog es t q
 
--- some entry names table t
-abbrev pub touches : List Head → List Entry → ℕ → Bool
-touches heads es t = list_any (λ e. is_at (number_of heads e.rel) t) es
+-- the rows of table t after the entries are those before, and what the entries add
+abbrev pub AddsCopies : List catalogs.Entry → List Entry → Lists → Type 0
+AddsCopies catalog es T = (t : ℕ) (q : List Cell) → pos (copies q (written catalog es T t)) ≡ pos (copies q (T t)) +ℤ added catalog es t q

@@ -1,15 +1,17 @@
 -- One step of the machine, and a run of it.
-use Rattle.std.specs.Prelude.{ℕ, ◌+◌, Bool, cond, not, List, [], ◌∷◌, ◌++◌, map, filter, flat_map, ℤ, pos, ◌-ℤ◌, Option, Some, None, is_some}
+use Rattle.std.specs.Prelude.{◌≡◌, ℕ, ◌+◌, Bool, true, false, not, List, [], ◌∷◌, ◌++◌, map, filter, flat_map, ℤ, pos, ◌-ℤ◌, Option, Some, None, is_some}
 use Rattle.std.specs.Ordering.{int_eq}
 use Rattle.std.specs.declared.cmp.Ordering.{Ordering}
 use Rattle.std.specs.declared.cmp.Ordering.TheVariants.{Less, Equal, Greater}
 use Rattle.iv_rows.specs.Cell.{Cell}
 use Rattle.iv_rows.specs.Order.{row_cmp}
 use Rattle.iv_zset.specs.Limits.{copies}
-use Rattle.iv_machine.specs.Act.{Act, begin, create_role, create_table, grant, write, subscribe, Command, Refusal, Reply, done, subscribed, refused, Line, reply, change}
-use Rattle.iv_machine.specs.State.{State, Frame, Subscription, subscription_of, rows_of}
+use Rattle.iv_machine.specs.Act.{Act, subscribe, write, Command, Refusal, Reply, done, subscribed, refused, Line, reply, change, ended}
+use Rattle.iv_machine.specs.State.{State, Frame, Subscription, actor, missing_for, is_within, shown}
 use Rattle.iv_machine.specs.Refusing.{refusal}
 use Rattle.iv_machine.specs.Changing.{after}
+use Rattle.iv_machine.specs.declared.Cause.{Cause}
+use Rattle.iv_machine.specs.declared.Cause.TheVariants as cause
 
 -- ---- the difference of two lists of rows
 
@@ -42,30 +44,45 @@ is_change p = not (int_eq p.1 (pos 0))
 abbrev pub difference : List (List Cell) → List (List Cell) → List (List Cell × ℤ)
 difference before after = filter is_change (map (weighted before after) (rising_rows (before ++ after)))
 
+-- ---- which subscriptions an accepted command ends
+
+abbrev pub first_cause : (lacks fits : Bool) → Option Cause
+first_cause true fits = Some cause.Privilege
+first_cause false false = Some cause.Limit
+first_cause false true = None
+
+-- a privilege that it needs is missing, or else its view is not within the limits
+abbrev pub ending : State → Subscription → Option Cause
+ending s e = first_cause (is_some (missing_for s.frame (actor s.frame e.session) e.rel)) (is_within s e)
+
+-- a write ends none; it is refused where a view would not be within the limits
+abbrev pub ending_by : Act → State → Subscription → Option Cause
+ending_by (write entries) s e = None
+ending_by _ s e = ending s e
+
+-- without the subscriptions that end
+abbrev pub settled : Act → State → State
+settled act s = record s { frame = record s.frame { subscriptions = filter (λ e. not (is_some (ending_by act s e))) s.frame.subscriptions } }
+
 -- ---- the lines of an accepted command
 
 abbrev pub reply_to : Frame → Act → Reply
-reply_to f (begin role) = done
-reply_to f (create_role name) = done
-reply_to f (create_table name owner columns) = done
-reply_to f (grant rel privileges grantee) = done
-reply_to f (write entries) = done
 reply_to f (subscribe rel) = subscribed (f.last + 1)
+reply_to f _ = done
 
--- no line where nothing changes
-abbrev pub change_line : ℕ → ℕ → List (List Cell × ℤ) → List Line
-change_line n k [] = []
-change_line n k (p ∷ ps) = change n k (p ∷ ps) ∷ []
+-- a last line where the subscription ends, also with no row; else no line where nothing changes
+abbrev pub line_of : Option Cause → Subscription → List (List Cell × ℤ) → List Line
+line_of (Some why) e rows = ended e.session e.number why rows ∷ []
+line_of None e [] = []
+line_of None e (p ∷ ps) = change e.session e.number (p ∷ ps) ∷ []
 
--- what a subscription showed before: nothing where it was not open
-abbrev pub shown_before : State → Subscription → List (List Cell)
-shown_before s e = cond (is_some (subscription_of s.frame e.number)) (rows_of s e.rel) []
+-- what it shows afterwards, minus what it showed before
+abbrev pub line_for : State → State → (Subscription → Option Cause) → Subscription → List Line
+line_for old new ends e = line_of (ends e) e (difference (shown old e.number) (shown new e.number))
 
-abbrev pub lines_for : State → State → Subscription → List Line
-lines_for old new e = change_line e.session e.number (difference (shown_before old e) (rows_of new e.rel))
-
-abbrev pub changes : State → State → List Line
-changes old new = flat_map (lines_for old new) new.frame.subscriptions
+-- for each subscription that was open before or is new, and that its reader did not close
+abbrev pub changes : Act → State → State → State → List Line
+changes act old changed new = flat_map (line_for old new (ending_by act changed)) changed.frame.subscriptions
 
 -- ---- one command, and many
 
@@ -73,10 +90,14 @@ pub record Outcome : Type 0 where
   pub state : State
   pub lines : List Line
 
+-- from the state before, what the command changes, and what is left of that
+abbrev pub accepted : Command → State → State → State → Outcome
+accepted c old changed new = record { state = new; lines = reply c.session (reply_to old.frame c.act) ∷ changes c.act old changed new }
+
 -- a refusal leaves the state and is the one line
 abbrev pub outcome : State → Command → Option Refusal → Outcome
 outcome s c (Some r) = record { state = s; lines = reply c.session (refused r) ∷ [] }
-outcome s c None = let new = after s c.session c.act in record { state = new; lines = reply c.session (reply_to s.frame c.act) ∷ changes s new }
+outcome s c None = accepted c s (after s c.session c.act) (settled c.act (after s c.session c.act))
 
 abbrev pub step : State → Command → Outcome
 step s c = outcome s c (refusal s c.session c.act)
@@ -84,3 +105,11 @@ step s c = outcome s c (refusal s c.session c.act)
 abbrev pub run : State → List Command → Outcome
 run s [] = record { state = s; lines = [] }
 run s (c ∷ cs) = let one = step s c in let rest = run one.state cs in record { state = rest.state; lines = one.lines ++ rest.lines }
+
+-- the first line of the command is the refusal r, for session n
+abbrev pub Refuses : State → Command → ℕ → Refusal → List Line → Type 0
+Refuses s c n r later = (step s c).lines ≡ reply n (refused r) ∷ later
+
+-- all sessions and subscriptions are closed, without a line
+abbrev pub hung : State → State
+hung s = record s { frame = record s.frame { sessions = []; subscriptions = [] } }

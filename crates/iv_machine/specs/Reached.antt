@@ -1,11 +1,12 @@
 -- What every state has that the machine reaches, and what the lines add up to.
-use Rattle.std.specs.Prelude.{◌≡◌, ℕ, ◌==◌, ◌≤◌, false, List, [], ◌∷◌}
+use Rattle.std.specs.Prelude.{◌≡◌, ℕ, ◌==◌, ◌≤◌, false, List, [], ◌∷◌, pos}
 use Rattle.std.specs.List.{list_any}
 use Rattle.iv_rows.specs.Cell.{Cell}
+use Rattle.iv_zset.specs.Limits.{copies}
 use Rattle.iv_machine.specs.Act.{Command}
-use Rattle.iv_machine.specs.State.{State, Frame, Subscription, shown}
+use Rattle.iv_machine.specs.State.{State, Frame, Subscription, is_open_number, shown, start}
 use Rattle.iv_machine.specs.Machine.{run, weight}
-use Rattle.iv_machine.specs.Held.{held}
+use Rattle.iv_machine.specs.Held.{held, closed}
 
 -- no number stands twice
 abbrev pub AreUnique : List Subscription → Type 0
@@ -21,6 +22,18 @@ pub record IsReached (f : Frame) : Type 0 where
   pub unique : AreUnique f.subscriptions
   pub given : AreGiven f.last f.subscriptions
 
--- for each subscription the lines add up to what it shows after the commands, minus what it showed before
+-- for each subscription that its reader did not close the lines add up to what it shows after the commands, minus what
+-- it showed before
 abbrev pub AddsUp : State → List Command → Type 0
-AddsUp s cs = (k : ℕ) (q : List Cell) → held k q (run s cs).lines ≡ weight (shown s k) (shown (run s cs).state k) q
+AddsUp s cs = let last = run s cs in
+    (k : ℕ) (q : List Cell) → list_any (λ j. k == j) (closed s cs) ≡ false → held k q last.lines ≡ weight (shown s k) (shown last.state k) q
+
+-- from the start they add up to what it shows
+abbrev pub AddsUpToView : (cap : ℕ) → List Command → Type 0
+AddsUpToView cap cs = let last = run (start cap) cs in
+    (k : ℕ) (q : List Cell) → list_any (λ j. k == j) (closed (start cap) cs) ≡ false → held k q last.lines ≡ pos (copies q (shown last.state k))
+
+-- the number was given, and no open subscription has it
+pub record IsGone (f : Frame) (k : ℕ) : Type 0 where
+  pub given : k ≤ f.last
+  pub closed : is_open_number f k ≡ false

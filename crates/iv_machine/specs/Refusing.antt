@@ -1,11 +1,27 @@
 -- Refusals: the first test of a command that fails.
-use Rattle.std.specs.Prelude.{ℕ, zero, suc, ◌^◌, ◌+◌, ◌==◌, ◌&&◌, ◌||◌, Bool, true, false, not, List, [], ◌∷◌, length, if◌then◌else◌, nat_le, Option, Some, None, is_some, count_by}
-use Rattle.iv_rows.specs.Columns.{accepts, kinds_of}
-use Rattle.iv_zset.specs.Limits.{within}
-use Rattle.iv_machine.specs.Act.{Act, begin, create_role, create_table, grant, write, subscribe, Entry, Op, insert, Refusal, no_session, session_in_use, unknown_role, name_taken, unknown_relation, bad_row, not_administrator, not_owner, missing_privilege, limit, too_many}
-use Rattle.iv_machine.specs.State.{State, Frame, Head, Grant, Lists, is_role, session_of, actor, is_admin, head_of, columns_at, owns, has, rows_of}
-use Rattle.iv_machine.specs.Changing.{written}
-use Rattle.iv_machine.specs.declared.Privilege.TheVariants.{Select, Insert}
+use Rattle.std.specs.Prelude.{ℕ, ◌^◌, ◌+◌, ◌==◌, ◌&&◌, Bool, true, not, if◌then◌else◌, List, [], ◌∷◌, map, length, count_by, nat_le, Option, Some, None, option_map, is_some, unwrap_or, slice_get, Result, Ok, Err}
+use Rattle.std.specs.List.{list_all, list_any}
+use Rattle.iv_rows.specs.Cell.{Cell}
+use Rattle.iv_rows.specs.Columns.{Column, accepts, kinds_of}
+use Rattle.iv_zset.specs.Limits.{copies, within}
+use Rattle.iv_algebra.specs.Plans.{Lists}
+use Rattle.iv_bind.specs.BoundTexts.{TextFault, FaultAt, bound_query, bound_policy}
+use Rattle.iv_bind.specs.Catalogs.{named, table_in, view_in}
+use Rattle.iv_bind.specs.Catalogs as catalogs
+use Rattle.iv_access.specs.declared.policy.Check.{Check}
+use Rattle.iv_access.specs.declared.policy.Check.TheVariants as check
+use Rattle.iv_access.specs.declared.policy.Verdict.{Verdict}
+use Rattle.iv_access.specs.declared.policy.Verdict.TheVariants.{Pass, NoPermissive, Restrictive}
+use Rattle.iv_access.specs.declared.privilege.Privilege.{Privilege}
+use Rattle.iv_access.specs.declared.privilege.Privilege.TheVariants as privilege
+use Rattle.iv_access.specs.Policies.{policies_of, policy_name, policy_of, verdict}
+use Rattle.iv_access.specs.Privileges.{first_missing, is_admin, owns, role_of}
+use Rattle.iv_access.specs.Rights.{Name}
+use Rattle.iv_machine.specs.Act.{Act, begin, create_role, create_table, create_view, grant, revoke, row_security, create_policy, drop_policy, subscribe, unsubscribe, write, PolicyText, Op, insert, delete, update, Entry, Refusal, no_session, session_in_use, unknown_role, name_taken, unknown_relation, not_a_table, bad_row, bad_query, not_administrator, not_owner, missing_privilege, no_permissive, restrictive_failed, no_such_row, limit, unknown_policy, unknown_subscription, too_many}
+use Rattle.iv_machine.specs.State.{State, Frame, rel_of, name_of, table_columns, columns_at, is_open, actor, is_within, is_within_for, missing_for}
+use Rattle.iv_machine.specs.Changing.{after_entry, after}
+
+-- ---- tests in their order
 
 abbrev pub test : Bool → Refusal → Option Refusal
 test fails r = if fails then Some r else None
@@ -23,75 +39,224 @@ abbrev pub each_entry : (ℕ → Entry → Option Refusal) → ℕ → List Entr
 each_entry f n [] = None
 each_entry f n (e ∷ es) = or_else (f n e) (each_entry f (n + 1) es)
 
-abbrev pub is_open : Frame → ℕ → Bool
-is_open f n = is_some (session_of f n)
+-- ---- tests that several requests have
 
--- the rows that an entry gives have the number and the kinds of the table's columns
-abbrev pub op_fits : Option Head → Op → Bool
-op_fits head (insert row) = accepts (kinds_of (columns_at head)) row
+abbrev pub administrator : ℕ → Option Refusal
+administrator role = test (not (is_admin role)) not_administrator
 
-abbrev pub entry_shape : List Head → ℕ → Entry → Option Refusal
-entry_shape heads n e = first (
-    test (not (is_some (head_of heads e.rel))) unknown_relation
-    ∷ test (not (op_fits (head_of heads e.rel) e.op)) (bad_row n)
+abbrev pub known_role : Frame → Name → Option Refusal
+known_role f name = test (not (is_some (role_of f.rights name))) unknown_role
+
+abbrev pub free_role : Frame → Name → Option Refusal
+free_role f name = test (is_some (role_of f.rights name)) name_taken
+
+-- PUBLIC is always known
+abbrev pub known_grantee : Frame → Option Name → Option Refusal
+known_grantee f None = None
+known_grantee f (Some name) = known_role f name
+
+abbrev pub known_relation : Frame → Name → Option Refusal
+known_relation f rel = test (not (is_some (named f.catalog rel))) unknown_relation
+
+abbrev pub free_relation : Frame → Name → Option Refusal
+free_relation f name = test (is_some (named f.catalog name)) name_taken
+
+abbrev pub table_alone : Frame → Name → Option Refusal
+table_alone f rel = test (not (is_some (table_columns f.catalog rel))) not_a_table
+
+abbrev pub owner_alone : Frame → ℕ → Name → Option Refusal
+owner_alone f role rel = test (not (owns f.rights role (rel_of f.catalog rel))) (not_owner rel)
+
+abbrev pub missing : Frame → Option (Privilege × ℕ) → Option Refusal
+missing f p = option_map (λ x. missing_privilege x.0 (name_of f.catalog x.1)) p
+
+-- there are as many as there may be
+abbrev pub full : ℕ → ℕ → Option Refusal
+full most n = test (nat_le most n) too_many
+
+abbrev pub bad_text : {A : Type 0} → Result A TextFault → Option Refusal
+bad_text (Ok a) = None
+bad_text (Err (FaultAt place why)) = Some (bad_query place why)
+
+abbrev pub bad_policy_text : List Column → Option (List ℕ) → Option Refusal
+bad_policy_text columns None = None
+bad_policy_text columns (Some text) = bad_text (bound_policy columns text)
+
+-- the policies of the table of a name
+abbrev pub policies : Frame → Name → ℕ
+policies f rel = length (policies_of (slice_get f.rights.guards (rel_of f.catalog rel)))
+
+abbrev pub has_policy : Frame → Name → Name → Bool
+has_policy f rel name = is_some (policy_of f.rights (rel_of f.catalog rel) name)
+
+-- ---- the entries of a write
+
+abbrev pub rows_in : Op → List (List Cell)
+rows_in (insert new) = new ∷ []
+rows_in (delete old) = old ∷ []
+rows_in (update old new) = old ∷ new ∷ []
+
+-- PostgreSQL 16, Privileges: what needs an old row also needs select
+abbrev pub privileges_for : Op → List Privilege
+privileges_for (insert new) = privilege.Insert ∷ []
+privileges_for (delete old) = privilege.Delete ∷ privilege.Select ∷ []
+privileges_for (update old new) = privilege.Update ∷ privilege.Select ∷ []
+
+-- PostgreSQL 16, CREATE POLICY, Policies Applied by Command Type: the tests in their order, each with its row
+abbrev pub checks_for : Op → List (Check × List Cell)
+checks_for (insert new) = (check.Insert, new) ∷ []
+checks_for (delete old) = (check.Select, old) ∷ (check.Delete, old) ∷ []
+checks_for (update old new) = (check.Select, old) ∷ (check.UpdateOld, old) ∷ (check.UpdateNew, new) ∷ (check.Select, new) ∷ []
+
+-- a known table, and rows with the number and the kinds of its columns
+abbrev pub entry_shape : Frame → ℕ → Entry → Option Refusal
+entry_shape f n e = first (
+    known_relation f e.rel
+    ∷ table_alone f e.rel
+    ∷ test (not (list_all (accepts (kinds_of (columns_at f.catalog e.rel))) (rows_in e.op))) (bad_row n)
     ∷ [])
 
--- an insert asks for insert
-abbrev pub entry_privilege : List Grant → List ℕ → ℕ → Entry → Option Refusal
-entry_privilege grants role n e = test (not (has grants role Insert e.rel)) (missing_privilege Insert e.rel)
+abbrev pub entry_privileges : Frame → ℕ → ℕ → Entry → Option Refusal
+entry_privileges f role n e = missing f (first_missing f.rights role (map (λ p. (p, rel_of f.catalog e.rel)) (privileges_for e.op)))
 
--- the tables below n are within the limits
-abbrev pub all_within : ℕ → ℕ → Lists → Bool
-all_within cap zero T = true
-all_within cap (suc n) T = all_within cap n T && within cap (T n)
+-- the name of the policy at a place of the table of a name
+abbrev pub name_at : Frame → Name → ℕ → Name
+name_at f rel place = unwrap_or (policy_name f.rights (rel_of f.catalog rel) place) []
 
--- the tests that look at no row, in their order
+abbrev pub failed_check : Frame → Name → ℕ → Check → Verdict → Option Refusal
+failed_check f rel n test Pass = None
+failed_check f rel n test NoPermissive = Some (no_permissive rel test n)
+failed_check f rel n test (Restrictive place) = Some (restrictive_failed (name_at f rel place) rel test n)
+
+-- one of the tests of entry n
+abbrev pub entry_check : Frame → ℕ → ℕ → Name → Check × List Cell → Option Refusal
+entry_check f role n rel c = failed_check f rel n c.0 (verdict f.rights role (rel_of f.catalog rel) c.0 c.1)
+
+abbrev pub entry_policies : Frame → ℕ → ℕ → Entry → Option Refusal
+entry_policies f role n e = first (map (entry_check f role n e.rel) (checks_for e.op))
+
+-- ---- the rows of a write
+
+-- the rows that an entry removes are there
+abbrev pub is_present : Op → ℕ → List (List Cell) → Bool
+is_present (insert new) c rows = true
+is_present (delete old) c rows = nat_le c (copies old rows)
+is_present (update old new) c rows = nat_le c (copies old rows)
+
+-- each entry finds what the earlier ones leave
+abbrev pub entries_present : List catalogs.Entry → ℕ → List Entry → Lists → Option Refusal
+entries_present catalog n [] T = None
+entries_present catalog n (e ∷ es) T = or_else
+    (test (not (is_present e.op e.copies (T (rel_of catalog e.rel)))) (no_such_row n))
+    (entries_present catalog (n + 1) es (after_entry catalog e T))
+
+-- each table and each open subscription is within the limits
+abbrev pub all_within : State → Bool
+all_within s = list_all (λ e. within s.frame.cap (s.rows e.rel)) s.frame.catalog && list_all (is_within s) s.frame.subscriptions
+
+-- ---- counts
+
+abbrev pub tables : Frame → ℕ
+tables f = count_by (λ e. is_some (table_in e.held)) f.catalog
+
+abbrev pub views : Frame → ℕ
+views f = count_by (λ e. is_some (view_in e.held)) f.catalog
+
+-- ---- requests
+
+-- subscription k is open in session n
+abbrev pub has_subscription : Frame → ℕ → ℕ → Bool
+has_subscription f n k = list_any (λ e. (n == e.session) && (k == e.number)) f.subscriptions
+
+-- the names that a new policy gives, its texts, and the number of policies
+abbrev pub policy_refusal : Frame → PolicyText → Option Refusal
+policy_refusal f p = first (
+    first (map (known_grantee f) p.to)
+    ∷ test (has_policy f p.rel p.name) name_taken
+    ∷ bad_policy_text (columns_at f.catalog p.rel) p.using_text
+    ∷ bad_policy_text (columns_at f.catalog p.rel) p.check_text
+    ∷ full 32 (policies f p.rel)
+    ∷ [])
+
+-- the tests that look at no row, of a request of a role in its open session n
+abbrev pub role_refusal : Frame → ℕ → ℕ → Act → Option Refusal
+role_refusal f n role (create_role name) = first (
+    administrator role
+    ∷ free_role f name
+    ∷ full 256 (length f.rights.roles)
+    ∷ [])
+role_refusal f n role (create_table name owner columns) = first (
+    administrator role
+    ∷ known_role f owner
+    ∷ free_relation f name
+    ∷ full 64 (tables f)
+    ∷ [])
+role_refusal f n role (create_view name owner query) = first (
+    administrator role
+    ∷ known_role f owner
+    ∷ free_relation f name
+    ∷ bad_text (bound_query f.catalog query)
+    ∷ full 64 (views f)
+    ∷ [])
+role_refusal f n role (grant rel privileges to) = first (
+    known_relation f rel
+    ∷ owner_alone f role rel
+    ∷ known_grantee f to
+    ∷ [])
+role_refusal f n role (revoke rel privileges to) = first (
+    known_relation f rel
+    ∷ owner_alone f role rel
+    ∷ known_grantee f to
+    ∷ [])
+role_refusal f n role (row_security rel enable force) = first (
+    known_relation f rel
+    ∷ table_alone f rel
+    ∷ owner_alone f role rel
+    ∷ [])
+role_refusal f n role (create_policy p) = first (
+    known_relation f p.rel
+    ∷ table_alone f p.rel
+    ∷ owner_alone f role p.rel
+    ∷ policy_refusal f p
+    ∷ [])
+role_refusal f n role (drop_policy rel name) = first (
+    known_relation f rel
+    ∷ table_alone f rel
+    ∷ owner_alone f role rel
+    ∷ test (not (has_policy f rel name)) unknown_policy
+    ∷ [])
+role_refusal f n role (subscribe rel) = first (
+    known_relation f rel
+    ∷ missing f (missing_for f role (rel_of f.catalog rel))
+    ∷ full 16 (count_by (λ e. n == e.session) f.subscriptions)
+    ∷ full (2 ^ 63) (f.last + 1)
+    ∷ [])
+role_refusal f n role (unsubscribe k) = test (not (has_subscription f n k)) unknown_subscription
+role_refusal f n role (write entries) = first (
+    each_entry (entry_shape f) 1 entries
+    ∷ each_entry (entry_privileges f role) 1 entries
+    ∷ each_entry (entry_policies f role) 1 entries
+    ∷ [])
+role_refusal f n role _ = None
+
+-- the tests that look at no row
 abbrev pub frame_refusal : Frame → ℕ → Act → Option Refusal
 frame_refusal f n (begin role) = first (
     test (is_open f n) session_in_use
-    ∷ test (not (is_role f role)) unknown_role
-    ∷ test (nat_le 256 (length f.sessions)) too_many
+    ∷ known_role f role
+    ∷ full 256 (length f.sessions)
     ∷ [])
-frame_refusal f n (create_role name) = first (
-    test (not (is_open f n)) no_session
-    ∷ test (not (is_admin (actor f n))) not_administrator
-    ∷ test (is_role f name) name_taken
-    ∷ test (nat_le 256 (length f.roles)) too_many
-    ∷ [])
-frame_refusal f n (create_table name owner columns) = first (
-    test (not (is_open f n)) no_session
-    ∷ test (not (is_admin (actor f n))) not_administrator
-    ∷ test (not (is_role f owner)) unknown_role
-    ∷ test (is_some (head_of f.heads name)) name_taken
-    ∷ test (nat_le 64 (length f.heads)) too_many
-    ∷ [])
-frame_refusal f n (grant rel privileges grantee) = first (
-    test (not (is_open f n)) no_session
-    ∷ test (not (is_some (head_of f.heads rel))) unknown_relation
-    ∷ test (not (owns f.heads (actor f n) rel)) (not_owner rel)
-    ∷ test (not (is_role f grantee)) unknown_role
-    ∷ [])
-frame_refusal f n (write entries) = first (
-    test (not (is_open f n)) no_session
-    ∷ each_entry (entry_shape f.heads) 1 entries
-    ∷ each_entry (entry_privilege f.grants (actor f n)) 1 entries
-    ∷ [])
-frame_refusal f n (subscribe rel) = first (
-    test (not (is_open f n)) no_session
-    ∷ test (not (is_some (head_of f.heads rel))) unknown_relation
-    ∷ test (not (has f.grants (actor f n) Select rel)) (missing_privilege Select rel)
-    ∷ test (nat_le 16 (count_by (λ e. n == e.session) f.subscriptions) || nat_le (2 ^ 63) (f.last + 1)) too_many
-    ∷ [])
+frame_refusal f n act = or_else (test (not (is_open f n)) no_session) (role_refusal f n (actor f n) act)
 
--- what the command would leave or show is not within the limits
-abbrev pub is_over : State → Act → Bool
-is_over s (begin role) = false
-is_over s (create_role name) = false
-is_over s (create_table name owner columns) = false
-is_over s (grant rel privileges grantee) = false
-is_over s (write entries) = not (all_within s.frame.cap (length s.frame.heads) (written s.frame.heads entries s.rows))
-is_over s (subscribe rel) = not (within s.frame.cap (rows_of s rel))
+-- the tests that look at rows
+abbrev pub rows_refusal : State → ℕ → Act → Option Refusal
+rows_refusal s n (subscribe rel) = test (not (is_within_for s (actor s.frame n) (rel_of s.frame.catalog rel))) limit
+rows_refusal s n (write entries) = first (
+    entries_present s.frame.catalog 1 entries s.rows
+    ∷ test (not (all_within (after s n (write entries)))) limit
+    ∷ [])
+rows_refusal s n _ = None
 
--- the limits come last
+-- in each request the tests that look at rows come last
 abbrev pub refusal : State → ℕ → Act → Option Refusal
-refusal s n act = or_else (frame_refusal s.frame n act) (test (is_over s act) limit)
+refusal s n act = or_else (frame_refusal s.frame n act) (rows_refusal s n act)

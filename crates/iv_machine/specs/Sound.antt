@@ -1,39 +1,43 @@
 -- What every state has that the machine reaches from the start.
-use Rattle.std.specs.Prelude.{◌≡◌, ◌⊎◌, ℕ, ◌<◌, ◌≤◌, true, List, [], ◌∷◌, length, map, is_some, slice_get, bytes_eq, ◌==◌}
-use Rattle.std.specs.List.{All, AllPass, AllByRecursion, IsDistinct}
-use Rattle.iv_rows.specs.Columns.{accepts, kinds_of}
+use Rattle.std.specs.Prelude.{◌≡◌, ℕ, ◌==◌, ◌<◌, true, List, [], length, map, bytes_eq, Option, Some, None, is_some}
+use Rattle.std.specs.List.{All, AllPass, IsDistinct}
+use Rattle.iv_rows.specs.Cell.{Cell}
+use Rattle.iv_rows.specs.Columns.{Column, accepts, kinds_of}
 use Rattle.iv_zset.specs.Limits.{within}
-use Rattle.iv_machine.specs.State.{State, Frame, Subscription, head_of, actor, has, columns_at}
-use Rattle.iv_machine.specs.Refusing.{is_open}
-use Rattle.iv_machine.specs.declared.Privilege.TheVariants.{Select}
+use Rattle.iv_bind.specs.Catalogs.{numbered, schema_of}
+use Rattle.iv_machine.specs.Lines.{AreInOrder}
+use Rattle.iv_machine.specs.Numbered.{IsNumbered}
+use Rattle.iv_machine.specs.Reached.{IsReached}
+use Rattle.iv_machine.specs.Served.{AreServed}
+use Rattle.iv_machine.specs.State.{State, Frame, Subscription, actor, is_open, missing_for}
 
--- the session is open, the relation is known, and the session's role may select from it
-pub record MayRead (f : Frame) (e : Subscription) : Type 0 where
-  pub session : is_open f e.session ≡ true
-  pub relation : is_some (head_of f.heads e.rel) ≡ true
-  pub select : has f.grants (actor f e.session) Select e.rel ≡ true
-
--- by session, then by number
-abbrev pub IsBefore : Subscription → Subscription → Type 0
-IsBefore e f = (e.session < f.session) ⊎ ((e.session ≡ f.session) × (e.number < f.number))
-
--- each is before all that follow
-abbrev pub AreInOrder : List Subscription → Type 0
-AreInOrder [] = Unit {0}
-AreInOrder (e ∷ es) = AllByRecursion (IsBefore e) es × AreInOrder es
-
--- no role, no table and no session is named twice
+-- no role, no relation and no session is named twice
 pub record AreNamesDistinct (f : Frame) : Type 0 where
-  pub roles : IsDistinct bytes_eq f.roles
-  pub tables : IsDistinct bytes_eq (map (λ h. h.name) f.heads)
+  pub roles : IsDistinct bytes_eq f.rights.roles
+  pub relations : IsDistinct bytes_eq (map (λ e. e.name) f.catalog)
   pub sessions : IsDistinct (λ m n. m == n) (map (λ e. e.number) f.sessions)
 
--- names are distinct; each subscription may be read, and the subscriptions have the order of the lines; each table is
--- within the limits and its rows fit its columns; where there is no table there is no row
+-- its session is open, its relation is known, and the session's role has select on all that it needs
+pub record MayRead (f : Frame) (e : Subscription) : Type 0 where
+  pub session : is_open f e.session ≡ true
+  pub relation : is_some (numbered f.catalog e.rel) ≡ true
+  pub select : missing_for f (actor f e.session) e.rel ≡ None
+
+-- a table's rows have the kinds of its columns; what is no table has no row
+abbrev pub HasKinds : Option (List Column) → List (List Cell) → Type 0
+HasKinds None rows = rows ≡ []
+HasKinds (Some columns) rows = AllPass (accepts (kinds_of columns)) rows
+
+-- Subscriptions have the order of the lines and numbers of their own, and each may be read and is within the limits; names
+-- are distinct; relations are numbered by their places; sessions act for roles that are there; each table is within the
+-- limits, and its rows have its columns' kinds.
 pub record IsSound (s : State) : Type 0 where
-  pub names : AreNamesDistinct s.frame
-  pub readers : All (MayRead s.frame) s.frame.subscriptions
+  pub reached : IsReached s.frame
   pub ordered : AreInOrder s.frame.subscriptions
+  pub readers : All (MayRead s.frame) s.frame.subscriptions
+  pub served : AreServed s
+  pub names : AreNamesDistinct s.frame
+  pub numbered : IsNumbered s.frame
+  pub roles : All (λ e. e.role < length s.frame.rights.roles) s.frame.sessions
   pub limits : (t : ℕ) → within s.frame.cap (s.rows t) ≡ true
-  pub fits : (t : ℕ) → AllPass (accepts (kinds_of (columns_at (slice_get s.frame.heads t)))) (s.rows t)
-  pub empty : (t : ℕ) → length s.frame.heads ≤ t → s.rows t ≡ []
+  pub kinds : (t : ℕ) → HasKinds (schema_of s.frame.catalog t) (s.rows t)

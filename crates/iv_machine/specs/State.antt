@@ -1,124 +1,121 @@
--- The state of the machine: a frame, which has no row, and the list of rows of each table.
-use Rattle.std.specs.Prelude.{ℕ, ◌==◌, ◌&&◌, ◌||◌, Bool, true, false, List, [], ◌∷◌, find, bytes_eq, codes, Option, Some, None, option_map, unwrap_or, position}
+-- The state of the machine, and what a subscription shows.
+use Rattle.std.specs.Prelude.{ℕ, ◌==◌, Bool, List, [], map, length, find, Option, None, option_map, is_some, unwrap_or}
 use Rattle.std.specs.List.{list_any}
 use Rattle.iv_rows.specs.Cell.{Cell}
 use Rattle.iv_rows.specs.Columns.{Column}
-use Rattle.iv_machine.specs.declared.Privilege.{Privilege}
-use Rattle.iv_machine.specs.declared.Privilege.TheVariants.{Select, Insert, Update, Delete}
-
--- a table without its rows; its number is its place among the heads
-pub record Head : Type 0 where
-  pub name : List ℕ
-  pub owner : List ℕ
-  pub columns : List Column
-
--- PostgreSQL 16, Privileges
-pub record Grant : Type 0 where
-  pub role : List ℕ
-  pub privilege : Privilege
-  pub rel : List ℕ
+use Rattle.iv_algebra.specs.Evaluation.{eval, plan_within}
+use Rattle.iv_algebra.specs.Plans.{Lists}
+use Rattle.iv_algebra.specs.Shapes.{Shape, Scan}
+use Rattle.iv_bind.specs.Catalogs.{Entry, named, numbered, plan_of, reached_by, table_in}
+use Rattle.iv_bind.specs.Faults.{if_some}
+use Rattle.iv_access.specs.declared.privilege.Privilege.{Privilege}
+use Rattle.iv_access.specs.declared.privilege.Privilege.TheVariants.{Select}
+use Rattle.iv_access.specs.Rights.{Name, Rights}
+use Rattle.iv_access.specs.Rights as rights
+use Rattle.iv_access.specs.Privileges.{first_missing}
+use Rattle.iv_access.specs.Policies.{allowed}
 
 pub record Session : Type 0 where
   pub number : ℕ
-  pub role : List ℕ
+  pub role : ℕ
 
 pub record Subscription : Type 0 where
   pub session : ℕ
   pub number : ℕ
-  pub rel : List ℕ
+  pub rel : ℕ
 
--- `subscriptions` has the order of the lines: by session, then by number; `last` is the last number given; `cap` is the
--- greatest number of different rows in a table
+-- All but the rows. `cap` is the greatest number of different rows in a table and at a node; `catalog` has tables with
+-- their columns and views with their plans, by name and number; `subscriptions` has the order of the lines: by session,
+-- then by number; `last` is the last number given.
 pub record Frame : Type 0 where
   pub cap : ℕ
-  pub roles : List (List ℕ)
-  pub heads : List Head
-  pub grants : List Grant
+  pub rights : Rights
+  pub catalog : List Entry
   pub sessions : List Session
   pub subscriptions : List Subscription
   pub last : ℕ
 
--- the rows of each table, by its number
-abbrev pub Lists : Type 0
-Lists = ℕ → List (List Cell)
-
+-- `rows` has each table's rows, by its number
 pub record State : Type 0 where
   pub frame : Frame
   pub rows : Lists
 
-abbrev pub admin : List ℕ
-admin = codes "admin"
+-- no relation, no session, and one role
+abbrev pub start_frame : ℕ → Frame
+start_frame cap = record { cap = cap; rights = rights.start; catalog = []; sessions = []; subscriptions = []; last = 0 }
 
--- no table, no session, and one role
-abbrev pub start_frame : Frame
-start_frame = record { cap = 65536; roles = admin ∷ []; heads = []; grants = []; sessions = []; subscriptions = []; last = 0 }
+abbrev pub start : ℕ → State
+start cap = record { frame = start_frame cap; rows = λ _. [] }
 
-abbrev pub start : State
-start = record { frame = start_frame; rows = λ _. [] }
+-- ---- relations
 
--- ---- looking into a state
+-- the next relation's number, which no relation has
+abbrev pub next_rel : List Entry → ℕ
+next_rel catalog = length catalog
 
-abbrev pub is_role : Frame → List ℕ → Bool
-is_role f name = list_any (bytes_eq name) f.roles
+-- the number of the relation of a name; of none where there is none
+abbrev pub rel_of : List Entry → Name → ℕ
+rel_of catalog name = if_some (named catalog name) (next_rel catalog) (λ e. e.rel)
 
-abbrev pub session_of : Frame → ℕ → Option Session
-session_of f n = find (λ e. n == e.number) f.sessions
+abbrev pub name_of : List Entry → ℕ → Name
+name_of catalog rel = if_some (numbered catalog rel) [] (λ e. e.name)
 
--- the acting role; nothing asks it of a session that is not open
-abbrev pub actor : Frame → ℕ → List ℕ
-actor f n = unwrap_or (option_map (λ e. e.role) (session_of f n)) []
+-- the columns of the table of a name; none of a view
+abbrev pub table_columns : List Entry → Name → Option (List Column)
+table_columns catalog name = if_some (named catalog name) None (λ e. table_in e.held)
 
-abbrev pub is_admin : List ℕ → Bool
-is_admin role = bytes_eq role admin
+abbrev pub columns_at : List Entry → Name → List Column
+columns_at catalog name = unwrap_or (table_columns catalog name) []
 
-abbrev pub head_of : List Head → List ℕ → Option Head
-head_of heads name = find (λ h. bytes_eq name h.name) heads
+-- a table is scanned; a view is its plan
+abbrev pub plan_at : List Entry → ℕ → Shape
+plan_at catalog rel = if_some (numbered catalog rel) (Scan rel) (λ e. plan_of e.rel e.held)
 
-abbrev pub number_of : List Head → List ℕ → Option ℕ
-number_of heads name = position (λ h. bytes_eq name h.name) heads
+-- the relation, and all that it reaches
+abbrev pub needs_at : List Entry → ℕ → List ℕ
+needs_at catalog rel = if_some (numbered catalog rel) [] (λ e. reached_by e.rel e.held)
 
-abbrev pub columns_at : Option Head → List Column
-columns_at None = []
-columns_at (Some h) = h.columns
+-- ---- sessions and subscriptions
 
-abbrev pub is_owner : List ℕ → Option Head → Bool
-is_owner role None = false
-is_owner role (Some h) = bytes_eq role h.owner
+abbrev pub session_of : List Session → ℕ → Option Session
+session_of sessions n = find (λ e. n == e.number) sessions
 
--- the right to grant: the owner and `admin`
-abbrev pub owns : List Head → List ℕ → List ℕ → Bool
-owns heads role rel = is_admin role || is_owner role (head_of heads rel)
+abbrev pub is_open : Frame → ℕ → Bool
+is_open f n = is_some (session_of f.sessions n)
 
-abbrev pub privilege_eq : Privilege → Privilege → Bool
-privilege_eq Select q = elim q [ Select ↦ true | Insert ↦ false | Update ↦ false | Delete ↦ false ]
-privilege_eq Insert q = elim q [ Select ↦ false | Insert ↦ true | Update ↦ false | Delete ↦ false ]
-privilege_eq Update q = elim q [ Select ↦ false | Insert ↦ false | Update ↦ true | Delete ↦ false ]
-privilege_eq Delete q = elim q [ Select ↦ false | Insert ↦ false | Update ↦ false | Delete ↦ true ]
+-- the acting role; of a session that is not open a number that no role has
+abbrev pub actor : Frame → ℕ → ℕ
+actor f n = unwrap_or (option_map (λ e. e.role) (session_of f.sessions n)) (length f.rights.roles)
 
-abbrev pub grant_eq : Grant → Grant → Bool
-grant_eq a b = bytes_eq a.role b.role && (privilege_eq a.privilege b.privilege && bytes_eq a.rel b.rel)
+abbrev pub subscription_of : List Subscription → ℕ → Option Subscription
+subscription_of es k = find (λ e. k == e.number) es
 
-abbrev pub is_granted : List Grant → Grant → Bool
-is_granted grants g = list_any (grant_eq g) grants
+-- some open subscription has the number
+abbrev pub is_open_number : Frame → ℕ → Bool
+is_open_number f k = list_any (λ e. k == e.number) f.subscriptions
 
--- the role is `admin`, or was granted the privilege (PostgreSQL 16, Privileges)
-abbrev pub has : List Grant → List ℕ → Privilege → List ℕ → Bool
-has grants role privilege rel = is_admin role || is_granted grants (record { role = role; privilege = privilege; rel = rel })
+-- ---- views
 
-abbrev pub rows_at : Lists → Option ℕ → List (List Cell)
-rows_at T None = []
-rows_at T (Some t) = T t
+-- what a role sees of a relation: the relation's plan over the rows that the role may see (PostgreSQL 16, CREATE VIEW:
+-- security_invoker)
+abbrev pub view_for : State → ℕ → ℕ → List (List Cell)
+view_for s role rel = eval (plan_at s.frame.catalog rel) (allowed s.frame.rights role s.rows)
 
-abbrev pub rows_of : State → List ℕ → List (List Cell)
-rows_of s rel = rows_at s.rows (number_of s.frame.heads rel)
+-- the limits hold at each node of it
+abbrev pub is_within_for : State → ℕ → ℕ → Bool
+is_within_for s role rel = plan_within s.frame.cap (plan_at s.frame.catalog rel) (allowed s.frame.rights role s.rows)
 
-abbrev pub subscription_of : Frame → ℕ → Option Subscription
-subscription_of f k = find (λ e. k == e.number) f.subscriptions
+-- the first relation that the role may not select from, of those that it needs
+abbrev pub missing_for : Frame → ℕ → ℕ → Option (Privilege × ℕ)
+missing_for f role rel = first_missing f.rights role (map (λ r. (Select, r)) (needs_at f.catalog rel))
 
-abbrev pub shown_at : State → Option Subscription → List (List Cell)
-shown_at s None = []
-shown_at s (Some e) = rows_of s e.rel
+-- what a subscription shows
+abbrev pub view_of : State → Subscription → List (List Cell)
+view_of s e = view_for s (actor s.frame e.session) e.rel
 
--- the rows that a subscription shows: its table's, and none where it is not open
+abbrev pub is_within : State → Subscription → Bool
+is_within s e = is_within_for s (actor s.frame e.session) e.rel
+
+-- the rows that subscription k shows: none where it is not open
 abbrev pub shown : State → ℕ → List (List Cell)
-shown s k = shown_at s (subscription_of s.frame k)
+shown s k = if_some (subscription_of s.frame.subscriptions k) [] (view_of s)

@@ -1,30 +1,62 @@
 -- The commands that a line may give: what the front end promises of each part before the machine looks at it.
-use Rattle.std.specs.Prelude.{ℕ, ◌^◌, ◌&&◌, Bool, length, nat_le, nat_lt}
+use Rattle.std.specs.Prelude.{ℕ, ◌^◌, ◌&&◌, Bool, true, List, length, nat_le, nat_lt, Option, Some, None, is_some, is_none}
 use Rattle.std.specs.List.{list_all}
-use Rattle.iv_rows.specs.Names.{is_name}
 use Rattle.iv_rows.specs.Columns.{has_columns, has_distinct_names}
+use Rattle.iv_rows.specs.Names.{is_name}
 use Rattle.iv_rows.specs.Texts.{is_well}
-use Rattle.iv_machine.specs.Act.{Act, begin, create_role, create_table, grant, write, subscribe, Entry, Op, insert, Command}
+use Rattle.iv_access.specs.declared.policy.PolicyCommand.{PolicyCommand}
+use Rattle.iv_access.specs.declared.policy.PolicyCommand.TheVariants.{All, Select, Insert, Update, Delete}
+use Rattle.iv_access.specs.Rights.{Name}
+use Rattle.iv_machine.specs.Act.{Act, begin, finish, create_role, create_table, create_view, grant, revoke, row_security, create_policy, drop_policy, subscribe, unsubscribe, write, PolicyText, Entry, Command}
+use Rattle.iv_machine.specs.Refusing.{rows_in}
 
 abbrev pub is_between : ℕ → ℕ → ℕ → Bool
 is_between low high n = nat_le low n && nat_le n high
 
+-- 1 to 2^63 - 1
+abbrev pub is_positive : ℕ → Bool
+is_positive n = nat_le 1 n && nat_lt n (2 ^ 63)
+
+-- PUBLIC, or a name
+abbrev pub is_grantee : Option Name → Bool
+is_grantee None = true
+is_grantee (Some name) = is_name name
+
+-- which texts a policy for a command has (PostgreSQL 16, CREATE POLICY); one that reads or removes rows, or replaces
+-- them, has `using`
+abbrev pub has_texts : PolicyCommand → (using check : Option (List ℕ)) → Bool
+has_texts All using check = is_some using
+has_texts Select using check = is_some using && is_none check
+has_texts Insert using check = is_none using && is_some check
+has_texts Update using check = is_some using
+has_texts Delete using check = is_some using && is_none check
+
+-- it goes to 1 to 16
+abbrev pub is_well_policy : PolicyText → Bool
+is_well_policy p =
+    is_name p.rel && (is_name p.name
+    && (is_between 1 16 (length p.to) && (list_all is_grantee p.to
+    && has_texts p.command p.using_text p.check_text)))
+
 -- its texts are ones that a table may hold
-abbrev pub is_well_op : Op → Bool
-is_well_op (insert row) = is_well row
-
--- 1 to 2^63 - 1 copies
 abbrev pub is_well_entry : Entry → Bool
-is_well_entry e = is_name e.rel && (is_well_op e.op && (nat_le 1 e.copies && nat_lt e.copies (2 ^ 63)))
+is_well_entry e = is_name e.rel && (list_all is_well (rows_in e.op) && is_positive e.copies)
 
--- 1 to 4 privileges, of which some may be one; 1 to 1,000 entries
+-- 1 to 4 privileges, of which some may be one; 1 to 1,000 entries; a query may be any text
 abbrev pub is_well_act : Act → Bool
 is_well_act (begin role) = is_name role
+is_well_act finish = true
 is_well_act (create_role name) = is_name name
 is_well_act (create_table name owner columns) = is_name name && (is_name owner && (has_columns columns && has_distinct_names columns))
-is_well_act (grant rel privileges grantee) = is_name rel && (is_between 1 4 (length privileges) && is_name grantee)
-is_well_act (write entries) = is_between 1 1000 (length entries) && list_all is_well_entry entries
+is_well_act (create_view name owner query) = is_name name && is_name owner
+is_well_act (grant rel privileges to) = is_name rel && (is_between 1 4 (length privileges) && is_grantee to)
+is_well_act (revoke rel privileges to) = is_name rel && (is_between 1 4 (length privileges) && is_grantee to)
+is_well_act (row_security rel enable force) = is_name rel
+is_well_act (create_policy p) = is_well_policy p
+is_well_act (drop_policy rel name) = is_name rel && is_name name
 is_well_act (subscribe rel) = is_name rel
+is_well_act (unsubscribe number) = is_positive number
+is_well_act (write entries) = is_between 1 1000 (length entries) && list_all is_well_entry entries
 
 -- sessions are 1 to 2^32 - 1
 abbrev pub is_well_command : Command → Bool

@@ -1,17 +1,15 @@
 //! The access machine: what a list of commands means. Definitions, and laws over them.
 #![tactic(auto)]
 
-/// What a role may do with a relation (PostgreSQL 16, Privileges).
+pub use iv_access::Privilege;
+
+/// Why a subscription is ended.
 #[derive(Clone, Copy, Debug, PartialEq, Eq)]
-pub enum Privilege {
-    /// Read rows.
-    Select,
-    /// Add rows.
-    Insert,
-    /// Replace rows.
-    Update,
-    /// Remove rows.
-    Delete,
+pub enum Cause {
+    /// Its reader may no longer select from a relation that it needs.
+    Privilege,
+    /// Its view is no longer within the limits.
+    Limit,
 }
 
 pub mod examples;

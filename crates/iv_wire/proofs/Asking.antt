@@ -1,8 +1,11 @@
 -- Each command that is well is asked by its JSON value.
-use Rattle.std.proofs.Common.{◌≡◌, ℕ, ◌==◌, ◌&&◌, Bool, true, false, pos, negsuc, List, [], ◌∷◌, length, map, Option, Some, option_map, option_and_then, ap, ◌∙◌, refl, arith}
+use Rattle.std.proofs.Common.{◌≡◌, ℕ, ◌^◌, ◌==◌, ◌&&◌, Bool, true, false, ℤ, pos, negsuc, List, [], ◌∷◌, length, map, cond, Option, Some, None, option_map, option_and_then, ap, ◌∙◌, sym, refl, arith}
+use Rattle.std.specs.Prelude.{codes, nat_lt, bytes_eq}
+use Rattle.std.proofs.lemmas.Slice.Eq.{bytes_eq-Decides}
+use Rattle.iv_rows.specs.Names.{reserved}
 use Rattle.std.specs.List.{list_all}
 use Rattle.std.proofs.lemmas.Bool.Decides.{nat_tests}
-use Rattle.serde_json.specs.Data.{Data}
+use Rattle.serde_json.specs.Data.{Data, Items, item, no_items}
 use Rattle.serde_json.specs.View.{items_of}
 use Rattle.iv_rows.specs.Cell.{Cell, num, text, flag}
 use Rattle.iv_rows.specs.Columns.{Column, has_columns, has_distinct_names}
@@ -10,12 +13,13 @@ use Rattle.iv_rows.specs.Names.{is_name}
 use Rattle.iv_rows.specs.Texts.{is_well, is_well_cell, is_well_text}
 use Rattle.iv_rows.specs.declared.value.Kind.{Kind}
 use Rattle.iv_rows.specs.declared.value.Kind.TheVariants.{Int, Text, Flag}
-use Rattle.iv_machine.specs.Act.{Act, begin, create_role, create_table, grant, write, subscribe, Command, Entry, Op, insert}
-use Rattle.iv_machine.specs.Well.{is_between, is_well_op, is_well_entry, is_well_act, is_well_command}
-use Rattle.iv_machine.specs.declared.Privilege.{Privilege}
-use Rattle.iv_machine.specs.declared.Privilege.TheVariants.{Select, Insert, Update, Delete}
-use Rattle.iv_wire.specs.Asked.{column_data, privilege_data, entry_data, row_of, act_data, command_data, is_small, is_plain_entry, is_plain}
-use Rattle.iv_wire.specs.Request.{each, cell_of, column_of, privilege_of, entry_of, is_schema, is_session, command, request}
+use Rattle.iv_machine.specs.Act.{Act, begin, finish, create_role, create_table, create_view, grant, revoke, row_security, create_policy, drop_policy, subscribe, unsubscribe, write, Command, Entry, Op, insert, delete, update}
+use Rattle.iv_machine.specs.Refusing.{rows_in}
+use Rattle.iv_machine.specs.Well.{is_between, is_grantee, is_positive, is_well_entry, is_well_act, is_well_command}
+use Rattle.iv_access.specs.declared.privilege.Privilege.{Privilege}
+use Rattle.iv_access.specs.declared.privilege.Privilege.TheVariants.{Select, Insert, Update, Delete}
+use Rattle.iv_wire.specs.Asked.{column_data, privilege_data, entry_data, row_of, grantee_text, act_data, command_data, is_small, is_insert, is_plain_entry, is_plain}
+use Rattle.iv_wire.specs.Request.{each, cell_of, column_of, privilege_of, entry_of, grantee_named, is_schema, is_session, command, request}
 use Rattle.iv_wire.specs.Texts.{cell_data}
 
 left_true : (a b : Bool) → (a && b) ≡ true → a ≡ true
@@ -77,17 +81,41 @@ one_copy n h = grind (arith, nat_tests)
 inserted_asked : (rel : List ℕ) (row : List Cell) (copies : ℕ) → is_name rel ≡ true → is_well row ≡ true → list_all is_small row ≡ true → copies ≡ 1 → entry_of (entry_data (record { rel = rel; op = insert row; copies = copies })) ≡ Some (record { rel = rel; op = insert row; copies = copies })
 inserted_asked rel row copies h k s e = rw (h, cells_asked row k s, e) refl
 
-op_asked : (rel : List ℕ) (op : Op) (copies : ℕ) → is_name rel ≡ true → is_well_op op ≡ true → list_all is_small (row_of op) ≡ true → copies ≡ 1 → entry_of (entry_data (record { rel = rel; op = op; copies = copies })) ≡ Some (record { rel = rel; op = op; copies = copies })
-op_asked rel (insert row) copies h k s e = inserted_asked rel row copies h k s e
+op_asked : (rel : List ℕ) (op : Op) (copies : ℕ) → is_name rel ≡ true → list_all is_well (rows_in op) ≡ true → is_insert op ≡ true → list_all is_small (row_of op) ≡ true → copies ≡ 1 → entry_of (entry_data (record { rel = rel; op = op; copies = copies })) ≡ Some (record { rel = rel; op = op; copies = copies })
+op_asked rel (insert row) copies h k i s e = inserted_asked rel row copies h (left_true (is_well row) true k) s e
+op_asked rel (delete row) copies h k i s e = cc
+op_asked rel (update old new) copies h k i s e = cc
 
 entry_asked : (e : Entry) → (is_well_entry e && is_plain_entry e) ≡ true → entry_of (entry_data e) ≡ Some e
 entry_asked e h =
     let w = left_true (is_well_entry e) (is_plain_entry e) h in
     let p = right_true (is_well_entry e) (is_plain_entry e) h in
-    op_asked e.rel e.op e.copies (left_true (is_name e.rel) _ w) (left_true (is_well_op e.op) _ (right_true (is_name e.rel) _ w)) (right_true (e.copies == 1) _ p) (one_copy e.copies (left_true (e.copies == 1) _ p))
+    let one = right_true (is_insert e.op) _ p in
+    op_asked e.rel e.op e.copies (left_true (is_name e.rel) _ w) (left_true (list_all is_well (rows_in e.op)) _ (right_true (is_name e.rel) _ w)) (left_true (is_insert e.op) _ p) (right_true (e.copies == 1) _ one) (one_copy e.copies (left_true (e.copies == 1) _ one))
 
 entries_asked : (es : List Entry) → list_all is_well_entry es ≡ true → list_all is_plain_entry es ≡ true → each entry_of (items_of (map entry_data es)) ≡ Some es
 entries_asked es h k = each_asked (λ e. is_well_entry e && is_plain_entry e) entry_of entry_data entry_asked es (both_pass is_well_entry is_plain_entry es h k)
+
+-- `public` is no name
+abbrev is_public_name : Bool
+is_public_name = is_name (codes "public")
+
+public_reserved : is_public_name ≡ false
+unfolding reserved
+public_reserved = refl
+
+decide_by : (name : List ℕ) (b : Bool) → bytes_eq name (codes "public") ≡ b → is_name name ≡ true → b ≡ false
+decide_by name false e h = refl
+decide_by name true e h =
+    let same : name ≡ codes "public" = (bytes_eq-Decides name (codes "public")).0 e in
+    let bad : true ≡ false = sym h ∙ (ap is_name same ∙ public_reserved) in cc
+
+not_public : (name : List ℕ) → is_name name ≡ true → bytes_eq name (codes "public") ≡ false
+not_public name h = decide_by name (bytes_eq name (codes "public")) refl h
+
+grantee_asked : (to : Option (List ℕ)) → is_grantee to ≡ true → grantee_named (grantee_text to) ≡ Some to
+grantee_asked None h = refl
+grantee_asked (Some name) h = rw (not_public name h, h) refl
 
 -- ---- requests
 
@@ -98,13 +126,24 @@ act_asked n (create_table name owner columns) s h p =
     let r = right_true (is_name name) _ h in
     let k = right_true (is_name owner) _ r in
     rw (s, left_true (is_name name) _ h, left_true (is_name owner) _ r, columns_asked columns k, k) refl
-act_asked n (grant rel privileges grantee) s h p =
+act_asked n (grant rel privileges to) s h p =
     let r = right_true (is_name rel) _ h in
-    rw (s, left_true (is_name rel) _ h, right_true (is_between 1 4 (length privileges)) _ r, privileges_asked privileges, left_true (is_between 1 4 (length privileges)) _ r) refl
+    let few = is_between 1 4 (length privileges) in
+    rw (s, left_true (is_name rel) _ h, grantee_asked to (right_true few _ r), privileges_asked privileges, left_true few _ r) refl
+act_asked n (revoke rel privileges to) s h p =
+    let r = right_true (is_name rel) _ h in
+    let few = is_between 1 4 (length privileges) in
+    rw (s, left_true (is_name rel) _ h, grantee_asked to (right_true few _ r), privileges_asked privileges, left_true few _ r) refl
 act_asked n (write entries) s h p =
     let c = left_true (is_between 1 1000 (length entries)) _ h in
     rw (s, entries_asked entries (right_true (is_between 1 1000 (length entries)) _ h) p, c) refl
 act_asked n (subscribe rel) s h p = rw (s, h) refl
+act_asked n finish s h p = cc
+act_asked n (create_view name owner query) s h p = cc
+act_asked n (row_security rel enable force) s h p = cc
+act_asked n (create_policy policy) s h p = cc
+act_asked n (drop_policy rel name) s h p = cc
+act_asked n (unsubscribe number) s h p = cc
 
 pub command_asked : (c : Command) → is_well_command c ≡ true → is_plain c.act ≡ true → request (command_data c) ≡ Some c
 command_asked c h p = act_asked c.session c.act (left_true (is_session c.session) (is_well_act c.act) h) (right_true (is_session c.session) (is_well_act c.act) h) p

@@ -40,6 +40,6 @@ written_ok s (Some bytes) r end h p =
       sums = adds_up s (commands_of rs) p;
     }
 
-pub has_written : (first : Seen) (r : Run) (result : Result End RunFault) → ((s : State) → IsBehind s first → IsAnswered s r result) → OnOk result ((s : State) → IsBehind s first → IsReached s.frame → IfSome r.given (λ _. HasWritten s r))
-has_written first r (Ok end) h = λ s b p. written_ok s r.given r end (h s b) p
-has_written first r (Err e) h = tt
+pub has_written : (first : Seen) (r : Run) (result : Result End RunFault) → IsReached first.frame → ((s : State) → IsBehind s first → IsAnswered s r result) → OnOk result ((s : State) → IsBehind s first → IfSome r.given (λ _. HasWritten s r))
+has_written first r (Ok end) p h = λ s b. written_ok s r.given r end (h s b) (subst IsReached (sym b.frame) p)
+has_written first r (Err e) p h = tt

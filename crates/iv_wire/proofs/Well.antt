@@ -1,17 +1,18 @@
 -- Each command that a JSON value is, is well.
-use Rattle.std.proofs.Common.{◌≡◌, ℕ, sym, Bool, true, false, ◌&&◌, List, ◌∷◌, length, Option, Some, None, option_map, option_and_then, cond, refl, subst}
+use Rattle.std.proofs.Common.{◌≡◌, ℕ, sym, Bool, true, false, ◌&&◌, List, [], ◌∷◌, length, Option, Some, None, option_map, option_and_then, cond, refl, ap, ◌∙◌, subst}
 use Rattle.std.specs.Prelude.{codes, bytes_eq, IfSome}
 use Rattle.std.specs.List.{list_all}
 use Rattle.serde_json.specs.Data.{Data, null, boolean, number, string, array, object, Num, Items, no_items, item}
 use Rattle.serde_json.specs.Find.{get, as_array, as_number, as_i64, as_u64}
-use Rattle.iv_rows.specs.Cell.{Cell, num, text}
+use Rattle.iv_rows.specs.Cell.{Cell, num, text, flag}
 use Rattle.iv_rows.specs.Columns.{Column}
 use Rattle.iv_rows.specs.Names.{is_name}
 use Rattle.iv_rows.specs.Texts.{is_well, is_well_cell}
 use Rattle.iv_machine.specs.Act as machine
-use Rattle.iv_machine.specs.Well.{is_well_entry, is_well_act, is_well_command, is_between}
-use Rattle.iv_machine.specs.declared.Privilege.{Privilege}
-use Rattle.iv_wire.specs.Request.{passing, each, list_at, name_at, text_at, is_schema, columns_at, column_of, privileges_at, privilege_of, cell_of, entry_of, inserted, entries_at, begin_of, create_role_of, create_table_of, grant_of, write_of, subscribe_of, act_for, asked_act, is_session, session_of, command, request}
+use Rattle.iv_machine.specs.Refusing.{rows_in}
+use Rattle.iv_machine.specs.Well.{is_grantee, is_positive, is_well_entry, is_well_act, is_well_command, is_between}
+use Rattle.iv_access.specs.declared.privilege.Privilege.{Privilege}
+use Rattle.iv_wire.specs.Request.{passing, each, list_at, name_at, text_at, is_schema, columns_at, column_of, privileges_at, privilege_of, cell_of, entry_of, inserted, entries_at, begin_of, create_role_of, create_table_of, grantee_named, grantee_at, Granting, granting, granting_of, grant_by, revoke_by, write_of, subscribe_of, act_for, asked_act, is_session, session_of, command, request}
 
 both : (a b : Bool) → a ≡ true → b ≡ true → (a && b) ≡ true
 both a b p q = rw (p, q) refl
@@ -85,7 +86,7 @@ entry_well d =
     chosen (λ (e : machine.Entry). is_well_entry e ≡ true) _ _ None
     (bound (λ (s : List ℕ). is_name s ≡ true) (λ (e : machine.Entry). is_well_entry e ≡ true) (λ rel. option_map (inserted rel) (list_at cell_of (codes "insert") d)) (name_at (codes "on") d) (name_well (codes "on") d)
     (λ rel p. mapped (λ (row : List Cell). is_well row ≡ true) (λ (e : machine.Entry). is_well_entry e ≡ true) (inserted rel) (list_at cell_of (codes "insert") d) (list_well is_well_cell cell_of cell_well (codes "insert") d)
-    (λ row q. both (is_name rel) (is_well row && true) p (both (is_well row) true q refl))))
+    (λ row q. both (is_name rel) ((is_well row && true) && true) p (both (is_well row && true) true (both (is_well row) true q refl) refl))))
     tt
 
 entries_well : (d : Data) → IfSome (entries_at d) (λ es. (is_between 1 1000 (length es) ≡ true) × (list_all is_well_entry es ≡ true))
@@ -111,14 +112,35 @@ create_table_well d =
     (λ cs r. both (is_name name) (is_name owner && is_schema cs) p (both (is_name owner) (is_schema cs) q r)))))
     tt
 
-grant_well : (d : Data) → IfSome (grant_of d) IsWellAct
-grant_well d =
-    chosen IsWellAct _ _ None
-    (bound (λ (s : List ℕ). is_name s ≡ true) IsWellAct (λ rel. option_and_then (λ grantee. option_map (λ ps. machine.grant rel ps grantee) (privileges_at d)) (name_at (codes "to") d)) (name_at (codes "on") d) (name_well (codes "on") d)
-    (λ rel p. bound (λ (s : List ℕ). is_name s ≡ true) IsWellAct (λ grantee. option_map (λ ps. machine.grant rel ps grantee) (privileges_at d)) (name_at (codes "to") d) (name_well (codes "to") d)
-    (λ grantee q. mapped (λ (ps : List Privilege). is_between 1 4 (length ps) ≡ true) IsWellAct (λ ps. machine.grant rel ps grantee) (privileges_at d) (privileges_well d)
-    (λ ps r. both (is_name rel) (is_between 1 4 (length ps) && is_name grantee) p (both (is_between 1 4 (length ps)) (is_name grantee) r q)))))
+abbrev IsWellGrantee : Option (List ℕ) → Type 0
+IsWellGrantee to = is_grantee to ≡ true
+
+named_well : (s : List ℕ) → IfSome (grantee_named s) IsWellGrantee
+named_well s =
+    chosen IsWellGrantee (bytes_eq s (codes "public")) (Some None) (option_map Some (passing is_name s)) refl
+    (mapped (λ (n : List ℕ). (is_name n ≡ true) × Unit {0}) IsWellGrantee Some (passing is_name s) (passes (λ (n : List ℕ). Unit {0}) is_name (Some s) tt) (λ n h. h.0))
+
+grantee_well : (d : Data) → IfSome (grantee_at d) IsWellGrantee
+grantee_well d = bound (λ (s : List ℕ). Unit {0}) IsWellGrantee grantee_named (text_at (codes "to") d) (nothing_more (text_at (codes "to") d)) (λ s _. named_well s)
+
+-- what a grant and a revoke of these names keep
+abbrev IsWellGranting : Granting → Type 0
+IsWellGranting g = is_well_act (grant_by g) ≡ true
+
+granting_well : (d : Data) → IfSome (granting_of d) IsWellGranting
+granting_well d =
+    chosen IsWellGranting _ _ None
+    (bound (λ (s : List ℕ). is_name s ≡ true) IsWellGranting (λ rel. option_and_then (λ to. option_map (granting rel to) (privileges_at d)) (grantee_at d)) (name_at (codes "on") d) (name_well (codes "on") d)
+    (λ rel p. bound IsWellGrantee IsWellGranting (λ to. option_map (granting rel to) (privileges_at d)) (grantee_at d) (grantee_well d)
+    (λ to q. mapped (λ (ps : List Privilege). is_between 1 4 (length ps) ≡ true) IsWellGranting (granting rel to) (privileges_at d) (privileges_well d)
+    (λ ps r. both (is_name rel) (is_between 1 4 (length ps) && is_grantee to) p (both (is_between 1 4 (length ps)) (is_grantee to) r q)))))
     tt
+
+grant_well : (d : Data) → IfSome (option_map grant_by (granting_of d)) IsWellAct
+grant_well d = mapped IsWellGranting IsWellAct grant_by (granting_of d) (granting_well d) (λ g h. h)
+
+revoke_well : (d : Data) → IfSome (option_map revoke_by (granting_of d)) IsWellAct
+revoke_well d = mapped IsWellGranting IsWellAct revoke_by (granting_of d) (granting_well d) (λ g h. h)
 
 write_well : (d : Data) → IfSome (write_of d) IsWellAct
 write_well d =
@@ -133,17 +155,19 @@ subscribe_well d = chosen IsWellAct _ _ None (mapped (λ (s : List ℕ). is_name
 act_well : (word : List ℕ) (d : Data) → IfSome (act_for word d) IsWellAct
 act_well word d =
     let is : List ℕ → Bool = λ w. bytes_eq word w in
-    let o5 : Option machine.Act = cond (is (codes "subscribe")) (subscribe_of d) None in
-    let o4 : Option machine.Act = cond (is (codes "write")) (write_of d) o5 in
-    let o3 : Option machine.Act = cond (is (codes "grant")) (grant_of d) o4 in
+    let o6 : Option machine.Act = cond (is (codes "subscribe")) (subscribe_of d) None in
+    let o5 : Option machine.Act = cond (is (codes "write")) (write_of d) o6 in
+    let o4 : Option machine.Act = cond (is (codes "revoke")) (option_map revoke_by (granting_of d)) o5 in
+    let o3 : Option machine.Act = cond (is (codes "grant")) (option_map grant_by (granting_of d)) o4 in
     let o2 : Option machine.Act = cond (is (codes "create_table")) (create_table_of d) o3 in
     let o1 : Option machine.Act = cond (is (codes "create_role")) (create_role_of d) o2 in
     chosen IsWellAct (is (codes "begin")) (begin_of d) o1 (begin_well d)
     (chosen IsWellAct (is (codes "create_role")) (create_role_of d) o2 (create_role_well d)
     (chosen IsWellAct (is (codes "create_table")) (create_table_of d) o3 (create_table_well d)
-    (chosen IsWellAct (is (codes "grant")) (grant_of d) o4 (grant_well d)
-    (chosen IsWellAct (is (codes "write")) (write_of d) o5 (write_well d)
-    (chosen IsWellAct (is (codes "subscribe")) (subscribe_of d) None (subscribe_well d) tt)))))
+    (chosen IsWellAct (is (codes "grant")) (option_map grant_by (granting_of d)) o4 (grant_well d)
+    (chosen IsWellAct (is (codes "revoke")) (option_map revoke_by (granting_of d)) o5 (revoke_well d)
+    (chosen IsWellAct (is (codes "write")) (write_of d) o6 (write_well d)
+    (chosen IsWellAct (is (codes "subscribe")) (subscribe_of d) None (subscribe_well d) tt))))))
 
 asked_well : (d : Data) → IfSome (asked_act d) IsWellAct
 asked_well d = bound (λ _. Unit {0}) IsWellAct (λ word. act_for word d) (text_at (codes "do") d) (nothing_more (text_at (codes "do") d)) (λ word _. act_well word d)

@@ -1,17 +1,18 @@
 -- Values that are pushed one after another, and that none holds a float.
-use Rattle.std.proofs.Common.{◌≡◌, ℕ, ℤ, pos, negsuc, ◌+◌, ◌<◌, ◌≤◌, false, List, [], ◌∷◌, ◌++◌, map, take, get_or, length, ap, ◌∙◌, sym, refl, add-one, append-nil}
+use Rattle.std.proofs.Common.{◌≡◌, ℕ, ℤ, pos, negsuc, ◌+◌, ◌<◌, ◌≤◌, ◌||◌, Bool, true, false, List, [], ◌∷◌, ◌++◌, map, take, get_or, length, ap, ◌∙◌, sym, refl, add-one, subst, append-nil}
 use Rattle.std.specs.Prelude.{flat_map}
 use Rattle.std.proofs.lemmas.Grind.{flat_map-append}
 use Rattle.std.proofs.lemmas.List.{map-append, take_all}
 use Rattle.std.proofs.Math.Seq.{take-suc}
-use Rattle.serde_json.specs.Data.{Data, array}
+use Rattle.serde_json.specs.Data.{Data, Items, array}
 use Rattle.serde_json.specs.Find.{of_integer, is_float}
 use Rattle.serde_json.specs.View.{view, items_of}
 use Rattle.serde_json.specs.Written.{has_float, items_have_float}
 use Rattle.serde_json.specs.declared.value.Value.{Value}
 use Rattle.iv_rows.specs.Cell.{Cell, num, text, flag}
-use Rattle.iv_machine.specs.Act.{Refusal, no_session, session_in_use, unknown_role, name_taken, unknown_relation, bad_row, not_administrator, not_owner, missing_privilege, limit, too_many, Reply, done, subscribed, refused, Line, reply, change}
-use Rattle.iv_wire.specs.Texts.{cell_data, entry_data, refused_data, line_data}
+use Rattle.iv_machine.specs.Act as machine
+use Rattle.iv_machine.specs.Act.{Refusal, Reply, done, subscribed, refused, Line, reply, change, ended}
+use Rattle.iv_wire.specs.Texts.{cell_data, row_data, entry_data, rows_data, refused_data, line_data}
 
 map-map : {X Y Z : Type 0} (g : Y → Z) (f : X → Y) (xs : List X) → map g (map f xs) ≡ map (λ x. g (f x)) xs
 map-map g f [] = refl
@@ -48,17 +49,24 @@ plain_rows [] = refl
 plain_rows (e ∷ es) = rw (plain_entry e) (plain_rows es)
 
 plain_refused : (n : ℕ) (r : Refusal) → has_float (refused_data n r) ≡ false
-plain_refused n no_session = refl
-plain_refused n session_in_use = refl
-plain_refused n unknown_role = refl
-plain_refused n name_taken = refl
-plain_refused n unknown_relation = refl
-plain_refused n (bad_row entry) = refl
-plain_refused n not_administrator = refl
-plain_refused n (not_owner rel) = refl
-plain_refused n (missing_privilege p rel) = refl
-plain_refused n limit = refl
-plain_refused n too_many = refl
+plain_refused n machine.no_session = refl
+plain_refused n machine.session_in_use = refl
+plain_refused n machine.unknown_role = refl
+plain_refused n machine.name_taken = refl
+plain_refused n machine.unknown_relation = refl
+plain_refused n machine.not_a_table = refl
+plain_refused n (machine.bad_row entry) = refl
+plain_refused n (machine.bad_query place why) = refl
+plain_refused n machine.not_administrator = refl
+plain_refused n (machine.not_owner rel) = refl
+plain_refused n (machine.missing_privilege p rel) = refl
+plain_refused n (machine.no_permissive rel test entry) = refl
+plain_refused n (machine.restrictive_failed policy rel test entry) = refl
+plain_refused n (machine.no_such_row entry) = refl
+plain_refused n machine.limit = refl
+plain_refused n machine.unknown_policy = refl
+plain_refused n machine.unknown_subscription = refl
+plain_refused n machine.too_many = refl
 
 plain_reply : (n : ℕ) (r : Reply) → has_float (line_data (reply n r)) ≡ false
 plain_reply n done = refl
@@ -68,6 +76,7 @@ plain_reply n (refused r) = plain_refused n r
 pub plain_line : (l : Line) → has_float (line_data l) ≡ false
 plain_line (reply n r) = plain_reply n r
 plain_line (change n k es) = rw (plain_rows es) refl
+plain_line (ended n k why es) = rw (plain_rows es) refl
 
 pub flat_map-map : {X Y : Type 0} (g : Y → List ℕ) (f : X → Y) (xs : List X) → flat_map g (map f xs) ≡ flat_map (λ x. g (f x)) xs
 flat_map-map g f [] = refl

@@ -8,3 +8,5 @@ pub mod Reads
 pub mod Request
 pub mod Sums
 pub mod Texts
+pub mod Granted
+pub mod Worked

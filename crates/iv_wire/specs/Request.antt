@@ -1,5 +1,5 @@
 -- The shape rules: which command a JSON value is.
-use Rattle.std.specs.Prelude.{ℕ, ◌^◌, ◌==◌, ◌&&◌, Bool, List, [], ◌∷◌, codes, length, nat_le, nat_lt, bytes_eq, Option, Some, None, option_map, option_and_then, if◌then◌else◌}
+use Rattle.std.specs.Prelude.{ℕ, zero, suc, ◌^◌, ◌==◌, ◌&&◌, Bool, true, false, List, [], ◌∷◌, codes, length, nat_le, nat_lt, bytes_eq, Option, Some, None, option_map, option_and_then, if◌then◌else◌}
 use Rattle.iv_rows.specs.Cell.{Cell, num, text, flag}
 use Rattle.iv_rows.specs.Columns.{Column, has_columns, has_distinct_names}
 use Rattle.iv_rows.specs.Names.{is_name}
@@ -8,8 +8,8 @@ use Rattle.iv_rows.specs.declared.value.Kind.{Kind}
 use Rattle.iv_rows.specs.declared.value.Kind.TheVariants.{Int, Text, Flag}
 use Rattle.iv_machine.specs.Act as machine
 use Rattle.iv_machine.specs.Well.{is_between}
-use Rattle.iv_machine.specs.declared.Privilege.{Privilege}
-use Rattle.iv_machine.specs.declared.Privilege.TheVariants.{Select, Insert, Update, Delete}
+use Rattle.iv_access.specs.declared.privilege.Privilege.{Privilege}
+use Rattle.iv_access.specs.declared.privilege.Privilege.TheVariants.{Select, Insert, Update, Delete}
 use Rattle.serde_json.specs.Data.{Data, null, boolean, number, string, array, object, Items, no_items, item, Members}
 use Rattle.serde_json.specs.Events.{members_len, items_len}
 use Rattle.serde_json.specs.Find.{get, at, as_str, as_number, as_u64, as_i64, as_array, as_object}
@@ -116,7 +116,8 @@ entry_of d =
 abbrev pub entries_at : Data → Option (List machine.Entry)
 entries_at d = option_and_then (passing (λ es. is_between 1 1000 (length es))) (list_at entry_of (codes "entries") d)
 
--- ---- requests: the keys are `do`, `session` and the ones that are looked for; each is there, and there are no more
+-- ---- requests: the keys are `do`, `session` and the ones that are looked for; each is there, and there are no more.
+-- The machine has further requests, which no value asks for yet
 
 abbrev pub begin_of : Data → Option machine.Act
 begin_of d = if size d == 3 then option_map machine.begin (name_at (codes "role") d) else None
@@ -130,11 +131,33 @@ create_table_of d =
     then option_and_then (λ name. option_and_then (λ owner. option_map (machine.create_table name owner) (columns_at d)) (name_at (codes "owner") d)) (name_at (codes "name") d)
     else None
 
-abbrev pub grant_of : Data → Option machine.Act
-grant_of d =
+-- no role where it is `public`; that word is no name
+abbrev pub grantee_named : List ℕ → Option (Option (List ℕ))
+grantee_named s = if bytes_eq s (codes "public") then Some None else option_map Some (passing is_name s)
+
+abbrev pub grantee_at : Data → Option (Option (List ℕ))
+grantee_at d = option_and_then grantee_named (text_at (codes "to") d)
+
+-- what a grant and a revoke name; no role where all are meant
+pub record Granting : Type 0 where
+  pub rel : List ℕ
+  pub privileges : List Privilege
+  pub to : Option (List ℕ)
+
+abbrev pub granting : List ℕ → Option (List ℕ) → List Privilege → Granting
+granting rel to ps = record { rel = rel; privileges = ps; to = to }
+
+abbrev pub granting_of : Data → Option Granting
+granting_of d =
     if size d == 5
-    then option_and_then (λ rel. option_and_then (λ grantee. option_map (λ ps. machine.grant rel ps grantee) (privileges_at d)) (name_at (codes "to") d)) (name_at (codes "on") d)
+    then option_and_then (λ rel. option_and_then (λ to. option_map (granting rel to) (privileges_at d)) (grantee_at d)) (name_at (codes "on") d)
     else None
+
+abbrev pub grant_by : Granting → machine.Act
+grant_by g = machine.grant g.rel g.privileges g.to
+
+abbrev pub revoke_by : Granting → machine.Act
+revoke_by g = machine.revoke g.rel g.privileges g.to
 
 abbrev pub write_of : Data → Option machine.Act
 write_of d = if size d == 3 then option_map machine.write (entries_at d) else None
@@ -147,7 +170,8 @@ act_for word d =
     if bytes_eq word (codes "begin") then begin_of d
     else if bytes_eq word (codes "create_role") then create_role_of d
     else if bytes_eq word (codes "create_table") then create_table_of d
-    else if bytes_eq word (codes "grant") then grant_of d
+    else if bytes_eq word (codes "grant") then option_map grant_by (granting_of d)
+    else if bytes_eq word (codes "revoke") then option_map revoke_by (granting_of d)
     else if bytes_eq word (codes "write") then write_of d
     else if bytes_eq word (codes "subscribe") then subscribe_of d
     else None

@@ -1,9 +1,19 @@
 -- The texts of lines: compact JSON with keys in the order of their bytes, and a newline.
-use Rattle.std.specs.Prelude.{ℕ, ℤ, true, List, [], ◌∷◌, ◌++◌, map, codes}
+use Rattle.std.specs.Prelude.{ℕ, ℤ, Bool, true, List, [], ◌∷◌, ◌++◌, map, codes}
 use Rattle.iv_rows.specs.Cell.{Cell, num, text, flag}
-use Rattle.iv_machine.specs.Act.{Refusal, no_session, session_in_use, unknown_role, name_taken, unknown_relation, bad_row, not_administrator, not_owner, missing_privilege, limit, too_many, Reply, done, subscribed, refused, Line, reply, change}
-use Rattle.iv_machine.specs.declared.Privilege.{Privilege}
-use Rattle.iv_machine.specs.declared.Privilege.TheVariants.{Select, Insert, Update, Delete}
+use Rattle.iv_query.specs.declared.fault.Why.{Why}
+use Rattle.iv_query.specs.declared.fault.Why.TheVariants as reading
+use Rattle.iv_bind.specs.declared.fault.BindWhy.{BindWhy}
+use Rattle.iv_bind.specs.declared.fault.BindWhy.TheVariants as binding
+use Rattle.iv_bind.specs.BoundTexts.{Reason, Reading, Binding}
+use Rattle.iv_access.specs.declared.policy.Check.{Check}
+use Rattle.iv_access.specs.declared.policy.Check.TheVariants as check
+use Rattle.iv_access.specs.declared.privilege.Privilege.{Privilege}
+use Rattle.iv_access.specs.declared.privilege.Privilege.TheVariants.{Select, Insert, Update, Delete}
+use Rattle.iv_machine.specs.Act as machine
+use Rattle.iv_machine.specs.Act.{Refusal, Reply, done, subscribed, refused, Line, reply, change, ended}
+use Rattle.iv_machine.specs.declared.Cause.{Cause}
+use Rattle.iv_machine.specs.declared.Cause.TheVariants as cause
 use Rattle.serde_json.specs.Data.{Data, number, unsigned, string, boolean, array, object, item, no_items, member, no_members}
 use Rattle.serde_json.specs.Find.{of_integer}
 use Rattle.serde_json.specs.View.{items_of}
@@ -21,24 +31,88 @@ privilege_text Insert = codes "insert"
 privilege_text Update = codes "update"
 privilege_text Delete = codes "delete"
 
+abbrev pub check_text : Check → List ℕ
+check_text check.Select = codes "select"
+check_text check.Insert = codes "insert"
+check_text check.UpdateOld = codes "update old"
+check_text check.UpdateNew = codes "update new"
+check_text check.Delete = codes "delete"
+
+abbrev pub cause_text : Cause → List ℕ
+cause_text cause.Privilege = codes "privilege"
+cause_text cause.Limit = codes "limit"
+
+-- why a text is not in the grammar
+abbrev pub reading_text : Why → List ℕ
+reading_text reading.Token = codes "token"
+reading_text reading.Unexpected = codes "unexpected"
+reading_text reading.TooDeep = codes "too deep"
+reading_text reading.TooLong = codes "too long"
+
+-- why a text does not go with the relations that are there
+abbrev pub binding_text : BindWhy → List ℕ
+binding_text binding.UnknownRelation = codes "unknown relation"
+binding_text binding.DuplicateName = codes "duplicate name"
+binding_text binding.UnknownColumn = codes "unknown column"
+binding_text binding.AmbiguousColumn = codes "ambiguous column"
+binding_text binding.KindMismatch = codes "kind mismatch"
+binding_text binding.NotGrouped = codes "not grouped"
+binding_text binding.TooManyColumns = codes "too many columns"
+binding_text binding.ColumnsDiffer = codes "columns differ"
+binding_text binding.TooManyNodes = codes "too many nodes"
+
+abbrev pub reason_text : Reason → List ℕ
+reason_text (Reading why) = reading_text why
+reason_text (Binding why) = binding_text why
+
 -- ---- replies
 
 -- the number of a refusal alone
 abbrev pub plain_data : ℕ → ℕ → Data
 plain_data c n = object (member (codes "error") (natural c) (member (codes "session") (natural n) no_members))
 
+-- with the number of an entry, from 1
+abbrev pub entry_refused : ℕ → ℕ → ℕ → Data
+entry_refused c n entry = object (member (codes "entry") (natural entry) (member (codes "error") (natural c) (member (codes "session") (natural n) no_members)))
+
 abbrev pub refused_data : ℕ → Refusal → Data
-refused_data n no_session = plain_data 3 n
-refused_data n session_in_use = plain_data 4 n
-refused_data n unknown_role = plain_data 5 n
-refused_data n name_taken = plain_data 6 n
-refused_data n unknown_relation = plain_data 7 n
-refused_data n (bad_row entry) = object (member (codes "entry") (natural entry) (member (codes "error") (natural 9) (member (codes "session") (natural n) no_members)))
-refused_data n not_administrator = plain_data 11 n
-refused_data n (not_owner rel) = object (member (codes "error") (natural 12) (member (codes "on") (string rel) (member (codes "session") (natural n) no_members)))
-refused_data n (missing_privilege p rel) = object (member (codes "error") (natural 13) (member (codes "on") (string rel) (member (codes "privilege") (string (privilege_text p)) (member (codes "session") (natural n) no_members))))
-refused_data n limit = plain_data 17 n
-refused_data n too_many = plain_data 20 n
+refused_data n machine.no_session = plain_data 3 n
+refused_data n machine.session_in_use = plain_data 4 n
+refused_data n machine.unknown_role = plain_data 5 n
+refused_data n machine.name_taken = plain_data 6 n
+refused_data n machine.unknown_relation = plain_data 7 n
+refused_data n machine.not_a_table = plain_data 8 n
+refused_data n (machine.bad_row entry) = entry_refused 9 n entry
+refused_data n (machine.bad_query place why) = object (
+    member (codes "error") (natural 10)
+    (member (codes "place") (natural place)
+    (member (codes "session") (natural n)
+    (member (codes "why") (string (reason_text why)) no_members))))
+refused_data n machine.not_administrator = plain_data 11 n
+refused_data n (machine.not_owner rel) = object (member (codes "error") (natural 12) (member (codes "on") (string rel) (member (codes "session") (natural n) no_members)))
+refused_data n (machine.missing_privilege p rel) = object (
+    member (codes "error") (natural 13)
+    (member (codes "on") (string rel)
+    (member (codes "privilege") (string (privilege_text p))
+    (member (codes "session") (natural n) no_members))))
+refused_data n (machine.no_permissive rel test entry) = object (
+    member (codes "check") (string (check_text test))
+    (member (codes "entry") (natural entry)
+    (member (codes "error") (natural 14)
+    (member (codes "on") (string rel)
+    (member (codes "session") (natural n) no_members)))))
+refused_data n (machine.restrictive_failed policy rel test entry) = object (
+    member (codes "check") (string (check_text test))
+    (member (codes "entry") (natural entry)
+    (member (codes "error") (natural 15)
+    (member (codes "on") (string rel)
+    (member (codes "policy") (string policy)
+    (member (codes "session") (natural n) no_members))))))
+refused_data n (machine.no_such_row entry) = entry_refused 16 n entry
+refused_data n machine.limit = plain_data 17 n
+refused_data n machine.unknown_policy = plain_data 18 n
+refused_data n machine.unknown_subscription = plain_data 19 n
+refused_data n machine.too_many = plain_data 20 n
 
 abbrev pub reply_data : ℕ → Reply → Data
 reply_data n done = object (member (codes "ok") (boolean true) (member (codes "session") (natural n) no_members))
@@ -65,9 +139,17 @@ rows_data es = array (items_of (map entry_data es))
 abbrev pub change_data : ℕ → ℕ → List (List Cell × ℤ) → Data
 change_data n k es = object (member (codes "changes") (rows_data es) (member (codes "session") (natural n) (member (codes "sub") (natural k) no_members)))
 
+abbrev pub ended_data : ℕ → ℕ → Cause → List (List Cell × ℤ) → Data
+ended_data n k why es = object (
+    member (codes "changes") (rows_data es)
+    (member (codes "ended") (string (cause_text why))
+    (member (codes "session") (natural n)
+    (member (codes "sub") (natural k) no_members))))
+
 abbrev pub line_data : Line → Data
 line_data (reply n r) = reply_data n r
 line_data (change n k es) = change_data n k es
+line_data (ended n k why es) = ended_data n k why es
 
 -- ---- texts
 

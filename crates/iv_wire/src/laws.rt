@@ -1,21 +1,23 @@
 //! Laws of the definitions, and cases computed from them. Each is the contract of a function that does nothing.
-ghost use Rattle.std.specs.Prelude.{◌≡◌, ◌≢◌, ◌≤◌, ◌<◌, ◌∷◌, ◌++◌, [], ℕ, List, All, length, codes, pos, option_and_then, Some, None, IfSome, true};
-ghost use Rattle.iv_rows.specs.Cell.{num, text};
-ghost use Rattle.iv_rows.specs.declared.value.Kind.TheVariants as kind;
+ghost use Rattle.std.specs.Prelude.{◌≡◌, ◌≢◌, ◌≤◌, ◌<◌, ◌∷◌, ◌++◌, [], ℕ, List, All, length, codes, pos, Some, None, IfSome, true};
 ghost use Rattle.iv_machine.specs.Act as machine;
-ghost use Rattle.iv_machine.specs.FirstChange.{ann, notes};
 ghost use Rattle.iv_wire.specs.Asked.{command_data, is_plain};
 ghost use Rattle.iv_wire.specs.Cut.{cut, endless, last_line, line_room, whole};
 ghost use Rattle.iv_machine.specs.Machine.{run};
-ghost use Rattle.iv_machine.specs.State.{State, admin};
+ghost use Rattle.iv_machine.specs.State.{State};
 ghost use Rattle.iv_machine.specs.Well.{is_well_command};
-ghost use Rattle.iv_machine.specs.declared.Privilege.TheVariants as privilege;
-ghost use Rattle.iv_wire.specs.Answer.{Reading, commands_of, text_of};
-ghost use Rattle.iv_wire.specs.Request.{column, command, inserted, request};
+ghost use Rattle.iv_access.specs.declared.privilege.Privilege.TheVariants as privilege;
+ghost use Rattle.iv_wire.specs.Answer as answer;
+ghost use Rattle.iv_wire.specs.Answer.{commands_of, text_of};
+ghost use Rattle.iv_wire.specs.Request.{inserted, request};
 ghost use Rattle.iv_wire.specs.Sums.{IsTextOf};
 ghost use Rattle.iv_wire.specs.Texts.{fault_text, line_text};
+ghost use Rattle.iv_wire.specs.Worked.{IsAsked, IsNotAsked, ann, notes, notes_columns, first_row, table_line, grant_line, revoke_line, write_line, refused_text, missing_line, permissive_line, restrictive_line};
+ghost use Rattle.iv_query.specs.declared.fault.Why.TheVariants as reading;
+ghost use Rattle.iv_bind.specs.BoundTexts.{Reading};
+ghost use Rattle.iv_access.specs.declared.policy.Check.TheVariants as check;
+ghost use Rattle.iv_machine.specs.declared.Cause.TheVariants as cause;
 ghost use Rattle.serde_json.specs.Data.{Data};
-ghost use Rattle.serde_json.specs.Read.{read};
 
 /// A line of at most 65,536 bytes is cut again where a newline stands behind it, or nothing; a longer one has no end.
 pub fn lines_are_cut()
@@ -30,32 +32,40 @@ pub fn commands_are_asked()
     ensures { (c : machine.Command) → is_well_command c ≡ true → is_plain c.act ≡ true → request (command_data c) ≡ Some c }
 {}
 
-/// The requests of the worked example `first_change` are its commands.
-pub fn first_change_is_read()
-    ensures begin { option_and_then request (read (codes "{\"do\":\"begin\",\"role\":\"admin\",\"session\":1}")) ≡ Some (command 1 (machine.begin admin)) }
-    ensures role { option_and_then request (read (codes "{\"do\":\"create_role\",\"name\":\"ann\",\"session\":1}")) ≡ Some (command 1 (machine.create_role ann)) }
-    ensures table { option_and_then request (read (codes "{\"do\":\"create_table\",\"name\":\"notes\",\"owner\":\"admin\",\"columns\":[[\"id\",\"int\"],[\"who\",\"text\"]],\"session\":1}")) ≡ Some (command 1 (machine.create_table notes admin (column (codes "id") kind.Int ∷ column (codes "who") kind.Text ∷ []))) }
-    ensures grant { option_and_then request (read (codes "{\"do\":\"grant\",\"on\":\"notes\",\"privileges\":[\"select\"],\"to\":\"ann\",\"session\":1}")) ≡ Some (command 1 (machine.grant notes (privilege.Select ∷ []) ann)) }
-    ensures subscribe { option_and_then request (read (codes "{\"do\":\"subscribe\",\"on\":\"notes\",\"session\":2}")) ≡ Some (command 2 (machine.subscribe notes)) }
-    ensures write { option_and_then request (read (codes "{\"do\":\"write\",\"entries\":[{\"on\":\"notes\",\"insert\":[1,\"ann\"]}],\"session\":1}")) ≡ Some (command 1 (machine.write (inserted notes (num (pos 1) ∷ text ann ∷ []) ∷ []))) }
+/// The requests of the worked example `first_change` are its commands, and so are those of a revoke and of PUBLIC.
+pub fn lines_are_read()
+    ensures begin { IsAsked (codes "{\"do\":\"begin\",\"role\":\"admin\",\"session\":1}") 1 (machine.begin (codes "admin")) }
+    ensures role { IsAsked (codes "{\"do\":\"create_role\",\"name\":\"ann\",\"session\":1}") 1 (machine.create_role ann) }
+    ensures table { IsAsked table_line 1 (machine.create_table notes (codes "admin") notes_columns) }
+    ensures grant { IsAsked (grant_line (codes "ann")) 1 (machine.grant notes (privilege.Select ∷ []) (Some ann)) }
+    ensures public { IsAsked (grant_line (codes "public")) 1 (machine.grant notes (privilege.Select ∷ []) None) }
+    ensures revoke { IsAsked revoke_line 1 (machine.revoke notes (privilege.Select ∷ privilege.Insert ∷ []) (Some ann)) }
+    ensures subscribe { IsAsked (codes "{\"do\":\"subscribe\",\"on\":\"notes\",\"session\":2}") 2 (machine.subscribe notes) }
+    ensures write { IsAsked write_line 1 (machine.write (inserted notes first_row ∷ [])) }
 {}
 
-/// Values that are no request: a session of 0, a further key, PUBLIC as a grantee, and a number of copies.
+/// Values that are no request: a session of 0, a further key, a number of copies, a word that is never a name, and a
+/// request that has no code yet.
 pub fn unshapely_values_are_refused()
-    ensures zero { option_and_then request (read (codes "{\"do\":\"begin\",\"role\":\"admin\",\"session\":0}")) ≡ None }
-    ensures further { option_and_then request (read (codes "{\"do\":\"begin\",\"role\":\"admin\",\"session\":1,\"x\":1}")) ≡ None }
-    ensures public { option_and_then request (read (codes "{\"do\":\"grant\",\"on\":\"notes\",\"privileges\":[\"select\"],\"to\":\"public\",\"session\":1}")) ≡ None }
-    ensures copies { option_and_then request (read (codes "{\"do\":\"write\",\"entries\":[{\"on\":\"t\",\"insert\":[1],\"copies\":1}],\"session\":1}")) ≡ None }
+    ensures zero { IsNotAsked (codes "{\"do\":\"begin\",\"role\":\"admin\",\"session\":0}") }
+    ensures further { IsNotAsked (codes "{\"do\":\"begin\",\"role\":\"admin\",\"session\":1,\"x\":1}") }
+    ensures copies { IsNotAsked (codes "{\"do\":\"write\",\"entries\":[{\"on\":\"t\",\"insert\":[1],\"copies\":1}],\"session\":1}") }
+    ensures reserved { IsNotAsked (grant_line (codes "select")) }
+    ensures finish { IsNotAsked (codes "{\"do\":\"finish\",\"session\":1}") }
 {}
 
-/// The lines of the worked example `first_change`, refusals, and what lines are answered that are no request.
+/// The lines of the worked example `first_change`, a last line, refusals, and what lines are answered that are no request.
 pub fn lines_are_written()
     ensures done { line_text (machine.reply 1 machine.done) ≡ codes "{\"ok\":true,\"session\":1}\n" }
     ensures subscribed { line_text (machine.reply 2 (machine.subscribed 1)) ≡ codes "{\"ok\":true,\"session\":2,\"sub\":1}\n" }
-    ensures change { line_text (machine.change 2 1 ((num (pos 1) ∷ text ann ∷ [], pos 1) ∷ [])) ≡ codes "{\"changes\":[[1,[1,\"ann\"]]],\"session\":2,\"sub\":1}\n" }
-    ensures no_session { line_text (machine.reply 9 (machine.refused machine.no_session)) ≡ codes "{\"error\":3,\"session\":9}\n" }
-    ensures bad_row { line_text (machine.reply 1 (machine.refused (machine.bad_row 1))) ≡ codes "{\"entry\":1,\"error\":9,\"session\":1}\n" }
-    ensures privilege { line_text (machine.reply 2 (machine.refused (machine.missing_privilege privilege.Insert notes))) ≡ codes "{\"error\":13,\"on\":\"notes\",\"privilege\":\"insert\",\"session\":2}\n" }
+    ensures change { line_text (machine.change 2 1 ((first_row, pos 1) ∷ [])) ≡ codes "{\"changes\":[[1,[1,\"ann\"]]],\"session\":2,\"sub\":1}\n" }
+    ensures ended { line_text (machine.ended 2 1 cause.Privilege []) ≡ codes "{\"changes\":[],\"ended\":\"privilege\",\"session\":2,\"sub\":1}\n" }
+    ensures no_session { refused_text 9 machine.no_session ≡ codes "{\"error\":3,\"session\":9}\n" }
+    ensures bad_row { refused_text 1 (machine.bad_row 1) ≡ codes "{\"entry\":1,\"error\":9,\"session\":1}\n" }
+    ensures bad_query { refused_text 1 (machine.bad_query 11 (Reading reading.Unexpected)) ≡ codes "{\"error\":10,\"place\":11,\"session\":1,\"why\":\"unexpected\"}\n" }
+    ensures privilege { refused_text 2 (machine.missing_privilege privilege.Insert notes) ≡ missing_line }
+    ensures permissive { refused_text 2 (machine.no_permissive notes check.Insert 1) ≡ permissive_line }
+    ensures restrictive { refused_text 2 (machine.restrictive_failed (codes "b_pos") notes check.UpdateNew 1) ≡ restrictive_line }
     ensures fault { fault_text 22 ≡ codes "{\"error\":22}\n" }
 {}
 
@@ -66,5 +76,5 @@ pub fn requests_are_well()
 
 /// The text of an answer is that of the lines of the machine's run, with faults of lines that are no request between them.
 pub fn answers_are_texts()
-    ensures { (s : State) (rs : List Reading) → IsTextOf (run s (commands_of rs)).lines (text_of s rs) }
+    ensures { (s : State) (rs : List answer.Reading) → IsTextOf (run s (commands_of rs)).lines (text_of s rs) }
 {}

@@ -3,12 +3,14 @@ ghost use Rattle.std.specs.Prelude.{◌≡◌, IfOk, IsErrOf, option_map, string
 ghost use Rattle.serde_json.specs.View.{view, items_view};
 ghost use Rattle.iv_machine.specs.Well.{is_well_command};
 ghost use Rattle.iv_engine.specs.Views.{act_of, command_of};
-ghost use Rattle.iv_wire.specs.Request.{name_at, session_of, each, privilege_named, privilege_of, privileges_at, begin_of, create_role_of, create_table_of, grant_of, write_of, subscribe_of, act_for, asked_act, request};
+ghost use Rattle.iv_wire.specs.Request.{name_at, session_of, each, privilege_named, privilege_of, privileges_at, begin_of, create_role_of, create_table_of, grantee_at, granting_of, grant_by, revoke_by, write_of, subscribe_of, act_for, asked_act, request};
+ghost use Rattle.iv_wire.specs.Granted.{names_of};
 ghost use Rattle.iv_wire.specs.Answer.{bad_json, bad_request, asked, reading_of, value_of};
 
 use crate::columns::columns_at;
 use crate::entries::{entries_at, items_at, name_at, size, text_at};
 use iv_engine::{Act, Command, Privilege};
+use iv_rows::name_ok;
 use serde_json::Value;
 use std::alloc::{AllocError, Global};
 
@@ -163,25 +165,90 @@ fn create_table_of(alloc: Global, value: &Value) -> Result<Option<Act>, AllocErr
     }
 }
 
-fn grant_of(alloc: Global, value: &Value) -> Result<Option<Act>, AllocError>
-    ensures { IfOk result (λ act. option_map act_of act ≡ grant_of (view value.now)) }
+/// To whom a grant goes: a role, or none where it goes to PUBLIC.
+fn grantee_at(alloc: Global, value: &Value) -> Result<Option<Option<String>>, AllocError>
+    ensures { IfOk result (λ found. option_map (λ to. option_map string_bytes to) found ≡ grantee_at (view value.now)) }
+{
+    match text_at(value, "to") {
+        None => Ok(None),
+        Some(word) => {
+            if word == "public" {
+                return Ok(Some(None));
+            }
+            if !name_ok(word) {
+                return Ok(None);
+            }
+            Ok(Some(Some(String::from_str(alloc, word)?)))
+        }
+    }
+}
+
+/// What a grant and a revoke name.
+#[derive(Drop)]
+struct Granting {
+    rel: String,
+    privileges: Vec<Privilege>,
+    grantee: Option<String>,
+}
+
+/// What the request names, where it has these keys alone.
+fn granting_of(alloc: Global, value: &Value) -> Result<Option<Granting>, AllocError>
+    ensures { IfOk result (λ found. option_map names_of found ≡ granting_of (view value.now)) }
 {
     if size(value) != 5 {
         return Ok(None);
     }
     match string_at(alloc, value, "on")? {
         None => Ok(None),
-        Some(rel) => match string_at(alloc, value, "to")? {
+        Some(rel) => match grantee_at(alloc, value)? {
             None => Ok(None),
             Some(grantee) => match privileges_at(alloc, value)? {
                 None => Ok(None),
-                Some(privileges) => Ok(Some(Act::Grant {
+                Some(privileges) => Ok(Some(Granting {
                     rel,
                     privileges,
                     grantee,
                 })),
             },
         },
+    }
+}
+
+fn grant_of(alloc: Global, value: &Value) -> Result<Option<Act>, AllocError>
+    ensures { IfOk result (λ act. option_map act_of act ≡ option_map grant_by (granting_of (view value.now))) }
+{
+    match granting_of(alloc, value)? {
+        None => Ok(None),
+        Some(
+            Granting {
+                rel,
+                privileges,
+                grantee,
+            },
+        ) => Ok(Some(Act::Grant {
+            rel,
+            privileges,
+            grantee,
+        })),
+    }
+}
+
+fn revoke_of(alloc: Global, value: &Value) -> Result<Option<Act>, AllocError>
+    ensures { IfOk result (λ act. option_map act_of act ≡ option_map revoke_by (granting_of (view value.now))) }
+{
+    match granting_of(alloc, value)? {
+        None => Ok(None),
+        Some(
+            Granting {
+                rel,
+                privileges,
+                grantee,
+            },
+        ) => Ok(Some(Act::Revoke {
+            rel,
+            privileges,
+            grantee,
+        })),
     }
 }
 
@@ -220,6 +287,8 @@ fn act_for(alloc: Global, word: &str, value: &Value) -> Result<Option<Act>, Allo
         create_table_of(alloc, value)
     } else if word == "grant" {
         grant_of(alloc, value)
+    } else if word == "revoke" {
+        revoke_of(alloc, value)
     } else if word == "write" {
         write_of(alloc, value)
     } else if word == "subscribe" {

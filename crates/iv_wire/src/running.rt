@@ -1,7 +1,6 @@
 //! Lines, each answered in turn.
 ghost use Rattle.std.specs.Prelude.{◌≡◌, ◌≤◌, ◌+◌, ◌*◌, ◌||◌, ◌↔◌, ℕ, take, flat_map, true, false, IfOk, IfErr, IfSome, OnOk, OnErr, IsErrOf};
 ghost use Rattle.std.specs.Io.KnownBytes.{Appends};
-ghost use Rattle.iv_machine.specs.Reached.{IsReached};
 ghost use Rattle.iv_machine.specs.State.{State};
 ghost use Rattle.iv_machine.specs.Well.{is_well_command};
 ghost use Rattle.iv_engine.specs.Seen.{IsBehind};
@@ -135,7 +134,7 @@ pub fn run<R: Source, W: Sink>(
       written = W.taken writer.new;
       now = engine.new;
     }) result }
-    ensures adds_up { OnOk result ((s : State) → IsBehind s engine.old → IsReached s.frame
+    ensures adds_up { OnOk result ((s : State) → IsBehind s engine.old
         → IfSome (R.left reader.old) (λ _. HasWritten s (record {
           lines = lines;
           given = R.left reader.old;

@@ -5,9 +5,9 @@ ghost use Rattle.serde_json.specs.Written.{has_float};
 ghost use Rattle.iv_rows.specs.View.{cell_of, cells_of};
 ghost use Rattle.iv_engine.specs.Views.{refusal_of, reply_of, line_of};
 ghost use Rattle.iv_wire.specs.Texts as texts;
-ghost use Rattle.iv_wire.specs.Texts.{cell_data, row_data, entry_data, rows_data, privilege_text, line_data, line_text, text_of, fault_text};
+ghost use Rattle.iv_wire.specs.Texts.{cell_data, row_data, entry_data, rows_data, privilege_text, cause_text, line_data, line_text, text_of, fault_text};
 
-use iv_engine::{Line, Privilege, Refusal, Reply};
+use iv_engine::{Cause, Line, Privilege, Refusal, Reply};
 use iv_rows::{Row, Value};
 use serde_json::{Value as Json, json};
 use std::alloc::{AllocError, Global};
@@ -57,6 +57,15 @@ fn privilege_text(privilege: Privilege) -> &'static str
         Privilege::Insert => "insert",
         Privilege::Update => "update",
         Privilege::Delete => "delete",
+    }
+}
+
+fn cause_text(cause: Cause) -> &'static str
+    ensures { result.now ≡ cause_text cause }
+{
+    match cause {
+        Cause::Privilege => "privilege",
+        Cause::Limit => "limit",
     }
 }
 
@@ -114,12 +123,32 @@ fn change_value(
     json!(in alloc; {"changes": changes, "session": session, "sub": sub})
 }
 
+fn ended_value(
+    alloc: Global,
+    session: u32,
+    sub: u64,
+    cause: Cause,
+    rows: &[(Row, i64)],
+) -> Result<Json, AllocError>
+    ensures { IfOk result (λ v. view v ≡ texts.ended_data session sub cause rows.now) }
+{
+    let changes = rows_value(alloc, rows)?;
+    let cause = cause_text(cause);
+    json!(in alloc; {"changes": changes, "ended": cause, "session": session, "sub": sub})
+}
+
 fn line_value(alloc: Global, line: &Line) -> Result<Json, AllocError>
     ensures { IfOk result (λ v. view v ≡ line_data (line_of line.now)) }
 {
     match line {
         Line::Reply { session, reply } => reply_value(alloc, *session, reply),
         Line::Change { session, sub, rows } => change_value(alloc, *session, *sub, rows),
+        Line::Ended {
+            session,
+            sub,
+            cause,
+            rows,
+        } => ended_value(alloc, *session, *sub, *cause, rows),
     }
 }
 

@@ -9,10 +9,10 @@ use Rattle.viewd.specs.declared.fault.Fault.TheVariants.{Read, Write, Memory}
 
 -- the ending of a run from the machine's start, with the same fault
 abbrev pub Replays : Run → Result (Unit {0}) Fault → Type 0
-Replays r (Ok _) = (end : End) × IsAnswered start r (Ok end)
-Replays r (Err Read) = IsAnswered start r (Err run.Read)
-Replays r (Err Write) = IsAnswered start r (Err run.Write)
-Replays r (Err Memory) = IsAnswered start r (Err run.Memory)
+Replays r (Ok _) = (end : End) × IsAnswered (start 65536) r (Ok end)
+Replays r (Err Read) = IsAnswered (start 65536) r (Err run.Read)
+Replays r (Err Write) = IsAnswered (start 65536) r (Err run.Write)
+Replays r (Err Memory) = IsAnswered (start 65536) r (Err run.Memory)
 
 abbrev pub is_read : Result (Unit {0}) Fault → Bool
 is_read (Ok _) = false

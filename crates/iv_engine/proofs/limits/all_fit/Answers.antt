@@ -1,9 +1,8 @@
-use Rattle.std.proofs.Common.{◌≡◌, ◌<◌, ◌+◌, ◌&&◌, ℕ, ◌∙◌, sym, ap, subst, length, arith, true, add-one, below_more}
+use Rattle.std.proofs.Common.{◌≡◌, ◌<◌, ◌&&◌, ◌∙◌, sym, ap, subst, length, arith, true, add-one, below_more}
 use Rattle.iv_zset.specs.Limits.{Counts, within}
 use Rattle.iv_zset.specs.Weights.{weight_of}
-use Rattle.iv_machine.specs.Refusing.{all_within}
-use Rattle.iv_machine.proofs.Within.{one_not_within}
-use Rattle.iv_engine.specs.Answering.{FitsSum}
+use Rattle.iv_engine.specs.Answering.{FitsSum, all_within}
+use Rattle.iv_engine.proofs.Fitting.{one_not_within}
 use Rattle.iv_engine.specs.Stands.{bag_at}
 use Rattle.iv_engine.proofs.Lines.{item_is}
 use Rattle.iv_engine.proofs.limits.all_fit.Goals as goal

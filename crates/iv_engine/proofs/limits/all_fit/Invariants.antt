@@ -1,7 +1,6 @@
 use Rattle.std.proofs.Common.{◌≡◌, ℕ, ◌<◌, true}
-use Rattle.iv_machine.specs.Refusing.{all_within}
-use Rattle.iv_machine.specs.State.{Lists}
-use Rattle.iv_engine.specs.Answering.{FitsSum, Grows, Moved}
+use Rattle.iv_algebra.specs.Plans.{Lists}
+use Rattle.iv_engine.specs.Answering.{FitsSum, Grows, Moved, all_within}
 use Rattle.iv_engine.specs.Stands.{Stands, bag_at}
 use Rattle.iv_engine.proofs.limits.all_fit.Given as goal
 

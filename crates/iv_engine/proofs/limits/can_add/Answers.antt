@@ -1,7 +1,7 @@
 use Rattle.std.proofs.Common.{◌≡◌, ◌+ℤ◌, ℤ, ap, sym, subst, ◌∙◌, arith, rules, w64, true, false, ◌≤◌, length}
 use Rattle.std.proofs.lemmas.Int.{to_z-of_z}
 use mir.Val.{SFits}
-use Rattle.iv_zset.specs.Weights.{weight_of, InRange}
+use Rattle.iv_zset.specs.Weights.{InRange}
 use Rattle.iv_engine.proofs.Fitting.{range_start, range_next, range_all, range_out}
 use Rattle.iv_engine.proofs.limits.can_add.Goals as goal
 

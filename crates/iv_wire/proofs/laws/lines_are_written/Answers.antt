@@ -15,6 +15,10 @@ pub returns-clause-change : goal.returns-clause-change
 unfolding serde_json_on_literals digits
 returns-clause-change c = refl
 
+pub returns-clause-ended : goal.returns-clause-ended
+unfolding serde_json_on_literals digits
+returns-clause-ended c = refl
+
 pub returns-clause-no_session : goal.returns-clause-no_session
 unfolding serde_json_on_literals digits
 returns-clause-no_session c = refl
@@ -23,9 +27,21 @@ pub returns-clause-bad_row : goal.returns-clause-bad_row
 unfolding serde_json_on_literals digits
 returns-clause-bad_row c = refl
 
+pub returns-clause-bad_query : goal.returns-clause-bad_query
+unfolding serde_json_on_literals digits
+returns-clause-bad_query c = refl
+
 pub returns-clause-privilege : goal.returns-clause-privilege
 unfolding serde_json_on_literals digits
 returns-clause-privilege c = refl
+
+pub returns-clause-permissive : goal.returns-clause-permissive
+unfolding serde_json_on_literals digits
+returns-clause-permissive c = refl
+
+pub returns-clause-restrictive : goal.returns-clause-restrictive
+unfolding serde_json_on_literals digits
+returns-clause-restrictive c = refl
 
 pub returns-clause-fault : goal.returns-clause-fault
 unfolding serde_json_on_literals digits

@@ -11,10 +11,14 @@ pub returns-clause-further : goal.returns-clause-further
 unfolding serde_json_on_literals reserved
 returns-clause-further c = refl
 
-pub returns-clause-public : goal.returns-clause-public
-unfolding serde_json_on_literals reserved
-returns-clause-public c = refl
-
 pub returns-clause-copies : goal.returns-clause-copies
 unfolding serde_json_on_literals reserved
 returns-clause-copies c = refl
+
+pub returns-clause-reserved : goal.returns-clause-reserved
+unfolding serde_json_on_literals reserved
+returns-clause-reserved c = refl
+
+pub returns-clause-finish : goal.returns-clause-finish
+unfolding serde_json_on_literals reserved
+returns-clause-finish c = refl

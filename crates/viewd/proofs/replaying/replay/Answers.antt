@@ -4,16 +4,16 @@ use Rattle.viewd.proofs.Endings.{ended, nothing_answered}
 use Rattle.viewd.proofs.replaying.replay.Goals as goal
 
 pub returns-in-Ok-run-clause-answers : goal.returns-in-Ok-run-clause-answers
-returns-in-Ok-run-clause-answers g c = (c.run.new.engine, (_, c.in-Ok-run.ensures.answered start c.in-Ok.ensures.start))
+returns-in-Ok-run-clause-answers g c = (c.run.new.engine, (_, c.in-Ok-run.ensures.answered (start 65536) c.in-Ok.ensures.start))
 
 pub returns-in-Err-Read-clause-answers : goal.returns-in-Err-Read-clause-answers
-returns-in-Err-Read-clause-answers g c = ended _ run.Read _ _ _ _ _ _ c.in-Err-Read.field-0-is (c.in-Err-Read.ensures.answered start c.in-Ok.ensures.start)
+returns-in-Err-Read-clause-answers g c = ended _ run.Read _ _ _ _ _ _ c.in-Err-Read.field-0-is (c.in-Err-Read.ensures.answered (start 65536) c.in-Ok.ensures.start)
 
 pub returns-in-Err-Write-clause-answers : goal.returns-in-Err-Write-clause-answers
-returns-in-Err-Write-clause-answers g c = ended _ run.Write _ _ _ _ _ _ c.in-Err-Write.field-0-is (c.in-Err-Write.ensures.answered start c.in-Ok.ensures.start)
+returns-in-Err-Write-clause-answers g c = ended _ run.Write _ _ _ _ _ _ c.in-Err-Write.field-0-is (c.in-Err-Write.ensures.answered (start 65536) c.in-Ok.ensures.start)
 
 pub returns-in-Err-Memory-clause-answers : goal.returns-in-Err-Memory-clause-answers
-returns-in-Err-Memory-clause-answers g c = ended _ run.Memory _ _ _ _ _ _ c.in-Err-Memory.field-0-is (c.in-Err-Memory.ensures.answered start c.in-Ok.ensures.start)
+returns-in-Err-Memory-clause-answers g c = ended _ run.Memory _ _ _ _ _ _ c.in-Err-Memory.field-0-is (c.in-Err-Memory.ensures.answered (start 65536) c.in-Ok.ensures.start)
 
 pub returns-in_default-clause-answers : goal.returns-in_default-clause-answers
 returns-in_default-clause-answers g c = nothing_answered c.args.lines _ _ _ c.requires

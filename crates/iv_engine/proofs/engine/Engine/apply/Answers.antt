@@ -1,6 +1,8 @@
 use Rattle.std.proofs.Common.{◌≡◌, ◌∙◌, sym, ap, subst}
 use Rattle.iv_machine.specs.Machine.{step}
-use Rattle.iv_machine.specs.State.{Frame, State}
+use Rattle.iv_machine.specs.State.{Frame}
+use Rattle.iv_engine.specs.Answering.{seen}
+use Rattle.iv_engine.specs.Kept.{frame_of}
 use Rattle.iv_engine.specs.Seen.{Seen, IsBehind}
 use Rattle.iv_engine.specs.Stands.{Stands}
 use Rattle.iv_engine.specs.Views.{command_of}
@@ -8,13 +10,13 @@ use Rattle.iv_engine.proofs.engine.Engine.apply.Goals as goal
 
 pub returns-in-Ok-clause-lines : goal.returns-in-Ok-clause-lines
 returns-in-Ok-clause-lines c = λ s b.
-    let frame : s.frame ≡ c.self.inside.store.frame = b.frame ∙ ap (λ (v : Seen). v.frame) (sym c.self.view_is) in
+    let frame : s.frame ≡ frame_of c.self.inside.store = b.frame ∙ ap (λ (v : Seen). v.frame) (sym c.self.view_is) in
     let rows = subst (λ (v : Seen). Stands s.rows v.bags) (sym c.self.view_is) b.rows in
     c.in-Ok.ensures.lines s.rows rows ∙ ap (λ (f : Frame). (step (record { frame = f; rows = s.rows }) (command_of c.args.command)).lines) (sym frame)
 
 pub returns-in-Ok-clause-state : goal.returns-in-Ok-clause-state
 returns-in-Ok-clause-state c = λ s b.
-    let frame : s.frame ≡ c.self.inside.store.frame = b.frame ∙ ap (λ (v : Seen). v.frame) (sym c.self.view_is) in
+    let frame : s.frame ≡ frame_of c.self.inside.store = b.frame ∙ ap (λ (v : Seen). v.frame) (sym c.self.view_is) in
     let rows = subst (λ (v : Seen). Stands s.rows v.bags) (sym c.self.view_is) b.rows in
-    let behind = subst (λ (f : Frame). IsBehind (step (record { frame = f; rows = s.rows }) (command_of c.args.command)).state c.step.new.self) (sym frame) (c.in-Ok.ensures.state s.rows rows) in
+    let behind = subst (λ (f : Frame). IsBehind (step (record { frame = f; rows = s.rows }) (command_of c.args.command)).state (seen c.step.new.self)) (sym frame) (c.in-Ok.ensures.state s.rows rows) in
     record { frame = behind.frame; rows = behind.rows }

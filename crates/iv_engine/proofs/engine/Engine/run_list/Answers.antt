@@ -1,4 +1,4 @@
-use Rattle.std.proofs.Common.{◌≡◌, ◌∙◌, sym, ap, List, map, ◌++◌, ◌∷◌, [], subst, cond, ℕ, length, arith, true, false}
+use Rattle.std.proofs.Common.{◌≡◌, ◌∙◌, sym, ap, List, map, ◌++◌, [], subst, cond, arith}
 use Rattle.std.specs.List.{list_all}
 use Rattle.std.proofs.lemmas.List.{map-append}
 use Rattle.std.specs.Vec.Iter.{into_iter_items}
@@ -6,13 +6,14 @@ use Rattle.iv_machine.proofs.Adding.{adds_up}
 use Rattle.iv_machine.specs.Held.{held}
 use Rattle.iv_machine.specs.Machine.{run, step}
 use Rattle.iv_machine.specs.Reached.{IsReached}
-use Rattle.iv_machine.specs.State.{Frame, State}
+use Rattle.iv_machine.specs.State.{State}
 use Rattle.iv_machine.specs.Well.{is_well_command}
 use Rattle.iv_engine.specs.declared.command.Command.{Command}
-use Rattle.iv_engine.specs.Answering.{IsSound}
-use Rattle.iv_engine.specs.Seen.{Seen, IsBehind}
+use Rattle.std.specs.List.{list_any}
+use Rattle.std.specs.Prelude.{◌==◌}
+use Rattle.iv_engine.specs.Seen.{IsBehind}
 use Rattle.iv_engine.specs.Views.{command_of, line_of}
-use Rattle.iv_engine.proofs.Running.{no_items, nothing_more, run_more, well_others}
+use Rattle.iv_engine.proofs.Running.{no_items, none_closed, nothing_more, run_more, well_others}
 use Rattle.iv_engine.proofs.engine.Engine.run_list.Goals as goal
 
 pub loop-command-preserved : goal.loop-command-preserved
@@ -54,7 +55,5 @@ returns-clause-held c = λ s b k q.
     let x = c.loop-command.invariant.4 s b in
     let none : into_iter_items c.loop-command.command-iterator ≡ [] = no_items (into_iter_items c.loop-command.command-iterator) (let empty = c.in-None.ensures.steps.0 in let ok = c.loop-command.command-iterator.rest.ok in omega (arith, empty, ok)) in
     let lines : map line_of c.loop-command.lines.items ≡ (run s (map command_of c.args.commands.items)).lines = nothing_more (map line_of c.loop-command.lines.items) ∙ sym (ap (λ (cs : List Command). map line_of c.loop-command.lines.items ++ (run x.0 (map command_of cs)).lines) none) ∙ x.2 in
-    let went : c.self.inside.failed ≡ false = ap (λ (v : Seen). v.failed) c.self.view_is ∙ sym c.is_failed.ensures ∙ c.if-is_failed.false in
-    let sound : IsSound c.self.inside.store = c.self.invariant went in
-    let reached : IsReached s.frame = subst IsReached (ap (λ (v : Seen). v.frame) c.self.view_is ∙ sym b.frame) sound.reached in
-    ap (held k q) lines ∙ adds_up s (map command_of c.args.commands.items) reached k q
+    let reached : IsReached s.frame = subst IsReached (sym b.frame) (c.is_failed.ensures.reached c.if-is_failed.false) in
+    ap (held k q) lines ∙ adds_up s (map command_of c.args.commands.items) reached k q (ap (list_any (λ j. k == j)) (none_closed s c.args.commands.items))

@@ -1,4 +1,4 @@
-use Rattle.std.proofs.Common.{◌≡◌, ◌++◌, map, List, true, false}
+use Rattle.std.proofs.Common.{◌≡◌, ◌++◌, map, true, false}
 use Rattle.std.specs.List.{list_all}
 use Rattle.std.specs.Vec.Iter.{into_iter_items}
 use Rattle.iv_machine.specs.Machine.{run}

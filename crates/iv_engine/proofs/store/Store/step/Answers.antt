@@ -1,6 +1,6 @@
 use Rattle.std.proofs.Common.{◌∙◌}
 use Rattle.iv_engine.specs.Views.{act_of}
-use Rattle.iv_engine.proofs.Running.{said_lines, left_state, kept_refused}
+use Rattle.iv_engine.proofs.Running.{said_lines, left_state}
 use Rattle.iv_engine.proofs.store.Store.step.Goals as goal
 
 pub returns-clause-lines : goal.returns-clause-lines

@@ -1,51 +1,47 @@
-use Rattle.std.proofs.Common.{◌≡◌, ◌∙◌, sym, ap, subst, refl, ℕ, ◌+◌, List, length, Some, None, map, false}
+use Rattle.std.proofs.Common.{◌≡◌, ◌∙◌, ◌++◌, sym, ap, subst, refl, ℕ, ◌+◌, List, length, None, map, ◌<◌, []}
 use Rattle.std.specs.Prelude.{string_bytes}
-use Rattle.iv_zset.specs.Weights.{Weighed, IsZSet}
-use Rattle.iv_machine.specs.Act.{subscribe, subscribed}
-use Rattle.iv_machine.specs.Changing.{after, after_frame, insert_subscription}
-use Rattle.iv_machine.specs.State.{Frame, Head, Subscription, number_of}
-use Rattle.iv_engine.specs.Answering.{IsSound}
-use Rattle.iv_engine.specs.Next.{next_by}
-use Rattle.iv_engine.specs.Seen.{Seen}
+use Rattle.iv_zset.specs.Weights.{Weighed}
+use Rattle.iv_zset.specs.Limits.{Counts}
+use Rattle.iv_machine.specs.Act.{subscribed}
+use Rattle.iv_machine.specs.State.{State, Subscription}
+use Rattle.iv_machine.specs.Machine.{line_of as machine_line, difference}
+use Rattle.iv_engine.specs.Answering.{seen}
+use Rattle.iv_engine.specs.Kept.{Kept, IsSound, at}
+use Rattle.iv_engine.specs.Seen.{IsBehind}
+use Rattle.iv_engine.specs.Stands.{bag_at}
 use Rattle.iv_engine.specs.Views.{line_of}
-use Rattle.iv_engine.specs.Stands.{bag_at, Stands}
-use Rattle.iv_engine.proofs.Lines.{inside, item_is}
-use Rattle.iv_engine.proofs.Stepping.{has_place, opens, opens_lines, sound_after, sound_as, subscribed_no_refusal}
+use Rattle.iv_engine.proofs.Lines.{item_is}
+use Rattle.iv_engine.proofs.Opening.{decided, opened, opened_left, opened_sent, opened_sound, subscribed_no_refusal}
 use Rattle.iv_engine.proofs.store.Store.subscribe.Goals as goal
-
-pub unreachable-requires : goal.unreachable-requires
-unreachable-requires c =
-    let heads = c.deref.ensures.value ∙ ap (λ (v : Seen). v.frame.heads) c.self.view_is in
-    let name : c.of-rel.result ≡ string_bytes c.args.rel = c.of-rel.ensures ∙ c.in-Ok.ensures.name in
-    has_place c.args.self.now.frame.heads (string_bytes c.args.rel) c.in-Ok.ensures.known
-    (sym ((sym c.in_default.is) ∙ c.find_number.ensures ∙ (λ i. number_of (heads i) ((c.as_str.ensures ∙ name) i))))
 
 pub returns : goal.returns
 returns c =
     let e = c.args.self.now in
-    let rel = string_bytes c.args.rel in
     let n = c.args.session in
-    let t = c.in-Some.number in
-    let heads = c.deref.ensures.value ∙ ap (λ (v : Seen). v.frame.heads) c.self.view_is in
-    let name : c.of-rel.result ≡ string_bytes c.args.rel = c.of-rel.ensures ∙ c.in-Ok.ensures.name in
-    let found : Some t ≡ number_of e.frame.heads rel = sym c.in-Some.is ∙ c.find_number.ensures ∙ (λ i. number_of (heads i) ((c.as_str.ensures ∙ name) i)) in
-    let bags : c.self.inside.bags.items ≡ e.bags = ap (λ (v : Seen). v.bags) c.self.view_is in
-    let fits = inside e.frame.heads rel t (length c.self.inside.bags.items) (sym found) (ap (λ (b : List Weighed). length b) bags ∙ c.requires.tables) in
-    let first : bag_at e.bags t ≡ c.index.result.now = ap (λ (bs : List Weighed). bag_at bs t) (sym bags) ∙ item_is c.self.inside.bags.items t c.index.result.now fits c.index.ensures in
-    let here : bag_at e.bags t ≡ c.index-2.result.now = ap (λ (bs : List Weighed). bag_at bs t) (sym bags) ∙ item_is c.self.inside.bags.items t c.index-2.result.now fits c.index-2.ensures in
-    let zs = subst IsZSet (sym first ∙ here) c.rows-rows.ensures.zset in
-    let old : Frame = record { cap = 65536; roles = c.self.inside.roles.items; heads = c.self.inside.heads.items; grants = c.self.inside.grants.items; sessions = c.self.inside.sessions.items; subscriptions = c.self.inside.subscriptions.items; last = c.self.inside.last } in
-    let last : c.self.inside.last ≡ e.frame.last = ap (λ (v : Seen). v.frame.last) c.self.view_is in
-    let frame : record old { subscriptions = c.insert.new.subscriptions.items; last = c.self.inside.last + 1 } ≡ after_frame e.frame n (subscribe rel) =
-    ap (λ (es : List Subscription). record old { subscriptions = es; last = c.self.inside.last + 1 }) (c.in_ok-insert.ensures ∙ ap (λ (x : List ℕ). insert_subscription (record { session = n; number = c.self.inside.last + 1; rel = x }) c.self.inside.subscriptions.items) name)
-    ∙ ap (λ (v : Seen). after_frame v.frame n (subscribe rel)) c.self.view_is in
+    let k = c.in-Ok.rel.0 in
+    let name = string_bytes c.args.rel in
+    let x = c.in-Ok.ensures in
+    let last : c.self.inside.last ≡ e.last = ap (λ (v : Kept). v.last) c.self.view_is in
+    let bags : c.self.inside.bags.items ≡ e.bags = ap (λ (v : Kept). v.bags) c.self.view_is in
+    let low = subst (λ m. k < m) (sym c.requires.stored.bags ∙ sym (ap (λ (b : List Weighed). length b) bags)) x.below in
+    let here : bag_at e.bags k ≡ c.index.result.now = ap (λ (bs : List Weighed). bag_at bs k) (sym bags) ∙ item_is c.self.inside.bags.items k c.index.result.now low c.index.ensures in
+    let s : ℕ → Subscription = λ m. record { session = n; number = m + 1; rel = k } in
+    let after : Kept = record { known = c.self.inside.access; columns = c.self.inside.schemas.items; sessions = c.self.inside.sessions.items; subscriptions = c.insert.new.subscriptions.items; last = c.self.inside.last + 1; bags = c.self.inside.bags.items } in
+    let new : opened e (s e.last) (e.last + 1) ≡ after =
+    sym ((λ i. record { known = c.self.inside.access; columns = c.self.inside.schemas.items; sessions = c.self.inside.sessions.items; subscriptions = c.in_ok-insert.ensures i; last = c.self.inside.last + 1; bags = c.self.inside.bags.items }) ∙ ap (λ (v : Kept). opened v (s v.last) (v.last + 1)) c.self.view_is) in
+    let o = opened_sound e n k name c.requires x.number x.below x.open x.reads in
     record {
-      answer = λ T s. (
-        opens e n rel t c.index-2.result.now c.requires found here zs T s c.in-Ok.ensures.passed,
-        ap (λ (k : ℕ). subscribed (k + 1)) last,
-        opens_lines e n rel t c.index-2.result.now c.requires found here zs T s c.self.inside.last (map line_of c.in_ok-changes.changes.items) last c.in_ok-changes.ensures,
+      answer = λ T stands. (
+        decided e n k name c.requires x.number x.below x.open x.reads T stands x.passed,
+        ap (λ (m : ℕ). subscribed (m + 1)) last,
+        c.in_ok-push_change.ensures
+            ∙ (λ i. map line_of (c.new-changes.ensures.items i) ++ machine_line None (s c.self.inside.last) c.in_ok-rows.rows.items)
+            ∙ ap (machine_line None (s c.self.inside.last)) (c.in_ok-rows.ensures (T k) (subst (λ b. Counts b (T k)) here (stands k)))
+            ∙ ap (λ m. machine_line None (s m) (difference [] (T k))) last
+            ∙ sym (opened_sent e n k name c.requires x.number x.below x.open x.reads T stands),
       );
-      left = λ T s. record { frame = sym frame; rows = subst (Stands T) (sym bags) s };
+      left = λ T stands. subst (λ (t : State). IsBehind t (seen after)) (sym (opened_left e n k name c.requires x.number x.below x.open x.reads T stands))
+          (subst (λ (v : Kept). IsBehind (at (opened e (s e.last) (e.last + 1)) T) (seen v)) new (record { frame = refl; rows = stands }));
       kept = λ r h. subscribed_no_refusal (c.self.inside.last + 1) r h;
-      sound = sound_as (next_by e n (subscribe rel) None) _ (sym frame) (sym bags) (sound_after e n (subscribe rel) c.requires);
+      sound = subst IsSound new o;
     }

@@ -1,0 +1,156 @@
+-- What subscriptions show, and which of them end.
+use Rattle.std.proofs.Common.{◌≡◌, ℕ, zero, suc, ◌<◌, ◌≤◌, Bool, true, false, cond, not, ◌&&◌, ◌||◌, List, [], ◌∷◌, ◌++◌, length, map, pos, Option, None, Some, refl, ap, ◌∙◌, arith}
+use Rattle.std.proofs.lemmas.Bool.Decides.{nat_tests}
+use Rattle.std.proofs.lemmas.Int.{ints}
+use Rattle.std.specs.Prelude.{◌==◌, ◌-ℤ◌, is_some, slice_get, filter, nat_le}
+use Rattle.std.specs.Ordering.{int_eq}
+use Rattle.std.specs.List.{AllByRecursion, list_any}
+use Rattle.iv_rows.specs.Cell.{Cell}
+use Rattle.iv_zset.specs.Limits.{copies, within}
+use Rattle.iv_zset.proofs.Limits.{within_is}
+use Rattle.iv_algebra.specs.Rows.{Cells}
+use Rattle.iv_algebra.specs.Plans.{Lists}
+use Rattle.iv_algebra.specs.Evaluation.{eval, plan_within}
+use Rattle.iv_bind.specs.Faults.{if_some}
+use Rattle.iv_access.specs.declared.privilege.Privilege.{Privilege}
+use Rattle.iv_access.specs.declared.privilege.Privilege.TheVariants.{Select}
+use Rattle.iv_access.specs.declared.policy.Check.{Check}
+use Rattle.iv_access.specs.declared.policy.Check.TheVariants as check
+use Rattle.iv_access.specs.declared.policy.Verdict.TheVariants.{Pass}
+use Rattle.iv_access.specs.Rights.{Guard, Rights}
+use Rattle.iv_access.specs.Privileges.{first_missing, is_admin, is_owner}
+use Rattle.iv_access.specs.Policies.{allowed, by_policies, is_exempt, may_see, is_pass, policies_of, verdict}
+use Rattle.iv_machine.specs.State.{Subscription, actor, subscription_of, view_for, view_of, is_within_for, missing_for, shown}
+use Rattle.iv_machine.specs.Machine.{difference, is_change, weighted, rising_rows, first_cause, ending}
+use Rattle.iv_machine.specs.Reached.{AreUnique}
+use Rattle.iv_machine.specs.declared.Cause.{Cause}
+use Rattle.iv_machine.specs.declared.Cause.TheVariants as cause
+use Rattle.iv_engine.specs.Kept.{Kept, IsStored, frame_of, at, cap, may_read}
+use Rattle.iv_engine.specs.Stands.{Stands, bag_at}
+use Rattle.iv_engine.proofs.Tables.{plan_is, needs_are}
+
+-- ---- row security is off
+
+abbrev pub AreOff : List Guard → Type 0
+AreOff gs = AllByRecursion (λ g. g.enabled ≡ false) gs
+
+off_at : (r : Rights) (role : ℕ) (gs : List Guard) (t : ℕ) → AreOff gs → t < length gs → is_exempt r role (slice_get gs t) ≡ true
+off_at r role [] t a l = absurd (omega arith)
+off_at r role (g ∷ gs) zero a l = ap (λ b. not b || (is_admin role || (is_owner r role (Some g) && not g.forced))) a.0
+off_at r role (g ∷ gs) (suc t) a l = off_at r role gs t a.1 (omega arith)
+
+pub passes : (r : Rights) (role t : ℕ) (c : Check) (row : Cells) → AreOff r.guards → t < length r.guards → verdict r role t c row ≡ Pass
+passes r role t c row a l = ap (λ b. cond b Pass (by_policies r role c row (policies_of (slice_get r.guards t)))) (off_at r role r.guards t a l)
+
+keep_all : {X : Type 0} (p : X → Bool) (xs : List X) → ((x : X) → p x ≡ true) → filter p xs ≡ xs
+keep_all p [] h = refl
+keep_all p (x ∷ xs) h = (λ i. cond (h x i) (x ∷ filter p xs) (filter p xs)) ∙ ap (λ ys. x ∷ ys) (keep_all p xs h)
+
+all_seen : (r : Rights) (role t : ℕ) (rows : List Cells) → AreOff r.guards → t < length r.guards → filter (may_see r role t) rows ≡ rows
+all_seen r role t rows a l = keep_all (may_see r role t) rows (λ row. ap is_pass (passes r role t check.Select row a l))
+
+nat_at_most : (m n : ℕ) → m ≤ n → nat_le m n ≡ true
+nat_at_most m n h = grind (arith, nat_tests)
+
+guarded : (a b c : ℕ) → a ≡ b → c < b → c < a
+guarded a b c h l = omega arith
+
+-- ---- a view is its table
+
+module _ (e : Kept) (T : Lists) (sound : IsStored e) where
+  pub view_is : (role rel : ℕ) → rel < length e.columns → view_for (at e T) role rel ≡ T rel
+  view_is role rel l = ap (λ p. eval p (allowed e.known.rights role T)) (plan_is 0 e.known.relations e.columns rel)
+      ∙ all_seen e.known.rights role rel (T rel) sound.off (guarded (length e.known.rights.guards) (length e.columns) rel sound.guards l)
+
+  pub within_for : (role rel : ℕ) → rel < length e.columns → is_within_for (at e T) role rel ≡ within cap (T rel)
+  within_for role rel l = ap (λ p. plan_within cap p (allowed e.known.rights role T)) (plan_is 0 e.known.relations e.columns rel)
+      ∙ ap (within cap) (all_seen e.known.rights role rel (T rel) sound.off (guarded (length e.known.rights.guards) (length e.columns) rel sound.guards l))
+
+  pub shown_is : (s : Subscription) → subscription_of e.subscriptions s.number ≡ Some s → s.rel < length e.columns → shown (at e T) s.number ≡ T s.rel
+  shown_is s found l = ap (λ o. if_some o [] (view_of (at e T))) found ∙ view_is (actor (frame_of e) s.session) s.rel l
+
+  module _ (stands : Stands T e.bags) where
+    pub table_fits : (t : ℕ) → within cap (T t) ≡ true
+    table_fits t = within_is cap (bag_at e.bags t) (T t) (sound.zsets t) (stands t) ∙ nat_at_most (length (bag_at e.bags t)) cap (sound.small t)
+
+    pub view_fits : (role rel : ℕ) → rel < length e.columns → is_within_for (at e T) role rel ≡ true
+    view_fits role rel l = within_for role rel l ∙ table_fits rel
+
+-- ---- which subscriptions end
+
+pub missing_is : (e : Kept) (role rel : ℕ) → IsStored e → rel < length e.columns → missing_for (frame_of e) role rel ≡ first_missing e.known.rights role ((Select, rel) ∷ [])
+missing_is e role rel sound l = ap (λ ns. first_missing e.known.rights role (map (λ r. (Select, r)) ns)) (needs_are 0 e.known.relations e.columns rel sound.relations (omega arith) (omega arith))
+
+-- the cause of an end, where the reader may select or not
+abbrev pub cause_for : Bool → Option Cause
+cause_for true = None
+cause_for false = Some cause.Privilege
+
+ends_by : (b w : Bool) (p : Privilege × ℕ) → w ≡ true → first_cause (is_some (cond b None (Some p))) w ≡ cause_for b
+ends_by true w p h = ap (first_cause false) h
+ends_by false w p h = refl
+
+pub ending_is : (e : Kept) (T : Lists) → IsStored e → Stands T e.bags → (s : Subscription) → s.rel < length e.columns → ending (at e T) s ≡ cause_for (may_read e s)
+ending_is e T sound stands s l = let role = actor (frame_of e) s.session in
+    ap (λ o. first_cause (is_some o) (is_within_for (at e T) role s.rel)) (missing_is e role s.rel sound l)
+    ∙ ends_by (may_read e s) (is_within_for (at e T) role s.rel) (Select, s.rel) (view_fits e T sound stands role s.rel l)
+
+-- ---- nothing changes
+
+no_weight : (n : ℕ) → int_eq (pos n -ℤ pos n) (pos 0) ≡ true
+no_weight n = let e : pos n -ℤ pos n ≡ pos 0 = omega (arith, ints) in ap (λ z. int_eq z (pos 0)) e
+
+none_differ : (rows ks : List (List Cell)) → filter is_change (map (weighted rows rows) ks) ≡ []
+none_differ rows [] = refl
+none_differ rows (r ∷ ks) = ap (λ b. cond (not b) (weighted rows rows r ∷ filter is_change (map (weighted rows rows) ks)) (filter is_change (map (weighted rows rows) ks))) (no_weight (copies r rows)) ∙ none_differ rows ks
+
+pub difference_none : (rows : List (List Cell)) → difference rows rows ≡ []
+difference_none rows = none_differ rows (rising_rows (rows ++ rows))
+
+-- ---- subscriptions by their numbers
+
+same_nat : (m n : ℕ) → (m == n) ≡ true → m ≡ n
+same_nat m n h = grind (arith, nat_tests)
+
+own : (n : ℕ) → (n == n) ≡ true
+own n = grind (arith, nat_tests)
+
+other_way : (m n : ℕ) → (m == n) ≡ false → (n == m) ≡ false
+other_way m n h = grind (arith, nat_tests)
+
+neither : (b c : Bool) → (b || c) ≡ false → (b ≡ false) × (c ≡ false)
+neither true c h = cc
+neither false c h = (refl, h)
+
+-- found in a list is found behind another
+behind : (e : Subscription) (all es : List Subscription) (want : Subscription → Option Subscription) → list_any (λ f. e.number == f.number) es ≡ false → AllByRecursion (λ f. subscription_of all f.number ≡ want f) es → AllByRecursion (λ f. subscription_of (e ∷ all) f.number ≡ want f) es
+behind e all [] want n a = tt
+behind e all (f ∷ es) want n a = let x = neither (e.number == f.number) (list_any (λ f. e.number == f.number) es) n in (
+  ap (λ b. cond b (Some e) (subscription_of all f.number)) (other_way e.number f.number x.0) ∙ a.0,
+  behind e all es want x.1 a.1,
+)
+
+pub each_found : (es : List Subscription) → AreUnique es → AllByRecursion (λ f. subscription_of es f.number ≡ Some f) es
+each_found [] u = tt
+each_found (e ∷ es) u = (ap (λ b. cond b (Some e) (subscription_of es e.number)) (own e.number), behind e es es (λ f. Some f) u.0 (each_found es u.1))
+
+none_found : (k : ℕ) (p : Subscription → Bool) (es : List Subscription) → list_any (λ f. k == f.number) es ≡ false → subscription_of (filter p es) k ≡ None
+none_found k p [] n = refl
+none_found k p (f ∷ es) n = let x = neither (k == f.number) (list_any (λ f. k == f.number) es) n in by (p f) x.0 (none_found k p es x.1)
+  where
+    by : (b : Bool) → (k == f.number) ≡ false → subscription_of (filter p es) k ≡ None → subscription_of (cond b (f ∷ filter p es) (filter p es)) k ≡ None
+    by true d h = ap (λ c. cond c (Some f) (subscription_of (filter p es) k)) d ∙ h
+    by false d h = h
+
+-- what is kept is found, and the others are not
+abbrev pub kept_one : (Subscription → Bool) → Subscription → Option Subscription
+kept_one p f = cond (p f) (Some f) None
+
+pub kept_found : (p : Subscription → Bool) (es : List Subscription) → AreUnique es → AllByRecursion (λ f. subscription_of (filter p es) f.number ≡ kept_one p f) es
+kept_found p [] u = tt
+kept_found p (e ∷ es) u = by (p e) (none_found e.number p es u.0) (kept_found p es u.1)
+  where
+    by : (b : Bool) → subscription_of (filter p es) e.number ≡ None → AllByRecursion (λ f. subscription_of (filter p es) f.number ≡ kept_one p f) es
+        → (subscription_of (cond b (e ∷ filter p es) (filter p es)) e.number ≡ cond b (Some e) None) × AllByRecursion (λ f. subscription_of (cond b (e ∷ filter p es) (filter p es)) f.number ≡ kept_one p f) es
+    by true n a = (ap (λ c. cond c (Some e) (subscription_of (filter p es) e.number)) (own e.number), behind e (filter p es) es (kept_one p) u.0 a)
+    by false n a = (n, a)

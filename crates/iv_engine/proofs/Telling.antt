@@ -1,0 +1,162 @@
+-- Which refusal a refused change of rights is, and what an accepted one leaves.
+use Rattle.std.proofs.Common.{◌≡◌, ℕ, zero, suc, ◌+◌, ◌<◌, Bool, true, false, cond, not, List, [], ◌∷◌, length, Option, None, Some, refl, sym, ap, subst, ◌∙◌, arith, ⊎_elim}
+use Rattle.std.specs.Prelude.{Result, Ok, Err, IfSome, is_some, nat_le, option_map, unwrap_or, slice_get, position}
+use Rattle.std.specs.List.{AllByRecursion, position_from}
+use Rattle.std.proofs.lemmas.Iterator.Adapters.{position_from-zero}
+use Rattle.std.proofs.lemmas.List.Quantifiers.{position-Some}
+use Rattle.std.proofs.lemmas.List.Sums.{sum_by-cons}
+use Rattle.std.specs.Bool.{beq}
+use Rattle.iv_rows.specs.Columns.{Column, kinds_of}
+use Rattle.iv_rows.specs.declared.schema.RelId.{RelId}
+use Rattle.iv_bind.specs.Faults.{if_some}
+use Rattle.iv_bind.specs.Catalogs.{named, table_in}
+use Rattle.iv_access.specs.Faults.{first, add_relation_fault, count_like}
+use Rattle.iv_access.specs.Known.{Relation, relation_of}
+use Rattle.iv_access.specs.Privileges.{is_admin, role_of}
+use Rattle.iv_access.specs.Rights.{Name}
+use Rattle.iv_access.specs.declared.fault.AccessFault.{AccessFault}
+use Rattle.iv_access.specs.declared.fault.AccessFault.TheVariants as fault
+use Rattle.iv_machine.specs.Act as machine
+use Rattle.iv_machine.specs.Act.{Act, create_role, create_table, grant, revoke, Refusal}
+use Rattle.iv_machine.specs.Refusing.{test, or_else, role_refusal, frame_refusal}
+use Rattle.iv_machine.specs.State.{Session, session_of, name_of, table_columns, rel_of, next_rel, is_open, actor}
+use Rattle.iv_engine.specs.Kept.{Kept, IsStored, frame_of}
+use Rattle.iv_engine.specs.Next.{next, next_by}
+use Rattle.iv_engine.specs.Telling.{told, IsTold, IsAdded}
+use Rattle.iv_engine.proofs.Tables.{IsTable, all_tables, is_of, none_named, table_is}
+
+-- ---- the acting role
+
+opened : (o : Option Session) (a d : ℕ) → Some a ≡ option_map (λ s. s.role) o → (is_some o ≡ true) × (unwrap_or (option_map (λ s. s.role) o) d ≡ a)
+opened None a d h = cc
+opened (Some s) a d h = let e : s.role ≡ a = cc in (refl, e)
+
+-- where the session is open, the tests are those of its role
+pub acts : (e : Kept) (n a : ℕ) (act : Act) → Some a ≡ option_map (λ s. s.role) (session_of e.sessions n)
+    → or_else (test (not (is_open (frame_of e) n)) machine.no_session) (role_refusal (frame_of e) n (actor (frame_of e) n) act) ≡ role_refusal (frame_of e) n a act
+acts e n a act h = let o = opened (session_of e.sessions n) a (length e.known.rights.roles) h in
+    (λ i. or_else (test (not (o.0 i)) machine.no_session) (role_refusal (frame_of e) n (o.1 i) act))
+
+closed : (o : Option Session) → None ≡ option_map (λ s. s.role) o → is_some o ≡ false
+closed None h = refl
+closed (Some s) h = cc
+
+pub no_actor : (e : Kept) (n : ℕ) (act : Act) → None ≡ option_map (λ s. s.role) (session_of e.sessions n)
+    → or_else (test (not (is_open (frame_of e) n)) machine.no_session) (role_refusal (frame_of e) n (actor (frame_of e) n) act) ≡ Some machine.no_session
+no_actor e n act h = ap (λ b. or_else (test (not b) machine.no_session) (role_refusal (frame_of e) n (actor (frame_of e) n) act)) (closed (session_of e.sessions n) h)
+
+-- ---- faults in their order
+
+-- the fault is told as the refusal, and there is none where there is none
+pub record Tells (f : Option AccessFault) (name : Name) (r : Option Refusal) : Type 0 where
+  pub none : f ≡ None → r ≡ None
+  pub some : (x : AccessFault) → f ≡ Some x → (y : Refusal) × ((r ≡ Some y) × (Some y ≡ told x name))
+
+four : (a d b c : Bool) (name : Name) → Tells (first ((a, fault.NotAdmin) ∷ (d, fault.Role) ∷ (b, fault.Taken) ∷ (c, fault.TooMany) ∷ [])) name
+    (or_else (test a machine.not_administrator) (or_else (test d machine.unknown_role) (or_else (test b machine.name_taken) (or_else (test c machine.too_many) None))))
+four true d b c name = record { none = λ h. cc; some = λ x h. let e : fault.NotAdmin ≡ x = cc in (machine.not_administrator, (refl, ap (λ y. told y name) e)) }
+four false true b c name = record { none = λ h. cc; some = λ x h. let e : fault.Role ≡ x = cc in (machine.unknown_role, (refl, ap (λ y. told y name) e)) }
+four false false true c name = record { none = λ h. cc; some = λ x h. let e : fault.Taken ≡ x = cc in (machine.name_taken, (refl, ap (λ y. told y name) e)) }
+four false false false true name = record { none = λ h. cc; some = λ x h. let e : fault.TooMany ≡ x = cc in (machine.too_many, (refl, ap (λ y. told y name) e)) }
+four false false false false name = record { none = λ h. refl; some = λ x h. cc }
+
+-- ---- a change of rights as a request
+
+-- what is told of a change and what is kept then are the machine's
+pub record Agrees (e new : Kept) (n : ℕ) (act : Act) (r : Option Refusal) : Type 0 where
+  pub refused : r ≡ frame_refusal (frame_of e) n act
+  pub state : new ≡ next e n act
+
+-- ---- a new table
+
+module _ (e : Kept) (h : IsStored e) where
+  all_like : (rs : List Relation) → AllByRecursion (λ r. is_some r.kinds ≡ true) rs → count_like true rs ≡ length rs
+  all_like [] a = refl
+  all_like (r ∷ rs) a = sum_by-cons (λ (x : Relation). cond (beq true (is_some x.kinds)) 1 0) r rs ∙ (λ i. cond (beq true (a.0 i)) 1 0 + all_like rs a.1 i) ∙ one_plus (length rs)
+    where
+      one_plus : (n : ℕ) → 1 + n ≡ suc n
+      one_plus n = omega arith
+
+  place : (name : Name) → relation_of e.known.relations name ≡ position_from (is_of name) 0 e.known.relations
+  place name = position_from-zero (is_of name) e.known.relations
+
+  pub unknown : (name : Name) → relation_of e.known.relations name ≡ None → named (frame_of e).catalog name ≡ None
+  unknown name n = none_named 0 e.known.relations e.columns name (sym (place name) ∙ n)
+
+  pub known : (name : Name) (k : ℕ) (c : List Column) → relation_of e.known.relations name ≡ Some k → slice_get e.columns k ≡ Some c → IsTable (frame_of e).catalog c name k
+  known name k c n g = table_is 0 e.known.relations e.columns name k k c (sym (place name) ∙ n) (omega arith) g
+
+  some_at : (cs : List (List Column)) (k : ℕ) → k < length cs → (c : List Column) × (slice_get cs k ≡ Some c)
+  some_at [] k l = absurd (omega arith)
+  some_at (c ∷ cs) zero l = (c, refl)
+  some_at (c ∷ cs) (suc k) l = some_at cs k (omega arith)
+
+  pub below : (name : Name) (k : ℕ) → relation_of e.known.relations name ≡ Some k → k < length e.columns
+  below name k n = subst (λ m. k < m) h.relations (in_list e.known.relations n)
+    where
+      in_list : (rs : List Relation) → position (is_of name) rs ≡ Some k → k < length rs
+      in_list [] m = cc
+      in_list (r ∷ rs) m = (position-Some (is_of name) (r ∷ rs) k r m).0
+
+  pub columns_of : (k : ℕ) → k < length e.columns → (c : List Column) × (slice_get e.columns k ≡ Some c)
+  columns_of k l = some_at e.columns k l
+
+  pub named_known : (name : Name) → is_some (relation_of e.known.relations name) ≡ is_some (named (frame_of e).catalog name)
+  named_known name = by (relation_of e.known.relations name) refl
+    where
+      by : (o : Option ℕ) → relation_of e.known.relations name ≡ o → is_some o ≡ is_some (named (frame_of e).catalog name)
+      by None n = sym (ap (λ p. is_some p) (unknown name n))
+      by (Some k) n = let c = columns_of k (below name k n) in sym (ap (λ p. is_some p) (known name k c.0 n c.1).named)
+
+  pub number_is : (name : Name) (k : ℕ) → relation_of e.known.relations name ≡ Some k → rel_of (frame_of e).catalog name ≡ k
+  number_is name k n = let c = columns_of k (below name k n) in ap (λ o. if_some o (next_rel (frame_of e).catalog) (λ x. x.rel)) (known name k c.0 n c.1).named
+
+  pub table_told : (n a : ℕ) (name owner : Name) (columns : List Column) → Some a ≡ option_map (λ s. s.role) (session_of e.sessions n)
+      → Tells (add_relation_fault e.known a name owner true) name (frame_refusal (frame_of e) n (create_table name owner columns))
+  table_told n a name owner columns h' =
+      subst (Tells (add_relation_fault e.known a name owner true) name) (sym (acts e n a (create_table name owner columns) h'))
+      (subst (λ m. Tells (add_relation_fault e.known a name owner true) name (or_else (test (not (is_admin a)) machine.not_administrator) (or_else (test (not (is_some (role_of e.known.rights owner))) machine.unknown_role) (or_else (test (is_some (named (frame_of e).catalog name)) machine.name_taken) (or_else (test (nat_le 64 m) machine.too_many) None)))))
+      (all_like e.known.relations h.tables ∙ h.relations ∙ sym (all_tables 0 e.known.relations e.columns h.relations))
+      (subst (λ b. Tells (add_relation_fault e.known a name owner true) name (or_else (test (not (is_admin a)) machine.not_administrator) (or_else (test (not (is_some (role_of e.known.rights owner))) machine.unknown_role) (or_else (test b machine.name_taken) (or_else (test (nat_le 64 (count_like true e.known.relations)) machine.too_many) None)))))
+      (named_known name)
+      (four (not (is_admin a)) (not (is_some (role_of e.known.rights owner))) (is_some (relation_of e.known.relations name)) (nat_le 64 (count_like true e.known.relations)) name)))
+
+added_by : (e new : Kept) (n a : ℕ) (name owner : Name) (columns : List Column) (f : Option Refusal) (x : Result Unit AccessFault) (r : Option Refusal)
+    → Tells (add_relation_fault e.known a name owner true) name f → f ≡ frame_refusal (frame_of e) n (create_table name owner columns)
+    → IsTold x name r → IsAdded e a name owner (kinds_of columns) columns x new → Agrees e new n (create_table name owner columns) r
+added_by e new n a name owner columns f (Ok u) r tells is t d = let none = tells.none d.0 in record {
+  refused = t ∙ sym none ∙ is;
+  state = d.1 ∙ ap (next_by e n (create_table name owner columns)) (sym none ∙ is);
+}
+added_by e new n a name owner columns f (Err y) r tells is t d = ⊎_elim (λ m. absurd (t.0 m)) (λ s. let z = tells.some y s in record {
+  refused = t.1 ∙ sym z.1.1 ∙ sym z.1.0 ∙ is;
+  state = d.1 ∙ ap (next_by e n (create_table name owner columns)) (sym z.1.0 ∙ is);
+}) d.0
+
+pub added : (e new : Kept) (n a : ℕ) (name owner : Name) (columns : List Column) (x : Result Unit AccessFault) (r : Option Refusal)
+    → IsStored e → Some a ≡ option_map (λ s. s.role) (session_of e.sessions n)
+    → IsTold x name r → IsAdded e a name owner (kinds_of columns) columns x new → Agrees e new n (create_table name owner columns) r
+added e new n a name owner columns x r h o t d = added_by e new n a name owner columns (frame_refusal (frame_of e) n (create_table name owner columns)) x r (table_told e h n a name owner columns o) refl t d
+
+-- ---- a table by its name
+
+module _ (e : Kept) (h : IsStored e) (name : Name) where
+  pub table_known : (o : Option RelId) → option_map (λ r. r.0) o ≡ relation_of e.known.relations name → is_some o ≡ is_some (named (frame_of e).catalog name)
+  table_known None g = ap (λ p. is_some p) g ∙ named_known e h name
+  table_known (Some r) g = ap (λ p. is_some p) g ∙ named_known e h name
+
+  pub table_number : (o : Option RelId) → option_map (λ r. r.0) o ≡ relation_of e.known.relations name → IfSome o (λ r. rel_of (frame_of e).catalog name ≡ r.0)
+  table_number None g = tt
+  table_number (Some r) g = number_is e h name r.0 (sym g)
+
+  pub table_name : (o : Option RelId) → option_map (λ r. r.0) o ≡ relation_of e.known.relations name → IfSome o (λ r. name_of (frame_of e).catalog r.0 ≡ name)
+  table_name None g = tt
+  table_name (Some r) g = let c = columns_of e h r.0 (below e h name r.0 (sym g)) in ap (λ o. if_some o [] (λ x. x.name)) (known e h name r.0 c.0 (sym g) c.1).numbered
+
+  pub table_columns_are : (o : Option RelId) → option_map (λ r. r.0) o ≡ relation_of e.known.relations name → IfSome o (λ r. table_columns (frame_of e).catalog name ≡ slice_get e.columns r.0)
+  table_columns_are None g = tt
+  table_columns_are (Some r) g = let c = columns_of e h r.0 (below e h name r.0 (sym g)) in ap (λ o. if_some o None (λ x. table_in x.held)) (known e h name r.0 c.0 (sym g) c.1).named ∙ sym c.1
+
+  pub table_below : (o : Option RelId) → option_map (λ r. r.0) o ≡ relation_of e.known.relations name → IfSome o (λ r. r.0 < length e.columns)
+  table_below None g = tt
+  table_below (Some r) g = below e h name r.0 (sym g)

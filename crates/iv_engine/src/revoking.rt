@@ -1,0 +1,122 @@
+//! The request `revoke`.
+ghost use Rattle.std.specs.Prelude.{◌≡◌, ◌<◌, IfOk, OnOk, List, filter, flat_map, length, map, option_map, string_bytes, true, Some};
+ghost use Rattle.std.specs.List.{AllByRecursion};
+ghost use Rattle.iv_algebra.specs.Plans.{Lists};
+ghost use Rattle.iv_machine.specs.Act as machine;
+ghost use Rattle.iv_machine.specs.Refusing.{frame_refusal};
+ghost use Rattle.iv_machine.specs.State.{is_open};
+ghost use Rattle.iv_engine.specs.Answering.{IsStep, ended_line, last_line};
+ghost use Rattle.iv_engine.specs.Kept.{IsOpen, IsSound, IsStored, frame_of, may_read};
+ghost use Rattle.iv_engine.specs.Next.{next};
+ghost use Rattle.iv_engine.specs.Stands.{Stands};
+ghost use Rattle.iv_engine.specs.Views.{line_of, refusal_of};
+
+use crate::answer::Answer;
+use crate::command::{Line, Refusal, Reply};
+use crate::frame_requests::outcome;
+use crate::sending::taken;
+use crate::store::Store;
+use crate::stored::Subscription;
+use iv_access::Privilege;
+use iv_machine::Cause;
+use std::alloc::AllocError;
+use std::mem;
+
+/// Subscriptions that stay open, and the lines of those that end.
+#[derive(Drop)]
+struct Split {
+    kept: Vec<Subscription>,
+    lines: Vec<Line>,
+}
+
+impl Store {
+    /// Whether the reader of a subscription may select from its table.
+    fn reads(&self, subscription: &Subscription) -> bool
+        requires { is_open (frame_of self.now) subscription.now.session ≡ true }
+        ensures { result ≡ may_read self.now subscription.now }
+    {
+        match self.actor(subscription.session) {
+            Some(role) => self.access.has(role, Privilege::Select, subscription.rel),
+            None => unreachable!(),
+        }
+    }
+
+    /// The subscriptions that may be read, and for each other one the line that ends it and takes back all that it shows.
+    fn split(&self, subscriptions: Vec<Subscription>) -> Result<Split, AllocError>
+        requires open { AllByRecursion (IsOpen self.now) subscriptions.items }
+        requires bags { length self.now.bags ≡ length self.now.columns }
+        ensures kept { IfOk result (λ s. s.kept.items ≡ filter (may_read self.now) subscriptions.items) }
+        ensures lines { IfOk result (λ s. (T : Lists) → Stands T self.now.bags → map line_of s.lines.items ≡ flat_map (ended_line self.now T) subscriptions.items) }
+    {
+        let mut kept = Vec::new(self.alloc);
+        let mut lines = Vec::new(self.alloc);
+        for subscription in subscriptions {
+            if self.reads(&subscription) {
+                kept.push(subscription)?;
+            } else {
+                let line = self.ended(&subscription)?;
+                lines.push(line)?;
+            }
+        }
+        Ok(Split { kept, lines })
+    }
+
+    /// The line that ends a subscription.
+    fn ended(&self, subscription: &Subscription) -> Result<Line, AllocError>
+        requires { subscription.now.rel < length self.now.bags }
+        ensures { IfOk result (λ line. (T : Lists) → Stands T self.now.bags → line_of line ≡ last_line T subscription.now) }
+    {
+        let rows = taken(&self.bags[subscription.rel.0 as usize])?;
+        Ok(Line::Ended {
+            session: subscription.session,
+            sub: subscription.number,
+            cause: Cause::Privilege,
+            rows,
+        })
+    }
+
+    /// Takes privileges on a table back, or says which test fails first.
+    fn take_back(
+        &mut self,
+        session: u32,
+        rel: String,
+        privileges: &[Privilege],
+        grantee: Option<&str>,
+    ) -> Result<Option<Refusal>, AllocError>
+        requires { IsStored self.old }
+        ensures refused { IfOk result (λ r. option_map refusal_of r ≡ frame_refusal (frame_of self.old) session (machine.revoke (string_bytes rel) privileges.now (option_map (λ n. n.now) grantee.entry))) }
+        ensures state { OnOk result (self.new ≡ next self.old session (machine.revoke (string_bytes rel) privileges.now (option_map (λ n. n.now) grantee.entry))) }
+    {
+        let Some(acting) = self.actor(session) else {
+            return Ok(Some(Refusal::NoSession));
+        };
+        let Some(number) = self.table(rel.as_str()) else {
+            return Ok(Some(Refusal::UnknownRelation));
+        };
+        let change = self.access.revoke(acting, number, privileges, grantee);
+        outcome(change, rel)
+    }
+
+    /// Takes privileges on a table from a role or from PUBLIC, and ends the subscriptions that may not be read any more.
+    pub fn revoke(
+        &mut self,
+        session: u32,
+        rel: String,
+        privileges: &[Privilege],
+        grantee: Option<&str>,
+    ) -> Result<Answer, AllocError>
+        requires { IsSound self.old }
+        ensures { IfOk result (λ answer. IsStep self.old session (machine.revoke (string_bytes rel) privileges.now (option_map (λ n. n.now) grantee.entry)) answer self.new) }
+    {
+        if let Some(refusal) = self.take_back(session, rel, privileges, grantee)? {
+            return Ok(Answer::Refused(refusal));
+        }
+        let subscriptions = mem::replace(&mut self.subscriptions, Vec::new(self.alloc));
+        let Split { kept, lines } = self.split(subscriptions)?;
+        self.subscriptions = kept;
+        Ok(Answer::Accepted {
+            reply: Reply::Ok,
+            changes: lines,
+        })
+    }
+}

@@ -1,5 +1,0 @@
-use Rattle.iv_whole_machine.proofs.Sending.{run_has}
-use Rattle.iv_whole_machine.proofs.laws.changes_rise.Goals as goal
-
-pub returns : goal.returns
-returns c = run_has

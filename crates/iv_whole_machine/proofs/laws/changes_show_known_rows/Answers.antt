@@ -1,5 +1,0 @@
-use Rattle.iv_whole_machine.proofs.Seeing.{step_shows}
-use Rattle.iv_whole_machine.proofs.laws.changes_show_known_rows.Goals as goal
-
-pub returns : goal.returns
-returns c = step_shows

@@ -1,5 +1,0 @@
-use Rattle.iv_whole_machine.proofs.Order.{step_in_order}
-use Rattle.iv_whole_machine.proofs.laws.lines_stand_in_order.Goals as goal
-
-pub returns : goal.returns
-returns c = λ s d h. step_in_order s d h.reached h.ordered

@@ -1,5 +1,0 @@
-use Rattle.iv_whole_machine.proofs.Counting.{copies-written}
-use Rattle.iv_whole_machine.proofs.laws.writes_add_copies.Goals as goal
-
-pub returns : goal.returns
-returns c = λ catalog es T h t q. copies-written catalog 1 es T t q h
