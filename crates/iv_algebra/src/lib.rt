@@ -2,6 +2,7 @@
 #![tactic(auto)]
 
 mod accumulate;
+mod each;
 mod evaluation;
 mod except;
 mod fits;
@@ -15,7 +16,7 @@ mod rows;
 mod tables;
 
 pub use evaluation::eval;
-pub use group::group as group_rows;
+pub use group::{group as group_rows, share_of, small_of, value_in};
 pub use iv_zset::LimitFault as AlgFault;
 pub use laws::{copies_are_counted, operators_count_rows, results_depend_on_counts};
 pub use plan::{Agg, Plan};

@@ -230,7 +230,8 @@ distinctly false a = a
 distinctly true a = Distinct a
 
 abbrev pub selected : Bool → From → List ℕ → Out → Answer
-selected distinct from keys out = record { plan = distinctly distinct (Project out.columns (grouped keys out.aggs from.plan)); schema = out.schema; needs = from.reached }
+selected distinct from keys out =
+    record { plan = distinctly distinct (Project out.columns (grouped keys out.aggs from.plan)); schema = out.schema; needs = from.reached }
 
 -- the select at p: group by, items, number of columns
 unfoldable pub output_of : ℕ → Bool → ListTree → From → List ColumnTree → Result Answer Fault
@@ -240,7 +241,8 @@ output_of p distinct l from group = keys_at from.scope group >>= λ keys.
     (λ q. Err (FaultAt q why.NotGrouped))
 
 unfoldable pub select_at : List Entry → SelectTree → Result Answer Fault
-select_at catalog (SelectOf p distinct l s joins filter group) = from_at catalog s joins >>= λ all. filter_at all filter >>= λ from. output_of p distinct l from group
+select_at catalog (SelectOf p distinct l s joins filter group) =
+    from_at catalog s joins >>= λ all. filter_at all filter >>= λ from. output_of p distinct l from group
 
 abbrev pub combined_plan : SetOp → Shape → Shape → Shape
 combined_plan set.UnionAll a b = Union a b

@@ -26,7 +26,11 @@ abbrev pub catalog : List Entry
 catalog = table (codes "a") 1 (column (codes "k") Int ∷ column (codes "x") Int ∷ [])
     ∷ table (codes "b") 2 (column (codes "k") Int ∷ column (codes "y") Int ∷ [])
     ∷ table (codes "notes") 3 (column (codes "id") Int ∷ column (codes "who") Text ∷ [])
-    ∷ record { name = codes "inner_view"; rel = 4; held = View (record { plan = Project (0 ∷ []) (Scan 1); schema = column (codes "k") Int ∷ []; needs = 1 ∷ [] }) }
+    ∷ record {
+      name = codes "inner_view";
+      rel = 4;
+      held = View (record { plan = Project (0 ∷ []) (Scan 1); schema = column (codes "k") Int ∷ []; needs = 1 ∷ [] });
+    }
     ∷ []
 
 abbrev pub bare : List ℕ → ℕ → ColumnTree
@@ -58,7 +62,8 @@ sums_text = One (SelectOf 0 false
 
 abbrev pub GroupedSums : Type 0
 GroupedSums = bound catalog sums_text ≡ Ok (record {
-  plan = Project (0 ∷ 1 ∷ 2 ∷ []) (Group (1 ∷ []) (Sum 0 ∷ Count ∷ []) (Filter (shape.Compare (shape.Column 0) comparison.Less (shape.Literal (num (pos 100)))) (Scan 3)));
+  plan = Project (0 ∷ 1 ∷ 2 ∷ []) (Group (1 ∷ []) (Sum 0 ∷ Count ∷ [])
+      (Filter (shape.Compare (shape.Column 0) comparison.Less (shape.Literal (num (pos 100)))) (Scan 3)));
   schema = column (codes "who") Text ∷ column (codes "s") Int ∷ column (codes "n") Int ∷ [];
   needs = 3 ∷ [];
 })
@@ -94,12 +99,20 @@ OneSide = bound catalog (joined_by x_of_a (dotted (codes "a") (codes "k") 28) (d
 
 -- select * from a join b on a.k = b.k
 abbrev pub DuplicateName : Type 0
-DuplicateName = bound catalog (One (SelectOf 0 false (StarAt 7) (source (codes "a") 14) (JoinOf (source (codes "b") 21) (PairOf (dotted (codes "a") (codes "k") 26) (dotted (codes "b") (codes "k") 32) ∷ []) ∷ []) None [])) ≡ Err (FaultAt 7 why.DuplicateName)
+DuplicateName =
+    bound catalog (One (SelectOf 0 false (StarAt 7) (source (codes "a") 14)
+    (JoinOf (source (codes "b") 21) (PairOf (dotted (codes "a") (codes "k") 26) (dotted (codes "b") (codes "k") 32) ∷ []) ∷ []) None []))
+    ≡ Err (FaultAt 7 why.DuplicateName)
 
 -- select nope from notes
 abbrev pub NoSuchColumn : Type 0
-NoSuchColumn = bound catalog (One (SelectOf 0 false (ItemsOf (ItemOf (bare (codes "nope") 7) None ∷ [])) (source (codes "notes") 17) [] None [])) ≡ Err (FaultAt 7 why.UnknownColumn)
+NoSuchColumn =
+    bound catalog (One (SelectOf 0 false (ItemsOf (ItemOf (bare (codes "nope") 7) None ∷ [])) (source (codes "notes") 17) [] None []))
+    ≡ Err (FaultAt 7 why.UnknownColumn)
 
 -- select who, count(*) as n from notes
 abbrev pub NoGroup : Type 0
-NoGroup = bound catalog (One (SelectOf 0 false (ItemsOf (ItemOf (bare (codes "who") 7) None ∷ CountOf 12 (Called (codes "n") 24) ∷ [])) (source (codes "notes") 31) [] None [])) ≡ Err (FaultAt 12 why.NotGrouped)
+NoGroup =
+    bound catalog (One (SelectOf 0 false (ItemsOf (ItemOf (bare (codes "who") 7) None ∷ CountOf 12 (Called (codes "n") 24) ∷ []))
+    (source (codes "notes") 31) [] None []))
+    ≡ Err (FaultAt 12 why.NotGrouped)

@@ -7,8 +7,8 @@ ghost use Rattle.iv_algebra.specs.Fits.{kinds_eq};
 ghost use Rattle.iv_bind.specs.Faults.{Gives};
 ghost use Rattle.iv_algebra.specs.Shapes.{shape_of};
 ghost use Rattle.iv_bind.specs.Held.{entries};
-ghost use Rattle.iv_bind.specs.Parts.{from_of, out_of, part_of};
-ghost use Rattle.iv_bind.specs.Binding.{grouped, distinctly, selected, output_of, select_at, combined_plan, combined, query_at};
+ghost use Rattle.iv_bind.specs.Parts.{from_of, out_of, part_of, output_by};
+ghost use Rattle.iv_bind.specs.Binding.{grouped, distinctly, selected, select_at, combined_plan, combined, query_at};
 
 use crate::catalog::Catalog;
 use crate::fault::{BindFault, BindWhy};
@@ -75,7 +75,7 @@ fn selected(
 // Group by, items and the number of columns of a select.
 #[tactic(auto, unfolding(crate::specs::Binding::output_of))]
 fn output_of(alloc: Global, select: &Select, from: From) -> Result<Part, BindFault>
-    ensures { Gives part_of result (output_of select.now.place select.now.distinct (list_tree select.now.columns) (from_of from) (map column_tree select.now.group.items)) }
+    ensures { Gives part_of result (output_by select.now from) }
 {
     let keys = keys(alloc, &from.scope, &select.group)?;
     if let Some(place) = ungrouped(&keys, &select.columns) {

@@ -56,11 +56,15 @@ pub data Reads (d : Dialect) : Part → ℕ → List Tok → PredTree → List T
   -- pred = conj { "or" conj }
   pred_is : {room : ℕ} {ts us vs : List Tok} {a t : PredTree} → Reads d conj room ts a us → Reads d (ors a) room us t vs → Reads d pred room ts t vs
   ors_end : {room : ℕ} {ts : List Tok} {a : PredTree} → after Or ts ≡ None → Reads d (ors a) room ts a ts
-  ors_more : {room p : ℕ} {ts us vs : List Tok} {a b t : PredTree} → Reads d conj room ts b us → Reads d (ors (Either a b)) room us t vs → Reads d (ors a) room (Fixed Or p ∷ ts) t vs
+  ors_more : {room p : ℕ} {ts us vs : List Tok} {a b t : PredTree}
+      → Reads d conj room ts b us → Reads d (ors (Either a b)) room us t vs
+      → Reads d (ors a) room (Fixed Or p ∷ ts) t vs
   -- conj = term { "and" term }
   conj_is : {room : ℕ} {ts us vs : List Tok} {a t : PredTree} → Reads d term room ts a us → Reads d (ands a) room us t vs → Reads d conj room ts t vs
   ands_end : {room : ℕ} {ts : List Tok} {a : PredTree} → after And ts ≡ None → Reads d (ands a) room ts a ts
-  ands_more : {room p : ℕ} {ts us vs : List Tok} {a b t : PredTree} → Reads d term room ts b us → Reads d (ands (Both a b)) room us t vs → Reads d (ands a) room (Fixed And p ∷ ts) t vs
+  ands_more : {room p : ℕ} {ts us vs : List Tok} {a b t : PredTree}
+      → Reads d term room ts b us → Reads d (ands (Both a b)) room us t vs
+      → Reads d (ands a) room (Fixed And p ∷ ts) t vs
   -- term = "not" term
   not_is : {room p : ℕ} {ts us : List Tok} {a : PredTree} → Reads d term room ts a us → Reads d term (suc room) (Fixed Not p ∷ ts) (Negation a) us
   -- term = "(" pred ")"
@@ -69,7 +73,9 @@ pub data Reads (d : Dialect) : Part → ℕ → List Tok → PredTree → List T
   holds_is : {room p : ℕ} {ts : List Tok} → after_op ts ≡ None → Reads d term room (Fixed True p ∷ ts) (Constant true) ts
   fails_is : {room p : ℕ} {ts : List Tok} → after_op ts ≡ None → Reads d term room (Fixed False p ∷ ts) (Constant false) ts
   -- term = operand op operand
-  comparison_is : {room q : ℕ} {s : Symbol} {o : Op} {x y : OperandTree} {ts us vs : List Tok} → IsOperand d ts x (Fixed s q ∷ us) → op_of s ≡ Some o → IsOperand d us y vs → Reads d term room ts (Comparison x o y) vs
+  comparison_is : {room q : ℕ} {s : Symbol} {o : Op} {x y : OperandTree} {ts us vs : List Tok}
+      → IsOperand d ts x (Fixed s q ∷ us) → op_of s ≡ Some o → IsOperand d us y vs
+      → Reads d term room ts (Comparison x o y) vs
 
 -- a truth value may stand alone
 abbrev pub stands_alone : OperandTree → Bool
@@ -80,22 +86,33 @@ stands_alone x = false
 pub data Faults (stop : Fault) (d : Dialect) : Part → ℕ → List Tok → Fault → Type 0 where
   -- pred = conj { "or" conj }
   pred_first : {room : ℕ} {ts : List Tok} {f : Fault} → Faults stop d conj room ts f → Faults stop d pred room ts f
-  pred_later : {room : ℕ} {ts us : List Tok} {a : PredTree} {f : Fault} → Reads d conj room ts a us → Faults stop d (ors a) room us f → Faults stop d pred room ts f
+  pred_later : {room : ℕ} {ts us : List Tok} {a : PredTree} {f : Fault}
+      → Reads d conj room ts a us → Faults stop d (ors a) room us f → Faults stop d pred room ts f
   ors_first : {room p : ℕ} {ts : List Tok} {a : PredTree} {f : Fault} → Faults stop d conj room ts f → Faults stop d (ors a) room (Fixed Or p ∷ ts) f
-  ors_later : {room p : ℕ} {ts us : List Tok} {a b : PredTree} {f : Fault} → Reads d conj room ts b us → Faults stop d (ors (Either a b)) room us f → Faults stop d (ors a) room (Fixed Or p ∷ ts) f
+  ors_later : {room p : ℕ} {ts us : List Tok} {a b : PredTree} {f : Fault}
+      → Reads d conj room ts b us → Faults stop d (ors (Either a b)) room us f
+      → Faults stop d (ors a) room (Fixed Or p ∷ ts) f
   -- conj = term { "and" term }
   conj_first : {room : ℕ} {ts : List Tok} {f : Fault} → Faults stop d term room ts f → Faults stop d conj room ts f
-  conj_later : {room : ℕ} {ts us : List Tok} {a : PredTree} {f : Fault} → Reads d term room ts a us → Faults stop d (ands a) room us f → Faults stop d conj room ts f
+  conj_later : {room : ℕ} {ts us : List Tok} {a : PredTree} {f : Fault}
+      → Reads d term room ts a us → Faults stop d (ands a) room us f → Faults stop d conj room ts f
   ands_first : {room p : ℕ} {ts : List Tok} {a : PredTree} {f : Fault} → Faults stop d term room ts f → Faults stop d (ands a) room (Fixed And p ∷ ts) f
-  ands_later : {room p : ℕ} {ts us : List Tok} {a b : PredTree} {f : Fault} → Reads d term room ts b us → Faults stop d (ands (Both a b)) room us f → Faults stop d (ands a) room (Fixed And p ∷ ts) f
+  ands_later : {room p : ℕ} {ts us : List Tok} {a b : PredTree} {f : Fault}
+      → Reads d term room ts b us → Faults stop d (ands (Both a b)) room us f
+      → Faults stop d (ands a) room (Fixed And p ∷ ts) f
   -- term = "not" term
   not_deep : {p : ℕ} {ts : List Tok} → Faults stop d term 0 (Fixed Not p ∷ ts) (deep p)
   not_in : {room p : ℕ} {ts : List Tok} {f : Fault} → Faults stop d term room ts f → Faults stop d term (suc room) (Fixed Not p ∷ ts) f
   -- term = "(" pred ")"
   group_deep : {p : ℕ} {ts : List Tok} → Faults stop d term 0 (Fixed Open p ∷ ts) (deep p)
   group_in : {room p : ℕ} {ts : List Tok} {f : Fault} → Faults stop d pred room ts f → Faults stop d term (suc room) (Fixed Open p ∷ ts) f
-  group_left : {room p : ℕ} {ts us : List Tok} {a : PredTree} → Reads d pred room ts a us → after Close us ≡ None → Faults stop d term (suc room) (Fixed Open p ∷ ts) (unexpected stop us)
+  group_left : {room p : ℕ} {ts us : List Tok} {a : PredTree}
+      → Reads d pred room ts a us → after Close us ≡ None
+      → Faults stop d term (suc room) (Fixed Open p ∷ ts) (unexpected stop us)
   -- term = operand op operand
   no_left : {room : ℕ} {ts : List Tok} {f : Fault} → after Not ts ≡ None → after Open ts ≡ None → OperandFault stop d ts f → Faults stop d term room ts f
-  no_op : {room : ℕ} {x : OperandTree} {ts us : List Tok} → IsOperand d ts x us → stands_alone x ≡ false → after_op us ≡ None → Faults stop d term room ts (unexpected stop us)
-  no_right : {room q : ℕ} {s : Symbol} {o : Op} {x : OperandTree} {ts us : List Tok} {f : Fault} → IsOperand d ts x (Fixed s q ∷ us) → op_of s ≡ Some o → OperandFault stop d us f → Faults stop d term room ts f
+  no_op : {room : ℕ} {x : OperandTree} {ts us : List Tok}
+      → IsOperand d ts x us → stands_alone x ≡ false → after_op us ≡ None
+      → Faults stop d term room ts (unexpected stop us)
+  no_right : {room q : ℕ} {s : Symbol} {o : Op} {x : OperandTree} {ts us : List Tok} {f : Fault}
+      → IsOperand d ts x (Fixed s q ∷ us) → op_of s ≡ Some o → OperandFault stop d us f → Faults stop d term room ts f

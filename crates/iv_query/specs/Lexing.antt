@@ -167,5 +167,6 @@ ahead (b ∷ bs) =
 pub data Lexes (total : ℕ) : List ℕ → List Tok → Fault → Bool → Type 0 where
   at_end : Lexes total [] [] (record { place = total; why = why.Unexpected }) true
   gap : {bs rest : List ℕ} {ts : List Tok} {stop : Fault} {ends : Bool} → ahead bs ≡ Gap rest → Lexes total rest ts stop ends → Lexes total bs ts stop ends
-  token : {bs rest : List ℕ} {k : ℕ → Tok} {ts : List Tok} {stop : Fault} {ends : Bool} → ahead bs ≡ Token k rest → Lexes total rest ts stop ends → Lexes total bs (k (total - length bs) ∷ ts) stop ends
+  token : {bs rest : List ℕ} {k : ℕ → Tok} {ts : List Tok} {stop : Fault} {ends : Bool}
+      → ahead bs ≡ Token k rest → Lexes total rest ts stop ends → Lexes total bs (k (total - length bs) ∷ ts) stop ends
   broken : {b : ℕ} {bs : List ℕ} → ahead (b ∷ bs) ≡ Nothing → Lexes total (b ∷ bs) [] (record { place = total - length (b ∷ bs); why = why.Token }) false

@@ -34,7 +34,8 @@ pub data MayAliasFault (stop : Fault) : List Tok → Fault → Type 0 where
 
 -- source = name [ alias ], where left sources may still be named
 pub data IsSource : ℕ → List Tok → SourceTree → List Tok → Type 0 where
-  source_is : {left : ℕ} {ts us vs : List Tok} {n : NameTree} {a : Option NameTree} → IsName ts n us → MayAlias us a vs → IsSource (suc left) ts (SourceOf n a) vs
+  source_is : {left : ℕ} {ts us vs : List Tok} {n : NameTree} {a : Option NameTree}
+      → IsName ts n us → MayAlias us a vs → IsSource (suc left) ts (SourceOf n a) vs
 
 -- too long at a place
 abbrev pub long : ℕ → Fault
@@ -56,21 +57,30 @@ pub data PairFault (stop : Fault) : List Tok → Fault → Type 0 where
 
 -- pair { "and" pair }
 pub data IsPairs : List Tok → List PairTree → List Tok → Type 0 where
-  pairs_is : {ts us vs : List Tok} {a : PairTree} {bs : List PairTree} → IsPair ts a us → Many (after And) (λ _. IsPair) push (a ∷ []) us bs vs → IsPairs ts bs vs
+  pairs_is : {ts us vs : List Tok} {a : PairTree} {bs : List PairTree}
+      → IsPair ts a us → Many (after And) (λ _. IsPair) push (a ∷ []) us bs vs → IsPairs ts bs vs
 
 pub data PairsFault (stop : Fault) : List Tok → Fault → Type 0 where
   first_pair : {ts : List Tok} {f : Fault} → PairFault stop ts f → PairsFault stop ts f
-  later_pair : {ts us : List Tok} {a : PairTree} {f : Fault} → IsPair ts a us → ManyFault (after And) (λ _. IsPair) (λ _. PairFault stop) push (a ∷ []) us f → PairsFault stop ts f
+  later_pair : {ts us : List Tok} {a : PairTree} {f : Fault}
+      → IsPair ts a us → ManyFault (after And) (λ _. IsPair) (λ _. PairFault stop) push (a ∷ []) us f
+      → PairsFault stop ts f
 
 -- "join" source "on" pair { "and" pair }
 pub data IsPlainJoin : ℕ → List Tok → JoinTree → List Tok → Type 0 where
-  plain_join_is : {left p q : ℕ} {ts us vs ws xs : List Tok} {s : SourceTree} {bs : List PairTree} → First Join p ts us → IsSource left us s vs → First On q vs ws → IsPairs ws bs xs → IsPlainJoin left ts (JoinOf s bs) xs
+  plain_join_is : {left p q : ℕ} {ts us vs ws xs : List Tok} {s : SourceTree} {bs : List PairTree}
+      → First Join p ts us → IsSource left us s vs → First On q vs ws → IsPairs ws bs xs
+      → IsPlainJoin left ts (JoinOf s bs) xs
 
 pub data PlainJoinFault (stop : Fault) : ℕ → List Tok → Fault → Type 0 where
   no_join : {left : ℕ} {ts : List Tok} → after Join ts ≡ None → PlainJoinFault stop left ts (unexpected stop ts)
   no_join_source : {left p : ℕ} {ts us : List Tok} {f : Fault} → First Join p ts us → SourceFault stop left us f → PlainJoinFault stop left ts f
-  no_on : {left p : ℕ} {ts us vs : List Tok} {s : SourceTree} → First Join p ts us → IsSource left us s vs → after On vs ≡ None → PlainJoinFault stop left ts (unexpected stop vs)
-  no_pairs : {left p q : ℕ} {ts us vs ws : List Tok} {s : SourceTree} {f : Fault} → First Join p ts us → IsSource left us s vs → First On q vs ws → PairsFault stop ws f → PlainJoinFault stop left ts f
+  no_on : {left p : ℕ} {ts us vs : List Tok} {s : SourceTree}
+      → First Join p ts us → IsSource left us s vs → after On vs ≡ None
+      → PlainJoinFault stop left ts (unexpected stop vs)
+  no_pairs : {left p q : ℕ} {ts us vs ws : List Tok} {s : SourceTree} {f : Fault}
+      → First Join p ts us → IsSource left us s vs → First On q vs ws → PairsFault stop ws f
+      → PlainJoinFault stop left ts f
 
 -- join = [ "inner" ] "join" source "on" pair { "and" pair }
 pub data IsJoin : ℕ → List Tok → JoinTree → List Tok → Type 0 where
@@ -97,37 +107,56 @@ JoinsFault stop left = ManyFault at_join (λ js. IsJoin (left - length js)) (λ 
 
 -- item = column [ alias ] | "sum" "(" column ")" alias | "count" "(" "*" ")" alias
 pub data IsItem : List Tok → ItemTree → List Tok → Type 0 where
-  column_item : {ts us vs : List Tok} {c : ColumnTree} {a : Option NameTree} → after Sum ts ≡ None → after Count ts ≡ None → IsColumn ts c us → MayAlias us a vs → IsItem ts (ItemOf c a) vs
-  sum_item : {p q r : ℕ} {ts us vs ws xs ys : List Tok} {c : ColumnTree} {n : NameTree} → First Sum p ts us → First Open q us vs → IsColumn vs c ws → First Close r ws xs → IsAlias xs n ys → IsItem ts (SumOf p c n) ys
-  count_item : {p q r s : ℕ} {ts us vs ws xs ys : List Tok} {n : NameTree} → First Count p ts us → First Open q us vs → First Star r vs ws → First Close s ws xs → IsAlias xs n ys → IsItem ts (CountOf p n) ys
+  column_item : {ts us vs : List Tok} {c : ColumnTree} {a : Option NameTree}
+      → after Sum ts ≡ None → after Count ts ≡ None → IsColumn ts c us → MayAlias us a vs → IsItem ts (ItemOf c a) vs
+  sum_item : {p q r : ℕ} {ts us vs ws xs ys : List Tok} {c : ColumnTree} {n : NameTree}
+      → First Sum p ts us → First Open q us vs → IsColumn vs c ws → First Close r ws xs → IsAlias xs n ys
+      → IsItem ts (SumOf p c n) ys
+  count_item : {p q r s : ℕ} {ts us vs ws xs ys : List Tok} {n : NameTree}
+      → First Count p ts us → First Open q us vs → First Star r vs ws → First Close s ws xs → IsAlias xs n ys
+      → IsItem ts (CountOf p n) ys
 
 pub data ItemFault (stop : Fault) : List Tok → Fault → Type 0 where
   no_item : {ts : List Tok} {f : Fault} → after Sum ts ≡ None → after Count ts ≡ None → ColumnFault stop ts f → ItemFault stop ts f
-  in_item_alias : {ts us : List Tok} {c : ColumnTree} {f : Fault} → after Sum ts ≡ None → after Count ts ≡ None → IsColumn ts c us → MayAliasFault stop us f → ItemFault stop ts f
+  in_item_alias : {ts us : List Tok} {c : ColumnTree} {f : Fault}
+      → after Sum ts ≡ None → after Count ts ≡ None → IsColumn ts c us → MayAliasFault stop us f → ItemFault stop ts f
   no_sum_open : {p : ℕ} {ts us : List Tok} → First Sum p ts us → after Open us ≡ None → ItemFault stop ts (unexpected stop us)
   no_sum_column : {p q : ℕ} {ts us vs : List Tok} {f : Fault} → First Sum p ts us → First Open q us vs → ColumnFault stop vs f → ItemFault stop ts f
-  no_sum_close : {p q : ℕ} {ts us vs ws : List Tok} {c : ColumnTree} → First Sum p ts us → First Open q us vs → IsColumn vs c ws → after Close ws ≡ None → ItemFault stop ts (unexpected stop ws)
-  no_sum_alias : {p q r : ℕ} {ts us vs ws xs : List Tok} {c : ColumnTree} {f : Fault} → First Sum p ts us → First Open q us vs → IsColumn vs c ws → First Close r ws xs → AliasFault stop xs f → ItemFault stop ts f
+  no_sum_close : {p q : ℕ} {ts us vs ws : List Tok} {c : ColumnTree}
+      → First Sum p ts us → First Open q us vs → IsColumn vs c ws → after Close ws ≡ None
+      → ItemFault stop ts (unexpected stop ws)
+  no_sum_alias : {p q r : ℕ} {ts us vs ws xs : List Tok} {c : ColumnTree} {f : Fault}
+      → First Sum p ts us → First Open q us vs → IsColumn vs c ws → First Close r ws xs → AliasFault stop xs f
+      → ItemFault stop ts f
   no_count_open : {p : ℕ} {ts us : List Tok} → First Count p ts us → after Open us ≡ None → ItemFault stop ts (unexpected stop us)
   no_count_star : {p q : ℕ} {ts us vs : List Tok} → First Count p ts us → First Open q us vs → after Star vs ≡ None → ItemFault stop ts (unexpected stop vs)
-  no_count_close : {p q r : ℕ} {ts us vs ws : List Tok} → First Count p ts us → First Open q us vs → First Star r vs ws → after Close ws ≡ None → ItemFault stop ts (unexpected stop ws)
-  no_count_alias : {p q r s : ℕ} {ts us vs ws xs : List Tok} {f : Fault} → First Count p ts us → First Open q us vs → First Star r vs ws → First Close s ws xs → AliasFault stop xs f → ItemFault stop ts f
+  no_count_close : {p q r : ℕ} {ts us vs ws : List Tok}
+      → First Count p ts us → First Open q us vs → First Star r vs ws → after Close ws ≡ None
+      → ItemFault stop ts (unexpected stop ws)
+  no_count_alias : {p q r s : ℕ} {ts us vs ws xs : List Tok} {f : Fault}
+      → First Count p ts us → First Open q us vs → First Star r vs ws → First Close s ws xs → AliasFault stop xs f
+      → ItemFault stop ts f
 
 -- list = "*" | item { "," item }
 pub data IsList : List Tok → ListTree → List Tok → Type 0 where
   star_is : {p : ℕ} {ts us : List Tok} → First Star p ts us → IsList ts (StarAt p) us
-  items_is : {ts us vs : List Tok} {i : ItemTree} {is : List ItemTree} → after Star ts ≡ None → IsItem ts i us → Many (after Comma) (λ _. IsItem) push (i ∷ []) us is vs → IsList ts (ItemsOf is) vs
+  items_is : {ts us vs : List Tok} {i : ItemTree} {is : List ItemTree}
+      → after Star ts ≡ None → IsItem ts i us → Many (after Comma) (λ _. IsItem) push (i ∷ []) us is vs
+      → IsList ts (ItemsOf is) vs
 
 pub data ListFault (stop : Fault) : List Tok → Fault → Type 0 where
   first_item : {ts : List Tok} {f : Fault} → after Star ts ≡ None → ItemFault stop ts f → ListFault stop ts f
-  later_item : {ts us : List Tok} {i : ItemTree} {f : Fault} → after Star ts ≡ None → IsItem ts i us → ManyFault (after Comma) (λ _. IsItem) (λ _. ItemFault stop) push (i ∷ []) us f → ListFault stop ts f
+  later_item : {ts us : List Tok} {i : ItemTree} {f : Fault}
+      → after Star ts ≡ None → IsItem ts i us
+      → ManyFault (after Comma) (λ _. IsItem) (λ _. ItemFault stop) push (i ∷ []) us f → ListFault stop ts f
 
 -- "select" [ "distinct" ] list
 pub data HeadTree : Type 0 where
   HeadOf : ℕ → Bool → ListTree → HeadTree
 
 pub data IsHead : List Tok → HeadTree → List Tok → Type 0 where
-  distinct_is : {p q : ℕ} {ts us vs ws : List Tok} {l : ListTree} → First Select p ts us → First Distinct q us vs → IsList vs l ws → IsHead ts (HeadOf p true l) ws
+  distinct_is : {p q : ℕ} {ts us vs ws : List Tok} {l : ListTree}
+      → First Select p ts us → First Distinct q us vs → IsList vs l ws → IsHead ts (HeadOf p true l) ws
   head_is : {p : ℕ} {ts us vs : List Tok} {l : ListTree} → First Select p ts us → after Distinct us ≡ None → IsList us l vs → IsHead ts (HeadOf p false l) vs
 
 pub data HeadFault (stop : Fault) : List Tok → Fault → Type 0 where
@@ -140,12 +169,14 @@ pub data FromTree : Type 0 where
   FromOf : SourceTree → List JoinTree → FromTree
 
 pub data IsFrom : ℕ → List Tok → FromTree → List Tok → Type 0 where
-  from_is : {left p : ℕ} {ts us vs ws : List Tok} {s : SourceTree} {js : List JoinTree} → First From p ts us → IsSource left us s vs → AreJoins (left - 1) vs js ws → IsFrom left ts (FromOf s js) ws
+  from_is : {left p : ℕ} {ts us vs ws : List Tok} {s : SourceTree} {js : List JoinTree}
+      → First From p ts us → IsSource left us s vs → AreJoins (left - 1) vs js ws → IsFrom left ts (FromOf s js) ws
 
 pub data FromFault (stop : Fault) : ℕ → List Tok → Fault → Type 0 where
   no_from : {left : ℕ} {ts : List Tok} → after From ts ≡ None → FromFault stop left ts (unexpected stop ts)
   no_first_source : {left p : ℕ} {ts us : List Tok} {f : Fault} → First From p ts us → SourceFault stop left us f → FromFault stop left ts f
-  in_joins : {left p : ℕ} {ts us vs : List Tok} {s : SourceTree} {f : Fault} → First From p ts us → IsSource left us s vs → JoinsFault stop (left - 1) vs f → FromFault stop left ts f
+  in_joins : {left p : ℕ} {ts us vs : List Tok} {s : SourceTree} {f : Fault}
+      → First From p ts us → IsSource left us s vs → JoinsFault stop (left - 1) vs f → FromFault stop left ts f
 
 -- [ "where" pred ]
 pub data MayFilter : List Tok → Option PredTree → List Tok → Type 0 where
@@ -157,24 +188,32 @@ pub data FilterFault (stop : Fault) : List Tok → Fault → Type 0 where
 
 -- [ "group" "by" column { "," column } ]
 pub data MayGroup : List Tok → List ColumnTree → List Tok → Type 0 where
-  some_group : {p q : ℕ} {ts us vs ws xs : List Tok} {c : ColumnTree} {cs : List ColumnTree} → First Group p ts us → First By q us vs → IsColumn vs c ws → Many (after Comma) (λ _. IsColumn) push (c ∷ []) ws cs xs → MayGroup ts cs xs
+  some_group : {p q : ℕ} {ts us vs ws xs : List Tok} {c : ColumnTree} {cs : List ColumnTree}
+      → First Group p ts us → First By q us vs → IsColumn vs c ws
+      → Many (after Comma) (λ _. IsColumn) push (c ∷ []) ws cs xs → MayGroup ts cs xs
   no_group : {ts : List Tok} → after Group ts ≡ None → MayGroup ts [] ts
 
 pub data GroupFault (stop : Fault) : List Tok → Fault → Type 0 where
   no_by : {p : ℕ} {ts us : List Tok} → First Group p ts us → after By us ≡ None → GroupFault stop ts (unexpected stop us)
   first_key : {p q : ℕ} {ts us vs : List Tok} {f : Fault} → First Group p ts us → First By q us vs → ColumnFault stop vs f → GroupFault stop ts f
-  later_key : {p q : ℕ} {ts us vs ws : List Tok} {c : ColumnTree} {f : Fault} → First Group p ts us → First By q us vs → IsColumn vs c ws → ManyFault (after Comma) (λ _. IsColumn) (λ _. ColumnFault stop) push (c ∷ []) ws f → GroupFault stop ts f
+  later_key : {p q : ℕ} {ts us vs ws : List Tok} {c : ColumnTree} {f : Fault}
+      → First Group p ts us → First By q us vs → IsColumn vs c ws
+      → ManyFault (after Comma) (λ _. IsColumn) (λ _. ColumnFault stop) push (c ∷ []) ws f → GroupFault stop ts f
 
 -- select = "select" [ "distinct" ] list "from" source { join } [ "where" pred ] [ "group" "by" column { "," column } ]
 pub data IsSelect : ℕ → List Tok → SelectTree → List Tok → Type 0 where
-  select_is : {left p : ℕ} {d : Bool} {l : ListTree} {s : SourceTree} {js : List JoinTree} {w : Option PredTree} {g : List ColumnTree} {ts us vs ws xs : List Tok}
-      → IsHead ts (HeadOf p d l) us → IsFrom left us (FromOf s js) vs → MayFilter vs w ws → MayGroup ws g xs → IsSelect left ts (SelectOf p d l s js w g) xs
+  select_is : {left p : ℕ} {d : Bool} {l : ListTree} {s : SourceTree} {js : List JoinTree} {w : Option PredTree}
+      {g : List ColumnTree} {ts us vs ws xs : List Tok}
+      → IsHead ts (HeadOf p d l) us → IsFrom left us (FromOf s js) vs → MayFilter vs w ws → MayGroup ws g xs
+      → IsSelect left ts (SelectOf p d l s js w g) xs
 
 pub data SelectFault (stop : Fault) : ℕ → List Tok → Fault → Type 0 where
   in_head : {left : ℕ} {ts : List Tok} {f : Fault} → HeadFault stop ts f → SelectFault stop left ts f
   in_from : {left : ℕ} {h : HeadTree} {ts us : List Tok} {f : Fault} → IsHead ts h us → FromFault stop left us f → SelectFault stop left ts f
-  in_where : {left : ℕ} {h : HeadTree} {b : FromTree} {ts us vs : List Tok} {f : Fault} → IsHead ts h us → IsFrom left us b vs → FilterFault stop vs f → SelectFault stop left ts f
-  in_group : {left : ℕ} {h : HeadTree} {b : FromTree} {w : Option PredTree} {ts us vs ws : List Tok} {f : Fault} → IsHead ts h us → IsFrom left us b vs → MayFilter vs w ws → GroupFault stop ws f → SelectFault stop left ts f
+  in_where : {left : ℕ} {h : HeadTree} {b : FromTree} {ts us vs : List Tok} {f : Fault}
+      → IsHead ts h us → IsFrom left us b vs → FilterFault stop vs f → SelectFault stop left ts f
+  in_group : {left : ℕ} {h : HeadTree} {b : FromTree} {w : Option PredTree} {ts us vs ws : List Tok} {f : Fault}
+      → IsHead ts h us → IsFrom left us b vs → MayFilter vs w ws → GroupFault stop ws f → SelectFault stop left ts f
 
 -- ( "union" [ "all" ] | "except" )
 pub data IsSetOp : List Tok → SetOp → List Tok → Type 0 where
@@ -212,8 +251,14 @@ sources_of (Combined q o s) = sources_of q + sources_in s
 
 -- query = select { ( "union" [ "all" ] | "except" ) select }, grouped from the left, with at most eight sources
 pub data IsQuery : List Tok → QueryTree → List Tok → Type 0 where
-  query_is : {ts us vs : List Tok} {s : SelectTree} {t : QueryTree} → IsSelect sources ts s us → Many at_set_op (λ q. IsNext (sources - sources_of q)) combine (One s) us t vs → IsQuery ts t vs
+  query_is : {ts us vs : List Tok} {s : SelectTree} {t : QueryTree}
+      → IsSelect sources ts s us → Many at_set_op (λ q. IsNext (sources - sources_of q)) combine (One s) us t vs
+      → IsQuery ts t vs
 
 pub data IsQueryFault (stop : Fault) : List Tok → Fault → Type 0 where
   first_select : {ts : List Tok} {f : Fault} → SelectFault stop sources ts f → IsQueryFault stop ts f
-  later_select : {ts us : List Tok} {s : SelectTree} {f : Fault} → IsSelect sources ts s us → ManyFault at_set_op (λ q. IsNext (sources - sources_of q)) (λ q. NextFault stop (sources - sources_of q)) combine (One s) us f → IsQueryFault stop ts f
+  later_select : {ts us : List Tok} {s : SelectTree} {f : Fault}
+      → IsSelect sources ts s us
+      → ManyFault at_set_op (λ q. IsNext (sources - sources_of q)) (λ q. NextFault stop (sources - sources_of q))
+      combine (One s) us f
+      → IsQueryFault stop ts f

@@ -31,7 +31,9 @@ unfoldable pub pair_at : Fault → List Tok → Read PairTree
 pair_at stop ts = column_at stop ts >>= λ x. need Equal stop x.1 >>= λ us. column_at stop us >>= λ y. Ok (PairOf x.0 y.0, y.1)
 
 unfoldable pub plain_join_at : Fault → ℕ → List Tok → Read JoinTree
-plain_join_at stop left ts = need Join stop ts >>= λ us. source_at stop left us >>= λ x. need On stop x.1 >>= λ vs. list_of And (pair_at stop) vs >>= λ y. Ok (JoinOf x.0 y.0, y.1)
+plain_join_at stop left ts = need Join stop ts >>= λ us. source_at stop left us
+    >>= λ x. need On stop x.1 >>= λ vs. list_of And (pair_at stop) vs
+    >>= λ y. Ok (JoinOf x.0 y.0, y.1)
 
 unfoldable pub join_at : Fault → ℕ → List Tok → Read JoinTree
 join_at stop left ts = plain_join_at stop left (skip Inner ts)
@@ -50,13 +52,16 @@ unfoldable pub count_at : Fault → ℕ → List Tok → Read ItemTree
 count_at stop p ts = need Open stop ts >>= λ us. need Star stop us >>= λ vs. need Close stop vs >>= λ ws. alias_at stop ws >>= λ y. Ok (CountOf p y.0, y.1)
 
 unfoldable pub item_at : Fault → List Tok → Read ItemTree
-item_at stop ts = if_some (after Sum ts) (if_some (after Count ts) (column_item_at stop ts) (λ us. count_at stop (first_place stop ts) us)) (λ us. sum_at stop (first_place stop ts) us)
+item_at stop ts = if_some (after Sum ts)
+    (if_some (after Count ts) (column_item_at stop ts) (λ us. count_at stop (first_place stop ts) us))
+    (λ us. sum_at stop (first_place stop ts) us)
 
 unfoldable pub list_at : Fault → List Tok → Read ListTree
 list_at stop ts = if_some (after Star ts) (list_of Comma (item_at stop) ts >>= λ x. Ok (ItemsOf x.0, x.1)) (λ us. Ok (StarAt (first_place stop ts), us))
 
 unfoldable pub head_at : Fault → List Tok → Read HeadTree
-head_at stop ts = need Select stop ts >>= λ us. list_at stop (skip Distinct us) >>= λ x. Ok (HeadOf (first_place stop ts) (is_some (after Distinct us)) x.0, x.1)
+head_at stop ts = need Select stop ts >>= λ us. list_at stop (skip Distinct us)
+    >>= λ x. Ok (HeadOf (first_place stop ts) (is_some (after Distinct us)) x.0, x.1)
 
 unfoldable pub from_at : Fault → ℕ → List Tok → Read FromTree
 from_at stop left ts = need From stop ts >>= λ us. source_at stop left us >>= λ x. joins_at stop (left - 1) x.1 >>= λ y. Ok (FromOf x.0 y.0, y.1)
@@ -71,10 +76,13 @@ abbrev pub select_of : HeadTree → FromTree → Option PredTree → List Column
 select_of (HeadOf p d l) (FromOf s js) w g = SelectOf p d l s js w g
 
 unfoldable pub select_at : Fault → ℕ → List Tok → Read SelectTree
-select_at stop left ts = head_at stop ts >>= λ h. from_at stop left h.1 >>= λ b. filter_at stop b.1 >>= λ w. group_at stop w.1 >>= λ g. Ok (select_of h.0 b.0 w.0 g.0, g.1)
+select_at stop left ts = head_at stop ts >>= λ h. from_at stop left h.1
+    >>= λ b. filter_at stop b.1 >>= λ w. group_at stop w.1 >>= λ g. Ok (select_of h.0 b.0 w.0 g.0, g.1)
 
 unfoldable pub set_op_at : Fault → List Tok → Read SetOp
-set_op_at stop ts = if_some (after Union ts) (need Except stop ts >>= λ us. Ok (set.Except, us)) (λ us. if_some (after All us) (Ok (set.Union, us)) (λ vs. Ok (set.UnionAll, vs)))
+set_op_at stop ts = if_some (after Union ts)
+    (need Except stop ts >>= λ us. Ok (set.Except, us))
+    (λ us. if_some (after All us) (Ok (set.Union, us)) (λ vs. Ok (set.UnionAll, vs)))
 
 unfoldable pub next_at : Fault → ℕ → List Tok → Read NextTree
 next_at stop left ts = set_op_at stop ts >>= λ o. select_at stop left o.1 >>= λ s. Ok (NextOf o.0 s.0, s.1)

@@ -17,13 +17,18 @@ pub data NameFault (stop : Fault) : List Tok → Fault → Type 0 where
   no_name : {ts : List Tok} → starts_name ts ≡ false → NameFault stop ts (unexpected stop ts)
 
 -- { sign item }: each item is joined to what was read before it, which may say how it is read
-pub data Many {A B : Type 0} (sign : List Tok → Option (List Tok)) (Item : A → List Tok → B → List Tok → Type 0) (join : A → B → A) : A → List Tok → A → List Tok → Type 0 where
+pub data Many {A B : Type 0} (sign : List Tok → Option (List Tok)) (Item : A → List Tok → B → List Tok → Type 0)
+    (join : A → B → A) : A → List Tok → A → List Tok → Type 0 where
   many_end : {a : A} {ts : List Tok} → sign ts ≡ None → Many sign Item join a ts a ts
-  many_more : {a t : A} {b : B} {ts us vs ws : List Tok} → sign ts ≡ Some us → Item a us b vs → Many sign Item join (join a b) vs t ws → Many sign Item join a ts t ws
+  many_more : {a t : A} {b : B} {ts us vs ws : List Tok}
+      → sign ts ≡ Some us → Item a us b vs → Many sign Item join (join a b) vs t ws → Many sign Item join a ts t ws
 
-pub data ManyFault {A B : Type 0} (sign : List Tok → Option (List Tok)) (Item : A → List Tok → B → List Tok → Type 0) (ItemFault : A → List Tok → Fault → Type 0) (join : A → B → A) : A → List Tok → Fault → Type 0 where
+pub data ManyFault {A B : Type 0} (sign : List Tok → Option (List Tok)) (Item : A → List Tok → B → List Tok → Type 0)
+    (ItemFault : A → List Tok → Fault → Type 0) (join : A → B → A) : A → List Tok → Fault → Type 0 where
   many_first : {a : A} {ts us : List Tok} {f : Fault} → sign ts ≡ Some us → ItemFault a us f → ManyFault sign Item ItemFault join a ts f
-  many_later : {a : A} {b : B} {ts us vs : List Tok} {f : Fault} → sign ts ≡ Some us → Item a us b vs → ManyFault sign Item ItemFault join (join a b) vs f → ManyFault sign Item ItemFault join a ts f
+  many_later : {a : A} {b : B} {ts us vs : List Tok} {f : Fault}
+      → sign ts ≡ Some us → Item a us b vs → ManyFault sign Item ItemFault join (join a b) vs f
+      → ManyFault sign Item ItemFault join a ts f
 
 -- one more at the end
 abbrev pub push : {B : Type 0} → List B → B → List B

@@ -12,14 +12,19 @@ use Rattle.iv_query.specs.Lexing.{Lexes}
 
 -- A text of at most 4,096 bytes is tokens that a rule reads, and nothing else.
 pub data IsText {T : Type 0} (Reads : List Tok → T → List Tok → Type 0) : List ℕ → T → Type 0 where
-  text_is : {bs : List ℕ} {ts : List Tok} {stop : Fault} {t : T} → length bs ≤ text_bytes → Lexes (length bs) bs ts stop true → Reads ts t [] → IsText Reads bs t
+  text_is : {bs : List ℕ} {ts : List Tok} {stop : Fault} {t : T}
+      → length bs ≤ text_bytes → Lexes (length bs) bs ts stop true → Reads ts t [] → IsText Reads bs t
 
 -- A text is too long; or a rule has a fault in its tokens; or a token, or a place where no token stands, comes behind what a rule reads.
 pub data TextFault {T : Type 0} (Reads : List Tok → T → List Tok → Type 0) (Faults : Fault → List Tok → Fault → Type 0) : List ℕ → Fault → Type 0 where
   too_long : {bs : List ℕ} → text_bytes < length bs → TextFault Reads Faults bs (record { place = text_bytes; why = why.TooLong })
-  inside : {bs : List ℕ} {ts : List Tok} {stop f : Fault} {ends : Bool} → length bs ≤ text_bytes → Lexes (length bs) bs ts stop ends → Faults stop ts f → TextFault Reads Faults bs f
-  behind : {bs : List ℕ} {ts us : List Tok} {u : Tok} {stop : Fault} {ends : Bool} {t : T} → length bs ≤ text_bytes → Lexes (length bs) bs ts stop ends → Reads ts t (u ∷ us) → TextFault Reads Faults bs (unexpected stop (u ∷ us))
-  unfinished : {bs : List ℕ} {ts : List Tok} {stop : Fault} {t : T} → length bs ≤ text_bytes → Lexes (length bs) bs ts stop false → Reads ts t [] → TextFault Reads Faults bs stop
+  inside : {bs : List ℕ} {ts : List Tok} {stop f : Fault} {ends : Bool}
+      → length bs ≤ text_bytes → Lexes (length bs) bs ts stop ends → Faults stop ts f → TextFault Reads Faults bs f
+  behind : {bs : List ℕ} {ts us : List Tok} {u : Tok} {stop : Fault} {ends : Bool} {t : T}
+      → length bs ≤ text_bytes → Lexes (length bs) bs ts stop ends → Reads ts t (u ∷ us)
+      → TextFault Reads Faults bs (unexpected stop (u ∷ us))
+  unfinished : {bs : List ℕ} {ts : List Tok} {stop : Fault} {t : T}
+      → length bs ≤ text_bytes → Lexes (length bs) bs ts stop false → Reads ts t [] → TextFault Reads Faults bs stop
 
 -- policy text = pred, with nesting of at most 32
 abbrev pub IsPredText : List ℕ → PredTree → Type 0

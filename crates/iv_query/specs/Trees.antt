@@ -106,7 +106,8 @@ list_tree (columns.All p) = StarAt p
 list_tree (columns.Items is) = ItemsOf (map item_tree is.items)
 
 abbrev pub select_tree : Select → SelectTree
-select_tree s = SelectOf s.place s.distinct (list_tree s.columns) (source_tree s.source) (map join_tree s.joins.items) (option_map pred_tree s.filter) (map column_tree s.group.items)
+select_tree s = SelectOf s.place s.distinct (list_tree s.columns) (source_tree s.source) (map join_tree s.joins.items)
+    (option_map pred_tree s.filter) (map column_tree s.group.items)
 
 abbrev pub query_tree : Query → QueryTree
 query_tree (query.Select s) = One (select_tree s)

@@ -1,4 +1,5 @@
--- What holds of each tree that is read, and a binder may take for granted: names are names, what a rule asks for is there, and operands are those of the text's kind.
+-- What holds of each tree that is read, and a binder may take for granted: names are names, what a rule asks for is
+-- there, and operands are those of the text's kind.
 use Rattle.std.specs.Prelude.{◌<◌, IsTrue, length, Some, None, IfSome, All}
 use Rattle.iv_rows.specs.Names.{is_name}
 use Rattle.iv_rows.specs.Texts.{is_well_cell}

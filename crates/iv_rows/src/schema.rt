@@ -72,13 +72,13 @@ impl Schema {
         ensures columns { result ≡ Err RowFault.Columns ↔ (has_columns columns.items ≡ false) }
         ensures duplicate { result ≡ Err RowFault.Duplicate ↔ ((has_columns columns.items && not (has_distinct_names columns.items)) ≡ true) }
     {
-        if !has_columns(&columns) {
-            return Err(RowFault::Columns);
+        if columns_ok(&columns) {
+            return Ok(Schema { columns });
         }
-        if !are_distinct(&columns) {
+        if has_columns(&columns) {
             return Err(RowFault::Duplicate);
         }
-        Ok(Schema { columns })
+        Err(RowFault::Columns)
     }
 
     /// The columns, from the left.
@@ -95,6 +95,15 @@ impl Schema {
     {
         are_of(&self.columns, row.values())
     }
+}
+
+/// Whether they are the columns of a schema: 1 to 16, each with a name (see [`crate::name_ok`]), and none twice.
+///
+/// Source: PostgreSQL 16, CREATE TABLE, in the profile of docs/PROTOCOL.md.
+pub fn columns_ok(columns: &[Column]) -> bool
+    ensures { result ≡ (has_columns columns.now && has_distinct_names columns.now) }
+{
+    has_columns(columns) && are_distinct(columns)
 }
 
 /// Whether each value is of its column's kind, and there are as many.

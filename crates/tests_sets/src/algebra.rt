@@ -385,6 +385,22 @@ fn predicates_are_joined(rt: HostRuntime) -> Result<(), Fail> {
     Ok(())
 }
 
+/// A copy of: k is the name of the user, or true and not true.
+fn copied(alloc: Global) -> Result<Pred, Fail> {
+    let own = boxed_pred(alloc, is_own(Comparison::Equal))?;
+    let either = Pred::Or(own, boxed_pred(alloc, both(alloc)?)?);
+    Ok(either.copy(alloc)?)
+}
+
+#[test]
+fn predicates_are_copied(rt: HostRuntime) -> Result<(), Fail> {
+    let copy = copied(rt.alloc())?;
+    let note = row(rt.alloc(), "ann", 1)?;
+    assert!(rt; copy.holds(&note, "ann"));
+    assert!(rt; !copy.holds(&note, "bob"));
+    Ok(())
+}
+
 /// Whether the plan fits the notes.
 fn fits(alloc: Global, plan: Plan) -> Result<bool, Fail> {
     let tables = no_notes(alloc)?;
