@@ -1,6 +1,7 @@
 //! Tests of the steps of iv_delta, and operators of their own that its laws carry.
 #![tactic(auto)]
 
+mod indexed;
 mod pairs;
 mod positive;
 mod product;

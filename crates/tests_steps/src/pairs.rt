@@ -65,7 +65,7 @@ fn step_pair<B: Bilinear>(
     }
 }
 
-fn on_first_columns(alloc: Global) -> Result<Join, AllocError>
+pub(crate) fn on_first_columns(alloc: Global) -> Result<Join, AllocError>
     ensures { IfOk result (λ join. (join.left ≡ 2) × (join.pairs.items ≡ (0, 0) ∷ [])) }
 {
     let pairs = Vec::from_array(alloc, [(0, 0)])?;

@@ -38,7 +38,7 @@ fn push_key(values: &mut Vec<Value>, value: Value) -> Result<(), AllocError>
 }
 
 /// A row of numbers, behind the text `k` if it is keyed.
-fn row(alloc: Global, keyed: bool, numbers: &[i64]) -> Result<Row, AllocError>
+pub(crate) fn row(alloc: Global, keyed: bool, numbers: &[i64]) -> Result<Row, AllocError>
     ensures { IfOk result (λ row. row ≡ cells keyed numbers.now) }
 {
     let mut values = Vec::new(alloc);

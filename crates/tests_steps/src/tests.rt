@@ -1,3 +1,4 @@
+use crate::indexed::{emptied_key, joined_by_key, kept_sums, moved};
 use crate::pairs::{counted, emptied, joined, multiplied, replaced, summed};
 use crate::sets::Seen;
 use crate::singles::{alone, filtered, once, projected, signs, united};
@@ -69,6 +70,25 @@ fn pairs(rt: HostRuntime) {
         4_611_686_018_427_387_904,
     );
     assert!(rt; answer == Err(DeltaFault::Limit));
+}
+
+#[test]
+fn indexed_joins(rt: HostRuntime) {
+    assert!(rt; joined_by_key(rt.alloc(), 2, 1, 3, -1, 6) == Ok((0, 0, 0)));
+    assert!(rt; joined_by_key(rt.alloc(), 2, 1, 3, 0, 6) == Ok((1, 3, 3)));
+    assert!(rt; joined_by_key(rt.alloc(), 2, -2, 3, 1, 6) == Ok((1, -6, -6)));
+    assert!(rt; joined_by_key(rt.alloc(), MAX, 0, 1, 1, MAX) == Err(DeltaFault::Limit));
+    assert!(rt; emptied_key(rt.alloc()) == Ok((2, 1, 0)));
+}
+
+#[test]
+fn kept_groups(rt: HostRuntime) {
+    assert!(rt; kept_sums(rt.alloc()) == Ok(((Some(3), Some(17)), (None, None))));
+}
+
+#[test]
+fn a_key_changes_sides(rt: HostRuntime) {
+    assert!(rt; moved(rt.alloc(), 200) == Ok((0, 0, 0)));
 }
 
 #[test]
