@@ -4,3 +4,5 @@ pub mod Counting
 pub mod Entering
 pub mod Policies
 pub mod Naming
+pub mod Rising
+pub mod Further

@@ -1,7 +1,7 @@
 -- A table's policies in a list.
-use Rattle.std.proofs.Common.{◌≡◌, ℕ, zero, suc, ◌+◌, List, [], ◌∷◌, ◌++◌, Bool, true, false, cond, not, ◌&&◌, ◌||◌, refl, sym, ap, ◌∙◌, Option, Some, None, take, drop, get_or, arith}
+use Rattle.std.proofs.Common.{◌≡◌, ℕ, zero, suc, ◌+◌, List, [], ◌∷◌, Bool, true, false, cond, not, ◌&&◌, ◌||◌, refl, sym, ap, ◌∙◌, Some, None, get_or, arith}
 use Rattle.std.specs.Prelude.{slice_set, insert, if◌then◌else◌}
-use Rattle.std.specs.List.{list_any, position, position_or_len}
+use Rattle.std.specs.List.{list_any, position_or_len}
 use Rattle.iv_algebra.specs.Rows.{Cells}
 use Rattle.iv_access.specs.declared.policy.Check.{Check}
 use Rattle.iv_access.specs.declared.policy.Verdict.TheVariants.{Pass, NoPermissive}

@@ -80,24 +80,29 @@ command_code = code_by ℕ coded_ℕ command_number command_from command_from-co
 abbrev name_code : Coded Name
 name_code = coded_list coded_ℕ
 
+abbrev conditions_code : Coded (Option Condition × Option Condition)
+conditions_code = coded× (coded_option condition_code) (coded_option condition_code)
+
 abbrev pub policy_code : Coded Policy
 policy_code =
     code_by ((Name × Bool) × ((PolicyCommand × List Grantee) × (Option Condition × Option Condition)))
-    (coded× (coded× name_code coded_bool) (coded× (coded× command_code (coded_list grantee_code)) (coded× (coded_option condition_code) (coded_option condition_code))))
+    (coded× (coded× name_code coded_bool) (coded× (coded× command_code (coded_list grantee_code)) conditions_code))
     (λ p. ((p.name, p.restrictive), ((p.command, p.to), (p.using, p.check))))
     (λ c. record { name = c.0.0; restrictive = c.0.1; command = c.1.0.0; to = c.1.0.1; using = c.1.1.0; check = c.1.1.1 }) (λ _. refl)
 
 abbrev pub asked_code : Coded Asked
 asked_code =
     code_by ((Name × Bool) × ((PolicyCommand × List (Option Name)) × (Option Condition × Option Condition)))
-    (coded× (coded× name_code coded_bool) (coded× (coded× command_code (coded_list (coded_option name_code))) (coded× (coded_option condition_code) (coded_option condition_code))))
+    (coded× (coded× name_code coded_bool) (coded× (coded× command_code (coded_list (coded_option name_code))) conditions_code))
     (λ p. ((p.name, p.restrictive), ((p.command, p.to), (p.using, p.check))))
     (λ c. record { name = c.0.0; restrictive = c.0.1; command = c.1.0.0; to = c.1.0.1; using = c.1.1.0; check = c.1.1.1 }) (λ _. refl)
 
 abbrev pub filter_code : Coded Filter
 filter_code =
-    code_by ((Bool × Name) × (List Condition × List Condition)) (coded× (coded× coded_bool name_code) (coded× (coded_list condition_code) (coded_list condition_code)))
-    (λ f. ((f.exempt, f.user), (f.permissive, f.restrictive))) (λ c. record { exempt = c.0.0; user = c.0.1; permissive = c.1.0; restrictive = c.1.1 }) (λ _. refl)
+    code_by ((Bool × Name) × (List Condition × List Condition))
+    (coded× (coded× coded_bool name_code) (coded× (coded_list condition_code) (coded_list condition_code)))
+    (λ f. ((f.exempt, f.user), (f.permissive, f.restrictive)))
+    (λ c. record { exempt = c.0.0; user = c.0.1; permissive = c.1.0; restrictive = c.1.1 }) (λ _. refl)
 
 -- ---- rights
 
@@ -131,7 +136,10 @@ kind_code = code_by ℕ coded_ℕ kind_number kind_from kind_from-kind_number
 
 abbrev pub relation_code : Coded Relation
 relation_code =
-    code_by (Name × Option (List Kind)) (coded× name_code (coded_option (coded_list kind_code))) (λ r. (r.name, r.kinds)) (λ c. record { name = c.0; kinds = c.1 }) (λ _. refl)
+    code_by (Name × Option (List Kind)) (coded× name_code (coded_option (coded_list kind_code)))
+    (λ r. (r.name, r.kinds)) (λ c. record { name = c.0; kinds = c.1 }) (λ _. refl)
 
 abbrev pub known_code : Coded Known
-known_code = code_by (List Relation × Rights) (coded× (coded_list relation_code) rights_code) (λ k. (k.relations, k.rights)) (λ c. record { relations = c.0; rights = c.1 }) (λ _. refl)
+known_code =
+    code_by (List Relation × Rights) (coded× (coded_list relation_code) rights_code)
+    (λ k. (k.relations, k.rights)) (λ c. record { relations = c.0; rights = c.1 }) (λ _. refl)

@@ -1,11 +1,12 @@
 -- Which grants are held, and which a change names.
 use Rattle.std.specs.Prelude.{ℕ, ◌==◌, ◌&&◌, Bool, not, List}
 use Rattle.std.specs.List.{list_any}
+use Rattle.iv_algebra.specs.Rows.{Cells}
 use Rattle.iv_access.specs.declared.privilege.Privilege.{Privilege}
 use Rattle.iv_access.specs.declared.policy.Check.{Check}
 use Rattle.iv_access.specs.Rights.{Grantee, Grant, Policy, Rights}
 use Rattle.iv_access.specs.Privileges.{privilege_eq}
-use Rattle.iv_access.specs.Policies.{applies}
+use Rattle.iv_access.specs.Policies.{applies, permits, forbids}
 use Rattle.iv_access.specs.Changing.{grantee_eq, grant_eq}
 
 abbrev pub is_among : List Grant → Grant → Bool
@@ -17,6 +18,10 @@ grant_to to p rel = record { grantee = to; privilege = p; rel = rel }
 -- one of the privileges on the relation, to the grantee
 abbrev pub is_named_by : ℕ → List Privilege → Grantee → Grant → Bool
 is_named_by rel ps to g = g.rel == rel && (list_any (privilege_eq g.privilege) ps && grantee_eq g.grantee to)
+
+-- some permissive policy that applies passes the row, and no restrictive one that applies fails it
+abbrev pub is_let_through : Rights → ℕ → Check → Cells → List Policy → Bool
+is_let_through r role test row ps = list_any (permits r role test row) ps && not (list_any (forbids r role test row) ps)
 
 -- a permissive policy that applies, whatever it says of a row
 abbrev pub may_permit : Rights → ℕ → Check → Policy → Bool

@@ -62,7 +62,11 @@ grant_same : (a b : Grant) → grant_eq a b ≡ true → a ≡ b
 grant_same a b e =
     let first = both_true (a.rel == b.rel) (privilege_eq a.privilege b.privilege && grantee_eq a.grantee b.grantee) e in
     let second = both_true (privilege_eq a.privilege b.privilege) (grantee_eq a.grantee b.grantee) first.1 in
-    λ i. record { grantee = grantee_same a.grantee b.grantee second.1 i; privilege = privilege_same a.privilege b.privilege second.0 i; rel = (unsigned_Decides a.rel b.rel).0 first.0 i }
+    λ i. record {
+      grantee = grantee_same a.grantee b.grantee second.1 i;
+      privilege = privilege_same a.privilege b.privilege second.0 i;
+      rel = (unsigned_Decides a.rel b.rel).0 first.0 i;
+    }
 
 grant_itself : (a : Grant) → grant_eq a a ≡ true
 grant_itself a = (λ i. number_itself a.rel i && (privilege_itself a.privilege i && grantee_itself a.grantee i))
@@ -77,10 +81,13 @@ two_ways false false f g = refl
 two_ways true false f g = sym (f refl)
 two_ways false true f g = g refl
 
+grant_eq_turned : (a b : Grant) → grant_eq a b ≡ true → grant_eq b a ≡ true
+grant_eq_turned a b e = (grant_eq_decides b a).1 (sym (grant_same a b e))
+
 pub grant_eq_equiv : IsEquivalence grant_eq
 grant_eq_equiv = record {
   refl = grant_itself;
-  symm = λ a b. two_ways (grant_eq a b) (grant_eq b a) (λ e. (grant_eq_decides b a).1 (sym (grant_same a b e))) (λ e. (grant_eq_decides a b).1 (sym (grant_same b a e)));
+  symm = λ a b. two_ways (grant_eq a b) (grant_eq b a) (grant_eq_turned a b) (grant_eq_turned b a);
   congr = λ a b c e. ap (λ x. grant_eq x c) (grant_same a b e);
 }
 

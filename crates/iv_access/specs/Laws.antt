@@ -1,15 +1,16 @@
 -- Laws of rights.
-use Rattle.std.specs.Prelude.{◌≡◌, ℕ, ◌&&◌, ◌||◌, not, true, false, List, length, slice_get}
+use Rattle.std.specs.Prelude.{◌≡◌, ◌≢◌, ℕ, ◌&&◌, ◌||◌, not, true, false, List, length, slice_get}
 use Rattle.std.specs.List.{AllPass, list_any}
 use Rattle.iv_algebra.specs.Rows.{Cells}
 use Rattle.iv_access.specs.declared.policy.Check.{Check}
-use Rattle.iv_access.specs.declared.policy.Verdict.TheVariants.{NoPermissive}
+use Rattle.iv_access.specs.declared.policy.Verdict.TheVariants.{NoPermissive, Restrictive}
 use Rattle.iv_access.specs.declared.privilege.Privilege.{Privilege}
-use Rattle.iv_access.specs.Rights.{Grant, Grantee, Public, Role, Rights}
+use Rattle.iv_access.specs.Rights.{Grant, Grantee, Public, Role, Policy, Rights}
 use Rattle.iv_access.specs.Privileges.{has, is_admin}
-use Rattle.iv_access.specs.Policies.{permits, forbids, policies_of, is_exempt, is_pass, verdict}
-use Rattle.iv_access.specs.Changing.{with_grants, without_grants, with_relation}
-use Rattle.iv_access.specs.Given.{grant_to, is_among, is_named_by, may_permit}
+use Rattle.iv_access.specs.Policies.{forbids, policies_of, is_exempt, is_pass, verdict}
+use Rattle.iv_access.specs.Changing.{with_grants, without_grants, with_relation, with_policy}
+use Rattle.iv_access.specs.Reached.{IsReached, Rise, IsFirstByName}
+use Rattle.iv_access.specs.Given.{grant_to, is_among, is_named_by, is_let_through, may_permit}
 
 -- ---- grants
 
@@ -45,8 +46,7 @@ abbrev pub RowsPassWherePermitted : Type 0
 RowsPassWherePermitted =
     (r : Rights) (role table : ℕ) (test : Check) (row : Cells)
     → is_pass (verdict r role table test row)
-    ≡ (is_exempt r role (slice_get r.guards table)
-    || (list_any (permits r role test row) (policies_of (slice_get r.guards table)) && not (list_any (forbids r role test row) (policies_of (slice_get r.guards table)))))
+    ≡ (is_exempt r role (slice_get r.guards table) || is_let_through r role test row (policies_of (slice_get r.guards table)))
 
 abbrev pub NothingPassesWithoutPermissive : Type 0
 NothingPassesWithoutPermissive =
@@ -54,3 +54,38 @@ NothingPassesWithoutPermissive =
     → is_exempt r role (slice_get r.guards table) ≡ false
     → list_any (may_permit r role test) (policies_of (slice_get r.guards table)) ≡ false
     → verdict r role table test row ≡ NoPermissive
+
+-- the policies of each table stand in the order of their names, and no two have one name
+abbrev pub PoliciesRise : Type 0
+PoliciesRise = (r : Rights) → IsReached r → (table : ℕ) → Rise (policies_of (slice_get r.guards table))
+
+-- the restrictive policy that is told comes first by name of those that fail
+abbrev pub FirstByNameIsTold : Type 0
+FirstByNameIsTold =
+    (r : Rights) (role table : ℕ) (test : Check) (row : Cells) (place : ℕ)
+    → IsReached r
+    → verdict r role table test row ≡ Restrictive place
+    → IsFirstByName (forbids r role test row) (policies_of (slice_get r.guards table)) place
+
+-- a further restrictive policy lets no more rows through
+abbrev pub RestrictiveNarrow : Type 0
+RestrictiveNarrow =
+    (r : Rights) (p : Policy) (role table : ℕ) (test : Check) (row : Cells)
+    → p.restrictive ≡ true
+    → is_pass (verdict (with_policy table p r) role table test row) ≡ true
+    → is_pass (verdict r role table test row) ≡ true
+
+-- a further permissive policy lets no fewer rows through
+abbrev pub PermissiveWiden : Type 0
+PermissiveWiden =
+    (r : Rights) (p : Policy) (role table : ℕ) (test : Check) (row : Cells)
+    → p.restrictive ≡ false
+    → is_pass (verdict r role table test row) ≡ true
+    → is_pass (verdict (with_policy table p r) role table test row) ≡ true
+
+-- the policies of a table say nothing of the rows of another
+abbrev pub OtherTablesStay : Type 0
+OtherTablesStay =
+    (r : Rights) (p : Policy) (role table other : ℕ) (test : Check) (row : Cells)
+    → other ≢ table
+    → verdict (with_policy table p r) role other test row ≡ verdict r role other test row

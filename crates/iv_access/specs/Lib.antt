@@ -10,5 +10,7 @@ pub mod Grants
 pub mod Stored
 pub mod Asked
 pub mod Filters
+pub mod Views
 pub mod Given
+pub mod Reached
 pub mod Laws

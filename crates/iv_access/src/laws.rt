@@ -1,6 +1,10 @@
 //! Laws of rights. Each is the contract of a function that does nothing.
+//!
+//! That what policies say of a row is the same whatever rows the tables hold needs no law: `check` is given the rights, the
+//! role, the table's number, the test and the row, and no table. So it is with each look-up of a privilege.
 ghost use Rattle.iv_access.specs.Laws.{GrantsGive, RevokesTake, HeldGrantsChangeNothing, RolesHaveTheirOwn, OwnersHaveAll};
-ghost use Rattle.iv_access.specs.Laws.{RowsPassWherePermitted, NothingPassesWithoutPermissive};
+ghost use Rattle.iv_access.specs.Laws.{RowsPassWherePermitted, NothingPassesWithoutPermissive, PoliciesRise, FirstByNameIsTold};
+ghost use Rattle.iv_access.specs.Laws.{RestrictiveNarrow, PermissiveWiden, OtherTablesStay};
 
 /// After a grant those are held that were held, and those that it names.
 pub fn grants_give_what_they_name()
@@ -36,4 +40,30 @@ pub fn rows_pass_where_permitted_and_not_forbidden()
 /// Where no permissive policy applies to a role that is not exempt, no row passes.
 pub fn nothing_passes_without_a_permissive_policy()
     ensures { NothingPassesWithoutPermissive }
+{}
+
+/// Whatever changes led to the rights, the policies of each table stand in the byte order of their names, and no two
+/// have one name.
+pub fn policies_rise_by_name()
+    ensures { PoliciesRise }
+{}
+
+/// Of the restrictive policies that fail, the one that is told comes first by name, whatever the order of creation.
+pub fn first_by_name_is_told()
+    ensures { FirstByNameIsTold }
+{}
+
+/// A further restrictive policy lets no more rows through.
+pub fn restrictive_policies_narrow()
+    ensures { RestrictiveNarrow }
+{}
+
+/// A further permissive policy lets no fewer rows through.
+pub fn permissive_policies_widen()
+    ensures { PermissiveWiden }
+{}
+
+/// The policies of a table say nothing of the rows of another.
+pub fn other_tables_stay()
+    ensures { OtherTablesStay }
 {}

@@ -67,8 +67,6 @@ pub struct Policy {
 }
 
 impl Model for Policy {
-    ghost use Rattle.std.specs.Prelude.{map, option_map, string_bytes};
-    ghost use Rattle.iv_algebra.specs.Shapes.{condition_of};
     ghost use Rattle.iv_access.specs.Asked.{Asked};
     ghost use Rattle.iv_access.specs.Codes.{asked_code};
 
@@ -76,7 +74,9 @@ impl Model for Policy {
 
     ghost coded = { asked_code };
 
-    ghost view = { λ p. record { name = string_bytes p.name; restrictive = p.restrictive; command = p.command; to = map (option_map string_bytes) p.to.items; using = option_map condition_of p.using; check = option_map condition_of p.check } };
+    ghost use Rattle.iv_access.specs.Views.{asked_of};
+
+    ghost view = { asked_of };
 }
 
 /// A policy as a table keeps it, with its roles by number.
@@ -91,8 +91,6 @@ pub(crate) struct Stored {
 }
 
 impl Model for Stored {
-    ghost use Rattle.std.specs.Prelude.{map, option_map, string_bytes};
-    ghost use Rattle.iv_algebra.specs.Shapes.{condition_of};
     ghost use Rattle.iv_access.specs.Rights.{Policy};
     ghost use Rattle.iv_access.specs.Codes.{policy_code};
 
@@ -100,9 +98,9 @@ impl Model for Stored {
 
     ghost coded = { policy_code };
 
-    ghost use Rattle.iv_access.specs.Grants.{seen};
+    ghost use Rattle.iv_access.specs.Views.{policy_kept};
 
-    ghost view = { λ p. record { name = string_bytes p.name; restrictive = p.restrictive; command = p.command; to = map seen p.to.items; using = option_map condition_of p.using; check = option_map condition_of p.check } };
+    ghost view = { policy_kept };
 }
 
 /// Whether a policy for the command applies to the test.

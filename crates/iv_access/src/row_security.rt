@@ -36,6 +36,7 @@ impl Access {
         requires { table.0 < length self.old.rights.guards }
         ensures ok { OnOk result (self.new.rights ≡ with_security table.0 enabled forced self.old.rights) }
         ensures relations { self.new.relations ≡ self.old.relations }
+        ensures guards { length self.new.rights.guards ≡ length self.old.rights.guards }
         ensures ok_when { OnOk result (row_security_fault self.old.rights acting.0 table.0 ≡ None) }
         ensures err_when { IfErr result (λ e. row_security_fault self.old.rights acting.0 table.0 ≡ Some e) }
         ensures unchanged { OnErr result (self.new ≡ self.old) }
@@ -164,6 +165,7 @@ impl Access {
         requires { table.0 < length self.old.rights.guards }
         ensures ok { OnOk result (self.new.rights ≡ with_policy table.0 (policy_from self.old.rights policy) self.old.rights) }
         ensures relations { self.new.relations ≡ self.old.relations }
+        ensures guards { length self.new.rights.guards ≡ length self.old.rights.guards }
         ensures ok_when { OnOk result (create_policy_fault self.old.rights acting.0 table.0 policy.name policy.to ≡ None) }
         ensures err_when { IfErr result (λ e. (e ≡ Memory) ⊎ (create_policy_fault self.old.rights acting.0 table.0 policy.name policy.to ≡ Some e)) }
         ensures unchanged { OnErr result (self.new ≡ self.old) }
@@ -190,6 +192,7 @@ impl Access {
         requires { table.0 < length self.old.rights.guards }
         ensures ok { OnOk result (self.new.rights ≡ without_policy table.0 name.now self.old.rights) }
         ensures relations { self.new.relations ≡ self.old.relations }
+        ensures guards { length self.new.rights.guards ≡ length self.old.rights.guards }
         ensures ok_when { OnOk result (drop_policy_fault self.old.rights acting.0 table.0 name.now ≡ None) }
         ensures err_when { IfErr result (λ e. drop_policy_fault self.old.rights acting.0 table.0 name.now ≡ Some e) }
         ensures unchanged { OnErr result (self.new ≡ self.old) }

@@ -1,6 +1,6 @@
 use iv_access::{ADMIN, Access, AccessFault, Missing, Privilege, RoleId};
 use iv_rows::{Kind, RelId};
-use std::alloc::Global;
+use std::alloc::{AllocError, Global};
 use std::test::Fail;
 
 const ANN: RoleId = RoleId(1);
@@ -13,106 +13,253 @@ const MINE: RelId = RelId(1);
 
 const READ: [Privilege; 1] = [Privilege::Select];
 
-/// Roles ann and bob, a table of admin's, and a view of ann's.
-fn started(alloc: Global) -> Result<Access, Fail> {
-    let mut access = Access::new(alloc)?;
+/// The kinds of a table's columns.
+fn columns(alloc: Global) -> Result<Vec<Kind>, AllocError> {
+    Ok(Vec::from_array(alloc, [Kind::Int, Kind::Text])?)
+}
+
+/// Adds roles ann and bob, a table of admin's, and a view of ann's.
+fn fill(access: &mut Access, alloc: Global) -> Result<(), AccessFault> {
     access.create_role(ADMIN, "ann")?;
     access.create_role(ADMIN, "bob")?;
-    let kinds = Vec::from_array(alloc, [Kind::Int, Kind::Text])?;
-    access.add_relation(ADMIN, "notes", "admin", Some(kinds))?;
+    let columns = columns(alloc)?;
+    access.add_relation(ADMIN, "notes", "admin", Some(columns))?;
     access.add_relation(ADMIN, "mine", "ann", None)?;
-    Ok(access)
+    Ok(())
+}
+
+fn roles(access: &Access) -> [Option<RoleId>; 3] {
+    [
+        access.role("admin"),
+        access.role("bob"),
+        access.role("notes"),
+    ]
+}
+
+fn relations(access: &Access) -> [Option<RelId>; 2] {
+    [access.relation("mine"), access.relation("bob")]
+}
+
+/// Whether the name of notes is told and that of no relation is not, and who owns what.
+fn owners(access: &Access) -> [bool; 6] {
+    [
+        matches!(access.relation_name(NOTES), Some("notes")),
+        access.relation_name(RelId(2)).is_none(),
+        access.owns(ANN, MINE),
+        access.owns(ADMIN, MINE),
+        access.owns(ANN, NOTES),
+        access.owns(BOB, MINE),
+    ]
 }
 
 #[test]
 fn finds_by_name_and_by_number(rt: HostRuntime) -> Result<(), Fail> {
-    let access = started(rt.alloc())?;
-    assert_eq!(rt; access.role("admin"), Some(ADMIN));
-    assert_eq!(rt; access.role("bob"), Some(BOB));
-    assert_eq!(rt; access.role("notes"), None);
-    assert_eq!(rt; access.relation("mine"), Some(MINE));
-    assert_eq!(rt; access.relation("bob"), None);
-    assert_eq!(rt; access.relation_name(NOTES), Some("notes"));
-    assert_eq!(rt; access.relation_name(RelId(2)), None);
-    assert!(rt; access.owns(ANN, MINE) && access.owns(ADMIN, MINE));
-    assert!(rt; !access.owns(ANN, NOTES) && !access.owns(BOB, MINE));
+    let alloc = rt.alloc();
+    let mut access = Access::new(alloc)?;
+    let filled = fill(&mut access, alloc);
+    let (roles, relations, owners) = (roles(&access), relations(&access), owners(&access));
+    assert_eq!(rt; filled, Ok(()));
+    assert_eq!(rt; roles, [Some(ADMIN), Some(BOB), None]);
+    assert_eq!(rt; relations, [Some(MINE), None]);
+    assert_eq!(rt; owners, [true, true, true, true, false, false]);
     Ok(())
+}
+
+/// Whether ann and bob may read and insert into mine.
+fn rights(access: &Access) -> [bool; 4] {
+    [
+        access.has(ANN, Privilege::Select, MINE),
+        access.has(ANN, Privilege::Insert, MINE),
+        access.has(BOB, Privilege::Select, MINE),
+        access.has(BOB, Privilege::Insert, MINE),
+    ]
+}
+
+/// The rights after a grant to all, after a revoke from ann and after one from all.
+fn regranted(access: &mut Access) -> Result<[[bool; 4]; 3], AccessFault> {
+    access.grant(ANN, MINE, &READ, None)?;
+    let granted = rights(access);
+    access.revoke(ANN, MINE, &READ, Some("ann"))?;
+    let own = rights(access);
+    access.revoke(ANN, MINE, &READ, None)?;
+    let public = rights(access);
+    Ok([granted, own, public])
 }
 
 #[test]
 fn a_revoke_takes_from_its_grantee_alone(rt: HostRuntime) -> Result<(), Fail> {
-    let mut access = started(rt.alloc())?;
-    assert!(rt; access.has(ADMIN, Privilege::Delete, NOTES));
-    assert!(rt;
-        access.has(ANN, Privilege::Delete, MINE) && !access.has(BOB, Privilege::Select, MINE)
+    let alloc = rt.alloc();
+    let mut access = Access::new(alloc)?;
+    let filled = fill(&mut access, alloc);
+    let first = rights(&access);
+    let later = regranted(&mut access);
+    let granted = access.grant(ANN, MINE, &READ, Some("bob"));
+    let last = rights(&access);
+    let owns = access.owns(ANN, MINE);
+    assert_eq!(rt; filled, Ok(()));
+    assert_eq!(rt; first, [true, true, false, false]);
+    assert_eq!(rt;
+        later,
+        Ok([
+            [true, true, true, false],
+            [true, true, true, false],
+            [false, true, false, false]
+        ])
     );
-    assert_eq!(rt; access.grant(ANN, MINE, &READ, None), Ok(()));
-    assert!(rt;
-        access.has(BOB, Privilege::Select, MINE) && !access.has(BOB, Privilege::Insert, MINE)
-    );
-    assert_eq!(rt; access.revoke(ANN, MINE, &READ, Some("ann")), Ok(()));
-    assert!(rt; access.has(ANN, Privilege::Select, MINE));
-    assert_eq!(rt; access.revoke(ANN, MINE, &READ, None), Ok(()));
-    assert!(rt;
-        !access.has(ANN, Privilege::Select, MINE) && access.has(ANN, Privilege::Insert, MINE)
-    );
-    assert!(rt; access.owns(ANN, MINE));
-    assert_eq!(rt; access.grant(ANN, MINE, &READ, Some("bob")), Ok(()));
-    assert!(rt;
-        access.has(BOB, Privilege::Select, MINE) && !access.has(ANN, Privilege::Select, MINE)
-    );
+    assert_eq!(rt; granted, Ok(()));
+    assert_eq!(rt; last, [false, true, true, false]);
+    assert!(rt; owns);
     Ok(())
 }
 
-#[test]
-fn tells_the_first_that_is_missing(rt: HostRuntime) -> Result<(), Fail> {
-    let access = started(rt.alloc())?;
+/// What ann and admin lack of three needs.
+fn missing(access: &Access) -> [Option<Missing>; 2] {
     let needs = [
         (Privilege::Select, MINE),
         (Privilege::Select, NOTES),
         (Privilege::Insert, NOTES),
     ];
-    let missing = Missing {
-        privilege: Privilege::Select,
-        rel: NOTES,
-    };
-    assert_eq!(rt; access.first_missing(ANN, &needs), Some(missing));
-    assert_eq!(rt; access.first_missing(ADMIN, &needs), None);
-    Ok(())
+    [
+        access.first_missing(ANN, &needs),
+        access.first_missing(ADMIN, &needs),
+    ]
 }
 
 #[test]
-fn refuses_in_order(rt: HostRuntime) -> Result<(), Fail> {
-    let mut access = started(rt.alloc())?;
-    assert_eq!(rt; access.create_role(ANN, "ann"), Err(AccessFault::NotAdmin));
-    assert_eq!(rt; access.create_role(ADMIN, "ann"), Err(AccessFault::Taken));
+fn tells_the_first_that_is_missing(rt: HostRuntime) -> Result<(), Fail> {
+    let alloc = rt.alloc();
+    let mut access = Access::new(alloc)?;
+    let filled = fill(&mut access, alloc);
+    let missing = missing(&access);
+    let select = Missing {
+        privilege: Privilege::Select,
+        rel: NOTES,
+    };
+    assert_eq!(rt; filled, Ok(()));
+    assert_eq!(rt; missing, [Some(select), None]);
+    Ok(())
+}
+
+/// Adds roles until there are 256.
+fn fill_roles(access: &mut Access, alloc: Global) -> Result<(), AccessFault> {
+    for n in 3..256u32 {
+        let name = format!(in alloc; "r{n}")?;
+        access.create_role(ADMIN, name.as_str())?;
+    }
+    Ok(())
+}
+
+/// The faults of new roles where there are 256.
+fn creating(access: &mut Access) -> [Option<AccessFault>; 3] {
+    [
+        access.create_role(ANN, "ann").err(),
+        access.create_role(ADMIN, "ann").err(),
+        access.create_role(ADMIN, "new").err(),
+    ]
+}
+
+#[test]
+fn roles_are_refused_in_order(rt: HostRuntime) -> Result<(), Fail> {
+    let alloc = rt.alloc();
+    let mut access = Access::new(alloc)?;
+    let filled = fill(&mut access, alloc);
+    let full = fill_roles(&mut access, alloc);
+    let faults = creating(&mut access);
+    let found = [access.role("ann"), access.role("r255"), access.role("new")];
+    assert_eq!(rt; filled, Ok(()));
+    assert_eq!(rt; full, Ok(()));
     assert_eq!(rt;
-        access.add_relation(ANN, "notes", "carl", None),
-        Err(AccessFault::NotAdmin)
+        faults,
+        [
+            Some(AccessFault::NotAdmin),
+            Some(AccessFault::Taken),
+            Some(AccessFault::TooMany)
+        ]
     );
+    assert_eq!(rt; found, [Some(ANN), Some(RoleId(255)), None]);
+    Ok(())
+}
+
+/// Adds views until there are 64.
+fn fill_views(access: &mut Access, alloc: Global) -> Result<(), AccessFault> {
+    for n in 1..64u32 {
+        let name = format!(in alloc; "v{n}")?;
+        access.add_relation(ADMIN, name.as_str(), "ann", None)?;
+    }
+    Ok(())
+}
+
+/// The faults of new views where there are 64: ann is not admin, and carl is no role.
+fn adding(access: &mut Access) -> [Option<AccessFault>; 4] {
+    [
+        access.add_relation(ANN, "notes", "carl", None).err(),
+        access.add_relation(ADMIN, "notes", "carl", None).err(),
+        access.add_relation(ADMIN, "notes", "ann", None).err(),
+        access.add_relation(ADMIN, "new", "ann", None).err(),
+    ]
+}
+
+/// Adds a table of bob's.
+fn add_table(access: &mut Access, alloc: Global) -> Result<RelId, AccessFault> {
+    let columns = columns(alloc)?;
+    access.add_relation(ADMIN, "more", "bob", Some(columns))
+}
+
+#[test]
+fn relations_are_refused_in_order(rt: HostRuntime) -> Result<(), Fail> {
+    let alloc = rt.alloc();
+    let mut access = Access::new(alloc)?;
+    let filled = fill(&mut access, alloc);
+    let full = fill_views(&mut access, alloc);
+    let faults = adding(&mut access);
+    let found = [access.relation("notes"), access.relation("new")];
+    let table = add_table(&mut access, alloc);
+    assert_eq!(rt; filled, Ok(()));
+    assert_eq!(rt; full, Ok(()));
     assert_eq!(rt;
-        access.add_relation(ADMIN, "notes", "carl", None),
-        Err(AccessFault::Role)
+        faults,
+        [
+            Some(AccessFault::NotAdmin),
+            Some(AccessFault::Role),
+            Some(AccessFault::Taken),
+            Some(AccessFault::TooMany)
+        ]
     );
+    assert_eq!(rt; found, [Some(NOTES), None]);
+    assert_eq!(rt; table, Ok(RelId(65)));
+    Ok(())
+}
+
+/// The faults of grants and revokes: bob does not own mine, and carl is no role.
+fn granting(access: &mut Access) -> [Option<AccessFault>; 4] {
+    [
+        access.grant(BOB, MINE, &READ, Some("carl")).err(),
+        access.grant(ANN, MINE, &READ, Some("carl")).err(),
+        access.revoke(BOB, MINE, &READ, Some("carl")).err(),
+        access.revoke(ANN, MINE, &READ, Some("carl")).err(),
+    ]
+}
+
+#[test]
+fn grants_and_revokes_are_refused_in_order(rt: HostRuntime) -> Result<(), Fail> {
+    let alloc = rt.alloc();
+    let mut access = Access::new(alloc)?;
+    let filled = fill(&mut access, alloc);
+    let before = rights(&access);
+    let faults = granting(&mut access);
+    let foreign = access.revoke(BOB, MINE, &READ, Some("ann"));
+    let after = rights(&access);
+    assert_eq!(rt; filled, Ok(()));
     assert_eq!(rt;
-        access.add_relation(ADMIN, "notes", "ann", None),
-        Err(AccessFault::Taken)
+        faults,
+        [
+            Some(AccessFault::NotOwner),
+            Some(AccessFault::Role),
+            Some(AccessFault::NotOwner),
+            Some(AccessFault::Role)
+        ]
     );
-    assert_eq!(rt;
-        access.grant(BOB, MINE, &READ, Some("carl")),
-        Err(AccessFault::NotOwner)
-    );
-    assert_eq!(rt;
-        access.grant(ANN, MINE, &READ, Some("carl")),
-        Err(AccessFault::Role)
-    );
-    assert_eq!(rt;
-        access.revoke(BOB, MINE, &READ, Some("carl")),
-        Err(AccessFault::NotOwner)
-    );
-    assert_eq!(rt;
-        access.revoke(ANN, MINE, &READ, Some("carl")),
-        Err(AccessFault::Role)
-    );
+    assert_eq!(rt; foreign, Err(AccessFault::NotOwner));
+    assert_eq!(rt; before, after);
     Ok(())
 }

@@ -1,4 +1,6 @@
-use iv_access::{ADMIN, Access, Check, Policy, PolicyCommand, RoleId, Verdict};
+ghost use Rattle.std.specs.Prelude.{◌<◌, OnOk, length};
+
+use iv_access::{ADMIN, Access, AccessFault, Check, Policy, PolicyCommand, RoleId, Verdict};
 use iv_algebra::{Comparison, Operand, Pred};
 use iv_rows::{Kind, RelId, Row, Value};
 use std::alloc::{AllocError, Global};
@@ -6,25 +8,64 @@ use std::test::Fail;
 
 const ANN: RoleId = RoleId(1);
 
+const BOB: RoleId = RoleId(2);
+
 const NOTES: RelId = RelId(0);
 
-/// A table of ann's, with row security, which is forced or not.
-fn started(alloc: Global, forced: bool) -> Result<Access, Fail> {
-    let mut access = Access::new(alloc)?;
-    access.create_role(ADMIN, "ann")?;
-    let kinds = Vec::from_array(alloc, [Kind::Int])?;
-    access.add_relation(ADMIN, "notes", "ann", Some(kinds))?;
-    access.row_security(ADMIN, NOTES, true, forced)?;
-    Ok(access)
+/// A policy to come: a permissive one lets numbers below 1000 through, and a restrictive one those below 100.
+#[derive(Clone, Copy)]
+struct Wanted<'a> {
+    name: &'a str,
+    restrictive: bool,
+    command: PolicyCommand,
+    to: Option<&'a str>,
 }
 
-/// A policy that lets numbers below the limit through.
-fn below(alloc: Global, name: &str, limit: i64, restrictive: bool) -> Result<Policy, AllocError> {
-    Ok(Policy {
-        name: String::from_str(alloc, name)?,
+/// A policy for all commands and all roles.
+fn for_all(name: &str, restrictive: bool) -> Wanted<'_> {
+    Wanted {
+        name,
         restrictive,
         command: PolicyCommand::All,
-        to: Vec::from_array(alloc, [None])?,
+        to: None,
+    }
+}
+
+/// The columns of the table.
+fn columns(alloc: Global) -> Result<Vec<Kind>, AllocError> {
+    Ok(Vec::from_array(alloc, [Kind::Int])?)
+}
+
+/// Adds roles ann and bob and a table of ann's, with row security, which is forced or not.
+fn fill(access: &mut Access, alloc: Global, forced: bool) -> Result<(), AccessFault>
+    ensures { OnOk result (0 < length access.new.rights.guards) }
+{
+    access.create_role(ADMIN, "ann")?;
+    access.create_role(ADMIN, "bob")?;
+    let columns = columns(alloc)?;
+    access.add_relation(ADMIN, "notes", "ann", Some(columns))?;
+    access.row_security(ADMIN, NOTES, true, forced)
+}
+
+/// To whom a policy goes.
+fn grantees(alloc: Global, to: Option<&str>) -> Result<Vec<Option<String>>, AllocError> {
+    let to = match to {
+        Some(name) => Some(String::from_str(alloc, name)?),
+        None => None,
+    };
+    Ok(Vec::from_array(alloc, [to])?)
+}
+
+/// The policy that is wanted.
+fn policy(alloc: Global, wanted: Wanted) -> Result<Policy, AllocError> {
+    let limit = if wanted.restrictive { 100 } else { 1000 };
+    let to = grantees(alloc, wanted.to)?;
+    let name = String::from_str(alloc, wanted.name)?;
+    Ok(Policy {
+        name,
+        restrictive: wanted.restrictive,
+        command: wanted.command,
+        to,
         using: Some(Pred::Compare(
             Operand::Column(0),
             Comparison::Less,
@@ -34,15 +75,18 @@ fn below(alloc: Global, name: &str, limit: i64, restrictive: bool) -> Result<Pol
     })
 }
 
-/// A table of ann's, without row security, with a policy that lets numbers below 100 through.
-fn with_policy(alloc: Global) -> Result<Access, Fail> {
-    let mut access = Access::new(alloc)?;
-    access.create_role(ADMIN, "ann")?;
-    let kinds = Vec::from_array(alloc, [Kind::Int])?;
-    access.add_relation(ADMIN, "notes", "ann", Some(kinds))?;
-    let policy = below(alloc, "any", 100, false)?;
-    access.create_policy(ADMIN, NOTES, policy)?;
-    Ok(access)
+/// Creates the policy that is wanted.
+fn create(
+    access: &mut Access,
+    alloc: Global,
+    acting: RoleId,
+    wanted: Wanted,
+) -> Result<(), AccessFault>
+    requires { 0 < length access.old.rights.guards }
+    ensures { 0 < length access.new.rights.guards }
+{
+    let policy = policy(alloc, wanted)?;
+    access.create_policy(acting, NOTES, policy)
 }
 
 /// What the policies say of a number.
@@ -57,46 +101,303 @@ fn verdict_of(
     Ok(access.check(role, NOTES, test, &row))
 }
 
-/// Whether ann's filter lets a number through.
-fn is_seen(access: &Access, alloc: Global, n: i64) -> Result<bool, AllocError> {
-    let filter = access.filter(ANN, NOTES)?;
+/// Whether the role's filter lets a number through.
+fn is_seen(access: &Access, alloc: Global, role: RoleId, n: i64) -> Result<bool, AllocError> {
     let row = Row(Vec::from_array(alloc, [Value::Int(n)])?);
+    let filter = access.filter(role, NOTES)?;
     Ok(filter.passes(&row))
+}
+
+/// What is said of 1 that ann, admin and bob read.
+fn of_each_role(access: &Access, alloc: Global) -> Result<[Verdict; 3], AllocError> {
+    let ann = verdict_of(access, alloc, ANN, Check::Select, 1)?;
+    let admin = verdict_of(access, alloc, ADMIN, Check::Select, 1)?;
+    let bob = verdict_of(access, alloc, BOB, Check::Select, 1)?;
+    Ok([ann, admin, bob])
+}
+
+/// What is said with row security that is forced, that is not forced, and without it.
+fn switched(access: &mut Access, alloc: Global) -> Result<[[Verdict; 3]; 3], AccessFault> {
+    fill(access, alloc, true)?;
+    let forced = of_each_role(access, alloc)?;
+    access.row_security(ANN, NOTES, true, false)?;
+    let enabled = of_each_role(access, alloc)?;
+    access.row_security(ANN, NOTES, false, true)?;
+    let disabled = of_each_role(access, alloc)?;
+    Ok([forced, enabled, disabled])
 }
 
 #[test]
 fn force_is_for_the_owner_alone(rt: HostRuntime) -> Result<(), Fail> {
     let alloc = rt.alloc();
-    let access = started(alloc, true)?;
-    let ann = verdict_of(&access, alloc, ANN, Check::Select, 1);
-    assert_eq!(rt; ann, Ok(Verdict::NoPermissive));
-    let admin = verdict_of(&access, alloc, ADMIN, Check::Select, 1);
-    assert_eq!(rt; admin, Ok(Verdict::Pass));
+    let mut access = Access::new(alloc)?;
+    let said = switched(&mut access, alloc);
+    let (pass, fail) = (Verdict::Pass, Verdict::NoPermissive);
+    assert_eq!(rt;
+        said,
+        Ok([[fail, pass, fail], [pass, pass, fail], [pass, pass, pass]])
+    );
     Ok(())
 }
 
+/// Adds a permissive policy and two restrictive ones, the first by name last.
+fn restrict(access: &mut Access, alloc: Global) -> Result<(), AccessFault>
+    requires { 0 < length access.old.rights.guards }
+    ensures { 0 < length access.new.rights.guards }
+{
+    create(access, alloc, ANN, for_all("small", true))?;
+    create(access, alloc, ANN, for_all("any", false))?;
+    create(access, alloc, ADMIN, for_all("few", true))
+}
+
+/// Where the policies stand, and whether the second is told as few and as small.
+fn places(access: &Access) -> ([Option<usize>; 3], [bool; 2]) {
+    let places = [
+        access.policy(NOTES, "any"),
+        access.policy(NOTES, "few"),
+        access.policy(NOTES, "small"),
+    ];
+    let few = matches!(access.policy_name(NOTES, 1), Some("few"));
+    let small = matches!(access.policy_name(NOTES, 1), Some("small"));
+    (places, [few, small])
+}
+
+/// What is said of 200 and of 2000 before few is dropped, and of 200 after it.
+fn restricted(access: &mut Access, alloc: Global) -> Result<[Verdict; 3], AccessFault> {
+    fill(access, alloc, true)?;
+    restrict(access, alloc)?;
+    let first = verdict_of(access, alloc, ANN, Check::UpdateNew, 200)?;
+    let none = verdict_of(access, alloc, ANN, Check::UpdateNew, 2000)?;
+    access.drop_policy(ADMIN, NOTES, "few")?;
+    let other = verdict_of(access, alloc, ANN, Check::UpdateNew, 200)?;
+    Ok([first, none, other])
+}
+
 #[test]
-fn owners_pass_where_it_is_not_forced(rt: HostRuntime) -> Result<(), Fail> {
+fn the_first_restrictive_by_name_is_told(rt: HostRuntime) -> Result<(), Fail> {
     let alloc = rt.alloc();
-    let access = started(alloc, false)?;
-    let ann = verdict_of(&access, alloc, ANN, Check::Delete, 1);
-    assert_eq!(rt; ann, Ok(Verdict::Pass));
+    let mut access = Access::new(alloc)?;
+    let said = restricted(&mut access, alloc);
+    let left = places(&access);
+    assert_eq!(rt;
+        said,
+        Ok([
+            Verdict::Restrictive(1),
+            Verdict::NoPermissive,
+            Verdict::Restrictive(1)
+        ])
+    );
+    assert_eq!(rt; left, ([Some(0), None, Some(1)], [false, true]));
     Ok(())
 }
 
-#[test]
-fn a_policy_stands_under_its_name(rt: HostRuntime) -> Result<(), Fail> {
-    let access = with_policy(rt.alloc())?;
-    assert_eq!(rt; access.policy(NOTES, "any"), Some(0));
-    assert_eq!(rt; access.policy(NOTES, "other"), None);
-    assert_eq!(rt; access.policy_name(NOTES, 0), Some("any"));
-    Ok(())
+/// Where the policies stand by name, in whatever order they came.
+fn ordered(
+    access: &mut Access,
+    alloc: Global,
+) -> Result<([Option<usize>; 3], [bool; 2]), AccessFault> {
+    fill(access, alloc, true)?;
+    restrict(access, alloc)?;
+    Ok(places(access))
 }
 
 #[test]
-fn a_reader_without_a_policy_sees_nothing(rt: HostRuntime) -> Result<(), Fail> {
+fn policies_stand_by_name(rt: HostRuntime) -> Result<(), Fail> {
     let alloc = rt.alloc();
-    let access = started(alloc, true)?;
-    assert_eq!(rt; is_seen(&access, alloc, 1), Ok(false));
+    let mut access = Access::new(alloc)?;
+    let places = ordered(&mut access, alloc);
+    assert_eq!(rt; places, Ok(([Some(0), Some(1), Some(2)], [true, false])));
+    Ok(())
+}
+
+/// Whether the role sees a number by its filter, and whether the test of those that are read passes.
+fn seen_and_passed(
+    access: &Access,
+    alloc: Global,
+    role: RoleId,
+    n: i64,
+) -> Result<[bool; 2], AllocError> {
+    let seen = is_seen(access, alloc, role, n)?;
+    let verdict = verdict_of(access, alloc, role, Check::Select, n)?;
+    Ok([seen, verdict == Verdict::Pass])
+}
+
+/// The same of ann and of admin at four numbers, with a policy that needs less than 1000 and two that need less than 100.
+fn compared(access: &mut Access, alloc: Global) -> Result<[[bool; 2]; 6], AccessFault> {
+    fill(access, alloc, true)?;
+    let without = seen_and_passed(access, alloc, ANN, 1)?;
+    restrict(access, alloc)?;
+    let small = seen_and_passed(access, alloc, ANN, 99)?;
+    let large = seen_and_passed(access, alloc, ANN, 100)?;
+    let larger = seen_and_passed(access, alloc, ANN, 1000)?;
+    let other = seen_and_passed(access, alloc, BOB, 99)?;
+    let admin = seen_and_passed(access, alloc, ADMIN, 1000)?;
+    Ok([without, small, large, larger, other, admin])
+}
+
+#[test]
+fn filters_let_through_what_the_test_passes(rt: HostRuntime) -> Result<(), Fail> {
+    let alloc = rt.alloc();
+    let mut access = Access::new(alloc)?;
+    let seen = compared(&mut access, alloc);
+    let (yes, no) = ([true, true], [false, false]);
+    assert_eq!(rt; seen, Ok([no, yes, no, no, yes, yes]));
+    Ok(())
+}
+
+/// What is said of each test of 1 with a policy for the command that goes to bob: of his, and of ann's.
+fn of_each_test(
+    access: &mut Access,
+    alloc: Global,
+    command: PolicyCommand,
+) -> Result<[[bool; 5]; 2], AccessFault>
+    requires { 0 < length access.old.rights.guards }
+{
+    let named = Wanted {
+        name: "one",
+        restrictive: false,
+        command,
+        to: Some("bob"),
+    };
+    create(access, alloc, ANN, named)?;
+    let bob = passed(access, alloc, BOB)?;
+    let ann = passed(access, alloc, ANN)?;
+    Ok([bob, ann])
+}
+
+/// Which tests the role passes with 1.
+fn passed(access: &Access, alloc: Global, role: RoleId) -> Result<[bool; 5], AllocError> {
+    let select = verdict_of(access, alloc, role, Check::Select, 1)?;
+    let insert = verdict_of(access, alloc, role, Check::Insert, 1)?;
+    let old = verdict_of(access, alloc, role, Check::UpdateOld, 1)?;
+    let new = verdict_of(access, alloc, role, Check::UpdateNew, 1)?;
+    let delete = verdict_of(access, alloc, role, Check::Delete, 1)?;
+    Ok([
+        select == Verdict::Pass,
+        insert == Verdict::Pass,
+        old == Verdict::Pass,
+        new == Verdict::Pass,
+        delete == Verdict::Pass,
+    ])
+}
+
+/// The same with a fresh table.
+fn covered(alloc: Global, command: PolicyCommand) -> Result<[[bool; 5]; 2], AccessFault> {
+    let mut access = Access::new(alloc)?;
+    fill(&mut access, alloc, true)?;
+    of_each_test(&mut access, alloc, command)
+}
+
+#[test]
+fn policies_are_for_their_command_and_their_roles(rt: HostRuntime) -> Result<(), Fail> {
+    let alloc = rt.alloc();
+    let none = [false; 5];
+    assert_eq!(rt; covered(alloc, PolicyCommand::All), Ok([[true; 5], none]));
+    assert_eq!(rt;
+        covered(alloc, PolicyCommand::Select),
+        Ok([[true, false, false, false, false], none])
+    );
+    assert_eq!(rt;
+        covered(alloc, PolicyCommand::Insert),
+        Ok([[false, true, false, false, false], none])
+    );
+    assert_eq!(rt;
+        covered(alloc, PolicyCommand::Update),
+        Ok([[false, false, true, true, false], none])
+    );
+    assert_eq!(rt;
+        covered(alloc, PolicyCommand::Delete),
+        Ok([[false, false, false, false, true], none])
+    );
+    Ok(())
+}
+
+/// Adds policies until the table has 32.
+fn fill_policies(access: &mut Access, alloc: Global) -> Result<(), AccessFault>
+    requires { 0 < length access.old.rights.guards }
+    ensures { 0 < length access.new.rights.guards }
+{
+    for n in 0..32u32 {
+        let name = format!(in alloc; "p{n}")?;
+        create(access, alloc, ANN, for_all(name.as_str(), false))?;
+    }
+    Ok(())
+}
+
+/// A policy that goes to carl, who is no role.
+fn for_carl(name: &str) -> Wanted<'_> {
+    Wanted {
+        name,
+        restrictive: true,
+        command: PolicyCommand::All,
+        to: Some("carl"),
+    }
+}
+
+/// The faults of new policies of a table that has 32, and where a policy stands that was refused.
+fn creating(
+    access: &mut Access,
+    alloc: Global,
+) -> Result<([Option<AccessFault>; 4], Option<usize>), AccessFault> {
+    fill(access, alloc, true)?;
+    fill_policies(access, alloc)?;
+    let foreign = create(access, alloc, BOB, for_carl("p1")).err();
+    let unknown = create(access, alloc, ANN, for_carl("p1")).err();
+    let taken = create(access, alloc, ANN, for_all("p1", true)).err();
+    let many = create(access, alloc, ANN, for_all("new", true)).err();
+    Ok(([foreign, unknown, taken, many], access.policy(NOTES, "new")))
+}
+
+#[test]
+fn policies_are_refused_in_order(rt: HostRuntime) -> Result<(), Fail> {
+    let alloc = rt.alloc();
+    let mut access = Access::new(alloc)?;
+    let faults = creating(&mut access, alloc);
+    let seen = is_seen(&access, alloc, ANN, 999);
+    assert_eq!(rt;
+        faults,
+        Ok((
+            [
+                Some(AccessFault::NotOwner),
+                Some(AccessFault::Role),
+                Some(AccessFault::Taken),
+                Some(AccessFault::TooMany)
+            ],
+            None
+        ))
+    );
+    assert_eq!(rt; seen, Ok(true));
+    Ok(())
+}
+
+/// The faults of a role that does not own the table, and of a policy that is not there.
+fn changing(access: &mut Access, alloc: Global) -> Result<[Option<AccessFault>; 4], AccessFault> {
+    fill(access, alloc, true)?;
+    restrict(access, alloc)?;
+    let switched = access.row_security(BOB, NOTES, false, false).err();
+    let foreign = access.drop_policy(BOB, NOTES, "none").err();
+    let unknown = access.drop_policy(ANN, NOTES, "none").err();
+    let other = access.drop_policy(BOB, NOTES, "few").err();
+    Ok([switched, foreign, unknown, other])
+}
+
+#[test]
+fn switches_and_drops_are_refused_in_order(rt: HostRuntime) -> Result<(), Fail> {
+    let alloc = rt.alloc();
+    let mut access = Access::new(alloc)?;
+    let faults = changing(&mut access, alloc);
+    let places = places(&access);
+    let said = verdict_of(&access, alloc, ANN, Check::Insert, 200);
+    assert_eq!(rt;
+        faults,
+        Ok([
+            Some(AccessFault::NotOwner),
+            Some(AccessFault::NotOwner),
+            Some(AccessFault::Policy),
+            Some(AccessFault::NotOwner)
+        ])
+    );
+    assert_eq!(rt; places, ([Some(0), Some(1), Some(2)], [true, false]));
+    assert_eq!(rt; said, Ok(Verdict::Restrictive(1)));
     Ok(())
 }

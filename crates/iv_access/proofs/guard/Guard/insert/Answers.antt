@@ -1,4 +1,4 @@
-use Rattle.std.proofs.Common.{◌≡◌, ap, sym, ◌∙◌}
+use Rattle.std.proofs.Common.{◌≡◌, ap, ◌∙◌}
 use Rattle.std.specs.Prelude.{insert}
 use Rattle.std.specs.List.{position_or_len}
 use Rattle.iv_access.specs.Changing.{insert_policy}
