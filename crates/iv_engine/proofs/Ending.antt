@@ -1,5 +1,5 @@
 -- What a revoke takes back.
-use Rattle.std.proofs.Common.{◌≡◌, ◌<◌, ℕ, Bool, true, false, cond, not, List, [], ◌∷◌, length, Option, None, Some, refl, sym, ap, ◌∙◌}
+use Rattle.std.proofs.Common.{◌≡◌, ℕ, Bool, true, false, cond, not, List, [], ◌∷◌, Option, None, Some, refl, sym, ap, ◌∙◌}
 use Rattle.std.specs.Prelude.{filter, flat_map, is_some}
 use Rattle.std.specs.List.{AllByRecursion}
 use Rattle.iv_algebra.specs.Plans.{Lists}
@@ -14,9 +14,10 @@ use Rattle.iv_machine.specs.Refusing.{refusal, frame_refusal, or_else}
 use Rattle.iv_machine.specs.State.{Subscription, actor, subscription_of, view_of}
 use Rattle.iv_machine.proofs.Reached.{unique_kept, given_kept}
 use Rattle.iv_engine.specs.Answering.{ended_line, last_line, sent}
-use Rattle.iv_engine.specs.Kept.{Kept, IsOpen, IsSound, IsStored, at, frame_of, may_read}
+use Rattle.iv_engine.specs.Kept.{Kept, IsOpen, IsSound, IsStored, at, frame_of, may_read, shown_rows}
 use Rattle.iv_engine.specs.Next.{kept_after}
 use Rattle.iv_engine.specs.Stands.{Stands}
+use Rattle.iv_engine.proofs.Seeing.{rows_same}
 use Rattle.iv_engine.proofs.Showing.{cause_for, difference_none, ending_is, kept_found, kept_one, shown_is, view_is}
 use Rattle.iv_engine.proofs.Sound.{all_map, all_zip}
 use Rattle.iv_engine.proofs.Stepping.{IsShown, each_shown, same_lines}
@@ -55,11 +56,11 @@ module _ (e : Kept) (n : ℕ) (name : Name) (ps : List Privilege) (to : Option N
   pub revoked_stored : IsStored c
   revoked_stored = record {
     reached = record { unique = h.stored.reached.unique; given = h.stored.reached.given };
+    roles = h.stored.roles;
     relations = h.stored.relations;
     guards = h.stored.guards;
     bags = h.stored.bags;
     tables = h.stored.tables;
-    off = h.stored.off;
     zsets = h.stored.zsets;
     small = h.stored.small;
     shows = all_map (IsOpen e) (IsOpen c) e.subscriptions (λ s o. record { session = o.session; known = o.known }) h.stored.shows;
@@ -69,11 +70,11 @@ module _ (e : Kept) (n : ℕ) (name : Name) (ps : List Privilege) (to : Option N
   revoked_sound = record {
     stored = record {
       reached = record { unique = unique_kept (may_read c) e.subscriptions h.stored.reached.unique; given = given_kept e.last (may_read c) e.subscriptions h.stored.reached.given };
+      roles = h.stored.roles;
       relations = h.stored.relations;
       guards = h.stored.guards;
       bags = h.stored.bags;
       tables = h.stored.tables;
-      off = h.stored.off;
       zsets = h.stored.zsets;
       small = h.stored.small;
       shows = all_kept (IsOpen new) (may_read c) e.subscriptions (all_map (IsOpen e) (IsOpen new) e.subscriptions (λ s o. record { session = o.session; known = o.known }) h.stored.shows);
@@ -98,18 +99,22 @@ module _ (e : Kept) (n : ℕ) (name : Name) (ps : List Privilege) (to : Option N
     pub revoked_left : settled (revoke name ps to) (after (at e T) n (revoke name ps to)) ≡ at new T
     revoked_left = ap (λ ss. at (record c { subscriptions = ss }) T) left
 
-    line_by : (s : Subscription) (b : Bool) → machine_line (cause_for b) s (difference (T s.rel) (if_some (cond b (Some s) None) [] (λ x. T x.rel))) ≡ cond b [] (last_line T s ∷ [])
-    line_by s true = ap (machine_line None s) (difference_none (T s.rel))
+    -- a revoke changes nothing that is shown
+    still : (s : Subscription) → shown_rows c T s ≡ shown_rows e T s
+    still s = rows_same c.known.rights e.known.rights (actor (frame_of e) s.session) s.rel refl refl (T s.rel)
+
+    line_by : (s : Subscription) (b : Bool) → machine_line (cause_for b) s (difference (shown_rows c T s) (if_some (cond b (Some s) None) [] (λ x. shown_rows c T x))) ≡ cond b [] (last_line c T s ∷ [])
+    line_by s true = ap (machine_line None s) (difference_none (shown_rows c T s))
     line_by s false = refl
 
-    shows_by : (s : Subscription) (b : Bool) → s.rel < length e.columns → if_some (cond b (Some s) None) [] (view_of (at new T)) ≡ if_some (cond b (Some s) None) [] (λ x. T x.rel)
-    shows_by s true l = view_is new T revoked_sound.stored (actor (frame_of new) s.session) s.rel l
-    shows_by s false l = refl
+    shows_by : (s : Subscription) (b : Bool) → if_some (cond b (Some s) None) [] (view_of (at new T)) ≡ if_some (cond b (Some s) None) [] (λ x. shown_rows c T x)
+    shows_by s true = view_is new T (actor (frame_of new) s.session) s.rel
+    shows_by s false = refl
 
     line_is : (s : Subscription) → IsShown e s → subscription_of (filter (may_read c) e.subscriptions) s.number ≡ kept_one (may_read c) s → ending (at c T) s ≡ cause_for (may_read c s) → line_for (at e T) (at new T) (ending (at c T)) s ≡ ended_line c T s
     line_is s x found k =
-        (λ i. machine_line (k i) s (difference (shown_is e T h.stored s x.found x.known i) (if_some (found i) [] (view_of (at new T)))))
-        ∙ ap (λ rows. machine_line (cause_for (may_read c s)) s (difference (T s.rel) rows)) (shows_by s (may_read c s) x.known)
+        (λ i. machine_line (k i) s (difference ((shown_is e T s x.found ∙ sym (still s)) i) (if_some (found i) [] (view_of (at new T)))))
+        ∙ ap (λ rows. machine_line (cause_for (may_read c s)) s (difference (shown_rows c T s) rows)) (shows_by s (may_read c s))
         ∙ line_by s (may_read c s)
 
     abbrev Q : Subscription → Type 0

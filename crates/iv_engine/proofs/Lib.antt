@@ -6,7 +6,16 @@ mod Telling
 mod Lines
 mod Opening
 mod Fitting
+mod Sums
+mod TablesOf
+mod Bagging
 mod Checking
 mod Gathering
+mod Settling
 mod Running
 mod Ending
+mod Seeing
+mod Passing
+mod Listing
+mod Guarding
+mod Hanging

@@ -18,7 +18,7 @@ use Rattle.iv_machine.specs.Machine.{changes, line_for, line_of as machine_line,
 use Rattle.iv_machine.specs.Reached.{IsReached}
 use Rattle.iv_machine.proofs.Reached.{after_reached, next_is_new}
 use Rattle.iv_engine.specs.Answering.{sent}
-use Rattle.iv_engine.specs.Kept.{Kept, IsOpen, IsSound, IsStored, at, frame_of, may_read}
+use Rattle.iv_engine.specs.Kept.{Kept, IsOpen, IsSound, IsStored, at, frame_of, may_read, shown_rows}
 use Rattle.iv_engine.specs.Stands.{Stands}
 use Rattle.iv_engine.proofs.Showing.{difference_none, missing_is, shown_is, view_fits}
 use Rattle.iv_engine.proofs.Sound.{all_map, all_zip}
@@ -115,11 +115,11 @@ module _ (e : Kept) (n k : ℕ) (name : Name) (h : IsSound e) (number : rel_of (
   opened_sound = record {
     stored = record {
       reached = reached;
+      roles = h.stored.roles;
       relations = h.stored.relations;
       guards = h.stored.guards;
       bags = h.stored.bags;
       tables = h.stored.tables;
-      off = h.stored.off;
       zsets = h.stored.zsets;
       small = h.stored.small;
       shows = all_inserted (IsOpen new) s e.subscriptions (record { session = open'; known = low }) (all_map (IsOpen e) (IsOpen new) e.subscriptions (λ x o. record { session = o.session; known = o.known }) h.stored.shows);
@@ -143,12 +143,12 @@ module _ (e : Kept) (n k : ℕ) (name : Name) (h : IsSound e) (number : rel_of (
     pub decided : frame_refusal (frame_of e) n (subscribe name) ≡ None → refusal (at e T) n (subscribe name) ≡ None
     decided p = (λ i. or_else (p i) (rows_refusal (at e T) n (subscribe name)))
         ∙ ap (λ j. test (not (Rattle.iv_machine.specs.State.is_within_for (at e T) (actor (frame_of e) n) j)) machine.limit) number
-        ∙ ap (λ b. test (not b) machine.limit) (view_fits e T h.stored stands (actor (frame_of e) n) k low)
+        ∙ ap (λ b. test (not b) machine.limit) (view_fits e T h.stored stands (actor (frame_of e) n) k)
 
     -- what was open before gets no line
     old_line : (x : Subscription) → IsShown e x → IsShown new x → ending (at new T) x ≡ None → line_for (at e T) (at new T) (ending (at new T)) x ≡ []
-    old_line x a b c = (λ i. machine_line (c i) x (difference (shown_is e T h.stored x a.found a.known i) (shown_is new T opened_sound.stored x b.found b.known i)))
-        ∙ ap (machine_line None x) (difference_none (T x.rel))
+    old_line x a b c = (λ i. machine_line (c i) x (difference (shown_is e T x a.found i) (shown_is new T x b.found i)))
+        ∙ ap (machine_line None x) (difference_none (shown_rows e T x))
 
     new_shown : P s × AllByRecursion P e.subscriptions
     new_shown = all_uninserted P s e.subscriptions
@@ -158,10 +158,10 @@ module _ (e : Kept) (n k : ℕ) (name : Name) (h : IsSound e) (number : rel_of (
     old_lines = all_zip (IsShown e) P (λ x. line_for (at e T) (at new T) (ending (at new T)) x ≡ []) e.subscriptions (λ x a b. old_line x a b.0 b.1) (each_shown e h.stored) new_shown.1
 
     -- and the new one its rows
-    new_line : line_for (at e T) (at new T) (ending (at new T)) s ≡ machine_line None s (difference [] (T k))
-    new_line = (λ i. machine_line (new_shown.0.1 i) s (difference (before i) (shown_is new T opened_sound.stored s new_shown.0.0.found new_shown.0.0.known i)))
+    new_line : line_for (at e T) (at new T) (ending (at new T)) s ≡ machine_line None s (difference [] (shown_rows e T s))
+    new_line = (λ i. machine_line (new_shown.0.1 i) s (difference (before i) (shown_is new T s new_shown.0.0.found i)))
 
-    pub opened_sent : sent e T n (subscribe name) ≡ machine_line None s (difference [] (T k))
+    pub opened_sent : sent e T n (subscribe name) ≡ machine_line None s (difference [] (shown_rows e T s))
     opened_sent = (λ i. changes (subscribe name) (at e T) (after_is i) (settled (subscribe name) (after_is i)))
         ∙ ap (λ ss. flat_map (line_for (at e T) (at (record new { subscriptions = ss }) T) (ending (at new T))) new.subscriptions) (none_settled new T opened_sound stands)
         ∙ inserted_lines (line_for (at e T) (at new T) (ending (at new T))) s e.subscriptions old_lines

@@ -17,7 +17,7 @@ use Rattle.iv_machine.specs.Held.{closed, closed_in}
 use Rattle.iv_machine.specs.Refusing.{refusal}
 use Rattle.iv_engine.specs.Views.{act_of, command_of, reply_of, line_of}
 use Rattle.iv_engine.specs.declared.command.Act.{Act}
-use Rattle.iv_engine.specs.declared.command.Act.TheVariants.{Begin, CreateRole, CreateTable, Grant, Revoke, Write, Subscribe}
+use Rattle.iv_engine.specs.declared.command.Act.TheVariants.{Begin, CreateRole, CreateTable, Grant, Revoke, RowSecurity, CreatePolicy, DropPolicy, Write, Subscribe}
 use Rattle.iv_engine.specs.declared.command.Command.{Command}
 use Rattle.iv_engine.specs.declared.answer.Answer.{Answer}
 use Rattle.iv_engine.specs.declared.answer.Answer.TheVariants.{Refused, Accepted}
@@ -57,9 +57,6 @@ and_second false c h = cc
 pub well_columns : (name owner : List ℕ) (columns : List Column) → is_well_act (create_table name owner columns) ≡ true → (has_columns columns && has_distinct_names columns) ≡ true
 well_columns name owner columns h = and_second (is_name owner) (has_columns columns && has_distinct_names columns) (and_second (is_name name) (is_name owner && (has_columns columns && has_distinct_names columns)) h)
 
-pub well_first : (c : machine.Command) (cs : List machine.Command) → list_all is_well_command (c ∷ cs) ≡ true → is_well_command c ≡ true
-well_first c cs h = and_first (is_well_command c) (list_all is_well_command cs) h
-
 pub well_others : (c : machine.Command) (cs : List machine.Command) → list_all is_well_command (c ∷ cs) ≡ true → list_all is_well_command cs ≡ true
 well_others c cs h = and_second (is_well_command c) (list_all is_well_command cs) h
 
@@ -86,6 +83,9 @@ nothing_closed s (CreateRole name) n None = refl
 nothing_closed s (CreateTable name owner columns) n None = refl
 nothing_closed s (Grant rel privileges grantee) n None = refl
 nothing_closed s (Revoke rel privileges grantee) n None = refl
+nothing_closed s (RowSecurity rel enable force) n None = refl
+nothing_closed s (CreatePolicy policy) n None = refl
+nothing_closed s (DropPolicy rel name) n None = refl
 nothing_closed s (Write entries) n None = refl
 nothing_closed s (Subscribe rel) n None = refl
 nothing_closed s a n (Some r) = refl

@@ -1,80 +1,55 @@
 -- What subscriptions show, and which of them end.
-use Rattle.std.proofs.Common.{◌≡◌, ℕ, zero, suc, ◌<◌, ◌≤◌, Bool, true, false, cond, not, ◌&&◌, ◌||◌, List, [], ◌∷◌, ◌++◌, length, map, pos, Option, None, Some, refl, ap, ◌∙◌, arith}
+use Rattle.std.proofs.Common.{◌≡◌, ℕ, ◌<◌, ◌≤◌, Bool, true, false, cond, not, ◌||◌, List, [], ◌∷◌, ◌++◌, length, map, pos, Option, None, Some, refl, ap, ◌∙◌, arith}
 use Rattle.std.proofs.lemmas.Bool.Decides.{nat_tests}
 use Rattle.std.proofs.lemmas.Int.{ints}
-use Rattle.std.specs.Prelude.{◌==◌, ◌-ℤ◌, is_some, slice_get, filter, nat_le}
+use Rattle.std.specs.Prelude.{◌==◌, ◌-ℤ◌, is_some, filter, nat_le}
 use Rattle.std.specs.Ordering.{int_eq}
 use Rattle.std.specs.List.{AllByRecursion, list_any}
 use Rattle.iv_rows.specs.Cell.{Cell}
 use Rattle.iv_zset.specs.Limits.{copies, within}
 use Rattle.iv_zset.proofs.Limits.{within_is}
-use Rattle.iv_algebra.specs.Rows.{Cells}
 use Rattle.iv_algebra.specs.Plans.{Lists}
 use Rattle.iv_algebra.specs.Evaluation.{eval, plan_within}
 use Rattle.iv_bind.specs.Faults.{if_some}
 use Rattle.iv_access.specs.declared.privilege.Privilege.{Privilege}
 use Rattle.iv_access.specs.declared.privilege.Privilege.TheVariants.{Select}
-use Rattle.iv_access.specs.declared.policy.Check.{Check}
-use Rattle.iv_access.specs.declared.policy.Check.TheVariants as check
-use Rattle.iv_access.specs.declared.policy.Verdict.TheVariants.{Pass}
-use Rattle.iv_access.specs.Rights.{Guard, Rights}
-use Rattle.iv_access.specs.Privileges.{first_missing, is_admin, is_owner}
-use Rattle.iv_access.specs.Policies.{allowed, by_policies, is_exempt, may_see, is_pass, policies_of, verdict}
+use Rattle.iv_access.specs.Privileges.{first_missing}
+use Rattle.iv_access.specs.Policies.{allowed, may_see}
 use Rattle.iv_machine.specs.State.{Subscription, actor, subscription_of, view_for, view_of, is_within_for, missing_for, shown}
 use Rattle.iv_machine.specs.Machine.{difference, is_change, weighted, rising_rows, first_cause, ending}
 use Rattle.iv_machine.specs.Reached.{AreUnique}
 use Rattle.iv_machine.specs.declared.Cause.{Cause}
 use Rattle.iv_machine.specs.declared.Cause.TheVariants as cause
-use Rattle.iv_engine.specs.Kept.{Kept, IsStored, frame_of, at, cap, may_read}
+use Rattle.iv_engine.specs.Kept.{Kept, IsStored, frame_of, at, cap, may_read, shown_rows}
 use Rattle.iv_engine.specs.Stands.{Stands, bag_at}
+use Rattle.iv_engine.proofs.Seeing.{filter_within}
 use Rattle.iv_engine.proofs.Tables.{plan_is, needs_are}
-
--- ---- row security is off
-
-abbrev pub AreOff : List Guard → Type 0
-AreOff gs = AllByRecursion (λ g. g.enabled ≡ false) gs
-
-off_at : (r : Rights) (role : ℕ) (gs : List Guard) (t : ℕ) → AreOff gs → t < length gs → is_exempt r role (slice_get gs t) ≡ true
-off_at r role [] t a l = absurd (omega arith)
-off_at r role (g ∷ gs) zero a l = ap (λ b. not b || (is_admin role || (is_owner r role (Some g) && not g.forced))) a.0
-off_at r role (g ∷ gs) (suc t) a l = off_at r role gs t a.1 (omega arith)
-
-pub passes : (r : Rights) (role t : ℕ) (c : Check) (row : Cells) → AreOff r.guards → t < length r.guards → verdict r role t c row ≡ Pass
-passes r role t c row a l = ap (λ b. cond b Pass (by_policies r role c row (policies_of (slice_get r.guards t)))) (off_at r role r.guards t a l)
-
-keep_all : {X : Type 0} (p : X → Bool) (xs : List X) → ((x : X) → p x ≡ true) → filter p xs ≡ xs
-keep_all p [] h = refl
-keep_all p (x ∷ xs) h = (λ i. cond (h x i) (x ∷ filter p xs) (filter p xs)) ∙ ap (λ ys. x ∷ ys) (keep_all p xs h)
-
-all_seen : (r : Rights) (role t : ℕ) (rows : List Cells) → AreOff r.guards → t < length r.guards → filter (may_see r role t) rows ≡ rows
-all_seen r role t rows a l = keep_all (may_see r role t) rows (λ row. ap is_pass (passes r role t check.Select row a l))
 
 nat_at_most : (m n : ℕ) → m ≤ n → nat_le m n ≡ true
 nat_at_most m n h = grind (arith, nat_tests)
 
-guarded : (a b c : ℕ) → a ≡ b → c < b → c < a
-guarded a b c h l = omega arith
+-- ---- a view is the rows of its table that its reader sees
 
--- ---- a view is its table
+module _ (e : Kept) (T : Lists) where
+  pub view_is : (role rel : ℕ) → view_for (at e T) role rel ≡ filter (may_see e.known.rights role rel) (T rel)
+  view_is role rel = ap (λ p. eval p (allowed e.known.rights role T)) (plan_is 0 e.known.relations e.columns rel)
 
-module _ (e : Kept) (T : Lists) (sound : IsStored e) where
-  pub view_is : (role rel : ℕ) → rel < length e.columns → view_for (at e T) role rel ≡ T rel
-  view_is role rel l = ap (λ p. eval p (allowed e.known.rights role T)) (plan_is 0 e.known.relations e.columns rel)
-      ∙ all_seen e.known.rights role rel (T rel) sound.off (guarded (length e.known.rights.guards) (length e.columns) rel sound.guards l)
+  pub within_for : (role rel : ℕ) → is_within_for (at e T) role rel ≡ within cap (filter (may_see e.known.rights role rel) (T rel))
+  within_for role rel = ap (λ p. plan_within cap p (allowed e.known.rights role T)) (plan_is 0 e.known.relations e.columns rel)
 
-  pub within_for : (role rel : ℕ) → rel < length e.columns → is_within_for (at e T) role rel ≡ within cap (T rel)
-  within_for role rel l = ap (λ p. plan_within cap p (allowed e.known.rights role T)) (plan_is 0 e.known.relations e.columns rel)
-      ∙ ap (within cap) (all_seen e.known.rights role rel (T rel) sound.off (guarded (length e.known.rights.guards) (length e.columns) rel sound.guards l))
+  pub shown_is : (s : Subscription) → subscription_of e.subscriptions s.number ≡ Some s → shown (at e T) s.number ≡ shown_rows e T s
+  shown_is s found = ap (λ o. if_some o [] (view_of (at e T))) found ∙ view_is (actor (frame_of e) s.session) s.rel
 
-  pub shown_is : (s : Subscription) → subscription_of e.subscriptions s.number ≡ Some s → s.rel < length e.columns → shown (at e T) s.number ≡ T s.rel
-  shown_is s found l = ap (λ o. if_some o [] (view_of (at e T))) found ∙ view_is (actor (frame_of e) s.session) s.rel l
+  -- and is within the limits where the table is
+  pub view_within : (role rel : ℕ) → within cap (T rel) ≡ true → is_within_for (at e T) role rel ≡ true
+  view_within role rel w = within_for role rel ∙ filter_within (may_see e.known.rights role rel) cap (T rel) w
 
-  module _ (stands : Stands T e.bags) where
+  module _ (sound : IsStored e) (stands : Stands T e.bags) where
     pub table_fits : (t : ℕ) → within cap (T t) ≡ true
     table_fits t = within_is cap (bag_at e.bags t) (T t) (sound.zsets t) (stands t) ∙ nat_at_most (length (bag_at e.bags t)) cap (sound.small t)
 
-    pub view_fits : (role rel : ℕ) → rel < length e.columns → is_within_for (at e T) role rel ≡ true
-    view_fits role rel l = within_for role rel l ∙ table_fits rel
+    pub view_fits : (role rel : ℕ) → is_within_for (at e T) role rel ≡ true
+    view_fits role rel = view_within role rel (table_fits rel)
 
 -- ---- which subscriptions end
 
@@ -93,7 +68,7 @@ ends_by false w p h = refl
 pub ending_is : (e : Kept) (T : Lists) → IsStored e → Stands T e.bags → (s : Subscription) → s.rel < length e.columns → ending (at e T) s ≡ cause_for (may_read e s)
 ending_is e T sound stands s l = let role = actor (frame_of e) s.session in
     ap (λ o. first_cause (is_some o) (is_within_for (at e T) role s.rel)) (missing_is e role s.rel sound l)
-    ∙ ends_by (may_read e s) (is_within_for (at e T) role s.rel) (Select, s.rel) (view_fits e T sound stands role s.rel l)
+    ∙ ends_by (may_read e s) (is_within_for (at e T) role s.rel) (Select, s.rel) (view_fits e T sound stands role s.rel)
 
 -- ---- nothing changes
 

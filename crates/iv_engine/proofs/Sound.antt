@@ -1,20 +1,25 @@
 -- What every stored state has is kept by requests that show nothing.
-use Rattle.std.proofs.Common.{◌≡◌, ℕ, zero, suc, ◌+◌, ◌≤◌, Bool, true, false, cond, ◌&&◌, ◌||◌, List, [], ◌∷◌, ◌++◌, length, length-append, Option, None, Some, refl, sym, ap, subst, ◌∙◌, arith}
-use Rattle.std.specs.Prelude.{◌==◌, is_some, option_map, unwrap_or}
+use Rattle.std.proofs.Common.{◌≡◌, ℕ, zero, suc, ◌+◌, ◌<◌, ◌≤◌, Bool, true, false, cond, ◌&&◌, ◌||◌, List, [], ◌∷◌, ◌++◌, length, length-append, Option, None, Some, refl, sym, ap, subst, ◌∙◌, arith}
+use Rattle.std.specs.Prelude.{◌==◌, filter, is_some, option_map, slice_get, unwrap_or}
 use Rattle.std.specs.List.{AllByRecursion, IsDistinct, list_any}
 use Rattle.iv_zset.specs.Weights.{Weighed, IsZSet}
 use Rattle.iv_rows.specs.Columns.{Column, kinds_of}
+use Rattle.iv_algebra.specs.Plans.{Lists}
+use Rattle.iv_access.specs.Policies.{may_see}
 use Rattle.iv_access.specs.declared.privilege.Privilege.{Privilege}
 use Rattle.iv_access.specs.declared.privilege.Privilege.TheVariants.{Select}
 use Rattle.iv_access.specs.Known.{Relation, known_at_start, role_number, grantee_of}
-use Rattle.iv_access.specs.Rights.{Grant, Grantee, Public, Role, Guard, Name, Rights}
+use Rattle.iv_access.specs.Rights.{Grant, Grantee, Role, Guard, Name, Rights}
 use Rattle.iv_access.specs.Privileges.{has, is_admin, is_for, privilege_eq}
 use Rattle.iv_access.specs.Changing.{grant_eq, granted, for_each, with_grants, with_relation, with_role, all_privileges}
 use Rattle.iv_machine.specs.State.{Session, Subscription, actor, session_of, rel_of}
 use Rattle.iv_machine.specs.Act.{begin, create_role, create_table, grant}
-use Rattle.iv_engine.specs.Kept.{Kept, IsOpen, IsSound, frame_of, may_read}
+use Rattle.iv_machine.specs.Refusing.{frame_refusal}
+use Rattle.iv_machine.proofs.Placing.{roles_after}
+use Rattle.iv_engine.specs.Kept.{Kept, IsOpen, IsSound, frame_of, may_read, shown_rows}
 use Rattle.iv_engine.specs.Next.{kept_after}
 use Rattle.iv_engine.specs.Stands.{bag_at}
+use Rattle.iv_engine.proofs.Seeing.{for_same, rows_same}
 
 -- ---- lists
 
@@ -45,10 +50,6 @@ pushed_at (x ∷ bags) (suc t) = pushed_at bags t
 
 gives : Rights → ℕ → Privilege → ℕ → Grant → Bool
 gives r role p rel g = rel == g.rel && (privilege_eq p g.privilege && is_for r role g.grantee)
-
-for_same : (r q : Rights) (role : ℕ) (to : Grantee) → is_for r role to ≡ is_for q role to
-for_same r q role Public = refl
-for_same r q role (Role other) = refl
 
 any_same : (r q : Rights) (role : ℕ) (p : Privilege) (rel : ℕ) (gs : List Grant)
     → list_any (λ g. rel == g.rel && (privilege_eq p g.privilege && is_for r role g.grantee)) gs ≡ list_any (λ g. rel == g.rel && (privilege_eq p g.privilege && is_for q role g.grantee)) gs
@@ -109,18 +110,18 @@ some_role (Some s) a b h = refl
 -- ---- request by request
 
 module _ (e : Kept) (n : ℕ) (h : IsSound e) where
-  pub begin_sound : (role : Name) → IsSound (kept_after e n (begin role))
-  begin_sound role =
+  pub begin_sound : (role : Name) → frame_refusal (frame_of e) n (begin role) ≡ None → IsSound (kept_after e n (begin role))
+  begin_sound role passed =
       let x : Session = record { number = n; role = role_number e.known.rights role } in
       let same = λ (s : Subscription) (o : IsOpen e s). open_same e.sessions x s.session o.session in
       record {
         stored = record {
           reached = record { unique = h.stored.reached.unique; given = h.stored.reached.given };
+          roles = roles_after (frame_of e) n (begin role) passed h.stored.roles;
           relations = h.stored.relations;
           guards = h.stored.guards;
           bags = h.stored.bags;
           tables = h.stored.tables;
-          off = h.stored.off;
           zsets = h.stored.zsets;
           small = h.stored.small;
           shows = all_map (IsOpen e) (IsOpen (kept_after e n (begin role))) e.subscriptions (λ s o. record { session = ap (λ p. is_some p) (same s o) ∙ o.session; known = o.known }) h.stored.shows;
@@ -129,16 +130,16 @@ module _ (e : Kept) (n : ℕ) (h : IsSound e) where
             (λ s o r. ap (λ (p : Option Session). has e.known.rights (unwrap_or (option_map (λ y. y.role) p) (length e.known.rights.roles)) Select s.rel) (same s o) ∙ r) h.stored.shows h.served;
       }
 
-  pub role_sound : (name : Name) → IsSound (kept_after e n (create_role name))
-  role_sound name = let q = with_role name e.known.rights in
+  pub role_sound : (name : Name) → frame_refusal (frame_of e) n (create_role name) ≡ None → IsSound (kept_after e n (create_role name))
+  role_sound name passed = let q = with_role name e.known.rights in
       record {
         stored = record {
           reached = record { unique = h.stored.reached.unique; given = h.stored.reached.given };
+          roles = roles_after (frame_of e) n (create_role name) passed h.stored.roles;
           relations = h.stored.relations;
           guards = h.stored.guards;
           bags = h.stored.bags;
           tables = h.stored.tables;
-          off = h.stored.off;
           zsets = h.stored.zsets;
           small = h.stored.small;
           shows = all_map (IsOpen e) (IsOpen (kept_after e n (create_role name))) e.subscriptions (λ s o. record { session = o.session; known = o.known }) h.stored.shows;
@@ -157,11 +158,11 @@ module _ (e : Kept) (n : ℕ) (h : IsSound e) where
       record {
         stored = record {
           reached = record { unique = h.stored.reached.unique; given = h.stored.reached.given };
+          roles = h.stored.roles;
           relations = longer e.known.relations e.columns r columns h.stored.relations;
           guards = longer e.known.rights.guards e.columns g columns h.stored.guards;
           bags = longer e.bags e.columns [] columns h.stored.bags;
           tables = all_push (λ x. is_some x.kinds ≡ true) e.known.relations r h.stored.tables refl;
-          off = all_push (λ x. x.enabled ≡ false) e.known.rights.guards g h.stored.off refl;
           zsets = λ t. subst IsZSet (sym (pushed_at e.bags t)) (h.stored.zsets t);
           small = λ t. subst (λ (z : Weighed). length z ≤ 65536) (sym (pushed_at e.bags t)) (h.stored.small t);
           shows = all_map (IsOpen e) (IsOpen c) e.subscriptions (λ s o. record { session = o.session; known = let k = o.known in let l = length-append e.columns (columns ∷ []) in omega (arith, k, l) }) h.stored.shows;
@@ -178,11 +179,11 @@ module _ (e : Kept) (n : ℕ) (h : IsSound e) where
       record {
         stored = record {
           reached = record { unique = h.stored.reached.unique; given = h.stored.reached.given };
+          roles = h.stored.roles;
           relations = h.stored.relations;
           guards = h.stored.guards;
           bags = h.stored.bags;
           tables = h.stored.tables;
-          off = h.stored.off;
           zsets = h.stored.zsets;
           small = h.stored.small;
           shows = all_map (IsOpen e) (IsOpen c) e.subscriptions (λ s o. record { session = o.session; known = o.known }) h.stored.shows;
@@ -190,6 +191,51 @@ module _ (e : Kept) (n : ℕ) (h : IsSound e) where
         served = all_map (λ s. may_read e s ≡ true) (λ s. may_read c s ≡ true) e.subscriptions
             (λ s r. has_more e.known.rights q (actor (frame_of e) s.session) Select s.rel k ps (grantee_of e.known.rights to) refl r) h.served;
       }
+
+-- ---- what is shown stays the same
+
+-- the role of a session that is open is there
+role_below : (ss : List Session) (n k : ℕ) → AllByRecursion (λ s. s.role < k) ss → is_some (session_of ss n) ≡ true → unwrap_or (option_map (λ e. e.role) (session_of ss n)) k < k
+role_below [] n k a h = cc
+role_below (s ∷ ss) n k a h = by (n == s.number) h (role_below ss n k a.1)
+  where
+    by : (b : Bool) → is_some (cond b (Some s) (session_of ss n)) ≡ true → (is_some (session_of ss n) ≡ true → unwrap_or (option_map (λ e. e.role) (session_of ss n)) k < k) → unwrap_or (option_map (λ e. e.role) (cond b (Some s) (session_of ss n))) k < k
+    by true p go = a.0
+    by false p go = go p
+
+still_there : {X : Type 0} (xs : List X) (x : X) (k : ℕ) → k < length xs → slice_get (xs ++ x ∷ []) k ≡ slice_get xs k
+still_there [] x k l = absurd (omega arith)
+still_there (y ∷ xs) x zero l = refl
+still_there (y ∷ xs) x (suc k) l = still_there xs x k (omega arith)
+
+guarded : (a b c : ℕ) → a ≡ b → c < b → c < a
+guarded a b c h l = omega arith
+
+module _ (e : Kept) (n : ℕ) (h : IsSound e) (T : Lists) where
+  pub begin_shows : (role : Name) → AllByRecursion (λ s. shown_rows (kept_after e n (begin role)) T s ≡ shown_rows e T s) e.subscriptions
+  begin_shows role = all_map (IsOpen e) (λ s. shown_rows (kept_after e n (begin role)) T s ≡ shown_rows e T s) e.subscriptions
+      (λ s o. ap (λ (p : Option Session). filter (may_see e.known.rights (unwrap_or (option_map (λ y. y.role) p) (length e.known.rights.roles)) s.rel) (T s.rel))
+      (open_same e.sessions (record { number = n; role = role_number e.known.rights role }) s.session o.session)) h.stored.shows
+
+  pub role_shows : (name : Name) → AllByRecursion (λ s. shown_rows (kept_after e n (create_role name)) T s ≡ shown_rows e T s) e.subscriptions
+  role_shows name = let q = with_role name e.known.rights in
+      all_map (IsOpen e) (λ s. shown_rows (kept_after e n (create_role name)) T s ≡ shown_rows e T s) e.subscriptions
+      (λ s o. ap (λ k. filter (may_see q k s.rel) (T s.rel)) (some_role (session_of e.sessions s.session) (length q.roles) (length e.known.rights.roles) o.session)
+      ∙ rows_same q e.known.rights (actor (frame_of e) s.session) s.rel
+      (ap (λ x. unwrap_or x []) (still_there e.known.rights.roles name (actor (frame_of e) s.session) (role_below e.sessions s.session (length e.known.rights.roles) h.stored.roles o.session)))
+      refl (T s.rel)) h.stored.shows
+
+  pub table_shows : (name owner : Name) (columns : List Column) → AllByRecursion (λ s. shown_rows (kept_after e n (create_table name owner columns)) T s ≡ shown_rows e T s) e.subscriptions
+  table_shows name owner columns =
+      let q = with_relation (role_number e.known.rights owner) e.known.rights in
+      let g : Guard = record { owner = role_number e.known.rights owner; enabled = false; forced = false; policies = [] } in
+      all_map (IsOpen e) (λ s. shown_rows (kept_after e n (create_table name owner columns)) T s ≡ shown_rows e T s) e.subscriptions
+      (λ s o. rows_same q e.known.rights (actor (frame_of e) s.session) s.rel refl
+      (still_there e.known.rights.guards g s.rel (guarded (length e.known.rights.guards) (length e.columns) s.rel h.stored.guards o.known)) (T s.rel)) h.stored.shows
+
+  pub grant_shows : (rel : Name) (ps : List Privilege) (to : Option Name) → AllByRecursion (λ s. shown_rows (kept_after e n (grant rel ps to)) T s ≡ shown_rows e T s) e.subscriptions
+  grant_shows rel ps to = all_map (IsOpen e) (λ s. shown_rows (kept_after e n (grant rel ps to)) T s ≡ shown_rows e T s) e.subscriptions
+      (λ s o. rows_same (kept_after e n (grant rel ps to)).known.rights e.known.rights (actor (frame_of e) s.session) s.rel refl refl (T s.rel)) h.stored.shows
 
 -- ---- the start
 
@@ -204,11 +250,11 @@ pub start_sound : IsSound kept_at_start
 start_sound = record {
   stored = record {
     reached = record { unique = tt; given = tt };
+    roles = tt;
     relations = refl;
     guards = refl;
     bags = refl;
     tables = tt;
-    off = tt;
     zsets = λ t. empty_zset;
     small = λ t. omega arith;
     shows = tt;

@@ -1,6 +1,7 @@
 -- A request as a step of the machine.
 use Rattle.std.proofs.Common.{◌≡◌, ℕ, ◌+◌, ◌<◌, Bool, true, cond, not, List, [], ◌∷◌, ◌++◌, length, map, Option, None, Some, refl, sym, ap, subst, ◌∙◌, arith}
 use Rattle.std.specs.Prelude.{option_map, is_some, filter, flat_map}
+use Rattle.std.specs.Global.{Vec}
 use Rattle.std.specs.List.{AllByRecursion}
 use Rattle.iv_rows.specs.Columns.{Column, kinds_of}
 use Rattle.iv_zset.specs.Weights.{weight_of}
@@ -12,20 +13,22 @@ use Rattle.iv_machine.specs.Act.{Act, begin, create_role, create_table, grant, w
 use Rattle.iv_machine.specs.State.{State, Subscription, subscription_of}
 use Rattle.iv_machine.specs.Refusing.{refusal, frame_refusal, rows_refusal, or_else}
 use Rattle.iv_machine.specs.Changing.{after}
+use Rattle.iv_machine.specs.declared.Cause.{Cause}
 use Rattle.iv_machine.specs.Machine.{changes, line_for, line_of as machine_line, ending, ending_by, settled, reply_to, difference}
-use Rattle.iv_engine.specs.Answering.{IsPlain, IsStep, seen, sent}
-use Rattle.iv_engine.specs.Kept.{Kept, IsOpen, IsSound, IsStored, at, frame_of, may_read, tables_from}
+use Rattle.iv_engine.specs.Answering.{IsPlain, IsStep, change_line, seen, sent}
+use Rattle.iv_engine.specs.Kept.{Kept, IsOpen, IsSound, IsStored, at, frame_of, may_read, shown_rows, tables_from}
 use Rattle.iv_engine.specs.Next.{kept_after, next, next_by}
 use Rattle.iv_engine.specs.Seen.{IsBehind}
 use Rattle.iv_engine.specs.Stands.{Stands}
 use Rattle.iv_engine.specs.Views.{line_of, refusal_of, reply_of}
+use Rattle.iv_engine.specs.declared.command.Line.{Line}
 use Rattle.iv_engine.specs.declared.command.Refusal.{Refusal}
 use Rattle.iv_engine.specs.declared.command.Reply.{Reply}
 use Rattle.iv_engine.specs.declared.command.Reply.TheVariants.{Ok}
 use Rattle.iv_engine.specs.declared.answer.Answer.{Answer}
 use Rattle.iv_engine.specs.declared.answer.Answer.TheVariants.{Refused, Accepted}
 use Rattle.iv_engine.proofs.Showing.{cause_for, difference_none, each_found, ending_is, shown_is}
-use Rattle.iv_engine.proofs.Sound.{all_map, all_zip, begin_sound, role_sound, table_sound, grant_sound, pushed_at}
+use Rattle.iv_engine.proofs.Sound.{all_map, all_zip, begin_shows, begin_sound, role_shows, role_sound, table_shows, table_sound, grant_shows, grant_sound, pushed_at}
 use Rattle.iv_engine.proofs.Tables.{as_long, one_more}
 
 -- ---- lists of subscriptions
@@ -59,68 +62,78 @@ pub none_settled : (c : Kept) (T : Lists) → IsSound c → Stands T c.bags → 
 none_settled c T h stands = keep_each (λ s. not (is_some (ending (at c T) s))) c.subscriptions
     (all_map (λ s. ending (at c T) s ≡ None) (λ s. not (is_some (ending (at c T) s)) ≡ true) c.subscriptions (λ s k. ap (λ o. not (is_some o)) k) (none_ends c T h stands))
 
--- ---- a request that changes no row and opens no subscription
+-- ---- the lines of subscriptions that stay open
 
-module _ (e d : Kept) (T : Lists) (he : IsStored e) (hc : IsSound (record d { subscriptions = e.subscriptions })) (stands : Stands T d.bags) where
+module _ (e d : Kept) (T U : Lists) (h : IsStored e) (ends : Subscription → Option Cause) where
   abbrev c : Kept
   c = record d { subscriptions = e.subscriptions }
 
-  quiet_line : (s : Subscription) → IsShown e s → IsShown c s → ending (at c T) s ≡ None → line_for (at e T) (at c T) (ending (at c T)) s ≡ []
-  quiet_line s a b k = (λ i. machine_line (k i) s (difference (shown_is e T he s a.found a.known i) (shown_is c T hc.stored s b.found b.known i)))
-      ∙ ap (machine_line None s) (difference_none (T s.rel))
+  one_line : (s : Subscription) → IsShown e s → ends s ≡ None → line_for (at e T) (at c U) ends s ≡ change_line e c T U s
+  one_line s x k = λ i. machine_line (k i) s (difference (shown_is e T s x.found i) (shown_is c U s x.found i))
 
-  pub quiet_lines : flat_map (line_for (at e T) (at c T) (ending (at c T))) e.subscriptions ≡ []
-  quiet_lines = no_lines (line_for (at e T) (at c T) (ending (at c T))) e.subscriptions
-      (all_zip (IsShown e) (λ s. IsShown c s × (ending (at c T) s ≡ None)) (λ s. line_for (at e T) (at c T) (ending (at c T)) s ≡ []) e.subscriptions (λ s a b. quiet_line s a b.0 b.1) (each_shown e he)
-      (all_zip (IsShown c) (λ s. ending (at c T) s ≡ None) (λ s. IsShown c s × (ending (at c T) s ≡ None)) e.subscriptions (λ s a b. (a, b)) (each_shown c hc.stored) (none_ends c T hc stands)))
+  pub change_lines : AllByRecursion (λ s. ends s ≡ None) e.subscriptions → flat_map (line_for (at e T) (at c U) ends) e.subscriptions ≡ flat_map (change_line e c T U) e.subscriptions
+  change_lines k = same_lines (line_for (at e T) (at c U) ends) (change_line e c T U) e.subscriptions
+      (all_zip (IsShown e) (λ s. ends s ≡ None) (λ s. line_for (at e T) (at c U) ends s ≡ change_line e c T U s) e.subscriptions one_line (each_shown e h) k)
 
--- what the machine does with such a request
-pub record IsQuiet (e : Kept) (n : ℕ) (act : Act) : Type 0 where
+-- ---- a request that changes no row, and opens and ends no subscription
+
+pub record KeepsRows (e : Kept) (n : ℕ) (act : Act) : Type 0 where
   pub rows : (T : Lists) → rows_refusal (at e T) n act ≡ None
   pub after : (T : Lists) → IsStored e → after (at e T) n act ≡ at (kept_after e n act) T
   pub ends : (s : State) → ending_by act s ≡ ending s
   pub reply : machine.done ≡ reply_to (frame_of e) act
   pub bags : (T : Lists) → Stands T e.bags → Stands T (kept_after e n act).bags
-  pub sound : IsSound e → IsSound (kept_after e n act)
+  pub sound : frame_refusal (frame_of e) n act ≡ None → IsSound e → IsSound (kept_after e n act)
 
 or_nothing : (o p : Option machine.Refusal) → p ≡ None → or_else o p ≡ o
 or_nothing None p h = h
 or_nothing (Some r) p h = refl
 
-module _ (e : Kept) (n : ℕ) (act : Act) (q : IsQuiet e n act) (h : IsSound e) (T : Lists) (stands : Stands T e.bags) where
+module _ (e : Kept) (n : ℕ) (act : Act) (q : KeepsRows e n act) (h : IsSound e) (T : Lists) (stands : Stands T e.bags) where
   abbrev left : Kept
   left = kept_after e n act
 
-  decided : refusal (at e T) n act ≡ frame_refusal (frame_of e) n act
+  pub decided : refusal (at e T) n act ≡ frame_refusal (frame_of e) n act
   decided = or_nothing (frame_refusal (frame_of e) n act) (rows_refusal (at e T) n act) (q.rows T)
 
-  quiet_sent : sent e T n act ≡ []
-  quiet_sent = (λ i. changes act (at e T) (q.after T h.stored i) (settled act (q.after T h.stored i)))
-      ∙ (λ i. flat_map (line_for (at e T) (record (at left T) { frame = record (frame_of left) { subscriptions = filter (λ s. not (is_some (q.ends (at left T) i s))) left.subscriptions } }) (q.ends (at left T) i)) left.subscriptions)
-      ∙ (λ i. flat_map (line_for (at e T) (record (at left T) { frame = record (frame_of left) { subscriptions = none_settled left T (q.sound h) (q.bags T stands) i } }) (ending (at left T))) left.subscriptions)
-      ∙ quiet_lines e left T h.stored (q.sound h) (q.bags T stands)
+  module _ (passed : frame_refusal (frame_of e) n act ≡ None) where
+    -- each subscription is sent what it shows now and did not show before
+    pub changed_sent : sent e T n act ≡ flat_map (change_line e left T T) e.subscriptions
+    changed_sent = (λ i. changes act (at e T) (q.after T h.stored i) (settled act (q.after T h.stored i)))
+        ∙ (λ i. flat_map (line_for (at e T) (record (at left T) { frame = record (frame_of left) { subscriptions = filter (λ s. not (is_some (q.ends (at left T) i s))) left.subscriptions } }) (q.ends (at left T) i)) left.subscriptions)
+        ∙ (λ i. flat_map (line_for (at e T) (record (at left T) { frame = record (frame_of left) { subscriptions = none_settled left T (q.sound passed h) (q.bags T stands) i } }) (ending (at left T))) left.subscriptions)
+        ∙ change_lines e left T T h.stored (ending (at left T)) (none_ends left T (q.sound passed h) (q.bags T stands))
 
-  quiet_left : settled act (after (at e T) n act) ≡ at left T
-  quiet_left = ap (settled act) (q.after T h.stored)
-      ∙ (λ i. record (at left T) { frame = record (frame_of left) { subscriptions = filter (λ s. not (is_some (q.ends (at left T) i s))) left.subscriptions } })
-      ∙ (λ i. record (at left T) { frame = record (frame_of left) { subscriptions = none_settled left T (q.sound h) (q.bags T stands) i } })
+    pub changed_left : settled act (after (at e T) n act) ≡ at left T
+    changed_left = ap (settled act) (q.after T h.stored)
+        ∙ (λ i. record (at left T) { frame = record (frame_of left) { subscriptions = filter (λ s. not (is_some (q.ends (at left T) i s))) left.subscriptions } })
+        ∙ (λ i. record (at left T) { frame = record (frame_of left) { subscriptions = none_settled left T (q.sound passed h) (q.bags T stands) i } })
+
+-- and nothing that is shown
+pub record IsQuiet (e : Kept) (n : ℕ) (act : Act) : Type 0 where
+  pub keeps : KeepsRows e n act
+  pub shows : IsSound e → (T : Lists) → AllByRecursion (λ s. shown_rows (kept_after e n act) T s ≡ shown_rows e T s) e.subscriptions
+
+quiet_lines : (e c : Kept) (T : Lists) (es : List Subscription) → AllByRecursion (λ s. shown_rows c T s ≡ shown_rows e T s) es → flat_map (change_line e c T T) es ≡ []
+quiet_lines e c T es a = no_lines (change_line e c T T) es (all_map (λ s. shown_rows c T s ≡ shown_rows e T s) (λ s. change_line e c T T s ≡ []) es
+    (λ s k. ap (λ rows. machine_line None s (difference (shown_rows e T s) rows)) k ∙ ap (machine_line None s) (difference_none (shown_rows e T s))) a)
 
 -- ---- the requests
 
 pub begin_quiet : (e : Kept) (n : ℕ) (role : Name) → IsQuiet e n (begin role)
-begin_quiet e n role = record { rows = λ T. refl; after = λ T h. refl; ends = λ s. refl; reply = refl; bags = λ T s. s; sound = λ h. begin_sound e n h role }
+begin_quiet e n role = record { keeps = record { rows = λ T. refl; after = λ T h. refl; ends = λ s. refl; reply = refl; bags = λ T s. s; sound = λ p h. begin_sound e n h role p }; shows = λ h T. begin_shows e n h T role }
 
 pub role_quiet : (e : Kept) (n : ℕ) (name : Name) → IsQuiet e n (create_role name)
-role_quiet e n name = record { rows = λ T. refl; after = λ T h. refl; ends = λ s. refl; reply = refl; bags = λ T s. s; sound = λ h. role_sound e n h name }
+role_quiet e n name = record { keeps = record { rows = λ T. refl; after = λ T h. refl; ends = λ s. refl; reply = refl; bags = λ T s. s; sound = λ p h. role_sound e n h name p }; shows = λ h T. role_shows e n h T name }
 
 pub grant_quiet : (e : Kept) (n : ℕ) (rel : Name) (ps : List Privilege) (to : Option Name) → IsQuiet e n (grant rel ps to)
-grant_quiet e n rel ps to = record { rows = λ T. refl; after = λ T h. refl; ends = λ s. refl; reply = refl; bags = λ T s. s; sound = λ h. grant_sound e n h rel ps to }
+grant_quiet e n rel ps to = record { keeps = record { rows = λ T. refl; after = λ T h. refl; ends = λ s. refl; reply = refl; bags = λ T s. s; sound = λ p h. grant_sound e n h rel ps to }; shows = λ h T. grant_shows e n h T rel ps to }
 
 from_zero : (n : ℕ) → n ≡ 0 + n
 from_zero n = omega arith
 
-pub table_quiet : (e : Kept) (n : ℕ) (name owner : Name) (columns : List Column) → IsQuiet e n (create_table name owner columns)
-table_quiet e n name owner columns = record {
+table_keeps : (e : Kept) (n : ℕ) (name owner : Name) (columns : List Column) → KeepsRows e n (create_table name owner columns)
+table_keeps e n name owner columns = record {
   rows = λ T. refl;
   after = λ T h i. record (at (kept_after e n (create_table name owner columns)) T) {
     frame = record (frame_of (kept_after e n (create_table name owner columns))) {
@@ -130,12 +143,15 @@ table_quiet e n name owner columns = record {
   ends = λ s. refl;
   reply = refl;
   bags = λ T s t q. ap (λ z. weight_of z q) (pushed_at e.bags t) ∙ s t q;
-  sound = λ h. table_sound e n h name owner columns;
+  sound = λ p h. table_sound e n h name owner columns;
 }
+
+pub table_quiet : (e : Kept) (n : ℕ) (name owner : Name) (columns : List Column) → IsQuiet e n (create_table name owner columns)
+table_quiet e n name owner columns = record { keeps = table_keeps e n name owner columns; shows = λ h T. table_shows e n h T name owner columns }
 
 -- ---- the step
 
-no_refusal : (reply : Reply) → reply ≡ Ok → (r : machine.Refusal) → reply_of reply ≡ machine.refused r → ⊥
+pub no_refusal : (reply : Reply) → reply ≡ Ok → (r : machine.Refusal) → reply_of reply ≡ machine.refused r → ⊥
 no_refusal reply h r k = let e : machine.done ≡ machine.refused r = sym (ap reply_of h) ∙ k in cc
 
 -- a refused request
@@ -147,15 +163,21 @@ refused_step e new n act r sound h k = record {
   sound = subst IsSound (sym k) sound;
 }
 
+-- an accepted one that tells each subscription what it shows now and did not show before
+pub changed_step : (e new : Kept) (n : ℕ) (act : Act) (reply : Reply) (lines : Vec Line) → KeepsRows e n act → IsSound e → frame_refusal (frame_of e) n act ≡ None → new ≡ kept_after e n act → reply ≡ Ok
+    → ((T : Lists) → Stands T e.bags → map line_of lines.items ≡ flat_map (change_line e (kept_after e n act) T T) e.subscriptions) → IsStep e n act (Accepted reply lines) new
+changed_step e new n act reply lines q sound passed k r told = record {
+  answer = λ T s. (decided e n act q sound T s ∙ passed, ap reply_of r ∙ q.reply, told T s ∙ sym (changed_sent e n act q sound T s passed));
+  left = λ T s. subst (λ (t : State). IsBehind t (seen new)) (sym (changed_left e n act q sound T s passed))
+      (subst (λ (v : Kept). IsBehind (at (kept_after e n act) T) (seen v)) (sym k) (record { frame = refl; rows = q.bags T s }));
+  kept = no_refusal reply r;
+  sound = subst IsSound (sym k) (q.sound passed sound);
+}
+
 plain_by : (e new : Kept) (n : ℕ) (act : Act) (o : Option Refusal) (a : Answer) → IsQuiet e n act → IsSound e → IsPlain o a → option_map refusal_of o ≡ frame_refusal (frame_of e) n act → new ≡ next_by e n act (option_map refusal_of o) → IsStep e n act a new
 plain_by e new n act None (Refused r) q sound p h k = absurd p
-plain_by e new n act None (Accepted reply lines) q sound p h k = record {
-  answer = λ T s. (decided e n act q sound T s ∙ sym h, ap reply_of p.0 ∙ q.reply, ap (map line_of) p.1 ∙ sym (quiet_sent e n act q sound T s));
-  left = λ T s. subst (λ (t : State). IsBehind t (seen new)) (sym (quiet_left e n act q sound T s))
-      (subst (λ (v : Kept). IsBehind (at (kept_after e n act) T) (seen v)) (sym k) (record { frame = refl; rows = q.bags T s }));
-  kept = no_refusal reply p.0;
-  sound = subst IsSound (sym k) (q.sound sound);
-}
+plain_by e new n act None (Accepted reply lines) q sound p h k = changed_step e new n act reply lines q.keeps sound (sym h) k p.0
+    (λ T s. ap (map line_of) p.1 ∙ sym (quiet_lines e (kept_after e n act) T e.subscriptions (q.shows sound T)))
 plain_by e new n act (Some r) a q sound p h k = subst (λ x. IsStep e n act x new) (sym p) (refused_step e new n act r sound (sym h) k)
 
 pub plain_step : (e new : Kept) (n : ℕ) (act : Act) (o : Option Refusal) (a : Answer) → IsQuiet e n act → IsSound e → IsPlain o a → option_map refusal_of o ≡ frame_refusal (frame_of e) n act → new ≡ next e n act → IsStep e n act a new

@@ -1,19 +1,17 @@
 -- What private functions promise of an answer: its lines, and what is kept afterwards.
-use Rattle.std.specs.Prelude.{◌≡◌, ℕ, zero, suc, ◌<◌, ◌≤◌, ◌&&◌, ℤ, pos, Bool, true, cond, List, [], ◌∷◌, ◌++◌, map, filter, flat_map, length, Option, Some, None, false}
-use Rattle.std.specs.Ordering.{int_eq}
-use Rattle.iv_rows.specs.Cell.{Cell}
-use Rattle.iv_zset.specs.Weights.{Weighed, weight_of, SameZ, AllInRange, IsZSet}
-use Rattle.iv_zset.specs.Limits.{copies, within}
+use Rattle.std.specs.Prelude.{◌≡◌, ℕ, Bool, cond, List, [], ◌∷◌, ◌++◌, map, flat_map, Option, Some, None, false}
+use Rattle.iv_zset.specs.Weights.{Weighed}
 use Rattle.iv_algebra.specs.Plans.{Lists}
 use Rattle.iv_machine.specs.Act as machine
 use Rattle.iv_machine.specs.State.{Subscription}
 use Rattle.iv_machine.specs.Refusing.{refusal}
 use Rattle.iv_machine.specs.Changing.{after}
-use Rattle.iv_machine.specs.Machine.{reply_to, changes, settled, line_of as machine_line, difference, weight}
+use Rattle.iv_machine.specs.Machine.{reply_to, changes, settled, line_of as machine_line, difference, step}
 use Rattle.iv_machine.specs.declared.Cause.TheVariants as cause
-use Rattle.iv_engine.specs.Kept.{Kept, IsSound, frame_of, at, may_read}
+use Rattle.iv_engine.specs.Changes.{AreDifferences, Change}
+use Rattle.iv_engine.specs.Kept.{Kept, IsSound, frame_of, at, may_read, shown_rows}
 use Rattle.iv_engine.specs.Seen.{Seen, IsBehind}
-use Rattle.iv_engine.specs.Stands.{Stands, bag_at}
+use Rattle.iv_engine.specs.Stands.{Stands}
 use Rattle.iv_engine.specs.Views.{refusal_of, reply_of, line_of}
 use Rattle.iv_engine.specs.declared.command.Refusal.{Refusal}
 use Rattle.iv_engine.specs.declared.command.Reply.TheVariants.{Ok}
@@ -36,7 +34,8 @@ sent e T n act = let changed = after (at e T) n act in changes act (at e T) chan
 -- the machine gives the answer in the state with the lists T
 abbrev pub IsAnswer : Kept → Lists → ℕ → machine.Act → Answer → Type 0
 IsAnswer e T n act (Refused r) = refusal (at e T) n act ≡ Some (refusal_of r)
-IsAnswer e T n act (Accepted reply lines) = (refusal (at e T) n act ≡ None) × (reply_of reply ≡ reply_to (frame_of e) act) × (map line_of lines.items ≡ sent e T n act)
+IsAnswer e T n act (Accepted reply lines) = (refusal (at e T) n act ≡ None)
+    × (reply_of reply ≡ reply_to (frame_of e) act) × (map line_of lines.items ≡ sent e T n act)
 
 -- an accepted request leaves what the machine leaves
 abbrev pub IsLeft : Kept → Lists → ℕ → machine.Act → Answer → Kept → Type 0
@@ -61,50 +60,42 @@ IsPlain None (Refused r) = ⊥
 IsPlain None (Accepted reply lines) = (reply ≡ Ok) × (lines.items ≡ [])
 IsPlain (Some r) a = a ≡ Refused r
 
--- the changes of the tables lead from the lists T to the lists U
-abbrev pub Moved : List Weighed → Lists → Lists → Type 0
-Moved changes T U = (t : ℕ) (q : List Cell) → weight_of (bag_at changes t) q ≡ weight (T t) (U t) q
+-- the line of a subscription from what it shows of the lists T to what it shows, afterwards, of the lists U
+abbrev pub change_line : Kept → Kept → Lists → Lists → Subscription → List machine.Line
+change_line old new T U s = machine_line None s (difference (shown_rows old T s) (shown_rows new U s))
 
--- and no row has less copies
-abbrev pub Grows : Lists → Lists → Type 0
-Grows T U = (t : ℕ) (q : List Cell) → copies q (T t) ≤ copies q (U t)
-
-abbrev pub moved_line : Lists → Lists → Subscription → List machine.Line
-moved_line T U s = machine_line None s (difference (T s.rel) (U s.rel))
+-- the same where rows alone have changed
+abbrev pub moved_line : Kept → Lists → Lists → Subscription → List machine.Line
+moved_line e T U s = change_line e e T U s
 
 -- the lines of subscriptions that were open before
-abbrev pub moved_lines : Lists → Lists → List Subscription → List machine.Line
-moved_lines T U es = flat_map (moved_line T U) es
+abbrev pub moved_lines : Kept → Lists → Lists → List Subscription → List machine.Line
+moved_lines e T U es = flat_map (moved_line e T U) es
+
+-- the lines of the changes of tables, behind those before
+abbrev pub AreSent : Kept → List Change → List machine.Line → List machine.Line → Type 0
+AreSent e changes old new = (T U : Lists) → AreDifferences changes T U → new ≡ old ++ moved_lines e T U e.subscriptions
+
+-- the rows that a subscription shows, as a difference from no row, or to none
+abbrev pub AreShown : Kept → Subscription → Bool → Weighed → Type 0
+AreShown e s minus rows = (T : Lists) → Stands T e.bags → rows ≡ cond minus (difference (shown_rows e T s) []) (difference [] (shown_rows e T s))
 
 -- the line that ends a subscription, which takes back all that it shows
-abbrev pub last_line : Lists → Subscription → machine.Line
-last_line T s = machine.ended s.session s.number cause.Privilege (difference (T s.rel) [])
+abbrev pub last_line : Kept → Lists → Subscription → machine.Line
+last_line e T s = machine.ended s.session s.number cause.Privilege (difference (shown_rows e T s) [])
 
 -- the last line of a subscription whose reader may not select any more
 abbrev pub ended_line : Kept → Lists → Subscription → List machine.Line
-ended_line e T s = cond (may_read e s) [] (last_line T s ∷ [])
+ended_line e T s = cond (may_read e s) [] (last_line e T s ∷ [])
 
--- a row of a change that its bag does not have
-abbrev pub is_new : Weighed → List Cell × ℤ → Bool
-is_new bag e = int_eq (weight_of bag e.0) (pos 0)
+-- the last lines of those subscriptions whose readers may not select any more
+abbrev pub AreEnded : Kept → List Subscription → List machine.Line → Type 0
+AreEnded e es lines = (T : Lists) → Stands T e.bags → lines ≡ flat_map (ended_line e T) es
 
--- how many rows of a change its bag does not have
-abbrev pub new_count : Weighed → Weighed → ℕ
-new_count bag change = length (filter (is_new bag) change)
+-- the lines of a step of the machine, for all lists behind e
+abbrev pub IsSaid : Kept → machine.Command → List machine.Line → Type 0
+IsSaid e c lines = (T : Lists) → Stands T e.bags → lines ≡ (step (at e T) c).lines
 
--- a bag and its change have a sum that can be stored, with at most 65,536 rows
-pub record FitsSum (bag change : Weighed) : Type 0 where
-  pub in_range : AllInRange (bag ++ change)
-  pub small : (new : Weighed) → IsZSet new → SameZ new (bag ++ change) → length new ≤ 65536
-
--- each bag below k has become its sum with its change, and the others are as before
-pub record AreSums (k : ℕ) (old changes new : List Weighed) : Type 0 where
-  pub tables : length new ≡ length old
-  pub stored : (t : ℕ) → t < k → IsZSet (bag_at new t)
-  pub sums : (t : ℕ) → t < k → SameZ (bag_at new t) (bag_at old t ++ bag_at changes t)
-  pub others : (t : ℕ) → k ≤ t → bag_at new t ≡ bag_at old t
-
--- the rows of each table below n are within the limits
-abbrev pub all_within : ℕ → ℕ → Lists → Bool
-all_within cap zero T = true
-all_within cap (suc n) T = all_within cap n T && within cap (T n)
+-- what such a step leaves
+abbrev pub IsNext : Kept → machine.Command → Kept → Type 0
+IsNext e c new = (T : Lists) → Stands T e.bags → IsBehind (step (at e T) c).state (seen new)

@@ -1,11 +1,14 @@
 -- What the engine keeps, and the machine's frame that it stands for.
-use Rattle.std.specs.Prelude.{◌≡◌, ℕ, ◌+◌, ◌<◌, ◌≤◌, Bool, true, false, List, [], ◌∷◌, length, is_some}
+use Rattle.std.specs.Prelude.{◌≡◌, ℕ, ◌+◌, ◌<◌, ◌≤◌, Bool, true, List, [], ◌∷◌, filter, length, is_some}
 use Rattle.std.specs.List.{AllByRecursion}
 use Rattle.iv_rows.specs.Columns.{Column}
 use Rattle.iv_zset.specs.Weights.{Weighed, IsZSet}
 use Rattle.iv_algebra.specs.Plans.{Lists}
+use Rattle.iv_rows.specs.Cell.{Cell}
 use Rattle.iv_bind.specs.Catalogs.{Entry, Table}
 use Rattle.iv_access.specs.Known.{Known, Relation}
+use Rattle.iv_access.specs.Policies.{may_see}
+use Rattle.iv_access.specs.Rights.{Rights}
 use Rattle.iv_access.specs.Privileges.{has}
 use Rattle.iv_access.specs.declared.privilege.Privilege.TheVariants.{Select}
 use Rattle.iv_machine.specs.State.{Frame, State, Session, Subscription, actor, is_open}
@@ -20,6 +23,10 @@ pub record Kept : Type 0 where
   pub subscriptions : List Subscription
   pub last : ℕ
   pub bags : List Weighed
+
+-- with other rights
+abbrev pub with_rights : Rights → Kept → Kept
+with_rights r e = record e { known = record { relations = e.known.relations; rights = r } }
 
 -- the tables of these names and columns, numbered from n
 abbrev pub tables_from : ℕ → List Relation → List (List Column) → List Entry
@@ -46,15 +53,19 @@ pub record IsOpen (e : Kept) (s : Subscription) : Type 0 where
 abbrev pub may_read : Kept → Subscription → Bool
 may_read e s = has e.known.rights (actor (frame_of e) s.session) Select s.rel
 
--- the machine reaches the frame; each relation is a table with columns, a guard without row security, and a bag with at
--- most 65,536 rows
+-- the rows of its table that the reader of a subscription may see
+abbrev pub shown_rows : Kept → Lists → Subscription → List (List Cell)
+shown_rows e T s = filter (may_see e.known.rights (actor (frame_of e) s.session) s.rel) (T s.rel)
+
+-- the machine reaches the frame; sessions act for roles that are there; each relation is a table with columns, a guard,
+-- and a bag with at most 65,536 rows
 pub record IsStored (e : Kept) : Type 0 where
   pub reached : IsReached (frame_of e)
+  pub roles : AllByRecursion (λ s. s.role < length e.known.rights.roles) e.sessions
   pub relations : length e.known.relations ≡ length e.columns
   pub guards : length e.known.rights.guards ≡ length e.columns
   pub bags : length e.bags ≡ length e.columns
   pub tables : AllByRecursion (λ r. is_some r.kinds ≡ true) e.known.relations
-  pub off : AllByRecursion (λ g. g.enabled ≡ false) e.known.rights.guards
   pub zsets : (t : ℕ) → IsZSet (bag_at e.bags t)
   pub small : (t : ℕ) → length (bag_at e.bags t) ≤ 65536
   pub shows : AllByRecursion (IsOpen e) e.subscriptions

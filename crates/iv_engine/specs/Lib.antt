@@ -1,11 +1,15 @@
 pub mod Entries
 pub mod Views
 pub mod Stands
+pub mod Changes
 pub mod Seen
 pub mod Kept
 pub mod Codes
 pub mod Next
 pub mod Telling
 pub mod Answering
+pub mod Summed
 pub mod Placed
 pub mod Resolving
+pub mod Turned
+pub mod Owned

@@ -1,23 +1,28 @@
 -- The entries of a write at the numbers of their tables.
-use Rattle.std.specs.Prelude.{◌≡◌, ℕ, ◌+◌, ◌<◌, ◌==◌, true, cond, List, [], ◌∷◌, Option, Some, None, if◌then◌else◌, nat_le, pos}
+use Rattle.std.specs.Borrow.{Bor}
+use Rattle.std.specs.Prelude.{◌≡◌, ℕ, ◌<◌, ◌==◌, Bool, cond, pos, ◌+ℤ◌, List, Option, map}
 use Rattle.iv_rows.specs.Cell.{Cell}
-use Rattle.iv_rows.specs.Order.{row_eq}
-use Rattle.iv_zset.specs.Weights.{InRange}
-use Rattle.iv_access.specs.Privileges.{has}
-use Rattle.iv_access.specs.Rights.{Name, Rights}
-use Rattle.iv_access.specs.declared.privilege.Privilege.TheVariants.{Insert}
-use Rattle.iv_machine.specs.Act.{Entry, Refusal, insert, missing_privilege}
+use Rattle.iv_zset.specs.Weights.{Weighed, weight_of}
+use Rattle.iv_algebra.specs.Plans.{Lists}
+use Rattle.iv_access.specs.Rights.{Name}
+use Rattle.iv_access.specs.declared.policy.Check.{Check}
+use Rattle.iv_access.specs.declared.privilege.Privilege.{Privilege}
+use Rattle.iv_machine.specs.Act.{Entry, Op, Refusal}
+use Rattle.iv_machine.specs.Added.{adds}
+use Rattle.iv_machine.specs.Refusing.{first, is_present, privileges_for}
 use Rattle.iv_machine.specs.State.{Frame, name_of, rel_of}
+use Rattle.iv_engine.specs.Changes.{Change, change_at}
+use Rattle.iv_engine.specs.Summed.{LeadTo}
 
--- copies of a row for the table of a name, which has the number
+-- an entry for the table of a name, which has the number
 pub record Placed : Type 0 where
   pub rel : ℕ
   pub name : Name
-  pub row : List Cell
+  pub op : Op
   pub copies : ℕ
 
 abbrev pub entry_of : Placed → Entry
-entry_of p = record { rel = p.name; op = insert p.row; copies = p.copies }
+entry_of p = record { rel = p.name; op = p.op; copies = p.copies }
 
 -- the number is that of the name, and that of a table
 pub record IsPlaced (f : Frame) (tables : ℕ) (p : Placed) : Type 0 where
@@ -25,21 +30,19 @@ pub record IsPlaced (f : Frame) (tables : ℕ) (p : Placed) : Type 0 where
   pub name : name_of f.catalog p.rel ≡ p.name
   pub below : p.rel < tables
 
--- the first whose table the role may not insert into
-abbrev pub first_lacking : Rights → ℕ → List Placed → Option Refusal
-first_lacking r role [] = None
-first_lacking r role (p ∷ ps) = if has r role Insert p.rel then first_lacking r role ps else Some (missing_privilege Insert p.name)
+-- the privileges that it needs, on its table
+abbrev pub needs_of : Placed → List (Privilege × ℕ)
+needs_of p = map (λ x. (x, p.rel)) (privileges_for p.op)
 
--- how many copies of the row q are for table t
-abbrev pub gains : List Placed → ℕ → List Cell → ℕ
-gains [] t q = 0
-gains (p ∷ ps) t q = cond (p.rel == t) (cond (row_eq q p.row) p.copies 0) 0 + gains ps t q
+-- the first of the tests of rows that fails
+abbrev pub first_of : (Check × List Cell → Option Refusal) → List (Check × Bor (List Cell)) → Option Refusal
+first_of f tests = first (map (λ t. f (t.0, t.1.now)) tests)
 
--- 1 or more copies, for one of so many tables
-pub record IsIn (tables : ℕ) (p : Placed) : Type 0 where
-  pub below : p.rel < tables
-  pub some : nat_le 1 p.copies ≡ true
+-- whether the rows that it removes are there, in the bags with the sums
+abbrev pub IsFound : Placed → List Change → List Weighed → Bool → Type 0
+IsFound p sums bags found = (V : Lists) → LeadTo sums bags V → found ≡ is_present p.op p.copies (V p.rel)
 
--- more copies of some row for a table than a weight can be
-abbrev pub IsOver : ℕ → List Placed → Type 0
-IsOver tables ps = (t : ℕ) × (t < tables) × ((q : List Cell) × (InRange (pos (gains ps t q)) → ⊥))
+-- what it adds is added to the sums of its table
+abbrev pub IsGathered : Placed → (old new : List Change) → Type 0
+IsGathered p old new = (t : ℕ) (q : List Cell)
+    → weight_of (change_at new t) q ≡ weight_of (change_at old t) q +ℤ cond (p.rel == t) (adds p.op p.copies q) (pos 0)

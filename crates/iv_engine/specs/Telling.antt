@@ -8,17 +8,17 @@ use Rattle.iv_access.specs.Known.{role_number}
 use Rattle.iv_access.specs.Rights.{Name}
 use Rattle.iv_access.specs.declared.fault.AccessFault.{AccessFault}
 use Rattle.iv_access.specs.declared.fault.AccessFault.TheVariants as fault
-use Rattle.iv_machine.specs.Act.{Refusal, unknown_role, name_taken, not_administrator, not_owner, too_many}
+use Rattle.iv_machine.specs.Act.{Refusal, unknown_role, name_taken, not_administrator, not_owner, unknown_policy, too_many}
 use Rattle.iv_engine.specs.Kept.{Kept}
 
--- no request that the engine answers names a policy, and want of memory is no refusal
+-- want of memory is no refusal
 abbrev pub told : AccessFault → Name → Option Refusal
 told fault.Role rel = Some unknown_role
 told fault.Taken rel = Some name_taken
 told fault.NotAdmin rel = Some not_administrator
 told fault.NotOwner rel = Some (not_owner rel)
 told fault.TooMany rel = Some too_many
-told fault.Policy rel = None
+told fault.Policy rel = Some unknown_policy
 told fault.Memory rel = None
 
 -- the answer to a request that names the relation, where the change of rights has the result

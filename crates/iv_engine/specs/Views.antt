@@ -1,15 +1,22 @@
 -- What commands and lines of the code are to the machine.
 use Rattle.std.specs.Prelude.{string_bytes, option_map}
+use Rattle.iv_bind.specs.BoundTexts as texts
 use Rattle.iv_machine.specs.Act as machine
 use Rattle.iv_engine.specs.declared.command.Command.{Command}
 use Rattle.iv_engine.specs.declared.command.Act.{Act}
-use Rattle.iv_engine.specs.declared.command.Act.TheVariants.{Begin, CreateRole, CreateTable, Grant, Revoke, Write, Subscribe}
+use Rattle.iv_engine.specs.declared.command.Act.TheVariants.{Begin, CreateRole, CreateTable, Grant, Revoke, RowSecurity, CreatePolicy, DropPolicy, Write, Subscribe}
+use Rattle.iv_engine.specs.declared.command.Reason.{Reason}
+use Rattle.iv_engine.specs.declared.command.Reason.TheVariants.{Reading, Binding}
 use Rattle.iv_engine.specs.declared.command.Refusal.{Refusal}
-use Rattle.iv_engine.specs.declared.command.Refusal.TheVariants.{NoSession, SessionInUse, UnknownRole, NameTaken, UnknownRelation, BadRow, NotAdministrator, NotOwner, MissingPrivilege, Limit, TooMany}
+use Rattle.iv_engine.specs.declared.command.Refusal.TheVariants.{NoSession, SessionInUse, UnknownRole, NameTaken, UnknownRelation, BadRow, BadQuery, NotAdministrator, NotOwner, MissingPrivilege, NoPermissive, RestrictiveFailed, NoSuchRow, Limit, UnknownPolicy, TooMany}
 use Rattle.iv_engine.specs.declared.command.Reply.{Reply}
 use Rattle.iv_engine.specs.declared.command.Reply.TheVariants as said
 use Rattle.iv_engine.specs.declared.command.Line.{Line}
 use Rattle.iv_engine.specs.declared.command.Line.TheVariants as line
+
+abbrev pub reason_of : Reason → texts.Reason
+reason_of (Reading why) = texts.Reading why
+reason_of (Binding why) = texts.Binding why
 
 abbrev pub act_of : Act → machine.Act
 act_of (Begin role) = machine.begin (string_bytes role)
@@ -17,6 +24,9 @@ act_of (CreateRole name) = machine.create_role (string_bytes name)
 act_of (CreateTable name owner columns) = machine.create_table (string_bytes name) (string_bytes owner) columns.items
 act_of (Grant rel privileges grantee) = machine.grant (string_bytes rel) privileges.items (option_map string_bytes grantee)
 act_of (Revoke rel privileges grantee) = machine.revoke (string_bytes rel) privileges.items (option_map string_bytes grantee)
+act_of (RowSecurity rel enable force) = machine.row_security (string_bytes rel) enable force
+act_of (CreatePolicy policy) = machine.create_policy (policy)
+act_of (DropPolicy rel name) = machine.drop_policy (string_bytes rel) (string_bytes name)
 act_of (Write entries) = machine.write entries.items
 act_of (Subscribe rel) = machine.subscribe (string_bytes rel)
 
@@ -30,10 +40,15 @@ refusal_of UnknownRole = machine.unknown_role
 refusal_of NameTaken = machine.name_taken
 refusal_of UnknownRelation = machine.unknown_relation
 refusal_of (BadRow n) = machine.bad_row n
+refusal_of (BadQuery place why) = machine.bad_query place (reason_of why)
 refusal_of NotAdministrator = machine.not_administrator
 refusal_of (NotOwner rel) = machine.not_owner (string_bytes rel)
 refusal_of (MissingPrivilege p rel) = machine.missing_privilege p (string_bytes rel)
+refusal_of (NoPermissive rel check n) = machine.no_permissive (string_bytes rel) check n
+refusal_of (RestrictiveFailed policy rel check n) = machine.restrictive_failed (string_bytes policy) (string_bytes rel) check n
+refusal_of (NoSuchRow n) = machine.no_such_row n
 refusal_of Limit = machine.limit
+refusal_of UnknownPolicy = machine.unknown_policy
 refusal_of TooMany = machine.too_many
 
 abbrev pub reply_of : Reply → machine.Reply

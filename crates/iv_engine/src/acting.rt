@@ -1,13 +1,9 @@
 //! One step: a command to its lines.
 ghost use Rattle.std.specs.Prelude.{◌≡◌, ℕ, ◌∷◌, [], IfOk, OnOk, map, option_map, string_bytes, true};
-ghost use Rattle.iv_algebra.specs.Plans.{Lists};
 ghost use Rattle.iv_machine.specs.Act as machine;
-ghost use Rattle.iv_machine.specs.Machine.{step};
 ghost use Rattle.iv_machine.specs.Well.{is_well_act, is_well_command};
-ghost use Rattle.iv_engine.specs.Answering.{IsPlain, IsStep, seen};
-ghost use Rattle.iv_engine.specs.Kept.{IsSound, at};
-ghost use Rattle.iv_engine.specs.Seen.{IsBehind};
-ghost use Rattle.iv_engine.specs.Stands.{Stands};
+ghost use Rattle.iv_engine.specs.Answering.{IsNext, IsPlain, IsSaid, IsStep};
+ghost use Rattle.iv_engine.specs.Kept.{IsSound};
 ghost use Rattle.iv_engine.specs.Views.{act_of, command_of, line_of};
 
 use crate::answer::{Answer, lines_of};
@@ -75,6 +71,11 @@ impl Store {
                 privileges,
                 grantee,
             } => self.revoke(session, rel, &privileges, text_of(&grantee)),
+            Act::RowSecurity { rel, enable, force } => {
+                self.row_security(session, rel, enable, force)
+            }
+            Act::CreatePolicy(policy) => self.create_policy(session, policy),
+            Act::DropPolicy { rel, name } => self.drop_policy(session, rel, name.as_str()),
             Act::Write { entries } => self.write(session, entries),
             Act::Subscribe { rel } => self.subscribe(session, rel),
         }
@@ -84,8 +85,8 @@ impl Store {
     pub fn step(&mut self, command: Command) -> Result<Vec<Line>, AllocError>
         requires well { is_well_command (command_of command) ≡ true }
         requires sound { IsSound self.old }
-        ensures lines { IfOk result (λ lines. (T : Lists) → Stands T self.old.bags → map line_of lines.items ≡ (step (at self.old T) (command_of command)).lines) }
-        ensures state { OnOk result ((T : Lists) → Stands T self.old.bags → IsBehind (step (at self.old T) (command_of command)).state (seen self.new)) }
+        ensures lines { IfOk result (λ lines. IsSaid self.old (command_of command) (map line_of lines.items)) }
+        ensures state { OnOk result (IsNext self.old (command_of command) self.new) }
         ensures refused { IfOk result (λ lines. (n : ℕ) (r : machine.Refusal) → map line_of lines.items ≡ machine.reply n (machine.refused r) ∷ [] → self.new ≡ self.old) }
         ensures sound { OnOk result (IsSound self.new) }
     {

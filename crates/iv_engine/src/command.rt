@@ -1,8 +1,10 @@
 //! What the engine is asked, and what it says.
 ghost use Rattle.std.specs.Prelude.{◌≡◌};
 
-use iv_access::Privilege;
+use iv_access::{Check, PolicyCommand, Privilege};
+use iv_bind::BindWhy;
 use iv_machine::Cause;
+use iv_query::Why;
 use iv_rows::{Column, Row};
 use std::alloc::AllocError;
 use std::marker::Model;
@@ -18,7 +20,7 @@ pub struct Command {
 
 /// What a session asks.
 ///
-/// Source: docs/PROTOCOL.md, Requests; PostgreSQL 16, CREATE ROLE, GRANT, REVOKE and Privileges.
+/// Source: docs/PROTOCOL.md, Requests; PostgreSQL 16, CREATE ROLE, GRANT, REVOKE, Privileges, ALTER TABLE and CREATE POLICY.
 #[derive(Drop)]
 pub enum Act {
     /// Opens the session for a role.
@@ -47,6 +49,20 @@ pub enum Act {
         privileges: Vec<Privilege>,
         grantee: Option<String>,
     },
+    /// Puts the policies of a table into effect or out of it, and forces them on its owner or not. Only its owner and
+    /// `admin` may.
+    RowSecurity {
+        rel: String,
+        enable: bool,
+        force: bool,
+    },
+    /// Adds a policy to a table. Only its owner and `admin` may.
+    CreatePolicy(PolicyText),
+    /// Takes a policy of a table away. Only its owner and `admin` may.
+    DropPolicy {
+        rel: String,
+        name: String,
+    },
     /// Writes all the entries, in their order, or none.
     Write {
         entries: Vec<Entry>,
@@ -55,6 +71,42 @@ pub enum Act {
     Subscribe {
         rel: String,
     },
+}
+
+/// A policy as its texts (PostgreSQL 16, CREATE POLICY).
+#[derive(Drop)]
+pub struct PolicyText {
+    /// The table.
+    pub rel: String,
+    /// Its name, unique on its table.
+    pub name: String,
+    /// Whether it is restrictive, and not permissive.
+    pub restrictive: bool,
+    /// What it is for.
+    pub command: PolicyCommand,
+    /// The roles that it is for; none stands for all roles.
+    pub grantee: Vec<Option<String>>,
+    /// The predicate of rows that are there.
+    pub using_text: Option<String>,
+    /// The predicate of rows that are added.
+    pub check_text: Option<String>,
+}
+
+impl Model for PolicyText {
+    ghost use Rattle.std.specs.Prelude.{map, option_map, string_bytes};
+    ghost use Rattle.iv_machine.specs.Act.{PolicyText};
+
+    ghost Value = { PolicyText };
+
+    ghost view = { λ p. record {
+      rel = string_bytes p.rel;
+      name = string_bytes p.name;
+      restrictive = p.restrictive;
+      command = p.command;
+      to = map (option_map string_bytes) p.grantee.items;
+      using_text = option_map string_bytes p.using_text;
+      check_text = option_map string_bytes p.check_text;
+    } };
 }
 
 /// One entry of a write.
@@ -83,6 +135,19 @@ impl Model for Entry {
 pub enum Op {
     /// Adds copies of a row.
     Insert(Row),
+    /// Removes copies of a row.
+    Delete(Row),
+    /// Removes copies of the first row, and adds as many of the second.
+    Update(Row, Row),
+}
+
+/// What is wrong with a text.
+#[derive(Clone, Copy, Debug, PartialEq, Eq)]
+pub enum Reason {
+    /// It is not in the grammar.
+    Reading(Why),
+    /// It does not go with the columns.
+    Binding(BindWhy),
 }
 
 /// The first test of a request that failed, with its number in docs/PROTOCOL.md.
@@ -99,15 +164,46 @@ pub enum Refusal {
     /// 7: no relation has the name.
     UnknownRelation,
     /// 9: the number or the kinds of an entry's values are not those of the table. Entries count from 1.
-    BadRow { entry: usize },
+    BadRow {
+        entry: usize,
+    },
+    /// 10: a text has a fault. The place is in bytes from 0.
+    BadQuery {
+        place: usize,
+        why: Reason,
+    },
     /// 11: the role is not `admin`.
     NotAdministrator,
     /// 12: the role is neither the relation's owner nor `admin`.
-    NotOwner { rel: String },
+    NotOwner {
+        rel: String,
+    },
     /// 13: the role lacks a privilege on a relation.
-    MissingPrivilege { privilege: Privilege, rel: String },
+    MissingPrivilege {
+        privilege: Privilege,
+        rel: String,
+    },
+    /// 14: no permissive policy lets a row of an entry through.
+    NoPermissive {
+        rel: String,
+        check: Check,
+        entry: usize,
+    },
+    /// 15: a restrictive policy does not let a row of an entry through: of such policies the first by name.
+    RestrictiveFailed {
+        policy: String,
+        rel: String,
+        check: Check,
+        entry: usize,
+    },
+    /// 16: an entry removes copies of a row that are not there.
+    NoSuchRow {
+        entry: usize,
+    },
     /// 17: a table would not be within the limits of rows and copies.
     Limit,
+    /// 18: no policy of the table has the name.
+    UnknownPolicy,
     /// 20: there are as many of them as there may be.
     TooMany,
 }

@@ -4,11 +4,11 @@ ghost use Rattle.std.specs.List.{list_all};
 ghost use Rattle.iv_rows.specs.Cell.{Cell};
 ghost use Rattle.iv_machine.specs.Act as machine;
 ghost use Rattle.iv_machine.specs.Held.{held};
-ghost use Rattle.iv_machine.specs.Machine.{step, run, weight};
+ghost use Rattle.iv_machine.specs.Machine.{hung, step, run, weight};
 ghost use Rattle.iv_machine.specs.Reached.{IsReached};
 ghost use Rattle.iv_machine.specs.State.{State, start, shown};
 ghost use Rattle.iv_machine.specs.Well.{is_well_command};
-ghost use Rattle.iv_engine.specs.Seen.{IsBehind};
+ghost use Rattle.iv_engine.specs.Seen.{HasKnownRows, IsBehind};
 ghost use Rattle.iv_engine.specs.Views.{command_of, line_of};
 
 use crate::command::{Command, EngineFault, Line};
@@ -70,7 +70,20 @@ impl Engine {
         self.failed = true;
     }
 
-    /// Answers a command: one step of the access machine.
+    /// Closes all sessions and subscriptions, without a line. All else is kept, so that no number of a subscription is
+    /// given again. An engine that has failed stays as it was.
+    pub fn hang_up(&mut self)
+        ensures hung { self.old.failed ≡ false → (s : State) → IsBehind s self.old → IsBehind (hung s) self.new }
+        ensures closed { self.old.failed ≡ false → self.new ≡ record self.old { frame = record self.old.frame { sessions = []; subscriptions = [] } } }
+        ensures failed_unchanged { self.old.failed ≡ true → self.new ≡ self.old }
+    {
+        if !self.failed {
+            self.store.close_all();
+        }
+    }
+
+    /// Answers a command: one step of the access machine. Its change lines have rows alone that their subscription showed
+    /// before or that its reader may see now (PostgreSQL 16, Row Security Policies).
     ///
     /// # Errors
     /// `Failed` exactly where the engine had failed; `Memory` where a growth of memory was refused. The engine has
@@ -79,6 +92,7 @@ impl Engine {
         requires { is_well_command (command_of command) ≡ true }
         ensures lines { IfOk result (λ lines. (s : State) → IsBehind s self.old → map line_of lines.items ≡ (step s (command_of command)).lines) }
         ensures state { OnOk result ((s : State) → IsBehind s self.old → IsBehind (step s (command_of command)).state self.new) }
+        ensures known_rows { IfOk result (λ lines. HasKnownRows self.old (command_of command) (map line_of lines.items)) }
         ensures refused { IfOk result (λ lines. (n : ℕ) (r : machine.Refusal) → map line_of lines.items ≡ machine.reply n (machine.refused r) ∷ [] → self.new ≡ self.old) }
         ensures went_on { OnOk result (self.new.failed ≡ false) }
         ensures fails { OnErr result (self.new.failed ≡ true) }

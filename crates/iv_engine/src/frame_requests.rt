@@ -30,7 +30,7 @@ pub fn outcome(change: Result<(), AccessFault>, rel: String) -> Result<Option<Re
         Err(AccessFault::NotAdmin) => Ok(Some(Refusal::NotAdministrator)),
         Err(AccessFault::NotOwner) => Ok(Some(Refusal::NotOwner { rel })),
         Err(AccessFault::TooMany) => Ok(Some(Refusal::TooMany)),
-        Err(AccessFault::Policy) => Ok(None),
+        Err(AccessFault::Policy) => Ok(Some(Refusal::UnknownPolicy)),
         Err(AccessFault::Memory) => Err(AllocError),
     }
 }

@@ -3,20 +3,31 @@
 
 mod acting;
 mod answer;
+mod changes;
+mod closing;
 mod command;
 mod engine;
 mod frame_requests;
 mod limits;
+mod permitting;
 mod placing;
+mod policies;
+mod predicates;
+mod readers;
 mod revoking;
 mod sending;
 mod store;
 mod stored;
 mod subscribing;
+mod summing;
+mod turning;
 mod well;
 mod writing;
 
-pub use command::{Act, Command, EngineFault, Entry, Line, Op, Refusal, Reply};
+pub use command::{Act, Command, EngineFault, Entry, Line, Op, PolicyText, Reason, Refusal, Reply};
 pub use engine::Engine;
-pub use iv_access::Privilege;
+pub use iv_access::{Check, PolicyCommand, Privilege};
+pub use iv_bind::BindWhy;
 pub use iv_machine::Cause;
+pub use iv_query::Why;
+pub use well::has_texts;

@@ -1,11 +1,11 @@
 //! The request `revoke`.
-ghost use Rattle.std.specs.Prelude.{◌≡◌, ◌<◌, IfOk, OnOk, List, filter, flat_map, length, map, option_map, string_bytes, true, Some};
+ghost use Rattle.std.specs.Prelude.{◌≡◌, ◌<◌, IfOk, OnOk, List, filter, length, map, option_map, string_bytes, true, Some};
 ghost use Rattle.std.specs.List.{AllByRecursion};
 ghost use Rattle.iv_algebra.specs.Plans.{Lists};
 ghost use Rattle.iv_machine.specs.Act as machine;
 ghost use Rattle.iv_machine.specs.Refusing.{frame_refusal};
 ghost use Rattle.iv_machine.specs.State.{is_open};
-ghost use Rattle.iv_engine.specs.Answering.{IsStep, ended_line, last_line};
+ghost use Rattle.iv_engine.specs.Answering.{AreEnded, IsStep, last_line};
 ghost use Rattle.iv_engine.specs.Kept.{IsOpen, IsSound, IsStored, frame_of, may_read};
 ghost use Rattle.iv_engine.specs.Next.{next};
 ghost use Rattle.iv_engine.specs.Stands.{Stands};
@@ -14,7 +14,6 @@ ghost use Rattle.iv_engine.specs.Views.{line_of, refusal_of};
 use crate::answer::Answer;
 use crate::command::{Line, Refusal, Reply};
 use crate::frame_requests::outcome;
-use crate::sending::taken;
 use crate::store::Store;
 use crate::stored::Subscription;
 use iv_access::Privilege;
@@ -30,23 +29,12 @@ struct Split {
 }
 
 impl Store {
-    /// Whether the reader of a subscription may select from its table.
-    fn reads(&self, subscription: &Subscription) -> bool
-        requires { is_open (frame_of self.now) subscription.now.session ≡ true }
-        ensures { result ≡ may_read self.now subscription.now }
-    {
-        match self.actor(subscription.session) {
-            Some(role) => self.access.has(role, Privilege::Select, subscription.rel),
-            None => unreachable!(),
-        }
-    }
-
     /// The subscriptions that may be read, and for each other one the line that ends it and takes back all that it shows.
     fn split(&self, subscriptions: Vec<Subscription>) -> Result<Split, AllocError>
         requires open { AllByRecursion (IsOpen self.now) subscriptions.items }
         requires bags { length self.now.bags ≡ length self.now.columns }
         ensures kept { IfOk result (λ s. s.kept.items ≡ filter (may_read self.now) subscriptions.items) }
-        ensures lines { IfOk result (λ s. (T : Lists) → Stands T self.now.bags → map line_of s.lines.items ≡ flat_map (ended_line self.now T) subscriptions.items) }
+        ensures lines { IfOk result (λ s. AreEnded self.now subscriptions.items (map line_of s.lines.items)) }
     {
         let mut kept = Vec::new(self.alloc);
         let mut lines = Vec::new(self.alloc);
@@ -63,10 +51,11 @@ impl Store {
 
     /// The line that ends a subscription.
     fn ended(&self, subscription: &Subscription) -> Result<Line, AllocError>
-        requires { subscription.now.rel < length self.now.bags }
-        ensures { IfOk result (λ line. (T : Lists) → Stands T self.now.bags → line_of line ≡ last_line T subscription.now) }
+        requires open { IsOpen self.now subscription.now }
+        requires bags { length self.now.bags ≡ length self.now.columns }
+        ensures { IfOk result (λ line. (T : Lists) → Stands T self.now.bags → line_of line ≡ last_line self.now T subscription.now) }
     {
-        let rows = taken(&self.bags[subscription.rel.0 as usize])?;
+        let rows = self.shown(subscription, true)?;
         Ok(Line::Ended {
             session: subscription.session,
             sub: subscription.number,

@@ -1,16 +1,15 @@
 //! The rules on the shape of commands.
-ghost use Rattle.std.specs.Prelude.{◌≡◌, ◌&&◌, ◌^◌, length, nat_le, nat_lt, bytes_eq, option_map, string_bytes};
-ghost use Rattle.std.specs.List.{list_all, list_any};
-ghost use Rattle.iv_rows.specs.Columns.{has_columns, has_distinct_names, is_wide};
-ghost use Rattle.iv_rows.specs.Names.{is_name};
+ghost use Rattle.std.specs.Prelude.{◌≡◌, ◌&&◌, ◌^◌, map, nat_le, nat_lt, option_map, string_bytes};
+ghost use Rattle.std.specs.List.{list_all};
 ghost use Rattle.iv_rows.specs.Texts.{is_well};
 ghost use Rattle.iv_machine.specs.Refusing.{rows_in};
-ghost use Rattle.iv_machine.specs.Well.{is_between, is_grantee, is_positive, is_well_act, is_well_command, is_well_entry};
+ghost use Rattle.iv_machine.specs.Well.{is_between, is_grantee, is_positive, is_well_act, is_well_command, is_well_entry, is_well_policy, has_texts};
 ghost use Rattle.iv_engine.specs.Entries.{copies_of, op_of};
 ghost use Rattle.iv_engine.specs.Views.{act_of, command_of};
 
-use crate::command::{Act, Command, Entry, Op};
-use iv_rows::{Column, name_ok};
+use crate::command::{Act, Command, Entry, Op, PolicyText};
+use iv_access::PolicyCommand;
+use iv_rows::{columns_ok, name_ok};
 
 impl Command {
     /// Whether the command keeps the rules on shape: numbers in their ranges, names that are names, texts that a table
@@ -43,7 +42,7 @@ fn is_well_act(act: &Act) -> bool
             name,
             owner,
             columns,
-        } => name_ok(name.as_str()) && (name_ok(owner.as_str()) && are_columns(columns)),
+        } => name_ok(name.as_str()) && (name_ok(owner.as_str()) && columns_ok(columns)),
         Act::Grant {
             rel,
             privileges,
@@ -54,6 +53,13 @@ fn is_well_act(act: &Act) -> bool
             privileges,
             grantee,
         } => name_ok(rel.as_str()) && (is_between(1, 4, privileges.len()) && is_grantee(grantee)),
+        Act::RowSecurity {
+            rel,
+            enable: _,
+            force: _,
+        } => name_ok(rel.as_str()),
+        Act::CreatePolicy(policy) => is_well_policy(policy),
+        Act::DropPolicy { rel, name } => name_ok(rel.as_str()) && name_ok(name.as_str()),
         Act::Write { entries } => is_between(1, 1000, entries.len()) && are_well(entries),
         Act::Subscribe { rel } => name_ok(rel.as_str()),
     }
@@ -76,11 +82,53 @@ fn is_between(low: usize, high: usize, number: usize) -> bool
     low <= number && number <= high
 }
 
+/// Whether the policy keeps the rules on shape.
+fn is_well_policy(policy: &PolicyText) -> bool
+    ensures { result ≡ is_well_policy policy.now }
+{
+    name_ok(policy.rel.as_str())
+        && (name_ok(policy.name.as_str())
+            && (is_between(1, 16, policy.grantee.len())
+                && (are_grantees(&policy.grantee)
+                    && has_texts(policy.command, &policy.using_text, &policy.check_text))))
+}
+
+/// Whether each is no name, which stands for PUBLIC, or a name.
+fn are_grantees(grantees: &[Option<String>]) -> bool
+    ensures { result ≡ list_all is_grantee (map (option_map string_bytes) grantees.now) }
+{
+    for grantee in grantees {
+        if !is_grantee(grantee) {
+            return false;
+        }
+    }
+    true
+}
+
+/// Whether a policy for the command has the texts that it has to have, and no other.
+///
+/// Source: PostgreSQL 16, CREATE POLICY: USING and WITH CHECK.
+pub fn has_texts(
+    command: PolicyCommand,
+    using_text: &Option<String>,
+    check_text: &Option<String>,
+) -> bool
+    ensures { result ≡ has_texts command (option_map string_bytes using_text.now) (option_map string_bytes check_text.now) }
+{
+    match command {
+        PolicyCommand::All => using_text.is_some(),
+        PolicyCommand::Select => using_text.is_some() && check_text.is_none(),
+        PolicyCommand::Insert => using_text.is_none() && check_text.is_some(),
+        PolicyCommand::Update => using_text.is_some(),
+        PolicyCommand::Delete => using_text.is_some() && check_text.is_none(),
+    }
+}
+
 /// Whether all entries keep the rules on shape.
 fn are_well(entries: &[Entry]) -> bool
     ensures { result ≡ list_all is_well_entry entries.now }
 {
-    entries.iter().all(is_well_entry)
+    entries.iter().all(|entry| is_well_entry(entry))
 }
 
 /// Whether the entry keeps the rules on shape.
@@ -96,6 +144,8 @@ fn is_well_op(op: &Op) -> bool
 {
     match op {
         Op::Insert(row) => row.well(),
+        Op::Delete(row) => row.well(),
+        Op::Update(old, new) => old.well() && new.well(),
     }
 }
 
@@ -104,45 +154,4 @@ fn are_copies(number: i64) -> bool
     ensures { result ≡ is_positive (copies_of number) }
 {
     number >= 1
-}
-
-/// Whether there are 1 to 16 columns with distinct names.
-fn are_columns(columns: &[Column]) -> bool
-    ensures { result ≡ (has_columns columns.now && has_distinct_names columns.now) }
-{
-    are_named(columns) && are_distinct(columns)
-}
-
-/// Whether there are 1 to 16 columns, each with a name.
-fn are_named(columns: &[Column]) -> bool
-    ensures { result ≡ has_columns columns.now }
-{
-    is_between(1, 16, columns.len()) && have_names(columns)
-}
-
-/// Whether each column has a name.
-fn have_names(columns: &[Column]) -> bool
-    ensures { result ≡ list_all (λ c. is_name c.name) columns.now }
-{
-    columns.iter().all(|column| name_ok(column.name.as_str()))
-}
-
-/// Whether a column has the name.
-fn has_name(columns: &[Column], name: &str) -> bool
-    ensures { result ≡ list_any (λ c. bytes_eq name.now c.name) columns.now }
-{
-    columns.iter().any(|column| name == column.name.as_str())
-}
-
-/// Whether no two columns have one name.
-fn are_distinct(columns: &[Column]) -> bool
-    ensures { result ≡ has_distinct_names columns.now }
-{
-    for place in 0..columns.len() {
-        let column = &columns[place];
-        if has_name(&columns[place + 1..], column.name.as_str()) {
-            return false;
-        }
-    }
-    true
 }

@@ -1,11 +1,10 @@
 -- Each command that is well is asked by its JSON value.
-use Rattle.std.proofs.Common.{◌≡◌, ℕ, ◌^◌, ◌==◌, ◌&&◌, Bool, true, false, ℤ, pos, negsuc, List, [], ◌∷◌, length, map, cond, Option, Some, None, option_map, option_and_then, ap, ◌∙◌, sym, refl, arith}
-use Rattle.std.specs.Prelude.{codes, nat_lt, bytes_eq}
+use Rattle.std.proofs.Common.{◌≡◌, ℕ, ◌&&◌, Bool, true, false, pos, negsuc, List, [], ◌∷◌, length, map, Option, Some, None, option_map, option_and_then, ap, ◌∙◌, sym, refl}
+use Rattle.std.specs.Prelude.{codes, bytes_eq}
 use Rattle.std.proofs.lemmas.Slice.Eq.{bytes_eq-Decides}
 use Rattle.iv_rows.specs.Names.{reserved}
 use Rattle.std.specs.List.{list_all}
-use Rattle.std.proofs.lemmas.Bool.Decides.{nat_tests}
-use Rattle.serde_json.specs.Data.{Data, Items, item, no_items}
+use Rattle.serde_json.specs.Data.{Data}
 use Rattle.serde_json.specs.View.{items_of}
 use Rattle.iv_rows.specs.Cell.{Cell, num, text, flag}
 use Rattle.iv_rows.specs.Columns.{Column, has_columns, has_distinct_names}
@@ -15,11 +14,13 @@ use Rattle.iv_rows.specs.declared.value.Kind.{Kind}
 use Rattle.iv_rows.specs.declared.value.Kind.TheVariants.{Int, Text, Flag}
 use Rattle.iv_machine.specs.Act.{Act, begin, finish, create_role, create_table, create_view, grant, revoke, row_security, create_policy, drop_policy, subscribe, unsubscribe, write, Command, Entry, Op, insert, delete, update}
 use Rattle.iv_machine.specs.Refusing.{rows_in}
-use Rattle.iv_machine.specs.Well.{is_between, is_grantee, is_positive, is_well_entry, is_well_act, is_well_command}
+use Rattle.iv_machine.specs.Well.{has_texts, is_between, is_grantee, is_positive, is_well_entry, is_well_act, is_well_command}
+use Rattle.iv_access.specs.declared.policy.PolicyCommand.{PolicyCommand}
+use Rattle.iv_access.specs.declared.policy.PolicyCommand.TheVariants as policy_command
 use Rattle.iv_access.specs.declared.privilege.Privilege.{Privilege}
 use Rattle.iv_access.specs.declared.privilege.Privilege.TheVariants.{Select, Insert, Update, Delete}
-use Rattle.iv_wire.specs.Asked.{column_data, privilege_data, entry_data, row_of, grantee_text, act_data, command_data, is_small, is_insert, is_plain_entry, is_plain}
-use Rattle.iv_wire.specs.Request.{each, cell_of, column_of, privilege_of, entry_of, grantee_named, is_schema, is_session, command, request}
+use Rattle.iv_wire.specs.Asked.{column_data, privilege_data, entry_data, grantee_text, grantee_data, policy_command_text, act_data, command_data, is_small, is_small_entry, is_plain}
+use Rattle.iv_wire.specs.Request.{each, cell_of, column_of, privilege_of, entry, entry_of, grantee_named, grantee_of, policy_command_named, Scope, scope, policy, is_schema, is_session, command, request}
 use Rattle.iv_wire.specs.Texts.{cell_data}
 
 left_true : (a b : Bool) → (a && b) ≡ true → a ≡ true
@@ -75,26 +76,30 @@ privilege_asked Delete = refl
 privileges_asked : (ps : List Privilege) → each privilege_of (items_of (map privilege_data ps)) ≡ Some ps
 privileges_asked ps = each_asked (λ _. true) privilege_of privilege_data (λ p _. privilege_asked p) ps (all_true ps)
 
-one_copy : (n : ℕ) → (n == 1) ≡ true → n ≡ 1
-one_copy n h = grind (arith, nat_tests)
+inserted_asked : (rel : List ℕ) (row : List Cell) (copies : ℕ) → is_name rel ≡ true → is_well row ≡ true → list_all is_small row ≡ true → is_positive copies ≡ true → entry_of (entry_data (entry rel (insert row) copies)) ≡ Some (entry rel (insert row) copies)
+inserted_asked rel row copies h k s p = rw (h, cells_asked row k s, p) refl
 
-inserted_asked : (rel : List ℕ) (row : List Cell) (copies : ℕ) → is_name rel ≡ true → is_well row ≡ true → list_all is_small row ≡ true → copies ≡ 1 → entry_of (entry_data (record { rel = rel; op = insert row; copies = copies })) ≡ Some (record { rel = rel; op = insert row; copies = copies })
-inserted_asked rel row copies h k s e = rw (h, cells_asked row k s, e) refl
+deleted_asked : (rel : List ℕ) (row : List Cell) (copies : ℕ) → is_name rel ≡ true → is_well row ≡ true → list_all is_small row ≡ true → is_positive copies ≡ true → entry_of (entry_data (entry rel (delete row) copies)) ≡ Some (entry rel (delete row) copies)
+deleted_asked rel row copies h k s p = rw (h, cells_asked row k s, p) refl
 
-op_asked : (rel : List ℕ) (op : Op) (copies : ℕ) → is_name rel ≡ true → list_all is_well (rows_in op) ≡ true → is_insert op ≡ true → list_all is_small (row_of op) ≡ true → copies ≡ 1 → entry_of (entry_data (record { rel = rel; op = op; copies = copies })) ≡ Some (record { rel = rel; op = op; copies = copies })
-op_asked rel (insert row) copies h k i s e = inserted_asked rel row copies h (left_true (is_well row) true k) s e
-op_asked rel (delete row) copies h k i s e = cc
-op_asked rel (update old new) copies h k i s e = cc
+updated_asked : (rel : List ℕ) (old new : List Cell) (copies : ℕ) → is_name rel ≡ true → is_well old ≡ true → is_well new ≡ true → list_all is_small old ≡ true → list_all is_small new ≡ true → is_positive copies ≡ true → entry_of (entry_data (entry rel (update old new) copies)) ≡ Some (entry rel (update old new) copies)
+updated_asked rel old new copies h k l s t p = rw (h, cells_asked old k s, cells_asked new l t, p) refl
 
-entry_asked : (e : Entry) → (is_well_entry e && is_plain_entry e) ≡ true → entry_of (entry_data e) ≡ Some e
+op_asked : (rel : List ℕ) (op : Op) (copies : ℕ) → is_name rel ≡ true → list_all is_well (rows_in op) ≡ true → list_all (list_all is_small) (rows_in op) ≡ true → is_positive copies ≡ true → entry_of (entry_data (entry rel op copies)) ≡ Some (entry rel op copies)
+op_asked rel (insert row) copies h k s p = inserted_asked rel row copies h (left_true (is_well row) true k) (left_true (list_all is_small row) true s) p
+op_asked rel (delete row) copies h k s p = deleted_asked rel row copies h (left_true (is_well row) true k) (left_true (list_all is_small row) true s) p
+op_asked rel (update old new) copies h k s p =
+    updated_asked rel old new copies h (left_true (is_well old) _ k) (left_true (is_well new) true (right_true (is_well old) _ k))
+    (left_true (list_all is_small old) _ s) (left_true (list_all is_small new) true (right_true (list_all is_small old) _ s)) p
+
+entry_asked : (e : Entry) → (is_well_entry e && is_small_entry e) ≡ true → entry_of (entry_data e) ≡ Some e
 entry_asked e h =
-    let w = left_true (is_well_entry e) (is_plain_entry e) h in
-    let p = right_true (is_well_entry e) (is_plain_entry e) h in
-    let one = right_true (is_insert e.op) _ p in
-    op_asked e.rel e.op e.copies (left_true (is_name e.rel) _ w) (left_true (list_all is_well (rows_in e.op)) _ (right_true (is_name e.rel) _ w)) (left_true (is_insert e.op) _ p) (right_true (e.copies == 1) _ one) (one_copy e.copies (left_true (e.copies == 1) _ one))
+    let w = left_true (is_well_entry e) (is_small_entry e) h in
+    let r = right_true (is_name e.rel) _ w in
+    op_asked e.rel e.op e.copies (left_true (is_name e.rel) _ w) (left_true (list_all is_well (rows_in e.op)) _ r) (right_true (is_well_entry e) (is_small_entry e) h) (right_true (list_all is_well (rows_in e.op)) _ r)
 
-entries_asked : (es : List Entry) → list_all is_well_entry es ≡ true → list_all is_plain_entry es ≡ true → each entry_of (items_of (map entry_data es)) ≡ Some es
-entries_asked es h k = each_asked (λ e. is_well_entry e && is_plain_entry e) entry_of entry_data entry_asked es (both_pass is_well_entry is_plain_entry es h k)
+entries_asked : (es : List Entry) → list_all is_well_entry es ≡ true → list_all is_small_entry es ≡ true → each entry_of (items_of (map entry_data es)) ≡ Some es
+entries_asked es h k = each_asked (λ e. is_well_entry e && is_small_entry e) entry_of entry_data entry_asked es (both_pass is_well_entry is_small_entry es h k)
 
 -- `public` is no name
 abbrev is_public_name : Bool
@@ -117,7 +122,24 @@ grantee_asked : (to : Option (List ℕ)) → is_grantee to ≡ true → grantee_
 grantee_asked None h = refl
 grantee_asked (Some name) h = rw (not_public name h, h) refl
 
+grantees_asked : (to : List (Option (List ℕ))) → list_all is_grantee to ≡ true → each grantee_of (items_of (map grantee_data to)) ≡ Some to
+grantees_asked to h = each_asked is_grantee grantee_of grantee_data grantee_asked to h
+
+policy_command_asked : (c : PolicyCommand) → policy_command_named (policy_command_text c) ≡ Some c
+policy_command_asked policy_command.All = refl
+policy_command_asked policy_command.Select = refl
+policy_command_asked policy_command.Insert = refl
+policy_command_asked policy_command.Update = refl
+policy_command_asked policy_command.Delete = refl
+
 -- ---- requests
+
+policy_asked : (n : ℕ) (rel name : List ℕ) (s : Scope) (using check : Option (List ℕ)) → is_session n ≡ true → is_name rel ≡ true → is_name name ≡ true → is_between 1 16 (length s.to) ≡ true → list_all is_grantee s.to ≡ true → has_texts s.command using check ≡ true
+    → request (act_data n (create_policy (policy rel name s using check))) ≡ Some (command n (create_policy (policy rel name s using check)))
+policy_asked n rel name s None None h r m few to t = rw (h, policy_command_asked s.command, grantees_asked s.to to, few, r, m, t) refl
+policy_asked n rel name s None (Some k) h r m few to t = rw (h, policy_command_asked s.command, grantees_asked s.to to, few, r, m, t) refl
+policy_asked n rel name s (Some u) None h r m few to t = rw (h, policy_command_asked s.command, grantees_asked s.to to, few, r, m, t) refl
+policy_asked n rel name s (Some u) (Some k) h r m few to t = rw (h, policy_command_asked s.command, grantees_asked s.to to, few, r, m, t) refl
 
 act_asked : (n : ℕ) (a : Act) → is_session n ≡ true → is_well_act a ≡ true → is_plain a ≡ true → request (act_data n a) ≡ Some (command n a)
 act_asked n (begin role) s h p = rw (s, h) refl
@@ -140,9 +162,13 @@ act_asked n (write entries) s h p =
 act_asked n (subscribe rel) s h p = rw (s, h) refl
 act_asked n finish s h p = cc
 act_asked n (create_view name owner query) s h p = cc
-act_asked n (row_security rel enable force) s h p = cc
-act_asked n (create_policy policy) s h p = cc
-act_asked n (drop_policy rel name) s h p = cc
+act_asked n (row_security rel enable force) s h p = rw (s, h) refl
+act_asked n (create_policy q) s h p =
+    let r = right_true (is_name q.rel) _ h in
+    let g = right_true (is_name q.name) _ r in
+    let t = right_true (is_between 1 16 (length q.to)) _ g in
+    policy_asked n q.rel q.name (scope q.restrictive q.command q.to) q.using_text q.check_text s (left_true (is_name q.rel) _ h) (left_true (is_name q.name) _ r) (left_true (is_between 1 16 (length q.to)) _ g) (left_true (list_all is_grantee q.to) _ t) (right_true (list_all is_grantee q.to) _ t)
+act_asked n (drop_policy rel name) s h p = rw (s, left_true (is_name rel) _ h, right_true (is_name rel) _ h) refl
 act_asked n (unsubscribe number) s h p = cc
 
 pub command_asked : (c : Command) → is_well_command c ≡ true → is_plain c.act ≡ true → request (command_data c) ≡ Some c

@@ -1,10 +1,10 @@
 -- Each command that a JSON value is, is well.
-use Rattle.std.proofs.Common.{◌≡◌, ℕ, sym, Bool, true, false, ◌&&◌, List, [], ◌∷◌, length, Option, Some, None, option_map, option_and_then, cond, refl, ap, ◌∙◌, subst}
+use Rattle.std.proofs.Common.{◌≡◌, ℕ, sym, Bool, true, false, ◌&&◌, List, ◌∷◌, length, Option, Some, None, option_map, option_and_then, cond, refl, subst}
 use Rattle.std.specs.Prelude.{codes, bytes_eq, IfSome}
 use Rattle.std.specs.List.{list_all}
 use Rattle.serde_json.specs.Data.{Data, null, boolean, number, string, array, object, Num, Items, no_items, item}
-use Rattle.serde_json.specs.Find.{get, as_array, as_number, as_i64, as_u64}
-use Rattle.iv_rows.specs.Cell.{Cell, num, text, flag}
+use Rattle.serde_json.specs.Find.{get, at, as_array, as_bool, as_str, as_number, as_i64, as_u64}
+use Rattle.iv_rows.specs.Cell.{Cell, num, text}
 use Rattle.iv_rows.specs.Columns.{Column}
 use Rattle.iv_rows.specs.Names.{is_name}
 use Rattle.iv_rows.specs.Texts.{is_well, is_well_cell}
@@ -12,7 +12,9 @@ use Rattle.iv_machine.specs.Act as machine
 use Rattle.iv_machine.specs.Refusing.{rows_in}
 use Rattle.iv_machine.specs.Well.{is_grantee, is_positive, is_well_entry, is_well_act, is_well_command, is_between}
 use Rattle.iv_access.specs.declared.privilege.Privilege.{Privilege}
-use Rattle.iv_wire.specs.Request.{passing, each, list_at, name_at, text_at, is_schema, columns_at, column_of, privileges_at, privilege_of, cell_of, entry_of, inserted, entries_at, begin_of, create_role_of, create_table_of, grantee_named, grantee_at, Granting, granting, granting_of, grant_by, revoke_by, write_of, subscribe_of, act_for, asked_act, is_session, session_of, command, request}
+use Rattle.iv_access.specs.declared.policy.PolicyCommand.{PolicyCommand}
+use Rattle.iv_access.specs.declared.policy.PolicyCommand.TheVariants as policy_command
+use Rattle.iv_wire.specs.Request.{passing, each, list_at, name_at, text_at, is_schema, columns_at, column_of, privileges_at, privilege_of, cell_of, bool_at, given_or, found_or, has, list_of, row_of, update_of, op_at, copies_of, copies_at, entry, entry_of, row_security_of, policy_command_of, grantee_of, grantees_of, everyone, text_if_at, Scope, scope, scope_at, policy, policy_at, policy_of, has_its_texts, create_policy_of, drop_policy_of, entries_at, begin_of, create_role_of, create_table_of, grantee_named, grantee_at, Granting, granting, granting_of, grant_by, revoke_by, write_of, subscribe_of, act_for, asked_act, is_session, session_of, command, request}
 
 both : (a b : Bool) → a ≡ true → b ≡ true → (a && b) ≡ true
 both a b p q = rw (p, q) refl
@@ -53,6 +55,10 @@ each_passes {X} p f h (item d ds) =
     bound (λ (x : X). p x ≡ true) (λ (xs : List X). list_all p xs ≡ true) (λ x. option_map (λ xs. x ∷ xs) (each f ds)) (f d) (h d)
     (λ x px. mapped (λ (xs : List X). list_all p xs ≡ true) (λ (xs : List X). list_all p xs ≡ true) (λ xs. x ∷ xs) (each f ds) (each_passes p f h ds) (λ xs q. both (p x) (list_all p xs) px q))
 
+given_well : {X : Type 0} (P : X → Type 0) (x : X) (f : Data → Option X) (o : Option Data) → P x → ((v : Data) → IfSome (f v) P) → IfSome (given_or x f o) P
+given_well P x f None p h = p
+given_well P x f (Some d) p h = h d
+
 -- ---- the parts of requests
 
 name_well : (key : List ℕ) (d : Data) → IfSome (name_at key d) (λ s. is_name s ≡ true)
@@ -81,12 +87,45 @@ cell_well (object ms) = tt
 list_well : {X : Type 0} (p : X → Bool) (f : Data → Option X) → ((d : Data) → IfSome (f d) (λ x. p x ≡ true)) → (key : List ℕ) (d : Data) → IfSome (list_at f key d) (λ xs. list_all p xs ≡ true)
 list_well {X} p f h key d = let o : Option Items = option_and_then as_array (get key d) in bound (λ (ds : Items). Unit {0}) (λ (xs : List X). list_all p xs ≡ true) (each f) o (nothing_more o) (λ ds _. each_passes p f h ds)
 
+row_well : (d : Data) → IfSome (row_of d) (λ row. is_well row ≡ true)
+row_well d = bound (λ (ds : Items). Unit {0}) (λ (row : List Cell). is_well row ≡ true) (each cell_of) (as_array d) (nothing_more (as_array d)) (λ ds _. each_passes is_well_cell cell_of cell_well ds)
+
+row_there : (o : Option Data) → IfSome (option_and_then row_of o) (λ row. is_well row ≡ true)
+row_there o = bound (λ (d : Data). Unit {0}) (λ (row : List Cell). is_well row ≡ true) row_of o (nothing_more o) (λ d _. row_well d)
+
+abbrev IsWellOp : machine.Op → Type 0
+IsWellOp op = list_all is_well (rows_in op) ≡ true
+
+update_well : (d : Data) → IfSome (update_of d) IsWellOp
+update_well d =
+    chosen IsWellOp _ _ None
+    (bound (λ (row : List Cell). is_well row ≡ true) IsWellOp (λ old. option_map (machine.update old) (option_and_then row_of (at 1 d))) (option_and_then row_of (at 0 d)) (row_there (at 0 d))
+    (λ old p. mapped (λ (row : List Cell). is_well row ≡ true) IsWellOp (machine.update old) (option_and_then row_of (at 1 d)) (row_there (at 1 d))
+    (λ new q. both (is_well old) (is_well new && true) p (both (is_well new) true q refl))))
+    tt
+
+op_well : (d : Data) → IfSome (op_at d) IsWellOp
+op_well d =
+    chosen IsWellOp (has (codes "insert") d) _ _ (mapped (λ (row : List Cell). is_well row ≡ true) IsWellOp machine.insert (option_and_then row_of (get (codes "insert") d)) (row_there (get (codes "insert") d)) (λ row p. both (is_well row) true p refl))
+    (chosen IsWellOp (has (codes "delete") d) _ _ (mapped (λ (row : List Cell). is_well row ≡ true) IsWellOp machine.delete (option_and_then row_of (get (codes "delete") d)) (row_there (get (codes "delete") d)) (λ row p. both (is_well row) true p refl))
+    (bound (λ (x : Data). Unit {0}) IsWellOp update_of (get (codes "update") d) (nothing_more (get (codes "update") d)) (λ x _. update_well x)))
+
+-- a value at a key that need not be there
+found_well : {X : Type 0} (P : X → Type 0) (x : X) (f : Data → Option X) (key : List ℕ) (d : Data) → P x → ((v : Data) → IfSome (f v) P) → IfSome (found_or x f key d) P
+found_well P x f key d p h = given_well P x f (get key d) p h
+
+copies_of_well : (d : Data) → IfSome (copies_of d) (λ n. is_positive n ≡ true)
+copies_of_well d =
+    let o : Option ℕ = option_and_then as_u64 (as_number d) in
+    weaker (λ (n : ℕ). (is_positive n ≡ true) × Unit {0}) (λ (n : ℕ). is_positive n ≡ true) (copies_of d) (passes (λ (n : ℕ). Unit {0}) is_positive o (nothing_more o)) (λ n h. h.0)
+
 entry_well : (d : Data) → IfSome (entry_of d) (λ e. is_well_entry e ≡ true)
 entry_well d =
     chosen (λ (e : machine.Entry). is_well_entry e ≡ true) _ _ None
-    (bound (λ (s : List ℕ). is_name s ≡ true) (λ (e : machine.Entry). is_well_entry e ≡ true) (λ rel. option_map (inserted rel) (list_at cell_of (codes "insert") d)) (name_at (codes "on") d) (name_well (codes "on") d)
-    (λ rel p. mapped (λ (row : List Cell). is_well row ≡ true) (λ (e : machine.Entry). is_well_entry e ≡ true) (inserted rel) (list_at cell_of (codes "insert") d) (list_well is_well_cell cell_of cell_well (codes "insert") d)
-    (λ row q. both (is_name rel) ((is_well row && true) && true) p (both (is_well row && true) true (both (is_well row) true q refl) refl))))
+    (bound (λ (s : List ℕ). is_name s ≡ true) (λ (e : machine.Entry). is_well_entry e ≡ true) (λ rel. option_and_then (λ op. option_map (entry rel op) (copies_at d)) (op_at d)) (name_at (codes "on") d) (name_well (codes "on") d)
+    (λ rel p. bound IsWellOp (λ (e : machine.Entry). is_well_entry e ≡ true) (λ op. option_map (entry rel op) (copies_at d)) (op_at d) (op_well d)
+    (λ op q. mapped (λ (n : ℕ). is_positive n ≡ true) (λ (e : machine.Entry). is_well_entry e ≡ true) (entry rel op) (copies_at d) (found_well (λ (n : ℕ). is_positive n ≡ true) 1 copies_of (codes "copies") d refl copies_of_well)
+    (λ n r. both (is_name rel) (list_all is_well (rows_in op) && is_positive n) p (both (list_all is_well (rows_in op)) (is_positive n) q r)))))
     tt
 
 entries_well : (d : Data) → IfSome (entries_at d) (λ es. (is_between 1 1000 (length es) ≡ true) × (list_all is_well_entry es ≡ true))
@@ -142,6 +181,66 @@ grant_well d = mapped IsWellGranting IsWellAct grant_by (granting_of d) (grantin
 revoke_well : (d : Data) → IfSome (option_map revoke_by (granting_of d)) IsWellAct
 revoke_well d = mapped IsWellGranting IsWellAct revoke_by (granting_of d) (granting_well d) (λ g h. h)
 
+row_security_well : (d : Data) → IfSome (row_security_of d) IsWellAct
+row_security_well d =
+    chosen IsWellAct _ _ None
+    (bound (λ (s : List ℕ). is_name s ≡ true) IsWellAct (λ rel. option_and_then (λ enable. option_map (machine.row_security rel enable) (bool_at (codes "force") d)) (bool_at (codes "enable") d)) (name_at (codes "on") d) (name_well (codes "on") d)
+    (λ rel p. bound (λ (b : Bool). Unit {0}) IsWellAct (λ enable. option_map (machine.row_security rel enable) (bool_at (codes "force") d)) (bool_at (codes "enable") d) (nothing_more (bool_at (codes "enable") d))
+    (λ enable _. mapped (λ (b : Bool). Unit {0}) IsWellAct (machine.row_security rel enable) (bool_at (codes "force") d) (nothing_more (bool_at (codes "force") d)) (λ force _. p))))
+    tt
+
+-- 1 to 16 grantees, each of them PUBLIC or a name
+abbrev AreGrantees : List (Option (List ℕ)) → Type 0
+AreGrantees to = (is_between 1 16 (length to) ≡ true) × (list_all is_grantee to ≡ true)
+
+grantee_of_well : (d : Data) → IfSome (grantee_of d) IsWellGrantee
+grantee_of_well d = bound (λ (s : List ℕ). Unit {0}) IsWellGrantee grantee_named (as_str d) (nothing_more (as_str d)) (λ s _. named_well s)
+
+grantees_well : (d : Data) → IfSome (grantees_of d) AreGrantees
+grantees_well d =
+    passes (λ (to : List (Option (List ℕ))). list_all is_grantee to ≡ true) (λ to. is_between 1 16 (length to)) (list_of grantee_of d)
+    (bound (λ (ds : Items). Unit {0}) (λ (to : List (Option (List ℕ))). list_all is_grantee to ≡ true) (each grantee_of) (as_array d) (nothing_more (as_array d)) (λ ds _. each_passes is_grantee grantee_of grantee_of_well ds))
+
+abbrev IsWellScope : Scope → Type 0
+IsWellScope s = AreGrantees s.to
+
+scope_well : (d : Data) → IfSome (scope_at d) IsWellScope
+scope_well d =
+    let b : Option Bool = found_or false as_bool (codes "restrictive") d in
+    let c : Option PolicyCommand = found_or policy_command.All policy_command_of (codes "command") d in
+    bound (λ (b : Bool). Unit {0}) IsWellScope _ b (nothing_more b)
+    (λ restrictive _. bound (λ (c : PolicyCommand). Unit {0}) IsWellScope (λ command. option_map (scope restrictive command) (found_or everyone grantees_of (codes "to") d)) c (nothing_more c)
+    (λ command _. mapped AreGrantees IsWellScope (scope restrictive command) (found_or everyone grantees_of (codes "to") d)
+    (found_well AreGrantees everyone grantees_of (codes "to") d (refl, refl) grantees_well) (λ to p. p)))
+
+-- the names and the grantees of the policy are well
+abbrev IsWellBut : machine.PolicyText → Type 0
+IsWellBut p = (is_name p.rel ≡ true) × ((is_name p.name ≡ true) × AreGrantees p.to)
+
+policy_at_well : (s : Scope) (d : Data) → IsWellScope s → IfSome (policy_at s d) IsWellBut
+policy_at_well s d h =
+    let u : Option (Option (List ℕ)) = text_if_at (codes "using") d in
+    let k : Option (Option (List ℕ)) = text_if_at (codes "check") d in
+    bound (λ (n : List ℕ). is_name n ≡ true) IsWellBut _ (name_at (codes "on") d) (name_well (codes "on") d)
+    (λ rel p. bound (λ (n : List ℕ). is_name n ≡ true) IsWellBut (λ name. option_and_then (λ using. option_map (policy rel name s using) k) u) (name_at (codes "name") d) (name_well (codes "name") d)
+    (λ name q. bound (λ (t : Option (List ℕ)). Unit {0}) IsWellBut (λ using. option_map (policy rel name s using) k) u (nothing_more u)
+    (λ using _. mapped (λ (t : Option (List ℕ)). Unit {0}) IsWellBut (policy rel name s using) k (nothing_more k) (λ check _. (p, (q, h))))))
+
+policy_well : (d : Data) → IfSome (policy_of d) IsWellBut
+policy_well d = chosen IsWellBut _ _ None (bound IsWellScope IsWellBut (λ s. policy_at s d) (scope_at d) (scope_well d) (λ s h. policy_at_well s d h)) tt
+
+create_policy_well : (d : Data) → IfSome (create_policy_of d) IsWellAct
+create_policy_well d =
+    mapped (λ (p : machine.PolicyText). (has_its_texts p ≡ true) × IsWellBut p) IsWellAct machine.create_policy (option_and_then (passing has_its_texts) (policy_of d)) (passes IsWellBut has_its_texts (policy_of d) (policy_well d))
+    (λ p h. both (is_name p.rel) _ h.1.0 (both (is_name p.name) _ h.1.1.0 (both (is_between 1 16 (length p.to)) _ h.1.1.1.0 (both (list_all is_grantee p.to) (has_its_texts p) h.1.1.1.1 h.0))))
+
+drop_policy_well : (d : Data) → IfSome (drop_policy_of d) IsWellAct
+drop_policy_well d =
+    chosen IsWellAct _ _ None
+    (bound (λ (s : List ℕ). is_name s ≡ true) IsWellAct (λ rel. option_map (machine.drop_policy rel) (name_at (codes "name") d)) (name_at (codes "on") d) (name_well (codes "on") d)
+    (λ rel p. mapped (λ (s : List ℕ). is_name s ≡ true) IsWellAct (machine.drop_policy rel) (name_at (codes "name") d) (name_well (codes "name") d) (λ name q. both (is_name rel) (is_name name) p q)))
+    tt
+
 write_well : (d : Data) → IfSome (write_of d) IsWellAct
 write_well d =
     chosen IsWellAct _ _ None
@@ -157,7 +256,10 @@ act_well word d =
     let is : List ℕ → Bool = λ w. bytes_eq word w in
     let o6 : Option machine.Act = cond (is (codes "subscribe")) (subscribe_of d) None in
     let o5 : Option machine.Act = cond (is (codes "write")) (write_of d) o6 in
-    let o4 : Option machine.Act = cond (is (codes "revoke")) (option_map revoke_by (granting_of d)) o5 in
+    let p3 : Option machine.Act = cond (is (codes "drop_policy")) (drop_policy_of d) o5 in
+    let p2 : Option machine.Act = cond (is (codes "create_policy")) (create_policy_of d) p3 in
+    let p1 : Option machine.Act = cond (is (codes "row_security")) (row_security_of d) p2 in
+    let o4 : Option machine.Act = cond (is (codes "revoke")) (option_map revoke_by (granting_of d)) p1 in
     let o3 : Option machine.Act = cond (is (codes "grant")) (option_map grant_by (granting_of d)) o4 in
     let o2 : Option machine.Act = cond (is (codes "create_table")) (create_table_of d) o3 in
     let o1 : Option machine.Act = cond (is (codes "create_role")) (create_role_of d) o2 in
@@ -165,9 +267,12 @@ act_well word d =
     (chosen IsWellAct (is (codes "create_role")) (create_role_of d) o2 (create_role_well d)
     (chosen IsWellAct (is (codes "create_table")) (create_table_of d) o3 (create_table_well d)
     (chosen IsWellAct (is (codes "grant")) (option_map grant_by (granting_of d)) o4 (grant_well d)
-    (chosen IsWellAct (is (codes "revoke")) (option_map revoke_by (granting_of d)) o5 (revoke_well d)
+    (chosen IsWellAct (is (codes "revoke")) (option_map revoke_by (granting_of d)) p1 (revoke_well d)
+    (chosen IsWellAct (is (codes "row_security")) (row_security_of d) p2 (row_security_well d)
+    (chosen IsWellAct (is (codes "create_policy")) (create_policy_of d) p3 (create_policy_well d)
+    (chosen IsWellAct (is (codes "drop_policy")) (drop_policy_of d) o5 (drop_policy_well d)
     (chosen IsWellAct (is (codes "write")) (write_of d) o6 (write_well d)
-    (chosen IsWellAct (is (codes "subscribe")) (subscribe_of d) None (subscribe_well d) tt))))))
+    (chosen IsWellAct (is (codes "subscribe")) (subscribe_of d) None (subscribe_well d) tt)))))))))
 
 asked_well : (d : Data) → IfSome (asked_act d) IsWellAct
 asked_well d = bound (λ _. Unit {0}) IsWellAct (λ word. act_for word d) (text_at (codes "do") d) (nothing_more (text_at (codes "do") d)) (λ word _. act_well word d)

@@ -1,10 +1,10 @@
 -- Values that are pushed one after another, and that none holds a float.
-use Rattle.std.proofs.Common.{◌≡◌, ℕ, ℤ, pos, negsuc, ◌+◌, ◌<◌, ◌≤◌, ◌||◌, Bool, true, false, List, [], ◌∷◌, ◌++◌, map, take, get_or, length, ap, ◌∙◌, sym, refl, add-one, subst, append-nil}
+use Rattle.std.proofs.Common.{◌≡◌, ℕ, ℤ, pos, negsuc, ◌+◌, ◌<◌, ◌≤◌, false, List, [], ◌∷◌, ◌++◌, map, take, get_or, length, ap, ◌∙◌, sym, refl, add-one, append-nil}
 use Rattle.std.specs.Prelude.{flat_map}
 use Rattle.std.proofs.lemmas.Grind.{flat_map-append}
 use Rattle.std.proofs.lemmas.List.{map-append, take_all}
 use Rattle.std.proofs.Math.Seq.{take-suc}
-use Rattle.serde_json.specs.Data.{Data, Items, array}
+use Rattle.serde_json.specs.Data.{Data, array}
 use Rattle.serde_json.specs.Find.{of_integer, is_float}
 use Rattle.serde_json.specs.View.{view, items_of}
 use Rattle.serde_json.specs.Written.{has_float, items_have_float}
@@ -12,7 +12,7 @@ use Rattle.serde_json.specs.declared.value.Value.{Value}
 use Rattle.iv_rows.specs.Cell.{Cell, num, text, flag}
 use Rattle.iv_machine.specs.Act as machine
 use Rattle.iv_machine.specs.Act.{Refusal, Reply, done, subscribed, refused, Line, reply, change, ended}
-use Rattle.iv_wire.specs.Texts.{cell_data, row_data, entry_data, rows_data, refused_data, line_data}
+use Rattle.iv_wire.specs.Texts.{cell_data, entry_data, refused_data, line_data}
 
 map-map : {X Y Z : Type 0} (g : Y → Z) (f : X → Y) (xs : List X) → map g (map f xs) ≡ map (λ x. g (f x)) xs
 map-map g f [] = refl

@@ -1,13 +1,16 @@
 -- The JSON value that asks for a command.
-use Rattle.std.specs.Prelude.{ℕ, ◌^◌, ◌==◌, ◌&&◌, pos, negsuc, Bool, true, false, List, [], ◌∷◌, map, codes, nat_lt, Option, Some, None}
+use Rattle.std.specs.Prelude.{ℕ, ◌^◌, pos, negsuc, Bool, true, false, List, map, codes, nat_lt, Option, Some, None}
 use Rattle.std.specs.List.{list_all}
 use Rattle.iv_rows.specs.Cell.{Cell, num, text, flag}
 use Rattle.iv_rows.specs.Columns.{Column}
 use Rattle.iv_rows.specs.declared.value.Kind.{Kind}
 use Rattle.iv_rows.specs.declared.value.Kind.TheVariants.{Int, Text, Flag}
-use Rattle.iv_machine.specs.Act.{Act, begin, create_role, create_table, grant, revoke, write, subscribe, Command, Entry, Op, insert}
+use Rattle.iv_machine.specs.Act.{Act, begin, create_role, create_table, grant, revoke, row_security, create_policy, drop_policy, write, subscribe, Command, PolicyText, Entry, Op, insert, delete, update}
+use Rattle.iv_machine.specs.Refusing.{rows_in}
+use Rattle.iv_access.specs.declared.policy.PolicyCommand.{PolicyCommand}
+use Rattle.iv_access.specs.declared.policy.PolicyCommand.TheVariants as command
 use Rattle.iv_access.specs.declared.privilege.Privilege.{Privilege}
-use Rattle.serde_json.specs.Data.{Data, null, string, array, object, item, no_items, Members, member, no_members}
+use Rattle.serde_json.specs.Data.{Data, null, boolean, string, array, object, item, no_items, Members, member, no_members}
 use Rattle.serde_json.specs.View.{items_of}
 use Rattle.iv_wire.specs.Texts.{natural, privilege_text, row_data}
 
@@ -22,13 +25,14 @@ column_data c = array (item (string c.name) (item (string (kind_text c.kind)) no
 abbrev pub privilege_data : Privilege → Data
 privilege_data p = string (privilege_text p)
 
--- the row that an entry adds
-abbrev pub row_of : Op → List Cell
-row_of (insert row) = row
-row_of _ = []
+-- the key of what an entry does
+abbrev pub op_member : Op → Members → Members
+op_member (insert row) ms = member (codes "insert") (row_data row) ms
+op_member (delete row) ms = member (codes "delete") (row_data row) ms
+op_member (update old new) ms = member (codes "update") (array (item (row_data old) (item (row_data new) no_items))) ms
 
 abbrev pub entry_data : Entry → Data
-entry_data e = object (member (codes "insert") (row_data (row_of e.op)) (member (codes "on") (string e.rel) no_members))
+entry_data e = object (op_member e.op (member (codes "on") (string e.rel) (member (codes "copies") (natural e.copies) no_members)))
 
 -- `public` where no role is named
 abbrev pub grantee_text : Option (List ℕ) → List ℕ
@@ -50,6 +54,36 @@ table_data name owner columns =
     (member (codes "owner") (string owner)
     (member (codes "columns") (array (items_of (map column_data columns))) no_members))
 
+abbrev pub grantee_data : Option (List ℕ) → Data
+grantee_data to = string (grantee_text to)
+
+abbrev pub policy_command_text : PolicyCommand → List ℕ
+policy_command_text command.All = codes "all"
+policy_command_text command.Select = codes "select"
+policy_command_text command.Insert = codes "insert"
+policy_command_text command.Update = codes "update"
+policy_command_text command.Delete = codes "delete"
+
+-- the key of a text, where there is one
+abbrev pub text_member : List ℕ → Option (List ℕ) → Members → Members
+text_member key None ms = ms
+text_member key (Some t) ms = member key (string t) ms
+
+abbrev pub policy_data : PolicyText → Members
+policy_data p =
+    member (codes "on") (string p.rel)
+    (member (codes "name") (string p.name)
+    (member (codes "restrictive") (boolean p.restrictive)
+    (member (codes "command") (string (policy_command_text p.command))
+    (member (codes "to") (array (items_of (map grantee_data p.to)))
+    (text_member (codes "using") p.using_text (text_member (codes "check") p.check_text no_members))))))
+
+abbrev pub row_security_data : List ℕ → Bool → Bool → Members
+row_security_data rel enable force =
+    member (codes "on") (string rel)
+    (member (codes "enable") (boolean enable)
+    (member (codes "force") (boolean force) no_members))
+
 -- no value asks for the requests that are not listed
 abbrev pub act_data : ℕ → Act → Data
 act_data n (begin role) = asking (codes "begin") n (member (codes "role") (string role) no_members)
@@ -57,6 +91,9 @@ act_data n (create_role name) = asking (codes "create_role") n (member (codes "n
 act_data n (create_table name owner columns) = asking (codes "create_table") n (table_data name owner columns)
 act_data n (grant rel privileges to) = granting (codes "grant") n rel privileges to
 act_data n (revoke rel privileges to) = granting (codes "revoke") n rel privileges to
+act_data n (row_security rel enable force) = asking (codes "row_security") n (row_security_data rel enable force)
+act_data n (create_policy p) = asking (codes "create_policy") n (policy_data p)
+act_data n (drop_policy rel name) = asking (codes "drop_policy") n (member (codes "on") (string rel) (member (codes "name") (string name) no_members))
 act_data n (write entries) = asking (codes "write") n (member (codes "entries") (array (items_of (map entry_data entries))) no_members)
 act_data n (subscribe rel) = asking (codes "subscribe") n (member (codes "on") (string rel) no_members)
 act_data n _ = null
@@ -71,13 +108,9 @@ is_small (num (negsuc n)) = nat_lt n (2 ^ 63)
 is_small (text t) = true
 is_small (flag b) = true
 
-abbrev pub is_insert : Op → Bool
-is_insert (insert row) = true
-is_insert _ = false
-
--- one copy of a row is added, whose whole numbers are of 64 bits
-abbrev pub is_plain_entry : Entry → Bool
-is_plain_entry e = is_insert e.op && ((e.copies == 1) && list_all is_small (row_of e.op))
+-- the whole numbers in its rows are of 64 bits
+abbrev pub is_small_entry : Entry → Bool
+is_small_entry e = list_all (list_all is_small) (rows_in e.op)
 
 -- the requests that a value asks for
 abbrev pub is_plain : Act → Bool
@@ -86,6 +119,9 @@ is_plain (create_role name) = true
 is_plain (create_table name owner columns) = true
 is_plain (grant rel privileges to) = true
 is_plain (revoke rel privileges to) = true
-is_plain (write entries) = list_all is_plain_entry entries
+is_plain (row_security rel enable force) = true
+is_plain (create_policy p) = true
+is_plain (drop_policy rel name) = true
+is_plain (write entries) = list_all is_small_entry entries
 is_plain (subscribe rel) = true
 is_plain _ = false

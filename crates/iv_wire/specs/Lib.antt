@@ -4,9 +4,10 @@ pub mod Asked
 pub mod Calls
 pub mod Cut
 pub mod Endings
+pub mod Names
+pub mod Ran
 pub mod Reads
 pub mod Request
 pub mod Sums
 pub mod Texts
-pub mod Granted
 pub mod Worked

@@ -1,5 +1,5 @@
 -- The shape rules: which command a JSON value is.
-use Rattle.std.specs.Prelude.{ℕ, zero, suc, ◌^◌, ◌==◌, ◌&&◌, Bool, true, false, List, [], ◌∷◌, codes, length, nat_le, nat_lt, bytes_eq, Option, Some, None, option_map, option_and_then, if◌then◌else◌}
+use Rattle.std.specs.Prelude.{ℕ, ◌^◌, ◌==◌, ◌&&◌, Bool, false, List, [], ◌∷◌, ◌+◌, codes, length, nat_le, nat_lt, bytes_eq, count_by, is_some, Option, Some, None, option_map, option_and_then, if◌then◌else◌}
 use Rattle.iv_rows.specs.Cell.{Cell, num, text, flag}
 use Rattle.iv_rows.specs.Columns.{Column, has_columns, has_distinct_names}
 use Rattle.iv_rows.specs.Names.{is_name}
@@ -7,12 +7,14 @@ use Rattle.iv_rows.specs.Texts.{is_well_cell}
 use Rattle.iv_rows.specs.declared.value.Kind.{Kind}
 use Rattle.iv_rows.specs.declared.value.Kind.TheVariants.{Int, Text, Flag}
 use Rattle.iv_machine.specs.Act as machine
-use Rattle.iv_machine.specs.Well.{is_between}
+use Rattle.iv_machine.specs.Well.{is_between, is_positive, has_texts}
 use Rattle.iv_access.specs.declared.privilege.Privilege.{Privilege}
 use Rattle.iv_access.specs.declared.privilege.Privilege.TheVariants.{Select, Insert, Update, Delete}
+use Rattle.iv_access.specs.declared.policy.PolicyCommand.{PolicyCommand}
+use Rattle.iv_access.specs.declared.policy.PolicyCommand.TheVariants as policy_command
 use Rattle.serde_json.specs.Data.{Data, null, boolean, number, string, array, object, Items, no_items, item, Members}
 use Rattle.serde_json.specs.Events.{members_len, items_len}
-use Rattle.serde_json.specs.Find.{get, at, as_str, as_number, as_u64, as_i64, as_array, as_object}
+use Rattle.serde_json.specs.Find.{get, at, as_bool, as_str, as_number, as_u64, as_i64, as_array, as_object}
 
 -- ---- parts of a value
 
@@ -41,6 +43,10 @@ abbrev pub each : {X : Type 0} → (Data → Option X) → Items → Option (Lis
 each f no_items = Some []
 each f (item d ds) = option_and_then (λ x. option_map (λ xs. x ∷ xs) (each f ds)) (f d)
 
+-- what the items of a list are
+abbrev pub list_of : {X : Type 0} → (Data → Option X) → Data → Option (List X)
+list_of f d = option_and_then (each f) (as_array d)
+
 -- what the items of the list at a key are
 abbrev pub list_at : {X : Type 0} → (Data → Option X) → List ℕ → Data → Option (List X)
 list_at f key d = option_and_then (each f) (option_and_then as_array (get key d))
@@ -51,6 +57,25 @@ text_at key d = option_and_then as_str (get key d)
 -- the name at a key
 abbrev pub name_at : List ℕ → Data → Option (List ℕ)
 name_at key d = option_and_then (passing is_name) (text_at key d)
+
+abbrev pub bool_at : List ℕ → Data → Option Bool
+bool_at key d = option_and_then as_bool (get key d)
+
+-- what a value is that need not be there, and x where there is none
+abbrev pub given_or : {X : Type 0} → X → (Data → Option X) → Option Data → Option X
+given_or x f None = Some x
+given_or x f (Some d) = f d
+
+-- what the value at a key is, and x where the key is not there
+abbrev pub found_or : {X : Type 0} → X → (Data → Option X) → List ℕ → Data → Option X
+found_or x f key d = given_or x f (get key d)
+
+abbrev pub has : List ℕ → Data → Bool
+has key d = is_some (get key d)
+
+-- how many of the keys are there
+abbrev pub present : List (List ℕ) → Data → ℕ
+present keys d = count_by (λ key. has key d) keys
 
 -- ---- the parts of requests
 
@@ -68,7 +93,9 @@ column name kind = record { name = name; kind = kind }
 abbrev pub column_of : Data → Option Column
 column_of d =
     if count d == 2
-    then option_and_then (λ name. option_map (column name) (option_and_then kind_of (option_and_then as_str (at 1 d)))) (option_and_then (passing is_name) (option_and_then as_str (at 0 d)))
+    then option_and_then
+    (λ name. option_map (column name) (option_and_then kind_of (option_and_then as_str (at 1 d))))
+    (option_and_then (passing is_name) (option_and_then as_str (at 0 d)))
     else None
 
 -- 1 to 16 columns with distinct names
@@ -102,14 +129,38 @@ cell_of (string s) = passing is_well_cell (text s)
 cell_of (array ds) = None
 cell_of (object ms) = None
 
-abbrev pub inserted : List ℕ → List Cell → machine.Entry
-inserted rel row = record { rel = rel; op = machine.insert row; copies = 1 }
+abbrev pub row_of : Data → Option (List Cell)
+row_of d = list_of cell_of d
 
--- the keys are `on` and `insert`
+-- [old, new]
+abbrev pub update_of : Data → Option machine.Op
+update_of d =
+    if count d == 2
+    then option_and_then (λ old. option_map (machine.update old) (option_and_then row_of (at 1 d))) (option_and_then row_of (at 0 d))
+    else None
+
+-- what the entry does, by the first of these keys that is there
+abbrev pub op_at : Data → Option machine.Op
+op_at d =
+    if has (codes "insert") d then option_map machine.insert (option_and_then row_of (get (codes "insert") d))
+    else if has (codes "delete") d then option_map machine.delete (option_and_then row_of (get (codes "delete") d))
+    else option_and_then update_of (get (codes "update") d)
+
+-- 1 to 2^63 - 1
+abbrev pub copies_of : Data → Option ℕ
+copies_of d = option_and_then (passing is_positive) (option_and_then as_u64 (as_number d))
+
+abbrev pub copies_at : Data → Option ℕ
+copies_at d = found_or 1 copies_of (codes "copies") d
+
+abbrev pub entry : List ℕ → machine.Op → ℕ → machine.Entry
+entry rel op copies = record { rel = rel; op = op; copies = copies }
+
+-- the keys are `on`, one of what it does, and `copies` where that is there
 abbrev pub entry_of : Data → Option machine.Entry
 entry_of d =
-    if size d == 2
-    then option_and_then (λ rel. option_map (inserted rel) (list_at cell_of (codes "insert") d)) (name_at (codes "on") d)
+    if size d == 2 + present (codes "copies" ∷ []) d
+    then option_and_then (λ rel. option_and_then (λ op. option_map (entry rel op) (copies_at d)) (op_at d)) (name_at (codes "on") d)
     else None
 
 -- 1 to 1,000 entries
@@ -128,7 +179,9 @@ create_role_of d = if size d == 3 then option_map machine.create_role (name_at (
 abbrev pub create_table_of : Data → Option machine.Act
 create_table_of d =
     if size d == 5
-    then option_and_then (λ name. option_and_then (λ owner. option_map (machine.create_table name owner) (columns_at d)) (name_at (codes "owner") d)) (name_at (codes "name") d)
+    then option_and_then
+    (λ name. option_and_then (λ owner. option_map (machine.create_table name owner) (columns_at d))
+    (name_at (codes "owner") d)) (name_at (codes "name") d)
     else None
 
 -- no role where it is `public`; that word is no name
@@ -159,6 +212,112 @@ grant_by g = machine.grant g.rel g.privileges g.to
 abbrev pub revoke_by : Granting → machine.Act
 revoke_by g = machine.revoke g.rel g.privileges g.to
 
+abbrev pub row_security_of : Data → Option machine.Act
+row_security_of d =
+    if size d == 5
+    then option_and_then
+    (λ rel. option_and_then (λ enable. option_map (machine.row_security rel enable) (bool_at (codes "force") d)) (bool_at (codes "enable") d))
+    (name_at (codes "on") d)
+    else None
+
+abbrev pub policy_command_named : List ℕ → Option PolicyCommand
+policy_command_named s =
+    if bytes_eq s (codes "all") then Some policy_command.All
+    else if bytes_eq s (codes "select") then Some policy_command.Select
+    else if bytes_eq s (codes "insert") then Some policy_command.Insert
+    else if bytes_eq s (codes "update") then Some policy_command.Update
+    else if bytes_eq s (codes "delete") then Some policy_command.Delete
+    else None
+
+abbrev pub policy_command_of : Data → Option PolicyCommand
+policy_command_of d = option_and_then policy_command_named (as_str d)
+
+abbrev pub grantee_of : Data → Option (Option (List ℕ))
+grantee_of d = option_and_then grantee_named (as_str d)
+
+-- 1 to 16 roles, `public` among them or not
+abbrev pub grantees_of : Data → Option (List (Option (List ℕ)))
+grantees_of d = option_and_then (passing (λ to. is_between 1 16 (length to))) (list_of grantee_of d)
+
+-- all commands where none is named
+abbrev pub policy_command_at : Data → Option PolicyCommand
+policy_command_at d = found_or policy_command.All policy_command_of (codes "command") d
+
+-- permissive where nothing is said
+abbrev pub restrictive_at : Data → Option Bool
+restrictive_at d = found_or false as_bool (codes "restrictive") d
+
+-- PUBLIC alone
+abbrev pub everyone : List (Option (List ℕ))
+everyone = None ∷ []
+
+-- PUBLIC where nobody is named
+abbrev pub grantees_at : Data → Option (List (Option (List ℕ)))
+grantees_at d = found_or everyone grantees_of (codes "to") d
+
+abbrev pub some_text : Data → Option (Option (List ℕ))
+some_text d = option_map Some (as_str d)
+
+-- the text at a key that need not be there
+abbrev pub text_if_at : List ℕ → Data → Option (Option (List ℕ))
+text_if_at key d = found_or None some_text key d
+
+-- how a policy is applied: whether it is restrictive, for which command, and to whom
+pub record Scope : Type 0 where
+  pub restrictive : Bool
+  pub command : PolicyCommand
+  pub to : List (Option (List ℕ))
+
+abbrev pub scope : Bool → PolicyCommand → List (Option (List ℕ)) → Scope
+scope restrictive command to = record { restrictive = restrictive; command = command; to = to }
+
+abbrev pub scope_at : Data → Option Scope
+scope_at d =
+    option_and_then
+    (λ restrictive. option_and_then (λ command. option_map (scope restrictive command) (grantees_at d)) (policy_command_at d))
+    (restrictive_at d)
+
+-- a policy of these names, scope and texts
+abbrev pub policy : List ℕ → List ℕ → Scope → Option (List ℕ) → Option (List ℕ) → machine.PolicyText
+policy rel name s using check = record {
+  rel = rel;
+  name = name;
+  restrictive = s.restrictive;
+  command = s.command;
+  to = s.to;
+  using_text = using;
+  check_text = check;
+}
+
+-- a policy of the scope, with both texts, or one
+abbrev pub policy_at : Scope → Data → Option machine.PolicyText
+policy_at s d =
+    option_and_then
+    (λ rel. option_and_then
+    (λ name. option_and_then (λ using. option_map (policy rel name s using) (text_if_at (codes "check") d)) (text_if_at (codes "using") d))
+    (name_at (codes "name") d))
+    (name_at (codes "on") d)
+
+-- the keys that need not be there
+abbrev pub policy_keys : List (List ℕ)
+policy_keys = codes "restrictive" ∷ codes "command" ∷ codes "to" ∷ codes "using" ∷ codes "check" ∷ []
+
+abbrev pub policy_of : Data → Option machine.PolicyText
+policy_of d = if size d == 4 + present policy_keys d then option_and_then (λ s. policy_at s d) (scope_at d) else None
+
+-- it has the texts that its command asks for, and no other
+abbrev pub has_its_texts : machine.PolicyText → Bool
+has_its_texts p = has_texts p.command p.using_text p.check_text
+
+abbrev pub create_policy_of : Data → Option machine.Act
+create_policy_of d = option_map machine.create_policy (option_and_then (passing has_its_texts) (policy_of d))
+
+abbrev pub drop_policy_of : Data → Option machine.Act
+drop_policy_of d =
+    if size d == 4
+    then option_and_then (λ rel. option_map (machine.drop_policy rel) (name_at (codes "name") d)) (name_at (codes "on") d)
+    else None
+
 abbrev pub write_of : Data → Option machine.Act
 write_of d = if size d == 3 then option_map machine.write (entries_at d) else None
 
@@ -172,6 +331,9 @@ act_for word d =
     else if bytes_eq word (codes "create_table") then create_table_of d
     else if bytes_eq word (codes "grant") then option_map grant_by (granting_of d)
     else if bytes_eq word (codes "revoke") then option_map revoke_by (granting_of d)
+    else if bytes_eq word (codes "row_security") then row_security_of d
+    else if bytes_eq word (codes "create_policy") then create_policy_of d
+    else if bytes_eq word (codes "drop_policy") then drop_policy_of d
     else if bytes_eq word (codes "write") then write_of d
     else if bytes_eq word (codes "subscribe") then subscribe_of d
     else None

@@ -1,5 +1,5 @@
 -- The texts of lines: compact JSON with keys in the order of their bytes, and a newline.
-use Rattle.std.specs.Prelude.{ℕ, ℤ, Bool, true, List, [], ◌∷◌, ◌++◌, map, codes}
+use Rattle.std.specs.Prelude.{ℕ, ℤ, true, List, [], ◌∷◌, ◌++◌, map, codes}
 use Rattle.iv_rows.specs.Cell.{Cell, num, text, flag}
 use Rattle.iv_query.specs.declared.fault.Why.{Why}
 use Rattle.iv_query.specs.declared.fault.Why.TheVariants as reading
@@ -89,7 +89,9 @@ refused_data n (machine.bad_query place why) = object (
     (member (codes "session") (natural n)
     (member (codes "why") (string (reason_text why)) no_members))))
 refused_data n machine.not_administrator = plain_data 11 n
-refused_data n (machine.not_owner rel) = object (member (codes "error") (natural 12) (member (codes "on") (string rel) (member (codes "session") (natural n) no_members)))
+refused_data n (machine.not_owner rel) = object
+    (member (codes "error") (natural 12)
+    (member (codes "on") (string rel) (member (codes "session") (natural n) no_members)))
 refused_data n (machine.missing_privilege p rel) = object (
     member (codes "error") (natural 13)
     (member (codes "on") (string rel)

@@ -1,14 +1,11 @@
 //! The columns of a table, of a JSON value.
-ghost use Rattle.std.specs.Prelude.{◌≡◌, IfOk, Some, None, option_map, option_and_then, bytes_eq};
-ghost use Rattle.std.specs.List.{list_all, list_any};
+ghost use Rattle.std.specs.Prelude.{◌≡◌, IfOk, Some, None, option_map, option_and_then};
 ghost use Rattle.serde_json.specs.View.{view, items_view};
 ghost use Rattle.serde_json.specs.Find.{at, as_str};
-ghost use Rattle.iv_rows.specs.Columns.{has_distinct_names};
-ghost use Rattle.iv_rows.specs.Names.{is_name};
-ghost use Rattle.iv_wire.specs.Request.{kind_of, column_of, columns_at, each, is_schema};
+ghost use Rattle.iv_wire.specs.Request.{kind_of, column_of, columns_at, each};
 
-use crate::entries::{count, items_at};
-use iv_rows::{Column, Kind, name_ok};
+use crate::parts::{count, items_at};
+use iv_rows::{Column, Kind, columns_ok, name_ok};
 use serde_json::Value as Json;
 use std::alloc::{AllocError, Global};
 
@@ -81,46 +78,6 @@ fn columns_of(alloc: Global, items: &[Json]) -> Result<Option<Vec<Column>>, Allo
     Ok(Some(columns))
 }
 
-/// Whether a column has the name.
-fn has_name(columns: &[Column], name: &str) -> bool
-    ensures { result ≡ list_any (λ c. bytes_eq name.now c.name) columns.now }
-{
-    columns.iter().any(|column| name == column.name.as_str())
-}
-
-/// Whether no two columns have one name.
-fn are_distinct(columns: &[Column]) -> bool
-    ensures { result ≡ has_distinct_names columns.now }
-{
-    for place in 0..columns.len() {
-        let column = &columns[place];
-        if has_name(&columns[place + 1..], column.name.as_str()) {
-            return false;
-        }
-    }
-    true
-}
-
-/// Whether each column's name is one.
-fn are_named(columns: &[Column]) -> bool
-    ensures { result ≡ list_all (λ c. is_name c.name) columns.now }
-{
-    columns.iter().all(|column| name_ok(column.name.as_str()))
-}
-
-/// Whether there are 1 to 16 columns, each with a name, and none twice.
-fn is_schema(columns: &[Column]) -> bool
-    ensures { result ≡ is_schema columns.now }
-{
-    if columns.len() < 1 || 16 < columns.len() {
-        return false;
-    }
-    if !are_named(columns) {
-        return false;
-    }
-    are_distinct(columns)
-}
-
 /// The 1 to 16 columns of a table, with distinct names.
 pub fn columns_at(alloc: Global, value: &Json) -> Result<Option<Vec<Column>>, AllocError>
     ensures { IfOk result (λ found. option_map (λ v. v.items) found ≡ columns_at (view value.now)) }
@@ -130,7 +87,7 @@ pub fn columns_at(alloc: Global, value: &Json) -> Result<Option<Vec<Column>>, Al
         Some(items) => match columns_of(alloc, items)? {
             None => Ok(None),
             Some(columns) => {
-                if is_schema(&columns) {
+                if columns_ok(&columns) {
                     Ok(Some(columns))
                 } else {
                     Ok(None)

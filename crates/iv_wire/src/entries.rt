@@ -1,58 +1,22 @@
-//! Parts of a JSON value, and the entries of a write.
-ghost use Rattle.std.specs.Prelude.{◌≡◌, IfOk, Some, None, option_map, option_and_then};
+//! The entries of a write, of a JSON value.
+ghost use Rattle.std.specs.Prelude.{◌≡◌, IfOk, Some, None, option_map, option_and_then, codes};
 ghost use Rattle.serde_json.specs.View.{view, items_view};
-ghost use Rattle.serde_json.specs.Find.{get, as_array};
+ghost use Rattle.serde_json.specs.Find.{get, at};
 ghost use Rattle.iv_rows.specs.View as iv_rows;
-ghost use Rattle.iv_wire.specs.Request.{size, count, text_at, name_at, cell_of, each, list_at, entry_of, entries_at};
+ghost use Rattle.iv_engine.specs.Entries as entries;
+ghost use Rattle.iv_wire.specs.Request.{cell_of, each, row_of, update_of, op_at, copies_of, copies_at, entry_of, entries_at};
 
+use crate::parts::{count, has, items_at, name_at, present, size};
 use iv_engine::{Entry, Op};
-use iv_rows::{Row, Value, name_ok};
+use iv_rows::{Row, Value};
 use serde_json::Value as Json;
 use std::alloc::{AllocError, Global};
 
-/// How many keys an object has, and 0 where it is none.
-pub fn size(value: &Json) -> usize
-    ensures { result ≡ size (view value.now) }
-{
-    match value.as_object() {
-        None => 0,
-        Some(map) => map.len(),
-    }
-}
+/// The greatest number of entries of a write.
+const MOST_ENTRIES: usize = 1000;
 
-/// How many items a list has, and 0 where it is none.
-pub fn count(value: &Json) -> usize
-    ensures { result ≡ count (view value.now) }
-{
-    match value.as_array() {
-        None => 0,
-        Some(items) => items.len(),
-    }
-}
-
-/// The text at a key.
-pub fn text_at<'a>(value: &'a Json, key: &str) -> Option<&'a str>
-    ensures { option_map (λ s. s.now) result ≡ text_at key.now (view value.now) }
-{
-    value.get(key).and_then(Json::as_str)
-}
-
-/// The name at a key.
-pub fn name_at<'a>(value: &'a Json, key: &str) -> Option<&'a str>
-    ensures { option_map (λ s. s.now) result ≡ name_at key.now (view value.now) }
-{
-    match text_at(value, key) {
-        None => None,
-        Some(text) => { if name_ok(text) { Some(text) } else { None } }
-    }
-}
-
-/// The items of the list at a key.
-pub fn items_at<'a>(value: &'a Json, key: &str) -> Option<&'a Vec<Json>>
-    ensures { option_map (λ v. items_view v.now.items) result ≡ option_and_then as_array (get key.now (view value.now)) }
-{
-    value.get(key).and_then(Json::as_array)
-}
+/// The greatest number of copies of an entry.
+const MOST_COPIES: u64 = 9_223_372_036_854_775_807;
 
 /// The value of a column that a JSON value is.
 fn cell_of(alloc: Global, value: &Json) -> Result<Option<Value>, AllocError>
@@ -76,8 +40,8 @@ fn cell_of(alloc: Global, value: &Json) -> Result<Option<Value>, AllocError>
     }
 }
 
-/// The row that a list is.
-fn row_of(alloc: Global, items: &[Json]) -> Result<Option<Row>, AllocError>
+/// The row of these values.
+fn cells_of(alloc: Global, items: &[Json]) -> Result<Option<Row>, AllocError>
     ensures { IfOk result (λ found. found ≡ each cell_of (items_view items.now)) }
 {
     let mut values = Vec::new(alloc);
@@ -90,13 +54,98 @@ fn row_of(alloc: Global, items: &[Json]) -> Result<Option<Row>, AllocError>
     Ok(Some(Row(values)))
 }
 
+/// The row that a JSON value is.
+fn row_of(alloc: Global, value: &Json) -> Result<Option<Row>, AllocError>
+    ensures { IfOk result (λ found. found ≡ row_of (view value.now)) }
+{
+    match value.as_array() {
+        None => Ok(None),
+        Some(items) => cells_of(alloc, items),
+    }
+}
+
+/// The row at a place of a list.
+fn row_in(alloc: Global, value: &Json, place: usize) -> Result<Option<Row>, AllocError>
+    ensures { IfOk result (λ found. found ≡ option_and_then row_of (at place (view value.now))) }
+{
+    match value.get(place) {
+        None => Ok(None),
+        Some(item) => row_of(alloc, item),
+    }
+}
+
 /// The row at a key.
 fn row_at(alloc: Global, value: &Json, key: &str) -> Result<Option<Row>, AllocError>
-    ensures { IfOk result (λ found. found ≡ list_at cell_of key.now (view value.now)) }
+    ensures { IfOk result (λ found. found ≡ option_and_then row_of (get key.now (view value.now))) }
 {
-    match items_at(value, key) {
+    match value.get(key) {
         None => Ok(None),
-        Some(items) => row_of(alloc, items),
+        Some(item) => row_of(alloc, item),
+    }
+}
+
+/// The old and the new row that a JSON value is.
+fn update_of(alloc: Global, value: &Json) -> Result<Option<Op>, AllocError>
+    ensures { IfOk result (λ found. option_map entries.op_of found ≡ update_of (view value.now)) }
+{
+    if count(value) != 2 {
+        return Ok(None);
+    }
+    let Some(old) = row_in(alloc, value, 0)? else {
+        return Ok(None);
+    };
+    match row_in(alloc, value, 1)? {
+        None => Ok(None),
+        Some(new) => Ok(Some(Op::Update(old, new))),
+    }
+}
+
+/// The old and the new row at the key of an update.
+fn update_at(alloc: Global, value: &Json) -> Result<Option<Op>, AllocError>
+    ensures { IfOk result (λ found. option_map entries.op_of found ≡ option_and_then update_of (get (codes "update") (view value.now))) }
+{
+    match value.get("update") {
+        None => Ok(None),
+        Some(rows) => update_of(alloc, rows),
+    }
+}
+
+/// What an entry does.
+fn op_at(alloc: Global, value: &Json) -> Result<Option<Op>, AllocError>
+    ensures { IfOk result (λ found. option_map entries.op_of found ≡ op_at (view value.now)) }
+{
+    if has(value, "insert") {
+        Ok(row_at(alloc, value, "insert")?.map(Op::Insert))
+    } else if has(value, "delete") {
+        Ok(row_at(alloc, value, "delete")?.map(Op::Delete))
+    } else {
+        update_at(alloc, value)
+    }
+}
+
+/// The number of copies that a JSON value is.
+fn copies_of(value: &Json) -> Option<i64>
+    ensures { option_map entries.copies_of result ≡ copies_of (view value.now) }
+{
+    match value.as_u64() {
+        None => None,
+        Some(copies) => {
+            if 1 <= copies && copies <= MOST_COPIES {
+                Some(copies as i64)
+            } else {
+                None
+            }
+        }
+    }
+}
+
+/// How many copies an entry is for, 1 where it does not say it.
+fn copies_at(value: &Json) -> Option<i64>
+    ensures { option_map entries.copies_of result ≡ copies_at (view value.now) }
+{
+    match value.get("copies") {
+        None => Some(1),
+        Some(copies) => copies_of(copies),
     }
 }
 
@@ -104,19 +153,22 @@ fn row_at(alloc: Global, value: &Json, key: &str) -> Result<Option<Row>, AllocEr
 fn entry_of(alloc: Global, value: &Json) -> Result<Option<Entry>, AllocError>
     ensures { IfOk result (λ found. found ≡ entry_of (view value.now)) }
 {
-    if size(value) != 2 {
+    if size(value) != 2 + present(value, &["copies"]) {
         return Ok(None);
     }
-    match name_at(value, "on") {
+    let Some(rel) = name_at(value, "on") else {
+        return Ok(None);
+    };
+    let Some(op) = op_at(alloc, value)? else {
+        return Ok(None);
+    };
+    match copies_at(value) {
         None => Ok(None),
-        Some(rel) => match row_at(alloc, value, "insert")? {
-            None => Ok(None),
-            Some(row) => Ok(Some(Entry {
-                rel: String::from_str(alloc, rel)?,
-                op: Op::Insert(row),
-                copies: 1,
-            })),
-        },
+        Some(copies) => Ok(Some(Entry {
+            rel: String::from_str(alloc, rel)?,
+            op,
+            copies,
+        })),
     }
 }
 
@@ -143,7 +195,7 @@ pub fn entries_at(alloc: Global, value: &Json) -> Result<Option<Vec<Entry>>, All
         Some(items) => match entries_of(alloc, items)? {
             None => Ok(None),
             Some(entries) => {
-                if 1 <= entries.len() && entries.len() <= 1000 {
+                if 1 <= entries.len() && entries.len() <= MOST_ENTRIES {
                     Ok(Some(entries))
                 } else {
                     Ok(None)

@@ -1,5 +1,5 @@
 //! Laws of the definitions, and cases computed from them. Each is the contract of a function that does nothing.
-ghost use Rattle.std.specs.Prelude.{◌≡◌, ◌≢◌, ◌≤◌, ◌<◌, ◌∷◌, ◌++◌, [], ℕ, List, All, length, codes, pos, Some, None, IfSome, true};
+ghost use Rattle.std.specs.Prelude.{◌≡◌, ◌≢◌, ◌≤◌, ◌<◌, ◌∷◌, ◌++◌, [], ℕ, List, All, length, codes, pos, Some, None, IfSome, true, false};
 ghost use Rattle.iv_machine.specs.Act as machine;
 ghost use Rattle.iv_wire.specs.Asked.{command_data, is_plain};
 ghost use Rattle.iv_wire.specs.Cut.{cut, endless, last_line, line_room, whole};
@@ -9,12 +9,14 @@ ghost use Rattle.iv_machine.specs.Well.{is_well_command};
 ghost use Rattle.iv_access.specs.declared.privilege.Privilege.TheVariants as privilege;
 ghost use Rattle.iv_wire.specs.Answer as answer;
 ghost use Rattle.iv_wire.specs.Answer.{commands_of, text_of};
-ghost use Rattle.iv_wire.specs.Request.{inserted, request};
+ghost use Rattle.iv_wire.specs.Request.{request};
 ghost use Rattle.iv_wire.specs.Sums.{IsTextOf};
 ghost use Rattle.iv_wire.specs.Texts.{fault_text, line_text};
 ghost use Rattle.iv_wire.specs.Worked.{IsAsked, IsNotAsked, ann, notes, notes_columns, first_row, table_line, grant_line, revoke_line, write_line, refused_text, missing_line, permissive_line, restrictive_line};
+ghost use Rattle.iv_wire.specs.Worked.{row_security_line, own_line, own, few_line, few, give_line, give, entry_line, second_row, one_entry, policy_line, update_refused_line, bad_policy_line};
 ghost use Rattle.iv_query.specs.declared.fault.Why.TheVariants as reading;
-ghost use Rattle.iv_bind.specs.BoundTexts.{Reading};
+ghost use Rattle.iv_bind.specs.declared.fault.BindWhy.TheVariants as binding;
+ghost use Rattle.iv_bind.specs.BoundTexts.{Reading, Binding};
 ghost use Rattle.iv_access.specs.declared.policy.Check.TheVariants as check;
 ghost use Rattle.iv_machine.specs.declared.Cause.TheVariants as cause;
 ghost use Rattle.serde_json.specs.Data.{Data};
@@ -26,8 +28,8 @@ pub fn lines_are_cut()
     ensures too_long { (line rest : List ℕ) → All (λ b. b ≢ 10) line → line_room ≤ length line → cut (line ++ rest) ≡ endless }
 {}
 
-/// Each command that keeps the rules of commands, with whole numbers of 64 bits and one copy an entry, is what its JSON
-/// value asks for.
+/// Each command that keeps the rules of commands, with whole numbers of 64 bits in its rows, is what its JSON value asks
+/// for.
 pub fn commands_are_asked()
     ensures { (c : machine.Command) → is_well_command c ≡ true → is_plain c.act ≡ true → request (command_data c) ≡ Some c }
 {}
@@ -41,15 +43,34 @@ pub fn lines_are_read()
     ensures public { IsAsked (grant_line (codes "public")) 1 (machine.grant notes (privilege.Select ∷ []) None) }
     ensures revoke { IsAsked revoke_line 1 (machine.revoke notes (privilege.Select ∷ privilege.Insert ∷ []) (Some ann)) }
     ensures subscribe { IsAsked (codes "{\"do\":\"subscribe\",\"on\":\"notes\",\"session\":2}") 2 (machine.subscribe notes) }
-    ensures write { IsAsked write_line 1 (machine.write (inserted notes first_row ∷ [])) }
+    ensures write { IsAsked write_line 1 (one_entry (machine.insert first_row) 1) }
 {}
 
-/// Values that are no request: a session of 0, a further key, a number of copies, a word that is never a name, and a
-/// request that has no code yet.
+/// Requests of row security and of policies, and entries that remove rows, replace them, or are for many copies.
+pub fn policies_are_read()
+    ensures row_security { IsAsked row_security_line 1 (machine.row_security notes true false) }
+    ensures defaults { IsAsked own_line 1 (machine.create_policy own) }
+    ensures restrictive { IsAsked few_line 1 (machine.create_policy few) }
+    ensures both_texts { IsAsked give_line 1 (machine.create_policy give) }
+    ensures drop { IsAsked (codes "{\"do\":\"drop_policy\",\"on\":\"notes\",\"name\":\"own\",\"session\":1}") 1 (machine.drop_policy notes (codes "own")) }
+    ensures delete { IsAsked (entry_line (codes "\"delete\":[1,\"ann\"]")) 1 (one_entry (machine.delete first_row) 1) }
+    ensures update { IsAsked (entry_line (codes "\"update\":[[1,\"ann\"],[2,\"ann\"]]")) 1 (one_entry (machine.update first_row second_row) 1) }
+    ensures copies { IsAsked (entry_line (codes "\"delete\":[1,\"ann\"],\"copies\":7")) 1 (one_entry (machine.delete first_row) 7) }
+{}
+
+/// Values that are no request: a session of 0, a further key, a number of copies that is 0, two things that one entry
+/// does, an update of one row, a word that is never a name, policies that lack a text or have one that is not theirs or
+/// no grantee, and a request that has no code yet.
 pub fn unshapely_values_are_refused()
     ensures zero { IsNotAsked (codes "{\"do\":\"begin\",\"role\":\"admin\",\"session\":0}") }
     ensures further { IsNotAsked (codes "{\"do\":\"begin\",\"role\":\"admin\",\"session\":1,\"x\":1}") }
-    ensures copies { IsNotAsked (codes "{\"do\":\"write\",\"entries\":[{\"on\":\"t\",\"insert\":[1],\"copies\":1}],\"session\":1}") }
+    ensures copies { IsNotAsked (entry_line (codes "\"insert\":[1],\"copies\":0")) }
+    ensures two { IsNotAsked (entry_line (codes "\"insert\":[1],\"delete\":[1]")) }
+    ensures update { IsNotAsked (entry_line (codes "\"update\":[[1]]")) }
+    ensures using { IsNotAsked (policy_line (codes "\"command\":\"insert\",\"using\":\"true\",\"check\":\"true\"")) }
+    ensures check { IsNotAsked (policy_line (codes "\"command\":\"delete\",\"using\":\"true\",\"check\":\"true\"")) }
+    ensures no_text { IsNotAsked (policy_line (codes "\"check\":\"true\"")) }
+    ensures no_grantee { IsNotAsked (policy_line (codes "\"using\":\"true\",\"to\":[]")) }
     ensures reserved { IsNotAsked (grant_line (codes "select")) }
     ensures finish { IsNotAsked (codes "{\"do\":\"finish\",\"session\":1}") }
 {}
@@ -66,6 +87,10 @@ pub fn lines_are_written()
     ensures privilege { refused_text 2 (machine.missing_privilege privilege.Insert notes) ≡ missing_line }
     ensures permissive { refused_text 2 (machine.no_permissive notes check.Insert 1) ≡ permissive_line }
     ensures restrictive { refused_text 2 (machine.restrictive_failed (codes "b_pos") notes check.UpdateNew 1) ≡ restrictive_line }
+    ensures update_old { refused_text 2 (machine.no_permissive notes check.UpdateOld 2) ≡ update_refused_line }
+    ensures no_such_row { refused_text 1 (machine.no_such_row 3) ≡ codes "{\"entry\":3,\"error\":16,\"session\":1}\n" }
+    ensures unknown_policy { refused_text 1 machine.unknown_policy ≡ codes "{\"error\":18,\"session\":1}\n" }
+    ensures bad_policy { refused_text 1 (machine.bad_query 0 (Binding binding.UnknownColumn)) ≡ bad_policy_line }
     ensures fault { fault_text 22 ≡ codes "{\"error\":22}\n" }
 {}
 

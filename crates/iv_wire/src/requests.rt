@@ -1,16 +1,17 @@
 //! A line as a command: the shape rules.
-ghost use Rattle.std.specs.Prelude.{◌≡◌, IfOk, IsErrOf, option_map, string_bytes, true};
-ghost use Rattle.serde_json.specs.View.{view, items_view};
+ghost use Rattle.std.specs.Prelude.{◌≡◌, IfOk, IsErrOf, option_map, true};
+ghost use Rattle.serde_json.specs.View.{view};
 ghost use Rattle.iv_machine.specs.Well.{is_well_command};
 ghost use Rattle.iv_engine.specs.Views.{act_of, command_of};
-ghost use Rattle.iv_wire.specs.Request.{name_at, session_of, each, privilege_named, privilege_of, privileges_at, begin_of, create_role_of, create_table_of, grantee_at, granting_of, grant_by, revoke_by, write_of, subscribe_of, act_for, asked_act, request};
-ghost use Rattle.iv_wire.specs.Granted.{names_of};
+ghost use Rattle.iv_wire.specs.Request.{session_of, begin_of, create_role_of, create_table_of, write_of, subscribe_of, act_for, asked_act, request};
 ghost use Rattle.iv_wire.specs.Answer.{bad_json, bad_request, asked, reading_of, value_of};
 
 use crate::columns::columns_at;
-use crate::entries::{entries_at, items_at, name_at, size, text_at};
-use iv_engine::{Act, Command, Privilege};
-use iv_rows::name_ok;
+use crate::entries::entries_at;
+use crate::grants::{Granting, granting_of};
+use crate::parts::{size, string_at, text_at};
+use crate::policies::{create_policy_of, drop_policy_of, row_security_of};
+use iv_engine::{Act, Command};
 use serde_json::Value;
 use std::alloc::{AllocError, Global};
 
@@ -48,74 +49,6 @@ fn session_of(value: &Value) -> Option<u32>
                 None
             }
         }
-    }
-}
-
-fn privilege_named(text: &str) -> Option<Privilege>
-    ensures { result ≡ privilege_named text.now }
-{
-    if text == "select" {
-        Some(Privilege::Select)
-    } else if text == "insert" {
-        Some(Privilege::Insert)
-    } else if text == "update" {
-        Some(Privilege::Update)
-    } else if text == "delete" {
-        Some(Privilege::Delete)
-    } else {
-        None
-    }
-}
-
-fn privilege_of(value: &Value) -> Option<Privilege>
-    ensures { result ≡ privilege_of (view value.now) }
-{
-    match value.as_str() {
-        None => None,
-        Some(text) => privilege_named(text),
-    }
-}
-
-/// The privileges that a list is, however many.
-fn privileges_of(alloc: Global, items: &[Value]) -> Result<Option<Vec<Privilege>>, AllocError>
-    ensures { IfOk result (λ found. option_map (λ v. v.items) found ≡ each privilege_of (items_view items.now)) }
-{
-    let mut privileges = Vec::new(alloc);
-    for item in items {
-        match privilege_of(item) {
-            None => return Ok(None),
-            Some(privilege) => privileges.push(privilege)?,
-        }
-    }
-    Ok(Some(privileges))
-}
-
-/// The 1 to 4 privileges of a grant.
-fn privileges_at(alloc: Global, value: &Value) -> Result<Option<Vec<Privilege>>, AllocError>
-    ensures { IfOk result (λ found. option_map (λ v. v.items) found ≡ privileges_at (view value.now)) }
-{
-    match items_at(value, "privileges") {
-        None => Ok(None),
-        Some(items) => match privileges_of(alloc, items)? {
-            None => Ok(None),
-            Some(privileges) => {
-                if 1 <= privileges.len() && privileges.len() <= 4 {
-                    Ok(Some(privileges))
-                } else {
-                    Ok(None)
-                }
-            }
-        },
-    }
-}
-
-/// The name at a key, in memory of its own.
-fn string_at(alloc: Global, value: &Value, key: &str) -> Result<Option<String>, AllocError>
-    ensures { IfOk result (λ found. option_map string_bytes found ≡ name_at key.now (view value.now)) }
-{
-    match name_at(value, key) {
-        None => Ok(None),
-        Some(name) => Ok(Some(String::from_str(alloc, name)?)),
     }
 }
 
@@ -165,93 +98,6 @@ fn create_table_of(alloc: Global, value: &Value) -> Result<Option<Act>, AllocErr
     }
 }
 
-/// To whom a grant goes: a role, or none where it goes to PUBLIC.
-fn grantee_at(alloc: Global, value: &Value) -> Result<Option<Option<String>>, AllocError>
-    ensures { IfOk result (λ found. option_map (λ to. option_map string_bytes to) found ≡ grantee_at (view value.now)) }
-{
-    match text_at(value, "to") {
-        None => Ok(None),
-        Some(word) => {
-            if word == "public" {
-                return Ok(Some(None));
-            }
-            if !name_ok(word) {
-                return Ok(None);
-            }
-            Ok(Some(Some(String::from_str(alloc, word)?)))
-        }
-    }
-}
-
-/// What a grant and a revoke name.
-#[derive(Drop)]
-struct Granting {
-    rel: String,
-    privileges: Vec<Privilege>,
-    grantee: Option<String>,
-}
-
-/// What the request names, where it has these keys alone.
-fn granting_of(alloc: Global, value: &Value) -> Result<Option<Granting>, AllocError>
-    ensures { IfOk result (λ found. option_map names_of found ≡ granting_of (view value.now)) }
-{
-    if size(value) != 5 {
-        return Ok(None);
-    }
-    match string_at(alloc, value, "on")? {
-        None => Ok(None),
-        Some(rel) => match grantee_at(alloc, value)? {
-            None => Ok(None),
-            Some(grantee) => match privileges_at(alloc, value)? {
-                None => Ok(None),
-                Some(privileges) => Ok(Some(Granting {
-                    rel,
-                    privileges,
-                    grantee,
-                })),
-            },
-        },
-    }
-}
-
-fn grant_of(alloc: Global, value: &Value) -> Result<Option<Act>, AllocError>
-    ensures { IfOk result (λ act. option_map act_of act ≡ option_map grant_by (granting_of (view value.now))) }
-{
-    match granting_of(alloc, value)? {
-        None => Ok(None),
-        Some(
-            Granting {
-                rel,
-                privileges,
-                grantee,
-            },
-        ) => Ok(Some(Act::Grant {
-            rel,
-            privileges,
-            grantee,
-        })),
-    }
-}
-
-fn revoke_of(alloc: Global, value: &Value) -> Result<Option<Act>, AllocError>
-    ensures { IfOk result (λ act. option_map act_of act ≡ option_map revoke_by (granting_of (view value.now))) }
-{
-    match granting_of(alloc, value)? {
-        None => Ok(None),
-        Some(
-            Granting {
-                rel,
-                privileges,
-                grantee,
-            },
-        ) => Ok(Some(Act::Revoke {
-            rel,
-            privileges,
-            grantee,
-        })),
-    }
-}
-
 fn write_of(alloc: Global, value: &Value) -> Result<Option<Act>, AllocError>
     ensures { IfOk result (λ act. option_map act_of act ≡ write_of (view value.now)) }
 {
@@ -286,9 +132,15 @@ fn act_for(alloc: Global, word: &str, value: &Value) -> Result<Option<Act>, Allo
     } else if word == "create_table" {
         create_table_of(alloc, value)
     } else if word == "grant" {
-        grant_of(alloc, value)
+        Ok(granting_of(alloc, value)?.map(Granting::grant))
     } else if word == "revoke" {
-        revoke_of(alloc, value)
+        Ok(granting_of(alloc, value)?.map(Granting::revoke))
+    } else if word == "row_security" {
+        row_security_of(alloc, value)
+    } else if word == "create_policy" {
+        create_policy_of(alloc, value)
+    } else if word == "drop_policy" {
+        drop_policy_of(alloc, value)
     } else if word == "write" {
         write_of(alloc, value)
     } else if word == "subscribe" {

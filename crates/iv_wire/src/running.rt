@@ -11,6 +11,7 @@ ghost use Rattle.iv_wire.specs.Texts.{line_text};
 ghost use Rattle.iv_machine.specs.Machine.{step};
 ghost use Rattle.iv_wire.specs.Reads.{is_read, is_write, is_memory};
 ghost use Rattle.iv_wire.specs.Endings.{IsAnswered};
+ghost use Rattle.iv_wire.specs.Ran.{HasRun};
 ghost use Rattle.iv_wire.specs.Sums.{HasWritten};
 
 use crate::ends::{Sink, Source, write_all};
@@ -88,6 +89,7 @@ fn run_lines<R: Source, W: Sink>(
       written = W.taken writer.new;
       now = engine.new;
     }) result }
+    ensures ran { (is_memory result ≡ false) → (s : State) → IsBehind s engine.old → HasRun lines s engine.new }
     ensures went_on { (is_memory result ≡ false) → engine.old.failed ≡ false → engine.new.failed ≡ false }
     ensures fault { IsErrOf result RunFault.Failed → ⊥ }
     ensures read { R.has_failed reader.new ≡ (R.has_failed reader.old || is_read result) }
@@ -143,6 +145,7 @@ pub fn run<R: Source, W: Sink>(
           written = W.taken writer.new;
           now = engine.new;
         }))) }
+    ensures ran { (is_memory result ≡ false) → (s : State) → IsBehind s engine.old → HasRun lines s engine.new }
     ensures failed { engine.new.failed ≡ (engine.old.failed || is_memory result) }
     ensures refused { IsErrOf result RunFault.Failed ↔ (engine.old.failed ≡ true) }
     ensures untouched { engine.old.failed ≡ true → (reader.new ≡ reader.old) × (writer.new ≡ writer.old) × (engine.new ≡ engine.old) }

@@ -3,11 +3,12 @@ ghost use Rattle.std.specs.Prelude.{◌≡◌, map, flat_map, false, IfOk};
 ghost use Rattle.serde_json.specs.View.{view};
 ghost use Rattle.serde_json.specs.Written.{has_float};
 ghost use Rattle.iv_rows.specs.View.{cell_of, cells_of};
-ghost use Rattle.iv_engine.specs.Views.{refusal_of, reply_of, line_of};
+ghost use Rattle.iv_machine.specs.Act as machine;
+ghost use Rattle.iv_engine.specs.Views.{reason_of, refusal_of, reply_of, line_of};
 ghost use Rattle.iv_wire.specs.Texts as texts;
-ghost use Rattle.iv_wire.specs.Texts.{cell_data, row_data, entry_data, rows_data, privilege_text, cause_text, line_data, line_text, text_of, fault_text};
+ghost use Rattle.iv_wire.specs.Texts.{cell_data, row_data, entry_data, rows_data, privilege_text, cause_text, check_text, reading_text, binding_text, reason_text, line_data, line_text, text_of, fault_text};
 
-use iv_engine::{Cause, Line, Privilege, Refusal, Reply};
+use iv_engine::{BindWhy, Cause, Check, Line, Privilege, Reason, Refusal, Reply, Why};
 use iv_rows::{Row, Value};
 use serde_json::{Value as Json, json};
 use std::alloc::{AllocError, Global};
@@ -69,11 +70,123 @@ fn cause_text(cause: Cause) -> &'static str
     }
 }
 
+fn check_text(check: Check) -> &'static str
+    ensures { result.now ≡ check_text check }
+{
+    match check {
+        Check::Select => "select",
+        Check::Insert => "insert",
+        Check::UpdateOld => "update old",
+        Check::UpdateNew => "update new",
+        Check::Delete => "delete",
+    }
+}
+
+fn reading_text(why: Why) -> &'static str
+    ensures { result.now ≡ reading_text why }
+{
+    match why {
+        Why::Token => "token",
+        Why::Unexpected => "unexpected",
+        Why::TooDeep => "too deep",
+        Why::TooLong => "too long",
+    }
+}
+
+fn binding_text(why: BindWhy) -> &'static str
+    ensures { result.now ≡ binding_text why }
+{
+    match why {
+        BindWhy::UnknownRelation => "unknown relation",
+        BindWhy::DuplicateName => "duplicate name",
+        BindWhy::UnknownColumn => "unknown column",
+        BindWhy::AmbiguousColumn => "ambiguous column",
+        BindWhy::KindMismatch => "kind mismatch",
+        BindWhy::NotGrouped => "not grouped",
+        BindWhy::TooManyColumns => "too many columns",
+        BindWhy::ColumnsDiffer => "columns differ",
+        BindWhy::TooManyNodes => "too many nodes",
+    }
+}
+
+fn reason_text(why: Reason) -> &'static str
+    ensures { result.now ≡ reason_text (reason_of why) }
+{
+    match why {
+        Reason::Reading(why) => reading_text(why),
+        Reason::Binding(why) => binding_text(why),
+    }
+}
+
 /// A refusal without further keys.
 fn plain_value(alloc: Global, session: u32, number: u64) -> Result<Json, AllocError>
     ensures { IfOk result (λ v. view v ≡ texts.plain_data number session) }
 {
     json!(in alloc; {"error": number, "session": session})
+}
+
+fn not_owner_value(alloc: Global, session: u32, rel: &str) -> Result<Json, AllocError>
+    ensures { IfOk result (λ v. view v ≡ texts.refused_data session (machine.not_owner rel.now)) }
+{
+    json!(in alloc; {"error": 12, "on": rel, "session": session})
+}
+
+fn missing_value(
+    alloc: Global,
+    session: u32,
+    privilege: Privilege,
+    rel: &str,
+) -> Result<Json, AllocError>
+    ensures { IfOk result (λ v. view v ≡ texts.refused_data session (machine.missing_privilege privilege rel.now)) }
+{
+    let privilege = privilege_text(privilege);
+    json!(in alloc; {"error": 13, "on": rel, "privilege": privilege, "session": session})
+}
+
+/// A refusal of an entry.
+fn entry_refused(alloc: Global, session: u32, number: u64, entry: usize) -> Result<Json, AllocError>
+    ensures { IfOk result (λ v. view v ≡ texts.entry_refused number session entry) }
+{
+    json!(in alloc; {"entry": entry, "error": number, "session": session})
+}
+
+fn bad_query_value(
+    alloc: Global,
+    session: u32,
+    place: usize,
+    why: Reason,
+) -> Result<Json, AllocError>
+    ensures { IfOk result (λ v. view v ≡ texts.refused_data session (machine.bad_query place (reason_of why))) }
+{
+    let why = reason_text(why);
+    json!(in alloc; {"error": 10, "place": place, "session": session, "why": why})
+}
+
+fn no_permissive_value(
+    alloc: Global,
+    session: u32,
+    rel: &str,
+    check: Check,
+    entry: usize,
+) -> Result<Json, AllocError>
+    ensures { IfOk result (λ v. view v ≡ texts.refused_data session (machine.no_permissive rel.now check entry)) }
+{
+    let check = check_text(check);
+    json!(in alloc; {"check": check, "entry": entry, "error": 14, "on": rel, "session": session})
+}
+
+fn restrictive_value(
+    alloc: Global,
+    session: u32,
+    policy: &str,
+    rel: &str,
+    check: Check,
+    entry: usize,
+) -> Result<Json, AllocError>
+    ensures { IfOk result (λ v. view v ≡ texts.refused_data session (machine.restrictive_failed policy.now rel.now check entry)) }
+{
+    let check = check_text(check);
+    json!(in alloc; {"check": check, "entry": entry, "error": 15, "on": rel, "policy": policy, "session": session})
 }
 
 fn refused_value(alloc: Global, session: u32, refusal: &Refusal) -> Result<Json, AllocError>
@@ -85,18 +198,32 @@ fn refused_value(alloc: Global, session: u32, refusal: &Refusal) -> Result<Json,
         Refusal::UnknownRole => plain_value(alloc, session, 5),
         Refusal::NameTaken => plain_value(alloc, session, 6),
         Refusal::UnknownRelation => plain_value(alloc, session, 7),
-        Refusal::BadRow { entry } => {
-            json!(in alloc; {"entry": *entry, "error": 9, "session": session})
-        }
+        Refusal::BadRow { entry } => entry_refused(alloc, session, 9, *entry),
+        Refusal::BadQuery { place, why } => bad_query_value(alloc, session, *place, *why),
         Refusal::NotAdministrator => plain_value(alloc, session, 11),
-        Refusal::NotOwner { rel } => {
-            json!(in alloc; {"error": 12, "on": rel.as_str(), "session": session})
-        }
+        Refusal::NotOwner { rel } => not_owner_value(alloc, session, rel.as_str()),
         Refusal::MissingPrivilege { privilege, rel } => {
-            let privilege = privilege_text(*privilege);
-            json!(in alloc; {"error": 13, "on": rel.as_str(), "privilege": privilege, "session": session})
+            missing_value(alloc, session, *privilege, rel.as_str())
         }
+        Refusal::NoPermissive { rel, check, entry } => {
+            no_permissive_value(alloc, session, rel.as_str(), *check, *entry)
+        }
+        Refusal::RestrictiveFailed {
+            policy,
+            rel,
+            check,
+            entry,
+        } => restrictive_value(
+            alloc,
+            session,
+            policy.as_str(),
+            rel.as_str(),
+            *check,
+            *entry,
+        ),
+        Refusal::NoSuchRow { entry } => entry_refused(alloc, session, 16, *entry),
         Refusal::Limit => plain_value(alloc, session, 17),
+        Refusal::UnknownPolicy => plain_value(alloc, session, 18),
         Refusal::TooMany => plain_value(alloc, session, 20),
     }
 }

@@ -132,11 +132,43 @@ fn refusals_of_grant(rt: HostRuntime) -> Result<(), Fail> {
 {"do":"grant","on":"nothing","privileges":["insert"],"to":"bob","session":2}
 {"do":"grant","on":"notes","privileges":["insert"],"to":"bob","session":2}
 {"do":"grant","on":"notes","privileges":["insert"],"to":"bob","session":1}
+{"do":"grant","on":"notes","privileges":["insert"],"to":"ann","session":2}
+{"do":"grant","on":"notes","privileges":["insert"],"to":"public","session":2}
+{"do":"write","entries":[{"on":"notes","insert":[2,"x"]}],"session":2}
 "#;
     let text = r#"{"error":3,"session":9}
 {"error":7,"session":2}
 {"error":12,"on":"notes","session":2}
 {"error":5,"session":1}
+{"error":12,"on":"notes","session":2}
+{"error":12,"on":"notes","session":2}
+{"error":13,"on":"notes","privilege":"insert","session":2}
+"#;
+    assert!(rt; answers(rt.alloc(), lines, text)?);
+    Ok(())
+}
+
+#[test]
+fn refusals_of_revoke(rt: HostRuntime) -> Result<(), Fail> {
+    let lines = r#"{"do":"revoke","on":"notes","privileges":["select"],"to":"ann","session":9}
+{"do":"revoke","on":"nothing","privileges":["select"],"to":"bob","session":2}
+{"do":"revoke","on":"notes","privileges":["select"],"to":"bob","session":2}
+{"do":"revoke","on":"notes","privileges":["select"],"to":"bob","session":1}
+{"do":"revoke","on":"notes","privileges":["select"],"to":"ann","session":2}
+{"do":"revoke","on":"notes","privileges":["select"],"to":"public","session":2}
+{"do":"write","entries":[{"on":"notes","insert":[2,"x"]}],"session":1}
+{"do":"subscribe","on":"notes","session":2}
+"#;
+    let text = r#"{"error":3,"session":9}
+{"error":7,"session":2}
+{"error":12,"on":"notes","session":2}
+{"error":5,"session":1}
+{"error":12,"on":"notes","session":2}
+{"error":12,"on":"notes","session":2}
+{"ok":true,"session":1}
+{"changes":[[1,[2,"x"]]],"session":2,"sub":1}
+{"ok":true,"session":2,"sub":2}
+{"changes":[[1,[1,"ann"]],[1,[2,"x"]]],"session":2,"sub":2}
 "#;
     assert!(rt; answers(rt.alloc(), lines, text)?);
     Ok(())

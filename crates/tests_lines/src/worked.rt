@@ -55,6 +55,79 @@ fn one_of_each_refusal(rt: HostRuntime) -> Result<(), Fail> {
 }
 
 #[test]
+fn restrictive_named_first(rt: HostRuntime) -> Result<(), Fail> {
+    let lines = r#"{"do":"row_security","on":"notes","enable":true,"force":false,"session":1}
+{"do":"create_policy","on":"notes","name":"own","using":"who = current_user","session":1}
+{"do":"grant","on":"notes","privileges":["insert"],"to":"ann","session":1}
+{"do":"write","entries":[{"on":"notes","insert":[2,"bob"]}],"session":2}
+{"do":"create_policy","on":"notes","name":"b_pos","restrictive":true,"using":"id > 0 and id < 150","session":1}
+{"do":"create_policy","on":"notes","name":"a_small","restrictive":true,"using":"id < 100","session":1}
+{"do":"write","entries":[{"on":"notes","insert":[-1,"ann"]}],"session":2}
+{"do":"write","entries":[{"on":"notes","insert":[200,"ann"]}],"session":2}
+{"do":"create_policy","on":"notes","name":"odd","using":"1 = 'a'","session":1}
+{"do":"create_policy","on":"notes","name":"odd","using":"id =","session":1}
+{"do":"drop_policy","on":"notes","name":"none","session":1}
+{"do":"drop_policy","on":"notes","name":"own","session":1}
+"#;
+    let text = r#"{"ok":true,"session":1}
+{"changes":[[-1,[1,"ann"]]],"session":2,"sub":1}
+{"ok":true,"session":1}
+{"changes":[[1,[1,"ann"]]],"session":2,"sub":1}
+{"ok":true,"session":1}
+{"check":"insert","entry":1,"error":14,"on":"notes","session":2}
+{"ok":true,"session":1}
+{"ok":true,"session":1}
+{"check":"insert","entry":1,"error":15,"on":"notes","policy":"b_pos","session":2}
+{"check":"insert","entry":1,"error":15,"on":"notes","policy":"a_small","session":2}
+{"error":10,"place":4,"session":1,"why":"kind mismatch"}
+{"error":10,"place":4,"session":1,"why":"unexpected"}
+{"error":18,"session":1}
+{"ok":true,"session":1}
+{"changes":[[-1,[1,"ann"]]],"session":2,"sub":1}
+"#;
+    assert!(rt; answers(rt.alloc(), lines, text)?);
+    Ok(())
+}
+
+#[test]
+fn update_tests(rt: HostRuntime) -> Result<(), Fail> {
+    let lines = r#"{"do":"row_security","on":"notes","enable":true,"force":false,"session":1}
+{"do":"create_policy","on":"notes","name":"own","using":"who = current_user","session":1}
+{"do":"grant","on":"notes","privileges":["update"],"to":"ann","session":1}
+{"do":"write","entries":[{"on":"notes","update":[[1,"ann"],[1,"bob"]]}],"session":2}
+{"do":"write","entries":[{"on":"notes","update":[[1,"ann"],[2,"ann"]]}],"session":2}
+{"do":"write","entries":[{"on":"notes","update":[[2,"ann"],[2,"ann"]]}],"session":2}
+"#;
+    let text = r#"{"ok":true,"session":1}
+{"changes":[[-1,[1,"ann"]]],"session":2,"sub":1}
+{"ok":true,"session":1}
+{"changes":[[1,[1,"ann"]]],"session":2,"sub":1}
+{"ok":true,"session":1}
+{"check":"update new","entry":1,"error":14,"on":"notes","session":2}
+{"ok":true,"session":2}
+{"changes":[[-1,[1,"ann"]],[1,[2,"ann"]]],"session":2,"sub":1}
+{"ok":true,"session":2}
+"#;
+    assert!(rt; answers(rt.alloc(), lines, text)?);
+    Ok(())
+}
+
+#[test]
+fn presence_in_batch_order(rt: HostRuntime) -> Result<(), Fail> {
+    let lines =
+        r#"{"do":"write","entries":[{"on":"notes","insert":[7,"x"]},{"on":"notes","delete":[7,"x"]}],"session":1}
+{"do":"write","entries":[{"on":"notes","delete":[7,"x"]},{"on":"notes","insert":[7,"x"]}],"session":1}
+{"do":"write","entries":[{"on":"notes","insert":[8,"x"],"copies":9223372036854775807},{"on":"notes","insert":[8,"x"],"copies":9223372036854775807},{"on":"notes","delete":[8,"x"],"copies":9223372036854775807},{"on":"notes","delete":[8,"x"],"copies":9223372036854775807}],"session":1}
+"#;
+    let text = r#"{"ok":true,"session":1}
+{"entry":1,"error":16,"session":1}
+{"ok":true,"session":1}
+"#;
+    assert!(rt; answers(rt.alloc(), lines, text)?);
+    Ok(())
+}
+
+#[test]
 fn shapely_lines(rt: HostRuntime) -> Result<(), Fail> {
     let lines = r#"{"session":4294967295,"role":"admin","do":"begin"}
  {"do":"begin","role":"-","role":"ann","session":3}

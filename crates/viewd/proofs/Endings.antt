@@ -1,5 +1,5 @@
 -- The endings of a run from the start, as those of a replay.
-use Rattle.std.proofs.Common.{◌≡◌, ◌≤◌, ℕ, true, List, [], ◌++◌, Option, Some, None, Ok, Err, subst, refl, sym, arith, append-nil}
+use Rattle.std.proofs.Common.{◌≡◌, ◌≤◌, ℕ, true, List, [], Option, Some, None, Err, subst, refl, sym, arith, append-nil}
 use Rattle.std.specs.Io.KnownBytes.{Appends}
 use Rattle.iv_machine.specs.State.{start, start_frame}
 use Rattle.iv_engine.specs.Seen.{Seen}

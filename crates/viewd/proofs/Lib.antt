@@ -1,1 +1,2 @@
+mod Connections
 mod Endings

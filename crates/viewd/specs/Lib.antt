@@ -1,3 +1,5 @@
 pub mod Arguments
+pub mod Does
 pub mod Replays
+pub mod Serves
 pub mod Statuses

@@ -25,6 +25,21 @@ fn command<'a>(alloc: Global) -> Result<Command<'a>, Error> {
     let replay = Command::new(alloc, "replay")
         .about("Answers the request lines of standard input on standard output")
         .arg(count(alloc, "lines", "The number of lines to take at most"))?;
+    let port = Arg::new(alloc, "port")
+        .long("port")
+        .value_name("P")
+        .help("The port on 127.0.0.1")
+        .required(true)
+        .value_parser(value_parser!(u16).range(1..));
+    let serve = Command::new(alloc, "serve")
+        .about("Answers the request lines of connections, one connection after another")
+        .arg(port)?
+        .arg(count(alloc, "connections", "The number of connections to take"))?
+        .arg(count(
+            alloc,
+            "lines",
+            "The number of lines to take at most of each connection",
+        ))?;
     let command = Command::new(alloc, "viewd")
         .bin_name("viewd")?
         .version(VERSION)
@@ -32,7 +47,8 @@ fn command<'a>(alloc: Global) -> Result<Command<'a>, Error> {
         .no_binary_name(true)
         .subcommand_required(true)
         .disable_help_subcommand(true)
-        .subcommand(replay)?;
+        .subcommand(replay)?
+        .subcommand(serve)?;
     Ok(command)
 }
 
@@ -40,6 +56,12 @@ fn count_of(matches: &ArgMatches<'_>, name: &str) -> Option<u32>
     ensures { IfSome result (λ n. 1 ≤ n) }
 {
     matches.get_one::<u32>(name).filter(|n| *n >= 1)
+}
+
+fn port_of(matches: &ArgMatches<'_>) -> Option<u16>
+    ensures { IfSome result (λ n. 1 ≤ n) }
+{
+    matches.get_one::<u16>("port").filter(|port| *port >= 1)
 }
 
 fn found(matches: &ArgMatches<'_>) -> Option<Settings>
@@ -50,11 +72,22 @@ fn found(matches: &ArgMatches<'_>) -> Option<Settings>
             let lines = count_of(inner, "lines")?;
             Some(Settings::Replay { lines })
         }
+        Some(("serve", inner)) => {
+            let port = port_of(inner)?;
+            let connections = count_of(inner, "connections")?;
+            let lines = count_of(inner, "lines")?;
+            Some(Settings::Serve {
+                port,
+                connections,
+                lines,
+            })
+        }
         _ => None,
     }
 }
 
-/// Reads the words after the program's name: `replay`, and `--lines N` with N from 1 to
+/// Reads the words after the program's name: `replay` with `--lines N`, or `serve` with `--port P`,
+/// `--connections N` and `--lines N`. P is from 1 to 65,535 and must be given; N is from 1 to
 /// 4,294,967,295, by default 1,000,000. Other words, and a call for help, are an error whose text
 /// is for the user. Want of memory is the kind `OutOfMemory`.
 pub fn settings<'a>(alloc: Global, words: &'a [&'a str]) -> Result<Settings, Error>

@@ -8,4 +8,13 @@ pub enum Settings {
         /// The number of lines to take at most, skipped ones counted.
         lines: u32,
     },
+    /// Answer the lines of connections, one connection after another.
+    Serve {
+        /// The port on 127.0.0.1.
+        port: u16,
+        /// The number of connections to take.
+        connections: u32,
+        /// The number of lines to take at most of each connection, skipped ones counted.
+        lines: u32,
+    },
 }

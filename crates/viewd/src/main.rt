@@ -8,6 +8,7 @@ mod arguments;
 mod asked;
 mod fault;
 mod replaying;
+mod serving;
 
 use arguments::{read_words, settings};
 use asked::Settings;
@@ -48,7 +49,7 @@ fn main(rt: HostRuntime) -> ExitCode {
         Err(status) => return status,
     };
     match work(
-        rt.alloc(),
+        &rt,
         settings,
         &mut FromRead::new(rt.stdin()),
         &mut FromWrite::new(rt.stdout()),
@@ -61,5 +62,7 @@ fn main(rt: HostRuntime) -> ExitCode {
     }
 }
 
+#[cfg(test)]
+mod served;
 #[cfg(test)]
 mod tests;

@@ -1,13 +1,17 @@
 //! Request lines in, answer lines out, through a new engine.
 
-ghost use Rattle.std.specs.Prelude.{◌≡◌, ◌≤◌, ◌+◌, ◌*◌, ◌||◌, true, false};
+ghost use Rattle.std.specs.Prelude.{◌≡◌, ◌≤◌, ◌+◌, ◌*◌, ◌||◌, IfSome, OnOk, true, false};
+ghost use Rattle.iv_machine.specs.State.{start};
 ghost use Rattle.iv_engine.specs.Seen.{Seen};
 ghost use Rattle.iv_wire.specs.Cut.{line_room};
+ghost use Rattle.iv_wire.specs.Sums.{HasWritten};
 ghost use Rattle.viewd.specs.Arguments.{InRange, lines_of};
+ghost use Rattle.viewd.specs.Does.{AddsUp, Does};
 ghost use Rattle.viewd.specs.Replays.{Replays, is_read, is_write};
 
 use crate::asked::Settings;
 use crate::fault::Fault;
+use crate::serving::serve;
 use iv_engine::Engine;
 use iv_wire::{RunFault, Sink, Source, run};
 use std::alloc::Global;
@@ -32,6 +36,14 @@ fn replay<R: Source, W: Sink>(
       written = W.taken writer.new;
       now = now;
     }) result }
+    ensures adds_up { OnOk result ((now : Seen) × IfSome (R.left reader.old) (λ _. HasWritten (start 65536) (record {
+      lines = lines;
+      given = R.left reader.old;
+      left = R.left reader.new;
+      taken = W.taken writer.old;
+      written = W.taken writer.new;
+      now = now;
+    }))) }
     ensures read { R.has_failed reader.new ≡ (R.has_failed reader.old || is_read result) }
     ensures write { W.has_failed writer.new ≡ (W.has_failed writer.old || is_write result) }
     ensures flushed { (is_write result ≡ false) → W.is_flushed writer.old ≡ true → W.is_flushed writer.new ≡ true }
@@ -52,29 +64,38 @@ fn replay<R: Source, W: Sink>(
 /// Does what the settings ask, with these ends in place of standard input and output.
 ///
 /// # Errors
-/// `Read` and `Write` where the reader or the writer failed; `Memory` where a growth of memory was
-/// refused.
+/// `Read` and `Write` where the reader or the writer failed; `Network` where a port could not be
+/// listened on, or a connection not be accepted; `Memory` where a growth of memory was refused.
 pub fn work<R: Source, W: Sink>(
-    alloc: Global,
+    rt: &HostRuntime,
     settings: Settings,
     reader: &mut R,
     writer: &mut W,
 ) -> Result<(), Fault>
     requires { InRange settings }
-    ensures answers { (now : Seen) × Replays (record {
-      lines = lines_of settings;
+    ensures does { Does settings (record {
       given = R.left reader.old;
       left = R.left reader.new;
       taken = W.taken writer.old;
       written = W.taken writer.new;
-      now = now;
     }) result }
+    ensures adds_up { OnOk result (AddsUp settings (record {
+      given = R.left reader.old;
+      left = R.left reader.new;
+      taken = W.taken writer.old;
+      written = W.taken writer.new;
+    })) }
     ensures read { R.has_failed reader.new ≡ (R.has_failed reader.old || is_read result) }
     ensures write { W.has_failed writer.new ≡ (W.has_failed writer.old || is_write result) }
     ensures flushed { (is_write result ≡ false) → W.is_flushed writer.old ≡ true → W.is_flushed writer.new ≡ true }
     ensures reads { R.reads reader.new ≤ R.reads reader.old + (lines_of settings * line_room) }
 {
     match settings {
-        Settings::Replay { lines } => replay(alloc, reader, writer, lines),
+        Settings::Replay { lines } => replay(rt.alloc(), reader, writer, lines),
+        Settings::Serve {
+            port,
+            connections,
+            lines,
+        } => serve(rt, writer, port, connections, lines),
     }
 }

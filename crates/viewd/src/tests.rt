@@ -30,6 +30,31 @@ fn reads_settings(rt: HostRuntime) -> Result<(), Fail> {
 }
 
 #[test]
+fn reads_settings_of_serve(rt: HostRuntime) -> Result<(), Fail> {
+    let alloc = rt.alloc();
+    let plain = Settings::Serve {
+        port: 1,
+        connections: 1_000_000,
+        lines: 1_000_000,
+    };
+    assert!(rt; settings(alloc, &["serve", "--port", "1"])? == plain);
+    let full = Settings::Serve {
+        port: 65_535,
+        connections: 2,
+        lines: 4_294_967_295,
+    };
+    let words = [
+        "serve",
+        "--lines=4294967295",
+        "--connections",
+        "2",
+        "--port=65535",
+    ];
+    assert!(rt; settings(alloc, &words)? == full);
+    Ok(())
+}
+
+#[test]
 fn refuses_words(rt: HostRuntime) -> Result<(), Fail> {
     let alloc = rt.alloc();
     let refused = [
@@ -44,7 +69,16 @@ fn refuses_words(rt: HostRuntime) -> Result<(), Fail> {
         (["replay", "--lines", "1.0"], ErrorKind::ValueValidation),
         (["replay", "--lines", "1 "], ErrorKind::ValueValidation),
         (["replay", "--port", "1"], ErrorKind::UnknownArgument),
-        (["serve", "--port", "1"], ErrorKind::InvalidSubcommand),
+        (["serve", "--port", "0"], ErrorKind::ValueValidation),
+        (["serve", "--port", "65536"], ErrorKind::ValueValidation),
+        (["serve", "--port", "http"], ErrorKind::ValueValidation),
+        (
+            ["serve", "--lines", "1"],
+            ErrorKind::MissingRequiredArgument,
+        ),
+        (["serve", "--connections", "0"], ErrorKind::ValueValidation),
+        (["serve", "--host", "::1"], ErrorKind::UnknownArgument),
+        (["listen", "--port", "1"], ErrorKind::InvalidSubcommand),
     ];
     for (words, kind) in refused.iter() {
         let Err(error) = settings(alloc, words) else {
@@ -85,6 +119,7 @@ fn tells_faults(rt: HostRuntime) -> Result<(), Fail> {
     let told = [
         (Fault::Read, "viewd: read failed", 2),
         (Fault::Write, "viewd: write failed", 2),
+        (Fault::Network, "viewd: network failed", 2),
         (Fault::Memory, "viewd: out of memory", 3),
     ];
     for (fault, text, status) in told {

@@ -1,36 +1,53 @@
-use Rattle.std.proofs.Common.{◌≡◌, ◌<◌, ◌&&◌, ◌∙◌, sym, ap, subst, length, arith, true, add-one, below_more}
-use Rattle.iv_zset.specs.Limits.{Counts, within}
-use Rattle.iv_zset.specs.Weights.{weight_of}
-use Rattle.iv_engine.specs.Answering.{FitsSum, all_within}
-use Rattle.iv_engine.proofs.Fitting.{one_not_within}
+use Rattle.std.proofs.Common.{◌∙◌, ◌<◌, ◌≤◌, ◌++◌, sym, ap, subst, length}
+use Rattle.iv_zset.specs.Limits.{Breaks}
+use Rattle.iv_zset.specs.Weights.{Weighed, IsZSet}
+use Rattle.iv_engine.specs.Changes.{Change}
 use Rattle.iv_engine.specs.Stands.{bag_at}
+use Rattle.iv_engine.specs.Summed.{KeepsLimits}
+use Rattle.iv_engine.proofs.Fitting.{keep_taken, kept_next, table_at}
 use Rattle.iv_engine.proofs.Lines.{item_is}
 use Rattle.iv_engine.proofs.limits.all_fit.Goals as goal
 
-pub returns-then-not-fits-clause-exact : goal.returns-then-not-fits-clause-exact
-returns-then-not-fits-clause-exact c = λ T U s m g.
-    let p = c.loop-place.place in
-    let l : p < length c.args.changes.now = let k = c.requires.tables in omega (arith, k) in
-    let here = item_is c.args.bags.now p c.index-bags-place.result c.loop-place-test.true c.index-bags-place.is in
-    let there = item_is c.args.changes.now p c.index-changes-place.result l c.index-changes-place.is in
-    let fit = c.fits.ensures.exact (T p) (U p) (subst (λ b. Counts b (T p)) here (s p)) (λ q. ap (λ z. weight_of z q) (sym there) ∙ m p q) (g p) in
-    sym (one_not_within 65536 (length c.args.bags.now) U p c.loop-place-test.true (sym fit ∙ c.if-not-fits.true))
+pub bounds-bags-change-inside : goal.bounds-bags-change-inside
+bounds-bags-change-inside c =
+    let here = table_at (length c.args.bags.now) c.args.changes.now c.loop-change.change-index c.change-item.result c.requires.tables c.loop-change-test.true c.change-item.is in
+    subst (λ (x : Change). x.rel < length c.args.bags.now) (sym c.change.view_is) here.0
 
-pub loop-place-preserved : goal.loop-place-preserved
-loop-place-preserved c =
-    let p = c.loop-place.place in
-    let l : p < length c.args.changes.now = let k = c.requires.tables in omega (arith, k) in
-    let here = item_is c.args.bags.now p c.index-bags-place.result c.loop-place-test.true c.index-bags-place.is in
-    let there = item_is c.args.changes.now p c.index-changes-place.result l c.index-changes-place.is in
-    record {
-      sums = below_more _ _ c.loop-place.invariant.sums (subst (λ b. FitsSum b (bag_at c.args.changes.now p)) (sym here) (subst (FitsSum c.index-bags-place.result) (sym there) (c.fits.ensures.sum c.if-not-fits.false)));
-      exact = λ T U s m g.
-          let fit : within 65536 (U p) ≡ true = sym (c.fits.ensures.exact (T p) (U p) (subst (λ b. Counts b (T p)) here (s p)) (λ q. ap (λ z. weight_of z q) (sym there) ∙ m p q) (g p)) ∙ c.if-not-fits.false in
-          let before : all_within 65536 p U ≡ true = c.loop-place.invariant.exact T U s m g in
-          ap (λ k. all_within 65536 k U) (add-one p) ∙ (λ i. before i && fit i);
-    }
+pub fits-requires-clause-change : goal.fits-requires-clause-change
+fits-requires-clause-change c =
+    let here = table_at (length c.args.bags.now) c.args.changes.now c.loop-change.change-index c.change-item.result c.requires.tables c.loop-change-test.true c.change-item.is in
+    subst IsZSet (here.1 ∙ sym (c.deref.ensures.value ∙ ap (λ (x : Change). x.rows) c.change.view_is)) (c.requires.changes c.change-item.result.rel)
 
-pub returns-clause-exact : goal.returns-clause-exact
-returns-clause-exact c = λ T U s m g.
-    let e : length c.args.bags.now ≡ c.loop-place.place = omega arith in
-    sym (ap (λ k. all_within 65536 k U) e ∙ c.loop-place.invariant.exact T U s m g)
+pub fits-requires-clause-small : goal.fits-requires-clause-small
+fits-requires-clause-small c =
+    let table = table_at (length c.args.bags.now) c.args.changes.now c.loop-change.change-index c.change-item.result c.requires.tables c.loop-change-test.true c.change-item.is in
+    let below = subst (λ (x : Change). x.rel < length c.args.bags.now) (sym c.change.view_is) table.0 in
+    subst (λ (b : Weighed). length b ≤ 65536) (item_is c.args.bags.now c.change.inside.rel.0 c.index-bags-change.result below c.index-bags-change.is) (c.requires.small c.change.inside.rel.0)
+
+pub returns-then-not-fits-clause-breaks : goal.returns-then-not-fits-clause-breaks
+returns-then-not-fits-clause-breaks c = λ _.
+    let s = c.change-item.result in
+    let table = table_at (length c.args.bags.now) c.args.changes.now c.loop-change.change-index s c.requires.tables c.loop-change-test.true c.change-item.is in
+    let below = subst (λ (x : Change). x.rel < length c.args.bags.now) (sym c.change.view_is) table.0 in
+    let bag = item_is c.args.bags.now c.change.inside.rel.0 c.index-bags-change.result below c.index-bags-change.is in
+    let rel = ap (λ (x : Change). x.rel) c.change.view_is in
+    let rows = c.deref.ensures.value ∙ ap (λ (x : Change). x.rows) c.change.view_is in (
+      s.rel,
+      table.0,
+      subst (λ es. Breaks 65536 (es ++ bag_at c.args.bags.now s.rel)) (sym table.1)
+          (subst (λ b. Breaks 65536 (s.rows ++ b)) (sym bag ∙ ap (bag_at c.args.bags.now) rel) (subst (λ es. Breaks 65536 (es ++ c.index-bags-change.result)) rows (c.fits.ensures.breaks c.if-not-fits.true))),
+    )
+
+pub loop-change-preserved : goal.loop-change-preserved
+loop-change-preserved c =
+    let s = c.change-item.result in
+    let table = table_at (length c.args.bags.now) c.args.changes.now c.loop-change.change-index s c.requires.tables c.loop-change-test.true c.change-item.is in
+    let below = subst (λ (x : Change). x.rel < length c.args.bags.now) (sym c.change.view_is) table.0 in
+    let bag = item_is c.args.bags.now c.change.inside.rel.0 c.index-bags-change.result below c.index-bags-change.is in
+    let rel = ap (λ (x : Change). x.rel) c.change.view_is in
+    let rows = c.deref.ensures.value ∙ ap (λ (x : Change). x.rows) c.change.view_is in
+    kept_next c.args.bags.now c.args.changes.now c.loop-change.change-index s c.loop-change.invariant c.loop-change-test.true c.change-item.is
+    (subst (λ b. KeepsLimits b s.rows) (sym bag ∙ ap (bag_at c.args.bags.now) rel) (subst (KeepsLimits c.index-bags-change.result) rows (c.fits.ensures.keeps c.if-not-fits.false)))
+
+pub returns-clause-keep : goal.returns-clause-keep
+returns-clause-keep c = λ _. keep_taken c.args.bags.now c.requires.zsets c.requires.small c.args.changes.now c.loop-change.change-index c.loop-change-test.false c.loop-change.invariant

@@ -1,11 +1,7 @@
-use Rattle.std.proofs.Common.{◌≡◌, ℕ, ◌<◌, true}
-use Rattle.iv_algebra.specs.Plans.{Lists}
-use Rattle.iv_engine.specs.Answering.{FitsSum, Grows, Moved, all_within}
-use Rattle.iv_engine.specs.Stands.{Stands, bag_at}
+use Rattle.std.proofs.Common.{take}
+use Rattle.std.specs.List.{AllByRecursion}
+use Rattle.iv_engine.proofs.Fitting.{IsKept}
 use Rattle.iv_engine.proofs.limits.all_fit.Given as goal
 
-abbrev pub invariant-loop-place : goal.invariant-loop-place
-invariant-loop-place l = record {
-  sums : (t : ℕ) → t < l.place → FitsSum (bag_at l.bags t) (bag_at l.changes t);
-  exact : (T U : Lists) → Stands T l.bags → Moved l.changes T U → Grows T U → all_within 65536 l.place U ≡ true;
-}
+abbrev pub invariant-loop-change : goal.invariant-loop-change
+invariant-loop-change l = AllByRecursion (IsKept l.bags) (take l.change-index l.changes)

@@ -46,3 +46,19 @@ returns-clause-restrictive c = refl
 pub returns-clause-fault : goal.returns-clause-fault
 unfolding serde_json_on_literals digits
 returns-clause-fault c = refl
+
+pub returns-clause-update_old : goal.returns-clause-update_old
+unfolding serde_json_on_literals digits
+returns-clause-update_old c = refl
+
+pub returns-clause-no_such_row : goal.returns-clause-no_such_row
+unfolding serde_json_on_literals digits
+returns-clause-no_such_row c = refl
+
+pub returns-clause-unknown_policy : goal.returns-clause-unknown_policy
+unfolding serde_json_on_literals digits
+returns-clause-unknown_policy c = refl
+
+pub returns-clause-bad_policy : goal.returns-clause-bad_policy
+unfolding serde_json_on_literals digits
+returns-clause-bad_policy c = refl

@@ -22,3 +22,27 @@ returns-clause-reserved c = refl
 pub returns-clause-finish : goal.returns-clause-finish
 unfolding serde_json_on_literals reserved
 returns-clause-finish c = refl
+
+pub returns-clause-two : goal.returns-clause-two
+unfolding serde_json_on_literals reserved
+returns-clause-two c = refl
+
+pub returns-clause-update : goal.returns-clause-update
+unfolding serde_json_on_literals reserved
+returns-clause-update c = refl
+
+pub returns-clause-using : goal.returns-clause-using
+unfolding serde_json_on_literals reserved
+returns-clause-using c = refl
+
+pub returns-clause-check : goal.returns-clause-check
+unfolding serde_json_on_literals reserved
+returns-clause-check c = refl
+
+pub returns-clause-no_text : goal.returns-clause-no_text
+unfolding serde_json_on_literals reserved
+returns-clause-no_text c = refl
+
+pub returns-clause-no_grantee : goal.returns-clause-no_grantee
+unfolding serde_json_on_literals reserved
+returns-clause-no_grantee c = refl

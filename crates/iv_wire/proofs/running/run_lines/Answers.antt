@@ -1,13 +1,15 @@
-use Rattle.std.proofs.Common.{◌∙◌, ap, arith, rules, inl, inr, Err}
+use Rattle.std.proofs.Common.{◌+◌, ◌∙◌, ap, arith, rules, inl, inr, Err}
 use Rattle.std.proofs.Math.Bool.{or-false}
 use Rattle.std.proofs.lemmas.Result.{err_from_is_err_and}
 use Rattle.iv_wire.specs.Ahead.{known}
+use Rattle.iv_wire.proofs.Ran.{none_ran, one_more_ran, ran_within}
 use Rattle.iv_wire.proofs.Answering.{told_first, told_more, tells, answered_input, answered_endless, answered_lines, answered_read, answered_memory, answered_write, answered_write_endless}
 use Rattle.iv_wire.proofs.running.run_lines.Goals as goal
 
 pub loop-init : goal.loop-init
 loop-init g c = record {
   told = λ s b. told_first s c.args.engine.now (g.R.Source.left c.args.reader.now) (g.W.Sink.taken c.args.writer.now) _ b c.new-room.ensures;
+  ran = λ s b. none_ran s _ b;
   went_on = search rules;
   read = search rules;
   write = search rules;
@@ -52,6 +54,7 @@ loop-preserved g c =
     let k = rw c.in-Line.is at c.in_ok-next_line.ensures.cut in
     record {
       told = λ s b. told_more s c.loop.engine c.answer_line.new.engine _ (known c.loop.room (g.R.Source.left c.loop.reader)) _ _ (g.W.Sink.taken c.loop.writer) _ c.loop.counter c.in-Line.line _ (c.loop.invariant.told s b) k (tells c.loop.engine c.answer_line.new.engine c.in-Line.line.items _ _ _ c.deref-in-Line.ensures.value c.deref-in-Line-2.ensures.value c.in_ok-text-in-Line.ensures.text c.in_ok-text-in-Line.ensures.state) c.in_ok-send_answer-in-Line.ensures.ok;
+      ran = λ s b. one_more_ran c.loop.counter c.deref-in-Line.result.now s c.loop.engine c.answer_line.new.engine (c.loop.invariant.ran s b) c.in_ok-text-in-Line.ensures.state;
       went_on = λ h. c.in_ok-text-in-Line.ensures.failed (c.loop.invariant.went_on h);
       read = c.in_ok-next_line.ensures.failed ∙ (or-false (g.R.Source.has_failed c.loop.reader) ∙ c.loop.invariant.read);
       write = c.in_ok-send_answer-in-Line.ensures.failed ∙ (or-false (g.W.Sink.has_failed c.loop.writer) ∙ c.loop.invariant.write);
@@ -69,3 +72,19 @@ returns-in_err-next_line-clause-answered g c =
       | inl f ↦ rw (p.1, p.2, f) (λ s b. answered_read s c.loop.engine _ (known c.loop.room (g.R.Source.left c.loop.reader)) _ _ _ c.args.lines c.loop.counter c.loop-test.true (c.loop.invariant.told s b) (c.in_err-next_line.ensures.short (ap Err f)))
       | inr f ↦ rw (p.1, p.2, f) (λ s b. answered_memory s c.loop.engine c.loop.engine _ (known c.loop.room (g.R.Source.left c.loop.reader)) _ _ _ c.args.lines c.loop.counter c.loop-test.true (c.loop.invariant.told s b))
     ]
+
+pub returns-in_err-next_line-clause-ran : goal.returns-in_err-next_line-clause-ran
+returns-in_err-next_line-clause-ran g c = λ _ s b. ran_within c.loop.counter c.args.lines s _ (omega arith) (c.loop.invariant.ran s b)
+
+pub returns-in-Nothing-clause-ran : goal.returns-in-Nothing-clause-ran
+returns-in-Nothing-clause-ran g c = λ _ s b. ran_within c.loop.counter c.args.lines s _ (omega arith) (c.loop.invariant.ran s b)
+
+pub returns-in_err-send_answer-in-Endless-clause-ran : goal.returns-in_err-send_answer-in-Endless-clause-ran
+returns-in_err-send_answer-in-Endless-clause-ran g c = λ _ s b. ran_within c.loop.counter c.args.lines s _ (omega arith) (c.loop.invariant.ran s b)
+
+pub returns-in-Endless-clause-ran : goal.returns-in-Endless-clause-ran
+returns-in-Endless-clause-ran g c = λ _ s b. ran_within c.loop.counter c.args.lines s _ (omega arith) (c.loop.invariant.ran s b)
+
+pub returns-in_err-send_answer-in-Line-clause-ran : goal.returns-in_err-send_answer-in-Line-clause-ran
+returns-in_err-send_answer-in-Line-clause-ran g c = λ _ s b. ran_within (c.loop.counter + 1) c.args.lines s _ (omega arith)
+    (one_more_ran c.loop.counter c.deref-in-Line.result.now s c.loop.engine c.answer_line.new.engine (c.loop.invariant.ran s b) c.in_ok-text-in-Line.ensures.state)

@@ -2,12 +2,14 @@ use Rattle.std.proofs.Common.{◌≡◌, ◌≤◌, ◌+◌, ◌*◌, true, fals
 use Rattle.iv_machine.specs.State.{State}
 use Rattle.iv_engine.specs.Seen.{IsBehind}
 use Rattle.iv_wire.specs.Ahead.{known}
+use Rattle.iv_wire.specs.Ran.{HasRun}
 use Rattle.iv_wire.proofs.Answering.{HasTold}
 use Rattle.iv_wire.proofs.running.run_lines.Given as goal
 
 abbrev pub invariant-loop : goal.invariant-loop
 invariant-loop g l = record {
   told : (s : State) → IsBehind s l.fn.engine → HasTold s (g.R.Source.left l.fn.reader) l.counter (g.W.Sink.taken l.fn.writer) (g.W.Sink.taken l.writer) l.engine (known l.room (g.R.Source.left l.reader));
+  ran : (s : State) → IsBehind s l.fn.engine → HasRun l.counter s l.engine;
   went_on : l.fn.engine.failed ≡ false → l.engine.failed ≡ false;
   read : g.R.Source.has_failed l.reader ≡ g.R.Source.has_failed l.fn.reader;
   write : g.W.Sink.has_failed l.writer ≡ g.W.Sink.has_failed l.fn.writer;

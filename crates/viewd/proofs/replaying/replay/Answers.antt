@@ -6,6 +6,9 @@ use Rattle.viewd.proofs.replaying.replay.Goals as goal
 pub returns-in-Ok-run-clause-answers : goal.returns-in-Ok-run-clause-answers
 returns-in-Ok-run-clause-answers g c = (c.run.new.engine, (_, c.in-Ok-run.ensures.answered (start 65536) c.in-Ok.ensures.start))
 
+pub returns-in-Ok-run-clause-adds_up : goal.returns-in-Ok-run-clause-adds_up
+returns-in-Ok-run-clause-adds_up g c = (c.run.new.engine, c.in-Ok-run.ensures.adds_up (start 65536) c.in-Ok.ensures.start)
+
 pub returns-in-Err-Read-clause-answers : goal.returns-in-Err-Read-clause-answers
 returns-in-Err-Read-clause-answers g c = ended _ run.Read _ _ _ _ _ _ c.in-Err-Read.field-0-is (c.in-Err-Read.ensures.answered (start 65536) c.in-Ok.ensures.start)
 

@@ -3,10 +3,9 @@ use Rattle.std.specs.Prelude.{is_some, slice_get, string_bytes}
 use Rattle.iv_bind.specs.Catalogs.{named}
 use Rattle.iv_rows.specs.Columns.{Column}
 use Rattle.iv_machine.specs.Act as machine
-use Rattle.iv_machine.specs.Act.{Entry}
 use Rattle.iv_machine.specs.Refusing.{entry_shape, or_else, test}
 use Rattle.iv_machine.specs.State.{table_columns}
-use Rattle.iv_engine.specs.Entries.{copies_of}
+use Rattle.iv_engine.specs.Entries.{copies_of, op_of}
 use Rattle.iv_engine.specs.Kept.{Kept, frame_of}
 use Rattle.iv_engine.proofs.Checking.{get_is, shape_is}
 use Rattle.iv_engine.proofs.store.Store.place.Goals as goal
@@ -20,8 +19,8 @@ returns-then-not-accepts-clause-refused c =
     let at : slice_get e.columns k ≡ Some c.index.result.now = ap (λ (cs : List (List Column)). slice_get cs k) (sym columns) ∙ get_is c.self.inside.schemas.items k c.index.result.now low c.index.ensures in
     let name = c.as_str.ensures.value in
     let rows = sym c.accepts.ensures ∙ c.if-not-accepts.true in
-    ap (entry_shape (frame_of e) c.args.number) (sym c.entry.view_is ∙ (λ i. record { rel = string_bytes c.entry.inside.rel; op = sym c.inserted-row.ensures i; copies = copies_of c.entry.inside.copies }))
-    ∙ shape_is (frame_of e) c.args.number (string_bytes c.entry.inside.rel) c.inserted-row.result (copies_of c.entry.inside.copies) c.index.result.now
+    ap (entry_shape (frame_of e) c.args.number) (sym c.entry.view_is)
+    ∙ shape_is (frame_of e) c.args.number (string_bytes c.entry.inside.rel) (op_of c.entry.inside.op) (copies_of c.entry.inside.copies) c.index.result.now
     (subst (λ (x : List ℕ). is_some (named (frame_of e).catalog x) ≡ true) name (sym c.in-Some.ensures.known))
     (subst (λ (x : List ℕ). table_columns (frame_of e).catalog x ≡ Some c.index.result.now) name (c.in-Some.ensures.columns ∙ at))
     ∙ ap (λ b. or_else (test (not b) (machine.bad_row c.args.number)) None) rows
@@ -35,8 +34,8 @@ returns-clause-ok c =
     let at : slice_get e.columns k ≡ Some c.index.result.now = ap (λ (cs : List (List Column)). slice_get cs k) (sym columns) ∙ get_is c.self.inside.schemas.items k c.index.result.now low c.index.ensures in
     let name = c.as_str.ensures.value in
     let rows = sym c.accepts.ensures ∙ c.if-not-accepts.false in
-    ap (entry_shape (frame_of e) c.args.number) (sym c.entry.view_is ∙ (λ i. record { rel = string_bytes c.entry.inside.rel; op = sym c.inserted-row.ensures i; copies = copies_of c.entry.inside.copies }))
-    ∙ shape_is (frame_of e) c.args.number (string_bytes c.entry.inside.rel) c.inserted-row.result (copies_of c.entry.inside.copies) c.index.result.now
+    ap (entry_shape (frame_of e) c.args.number) (sym c.entry.view_is)
+    ∙ shape_is (frame_of e) c.args.number (string_bytes c.entry.inside.rel) (op_of c.entry.inside.op) (copies_of c.entry.inside.copies) c.index.result.now
     (subst (λ (x : List ℕ). is_some (named (frame_of e).catalog x) ≡ true) name (sym c.in-Some.ensures.known))
     (subst (λ (x : List ℕ). table_columns (frame_of e).catalog x ≡ Some c.index.result.now) name (c.in-Some.ensures.columns ∙ at))
     ∙ ap (λ b. or_else (test (not b) (machine.bad_row c.args.number)) None) rows

@@ -10,7 +10,8 @@ use Rattle.iv_engine.specs.Seen.{IsBehind}
 use Rattle.iv_engine.specs.Stands.{Stands}
 use Rattle.iv_engine.specs.Views.{refusal_of}
 use Rattle.iv_engine.proofs.Ending.{revoked_left, revoked_ready, revoked_sent, revoked_sound}
-use Rattle.iv_engine.proofs.Gathering.{done_no_refusal}
+use Rattle.iv_engine.proofs.Stepping.{no_refusal}
+use Rattle.iv_engine.specs.declared.command.Reply.TheVariants.{Ok}
 use Rattle.iv_engine.proofs.store.Store.revoke.Goals as goal
 
 pub returns : goal.returns
@@ -38,6 +39,6 @@ returns c =
       );
       left = λ T s. subst (λ (t : State). IsBehind t (seen new)) (sym (revoked_left e n name ps to c.requires T s))
           (subst (λ (v : Kept). IsBehind (at left T) (seen v)) (sym is) (record { frame = refl; rows = s }));
-      kept = done_no_refusal;
+      kept = no_refusal Ok refl;
       sound = subst IsSound (sym is) (revoked_sound e n name ps to c.requires);
     }

@@ -1,16 +1,12 @@
-use Rattle.std.proofs.Common.{◌≡◌, ◌∙◌, ◌++◌, sym, ap, subst, refl, ℕ, ◌+◌, List, length, None, map, ◌<◌, []}
+use Rattle.std.proofs.Common.{◌≡◌, ◌∙◌, ◌++◌, sym, ap, subst, refl, ℕ, ◌+◌, None, map, []}
 use Rattle.std.specs.Prelude.{string_bytes}
-use Rattle.iv_zset.specs.Weights.{Weighed}
-use Rattle.iv_zset.specs.Limits.{Counts}
 use Rattle.iv_machine.specs.Act.{subscribed}
 use Rattle.iv_machine.specs.State.{State, Subscription}
 use Rattle.iv_machine.specs.Machine.{line_of as machine_line, difference}
 use Rattle.iv_engine.specs.Answering.{seen}
-use Rattle.iv_engine.specs.Kept.{Kept, IsSound, at}
+use Rattle.iv_engine.specs.Kept.{Kept, IsSound, at, shown_rows}
 use Rattle.iv_engine.specs.Seen.{IsBehind}
-use Rattle.iv_engine.specs.Stands.{bag_at}
 use Rattle.iv_engine.specs.Views.{line_of}
-use Rattle.iv_engine.proofs.Lines.{item_is}
 use Rattle.iv_engine.proofs.Opening.{decided, opened, opened_left, opened_sent, opened_sound, subscribed_no_refusal}
 use Rattle.iv_engine.proofs.store.Store.subscribe.Goals as goal
 
@@ -22,9 +18,6 @@ returns c =
     let name = string_bytes c.args.rel in
     let x = c.in-Ok.ensures in
     let last : c.self.inside.last ≡ e.last = ap (λ (v : Kept). v.last) c.self.view_is in
-    let bags : c.self.inside.bags.items ≡ e.bags = ap (λ (v : Kept). v.bags) c.self.view_is in
-    let low = subst (λ m. k < m) (sym c.requires.stored.bags ∙ sym (ap (λ (b : List Weighed). length b) bags)) x.below in
-    let here : bag_at e.bags k ≡ c.index.result.now = ap (λ (bs : List Weighed). bag_at bs k) (sym bags) ∙ item_is c.self.inside.bags.items k c.index.result.now low c.index.ensures in
     let s : ℕ → Subscription = λ m. record { session = n; number = m + 1; rel = k } in
     let after : Kept = record { known = c.self.inside.access; columns = c.self.inside.schemas.items; sessions = c.self.inside.sessions.items; subscriptions = c.insert.new.subscriptions.items; last = c.self.inside.last + 1; bags = c.self.inside.bags.items } in
     let new : opened e (s e.last) (e.last + 1) ≡ after =
@@ -36,8 +29,8 @@ returns c =
         ap (λ (m : ℕ). subscribed (m + 1)) last,
         c.in_ok-push_change.ensures
             ∙ (λ i. map line_of (c.new-changes.ensures.items i) ++ machine_line None (s c.self.inside.last) c.in_ok-rows.rows.items)
-            ∙ ap (machine_line None (s c.self.inside.last)) (c.in_ok-rows.ensures (T k) (subst (λ b. Counts b (T k)) here (stands k)))
-            ∙ ap (λ m. machine_line None (s m) (difference [] (T k))) last
+            ∙ ap (machine_line None (s c.self.inside.last)) (c.in_ok-rows.ensures T stands)
+            ∙ ap (λ m. machine_line None (s m) (difference [] (shown_rows e T (s m)))) last
             ∙ sym (opened_sent e n k name c.requires x.number x.below x.open x.reads T stands),
       );
       left = λ T stands. subst (λ (t : State). IsBehind t (seen after)) (sym (opened_left e n k name c.requires x.number x.below x.open x.reads T stands))

@@ -1,0 +1,16 @@
+//! All sessions and subscriptions are closed at once.
+ghost use Rattle.std.specs.Prelude.{◌≡◌, []};
+ghost use Rattle.iv_engine.specs.Kept.{IsSound};
+
+use crate::store::Store;
+
+impl Store {
+    /// Closes all sessions and subscriptions. All else is kept, the last number given too.
+    pub fn close_all(&mut self)
+        ensures closed { self.new ≡ record self.old { sessions = []; subscriptions = [] } }
+        ensures sound { IsSound self.old → IsSound self.new }
+    {
+        self.sessions.clear();
+        self.subscriptions.clear();
+    }
+}

@@ -1,0 +1,227 @@
+//! The requests that change which rows readers see: `row_security`, `create_policy` and `drop_policy`.
+ghost use Rattle.std.specs.Prelude.{◌≡◌, ◌<◌, IfOk, None, is_some, length, map, option_map, string_bytes, true};
+ghost use Rattle.std.specs.List.{list_all};
+ghost use Rattle.iv_access.specs.Changing.{with_security, without_policy};
+ghost use Rattle.iv_access.specs.Faults.{is_grantee};
+ghost use Rattle.iv_access.specs.Policies.{policy_of};
+ghost use Rattle.iv_access.specs.Privileges.{owns};
+ghost use Rattle.iv_machine.specs.Act as machine;
+ghost use Rattle.iv_engine.specs.Answering.{IsStep};
+ghost use Rattle.iv_engine.specs.Kept.{IsSound, IsStored, with_rights};
+ghost use Rattle.iv_engine.specs.Owned.{IsChecked, IsOwned, asked, has_room, name_tests, named_tests, with_asked};
+ghost use Rattle.iv_engine.specs.Views.{refusal_of};
+
+use crate::answer::Answer;
+use crate::command::{PolicyText, Refusal, Reply};
+use crate::predicates::{Predicates, Stop, bound_texts};
+use crate::store::Store;
+use iv_access::{AccessFault, Policy, RoleId};
+use iv_rows::RelId;
+use std::alloc::AllocError;
+
+/// The acting role, and a table that it owns.
+#[derive(Clone, Copy)]
+struct Owned {
+    acting: RoleId,
+    table: RelId,
+}
+
+/// The policy that is asked for, with its predicates.
+fn asked(policy: PolicyText, predicates: Predicates) -> Policy
+    ensures { result ≡ asked policy predicates }
+{
+    Policy {
+        name: policy.name,
+        restrictive: policy.restrictive,
+        command: policy.command,
+        to: policy.grantee,
+        using: predicates.using,
+        check: predicates.check,
+    }
+}
+
+impl Store {
+    /// The acting role and the table of a name, where the role may change the table's policies.
+    fn owned(&self, session: u32, rel: &str) -> Result<Owned, Stop>
+        requires { IsStored self.now }
+        ensures { IsOwned self.now session rel.now result }
+    {
+        let Some(acting) = self.actor(session) else {
+            return Err(Stop::Refused(Refusal::NoSession));
+        };
+        let Some(table) = self.table(rel) else {
+            return Err(Stop::Refused(Refusal::UnknownRelation));
+        };
+        if !self.access.owns(acting, table) {
+            let rel = String::from_str(self.alloc, rel)?;
+            return Err(Stop::Refused(Refusal::NotOwner { rel }));
+        }
+        Ok(Owned { acting, table })
+    }
+
+    /// Whether the name is a role's, or stands for all roles.
+    fn is_known(&self, grantee: &Option<String>) -> bool
+        ensures { result ≡ is_grantee self.now.known.rights (option_map string_bytes grantee.now) }
+    {
+        match grantee {
+            Some(name) => self.access.role(name.as_str()).is_some(),
+            None => true,
+        }
+    }
+
+    /// Whether each name is a role's, or stands for all roles.
+    fn are_known(&self, grantees: &[Option<String>]) -> bool
+        ensures { result ≡ list_all (is_grantee self.now.known.rights) (map (option_map string_bytes) grantees.now) }
+    {
+        for grantee in grantees {
+            if !self.is_known(grantee) {
+                return false;
+            }
+        }
+        true
+    }
+
+    /// Which name of a policy may not stand.
+    fn check_names(&self, table: RelId, policy: &PolicyText) -> Option<Refusal>
+        ensures { option_map refusal_of result ≡ name_tests self.now.known.rights table.0 policy.now }
+    {
+        if !self.are_known(&policy.grantee) {
+            return Some(Refusal::UnknownRole);
+        }
+        if self.access.policy(table, policy.name.as_str()).is_some() {
+            return Some(Refusal::NameTaken);
+        }
+        None
+    }
+
+    /// The table of a policy and its predicates, where all tests pass but that of the number of policies.
+    fn check_policy(&self, session: u32, policy: &PolicyText) -> Result<(Owned, Predicates), Stop>
+        requires { IsStored self.now }
+        ensures { IsChecked self.now session policy.now result }
+    {
+        let owned = self.owned(session, policy.rel.as_str())?;
+        if let Some(refusal) = self.check_names(owned.table, policy) {
+            return Err(Stop::Refused(refusal));
+        }
+        let schema = &self.schemas[owned.table.0 as usize];
+        let predicates = bound_texts(self.alloc, schema, policy)?;
+        Ok((owned, predicates))
+    }
+
+    /// Switches row security of the table.
+    fn switch(&mut self, owned: Owned, enable: bool, force: bool)
+        requires below { owned.table.0 < length self.old.known.rights.guards }
+        requires owns { owns self.old.known.rights owned.acting.0 owned.table.0 ≡ true }
+        ensures { self.new ≡ with_rights (with_security owned.table.0 enable force self.old.known.rights) self.old }
+    {
+        let change = self
+            .access
+            .row_security(owned.acting, owned.table, enable, force);
+        if change.is_err() {
+            unreachable!()
+        }
+    }
+
+    /// Takes a policy of the table away.
+    fn remove(&mut self, owned: Owned, name: &str)
+        requires below { owned.table.0 < length self.old.known.rights.guards }
+        requires owns { owns self.old.known.rights owned.acting.0 owned.table.0 ≡ true }
+        requires there { is_some (policy_of self.old.known.rights owned.table.0 name.now) ≡ true }
+        ensures { self.new ≡ with_rights (without_policy owned.table.0 name.now self.old.known.rights) self.old }
+    {
+        let change = self.access.drop_policy(owned.acting, owned.table, name);
+        if change.is_err() {
+            unreachable!()
+        }
+    }
+
+    /// Adds a policy to the table, unless it has as many as it may have: then `false`, and nothing has changed.
+    fn add(&mut self, owned: Owned, policy: Policy) -> Result<bool, AllocError>
+        requires below { owned.table.0 < length self.old.known.rights.guards }
+        requires owns { owns self.old.known.rights owned.acting.0 owned.table.0 ≡ true }
+        requires names { named_tests self.old.known.rights owned.table.0 policy.name policy.to ≡ None }
+        ensures room { IfOk result (λ added. added ≡ has_room self.old.known.rights owned.table.0) }
+        ensures state { IfOk result (λ added. self.new ≡ with_asked owned.table.0 policy added self.old) }
+    {
+        match self.access.create_policy(owned.acting, owned.table, policy) {
+            Ok(()) => {}
+            Err(AccessFault::TooMany) => return Ok(false),
+            Err(AccessFault::Memory) => return Err(AllocError),
+            Err(_) => unreachable!(),
+        }
+        Ok(true)
+    }
+
+    /// Switches row security of a table, and tells its readers what they see more and less.
+    pub fn row_security(
+        &mut self,
+        session: u32,
+        rel: String,
+        enable: bool,
+        force: bool,
+    ) -> Result<Answer, AllocError>
+        requires { IsSound self.old }
+        ensures { IfOk result (λ answer. IsStep self.old session (machine.row_security (string_bytes rel) enable force) answer self.new) }
+    {
+        let owned = match self.owned(session, rel.as_str()) {
+            Ok(owned) => owned,
+            Err(Stop::Refused(refusal)) => return Ok(Answer::Refused(refusal)),
+            Err(Stop::Memory) => return Err(AllocError),
+        };
+        let filters = self.filters(owned.table)?;
+        self.switch(owned, enable, force);
+        let changes = self.turned(&filters)?;
+        Ok(Answer::Accepted {
+            reply: Reply::Ok,
+            changes,
+        })
+    }
+
+    /// Adds a policy to a table, and tells its readers what they see more and less.
+    pub fn create_policy(&mut self, session: u32, policy: PolicyText) -> Result<Answer, AllocError>
+        requires { IsSound self.old }
+        ensures { IfOk result (λ answer. IsStep self.old session (machine.create_policy policy) answer self.new) }
+    {
+        let (owned, predicates) = match self.check_policy(session, &policy) {
+            Ok(checked) => checked,
+            Err(Stop::Refused(refusal)) => return Ok(Answer::Refused(refusal)),
+            Err(Stop::Memory) => return Err(AllocError),
+        };
+        let filters = self.filters(owned.table)?;
+        if !self.add(owned, asked(policy, predicates))? {
+            return Ok(Answer::Refused(Refusal::TooMany));
+        }
+        let changes = self.turned(&filters)?;
+        Ok(Answer::Accepted {
+            reply: Reply::Ok,
+            changes,
+        })
+    }
+
+    /// Takes a policy of a table away, and tells its readers what they see more and less.
+    pub fn drop_policy(
+        &mut self,
+        session: u32,
+        rel: String,
+        name: &str,
+    ) -> Result<Answer, AllocError>
+        requires { IsSound self.old }
+        ensures { IfOk result (λ answer. IsStep self.old session (machine.drop_policy (string_bytes rel) name.now) answer self.new) }
+    {
+        let owned = match self.owned(session, rel.as_str()) {
+            Ok(owned) => owned,
+            Err(Stop::Refused(refusal)) => return Ok(Answer::Refused(refusal)),
+            Err(Stop::Memory) => return Err(AllocError),
+        };
+        if self.access.policy(owned.table, name).is_none() {
+            return Ok(Answer::Refused(Refusal::UnknownPolicy));
+        }
+        let filters = self.filters(owned.table)?;
+        self.remove(owned, name);
+        let changes = self.turned(&filters)?;
+        Ok(Answer::Accepted {
+            reply: Reply::Ok,
+            changes,
+        })
+    }
+}

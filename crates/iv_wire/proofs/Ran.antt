@@ -1,0 +1,41 @@
+-- Commands behind commands.
+use Rattle.std.proofs.Common.{◌≡◌, if◌then◌else◌, ℕ, ◌+◌, ◌≤◌, List, [], ◌∷◌, ◌++◌, length, length-append, Bool, true, false, refl, subst, arith}
+use Rattle.iv_machine.specs.Act.{Command}
+use Rattle.iv_machine.specs.Machine.{run, step}
+use Rattle.iv_machine.specs.State.{State}
+use Rattle.iv_engine.specs.Seen.{Seen, IsBehind}
+use Rattle.iv_wire.specs.Answer.{Reading, faulty, asked, commands_of, reading_of, readings_of, told}
+use Rattle.iv_wire.specs.Cut.{is_blank}
+use Rattle.iv_wire.specs.Ran.{HasRun}
+
+run_joins : (s : State) (cs ds : List Command) → (run (run s cs).state ds).state ≡ (run s (cs ++ ds)).state
+run_joins s [] ds = refl
+run_joins s (c ∷ cs) ds = run_joins (step s c).state cs ds
+
+one_at_most : (r : Reading) → length (commands_of (r ∷ [])) ≤ 1
+one_at_most (faulty n) = omega arith
+one_at_most (asked c) = omega arith
+
+-- a line has one command at most
+line_has_one : (line : List ℕ) → length (commands_of (readings_of line)) ≤ 1
+line_has_one line = by (is_blank line)
+  where
+    by : (b : Bool) → length (commands_of (if b then [] else reading_of line ∷ [])) ≤ 1
+    by true = omega arith
+    by false = one_at_most (reading_of line)
+
+pub none_ran : (s : State) (e : Seen) → IsBehind s e → HasRun 0 s e
+none_ran s e b = record { commands = []; most = omega arith; behind = b }
+
+pub ran_within : (n lines : ℕ) (s : State) (e : Seen) → n ≤ lines → HasRun n s e → HasRun lines s e
+ran_within n lines s e le h = record { commands = h.commands; most = omega (arith, le, h.most); behind = h.behind }
+
+-- and one line more
+pub one_more_ran : (n : ℕ) (line : List ℕ) (s : State) (old new : Seen) → HasRun n s old → ((t : State) → IsBehind t old → IsBehind (told t (readings_of line)).state new) → HasRun (n + 1) s new
+one_more_ran n line s old new h f =
+    let more = commands_of (readings_of line) in
+    record {
+      commands = h.commands ++ more;
+      most = omega (arith, h.most, line_has_one line, length-append h.commands more);
+      behind = subst (λ (t : State). IsBehind t new) (run_joins s h.commands more) (f (run s h.commands).state h.behind);
+    }

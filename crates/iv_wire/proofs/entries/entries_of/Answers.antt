@@ -1,0 +1,10 @@
+use Rattle.std.proofs.Common.{◌<◌, length, arith}
+use Rattle.iv_wire.specs.Request.{entry_of}
+use Rattle.iv_wire.proofs.Each.{goes_on}
+use Rattle.iv_wire.proofs.entries.entries_of.Goals as goal
+
+pub loop-item-preserved : goal.loop-item-preserved
+loop-item-preserved c =
+    let h : c.loop-item.item-index < length c.args.items.now = omega arith in
+    let found = rw c.in-Some.is at c.in_ok-entry_of.ensures in
+    rw c.in_ok-push-in-Some.ensures.items (goes_on entry_of c.args.items.now c.loop-item.entries.items c.loop-item.item-index c.item-item.result c.in-Some.entry h c.item-item.is c.loop-item.invariant found)

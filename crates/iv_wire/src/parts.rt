@@ -1,0 +1,84 @@
+//! Parts of a JSON value.
+ghost use Rattle.std.specs.Prelude.{◌≡◌, IfOk, map, option_map, option_and_then, string_bytes};
+ghost use Rattle.serde_json.specs.View.{view, items_view};
+ghost use Rattle.serde_json.specs.Find.{get, as_array};
+ghost use Rattle.iv_wire.specs.Request.{size, count, text_at, name_at, bool_at, has, present};
+
+use iv_rows::name_ok;
+use serde_json::Value as Json;
+use std::alloc::{AllocError, Global};
+
+/// How many keys an object has, and 0 where it is none.
+pub fn size(value: &Json) -> usize
+    ensures { result ≡ size (view value.now) }
+{
+    match value.as_object() {
+        None => 0,
+        Some(map) => map.len(),
+    }
+}
+
+/// How many items a list has, and 0 where it is none.
+pub fn count(value: &Json) -> usize
+    ensures { result ≡ count (view value.now) }
+{
+    match value.as_array() {
+        None => 0,
+        Some(items) => items.len(),
+    }
+}
+
+/// The text at a key.
+pub fn text_at<'a>(value: &'a Json, key: &str) -> Option<&'a str>
+    ensures { option_map (λ s. s.now) result ≡ text_at key.now (view value.now) }
+{
+    value.get(key).and_then(Json::as_str)
+}
+
+/// The name at a key.
+pub fn name_at<'a>(value: &'a Json, key: &str) -> Option<&'a str>
+    ensures { option_map (λ s. s.now) result ≡ name_at key.now (view value.now) }
+{
+    match text_at(value, key) {
+        None => None,
+        Some(text) => { if name_ok(text) { Some(text) } else { None } }
+    }
+}
+
+/// The items of the list at a key.
+pub fn items_at<'a>(value: &'a Json, key: &str) -> Option<&'a Vec<Json>>
+    ensures { option_map (λ v. items_view v.now.items) result ≡ option_and_then as_array (get key.now (view value.now)) }
+{
+    value.get(key).and_then(Json::as_array)
+}
+
+/// The name at a key, in memory of its own.
+pub fn string_at(alloc: Global, value: &Json, key: &str) -> Result<Option<String>, AllocError>
+    ensures { IfOk result (λ found. option_map string_bytes found ≡ name_at key.now (view value.now)) }
+{
+    match name_at(value, key) {
+        None => Ok(None),
+        Some(name) => Ok(Some(String::from_str(alloc, name)?)),
+    }
+}
+
+/// The truth value at a key.
+pub fn bool_at(value: &Json, key: &str) -> Option<bool>
+    ensures { result ≡ bool_at key.now (view value.now) }
+{
+    value.get(key).and_then(Json::as_bool)
+}
+
+/// Whether the key is there.
+pub fn has(value: &Json, key: &str) -> bool
+    ensures { result ≡ has key.now (view value.now) }
+{
+    value.get(key).is_some()
+}
+
+/// How many of the keys are there.
+pub fn present(value: &Json, keys: &[&str]) -> usize
+    ensures { result ≡ present (map (λ key. key.now) keys.now) (view value.now) }
+{
+    keys.iter().filter(|key| has(value, key)).count()
+}

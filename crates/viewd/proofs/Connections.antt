@@ -1,0 +1,53 @@
+-- Connections behind connections.
+use Rattle.std.proofs.Common.{◌≡◌, ℕ, ◌+◌, List, [], ◌∷◌, ◌++◌, length, length-append, take, Bool, true, false, ◌||◌, Option, refl, sym, subst, ◌∙◌}
+use Rattle.std.proofs.Math.Seq.{take-length}
+use Rattle.std.specs.Io.KnownBytes.{Appends}
+use Rattle.std.specs.List.{AllByRecursion}
+use Rattle.iv_machine.specs.Act.{Command}
+use Rattle.iv_machine.specs.Machine.{hung, run}
+use Rattle.iv_machine.specs.Reached.{AreGiven, AreUnique, IsReached}
+use Rattle.iv_machine.specs.State.{Frame, State}
+use Rattle.iv_engine.specs.Seen.{Seen, IsBehind}
+use Rattle.iv_wire.specs.Ran.{HasRun}
+use Rattle.viewd.specs.Serves.{HasServed, IsClosed, served}
+
+served_behind : (s : State) (css dss : List (List Command)) → served (served s css) dss ≡ served s (css ++ dss)
+served_behind s [] dss = refl
+served_behind s (cs ∷ css) dss = served_behind (hung (run s cs).state) css dss
+
+all_join : {X : Type 0} (P : X → Type 0) (xs ys : List X) → AllByRecursion P xs → AllByRecursion P ys → AllByRecursion P (xs ++ ys)
+all_join P [] ys a b = b
+all_join P (x ∷ xs) ys a b = (a.0, all_join P xs ys a.1 b)
+
+pub none_served : (lines : ℕ) (s : State) (e : Seen) → IsBehind s e → HasServed lines 0 s e
+none_served lines s e b = record { commands = []; count = refl; most = tt; behind = b }
+
+-- a run, and then all is hung up
+pub one_served : (lines : ℕ) (s : State) (mid new : Seen) → HasRun lines s mid → ((t : State) → IsBehind t mid → IsBehind (hung t) new) → HasServed lines 1 s new
+one_served lines s mid new h f = record { commands = h.commands ∷ []; count = refl; most = (h.most, tt); behind = f (run s h.commands).state h.behind }
+
+pub more_served : (lines n m : ℕ) (s : State) (mid new : Seen) → HasServed lines n s mid → ((t : State) → IsBehind t mid → HasServed lines m t new) → HasServed lines (n + m) s new
+more_served lines n m s mid new h f =
+    let last = f (served s h.commands) h.behind in
+    record {
+      commands = h.commands ++ last.commands;
+      count = length-append h.commands last.commands ∙ (λ i. h.count i + last.count i);
+      most = all_join _ h.commands last.commands h.most last.most;
+      behind = subst (λ (t : State). IsBehind t new) (served_behind s h.commands last.commands) last.behind;
+    }
+
+pub closed_reached : (f : Frame) → IsClosed f → IsReached f
+closed_reached f h = record {
+  unique = subst AreUnique (sym h.subscriptions) tt;
+  given = subst (AreGiven f.last) (sym h.subscriptions) tt;
+}
+
+-- ---- what was written
+
+-- all of it is a front of it
+pub all_front : (old new : Option (List ℕ)) (bytes : List ℕ) → Appends old new bytes → (n : ℕ) × Appends old new (take n bytes)
+all_front old new bytes h = (length bytes, subst (Appends old new) (sym (take-length bytes)) h)
+
+pub not_second : (a b new : Bool) → new ≡ (a || b) → a ≡ false → new ≡ false → b ≡ false
+not_second true b new e f g = cc
+not_second false b new e f g = sym e ∙ g

@@ -1,0 +1,9 @@
+use Rattle.viewd.specs.Does.{listening}
+use Rattle.viewd.proofs.Connections.{all_front}
+use Rattle.viewd.proofs.serving.serve.Goals as goal
+
+pub returns-in-Err-Network-clause-listens : goal.returns-in-Err-Network-clause-listens
+returns-in-Err-Network-clause-listens g c = all_front _ _ (listening c.args.port) c.in_ok-tell_port.ensures.listens
+
+pub returns-in-Err-Memory-clause-listens : goal.returns-in-Err-Memory-clause-listens
+returns-in-Err-Memory-clause-listens g c = all_front _ _ (listening c.args.port) c.in_ok-tell_port.ensures.listens

@@ -1,0 +1,14 @@
+use Rattle.std.proofs.Common.{◌≡◌, ◌<◌, false}
+use Rattle.iv_machine.specs.Reached.{IsReached}
+use Rattle.iv_machine.specs.State.{State}
+use Rattle.iv_engine.specs.Seen.{IsBehind}
+use Rattle.viewd.specs.Serves.{HasServed, IsClosed}
+use Rattle.viewd.proofs.serving.serve_on.Given as goal
+
+abbrev pub invariant-loop : goal.invariant-loop
+invariant-loop l = record {
+  served : (s : State) → IsBehind s l.fn.engine → HasServed l.lines l.counter s l.engine;
+  closed : 0 < l.counter → IsClosed l.engine.frame;
+  reached : IsReached l.engine.frame;
+  failed : l.engine.failed ≡ false;
+}

@@ -1,0 +1,43 @@
+-- What the program does, by what it is asked to do.
+use Rattle.std.specs.Prelude.{ℕ, ◌∷◌, ◌++◌, List, [], Option, Result, Ok, Err, codes, decimal, take, IfSome, ⊤}
+use Rattle.std.specs.Io.KnownBytes.{Appends}
+use Rattle.iv_machine.specs.State.{start}
+use Rattle.iv_engine.specs.Seen.{Seen}
+use Rattle.iv_wire.specs.Endings.{Run}
+use Rattle.iv_wire.specs.Sums.{HasWritten}
+use Rattle.viewd.specs.Replays.{Replays}
+use Rattle.viewd.specs.declared.asked.Settings.{Settings}
+use Rattle.viewd.specs.declared.asked.Settings.TheVariants.{Replay, Serve}
+use Rattle.viewd.specs.declared.fault.Fault.{Fault}
+use Rattle.viewd.specs.declared.fault.Fault.TheVariants.{Read}
+
+-- the line that says where the program listens
+abbrev pub listening : ℕ → List ℕ
+listening port = codes "listening on 127.0.0.1:" ++ decimal port ++ 10 ∷ []
+
+-- the bytes that the reader had and has left, and those that the writer had taken and has taken now
+pub record Ends : Type 0 where
+  pub given : Option (List ℕ)
+  pub left : Option (List ℕ)
+  pub taken : Option (List ℕ)
+  pub written : Option (List ℕ)
+
+-- a run from these ends to the engine
+abbrev pub run_of : ℕ → Ends → Seen → Run
+run_of lines e now = record { lines = lines; given = e.given; left = e.left; taken = e.taken; written = e.written; now = now }
+
+-- a front of the line was written, and all of it where all connections were served
+abbrev pub Listens : ℕ → (taken written : Option (List ℕ)) → Result (Unit {0}) Fault → Type 0
+Listens port taken written (Ok _) = Appends taken written (listening port)
+Listens port taken written (Err Read) = ⊥
+Listens port taken written (Err f) = (n : ℕ) × Appends taken written (take n (listening port))
+
+-- lines of the reader are answered on the writer, or those of connections are answered, and the writer tells the port
+abbrev pub Does : Settings → Ends → Result (Unit {0}) Fault → Type 0
+Does (Replay lines) e result = (now : Seen) × Replays (run_of lines e now) result
+Does (Serve port connections lines) e result = Listens port e.taken e.written result
+
+-- the lines that were written add up, where lines of the reader are answered and the reader tells its bytes
+abbrev pub AddsUp : Settings → Ends → Type 0
+AddsUp (Replay lines) e = (now : Seen) × IfSome e.given (λ _. HasWritten (start 65536) (run_of lines e now))
+AddsUp (Serve port connections lines) e = ⊤

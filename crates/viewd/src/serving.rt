@@ -1,0 +1,142 @@
+//! Connections, one after another, through one engine.
+
+ghost use Rattle.std.specs.Prelude.{◌≡◌, ◌≤◌, ◌||◌, ◌↔◌, true, false, IsErrOf, OnOk, is_err};
+ghost use Rattle.iv_machine.specs.Reached.{IsReached};
+ghost use Rattle.iv_machine.specs.State.{State};
+ghost use Rattle.iv_engine.specs.Seen.{IsBehind};
+ghost use Rattle.viewd.specs.Does.{Listens};
+ghost use Rattle.viewd.specs.Replays.{is_write};
+ghost use Rattle.viewd.specs.Serves.{HasServed, IsClosed, Serves, is_memory};
+
+use crate::fault::Fault;
+use iv_engine::Engine;
+use iv_wire::{EndFault, FromRead, FromWrite, Sink, run, write_all};
+use std::alloc::{AllocError, Global};
+use std::net::{Ipv4Addr, SocketAddrV4, TcpListener, TcpStream};
+
+/// Why no more connections are served.
+#[derive(Clone, Copy, Debug, PartialEq, Eq)]
+pub enum ServeFault {
+    /// A connection could not be accepted.
+    Network,
+    /// A growth of memory was refused. The engine has failed.
+    Memory,
+    /// The engine had failed before.
+    Failed,
+}
+
+/// Answers at most `lines` lines of a connection, and then hangs up.
+///
+/// # Errors
+/// `AllocError` where a growth of memory was refused: the engine has failed then. A read or a write of the connection
+/// that fails is none: it ends the connection.
+fn answer_connection(
+    alloc: Global,
+    engine: &mut Engine,
+    stream: &TcpStream,
+    lines: u32,
+) -> Result<(), AllocError>
+    requires { engine.old.failed ≡ false }
+    ensures served { OnOk result ((s : State) → IsBehind s engine.old → HasServed lines 1 s engine.new) }
+    ensures closed { OnOk result (IsClosed engine.new.frame) }
+    ensures failed { engine.new.failed ≡ is_err result }
+{
+    // an answer need not wait for the next one
+    let _ = stream.set_nodelay(true);
+    let mut reader = FromRead::new(stream);
+    let mut writer = FromWrite::new(stream);
+    // where its read or write fails, the connection ends, and the engine goes on
+    let _ = run(alloc, engine, &mut reader, &mut writer, lines);
+    if engine.is_failed() {
+        return Err(AllocError);
+    }
+    engine.hang_up();
+    Ok(())
+}
+
+/// Serves so many connections of the listener, one after another on the one engine, with at most `lines` lines of each.
+/// Behind each connection all sessions and subscriptions are closed; all else is kept. A connection whose read or write
+/// fails ends, and the next one is served.
+///
+/// # Errors
+/// `Failed` exactly where the engine had failed: no connection is accepted then. `Network` where a connection could not
+/// be accepted; `Memory` where a growth of memory was refused: the engine has failed then.
+pub fn serve_on(
+    alloc: Global,
+    engine: &mut Engine,
+    listener: &TcpListener,
+    connections: u32,
+    lines: u32,
+) -> Result<(), ServeFault>
+    ensures served { (s : State) → IsBehind s engine.old → Serves lines connections s engine.new result }
+    ensures closed { OnOk result (1 ≤ connections → IsClosed engine.new.frame) }
+    ensures reached { engine.new.failed ≡ false → IsReached engine.new.frame }
+    ensures failed { engine.new.failed ≡ (engine.old.failed || is_memory result) }
+    ensures refused { IsErrOf result ServeFault.Failed ↔ (engine.old.failed ≡ true) }
+    ensures untouched { engine.old.failed ≡ true → engine.new ≡ engine.old }
+{
+    if engine.is_failed() {
+        return Err(ServeFault::Failed);
+    }
+    for _ in 0..connections {
+        let Ok((stream, _)) = listener.accept() else {
+            return Err(ServeFault::Network);
+        };
+        match answer_connection(alloc, engine, &stream, lines) {
+            Ok(()) => {}
+            Err(AllocError) => return Err(ServeFault::Memory),
+        }
+    }
+    Ok(())
+}
+
+/// Tells on the writer where the program listens.
+fn tell_port<W: Sink>(alloc: Global, writer: &mut W, port: u16) -> Result<(), Fault>
+    ensures listens { Listens port (W.taken writer.old) (W.taken writer.new) result }
+    ensures write { W.has_failed writer.new ≡ (W.has_failed writer.old || is_write result) }
+    ensures flushed { (is_write result ≡ false) → W.is_flushed writer.old ≡ true → W.is_flushed writer.new ≡ true }
+{
+    let Ok(text) = format!(in alloc; "listening on 127.0.0.1:{port}\n") else {
+        return Err(Fault::Memory);
+    };
+    match write_all(writer, text.as_bytes()) {
+        Err(EndFault) => Err(Fault::Write),
+        Ok(()) => match writer.flush() {
+            Err(EndFault) => Err(Fault::Write),
+            Ok(()) => Ok(()),
+        },
+    }
+}
+
+/// Listens on a port of 127.0.0.1, tells so on the writer, and serves so many connections through a new engine, with at
+/// most `lines` lines of each.
+///
+/// # Errors
+/// `Network` where the port could not be listened on, or a connection not be accepted; `Write` where the writer failed;
+/// `Memory` where a growth of memory was refused.
+pub fn serve<W: Sink>(
+    rt: &HostRuntime,
+    writer: &mut W,
+    port: u16,
+    connections: u32,
+    lines: u32,
+) -> Result<(), Fault>
+    ensures listens { Listens port (W.taken writer.old) (W.taken writer.new) result }
+    ensures write { W.has_failed writer.new ≡ (W.has_failed writer.old || is_write result) }
+    ensures flushed { (is_write result ≡ false) → W.is_flushed writer.old ≡ true → W.is_flushed writer.new ≡ true }
+{
+    let alloc = rt.alloc();
+    let Ok(mut engine) = Engine::new(alloc) else {
+        return Err(Fault::Memory);
+    };
+    let Ok(listener) = TcpListener::bind(rt, SocketAddrV4::new(Ipv4Addr::LOCALHOST, port)) else {
+        return Err(Fault::Network);
+    };
+    tell_port(alloc, writer, port)?;
+    match serve_on(alloc, &mut engine, &listener, connections, lines) {
+        Ok(()) => Ok(()),
+        Err(ServeFault::Network) => Err(Fault::Network),
+        Err(ServeFault::Memory) => Err(Fault::Memory),
+        Err(ServeFault::Failed) => unreachable!(),
+    }
+}
