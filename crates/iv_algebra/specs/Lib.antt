@@ -5,6 +5,7 @@ pub mod Counting
 pub mod Data
 pub mod Fits
 pub mod Groups
+pub mod Places
 pub mod Plans
 pub mod Predicates
 pub mod Rows

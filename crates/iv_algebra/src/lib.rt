@@ -10,6 +10,7 @@ mod group;
 mod join;
 mod laws;
 mod linear;
+mod place;
 mod plan;
 mod pred;
 mod rows;

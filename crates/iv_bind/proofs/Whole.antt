@@ -10,7 +10,7 @@ use Rattle.iv_query.specs.declared.tree.SetOp.{SetOp}
 use Rattle.iv_query.specs.declared.tree.SetOp.TheVariants as set
 use Rattle.iv_query.specs.Trees.{ColumnTree, ItemTree, ListTree, StarAt, ItemsOf, SelectTree, SelectOf, QueryTree, One, Combined}
 use Rattle.iv_algebra.specs.declared.plan.Agg.{Agg}
-use Rattle.iv_algebra.specs.Fits.{Heads, kind_at, kinds_eq, same_columns, are_there, agg_fits, if_fits, group_kinds, type_of}
+use Rattle.iv_algebra.specs.Fits.{Heads, kind_at, kinds_eq, are_there, agg_fits, if_fits, group_kinds, type_of}
 use Rattle.iv_bind.specs.declared.fault.BindWhy.TheVariants as why
 use Rattle.iv_bind.specs.Faults.{Fault, FaultAt, Gives, ◌>>=◌, if_some}
 use Rattle.iv_algebra.specs.Shapes.{Shape, Project, nodes, scans, shape_of}
@@ -100,28 +100,15 @@ select_keeps catalog (SelectOf p d l s joins filter group) a sound w h =
     let y = both_ok (filter_at x.0 filter) (λ from. output_of p d l from group) a x.2 in
     output_keeps catalog p d l y.0 group a (filter_keeps catalog x.0 filter y.0 (from_keeps catalog s joins x.0 sound x.1) w.3 y.1) w.0 y.2
 
-combined_type : (heads : Heads) (o : SetOp) (a b : Shape) (ks ls : List Kind) → type_of heads a ≡ Some ks → type_of heads b ≡ Some ls → same_columns ks ls ≡ true → type_of heads (combined_plan o a b) ≡ Some ks
-combined_type heads set.UnionAll a b ks ls t u e = (λ i. option_and_then (λ ms. option_and_then (λ ns. if_fits (same_columns ms ns) ms) (u i)) (t i)) ∙ (λ i. if_fits (e i) ks)
-combined_type heads set.Union a b ks ls t u e = (λ i. option_and_then (λ ms. option_and_then (λ ns. if_fits (same_columns ms ns) ms) (u i)) (t i)) ∙ (λ i. if_fits (e i) ks)
-combined_type heads set.Except a b ks ls t u e = (λ i. option_and_then (λ ms. option_and_then (λ ns. if_fits (same_columns ms ns) ms) (u i)) (t i)) ∙ (λ i. if_fits (e i) ks)
+combined_type : (heads : Heads) (o : SetOp) (a b : Shape) (ks ls : List Kind) → type_of heads a ≡ Some ks → type_of heads b ≡ Some ls → kinds_eq ks ls ≡ true → type_of heads (combined_plan o a b) ≡ Some ks
+combined_type heads set.UnionAll a b ks ls t u e = (λ i. option_and_then (λ ms. option_and_then (λ ns. if_fits (kinds_eq ms ns) ms) (u i)) (t i)) ∙ (λ i. if_fits (e i) ks)
+combined_type heads set.Union a b ks ls t u e = (λ i. option_and_then (λ ms. option_and_then (λ ns. if_fits (kinds_eq ms ns) ms) (u i)) (t i)) ∙ (λ i. if_fits (e i) ks)
+combined_type heads set.Except a b ks ls t u e = (λ i. option_and_then (λ ms. option_and_then (λ ns. if_fits (kinds_eq ms ns) ms) (u i)) (t i)) ∙ (λ i. if_fits (e i) ks)
 
 combined_scans : (o : SetOp) (a b : Shape) → scans (combined_plan o a b) ≡ scans a ++ scans b
 combined_scans set.UnionAll a b = refl
 combined_scans set.Union a b = refl
 combined_scans set.Except a b = refl
-
-kinds_length : (cs : List Column) → length (kinds_of cs) ≡ length cs
-kinds_length [] = refl
-kinds_length (c ∷ cs) = ap suc (kinds_length cs)
-
-alike : (cs : List Column) (ls : List Kind) → is_schema cs ≡ true → kinds_eq (kinds_of cs) ls ≡ true → same_columns (kinds_of cs) ls ≡ true
-alike cs ls s e =
-    let a = and_parts (has_columns cs) (has_distinct_names cs) s in
-    let b = and_parts (is_wide cs) (list_all (λ c. is_name c.name) cs) a.0 in
-    let w = and_parts (nat_le 1 (length cs)) (nat_le (length cs) 16) b.0 in
-    let l : length cs ≤ 16 = leb-true (length cs) 16 w.1 in
-    let few : length (kinds_of cs) < 2 ^ 32 = omega (arith, l, kinds_length cs) in
-    and_whole (nat_lt (length (kinds_of cs)) (2 ^ 32)) (kinds_eq (kinds_of cs) ls) (lt-ltb (length (kinds_of cs)) (2 ^ 32) few) e
 
 query_keeps : (catalog : List Entry) (q : QueryTree) (a : Answer) → IsSound catalog → IsWellQuery q → query_at catalog q ≡ Ok a → IsSoundView catalog a
 unfolding query_at
@@ -138,7 +125,7 @@ query_keeps catalog (Combined q o s) a sound w h =
     let P : Answer → Type 0 = λ b. IsSoundView catalog b in
     subst P {x = combined o left right} e (record {
       schema = l.schema;
-      typed = λ heads g. combined_type heads o left.plan right.plan (kinds_of left.schema) (kinds_of right.schema) (l.typed heads g) (r.typed heads g) (alike left.schema (kinds_of right.schema) l.schema z.0);
+      typed = λ heads g. combined_type heads o left.plan right.plan (kinds_of left.schema) (kinds_of right.schema) (l.typed heads g) (r.typed heads g) z.0;
       scanned = λ n c. among_both (scans left.plan) (scans right.plan) left.needs right.needs l.scanned r.scanned n (subst (λ (ts : List ℕ). Contains ts n) (combined_scans o left.plan right.plan) c);
     })
 
