@@ -1,7 +1,9 @@
--- Where all sessions and subscriptions are closed, the machine's state is the one that it hangs up.
+-- Where all sessions and subscriptions are closed, the machine's state is the one that it hangs up, and all that was
+-- kept of the others still holds.
 use Rattle.std.proofs.Common.{◌≡◌, [], ap, subst, sym}
 use Rattle.iv_machine.specs.Machine.{hung}
 use Rattle.iv_machine.specs.State.{Frame, State}
+use Rattle.iv_engine.specs.Kept.{IsSound, Kept}
 use Rattle.iv_engine.specs.Seen.{Seen, IsBehind}
 
 abbrev closed : Frame → Frame
@@ -9,3 +11,25 @@ closed f = record f { sessions = []; subscriptions = [] }
 
 pub closed_behind : (s : State) (e new : Seen) → new ≡ record e { frame = closed e.frame } → IsBehind s e → IsBehind (hung s) new
 closed_behind s e new h b = subst (λ (v : Seen). IsBehind (hung s) v) (sym h) (record { frame = ap closed b.frame; rows = b.rows })
+
+abbrev pub without_sessions : Kept → Kept
+without_sessions e = record e { sessions = []; subscriptions = [] }
+
+pub all_closed : (e : Kept) → IsSound e → IsSound (without_sessions e)
+all_closed e h = record {
+  stored = record {
+    reached = record { unique = tt; given = tt };
+    roles = tt;
+    numbered = h.stored.numbered;
+    relations = h.stored.relations;
+    guards = h.stored.guards;
+    bags = h.stored.bags;
+    zsets = h.stored.zsets;
+    positive = h.stored.positive;
+    kinds = h.stored.kinds;
+    small = h.stored.small;
+    shows = tt;
+  };
+  served = tt;
+  within = tt;
+}

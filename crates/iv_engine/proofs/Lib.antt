@@ -1,6 +1,7 @@
 mod Tables
 mod Showing
 mod Sound
+mod Unmoved
 mod Stepping
 mod Telling
 mod Lines
@@ -12,10 +13,22 @@ mod Bagging
 mod Checking
 mod Gathering
 mod Settling
+pub mod Scanning
+mod Adding
+mod Viewing
+mod Differing
+mod Reaching
 mod Running
 mod Ending
 mod Seeing
 mod Passing
 mod Listing
+mod Turned
 mod Guarding
+mod Owning
+mod Closed
+mod Creating
+mod Holding
 mod Hanging
+mod Needing
+mod Presenting

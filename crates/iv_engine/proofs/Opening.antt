@@ -1,67 +1,25 @@
 -- A new subscription.
-use Rattle.std.proofs.Common.{◌≡◌, ℕ, ◌+◌, ◌<◌, ◌^◌, Bool, true, false, cond, not, ◌||◌, List, [], ◌∷◌, ◌++◌, length, None, Some, refl, ap, subst, ◌∙◌}
-use Rattle.std.specs.Prelude.{◌==◌, count_by, option_map, is_some, flat_map, nat_le, nat_lt}
+use Rattle.std.proofs.Common.{◌≡◌, ℕ, ◌+◌, Bool, true, false, cond, not, ◌||◌, List, [], ◌∷◌, ◌++◌, append-nil, None, Some, refl, ap, subst, ◌∙◌}
+use Rattle.std.specs.Prelude.{◌==◌, is_some, flat_map, nat_lt}
 use Rattle.std.specs.List.{AllByRecursion, list_any}
-use Rattle.std.proofs.Common.{append-nil}
 use Rattle.iv_algebra.specs.Plans.{Lists}
 use Rattle.iv_bind.specs.Faults.{if_some}
-use Rattle.iv_bind.specs.Catalogs.{named}
-use Rattle.iv_access.specs.Privileges.{has}
 use Rattle.iv_access.specs.Rights.{Name}
-use Rattle.iv_access.specs.declared.privilege.Privilege.TheVariants.{Select}
 use Rattle.iv_machine.specs.Act as machine
 use Rattle.iv_machine.specs.Act.{subscribe}
-use Rattle.iv_machine.specs.Refusing.{refusal, frame_refusal, rows_refusal, or_else, test, full, missing}
-use Rattle.iv_machine.specs.State.{State, Subscription, actor, is_open, missing_for, name_of, rel_of, session_of, subscription_of, shown, view_of}
+use Rattle.iv_machine.specs.Refusing.{refusal, rows_refusal, or_else, test}
+use Rattle.iv_machine.specs.State.{Subscription, actor, is_within, is_within_for, subscription_of, shown, view_of}
 use Rattle.iv_machine.specs.Changing.{after, insert_subscription}
 use Rattle.iv_machine.specs.Machine.{changes, line_for, line_of as machine_line, ending, settled, difference}
 use Rattle.iv_machine.specs.Reached.{IsReached}
 use Rattle.iv_machine.proofs.Reached.{after_reached, next_is_new}
 use Rattle.iv_engine.specs.Answering.{sent}
-use Rattle.iv_engine.specs.Kept.{Kept, IsOpen, IsSound, IsStored, at, frame_of, may_read, shown_rows}
+use Rattle.iv_engine.specs.Kept.{Kept, IsOpen, IsSound, IsWithin, at, frame_of, may_read, shown_rows}
+use Rattle.iv_engine.specs.Openable.{IsOpenable}
 use Rattle.iv_engine.specs.Stands.{Stands}
-use Rattle.iv_engine.proofs.Showing.{difference_none, missing_is, shown_is, view_fits}
+use Rattle.iv_engine.proofs.Showing.{difference_none, shown_is}
 use Rattle.iv_engine.proofs.Sound.{all_map, all_zip}
 use Rattle.iv_engine.proofs.Stepping.{IsShown, each_shown, no_lines, none_ends, none_settled}
-use Rattle.iv_engine.proofs.Telling.{acts}
-
--- ---- the tests
-
-missing_by : (e : Kept) (b : Bool) (k : ℕ) (name : Name) → name_of (frame_of e).catalog k ≡ name → missing (frame_of e) (cond b None (Some (Select, k))) ≡ test (not b) (machine.missing_privilege Select name)
-missing_by e true k name h = refl
-missing_by e false k name h = ap (λ x. Some (machine.missing_privilege Select x)) h
-
-full_by : (a b : Bool) → (a || b) ≡ true → or_else (test a machine.too_many) (or_else (test b machine.too_many) None) ≡ Some machine.too_many
-full_by true b h = refl
-full_by false true h = refl
-full_by false false h = cc
-
-free_by : (a b : Bool) → (a || b) ≡ false → or_else (test a machine.too_many) (or_else (test b machine.too_many) None) ≡ None
-free_by true b h = cc
-free_by false true h = cc
-free_by false false h = refl
-
--- where the relation is known
-module _ (e : Kept) (n a k : ℕ) (name : Name) (h : IsStored e) (o : Some a ≡ option_map (λ s. s.role) (session_of e.sessions n)) (there : is_some (named (frame_of e).catalog name) ≡ true) (number : rel_of (frame_of e).catalog name ≡ k) (low : k < length e.columns) (named' : name_of (frame_of e).catalog k ≡ name) where
-  subscribe_tests : frame_refusal (frame_of e) n (subscribe name) ≡ or_else (test (not (has e.known.rights a Select k)) (machine.missing_privilege Select name))
-      (or_else (full 16 (count_by (λ s. n == s.session) e.subscriptions)) (or_else (full (2 ^ 63) (e.last + 1)) None))
-  subscribe_tests =
-      acts e n a (subscribe name) o
-      ∙ (λ i. or_else (test (not (there i)) machine.unknown_relation) (or_else (missing (frame_of e) (missing_for (frame_of e) a (number i))) (or_else (full 16 (count_by (λ s. n == s.session) e.subscriptions)) (or_else (full (2 ^ 63) (e.last + 1)) None))))
-      ∙ ap (λ p. or_else (missing (frame_of e) p) (or_else (full 16 (count_by (λ s. n == s.session) e.subscriptions)) (or_else (full (2 ^ 63) (e.last + 1)) None))) (missing_is e a k h low)
-      ∙ ap (λ x. or_else x (or_else (full 16 (count_by (λ s. n == s.session) e.subscriptions)) (or_else (full (2 ^ 63) (e.last + 1)) None))) (missing_by e (has e.known.rights a Select k) k name named')
-
-  pub lacks : has e.known.rights a Select k ≡ false → frame_refusal (frame_of e) n (subscribe name) ≡ Some (machine.missing_privilege Select name)
-  lacks f = subscribe_tests ∙ ap (λ b. or_else (test (not b) (machine.missing_privilege Select name)) (or_else (full 16 (count_by (λ s. n == s.session) e.subscriptions)) (or_else (full (2 ^ 63) (e.last + 1)) None))) f
-
-  reading : has e.known.rights a Select k ≡ true → frame_refusal (frame_of e) n (subscribe name) ≡ or_else (full 16 (count_by (λ s. n == s.session) e.subscriptions)) (or_else (full (2 ^ 63) (e.last + 1)) None)
-  reading t = subscribe_tests ∙ ap (λ b. or_else (test (not b) (machine.missing_privilege Select name)) (or_else (full 16 (count_by (λ s. n == s.session) e.subscriptions)) (or_else (full (2 ^ 63) (e.last + 1)) None))) t
-
-  pub is_full : has e.known.rights a Select k ≡ true → (nat_le 16 (count_by (λ s. n == s.session) e.subscriptions) || nat_le (2 ^ 63) (e.last + 1)) ≡ true → frame_refusal (frame_of e) n (subscribe name) ≡ Some machine.too_many
-  is_full t f = reading t ∙ full_by (nat_le 16 (count_by (λ s. n == s.session) e.subscriptions)) (nat_le (2 ^ 63) (e.last + 1)) f
-
-  pub is_free : has e.known.rights a Select k ≡ true → (nat_le 16 (count_by (λ s. n == s.session) e.subscriptions) || nat_le (2 ^ 63) (e.last + 1)) ≡ false → frame_refusal (frame_of e) n (subscribe name) ≡ None
-  is_free t f = reading t ∙ free_by (nat_le 16 (count_by (λ s. n == s.session) e.subscriptions)) (nat_le (2 ^ 63) (e.last + 1)) f
 
 -- ---- what is kept
 
@@ -100,15 +58,27 @@ not_found k (f ∷ es) n = by (k == f.number) (not_found k es) n
     by true go h = cc
     by false go h = go h
 
-module _ (e : Kept) (n k : ℕ) (name : Name) (h : IsSound e) (number : rel_of (frame_of e).catalog name ≡ k) (low : k < length e.columns) (open' : is_open (frame_of e) n ≡ true) (reads : has e.known.rights (actor (frame_of e) n) Select k ≡ true) where
+abbrev pub asked : Kept → ℕ → ℕ → Subscription
+asked e n k = record { session = n; number = e.last + 1; rel = k }
+
+-- the test that looks at rows
+module _ (e : Kept) (n k : ℕ) (name : Name) (x : IsOpenable e n name k) (T : Lists) where
+  rows_test : refusal (at e T) n (subscribe name) ≡ test (not (is_within (at e T) (asked e n k))) machine.limit
+  rows_test = (λ i. or_else (x.passed i) (rows_refusal (at e T) n (subscribe name)))
+      ∙ ap (λ j. test (not (is_within_for (at e T) (actor (frame_of e) n) j)) machine.limit) x.number
+
+  pub decided : is_within (at e T) (asked e n k) ≡ true → refusal (at e T) n (subscribe name) ≡ None
+  decided w = rows_test ∙ ap (λ b. test (not b) machine.limit) w
+
+module _ (e : Kept) (n k : ℕ) (name : Name) (h : IsSound e) (x : IsOpenable e n name k) (fits : IsWithin e (asked e n k)) where
   abbrev s : Subscription
-  s = record { session = n; number = e.last + 1; rel = k }
+  s = asked e n k
 
   abbrev new : Kept
   new = opened e s (e.last + 1)
 
   reached : IsReached (frame_of new)
-  reached = subst (λ j. IsReached (frame_of (opened e (record { session = n; number = e.last + 1; rel = j }) (e.last + 1)))) number
+  reached = subst (λ j. IsReached (frame_of (opened e (asked e n j) (e.last + 1)))) x.number
       (let r = after_reached (frame_of e) n (subscribe name) h.stored.reached in record { unique = r.unique; given = r.given })
 
   pub opened_sound : IsSound new
@@ -116,23 +86,26 @@ module _ (e : Kept) (n k : ℕ) (name : Name) (h : IsSound e) (number : rel_of (
     stored = record {
       reached = reached;
       roles = h.stored.roles;
+      numbered = h.stored.numbered;
       relations = h.stored.relations;
       guards = h.stored.guards;
       bags = h.stored.bags;
-      tables = h.stored.tables;
       zsets = h.stored.zsets;
+      positive = h.stored.positive;
+      kinds = h.stored.kinds;
       small = h.stored.small;
-      shows = all_inserted (IsOpen new) s e.subscriptions (record { session = open'; known = low }) (all_map (IsOpen e) (IsOpen new) e.subscriptions (λ x o. record { session = o.session; known = o.known }) h.stored.shows);
+      shows = all_inserted (IsOpen new) s e.subscriptions (record { session = x.opened; known = x.below }) (all_map (IsOpen e) (IsOpen new) e.subscriptions (λ y o. record { session = o.session; known = o.known }) h.stored.shows);
     };
-    served = all_inserted (λ x. may_read new x ≡ true) s e.subscriptions reads (all_map (λ x. may_read e x ≡ true) (λ x. may_read new x ≡ true) e.subscriptions (λ x r. r) h.served);
+    served = all_inserted (λ y. may_read new y ≡ true) s e.subscriptions (ap (λ o. not (is_some o)) x.reads) (all_map (λ y. may_read e y ≡ true) (λ y. may_read new y ≡ true) e.subscriptions (λ y r. r) h.served);
+    within = all_inserted (IsWithin new) s e.subscriptions fits (all_map (IsWithin e) (IsWithin new) e.subscriptions (λ y w. w) h.within);
   }
 
   module _ (T : Lists) (stands : Stands T e.bags) where
     after_is : after (at e T) n (subscribe name) ≡ at new T
-    after_is = ap (λ j. at (opened e (record { session = n; number = e.last + 1; rel = j }) (e.last + 1)) T) number
+    after_is = ap (λ j. at (opened e (asked e n j) (e.last + 1)) T) x.number
 
     abbrev P : Subscription → Type 0
-    P x = IsShown new x × (ending (at new T) x ≡ None)
+    P y = IsShown new y × (ending (at new T) y ≡ None)
 
     before : shown (at e T) (e.last + 1) ≡ []
     before = ap (λ o. if_some o [] (view_of (at e T))) (not_found (e.last + 1) e.subscriptions (next_is_new e.last e.subscriptions h.stored.reached.given))
@@ -140,22 +113,17 @@ module _ (e : Kept) (n k : ℕ) (name : Name) (h : IsSound e) (number : rel_of (
     pub opened_left : settled (subscribe name) (after (at e T) n (subscribe name)) ≡ at new T
     opened_left = ap (settled (subscribe name)) after_is ∙ ap (λ ss. at (record new { subscriptions = ss }) T) (none_settled new T opened_sound stands)
 
-    pub decided : frame_refusal (frame_of e) n (subscribe name) ≡ None → refusal (at e T) n (subscribe name) ≡ None
-    decided p = (λ i. or_else (p i) (rows_refusal (at e T) n (subscribe name)))
-        ∙ ap (λ j. test (not (Rattle.iv_machine.specs.State.is_within_for (at e T) (actor (frame_of e) n) j)) machine.limit) number
-        ∙ ap (λ b. test (not b) machine.limit) (view_fits e T h.stored stands (actor (frame_of e) n) k)
-
     -- what was open before gets no line
-    old_line : (x : Subscription) → IsShown e x → IsShown new x → ending (at new T) x ≡ None → line_for (at e T) (at new T) (ending (at new T)) x ≡ []
-    old_line x a b c = (λ i. machine_line (c i) x (difference (shown_is e T x a.found i) (shown_is new T x b.found i)))
-        ∙ ap (machine_line None x) (difference_none (shown_rows e T x))
+    old_line : (y : Subscription) → IsShown e y → IsShown new y → ending (at new T) y ≡ None → line_for (at e T) (at new T) (ending (at new T)) y ≡ []
+    old_line y a b c = (λ i. machine_line (c i) y (difference (shown_is e T y a.found i) (shown_is new T y b.found i)))
+        ∙ ap (machine_line None y) (difference_none (shown_rows e T y))
 
     new_shown : P s × AllByRecursion P e.subscriptions
     new_shown = all_uninserted P s e.subscriptions
-        (all_zip (IsShown new) (λ x. ending (at new T) x ≡ None) P new.subscriptions (λ x a b. (a, b)) (each_shown new opened_sound.stored) (none_ends new T opened_sound stands))
+        (all_zip (IsShown new) (λ y. ending (at new T) y ≡ None) P new.subscriptions (λ y a b. (a, b)) (each_shown new opened_sound.stored) (none_ends new T opened_sound stands))
 
-    old_lines : AllByRecursion (λ x. line_for (at e T) (at new T) (ending (at new T)) x ≡ []) e.subscriptions
-    old_lines = all_zip (IsShown e) P (λ x. line_for (at e T) (at new T) (ending (at new T)) x ≡ []) e.subscriptions (λ x a b. old_line x a b.0 b.1) (each_shown e h.stored) new_shown.1
+    old_lines : AllByRecursion (λ y. line_for (at e T) (at new T) (ending (at new T)) y ≡ []) e.subscriptions
+    old_lines = all_zip (IsShown e) P (λ y. line_for (at e T) (at new T) (ending (at new T)) y ≡ []) e.subscriptions (λ y a b. old_line y a b.0 b.1) (each_shown e h.stored) new_shown.1
 
     -- and the new one its rows
     new_line : line_for (at e T) (at new T) (ending (at new T)) s ≡ machine_line None s (difference [] (shown_rows e T s))

@@ -1,5 +1,5 @@
 -- A step from its answer, and the lines of a list of commands one by one.
-use Rattle.std.proofs.Common.{◌≡◌, ℕ, Bool, true, false, ◌&&◌, List, [], ◌∷◌, ◌++◌, map, length, Option, None, Some, refl, sym, ap, ◌∙◌, append_assoc, arith, subst}
+use Rattle.std.proofs.Common.{◌≡◌, ℕ, Bool, true, false, ◌&&◌, List, [], ◌∷◌, ◌++◌, map, length, refl, sym, ap, ◌∙◌, append_assoc, arith, subst}
 use Rattle.std.specs.List.{list_all}
 use Rattle.iv_rows.specs.Columns.{Column, has_columns, has_distinct_names}
 use Rattle.iv_rows.specs.Names.{is_name}
@@ -13,12 +13,7 @@ use Rattle.iv_engine.specs.Answering.{IsAnswer, IsKept, IsLeft, said, seen}
 use Rattle.iv_engine.specs.Kept.{Kept, at, frame_of}
 use Rattle.iv_engine.specs.Seen.{IsBehind}
 use Rattle.iv_engine.specs.Stands.{Stands}
-use Rattle.iv_machine.specs.Held.{closed, closed_in}
-use Rattle.iv_machine.specs.Refusing.{refusal}
-use Rattle.iv_engine.specs.Views.{act_of, command_of, reply_of, line_of}
-use Rattle.iv_engine.specs.declared.command.Act.{Act}
-use Rattle.iv_engine.specs.declared.command.Act.TheVariants.{Begin, CreateRole, CreateTable, Grant, Revoke, RowSecurity, CreatePolicy, DropPolicy, Write, Subscribe}
-use Rattle.iv_engine.specs.declared.command.Command.{Command}
+use Rattle.iv_engine.specs.Views.{reply_of, line_of}
 use Rattle.iv_engine.specs.declared.answer.Answer.{Answer}
 use Rattle.iv_engine.specs.declared.answer.Answer.TheVariants.{Refused, Accepted}
 
@@ -74,22 +69,3 @@ no_items (x ∷ xs) h = absurd (omega arith)
 pub nothing_more : {A : Type 0} (xs : List A) → xs ≡ xs ++ []
 nothing_more [] = refl
 nothing_more (x ∷ xs) = ap (λ ys. x ∷ ys) (nothing_more xs)
-
--- ---- no command of the code closes a subscription
-
-nothing_closed : (s : State) (a : Act) (n : ℕ) (o : Option machine.Refusal) → closed_in s (record { session = n; act = act_of a }) o ≡ []
-nothing_closed s (Begin role) n None = refl
-nothing_closed s (CreateRole name) n None = refl
-nothing_closed s (CreateTable name owner columns) n None = refl
-nothing_closed s (Grant rel privileges grantee) n None = refl
-nothing_closed s (Revoke rel privileges grantee) n None = refl
-nothing_closed s (RowSecurity rel enable force) n None = refl
-nothing_closed s (CreatePolicy policy) n None = refl
-nothing_closed s (DropPolicy rel name) n None = refl
-nothing_closed s (Write entries) n None = refl
-nothing_closed s (Subscribe rel) n None = refl
-nothing_closed s a n (Some r) = refl
-
-pub none_closed : (s : State) (cs : List Command) → closed s (map command_of cs) ≡ []
-none_closed s [] = refl
-none_closed s (c ∷ cs) = (λ i. nothing_closed s c.act c.session (refusal s c.session (act_of c.act)) i ++ none_closed (step s (command_of c)).state cs i)

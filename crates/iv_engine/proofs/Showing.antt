@@ -1,29 +1,31 @@
 -- What subscriptions show, and which of them end.
-use Rattle.std.proofs.Common.{◌≡◌, ℕ, ◌<◌, ◌≤◌, Bool, true, false, cond, not, ◌||◌, List, [], ◌∷◌, ◌++◌, length, map, pos, Option, None, Some, refl, ap, ◌∙◌, arith}
+use Rattle.std.proofs.Common.{◌≡◌, ℕ, ◌≤◌, Bool, true, false, cond, not, ◌||◌, List, [], ◌∷◌, ◌++◌, length, map, pos, Option, None, Some, refl, sym, ap, ◌∙◌, arith}
 use Rattle.std.proofs.lemmas.Bool.Decides.{nat_tests}
 use Rattle.std.proofs.lemmas.Int.{ints}
-use Rattle.std.specs.Prelude.{◌==◌, ◌-ℤ◌, is_some, filter, nat_le}
+use Rattle.std.specs.Prelude.{◌==◌, ◌-ℤ◌, is_some, filter, nat_le, slice_get}
 use Rattle.std.specs.Ordering.{int_eq}
 use Rattle.std.specs.List.{AllByRecursion, list_any}
 use Rattle.iv_rows.specs.Cell.{Cell}
 use Rattle.iv_zset.specs.Limits.{copies, within}
+use Rattle.iv_zset.proofs.Behind.{counts_behind}
 use Rattle.iv_zset.proofs.Limits.{within_is}
+use Rattle.iv_zset.specs.Support.{list_behind}
 use Rattle.iv_algebra.specs.Plans.{Lists}
 use Rattle.iv_algebra.specs.Evaluation.{eval, plan_within}
 use Rattle.iv_bind.specs.Faults.{if_some}
-use Rattle.iv_access.specs.declared.privilege.Privilege.{Privilege}
-use Rattle.iv_access.specs.declared.privilege.Privilege.TheVariants.{Select}
-use Rattle.iv_access.specs.Privileges.{first_missing}
+use Rattle.iv_access.specs.Rights.{Rights}
+use Rattle.iv_access.specs.Privileges.{role_name}
 use Rattle.iv_access.specs.Policies.{allowed, may_see}
-use Rattle.iv_machine.specs.State.{Subscription, actor, subscription_of, view_for, view_of, is_within_for, missing_for, shown}
+use Rattle.iv_machine.specs.State.{Frame, Subscription, actor, plan_at, subscription_of, view_for, view_of, is_within, is_within_for, missing_for, shown}
 use Rattle.iv_machine.specs.Machine.{difference, is_change, weighted, rising_rows, first_cause, ending}
 use Rattle.iv_machine.specs.Reached.{AreUnique}
 use Rattle.iv_machine.specs.declared.Cause.{Cause}
 use Rattle.iv_machine.specs.declared.Cause.TheVariants as cause
-use Rattle.iv_engine.specs.Kept.{Kept, IsStored, frame_of, at, cap, may_read, shown_rows}
+use Rattle.iv_engine.specs.Answering.{IsShownBy}
+use Rattle.iv_engine.specs.Kept.{Kept, IsStored, IsWithin, frame_of, at, cap, may_read, shown_rows, table_rows}
 use Rattle.iv_engine.specs.Stands.{Stands, bag_at}
-use Rattle.iv_engine.proofs.Seeing.{filter_within}
-use Rattle.iv_engine.proofs.Tables.{plan_is, needs_are}
+use Rattle.iv_engine.proofs.Seeing.{filter_within, rows_same}
+use Rattle.iv_engine.proofs.Tables.{IsATable, plan_is}
 
 nat_at_most : (m n : ℕ) → m ≤ n → nat_le m n ≡ true
 nat_at_most m n h = grind (arith, nat_tests)
@@ -31,44 +33,65 @@ nat_at_most m n h = grind (arith, nat_tests)
 -- ---- a view is the rows of its table that its reader sees
 
 module _ (e : Kept) (T : Lists) where
-  pub view_is : (role rel : ℕ) → view_for (at e T) role rel ≡ filter (may_see e.known.rights role rel) (T rel)
-  view_is role rel = ap (λ p. eval p (allowed e.known.rights role T)) (plan_is 0 e.known.relations e.columns rel)
+  pub view_is : (role rel : ℕ) → IsATable e.catalog rel → view_for (at e T) role rel ≡ filter (may_see e.known.rights role rel) (T rel)
+  view_is role rel t = ap (λ p. eval p (allowed e.known.rights role T)) (plan_is e.catalog rel t)
 
-  pub within_for : (role rel : ℕ) → is_within_for (at e T) role rel ≡ within cap (filter (may_see e.known.rights role rel) (T rel))
-  within_for role rel = ap (λ p. plan_within cap p (allowed e.known.rights role T)) (plan_is 0 e.known.relations e.columns rel)
+  pub within_for : (role rel : ℕ) → IsATable e.catalog rel → is_within_for (at e T) role rel ≡ within cap (filter (may_see e.known.rights role rel) (T rel))
+  within_for role rel t = ap (λ p. plan_within cap p (allowed e.known.rights role T)) (plan_is e.catalog rel t)
 
   pub shown_is : (s : Subscription) → subscription_of e.subscriptions s.number ≡ Some s → shown (at e T) s.number ≡ shown_rows e T s
-  shown_is s found = ap (λ o. if_some o [] (view_of (at e T))) found ∙ view_is (actor (frame_of e) s.session) s.rel
+  shown_is s found = ap (λ o. if_some o [] (view_of (at e T))) found
+
+  pub rows_are : (s : Subscription) → IsATable e.catalog s.rel → shown_rows e T s ≡ table_rows e T s
+  rows_are s t = view_is (actor (frame_of e) s.session) s.rel t
 
   -- and is within the limits where the table is
-  pub view_within : (role rel : ℕ) → within cap (T rel) ≡ true → is_within_for (at e T) role rel ≡ true
-  view_within role rel w = within_for role rel ∙ filter_within (may_see e.known.rights role rel) cap (T rel) w
+  pub view_within : (role rel : ℕ) → IsATable e.catalog rel → within cap (T rel) ≡ true → is_within_for (at e T) role rel ≡ true
+  view_within role rel t w = within_for role rel t ∙ filter_within (may_see e.known.rights role rel) cap (T rel) w
 
   module _ (sound : IsStored e) (stands : Stands T e.bags) where
     pub table_fits : (t : ℕ) → within cap (T t) ≡ true
     table_fits t = within_is cap (bag_at e.bags t) (T t) (sound.zsets t) (stands t) ∙ nat_at_most (length (bag_at e.bags t)) cap (sound.small t)
 
-    pub view_fits : (role rel : ℕ) → is_within_for (at e T) role rel ≡ true
-    view_fits role rel = view_within role rel (table_fits rel)
+    pub view_fits : (role rel : ℕ) → IsATable e.catalog rel → is_within_for (at e T) role rel ≡ true
+    view_fits role rel t = view_within role rel t (table_fits rel)
+
+-- what a role sees depends on its name and on the guards alone
+pub view_same : (f : Frame) (q : Rights) (role rel : ℕ) (T : Lists) → role_name q role ≡ role_name f.rights role → ((t : ℕ) → slice_get q.guards t ≡ slice_get f.rights.guards t)
+    → view_for (record { frame = record f { rights = q }; rows = T }) role rel ≡ view_for (record { frame = f; rows = T }) role rel
+view_same f q role rel T name guards = λ i. eval (plan_at f.catalog rel) (λ t. rows_same q f.rights role t name (guards t) (T t) i)
+
+-- and so do the limits of it
+pub limits_same : (f : Frame) (q : Rights) (role rel : ℕ) (T : Lists) → role_name q role ≡ role_name f.rights role → ((t : ℕ) → slice_get q.guards t ≡ slice_get f.rights.guards t)
+    → is_within_for (record { frame = record f { rights = q }; rows = T }) role rel ≡ is_within_for (record { frame = f; rows = T }) role rel
+limits_same f q role rel T name guards = λ i. plan_within f.cap (plan_at f.catalog rel) (λ t. rows_same q f.rights role t name (guards t) (T t) i)
+
+-- ---- lists behind the bags
+
+abbrev pub lists_behind : Kept → Lists
+lists_behind e = λ t. list_behind (bag_at e.bags t)
+
+pub stands_behind : (e : Kept) → IsStored e → Stands (lists_behind e) e.bags
+stands_behind e h = λ t. counts_behind (bag_at e.bags t) (h.positive t)
+
+-- what is within the limits is not said to be beyond them
+pub is_shown : (e : Kept) (s : Subscription) (minus : Bool) → IsStored e → IsWithin e s → IsShownBy e s minus None → ⊥
+is_shown e s minus h within none = let T = lists_behind e in let stands = stands_behind e h in
+    let d : false ≡ true = sym (none T stands) ∙ within T stands in cc
 
 -- ---- which subscriptions end
-
-pub missing_is : (e : Kept) (role rel : ℕ) → IsStored e → rel < length e.columns → missing_for (frame_of e) role rel ≡ first_missing e.known.rights role ((Select, rel) ∷ [])
-missing_is e role rel sound l = ap (λ ns. first_missing e.known.rights role (map (λ r. (Select, r)) ns)) (needs_are 0 e.known.relations e.columns rel sound.relations (omega arith) (omega arith))
 
 -- the cause of an end, where the reader may select or not
 abbrev pub cause_for : Bool → Option Cause
 cause_for true = None
 cause_for false = Some cause.Privilege
 
-ends_by : (b w : Bool) (p : Privilege × ℕ) → w ≡ true → first_cause (is_some (cond b None (Some p))) w ≡ cause_for b
-ends_by true w p h = ap (first_cause false) h
-ends_by false w p h = refl
+ends_by : (b w : Bool) → w ≡ true → first_cause b w ≡ cause_for (not b)
+ends_by true w h = refl
+ends_by false w h = ap (first_cause false) h
 
-pub ending_is : (e : Kept) (T : Lists) → IsStored e → Stands T e.bags → (s : Subscription) → s.rel < length e.columns → ending (at e T) s ≡ cause_for (may_read e s)
-ending_is e T sound stands s l = let role = actor (frame_of e) s.session in
-    ap (λ o. first_cause (is_some o) (is_within_for (at e T) role s.rel)) (missing_is e role s.rel sound l)
-    ∙ ends_by (may_read e s) (is_within_for (at e T) role s.rel) (Select, s.rel) (view_fits e T sound stands role s.rel)
+pub ending_is : (e : Kept) (T : Lists) (s : Subscription) → is_within (at e T) s ≡ true → ending (at e T) s ≡ cause_for (may_read e s)
+ending_is e T s w = ends_by (is_some (missing_for (frame_of e) (actor (frame_of e) s.session) s.rel)) (is_within (at e T) s) w
 
 -- ---- nothing changes
 

@@ -1,25 +1,36 @@
 -- What every stored state has is kept by requests that show nothing.
-use Rattle.std.proofs.Common.{◌≡◌, ℕ, zero, suc, ◌+◌, ◌<◌, ◌≤◌, Bool, true, false, cond, ◌&&◌, ◌||◌, List, [], ◌∷◌, ◌++◌, length, length-append, Option, None, Some, refl, sym, ap, subst, ◌∙◌, arith}
-use Rattle.std.specs.Prelude.{◌==◌, filter, is_some, option_map, slice_get, unwrap_or}
+use Rattle.std.proofs.Common.{◌≡◌, ℕ, zero, suc, ◌+◌, ◌<◌, ◌≤◌, Bool, true, false, cond, not, ◌&&◌, ◌||◌, List, [], ◌∷◌, ◌++◌, length, length-append, Option, None, Some, refl, sym, ap, subst, ◌∙◌, arith}
+use Rattle.std.specs.Prelude.{◌==◌, Result, Ok, Err, is_some, option_map, unwrap_or}
 use Rattle.std.specs.List.{AllByRecursion, IsDistinct, list_any}
-use Rattle.iv_zset.specs.Weights.{Weighed, IsZSet}
+use Rattle.std.proofs.lemmas.Int.{ints}
+use Rattle.std.proofs.lemmas.List.{map-append}
+use Rattle.iv_zset.specs.Weights.{Weighed, IsBag, IsZSet, weight_of}
 use Rattle.iv_rows.specs.Columns.{Column, kinds_of}
 use Rattle.iv_algebra.specs.Plans.{Lists}
-use Rattle.iv_access.specs.Policies.{may_see}
+use Rattle.iv_algebra.specs.Shapes.{Scan}
+use Rattle.iv_bind.specs.BoundTexts.{FaultAt, TextFault, bound_query}
+use Rattle.iv_bind.specs.Catalogs.{Answer, Entry, Held, Table, View, extended, plan_of, reached_by, schema_of, table_in}
+use Rattle.iv_bind.specs.Faults.{if_some}
 use Rattle.iv_access.specs.declared.privilege.Privilege.{Privilege}
 use Rattle.iv_access.specs.declared.privilege.Privilege.TheVariants.{Select}
 use Rattle.iv_access.specs.Known.{Relation, known_at_start, role_number, grantee_of}
+use Rattle.iv_access.specs.Policies.{allowed}
 use Rattle.iv_access.specs.Rights.{Grant, Grantee, Role, Guard, Name, Rights}
 use Rattle.iv_access.specs.Privileges.{has, is_admin, is_for, privilege_eq}
-use Rattle.iv_access.specs.Changing.{grant_eq, granted, for_each, with_grants, with_relation, with_role, all_privileges}
-use Rattle.iv_machine.specs.State.{Session, Subscription, actor, session_of, rel_of}
-use Rattle.iv_machine.specs.Act.{begin, create_role, create_table, grant}
-use Rattle.iv_machine.specs.Refusing.{frame_refusal}
+use Rattle.iv_access.specs.Changing.{grant_eq, granted, for_each, with_relation, all_privileges}
+use Rattle.iv_machine.specs.State.{Session, Subscription, actor, is_open, rel_of, session_of}
+use Rattle.iv_machine.specs.Act.{begin, create_role, create_table, create_view, grant, no_session}
+use Rattle.iv_machine.specs.Changing.{view_held, with_held}
+use Rattle.iv_machine.specs.Refusing.{administrator, bad_text, frame_refusal, free_relation, known_role, role_refusal, test}
 use Rattle.iv_machine.proofs.Placing.{roles_after}
-use Rattle.iv_engine.specs.Kept.{Kept, IsOpen, IsSound, frame_of, may_read, shown_rows}
+use Rattle.iv_machine.proofs.Serving.{or_none}
+use Rattle.iv_engine.specs.Kept.{HoldsKinds, IsOpen, IsSound, IsWithin, Kept, frame_of, may_read, relation_in, shown_rows}
 use Rattle.iv_engine.specs.Next.{kept_after}
-use Rattle.iv_engine.specs.Stands.{bag_at}
+use Rattle.iv_engine.specs.Stands.{Stands, bag_at}
+use Rattle.iv_engine.proofs.Holding.{still_holds}
 use Rattle.iv_engine.proofs.Seeing.{for_same, rows_same}
+use Rattle.iv_engine.proofs.Tables.{known_at, numbered_push}
+use Rattle.iv_engine.proofs.Unmoved.{IsUnmoved, other_sessions, sees_before, still_numbered, still_read, still_shown, still_there, still_within}
 
 -- ---- lists
 
@@ -38,7 +49,10 @@ all_push P (y ∷ ys) x a p = (a.0, all_push P ys x a.1 p)
 longer : {X Y : Type 0} (xs : List X) (ys : List Y) (x : X) (y : Y) → length xs ≡ length ys → length (xs ++ x ∷ []) ≡ length (ys ++ y ∷ [])
 longer xs ys x y h = length-append xs (x ∷ []) ∙ ap (λ k. k + 1) h ∙ sym (length-append ys (y ∷ []))
 
--- ---- one more table, without rows
+from_zero : (n : ℕ) → n ≡ 0 + n
+from_zero n = omega arith
+
+-- ---- one more bag, without rows
 
 pub pushed_at : (bags : List Weighed) (t : ℕ) → bag_at (bags ++ [] ∷ []) t ≡ bag_at bags t
 pushed_at [] zero = refl
@@ -47,9 +61,6 @@ pushed_at (x ∷ bags) zero = refl
 pushed_at (x ∷ bags) (suc t) = pushed_at bags t
 
 -- ---- more rights
-
-gives : Rights → ℕ → Privilege → ℕ → Grant → Bool
-gives r role p rel g = rel == g.rel && (privilege_eq p g.privilege && is_for r role g.grantee)
 
 any_same : (r q : Rights) (role : ℕ) (p : Privilege) (rel : ℕ) (gs : List Grant)
     → list_any (λ g. rel == g.rel && (privilege_eq p g.privilege && is_for r role g.grantee)) gs ≡ list_any (λ g. rel == g.rel && (privilege_eq p g.privilege && is_for q role g.grantee)) gs
@@ -107,93 +118,6 @@ some_role : (o : Option Session) (a b : ℕ) → is_some o ≡ true → unwrap_o
 some_role None a b h = cc
 some_role (Some s) a b h = refl
 
--- ---- request by request
-
-module _ (e : Kept) (n : ℕ) (h : IsSound e) where
-  pub begin_sound : (role : Name) → frame_refusal (frame_of e) n (begin role) ≡ None → IsSound (kept_after e n (begin role))
-  begin_sound role passed =
-      let x : Session = record { number = n; role = role_number e.known.rights role } in
-      let same = λ (s : Subscription) (o : IsOpen e s). open_same e.sessions x s.session o.session in
-      record {
-        stored = record {
-          reached = record { unique = h.stored.reached.unique; given = h.stored.reached.given };
-          roles = roles_after (frame_of e) n (begin role) passed h.stored.roles;
-          relations = h.stored.relations;
-          guards = h.stored.guards;
-          bags = h.stored.bags;
-          tables = h.stored.tables;
-          zsets = h.stored.zsets;
-          small = h.stored.small;
-          shows = all_map (IsOpen e) (IsOpen (kept_after e n (begin role))) e.subscriptions (λ s o. record { session = ap (λ p. is_some p) (same s o) ∙ o.session; known = o.known }) h.stored.shows;
-        };
-        served = all_zip (IsOpen e) (λ s. may_read e s ≡ true) (λ s. may_read (kept_after e n (begin role)) s ≡ true) e.subscriptions
-            (λ s o r. ap (λ (p : Option Session). has e.known.rights (unwrap_or (option_map (λ y. y.role) p) (length e.known.rights.roles)) Select s.rel) (same s o) ∙ r) h.stored.shows h.served;
-      }
-
-  pub role_sound : (name : Name) → frame_refusal (frame_of e) n (create_role name) ≡ None → IsSound (kept_after e n (create_role name))
-  role_sound name passed = let q = with_role name e.known.rights in
-      record {
-        stored = record {
-          reached = record { unique = h.stored.reached.unique; given = h.stored.reached.given };
-          roles = roles_after (frame_of e) n (create_role name) passed h.stored.roles;
-          relations = h.stored.relations;
-          guards = h.stored.guards;
-          bags = h.stored.bags;
-          tables = h.stored.tables;
-          zsets = h.stored.zsets;
-          small = h.stored.small;
-          shows = all_map (IsOpen e) (IsOpen (kept_after e n (create_role name))) e.subscriptions (λ s o. record { session = o.session; known = o.known }) h.stored.shows;
-        };
-        served = all_zip (IsOpen e) (λ s. may_read e s ≡ true) (λ s. may_read (kept_after e n (create_role name)) s ≡ true) e.subscriptions
-            (λ s o r. ap (λ k. has q k Select s.rel) (some_role (session_of e.sessions s.session) (length q.roles) (length e.known.rights.roles) o.session)
-            ∙ has_same q e.known.rights (actor (frame_of e) s.session) Select s.rel refl ∙ r) h.stored.shows h.served;
-      }
-
-  pub table_sound : (name owner : Name) (columns : List Column) → IsSound (kept_after e n (create_table name owner columns))
-  table_sound name owner columns =
-      let q = with_relation (role_number e.known.rights owner) e.known.rights in
-      let c = kept_after e n (create_table name owner columns) in
-      let g : Guard = record { owner = role_number e.known.rights owner; enabled = false; forced = false; policies = [] } in
-      let r : Relation = record { name = name; kinds = Some (kinds_of columns) } in
-      record {
-        stored = record {
-          reached = record { unique = h.stored.reached.unique; given = h.stored.reached.given };
-          roles = h.stored.roles;
-          relations = longer e.known.relations e.columns r columns h.stored.relations;
-          guards = longer e.known.rights.guards e.columns g columns h.stored.guards;
-          bags = longer e.bags e.columns [] columns h.stored.bags;
-          tables = all_push (λ x. is_some x.kinds ≡ true) e.known.relations r h.stored.tables refl;
-          zsets = λ t. subst IsZSet (sym (pushed_at e.bags t)) (h.stored.zsets t);
-          small = λ t. subst (λ (z : Weighed). length z ≤ 65536) (sym (pushed_at e.bags t)) (h.stored.small t);
-          shows = all_map (IsOpen e) (IsOpen c) e.subscriptions (λ s o. record { session = o.session; known = let k = o.known in let l = length-append e.columns (columns ∷ []) in omega (arith, k, l) }) h.stored.shows;
-        };
-        served = all_map (λ s. may_read e s ≡ true) (λ s. may_read c s ≡ true) e.subscriptions
-            (λ s k. has_more e.known.rights q (actor (frame_of e) s.session) Select s.rel (length e.known.rights.guards) all_privileges (Role (role_number e.known.rights owner)) refl k) h.served;
-      }
-
-  pub grant_sound : (rel : Name) (ps : List Privilege) (to : Option Name) → IsSound (kept_after e n (grant rel ps to))
-  grant_sound rel ps to =
-      let k = rel_of (frame_of e).catalog rel in
-      let q = with_grants k ps (grantee_of e.known.rights to) e.known.rights in
-      let c = kept_after e n (grant rel ps to) in
-      record {
-        stored = record {
-          reached = record { unique = h.stored.reached.unique; given = h.stored.reached.given };
-          roles = h.stored.roles;
-          relations = h.stored.relations;
-          guards = h.stored.guards;
-          bags = h.stored.bags;
-          tables = h.stored.tables;
-          zsets = h.stored.zsets;
-          small = h.stored.small;
-          shows = all_map (IsOpen e) (IsOpen c) e.subscriptions (λ s o. record { session = o.session; known = o.known }) h.stored.shows;
-        };
-        served = all_map (λ s. may_read e s ≡ true) (λ s. may_read c s ≡ true) e.subscriptions
-            (λ s r. has_more e.known.rights q (actor (frame_of e) s.session) Select s.rel k ps (grantee_of e.known.rights to) refl r) h.served;
-      }
-
--- ---- what is shown stays the same
-
 -- the role of a session that is open is there
 role_below : (ss : List Session) (n k : ℕ) → AllByRecursion (λ s. s.role < k) ss → is_some (session_of ss n) ≡ true → unwrap_or (option_map (λ e. e.role) (session_of ss n)) k < k
 role_below [] n k a h = cc
@@ -203,61 +127,241 @@ role_below (s ∷ ss) n k a h = by (n == s.number) h (role_below ss n k a.1)
     by true p go = a.0
     by false p go = go p
 
-still_there : {X : Type 0} (xs : List X) (x : X) (k : ℕ) → k < length xs → slice_get (xs ++ x ∷ []) k ≡ slice_get xs k
-still_there [] x k l = absurd (omega arith)
-still_there (y ∷ xs) x zero l = refl
-still_there (y ∷ xs) x (suc k) l = still_there xs x k (omega arith)
+-- ---- subscriptions that are unmoved
 
-guarded : (a b c : ℕ) → a ≡ b → c < b → c < a
-guarded a b c h l = omega arith
+module _ (e d : Kept) (es : List Subscription) (u : AllByRecursion (IsUnmoved e d) es) where
+  pub all_read : AllByRecursion (λ s. may_read e s ≡ true) es → AllByRecursion (λ s. may_read d s ≡ true) es
+  all_read a = all_zip (IsUnmoved e d) (λ s. may_read e s ≡ true) (λ s. may_read d s ≡ true) es (λ s v r. still_read e d s v r) u a
 
-module _ (e : Kept) (n : ℕ) (h : IsSound e) (T : Lists) where
-  pub begin_shows : (role : Name) → AllByRecursion (λ s. shown_rows (kept_after e n (begin role)) T s ≡ shown_rows e T s) e.subscriptions
-  begin_shows role = all_map (IsOpen e) (λ s. shown_rows (kept_after e n (begin role)) T s ≡ shown_rows e T s) e.subscriptions
-      (λ s o. ap (λ (p : Option Session). filter (may_see e.known.rights (unwrap_or (option_map (λ y. y.role) p) (length e.known.rights.roles)) s.rel) (T s.rel))
-      (open_same e.sessions (record { number = n; role = role_number e.known.rights role }) s.session o.session)) h.stored.shows
+  pub all_within : ((T : Lists) → Stands T d.bags → Stands T e.bags) → AllByRecursion (IsWithin e) es → AllByRecursion (IsWithin d) es
+  all_within before a = all_zip (IsUnmoved e d) (IsWithin e) (IsWithin d) es (λ s v w T k. still_within e d s v T (before T k) ∙ w T (before T k)) u a
 
-  pub role_shows : (name : Name) → AllByRecursion (λ s. shown_rows (kept_after e n (create_role name)) T s ≡ shown_rows e T s) e.subscriptions
-  role_shows name = let q = with_role name e.known.rights in
-      all_map (IsOpen e) (λ s. shown_rows (kept_after e n (create_role name)) T s ≡ shown_rows e T s) e.subscriptions
-      (λ s o. ap (λ k. filter (may_see q k s.rel) (T s.rel)) (some_role (session_of e.sessions s.session) (length q.roles) (length e.known.rights.roles) o.session)
-      ∙ rows_same q e.known.rights (actor (frame_of e) s.session) s.rel
-      (ap (λ x. unwrap_or x []) (still_there e.known.rights.roles name (actor (frame_of e) s.session) (role_below e.sessions s.session (length e.known.rights.roles) h.stored.roles o.session)))
-      refl (T s.rel)) h.stored.shows
+  pub all_shown : (T : Lists) → Stands T e.bags → AllByRecursion (λ s. shown_rows d T s ≡ shown_rows e T s) es
+  all_shown T k = all_map (IsUnmoved e d) (λ s. shown_rows d T s ≡ shown_rows e T s) es (λ s v. still_shown e d s v T k) u
 
-  pub table_shows : (name owner : Name) (columns : List Column) → AllByRecursion (λ s. shown_rows (kept_after e n (create_table name owner columns)) T s ≡ shown_rows e T s) e.subscriptions
-  table_shows name owner columns =
-      let q = with_relation (role_number e.known.rights owner) e.known.rights in
-      let g : Guard = record { owner = role_number e.known.rights owner; enabled = false; forced = false; policies = [] } in
-      all_map (IsOpen e) (λ s. shown_rows (kept_after e n (create_table name owner columns)) T s ≡ shown_rows e T s) e.subscriptions
-      (λ s o. rows_same q e.known.rights (actor (frame_of e) s.session) s.rel refl
-      (still_there e.known.rights.guards g s.rel (guarded (length e.known.rights.guards) (length e.columns) s.rel h.stored.guards o.known)) (T s.rel)) h.stored.shows
+-- ---- a new relation, which has no row
 
-  pub grant_shows : (rel : Name) (ps : List Privilege) (to : Option Name) → AllByRecursion (λ s. shown_rows (kept_after e n (grant rel ps to)) T s ≡ shown_rows e T s) e.subscriptions
-  grant_shows rel ps to = all_map (IsOpen e) (λ s. shown_rows (kept_after e n (grant rel ps to)) T s ≡ shown_rows e T s) e.subscriptions
-      (λ s o. rows_same (kept_after e n (grant rel ps to)).known.rights e.known.rights (actor (frame_of e) s.session) s.rel refl refl (T s.rel)) h.stored.shows
+-- with a relation of the owner
+abbrev pub with_held_relation : Name → ℕ → Held → Kept → Kept
+with_held_relation name owner held e = record e {
+  known = record {
+    relations = e.known.relations ++ record { name = name; kinds = option_map kinds_of (table_in held) } ∷ [];
+    rights = with_relation owner e.known.rights;
+  };
+  catalog = extended e.catalog name (length e.catalog) held;
+  bags = e.bags ++ [] ∷ [];
+}
+
+module _ (e : Kept) (h : IsSound e) (name : Name) (owner : ℕ) (held : Held) where
+  abbrev c : Kept
+  c = with_held_relation name owner held e
+
+  abbrev x : Entry
+  x = record { name = name; rel = length e.catalog; held = held }
+
+  abbrev g : Guard
+  g = record { owner = owner; enabled = false; forced = false; policies = [] }
+
+  relation_unmoved_by : (s : Subscription) → IsOpen e s → IsUnmoved e c s
+  relation_unmoved_by s o =
+      let r = e.known.rights in
+      let q = c.known.rights in
+      let same = still_numbered name (Some held) e.catalog s.rel (known_at 0 e.catalog s.rel h.stored.numbered (omega arith) (let k = o.known in omega (arith, k))) in
+      record {
+        plan = ap (λ (y : Option Entry). if_some y (Scan s.rel) (λ z. plan_of z.rel z.held)) same;
+        needs = ap (λ (y : Option Entry). if_some y [] (λ z. reached_by z.rel z.held)) same;
+        reads = λ rel k. has_more r q (actor (frame_of e) s.session) Select rel (length r.guards) all_privileges (Role owner) refl k;
+        sees = λ T k. sees_before r q (actor (frame_of e) s.session) g e.bags T refl refl (h.stored.guards ∙ sym h.stored.bags) k;
+      }
+
+  pub relation_unmoved : AllByRecursion (IsUnmoved e c) e.subscriptions
+  relation_unmoved = all_map (IsOpen e) (IsUnmoved e c) e.subscriptions relation_unmoved_by h.stored.shows
+
+  before : (T : Lists) → Stands T c.bags → Stands T e.bags
+  before T k t q = ap (λ z. weight_of z q) (sym (pushed_at e.bags t)) ∙ k t q
+
+  pub relation_sound : IsSound c
+  relation_sound =
+      record {
+        stored = record {
+          reached = record { unique = h.stored.reached.unique; given = h.stored.reached.given };
+          roles = h.stored.roles;
+          numbered = numbered_push 0 e.catalog x h.stored.numbered (from_zero (length e.catalog));
+          relations = ap (λ (rs : List Relation). rs ++ record { name = name; kinds = option_map kinds_of (table_in held) } ∷ []) h.stored.relations ∙ sym (map-append relation_in e.catalog (x ∷ []));
+          guards = longer e.known.rights.guards e.catalog g x h.stored.guards;
+          bags = longer e.bags e.catalog [] x h.stored.bags;
+          zsets = λ t. subst IsZSet (sym (pushed_at e.bags t)) (h.stored.zsets t);
+          positive = λ t. subst IsBag (sym (pushed_at e.bags t)) (h.stored.positive t);
+          kinds = λ t. subst (HoldsKinds (schema_of (e.catalog ++ x ∷ []) t)) (sym (pushed_at e.bags t)) (still_holds e.catalog x t (bag_at e.bags t) (h.stored.kinds t));
+          small = λ t. subst (λ (z : Weighed). length z ≤ 65536) (sym (pushed_at e.bags t)) (h.stored.small t);
+          shows = all_map (IsOpen e) (IsOpen c) e.subscriptions (λ s o. record { session = o.session; known = let k = o.known in let l = length-append e.catalog (x ∷ []) in omega (arith, k, l) }) h.stored.shows;
+        };
+        served = all_read e c e.subscriptions relation_unmoved h.served;
+        within = all_within e c e.subscriptions relation_unmoved before h.within;
+      }
+
+-- the text of a view that passes
+text_bound : (r : Result Answer TextFault) → bad_text r ≡ None → (a : Answer) × (r ≡ Ok a)
+text_bound (Ok a) h = (a, refl)
+text_bound (Err (FaultAt place why)) h = cc
+
+-- ---- request by request
+
+module _ (e : Kept) (n : ℕ) (h : IsSound e) where
+  module _ (role : Name) where
+    abbrev begun : Kept
+    begun = kept_after e n (begin role)
+
+    begin_same : (s : Subscription) → IsOpen e s → session_of begun.sessions s.session ≡ session_of e.sessions s.session
+    begin_same s o = open_same e.sessions (record { number = n; role = role_number e.known.rights role }) s.session o.session
+
+    pub begin_unmoved : AllByRecursion (IsUnmoved e begun) e.subscriptions
+    begin_unmoved = all_map (IsOpen e) (IsUnmoved e begun) e.subscriptions (λ s o. other_sessions e begun.sessions e.subscriptions s (begin_same s o)) h.stored.shows
+
+    pub begin_sound : frame_refusal (frame_of e) n (begin role) ≡ None → IsSound begun
+    begin_sound passed = record {
+      stored = record {
+        reached = record { unique = h.stored.reached.unique; given = h.stored.reached.given };
+        roles = roles_after (frame_of e) n (begin role) passed h.stored.roles;
+        numbered = h.stored.numbered;
+        relations = h.stored.relations;
+        guards = h.stored.guards;
+        bags = h.stored.bags;
+        zsets = h.stored.zsets;
+        positive = h.stored.positive;
+        kinds = h.stored.kinds;
+        small = h.stored.small;
+        shows = all_map (IsOpen e) (IsOpen begun) e.subscriptions (λ s o. record { session = ap (λ p. is_some p) (begin_same s o) ∙ o.session; known = o.known }) h.stored.shows;
+      };
+      served = all_read e begun e.subscriptions begin_unmoved h.served;
+      within = all_within e begun e.subscriptions begin_unmoved (λ T k. k) h.within;
+    }
+
+  module _ (name : Name) where
+    abbrev named : Kept
+    named = kept_after e n (create_role name)
+
+    pub role_unmoved : AllByRecursion (IsUnmoved e named) e.subscriptions
+    role_unmoved = all_map (IsOpen e) (IsUnmoved e named) e.subscriptions (λ s o.
+        let r = e.known.rights in
+        let q = named.known.rights in
+        let a = some_role (session_of e.sessions s.session) (length q.roles) (length r.roles) o.session in
+        let k = actor (frame_of e) s.session in
+        record {
+          plan = refl;
+          needs = refl;
+          reads = λ rel y. ap (λ role. has q role Select rel) a ∙ has_same q r k Select rel refl ∙ y;
+          sees = λ T y. ap (λ role. allowed q role T) a ∙ (λ i t. rows_same q r k t (ap (λ z. unwrap_or z []) (still_there r.roles name k (role_below e.sessions s.session (length r.roles) h.stored.roles o.session))) refl (T t) i);
+        }) h.stored.shows
+
+    pub role_sound : frame_refusal (frame_of e) n (create_role name) ≡ None → IsSound named
+    role_sound passed = record {
+      stored = record {
+        reached = record { unique = h.stored.reached.unique; given = h.stored.reached.given };
+        roles = roles_after (frame_of e) n (create_role name) passed h.stored.roles;
+        numbered = h.stored.numbered;
+        relations = h.stored.relations;
+        guards = h.stored.guards;
+        bags = h.stored.bags;
+        zsets = h.stored.zsets;
+        positive = h.stored.positive;
+        kinds = h.stored.kinds;
+        small = h.stored.small;
+        shows = all_map (IsOpen e) (IsOpen named) e.subscriptions (λ s o. record { session = o.session; known = o.known }) h.stored.shows;
+      };
+      served = all_read e named e.subscriptions role_unmoved h.served;
+      within = all_within e named e.subscriptions role_unmoved (λ T k. k) h.within;
+    }
+
+  module _ (rel : Name) (ps : List Privilege) (to : Option Name) where
+    abbrev given : Kept
+    given = kept_after e n (grant rel ps to)
+
+    pub grant_unmoved : AllByRecursion (IsUnmoved e given) e.subscriptions
+    grant_unmoved = all_map (IsOpen e) (IsUnmoved e given) e.subscriptions (λ s o.
+        let r = e.known.rights in
+        let q = given.known.rights in
+        let k = actor (frame_of e) s.session in
+        record {
+          plan = refl;
+          needs = refl;
+          reads = λ on y. has_more r q k Select on (rel_of e.catalog rel) ps (grantee_of r to) refl y;
+          sees = λ T y. (λ i t. rows_same q r k t refl refl (T t) i);
+        }) h.stored.shows
+
+    pub grant_sound : IsSound given
+    grant_sound = record {
+      stored = record {
+        reached = record { unique = h.stored.reached.unique; given = h.stored.reached.given };
+        roles = h.stored.roles;
+        numbered = h.stored.numbered;
+        relations = h.stored.relations;
+        guards = h.stored.guards;
+        bags = h.stored.bags;
+        zsets = h.stored.zsets;
+        positive = h.stored.positive;
+        kinds = h.stored.kinds;
+        small = h.stored.small;
+        shows = all_map (IsOpen e) (IsOpen given) e.subscriptions (λ s o. record { session = o.session; known = o.known }) h.stored.shows;
+      };
+      served = all_read e given e.subscriptions grant_unmoved h.served;
+      within = all_within e given e.subscriptions grant_unmoved (λ T k. k) h.within;
+    }
+
+  module _ (name owner : Name) (columns : List Column) where
+    pub table_unmoved : AllByRecursion (IsUnmoved e (kept_after e n (create_table name owner columns))) e.subscriptions
+    table_unmoved = relation_unmoved e h name (role_number e.known.rights owner) (Table columns)
+
+    pub table_sound : IsSound (kept_after e n (create_table name owner columns))
+    table_sound = relation_sound e h name (role_number e.known.rights owner) (Table columns)
+
+  module _ (name owner : Name) (query : Name) (passed : frame_refusal (frame_of e) n (create_view name owner query) ≡ None) where
+    abbrev o : Result Answer TextFault
+    o = bound_query e.catalog query
+
+    -- its text is bound
+    view_bound : (a : Answer) × (o ≡ Ok a)
+    view_bound =
+        let f = frame_of e in
+        let s = or_none (test (not (is_open f n)) no_session) (role_refusal f n (actor f n) (create_view name owner query)) passed in
+        let a = or_none (administrator (actor f n)) _ s.1 in
+        let b = or_none (known_role f owner) _ a.1 in
+        let d = or_none (free_relation f name) _ b.1 in
+        text_bound o (or_none (bad_text o) _ d.1).0
+
+    view_is : kept_after e n (create_view name owner query) ≡ with_held_relation name (role_number e.known.rights owner) (View view_bound.0) e
+    view_is = ap (λ (r : Result Answer TextFault). record (kept_after e n (create_view name owner query)) { catalog = with_held name (view_held r) e.catalog }) view_bound.1
+
+    pub view_unmoved : AllByRecursion (IsUnmoved e (kept_after e n (create_view name owner query))) e.subscriptions
+    view_unmoved = subst (λ (d : Kept). AllByRecursion (IsUnmoved e d) e.subscriptions) (sym view_is) (relation_unmoved e h name (role_number e.known.rights owner) (View view_bound.0))
+
+    pub view_sound : IsSound (kept_after e n (create_view name owner query))
+    view_sound = subst IsSound (sym view_is) (relation_sound e h name (role_number e.known.rights owner) (View view_bound.0))
 
 -- ---- the start
 
-empty_zset : IsZSet []
+pub empty_zset : IsZSet []
 unfolding IsDistinct
 empty_zset = record { distinct = tt; weights = λ q. tt }
 
 abbrev pub kept_at_start : Kept
-kept_at_start = record { known = known_at_start; columns = []; sessions = []; subscriptions = []; last = 0; bags = [] }
+kept_at_start = record { known = known_at_start; catalog = []; sessions = []; subscriptions = []; last = 0; bags = [] }
 
 pub start_sound : IsSound kept_at_start
 start_sound = record {
   stored = record {
     reached = record { unique = tt; given = tt };
     roles = tt;
+    numbered = tt;
     relations = refl;
     guards = refl;
     bags = refl;
-    tables = tt;
     zsets = λ t. empty_zset;
+    positive = λ t q. omega (arith, ints);
+    kinds = λ t. refl;
     small = λ t. omega arith;
     shows = tt;
   };
   served = tt;
+  within = tt;
 }

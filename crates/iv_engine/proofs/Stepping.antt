@@ -1,22 +1,22 @@
 -- A request as a step of the machine.
-use Rattle.std.proofs.Common.{◌≡◌, ℕ, ◌+◌, ◌<◌, Bool, true, cond, not, List, [], ◌∷◌, ◌++◌, length, map, Option, None, Some, refl, sym, ap, subst, ◌∙◌, arith}
+use Rattle.std.proofs.Common.{◌≡◌, ℕ, ◌<◌, Bool, true, cond, not, List, [], ◌∷◌, ◌++◌, length, map, Option, None, Some, refl, sym, ap, subst, ◌∙◌}
 use Rattle.std.specs.Prelude.{option_map, is_some, filter, flat_map}
 use Rattle.std.specs.Global.{Vec}
 use Rattle.std.specs.List.{AllByRecursion}
-use Rattle.iv_rows.specs.Columns.{Column, kinds_of}
+use Rattle.iv_rows.specs.Columns.{Column}
 use Rattle.iv_zset.specs.Weights.{weight_of}
 use Rattle.iv_algebra.specs.Plans.{Lists}
 use Rattle.iv_access.specs.declared.privilege.Privilege.{Privilege}
 use Rattle.iv_access.specs.Rights.{Name}
 use Rattle.iv_machine.specs.Act as machine
-use Rattle.iv_machine.specs.Act.{Act, begin, create_role, create_table, grant, write, subscribe}
+use Rattle.iv_machine.specs.Act.{Act, begin, create_role, create_table, create_view, grant}
 use Rattle.iv_machine.specs.State.{State, Subscription, subscription_of}
 use Rattle.iv_machine.specs.Refusing.{refusal, frame_refusal, rows_refusal, or_else}
 use Rattle.iv_machine.specs.Changing.{after}
 use Rattle.iv_machine.specs.declared.Cause.{Cause}
 use Rattle.iv_machine.specs.Machine.{changes, line_for, line_of as machine_line, ending, ending_by, settled, reply_to, difference}
 use Rattle.iv_engine.specs.Answering.{IsPlain, IsStep, change_line, seen, sent}
-use Rattle.iv_engine.specs.Kept.{Kept, IsOpen, IsSound, IsStored, at, frame_of, may_read, shown_rows, tables_from}
+use Rattle.iv_engine.specs.Kept.{Kept, IsOpen, IsSound, IsStored, IsWithin, at, frame_of, may_read, shown_rows}
 use Rattle.iv_engine.specs.Next.{kept_after, next, next_by}
 use Rattle.iv_engine.specs.Seen.{IsBehind}
 use Rattle.iv_engine.specs.Stands.{Stands}
@@ -28,8 +28,8 @@ use Rattle.iv_engine.specs.declared.command.Reply.TheVariants.{Ok}
 use Rattle.iv_engine.specs.declared.answer.Answer.{Answer}
 use Rattle.iv_engine.specs.declared.answer.Answer.TheVariants.{Refused, Accepted}
 use Rattle.iv_engine.proofs.Showing.{cause_for, difference_none, each_found, ending_is, shown_is}
-use Rattle.iv_engine.proofs.Sound.{all_map, all_zip, begin_shows, begin_sound, role_shows, role_sound, table_shows, table_sound, grant_shows, grant_sound, pushed_at}
-use Rattle.iv_engine.proofs.Tables.{as_long, one_more}
+use Rattle.iv_engine.proofs.Sound.{all_map, all_shown, all_zip, begin_sound, begin_unmoved, grant_sound, grant_unmoved, pushed_at, role_sound, role_unmoved, table_sound, table_unmoved, view_sound, view_unmoved}
+use Rattle.iv_engine.proofs.Unmoved.{IsUnmoved}
 
 -- ---- lists of subscriptions
 
@@ -45,18 +45,18 @@ pub keep_each : (p : Subscription → Bool) (es : List Subscription) → AllByRe
 keep_each p [] a = refl
 keep_each p (s ∷ es) a = (λ i. cond (a.0 i) (s ∷ filter p es) (filter p es)) ∙ ap (λ xs. s ∷ xs) (keep_each p es a.1)
 
--- a subscription by its number, of a table that is there
+-- a subscription by its number, of a relation that is there
 pub record IsShown (e : Kept) (s : Subscription) : Type 0 where
   pub found : subscription_of e.subscriptions s.number ≡ Some s
-  pub known : s.rel < length e.columns
+  pub known : s.rel < length e.catalog
 
 pub each_shown : (e : Kept) → IsStored e → AllByRecursion (IsShown e) e.subscriptions
 each_shown e h = all_zip (λ s. subscription_of e.subscriptions s.number ≡ Some s) (IsOpen e) (IsShown e) e.subscriptions (λ s f o. record { found = f; known = o.known }) (each_found e.subscriptions h.reached.unique) h.shows
 
 -- none ends where each may be read
 pub none_ends : (c : Kept) (T : Lists) → IsSound c → Stands T c.bags → AllByRecursion (λ s. ending (at c T) s ≡ None) c.subscriptions
-none_ends c T h stands = all_zip (IsOpen c) (λ s. may_read c s ≡ true) (λ s. ending (at c T) s ≡ None) c.subscriptions
-    (λ s o r. ending_is c T h.stored stands s o.known ∙ ap cause_for r) h.stored.shows h.served
+none_ends c T h stands = all_zip (λ s. may_read c s ≡ true) (IsWithin c) (λ s. ending (at c T) s ≡ None) c.subscriptions
+    (λ s r w. ending_is c T s (w T stands) ∙ ap cause_for r) h.served h.within
 
 pub none_settled : (c : Kept) (T : Lists) → IsSound c → Stands T c.bags → filter (λ s. not (is_some (ending (at c T) s))) c.subscriptions ≡ c.subscriptions
 none_settled c T h stands = keep_each (λ s. not (is_some (ending (at c T) s))) c.subscriptions
@@ -112,42 +112,42 @@ module _ (e : Kept) (n : ℕ) (act : Act) (q : KeepsRows e n act) (h : IsSound e
 -- and nothing that is shown
 pub record IsQuiet (e : Kept) (n : ℕ) (act : Act) : Type 0 where
   pub keeps : KeepsRows e n act
-  pub shows : IsSound e → (T : Lists) → AllByRecursion (λ s. shown_rows (kept_after e n act) T s ≡ shown_rows e T s) e.subscriptions
+  pub shows : frame_refusal (frame_of e) n act ≡ None → IsSound e → (T : Lists) → Stands T e.bags → AllByRecursion (λ s. shown_rows (kept_after e n act) T s ≡ shown_rows e T s) e.subscriptions
 
 quiet_lines : (e c : Kept) (T : Lists) (es : List Subscription) → AllByRecursion (λ s. shown_rows c T s ≡ shown_rows e T s) es → flat_map (change_line e c T T) es ≡ []
 quiet_lines e c T es a = no_lines (change_line e c T T) es (all_map (λ s. shown_rows c T s ≡ shown_rows e T s) (λ s. change_line e c T T s ≡ []) es
     (λ s k. ap (λ rows. machine_line None s (difference (shown_rows e T s) rows)) k ∙ ap (machine_line None s) (difference_none (shown_rows e T s))) a)
 
+-- a request that keeps rows, where no subscription is moved, is quiet
+quiet : (e : Kept) (n : ℕ) (act : Act) → KeepsRows e n act → (frame_refusal (frame_of e) n act ≡ None → IsSound e → AllByRecursion (IsUnmoved e (kept_after e n act)) e.subscriptions) → IsQuiet e n act
+quiet e n act k u = record { keeps = k; shows = λ p h T s. all_shown e (kept_after e n act) e.subscriptions (u p h) T s }
+
 -- ---- the requests
 
 pub begin_quiet : (e : Kept) (n : ℕ) (role : Name) → IsQuiet e n (begin role)
-begin_quiet e n role = record { keeps = record { rows = λ T. refl; after = λ T h. refl; ends = λ s. refl; reply = refl; bags = λ T s. s; sound = λ p h. begin_sound e n h role p }; shows = λ h T. begin_shows e n h T role }
+begin_quiet e n role = quiet e n (begin role)
+    (record { rows = λ T. refl; after = λ T h. refl; ends = λ s. refl; reply = refl; bags = λ T s. s; sound = λ p h. begin_sound e n h role p })
+    (λ p h. begin_unmoved e n h role)
 
 pub role_quiet : (e : Kept) (n : ℕ) (name : Name) → IsQuiet e n (create_role name)
-role_quiet e n name = record { keeps = record { rows = λ T. refl; after = λ T h. refl; ends = λ s. refl; reply = refl; bags = λ T s. s; sound = λ p h. role_sound e n h name p }; shows = λ h T. role_shows e n h T name }
+role_quiet e n name = quiet e n (create_role name)
+    (record { rows = λ T. refl; after = λ T h. refl; ends = λ s. refl; reply = refl; bags = λ T s. s; sound = λ p h. role_sound e n h name p })
+    (λ p h. role_unmoved e n h name)
 
 pub grant_quiet : (e : Kept) (n : ℕ) (rel : Name) (ps : List Privilege) (to : Option Name) → IsQuiet e n (grant rel ps to)
-grant_quiet e n rel ps to = record { keeps = record { rows = λ T. refl; after = λ T h. refl; ends = λ s. refl; reply = refl; bags = λ T s. s; sound = λ p h. grant_sound e n h rel ps to }; shows = λ h T. grant_shows e n h T rel ps to }
-
-from_zero : (n : ℕ) → n ≡ 0 + n
-from_zero n = omega arith
-
-table_keeps : (e : Kept) (n : ℕ) (name owner : Name) (columns : List Column) → KeepsRows e n (create_table name owner columns)
-table_keeps e n name owner columns = record {
-  rows = λ T. refl;
-  after = λ T h i. record (at (kept_after e n (create_table name owner columns)) T) {
-    frame = record (frame_of (kept_after e n (create_table name owner columns))) {
-      catalog = (ap (λ k. tables_from 0 e.known.relations e.columns ++ record { name = name; rel = k; held = Rattle.iv_bind.specs.Catalogs.Table columns } ∷ []) (as_long 0 e.known.relations e.columns h.relations ∙ from_zero (length e.columns)) ∙ sym (one_more 0 e.known.relations e.columns (record { name = name; kinds = Some (kinds_of columns) }) columns h.relations)) i;
-    };
-  };
-  ends = λ s. refl;
-  reply = refl;
-  bags = λ T s t q. ap (λ z. weight_of z q) (pushed_at e.bags t) ∙ s t q;
-  sound = λ p h. table_sound e n h name owner columns;
-}
+grant_quiet e n rel ps to = quiet e n (grant rel ps to)
+    (record { rows = λ T. refl; after = λ T h. refl; ends = λ s. refl; reply = refl; bags = λ T s. s; sound = λ p h. grant_sound e n h rel ps to })
+    (λ p h. grant_unmoved e n h rel ps to)
 
 pub table_quiet : (e : Kept) (n : ℕ) (name owner : Name) (columns : List Column) → IsQuiet e n (create_table name owner columns)
-table_quiet e n name owner columns = record { keeps = table_keeps e n name owner columns; shows = λ h T. table_shows e n h T name owner columns }
+table_quiet e n name owner columns = quiet e n (create_table name owner columns)
+    (record { rows = λ T. refl; after = λ T h. refl; ends = λ s. refl; reply = refl; bags = λ T s t q. ap (λ z. weight_of z q) (pushed_at e.bags t) ∙ s t q; sound = λ p h. table_sound e n h name owner columns })
+    (λ p h. table_unmoved e n h name owner columns)
+
+pub view_quiet : (e : Kept) (n : ℕ) (name owner query : Name) → IsQuiet e n (create_view name owner query)
+view_quiet e n name owner query = quiet e n (create_view name owner query)
+    (record { rows = λ T. refl; after = λ T h. refl; ends = λ s. refl; reply = refl; bags = λ T s t q. ap (λ z. weight_of z q) (pushed_at e.bags t) ∙ s t q; sound = λ p h. view_sound e n h name owner query p })
+    (λ p h. view_unmoved e n h name owner query p)
 
 -- ---- the step
 
@@ -177,7 +177,7 @@ changed_step e new n act reply lines q sound passed k r told = record {
 plain_by : (e new : Kept) (n : ℕ) (act : Act) (o : Option Refusal) (a : Answer) → IsQuiet e n act → IsSound e → IsPlain o a → option_map refusal_of o ≡ frame_refusal (frame_of e) n act → new ≡ next_by e n act (option_map refusal_of o) → IsStep e n act a new
 plain_by e new n act None (Refused r) q sound p h k = absurd p
 plain_by e new n act None (Accepted reply lines) q sound p h k = changed_step e new n act reply lines q.keeps sound (sym h) k p.0
-    (λ T s. ap (map line_of) p.1 ∙ sym (quiet_lines e (kept_after e n act) T e.subscriptions (q.shows sound T)))
+    (λ T s. ap (map line_of) p.1 ∙ sym (quiet_lines e (kept_after e n act) T e.subscriptions (q.shows (sym h) sound T s)))
 plain_by e new n act (Some r) a q sound p h k = subst (λ x. IsStep e n act x new) (sym p) (refused_step e new n act r sound (sym h) k)
 
 pub plain_step : (e new : Kept) (n : ℕ) (act : Act) (o : Option Refusal) (a : Answer) → IsQuiet e n act → IsSound e → IsPlain o a → option_map refusal_of o ≡ frame_refusal (frame_of e) n act → new ≡ next e n act → IsStep e n act a new

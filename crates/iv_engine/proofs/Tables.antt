@@ -1,18 +1,22 @@
--- Tables by their names and numbers.
-use Rattle.std.proofs.Common.{◌≡◌, ℕ, zero, suc, ◌+◌, ◌<◌, ◌≤◌, Bool, true, false, cond, List, [], ◌∷◌, ◌++◌, length, Option, None, Some, refl, sym, ap, subst, ◌∙◌, arith}
+-- Relations by their names and numbers.
+use Rattle.std.proofs.Common.{◌≡◌, ℕ, suc, ◌+◌, ◌<◌, ◌≤◌, Bool, true, false, cond, List, [], ◌∷◌, ◌++◌, length, map, Option, None, Some, refl, sym, ap, subst, ◌∙◌, arith}
 use Rattle.std.proofs.lemmas.Bool.Decides.{nat_tests}
-use Rattle.std.specs.Prelude.{◌==◌, bytes_eq, is_some, slice_get, count_by}
+use Rattle.std.specs.Prelude.{◌==◌, bytes_eq, is_some, count_by, option_map}
+use Rattle.std.specs.Bool.{beq}
+use Rattle.iv_access.specs.Faults.{count_like}
 use Rattle.std.specs.List.{position_from}
 use Rattle.std.proofs.lemmas.Slice.Eq.{bytes_eq-Decides}
 use Rattle.std.proofs.lemmas.List.Sums.{sum_by-cons}
-use Rattle.iv_rows.specs.Columns.{Column}
+use Rattle.iv_rows.specs.Columns.{Column, kinds_of}
 use Rattle.iv_algebra.specs.Shapes.{Scan}
 use Rattle.iv_bind.specs.Faults.{if_some}
-use Rattle.iv_bind.specs.Catalogs.{Entry, Table, named, numbered, plan_of, reached_by, table_in}
+use Rattle.iv_bind.specs.Catalogs.{Entry, Held, Table, View, named, numbered, plan_of, reached_by, schema_of, table_in}
 use Rattle.iv_access.specs.Rights.{Name}
 use Rattle.iv_access.specs.Known.{Relation}
+use Rattle.iv_machine.specs.Numbered.{AreNumbered}
 use Rattle.iv_machine.specs.State.{plan_at, needs_at}
-use Rattle.iv_engine.specs.Kept.{tables_from}
+use Rattle.iv_machine.proofs.Placing.{find_kept}
+use Rattle.iv_engine.specs.Kept.{relation_in}
 
 same_nat : (m n : ℕ) → (m == n) ≡ true → m ≡ n
 same_nat m n h = grind (arith, nat_tests)
@@ -23,56 +27,90 @@ own n = grind (arith, nat_tests)
 apart : (m n : ℕ) → m < n → (n == m) ≡ false
 apart m n h = grind (arith, nat_tests)
 
-one_less : (m n : ℕ) → suc m ≡ suc n → m ≡ n
-one_less m n h = omega arith
+differ : (m n : ℕ) → (m == n) ≡ false → n ≤ m → suc n ≤ m
+differ m n h l = grind (arith, nat_tests)
+
+next_is : (n : ℕ) → suc n ≡ n + 1
+next_is n = omega arith
+
+-- a table has columns
+pub held_is : (h : Held) → is_some (table_in h) ≡ true → (c : List Column) × (h ≡ Table c)
+held_is (Table c) t = (c, refl)
+held_is (View a) t = cc
 
 -- ---- a relation by its number
 
-scan_by : (b : Bool) (m : Relation) (n rel : ℕ) (c : List Column) (o : Option Entry) → (rel == n) ≡ b → if_some o (Scan rel) (λ e. plan_of e.rel e.held) ≡ Scan rel
-    → if_some (cond b (Some (record { name = m.name; rel = n; held = Table c })) o) (Scan rel) (λ e. plan_of e.rel e.held) ≡ Scan rel
-scan_by true m n rel c o h ih = ap Scan (sym (same_nat rel n h))
-scan_by false m n rel c o h ih = ih
+scan_of : (h : Held) (rel : ℕ) → is_some (table_in h) ≡ true → plan_of rel h ≡ Scan rel
+scan_of (Table c) rel t = refl
+scan_of (View a) rel t = cc
 
--- every relation is a table
-pub plan_is : (n : ℕ) (ns : List Relation) (cs : List (List Column)) (rel : ℕ) → plan_at (tables_from n ns cs) rel ≡ Scan rel
-plan_is n [] cs rel = refl
-plan_is n (m ∷ ns) [] rel = refl
-plan_is n (m ∷ ns) (c ∷ cs) rel = scan_by (rel == n) m n rel c (numbered (tables_from (n + 1) ns cs) rel) refl (plan_is (n + 1) ns cs rel)
+alone : (h : Held) (rel : ℕ) → is_some (table_in h) ≡ true → reached_by rel h ≡ rel ∷ []
+alone (Table c) rel t = refl
+alone (View a) rel t = cc
 
-needs_by : (b : Bool) (m : Relation) (n rel : ℕ) (c : List Column) (o : Option Entry) → (rel == n) ≡ b → (b ≡ false → if_some o [] (λ e. reached_by e.rel e.held) ≡ rel ∷ [])
-    → if_some (cond b (Some (record { name = m.name; rel = n; held = Table c })) o) [] (λ e. reached_by e.rel e.held) ≡ rel ∷ []
-needs_by true m n rel c o h ih = ap (λ k. k ∷ []) (sym (same_nat rel n h))
-needs_by false m n rel c o h ih = ih refl
+pub found_rel : (es : List Entry) (rel : ℕ) (x : Entry) → numbered es rel ≡ Some x → rel ≡ x.rel
+found_rel [] rel x h = cc
+found_rel (e ∷ es) rel x h = by (rel == e.rel) refl h (found_rel es rel x)
+  where
+    by : (b : Bool) → (rel == e.rel) ≡ b → cond b (Some e) (numbered es rel) ≡ Some x → (numbered es rel ≡ Some x → rel ≡ x.rel) → rel ≡ x.rel
+    by true k f go = let same : e ≡ x = cc in same_nat rel e.rel k ∙ ap (λ (y : Entry). y.rel) same
+    by false k f go = go f
 
-differ : (m n : ℕ) → (m == n) ≡ false → n ≤ m → n + 1 ≤ m
-differ m n h l = grind (arith, nat_tests)
+-- the relation of the number is a table
+abbrev pub IsATable : List Entry → ℕ → Type 0
+IsATable es rel = is_some (schema_of es rel) ≡ true
 
-pub needs_are : (n : ℕ) (ns : List Relation) (cs : List (List Column)) (rel : ℕ) → length ns ≡ length cs → n ≤ rel → rel < n + length cs → needs_at (tables_from n ns cs) rel ≡ rel ∷ []
-needs_are n [] [] rel h l k = absurd (omega arith)
-needs_are n [] (c ∷ cs) rel h l k = absurd (omega arith)
-needs_are n (m ∷ ns) [] rel h l k = absurd (omega arith)
-needs_are n (m ∷ ns) (c ∷ cs) rel h l k = needs_by (rel == n) m n rel c (numbered (tables_from (n + 1) ns cs) rel) refl
-    (λ f. needs_are (n + 1) ns cs rel (one_less (length ns) (length cs) h) (differ rel n f l) (omega arith))
+pub plan_is : (es : List Entry) (rel : ℕ) → IsATable es rel → plan_at es rel ≡ Scan rel
+plan_is es rel t = by (numbered es rel) refl t
+  where
+    by : (o : Option Entry) → numbered es rel ≡ o → is_some (if_some o None (λ e. table_in e.held)) ≡ true → if_some o (Scan rel) (λ e. plan_of e.rel e.held) ≡ Scan rel
+    by None h k = refl
+    by (Some x) h k = scan_of x.held x.rel k ∙ ap Scan (sym (found_rel es rel x h))
+
+pub needs_are : (es : List Entry) (rel : ℕ) → IsATable es rel → needs_at es rel ≡ rel ∷ []
+needs_are es rel t = by (numbered es rel) refl t
+  where
+    by : (o : Option Entry) → numbered es rel ≡ o → is_some (if_some o None (λ e. table_in e.held)) ≡ true → if_some o [] (λ e. reached_by e.rel e.held) ≡ rel ∷ []
+    by None h k = cc
+    by (Some x) h k = alone x.held x.rel k ∙ ap (λ m. m ∷ []) (sym (found_rel es rel x h))
+
+-- and stays one
+pub still_schema : (es more : List Entry) (rel : ℕ) → IsATable es rel → schema_of (es ++ more) rel ≡ schema_of es rel
+still_schema es more rel t = ap (λ o. if_some o None (λ (e : Entry). table_in e.held)) (find_kept (λ (e : Entry). rel == e.rel) es more (there (numbered es rel) t))
+  where
+    there : (o : Option Entry) → is_some (if_some o None (λ e. table_in e.held)) ≡ true → is_some o ≡ true
+    there None k = k
+    there (Some x) k = refl
+
+pub still_table : (es more : List Entry) (rel : ℕ) → IsATable es rel → IsATable (es ++ more) rel
+still_table es more rel t = ap (λ o. is_some o) (still_schema es more rel t) ∙ t
+
+-- no relation has a number that comes later
+pub none_later : (n : ℕ) (es : List Entry) (k : ℕ) → AreNumbered n es → n + length es ≤ k → numbered es k ≡ None
+none_later n [] k u l = refl
+none_later n (e ∷ es) k u l =
+    let other : (k == e.rel) ≡ false = subst (λ m. (k == m) ≡ false) (sym u.0) (apart n k (omega arith)) in
+    ap (λ b. cond b (Some e) (numbered es k)) other ∙ none_later (suc n) es k u.1 (omega arith)
 
 -- ---- a relation by its name
 
 abbrev pub is_of : Name → Relation → Bool
 is_of name r = bytes_eq name r.name
 
-pub none_named : (n : ℕ) (ns : List Relation) (cs : List (List Column)) (name : Name) → position_from (is_of name) n ns ≡ None → named (tables_from n ns cs) name ≡ None
-none_named n [] cs name h = refl
-none_named n (m ∷ ns) [] name h = refl
-none_named n (m ∷ ns) (c ∷ cs) name h = by (bytes_eq name m.name) h (none_named (n + 1) ns cs name)
+pub none_named : (n : ℕ) (es : List Entry) (name : Name) → position_from (is_of name) n (map relation_in es) ≡ None → named es name ≡ None
+none_named n [] name h = refl
+none_named n (e ∷ es) name h = by (bytes_eq name e.name) h (none_named (n + 1) es name)
   where
-    by : (b : Bool) → cond b (Some n) (position_from (is_of name) (n + 1) ns) ≡ None → (position_from (is_of name) (n + 1) ns ≡ None → named (tables_from (n + 1) ns cs) name ≡ None)
-        → cond b (Some (record { name = m.name; rel = n; held = Table c })) (named (tables_from (n + 1) ns cs) name) ≡ None
+    by : (b : Bool) → cond b (Some n) (position_from (is_of name) (n + 1) (map relation_in es)) ≡ None → (position_from (is_of name) (n + 1) (map relation_in es) ≡ None → named es name ≡ None) → cond b (Some e) (named es name) ≡ None
     by true k go = cc
     by false k go = go k
 
--- the table of a name, at its number
-pub record IsTable (catalog : List Entry) (c : List Column) (name : Name) (k : ℕ) : Type 0 where
-  pub named : named catalog name ≡ Some (record { name = name; rel = k; held = Table c })
-  pub numbered : numbered catalog k ≡ Some (record { name = name; rel = k; held = Table c })
+-- the relation of a name, at its number
+pub record IsNamed (catalog : List Entry) (x : Entry) (name : Name) (k : ℕ) : Type 0 where
+  pub named : named catalog name ≡ Some x
+  pub numbered : numbered catalog k ≡ Some x
+  pub called : x.name ≡ name
+  pub placed : x.rel ≡ k
 
 pub from_least : (p : Relation → Bool) (n : ℕ) (ns : List Relation) (k : ℕ) → position_from p n ns ≡ Some k → n ≤ k
 from_least p n [] k h = cc
@@ -82,61 +120,66 @@ from_least p n (m ∷ ns) k h = by (p m) h (from_least p (n + 1) ns k)
     by true e go = let f : n ≡ k = cc in omega arith
     by false e go = let l = go e in omega arith
 
-pub table_is : (n : ℕ) (ns : List Relation) (cs : List (List Column)) (name : Name) (k i : ℕ) (c : List Column) → position_from (is_of name) n ns ≡ Some k → k ≡ n + i → slice_get cs i ≡ Some c → IsTable (tables_from n ns cs) c name k
-table_is n [] cs name k i c h e g = cc
-table_is n (m ∷ ns) [] name k i c h e g = cc
-table_is n (m ∷ ns) (d ∷ cs) name k i c h e g = by (bytes_eq name m.name) refl h (λ j. table_is (n + 1) ns cs name k j c)
+pub relation_is : (n : ℕ) (es : List Entry) (name : Name) (k : ℕ) → AreNumbered n es → position_from (is_of name) n (map relation_in es) ≡ Some k → (x : Entry) × IsNamed es x name k
+relation_is n [] name k u h = cc
+relation_is n (e ∷ es) name k u h = by (bytes_eq name e.name) refl h (λ g. relation_is (n + 1) es name k (subst (λ m. AreNumbered m es) (next_is n) u.1) g)
   where
-    here : (j : ℕ) → j ≡ 0 → slice_get (d ∷ cs) j ≡ Some c → d ≡ c
-    here zero z f = cc
-    here (suc j) z f = absurd (omega arith)
-
-    later : (j : ℕ) → n + 1 ≤ n + j → slice_get (d ∷ cs) j ≡ Some c → (l : ℕ) × (j ≡ suc l) × (slice_get cs l ≡ Some c)
-    later zero z f = absurd (omega arith)
-    later (suc j) z f = (j, refl, f)
-
-    by : (b : Bool) → bytes_eq name m.name ≡ b → cond b (Some n) (position_from (is_of name) (n + 1) ns) ≡ Some k
-        → ((j : ℕ) → position_from (is_of name) (n + 1) ns ≡ Some k → k ≡ (n + 1) + j → slice_get cs j ≡ Some c → IsTable (tables_from (n + 1) ns cs) c name k) → IsTable (tables_from n (m ∷ ns) (d ∷ cs)) c name k
+    by : (b : Bool) → bytes_eq name e.name ≡ b → cond b (Some n) (position_from (is_of name) (n + 1) (map relation_in es)) ≡ Some k
+        → (position_from (is_of name) (n + 1) (map relation_in es) ≡ Some k → (x : Entry) × IsNamed es x name k) → (x : Entry) × IsNamed (e ∷ es) x name k
     by true t f go =
-        let is : n ≡ k = cc in
-        let same : m.name ≡ name = sym ((bytes_eq-Decides name m.name).0 t) in
-        let columns : d ≡ c = here i (let a = e in let b = is in omega arith) g in
-        let entry : Some (record { name = m.name; rel = n; held = Table d }) ≡ Some (record { name = name; rel = k; held = Table c }) = (λ j. Some (record { name = same j; rel = is j; held = Table (columns j) })) in
-        record {
-          named = ap (λ b. cond b (Some (record { name = m.name; rel = n; held = Table d })) (Rattle.iv_bind.specs.Catalogs.named (tables_from (n + 1) ns cs) name)) t ∙ entry;
-          numbered = ap (λ b. cond b (Some (record { name = m.name; rel = n; held = Table d })) (Rattle.iv_bind.specs.Catalogs.numbered (tables_from (n + 1) ns cs) k)) (subst (λ j. (j == n) ≡ true) is (own n)) ∙ entry;
-        }
+        let at : n ≡ k = cc in
+        let is : e.rel ≡ k = u.0 ∙ at in (
+          e,
+          record {
+            named = ap (λ b. cond b (Some e) (Rattle.iv_bind.specs.Catalogs.named es name)) t;
+            numbered = ap (λ b. cond b (Some e) (Rattle.iv_bind.specs.Catalogs.numbered es k)) (subst (λ j. (j == e.rel) ≡ true) is (own e.rel));
+            called = sym ((bytes_eq-Decides name e.name).0 t);
+            placed = is;
+          },
+        )
     by false t f go =
-        let least = from_least (is_of name) (n + 1) ns k f in
-        let x = later i (subst (λ j. n + 1 ≤ j) e least) g in
-        let r = go x.0 f (let a = e in let b = x.1 in omega arith) x.2 in
-        record {
-          named = ap (λ b. cond b (Some (record { name = m.name; rel = n; held = Table d })) (Rattle.iv_bind.specs.Catalogs.named (tables_from (n + 1) ns cs) name)) t ∙ r.named;
-          numbered = ap (λ b. cond b (Some (record { name = m.name; rel = n; held = Table d })) (Rattle.iv_bind.specs.Catalogs.numbered (tables_from (n + 1) ns cs) k)) (apart n k (omega arith)) ∙ r.numbered;
-        }
+        let least = from_least (is_of name) (n + 1) (map relation_in es) k f in
+        let r = go f in
+        let other : (k == e.rel) ≡ false = subst (λ m. (k == m) ≡ false) (sym u.0) (apart n k (omega arith)) in (
+          r.0,
+          record {
+            named = ap (λ b. cond b (Some e) (Rattle.iv_bind.specs.Catalogs.named es name)) t ∙ r.1.named;
+            numbered = ap (λ b. cond b (Some e) (Rattle.iv_bind.specs.Catalogs.numbered es k)) other ∙ r.1.numbered;
+            called = r.1.called;
+            placed = r.1.placed;
+          },
+        )
 
 -- ---- how many
 
-pub as_long : (n : ℕ) (ns : List Relation) (cs : List (List Column)) → length ns ≡ length cs → length (tables_from n ns cs) ≡ length cs
-as_long n [] [] h = refl
-as_long n [] (c ∷ cs) h = absurd (omega arith)
-as_long n (m ∷ ns) [] h = absurd (omega arith)
-as_long n (m ∷ ns) (c ∷ cs) h = ap suc (as_long (n + 1) ns cs (one_less (length ns) (length cs) h))
+tells : (h : Held) → ◌≡◌ {A = ℕ} (cond (beq true (is_some (option_map kinds_of (table_in h)))) 1 0) (cond (is_some (table_in h)) 1 0)
+tells (Table c) = refl
+tells (View a) = refl
 
-one_plus : (n : ℕ) → 1 + n ≡ suc n
-one_plus n = omega arith
+-- Access counts the tables of the catalog
+pub counted : (es : List Entry) → count_like true (map relation_in es) ≡ count_by (λ e. is_some (table_in e.held)) es
+counted [] = refl
+counted (e ∷ es) = sum_by-cons (λ (r : Relation). cond (beq true (is_some r.kinds)) 1 0) (relation_in e) (map relation_in es)
+    ∙ (λ i. tells e.held i + counted es i) ∙ sym (sum_by-cons (λ (x : Entry). cond (is_some (table_in x.held)) 1 0) e es)
 
-pub all_tables : (n : ℕ) (ns : List Relation) (cs : List (List Column)) → length ns ≡ length cs → count_by (λ e. is_some (table_in e.held)) (tables_from n ns cs) ≡ length cs
-all_tables n [] [] h = refl
-all_tables n [] (c ∷ cs) h = absurd (omega arith)
-all_tables n (m ∷ ns) [] h = absurd (omega arith)
-all_tables n (m ∷ ns) (c ∷ cs) h = let ih = all_tables (n + 1) ns cs (one_less (length ns) (length cs) h) in sum_by-cons (λ (e : Entry). cond (is_some (table_in e.held)) 1 0) (record { name = m.name; rel = n; held = Table c }) (tables_from (n + 1) ns cs) ∙ ap (λ k. 1 + k) ih ∙ one_plus (length cs)
+-- one relation more
+pub numbered_push : (n : ℕ) (es : List Entry) (e : Entry) → AreNumbered n es → e.rel ≡ n + length es → AreNumbered n (es ++ e ∷ [])
+numbered_push n [] e u h = (h ∙ none_more n, tt)
+  where
+    none_more : (n : ℕ) → n + 0 ≡ n
+    none_more n = omega arith
+numbered_push n (x ∷ es) e u h = (u.0, numbered_push (suc n) es e u.1 (h ∙ later n (length es)))
+  where
+    later : (n k : ℕ) → n + suc k ≡ suc n + k
+    later n k = omega arith
 
-pub one_more : (n : ℕ) (ns : List Relation) (cs : List (List Column)) (r : Relation) (c : List Column) → length ns ≡ length cs
-    → tables_from n (ns ++ r ∷ []) (cs ++ c ∷ []) ≡ tables_from n ns cs ++ record { name = r.name; rel = n + length cs; held = Table c } ∷ []
-one_more n [] [] r c h = let z : n ≡ n + 0 = omega arith in ap (λ k. record { name = r.name; rel = k; held = Table c } ∷ []) z
-one_more n [] (d ∷ cs) r c h = absurd (omega arith)
-one_more n (m ∷ ns) [] r c h = absurd (omega arith)
-one_more n (m ∷ ns) (d ∷ cs) r c h = let z : (n + 1) + length cs ≡ n + suc (length cs) = omega arith in
-    ap (λ es. record { name = m.name; rel = n; held = Table d } ∷ es) (one_more (n + 1) ns cs r c (one_less (length ns) (length cs) h)
-    ∙ ap (λ k. tables_from (n + 1) ns cs ++ record { name = r.name; rel = k; held = Table c } ∷ []) z)
+-- ---- for Sound
+
+-- each relation below the length is there
+pub known_at : (n : ℕ) (es : List Entry) (k : ℕ) → AreNumbered n es → n ≤ k → k < n + length es → is_some (numbered es k) ≡ true
+known_at n [] k u h l = absurd (omega arith)
+known_at n (e ∷ es) k u h l = by (k == e.rel) refl (λ d. let far = differ k n (subst (λ m. (k == m) ≡ false) u.0 d) h in known_at (suc n) es k u.1 far (omega arith))
+  where
+    by : (b : Bool) → (k == e.rel) ≡ b → ((k == e.rel) ≡ false → is_some (numbered es k) ≡ true) → is_some (cond b (Some e) (numbered es k)) ≡ true
+    by true d go = refl
+    by false d go = go d

@@ -1,15 +1,13 @@
 -- Which refusal a refused change of rights is, and what an accepted one leaves.
-use Rattle.std.proofs.Common.{◌≡◌, ℕ, zero, suc, ◌+◌, ◌<◌, Bool, true, false, cond, not, List, [], ◌∷◌, length, Option, None, Some, refl, sym, ap, subst, ◌∙◌, arith, ⊎_elim}
-use Rattle.std.specs.Prelude.{Result, Ok, Err, IfSome, is_some, nat_le, option_map, unwrap_or, slice_get, position}
-use Rattle.std.specs.List.{AllByRecursion, position_from}
+use Rattle.std.proofs.Common.{◌≡◌, ℕ, ◌<◌, Bool, true, false, not, List, [], ◌∷◌, length, map, Option, None, Some, refl, sym, ap, subst, ◌∙◌, arith, ⊎_elim}
+use Rattle.std.specs.Prelude.{Result, Ok, Err, IfSome, is_some, nat_le, option_map, unwrap_or, position}
+use Rattle.std.specs.List.{position_from}
 use Rattle.std.proofs.lemmas.Iterator.Adapters.{position_from-zero}
 use Rattle.std.proofs.lemmas.List.Quantifiers.{position-Some}
-use Rattle.std.proofs.lemmas.List.Sums.{sum_by-cons}
-use Rattle.std.specs.Bool.{beq}
 use Rattle.iv_rows.specs.Columns.{Column, kinds_of}
 use Rattle.iv_rows.specs.declared.schema.RelId.{RelId}
 use Rattle.iv_bind.specs.Faults.{if_some}
-use Rattle.iv_bind.specs.Catalogs.{named, table_in}
+use Rattle.iv_bind.specs.Catalogs.{Entry, named, numbered, schema_of, table_in}
 use Rattle.iv_access.specs.Faults.{first, add_relation_fault, count_like}
 use Rattle.iv_access.specs.Known.{Relation, relation_of}
 use Rattle.iv_access.specs.Privileges.{is_admin, role_of}
@@ -17,17 +15,18 @@ use Rattle.iv_access.specs.Rights.{Name}
 use Rattle.iv_access.specs.declared.fault.AccessFault.{AccessFault}
 use Rattle.iv_access.specs.declared.fault.AccessFault.TheVariants as fault
 use Rattle.iv_machine.specs.Act as machine
-use Rattle.iv_machine.specs.Act.{Act, create_role, create_table, grant, revoke, Refusal}
+use Rattle.iv_machine.specs.Act.{Act, create_table, Refusal}
 use Rattle.iv_machine.specs.Refusing.{test, or_else, role_refusal, frame_refusal}
 use Rattle.iv_machine.specs.State.{Session, session_of, name_of, table_columns, rel_of, next_rel, is_open, actor}
-use Rattle.iv_engine.specs.Kept.{Kept, IsStored, frame_of}
+use Rattle.std.proofs.lemmas.List.{length-map}
+use Rattle.iv_engine.specs.Kept.{Kept, IsStored, frame_of, relation_in}
 use Rattle.iv_engine.specs.Next.{next, next_by}
 use Rattle.iv_engine.specs.Telling.{told, IsTold, IsAdded}
-use Rattle.iv_engine.proofs.Tables.{IsTable, all_tables, is_of, none_named, table_is}
+use Rattle.iv_engine.proofs.Tables.{IsNamed, counted, is_of, none_later, none_named, relation_is}
 
 -- ---- the acting role
 
-opened : (o : Option Session) (a d : ℕ) → Some a ≡ option_map (λ s. s.role) o → (is_some o ≡ true) × (unwrap_or (option_map (λ s. s.role) o) d ≡ a)
+pub opened : (o : Option Session) (a d : ℕ) → Some a ≡ option_map (λ s. s.role) o → (is_some o ≡ true) × (unwrap_or (option_map (λ s. s.role) o) d ≡ a)
 opened None a d h = cc
 opened (Some s) a d h = let e : s.role ≡ a = cc in (refl, e)
 
@@ -37,7 +36,7 @@ pub acts : (e : Kept) (n a : ℕ) (act : Act) → Some a ≡ option_map (λ s. s
 acts e n a act h = let o = opened (session_of e.sessions n) a (length e.known.rights.roles) h in
     (λ i. or_else (test (not (o.0 i)) machine.no_session) (role_refusal (frame_of e) n (o.1 i) act))
 
-closed : (o : Option Session) → None ≡ option_map (λ s. s.role) o → is_some o ≡ false
+pub closed : (o : Option Session) → None ≡ option_map (λ s. s.role) o → is_some o ≡ false
 closed None h = refl
 closed (Some s) h = cc
 
@@ -70,56 +69,63 @@ pub record Agrees (e new : Kept) (n : ℕ) (act : Act) (r : Option Refusal) : Ty
 -- ---- a new table
 
 module _ (e : Kept) (h : IsStored e) where
-  all_like : (rs : List Relation) → AllByRecursion (λ r. is_some r.kinds ≡ true) rs → count_like true rs ≡ length rs
-  all_like [] a = refl
-  all_like (r ∷ rs) a = sum_by-cons (λ (x : Relation). cond (beq true (is_some x.kinds)) 1 0) r rs ∙ (λ i. cond (beq true (a.0 i)) 1 0 + all_like rs a.1 i) ∙ one_plus (length rs)
-    where
-      one_plus : (n : ℕ) → 1 + n ≡ suc n
-      one_plus n = omega arith
+  place : (name : Name) → relation_of e.known.relations name ≡ position_from (is_of name) 0 (map relation_in e.catalog)
+  place name = position_from-zero (is_of name) e.known.relations ∙ ap (position_from (is_of name) 0) h.relations
 
-  place : (name : Name) → relation_of e.known.relations name ≡ position_from (is_of name) 0 e.known.relations
-  place name = position_from-zero (is_of name) e.known.relations
+  pub unknown : (name : Name) → relation_of e.known.relations name ≡ None → named e.catalog name ≡ None
+  unknown name n = none_named 0 e.catalog name (sym (place name) ∙ n)
 
-  pub unknown : (name : Name) → relation_of e.known.relations name ≡ None → named (frame_of e).catalog name ≡ None
-  unknown name n = none_named 0 e.known.relations e.columns name (sym (place name) ∙ n)
+  pub known : (name : Name) (k : ℕ) → relation_of e.known.relations name ≡ Some k → (x : Entry) × IsNamed e.catalog x name k
+  known name k n = relation_is 0 e.catalog name k h.numbered (sym (place name) ∙ n)
 
-  pub known : (name : Name) (k : ℕ) (c : List Column) → relation_of e.known.relations name ≡ Some k → slice_get e.columns k ≡ Some c → IsTable (frame_of e).catalog c name k
-  known name k c n g = table_is 0 e.known.relations e.columns name k k c (sym (place name) ∙ n) (omega arith) g
+  pub as_long : length e.known.relations ≡ length e.catalog
+  as_long = ap (λ (rs : List Relation). length rs) h.relations ∙ length-map {B = Relation} e.catalog relation_in
 
-  some_at : (cs : List (List Column)) (k : ℕ) → k < length cs → (c : List Column) × (slice_get cs k ≡ Some c)
-  some_at [] k l = absurd (omega arith)
-  some_at (c ∷ cs) zero l = (c, refl)
-  some_at (c ∷ cs) (suc k) l = some_at cs k (omega arith)
-
-  pub below : (name : Name) (k : ℕ) → relation_of e.known.relations name ≡ Some k → k < length e.columns
-  below name k n = subst (λ m. k < m) h.relations (in_list e.known.relations n)
+  pub below : (name : Name) (k : ℕ) → relation_of e.known.relations name ≡ Some k → k < length e.catalog
+  below name k n = subst (λ m. k < m) as_long (in_list e.known.relations n)
     where
       in_list : (rs : List Relation) → position (is_of name) rs ≡ Some k → k < length rs
       in_list [] m = cc
       in_list (r ∷ rs) m = (position-Some (is_of name) (r ∷ rs) k r m).0
-
-  pub columns_of : (k : ℕ) → k < length e.columns → (c : List Column) × (slice_get e.columns k ≡ Some c)
-  columns_of k l = some_at e.columns k l
 
   pub named_known : (name : Name) → is_some (relation_of e.known.relations name) ≡ is_some (named (frame_of e).catalog name)
   named_known name = by (relation_of e.known.relations name) refl
     where
       by : (o : Option ℕ) → relation_of e.known.relations name ≡ o → is_some o ≡ is_some (named (frame_of e).catalog name)
       by None n = sym (ap (λ p. is_some p) (unknown name n))
-      by (Some k) n = let c = columns_of k (below name k n) in sym (ap (λ p. is_some p) (known name k c.0 n c.1).named)
+      by (Some k) n = sym (ap (λ p. is_some p) (known name k n).1.named)
 
   pub number_is : (name : Name) (k : ℕ) → relation_of e.known.relations name ≡ Some k → rel_of (frame_of e).catalog name ≡ k
-  number_is name k n = let c = columns_of k (below name k n) in ap (λ o. if_some o (next_rel (frame_of e).catalog) (λ x. x.rel)) (known name k c.0 n c.1).named
+  number_is name k n = let x = known name k n in ap (λ o. if_some o (next_rel e.catalog) (λ y. y.rel)) x.1.named ∙ x.1.placed
 
   pub table_told : (n a : ℕ) (name owner : Name) (columns : List Column) → Some a ≡ option_map (λ s. s.role) (session_of e.sessions n)
       → Tells (add_relation_fault e.known a name owner true) name (frame_refusal (frame_of e) n (create_table name owner columns))
   table_told n a name owner columns h' =
       subst (Tells (add_relation_fault e.known a name owner true) name) (sym (acts e n a (create_table name owner columns) h'))
       (subst (λ m. Tells (add_relation_fault e.known a name owner true) name (or_else (test (not (is_admin a)) machine.not_administrator) (or_else (test (not (is_some (role_of e.known.rights owner))) machine.unknown_role) (or_else (test (is_some (named (frame_of e).catalog name)) machine.name_taken) (or_else (test (nat_le 64 m) machine.too_many) None)))))
-      (all_like e.known.relations h.tables ∙ h.relations ∙ sym (all_tables 0 e.known.relations e.columns h.relations))
+      (ap (count_like true) h.relations ∙ counted e.catalog)
       (subst (λ b. Tells (add_relation_fault e.known a name owner true) name (or_else (test (not (is_admin a)) machine.not_administrator) (or_else (test (not (is_some (role_of e.known.rights owner))) machine.unknown_role) (or_else (test b machine.name_taken) (or_else (test (nat_le 64 (count_like true e.known.relations)) machine.too_many) None)))))
       (named_known name)
       (four (not (is_admin a)) (not (is_some (role_of e.known.rights owner))) (is_some (relation_of e.known.relations name)) (nat_le 64 (count_like true e.known.relations)) name)))
+
+-- ---- a relation that may be added is new
+
+free_by : (a d b c : Bool) → first ((a, fault.NotAdmin) ∷ (d, fault.Role) ∷ (b, fault.Taken) ∷ (c, fault.TooMany) ∷ []) ≡ None → b ≡ false
+free_by true d b c h = cc
+free_by false true b c h = cc
+free_by false false true c h = cc
+free_by false false false c h = refl
+
+pub none_is : (o : Option ℕ) → is_some o ≡ false → o ≡ None
+none_is None h = refl
+none_is (Some k) h = cc
+
+pub free_name : (e : Kept) → IsStored e → (a : ℕ) (name owner : Name) → add_relation_fault e.known a name owner true ≡ None → named e.catalog name ≡ None
+free_name e h a name owner f = unknown e h name (none_is (relation_of e.known.relations name)
+    (free_by (not (is_admin a)) (not (is_some (role_of e.known.rights owner))) (is_some (relation_of e.known.relations name)) (nat_le 64 (count_like true e.known.relations)) f))
+
+pub free_number : (e : Kept) → IsStored e → (k : ℕ) → k ≡ length e.known.relations → numbered e.catalog k ≡ None
+free_number e h k l = none_later 0 e.catalog k h.numbered (let m = as_long e h in omega arith)
 
 added_by : (e new : Kept) (n a : ℕ) (name owner : Name) (columns : List Column) (f : Option Refusal) (x : Result Unit AccessFault) (r : Option Refusal)
     → Tells (add_relation_fault e.known a name owner true) name f → f ≡ frame_refusal (frame_of e) n (create_table name owner columns)
@@ -151,12 +157,12 @@ module _ (e : Kept) (h : IsStored e) (name : Name) where
 
   pub table_name : (o : Option RelId) → option_map (λ r. r.0) o ≡ relation_of e.known.relations name → IfSome o (λ r. name_of (frame_of e).catalog r.0 ≡ name)
   table_name None g = tt
-  table_name (Some r) g = let c = columns_of e h r.0 (below e h name r.0 (sym g)) in ap (λ o. if_some o [] (λ x. x.name)) (known e h name r.0 c.0 (sym g) c.1).numbered
+  table_name (Some r) g = let x = known e h name r.0 (sym g) in ap (λ o. if_some o [] (λ y. y.name)) x.1.numbered ∙ x.1.called
 
-  pub table_columns_are : (o : Option RelId) → option_map (λ r. r.0) o ≡ relation_of e.known.relations name → IfSome o (λ r. table_columns (frame_of e).catalog name ≡ slice_get e.columns r.0)
+  pub table_columns_are : (o : Option RelId) → option_map (λ r. r.0) o ≡ relation_of e.known.relations name → IfSome o (λ r. table_columns e.catalog name ≡ schema_of e.catalog r.0)
   table_columns_are None g = tt
-  table_columns_are (Some r) g = let c = columns_of e h r.0 (below e h name r.0 (sym g)) in ap (λ o. if_some o None (λ x. table_in x.held)) (known e h name r.0 c.0 (sym g) c.1).named ∙ sym c.1
+  table_columns_are (Some r) g = let c = known e h name r.0 (sym g) in ap (λ o. if_some o None (λ x. table_in x.held)) c.1.named ∙ sym (ap (λ o. if_some o None (λ x. table_in x.held)) c.1.numbered)
 
-  pub table_below : (o : Option RelId) → option_map (λ r. r.0) o ≡ relation_of e.known.relations name → IfSome o (λ r. r.0 < length e.columns)
+  pub table_below : (o : Option RelId) → option_map (λ r. r.0) o ≡ relation_of e.known.relations name → IfSome o (λ r. r.0 < length e.catalog)
   table_below None g = tt
   table_below (Some r) g = below e h name r.0 (sym g)

@@ -1,11 +1,10 @@
 -- How the logic stores what the engine keeps, so that a contract may speak of it.
 use Rattle.std.specs.Prelude.{ℕ, Bool, List, refl}
 use Rattle.std.specs.Coded.{Coded, code_by, coded_ℕ, coded_ℤ, coded_bool, coded_list, coded×}
-use Rattle.iv_rows.specs.Columns.{Column}
 use Rattle.iv_zset.specs.Weights.{Weighed}
 use Rattle.iv_algebra.specs.Codes.{cell_code}
 use Rattle.iv_bind.specs.Catalogs.{Entry}
-use Rattle.iv_bind.specs.Codes.{column_code, entries_code}
+use Rattle.iv_bind.specs.Codes.{entries_code}
 use Rattle.iv_access.specs.Codes.{known_code, rights_code}
 use Rattle.iv_access.specs.Known.{Known}
 use Rattle.iv_access.specs.Rights.{Rights}
@@ -33,12 +32,12 @@ frame_code =
 
 abbrev pub kept_code : Coded Kept
 kept_code =
-    code_by ((Known × List (List Column)) × ((List Session × List Subscription) × (ℕ × List Weighed)))
-    (coded× (coded× known_code (coded_list (coded_list column_code)))
+    code_by ((Known × List Entry) × ((List Session × List Subscription) × (ℕ × List Weighed)))
+    (coded× (coded× known_code entries_code)
     (coded× (coded× (coded_list session_code) (coded_list subscription_code))
     (coded× coded_ℕ (coded_list weighed_code))))
-    (λ e. ((e.known, e.columns), ((e.sessions, e.subscriptions), (e.last, e.bags))))
-    (λ p. record { known = p.0.0; columns = p.0.1; sessions = p.1.0.0; subscriptions = p.1.0.1; last = p.1.1.0; bags = p.1.1.1 }) (λ _. refl)
+    (λ e. ((e.known, e.catalog), ((e.sessions, e.subscriptions), (e.last, e.bags))))
+    (λ p. record { known = p.0.0; catalog = p.0.1; sessions = p.1.0.0; subscriptions = p.1.0.1; last = p.1.1.0; bags = p.1.1.1 }) (λ _. refl)
 
 abbrev pub seen_code : Coded Seen
 seen_code =

@@ -10,6 +10,11 @@ pub mod Telling
 pub mod Answering
 pub mod Summed
 pub mod Placed
+pub mod Reading
+pub mod Moved
 pub mod Resolving
 pub mod Turned
 pub mod Owned
+pub mod Finished
+pub mod Defined
+pub mod Openable

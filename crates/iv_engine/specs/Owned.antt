@@ -7,7 +7,7 @@ use Rattle.iv_query.specs.declared.fault.QueryFault.TheVariants as reading
 use Rattle.iv_algebra.specs.declared.pred.Pred.{Pred}
 use Rattle.iv_algebra.specs.Shapes.{Condition, condition_of}
 use Rattle.iv_bind.specs.BoundTexts.{TextFault}
-use Rattle.iv_bind.specs.Catalogs.{named}
+use Rattle.iv_bind.specs.Catalogs.{named, schema_of}
 use Rattle.iv_bind.specs.declared.fault.BindFault.{BindFault}
 use Rattle.iv_bind.specs.declared.fault.BindFault.TheVariants as binding
 use Rattle.iv_access.specs.Asked.{Asked, policy_from}
@@ -75,8 +75,9 @@ pub record IsOwner (e : Kept) (n : ℕ) (rel : Name) (owned : Owned) : Type 0 wh
   pub role : Some owned.acting.0 ≡ option_map (λ s. s.role) (session_of e.sessions n)
   pub known : is_some (named (frame_of e).catalog rel) ≡ true
   pub number : rel_of (frame_of e).catalog rel ≡ owned.table.0
-  pub columns : table_columns (frame_of e).catalog rel ≡ slice_get e.columns owned.table.0
-  pub below : owned.table.0 < length e.columns
+  pub columns : table_columns e.catalog rel ≡ schema_of e.catalog owned.table.0
+  pub table : is_some (schema_of e.catalog owned.table.0) ≡ true
+  pub below : owned.table.0 < length e.catalog
   pub owns : owns e.known.rights owned.acting.0 owned.table.0 ≡ true
 
 -- it may, or the refusal that tells the first test that fails, whatever tests follow
@@ -100,7 +101,14 @@ has_room r table = not (nat_le 32 (length (policies_of (slice_get r.guards table
 
 -- the policy with its predicates
 abbrev pub asked : PolicyText → Predicates → Asked
-asked p preds = record { name = p.name; restrictive = p.restrictive; command = p.command; to = p.to; using = option_map condition_of preds.using; check = option_map condition_of preds.check }
+asked p preds = record {
+  name = p.name;
+  restrictive = p.restrictive;
+  command = p.command;
+  to = p.to;
+  using = option_map condition_of preds.using;
+  check = option_map condition_of preds.check;
+}
 
 -- the policy is added, or not
 abbrev pub with_asked : ℕ → Asked → Bool → Kept → Kept

@@ -1,11 +1,13 @@
 -- What contracts see of an engine, and the machine's states that stand behind it.
-use Rattle.std.specs.Prelude.{◌≡◌, Bool, List}
-use Rattle.std.specs.List.{All}
+use Rattle.std.specs.Prelude.{◌≡◌, ℕ, ◌==◌, Bool, false, List, [], ◌∷◌}
+use Rattle.std.specs.List.{All, list_any}
+use Rattle.iv_rows.specs.Cell.{Cell}
 use Rattle.iv_zset.specs.Weights.{Weighed}
-use Rattle.iv_machine.specs.Act.{Command, Line}
-use Rattle.iv_machine.specs.Machine.{step}
+use Rattle.iv_machine.specs.Act.{Command, Line, Refusal, refused, reply}
+use Rattle.iv_machine.specs.Held.{closed, held}
+use Rattle.iv_machine.specs.Machine.{run, step, weight}
 use Rattle.iv_machine.specs.Readers.{ShowsKnownRows}
-use Rattle.iv_machine.specs.State.{Frame, State}
+use Rattle.iv_machine.specs.State.{Frame, State, shown}
 use Rattle.iv_engine.specs.Stands.{Stands}
 
 -- all but the rows, a bag of rows for each table, and whether the engine has failed
@@ -19,6 +21,35 @@ pub record IsBehind (s : State) (e : Seen) : Type 0 where
   pub frame : s.frame ≡ e.frame
   pub rows : Stands s.rows e.bags
 
--- the rows of change lines are known: their subscription showed them before, or its reader may see them now
+-- the rows of a subscription to a table are known: a change has rows that it showed before or that its reader may see
+-- now, and a last line takes back all that it showed
 abbrev pub HasKnownRows : Seen → Command → List Line → Type 0
 HasKnownRows e c lines = (s : State) → IsBehind s e → All (ShowsKnownRows s (step s c).state) lines
+
+-- in each state behind the engine these are the lines of the command
+abbrev pub AreLinesOf : Seen → Command → List Line → Type 0
+AreLinesOf e c lines = (s : State) → IsBehind s e → lines ≡ (step s c).lines
+
+-- and behind what is left stands the state that it leaves
+abbrev pub IsLeftBy : Seen → Command → Seen → Type 0
+IsLeftBy e c new = (s : State) → IsBehind s e → IsBehind (step s c).state new
+
+-- the same of commands in their order
+abbrev pub AreLinesOfAll : Seen → List Command → List Line → Type 0
+AreLinesOfAll e cs lines = (s : State) → IsBehind s e → lines ≡ (run s cs).lines
+
+abbrev pub IsLeftByAll : Seen → List Command → Seen → Type 0
+IsLeftByAll e cs new = (s : State) → IsBehind s e → IsBehind (run s cs).state new
+
+-- where the one line is a refusal nothing has changed
+abbrev pub ChangesWhereAccepted : {A : Type 0} → A → List Line → A → Type 0
+ChangesWhereAccepted old lines new = (n : ℕ) (r : Refusal) → lines ≡ reply n (refused r) ∷ [] → new ≡ old
+
+-- for each subscription that its reader did not close the lines add up to what it shows after the commands, minus what
+-- it showed before
+abbrev pub LinesAddUp : State → List Command → List Line → Type 0
+LinesAddUp s cs lines = (k : ℕ) (q : List Cell) → list_any (λ j. k == j) (closed s cs) ≡ false
+    → held k q lines ≡ weight (shown s k) (shown (run s cs).state k) q
+
+abbrev pub LinesAddUpBehind : Seen → List Command → List Line → Type 0
+LinesAddUpBehind e cs lines = (s : State) → IsBehind s e → LinesAddUp s cs lines

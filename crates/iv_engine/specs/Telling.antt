@@ -1,7 +1,8 @@
 -- Which refusal a refused change of rights is.
-use Rattle.std.specs.Prelude.{◌≡◌, ◌≢◌, ◌⊎◌, ℕ, List, [], ◌∷◌, ◌++◌, Option, Some, None, Result, Ok, Err, true}
+use Rattle.std.specs.Prelude.{◌≡◌, ◌≢◌, ◌⊎◌, ℕ, List, [], ◌∷◌, ◌++◌, Option, Some, None, Result, Ok, Err, length, true}
 use Rattle.iv_rows.specs.Columns.{Column}
 use Rattle.iv_rows.specs.declared.value.Kind.{Kind}
+use Rattle.iv_bind.specs.Catalogs.{Table, extended}
 use Rattle.iv_access.specs.Changing.{with_relation}
 use Rattle.iv_access.specs.Faults.{add_relation_fault}
 use Rattle.iv_access.specs.Known.{role_number}
@@ -35,7 +36,7 @@ IsAdded e acting name owner kinds columns (Ok u) new =
         relations = e.known.relations ++ record { name = name; kinds = Some kinds } ∷ [];
         rights = with_relation (role_number e.known.rights owner) e.known.rights;
       };
-      columns = e.columns ++ columns ∷ [];
+      catalog = extended e.catalog name (length e.catalog) (Table columns);
       bags = e.bags ++ [] ∷ [];
     })
 IsAdded e acting name owner kinds columns (Err f) new = ((f ≡ fault.Memory) ⊎ (add_relation_fault e.known acting name owner true ≡ Some f)) × (new ≡ e)

@@ -4,11 +4,11 @@ use Rattle.iv_bind.specs.BoundTexts as texts
 use Rattle.iv_machine.specs.Act as machine
 use Rattle.iv_engine.specs.declared.command.Command.{Command}
 use Rattle.iv_engine.specs.declared.command.Act.{Act}
-use Rattle.iv_engine.specs.declared.command.Act.TheVariants.{Begin, CreateRole, CreateTable, Grant, Revoke, RowSecurity, CreatePolicy, DropPolicy, Write, Subscribe}
+use Rattle.iv_engine.specs.declared.command.Act.TheVariants.{Begin, Finish, CreateRole, CreateTable, CreateView, Grant, Revoke, RowSecurity, CreatePolicy, DropPolicy, Write, Subscribe, Unsubscribe}
 use Rattle.iv_engine.specs.declared.command.Reason.{Reason}
 use Rattle.iv_engine.specs.declared.command.Reason.TheVariants.{Reading, Binding}
 use Rattle.iv_engine.specs.declared.command.Refusal.{Refusal}
-use Rattle.iv_engine.specs.declared.command.Refusal.TheVariants.{NoSession, SessionInUse, UnknownRole, NameTaken, UnknownRelation, BadRow, BadQuery, NotAdministrator, NotOwner, MissingPrivilege, NoPermissive, RestrictiveFailed, NoSuchRow, Limit, UnknownPolicy, TooMany}
+use Rattle.iv_engine.specs.declared.command.Refusal.TheVariants.{NoSession, SessionInUse, UnknownRole, NameTaken, UnknownRelation, NotATable, BadRow, BadQuery, NotAdministrator, NotOwner, MissingPrivilege, NoPermissive, RestrictiveFailed, NoSuchRow, Limit, UnknownPolicy, UnknownSubscription, TooMany}
 use Rattle.iv_engine.specs.declared.command.Reply.{Reply}
 use Rattle.iv_engine.specs.declared.command.Reply.TheVariants as said
 use Rattle.iv_engine.specs.declared.command.Line.{Line}
@@ -20,8 +20,10 @@ reason_of (Binding why) = texts.Binding why
 
 abbrev pub act_of : Act → machine.Act
 act_of (Begin role) = machine.begin (string_bytes role)
+act_of Finish = machine.finish
 act_of (CreateRole name) = machine.create_role (string_bytes name)
 act_of (CreateTable name owner columns) = machine.create_table (string_bytes name) (string_bytes owner) columns.items
+act_of (CreateView name owner query) = machine.create_view (string_bytes name) (string_bytes owner) (string_bytes query)
 act_of (Grant rel privileges grantee) = machine.grant (string_bytes rel) privileges.items (option_map string_bytes grantee)
 act_of (Revoke rel privileges grantee) = machine.revoke (string_bytes rel) privileges.items (option_map string_bytes grantee)
 act_of (RowSecurity rel enable force) = machine.row_security (string_bytes rel) enable force
@@ -29,6 +31,7 @@ act_of (CreatePolicy policy) = machine.create_policy (policy)
 act_of (DropPolicy rel name) = machine.drop_policy (string_bytes rel) (string_bytes name)
 act_of (Write entries) = machine.write entries.items
 act_of (Subscribe rel) = machine.subscribe (string_bytes rel)
+act_of (Unsubscribe sub) = machine.unsubscribe sub
 
 abbrev pub command_of : Command → machine.Command
 command_of c = record { session = c.session; act = act_of c.act }
@@ -39,6 +42,7 @@ refusal_of SessionInUse = machine.session_in_use
 refusal_of UnknownRole = machine.unknown_role
 refusal_of NameTaken = machine.name_taken
 refusal_of UnknownRelation = machine.unknown_relation
+refusal_of NotATable = machine.not_a_table
 refusal_of (BadRow n) = machine.bad_row n
 refusal_of (BadQuery place why) = machine.bad_query place (reason_of why)
 refusal_of NotAdministrator = machine.not_administrator
@@ -49,6 +53,7 @@ refusal_of (RestrictiveFailed policy rel check n) = machine.restrictive_failed (
 refusal_of (NoSuchRow n) = machine.no_such_row n
 refusal_of Limit = machine.limit
 refusal_of UnknownPolicy = machine.unknown_policy
+refusal_of UnknownSubscription = machine.unknown_subscription
 refusal_of TooMany = machine.too_many
 
 abbrev pub reply_of : Reply → machine.Reply

@@ -1,9 +1,10 @@
 //! One step: a command to its lines.
-ghost use Rattle.std.specs.Prelude.{◌≡◌, ℕ, ◌∷◌, [], IfOk, OnOk, map, option_map, string_bytes, true};
+ghost use Rattle.std.specs.Prelude.{◌≡◌, IfOk, OnOk, map, option_map, string_bytes, true};
 ghost use Rattle.iv_machine.specs.Act as machine;
 ghost use Rattle.iv_machine.specs.Well.{is_well_act, is_well_command};
 ghost use Rattle.iv_engine.specs.Answering.{IsNext, IsPlain, IsSaid, IsStep};
 ghost use Rattle.iv_engine.specs.Kept.{IsSound};
+ghost use Rattle.iv_engine.specs.Seen.{ChangesWhereAccepted};
 ghost use Rattle.iv_engine.specs.Views.{act_of, command_of, line_of};
 
 use crate::answer::{Answer, lines_of};
@@ -46,6 +47,7 @@ impl Store {
                 let refusal = self.begin(session, role.as_str())?;
                 Ok(plain(self.alloc, refusal))
             }
+            Act::Finish => Ok(self.finish(session)),
             Act::CreateRole { name } => {
                 let refusal = self.create_role(session, name)?;
                 Ok(plain(self.alloc, refusal))
@@ -56,6 +58,15 @@ impl Store {
                 columns,
             } => {
                 let refusal = self.create_table(session, name, owner.as_str(), columns)?;
+                Ok(plain(self.alloc, refusal))
+            }
+            Act::CreateView { name, owner, query } => {
+                let refusal = self.create_view(
+                    session,
+                    name.as_str(),
+                    owner.as_str(),
+                    query.as_str(),
+                )?;
                 Ok(plain(self.alloc, refusal))
             }
             Act::Grant {
@@ -78,6 +89,7 @@ impl Store {
             Act::DropPolicy { rel, name } => self.drop_policy(session, rel, name.as_str()),
             Act::Write { entries } => self.write(session, entries),
             Act::Subscribe { rel } => self.subscribe(session, rel),
+            Act::Unsubscribe { sub } => Ok(self.unsubscribe(session, sub)),
         }
     }
 
@@ -87,7 +99,7 @@ impl Store {
         requires sound { IsSound self.old }
         ensures lines { IfOk result (λ lines. IsSaid self.old (command_of command) (map line_of lines.items)) }
         ensures state { OnOk result (IsNext self.old (command_of command) self.new) }
-        ensures refused { IfOk result (λ lines. (n : ℕ) (r : machine.Refusal) → map line_of lines.items ≡ machine.reply n (machine.refused r) ∷ [] → self.new ≡ self.old) }
+        ensures refused { IfOk result (λ lines. ChangesWhereAccepted self.old (map line_of lines.items) self.new) }
         ensures sound { OnOk result (IsSound self.new) }
     {
         let session = command.session;

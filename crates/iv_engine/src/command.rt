@@ -20,13 +20,16 @@ pub struct Command {
 
 /// What a session asks.
 ///
-/// Source: docs/PROTOCOL.md, Requests; PostgreSQL 16, CREATE ROLE, GRANT, REVOKE, Privileges, ALTER TABLE and CREATE POLICY.
+/// Source: docs/PROTOCOL.md, Requests; PostgreSQL 16, CREATE ROLE, CREATE VIEW (security_invoker), GRANT, REVOKE, Privileges,
+/// ALTER TABLE and CREATE POLICY.
 #[derive(Drop)]
 pub enum Act {
     /// Opens the session for a role.
     Begin {
         role: String,
     },
+    /// Closes the session and its subscriptions, for which nothing is sent any more.
+    Finish,
     /// Adds a role. Only `admin` may.
     CreateRole {
         name: String,
@@ -36,6 +39,13 @@ pub enum Act {
         name: String,
         owner: String,
         columns: Vec<Column>,
+    },
+    /// Adds a view of an owner, who is granted all four privileges on it. It shows its readers what they may see of its
+    /// tables. Only `admin` may.
+    CreateView {
+        name: String,
+        owner: String,
+        query: String,
     },
     /// Gives a role, or PUBLIC where none is named, privileges on a relation. Only its owner and `admin` may.
     Grant {
@@ -70,6 +80,10 @@ pub enum Act {
     /// Opens a subscription to a relation.
     Subscribe {
         rel: String,
+    },
+    /// Closes a subscription of the session: nothing is sent for it any more.
+    Unsubscribe {
+        sub: u64,
     },
 }
 
@@ -163,6 +177,8 @@ pub enum Refusal {
     NameTaken,
     /// 7: no relation has the name.
     UnknownRelation,
+    /// 8: the relation is a view.
+    NotATable,
     /// 9: the number or the kinds of an entry's values are not those of the table. Entries count from 1.
     BadRow {
         entry: usize,
@@ -200,10 +216,12 @@ pub enum Refusal {
     NoSuchRow {
         entry: usize,
     },
-    /// 17: a table would not be within the limits of rows and copies.
+    /// 17: a table, or the view of a subscription, would not be within the limits of rows and copies.
     Limit,
     /// 18: no policy of the table has the name.
     UnknownPolicy,
+    /// 19: the session has no open subscription of the number.
+    UnknownSubscription,
     /// 20: there are as many of them as there may be.
     TooMany,
 }

@@ -1,14 +1,11 @@
 //! The engine.
-ghost use Rattle.std.specs.Prelude.{◌≡◌, ◌↔◌, ◌∷◌, ◌&&◌, [], ℕ, List, IfOk, OnOk, OnErr, map, true, false};
+ghost use Rattle.std.specs.Prelude.{◌≡◌, ◌↔◌, [], IfOk, OnOk, OnErr, map, true, false};
 ghost use Rattle.std.specs.List.{list_all};
-ghost use Rattle.iv_rows.specs.Cell.{Cell};
-ghost use Rattle.iv_machine.specs.Act as machine;
-ghost use Rattle.iv_machine.specs.Held.{held};
-ghost use Rattle.iv_machine.specs.Machine.{hung, step, run, weight};
+ghost use Rattle.iv_machine.specs.Machine.{hung};
 ghost use Rattle.iv_machine.specs.Reached.{IsReached};
-ghost use Rattle.iv_machine.specs.State.{State, start, shown};
+ghost use Rattle.iv_machine.specs.State.{State, start};
 ghost use Rattle.iv_machine.specs.Well.{is_well_command};
-ghost use Rattle.iv_engine.specs.Seen.{HasKnownRows, IsBehind};
+ghost use Rattle.iv_engine.specs.Seen.{AreLinesOf, AreLinesOfAll, ChangesWhereAccepted, HasKnownRows, IsBehind, IsLeftBy, IsLeftByAll, LinesAddUpBehind};
 ghost use Rattle.iv_engine.specs.Views.{command_of, line_of};
 
 use crate::command::{Command, EngineFault, Line};
@@ -82,18 +79,19 @@ impl Engine {
         }
     }
 
-    /// Answers a command: one step of the access machine. Its change lines have rows alone that their subscription showed
-    /// before or that its reader may see now (PostgreSQL 16, Row Security Policies).
+    /// Answers a command: one step of the access machine. A change of a subscription to a table has rows alone that it
+    /// showed before or that its reader may see now, and a last line takes back all that was shown (PostgreSQL 16, Row
+    /// Security Policies).
     ///
     /// # Errors
     /// `Failed` exactly where the engine had failed; `Memory` where a growth of memory was refused. The engine has
     /// failed after either.
     pub fn apply(&mut self, command: Command) -> Result<Vec<Line>, EngineFault>
         requires { is_well_command (command_of command) ≡ true }
-        ensures lines { IfOk result (λ lines. (s : State) → IsBehind s self.old → map line_of lines.items ≡ (step s (command_of command)).lines) }
-        ensures state { OnOk result ((s : State) → IsBehind s self.old → IsBehind (step s (command_of command)).state self.new) }
+        ensures lines { IfOk result (λ lines. AreLinesOf self.old (command_of command) (map line_of lines.items)) }
+        ensures state { OnOk result (IsLeftBy self.old (command_of command) self.new) }
         ensures known_rows { IfOk result (λ lines. HasKnownRows self.old (command_of command) (map line_of lines.items)) }
-        ensures refused { IfOk result (λ lines. (n : ℕ) (r : machine.Refusal) → map line_of lines.items ≡ machine.reply n (machine.refused r) ∷ [] → self.new ≡ self.old) }
+        ensures refused { IfOk result (λ lines. ChangesWhereAccepted self.old (map line_of lines.items) self.new) }
         ensures went_on { OnOk result (self.new.failed ≡ false) }
         ensures fails { OnErr result (self.new.failed ≡ true) }
         ensures failed { result ≡ Err EngineFault.Failed ↔ (self.old.failed ≡ true) }
@@ -118,9 +116,10 @@ impl Engine {
     /// failed after either.
     pub fn run_list(&mut self, commands: Vec<Command>) -> Result<Vec<Line>, EngineFault>
         requires { list_all is_well_command (map command_of commands.items) ≡ true }
-        ensures lines { IfOk result (λ lines. (s : State) → IsBehind s self.old → map line_of lines.items ≡ (run s (map command_of commands.items)).lines) }
-        ensures state { OnOk result ((s : State) → IsBehind s self.old → IsBehind (run s (map command_of commands.items)).state self.new) }
-        ensures held { IfOk result (λ lines. (s : State) → IsBehind s self.old → (k : ℕ) (q : List Cell) → held k q (map line_of lines.items) ≡ weight (shown s k) (shown (run s (map command_of commands.items)).state k) q) }
+        ensures lines { IfOk result (λ lines. AreLinesOfAll self.old (map command_of commands.items) (map line_of lines.items)) }
+        ensures state { OnOk result (IsLeftByAll self.old (map command_of commands.items) self.new) }
+        // For each subscription that its reader did not close, what is sent adds up to what it shows more than before.
+        ensures held { IfOk result (λ lines. LinesAddUpBehind self.old (map command_of commands.items) (map line_of lines.items)) }
         ensures went_on { OnOk result (self.new.failed ≡ false) }
         ensures fails { OnErr result (self.new.failed ≡ true) }
         ensures failed { result ≡ Err EngineFault.Failed ↔ (self.old.failed ≡ true) }

@@ -1,10 +1,11 @@
 //! The requests that look at no row: `begin`, `create_role`, `create_table` and `grant`.
 ghost use Rattle.std.specs.Prelude.{◌≡◌, ◌&&◌, IfOk, OnOk, option_map, string_bytes, true};
 ghost use Rattle.iv_rows.specs.Columns.{has_columns, has_distinct_names, kinds_of};
+ghost use Rattle.iv_access.specs.Known.{named};
 ghost use Rattle.iv_machine.specs.Act as machine;
 ghost use Rattle.iv_machine.specs.Refusing.{frame_refusal};
 ghost use Rattle.iv_engine.specs.Kept.{IsStored, frame_of};
-ghost use Rattle.iv_engine.specs.Next.{next};
+ghost use Rattle.iv_engine.specs.Next.{IsFirstRefusal, next};
 ghost use Rattle.iv_engine.specs.Telling.{IsAdded, IsTold};
 ghost use Rattle.iv_engine.specs.Views.{refusal_of};
 
@@ -49,7 +50,7 @@ fn kinds(alloc: Global, columns: &[Column]) -> Result<Vec<Kind>, AllocError>
 impl Store {
     /// Opens a session, or says which test fails first.
     pub fn begin(&mut self, session: u32, role: &str) -> Result<Option<Refusal>, AllocError>
-        ensures refused { IfOk result (λ r. option_map refusal_of r ≡ frame_refusal (frame_of self.old) session (machine.begin role.now)) }
+        ensures refused { IfOk result (IsFirstRefusal self.old session (machine.begin role.now)) }
         ensures state { OnOk result (self.new ≡ next self.old session (machine.begin role.now)) }
     {
         if self.actor(session).is_some() {
@@ -70,7 +71,7 @@ impl Store {
 
     /// Adds a role, or says which test fails first.
     pub fn create_role(&mut self, session: u32, name: String) -> Result<Option<Refusal>, AllocError>
-        ensures refused { IfOk result (λ r. option_map refusal_of r ≡ frame_refusal (frame_of self.old) session (machine.create_role (string_bytes name))) }
+        ensures refused { IfOk result (IsFirstRefusal self.old session (machine.create_role (string_bytes name))) }
         ensures state { OnOk result (self.new ≡ next self.old session (machine.create_role (string_bytes name))) }
     {
         let Some(acting) = self.actor(session) else {
@@ -90,7 +91,7 @@ impl Store {
     ) -> Result<Option<Refusal>, AllocError>
         requires columns { (has_columns columns.items && has_distinct_names columns.items) ≡ true }
         requires stored { IsStored self.old }
-        ensures refused { IfOk result (λ r. option_map refusal_of r ≡ frame_refusal (frame_of self.old) session (machine.create_table (string_bytes name) owner.now columns.items)) }
+        ensures refused { IfOk result (IsFirstRefusal self.old session (machine.create_table (string_bytes name) owner.now columns.items)) }
         ensures state { OnOk result (self.new ≡ next self.old session (machine.create_table (string_bytes name) owner.now columns.items)) }
     {
         let Some(acting) = self.actor(session) else {
@@ -110,21 +111,23 @@ impl Store {
         kinds: Vec<Kind>,
         columns: Vec<Column>,
     ) -> Result<Result<(), AccessFault>, AllocError>
-        requires { (has_columns columns.items && has_distinct_names columns.items) ≡ true }
+        requires columns { (has_columns columns.items && has_distinct_names columns.items) ≡ true }
+        requires stored { IsStored self.old }
         ensures { IfOk result (λ change. IsAdded self.old acting.0 name.now owner.now kinds.items columns.items change self.new) }
     {
-        if let Err(fault) = self.access.add_relation(acting, name, owner, Some(kinds)) {
-            return Ok(Err(fault));
-        }
+        let rel = match self.access.add_relation(acting, name, owner, Some(kinds)) {
+            Ok(rel) => rel,
+            Err(fault) => return Ok(Err(fault)),
+        };
         let Ok(schema) = Schema::try_new(columns) else {
             unreachable!()
         };
-        self.schemas.push(schema)?;
+        self.catalog.add_table(name, rel, schema)?;
         self.bags.push(ZSet::new(self.alloc))?;
         Ok(Ok(()))
     }
 
-    /// Grants privileges on a table, or says which test fails first.
+    /// Grants privileges on a relation, or says which test fails first.
     pub fn grant(
         &mut self,
         session: u32,
@@ -133,13 +136,13 @@ impl Store {
         grantee: Option<&str>,
     ) -> Result<Option<Refusal>, AllocError>
         requires { IsStored self.old }
-        ensures refused { IfOk result (λ r. option_map refusal_of r ≡ frame_refusal (frame_of self.old) session (machine.grant (string_bytes rel) privileges.now (option_map (λ n. n.now) grantee.entry))) }
-        ensures state { OnOk result (self.new ≡ next self.old session (machine.grant (string_bytes rel) privileges.now (option_map (λ n. n.now) grantee.entry))) }
+        ensures refused { IfOk result (IsFirstRefusal self.old session (machine.grant (string_bytes rel) privileges.now (named grantee.entry))) }
+        ensures state { OnOk result (self.new ≡ next self.old session (machine.grant (string_bytes rel) privileges.now (named grantee.entry))) }
     {
         let Some(acting) = self.actor(session) else {
             return Ok(Some(Refusal::NoSession));
         };
-        let Some(number) = self.table(rel.as_str()) else {
+        let Some(number) = self.relation(rel.as_str()) else {
             return Ok(Some(Refusal::UnknownRelation));
         };
         let change = self.access.grant(acting, number, privileges, grantee);

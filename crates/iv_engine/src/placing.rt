@@ -1,6 +1,6 @@
 //! The entries of a write at the numbers of their tables.
 ghost use Rattle.std.specs.Prelude.{◌≡◌, ◌+◌, ◌<◌, IfOk, IfErr, OnOk, length, None, Some};
-ghost use Rattle.std.specs.List.{AllByRecursion, list_all};
+ghost use Rattle.std.specs.List.{list_all};
 ghost use Rattle.iv_rows.specs.Columns.{accepts, kinds_of};
 ghost use Rattle.iv_machine.specs.Refusing.{entry_shape, rows_in};
 ghost use Rattle.iv_engine.specs.Entries.{op_of};
@@ -58,7 +58,7 @@ impl Store {
         requires { IsStored self.now }
         ensures ok { OnOk result (entry_shape (frame_of self.now) number entry ≡ None) }
         ensures entry { IfOk result (λ p. entry ≡ entry_of p) }
-        ensures placed { IfOk result (λ p. IsPlaced (frame_of self.now) (length self.now.columns) p) }
+        ensures placed { IfOk result (λ p. IsPlaced (frame_of self.now) (length self.now.catalog) p) }
         ensures refused { IfErr result (λ r. entry_shape (frame_of self.now) number entry ≡ Some (refusal_of r)) }
     {
         let Entry {
@@ -66,10 +66,13 @@ impl Store {
             op,
             copies,
         } = entry;
-        let Some(rel) = self.table(name.as_str()) else {
+        let Some(rel) = self.relation(name.as_str()) else {
             return Err(Refusal::UnknownRelation);
         };
-        if !accepts(&self.schemas[rel.0 as usize], &op) {
+        let Some(schema) = self.catalog.schema(rel) else {
+            return Err(Refusal::NotATable);
+        };
+        if !accepts(schema, &op) {
             return Err(Refusal::BadRow { entry: number });
         }
         Ok(Placement {
@@ -83,7 +86,7 @@ impl Store {
     /// The entries at the numbers of their tables, or the first whose table or rows fail.
     pub fn placed(&self, entries: Vec<Entry>) -> Result<Entries, AllocError>
         requires { IsStored self.now }
-        ensures { IfOk result (λ r. AreEntries (frame_of self.now) (length self.now.columns) entries.items r) }
+        ensures { IfOk result (λ r. AreEntries (frame_of self.now) (length self.now.catalog) entries.items r) }
     {
         let mut placed: Vec<Placement> = Vec::new(self.alloc);
         for entry in entries {

@@ -12,7 +12,7 @@ ghost use Rattle.iv_engine.specs.Owned.{IsChecked, IsOwned, asked, has_room, nam
 ghost use Rattle.iv_engine.specs.Views.{refusal_of};
 
 use crate::answer::Answer;
-use crate::command::{PolicyText, Refusal, Reply};
+use crate::command::{PolicyText, Refusal};
 use crate::predicates::{Predicates, Stop, bound_texts};
 use crate::store::Store;
 use iv_access::{AccessFault, Policy, RoleId};
@@ -49,9 +49,12 @@ impl Store {
         let Some(acting) = self.actor(session) else {
             return Err(Stop::Refused(Refusal::NoSession));
         };
-        let Some(table) = self.table(rel) else {
+        let Some(table) = self.relation(rel) else {
             return Err(Stop::Refused(Refusal::UnknownRelation));
         };
+        if self.catalog.schema(table).is_none() {
+            return Err(Stop::Refused(Refusal::NotATable));
+        }
         if !self.access.owns(acting, table) {
             let rel = String::from_str(self.alloc, rel)?;
             return Err(Stop::Refused(Refusal::NotOwner { rel }));
@@ -103,7 +106,7 @@ impl Store {
         if let Some(refusal) = self.check_names(owned.table, policy) {
             return Err(Stop::Refused(refusal));
         }
-        let schema = &self.schemas[owned.table.0 as usize];
+        let schema = self.schema(owned.table);
         let predicates = bound_texts(self.alloc, schema, policy)?;
         Ok((owned, predicates))
     }
@@ -152,7 +155,7 @@ impl Store {
         Ok(true)
     }
 
-    /// Switches row security of a table, and tells its readers what they see more and less.
+    /// Switches row security of a table, and tells readers of it and of views over it what they see more and less.
     pub fn row_security(
         &mut self,
         session: u32,
@@ -168,16 +171,12 @@ impl Store {
             Err(Stop::Refused(refusal)) => return Ok(Answer::Refused(refusal)),
             Err(Stop::Memory) => return Err(AllocError),
         };
-        let filters = self.filters(owned.table)?;
+        let before = self.all_before(owned.table)?;
         self.switch(owned, enable, force);
-        let changes = self.turned(&filters)?;
-        Ok(Answer::Accepted {
-            reply: Reply::Ok,
-            changes,
-        })
+        self.tell_readers(&before)
     }
 
-    /// Adds a policy to a table, and tells its readers what they see more and less.
+    /// Adds a policy to a table, and tells readers of it and of views over it what they see more and less.
     pub fn create_policy(&mut self, session: u32, policy: PolicyText) -> Result<Answer, AllocError>
         requires { IsSound self.old }
         ensures { IfOk result (λ answer. IsStep self.old session (machine.create_policy policy) answer self.new) }
@@ -187,18 +186,14 @@ impl Store {
             Err(Stop::Refused(refusal)) => return Ok(Answer::Refused(refusal)),
             Err(Stop::Memory) => return Err(AllocError),
         };
-        let filters = self.filters(owned.table)?;
+        let before = self.all_before(owned.table)?;
         if !self.add(owned, asked(policy, predicates))? {
             return Ok(Answer::Refused(Refusal::TooMany));
         }
-        let changes = self.turned(&filters)?;
-        Ok(Answer::Accepted {
-            reply: Reply::Ok,
-            changes,
-        })
+        self.tell_readers(&before)
     }
 
-    /// Takes a policy of a table away, and tells its readers what they see more and less.
+    /// Takes a policy of a table away, and tells readers of it and of views over it what they see more and less.
     pub fn drop_policy(
         &mut self,
         session: u32,
@@ -216,12 +211,8 @@ impl Store {
         if self.access.policy(owned.table, name).is_none() {
             return Ok(Answer::Refused(Refusal::UnknownPolicy));
         }
-        let filters = self.filters(owned.table)?;
+        let before = self.all_before(owned.table)?;
         self.remove(owned, name);
-        let changes = self.turned(&filters)?;
-        Ok(Answer::Accepted {
-            reply: Reply::Ok,
-            changes,
-        })
+        self.tell_readers(&before)
     }
 }

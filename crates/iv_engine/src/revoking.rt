@@ -1,13 +1,14 @@
 //! The request `revoke`.
-ghost use Rattle.std.specs.Prelude.{◌≡◌, ◌<◌, IfOk, OnOk, List, filter, length, map, option_map, string_bytes, true, Some};
+ghost use Rattle.std.specs.Prelude.{◌≡◌, ◌<◌, IfOk, OnOk, List, filter, map, option_map, string_bytes, true, Some};
 ghost use Rattle.std.specs.List.{AllByRecursion};
 ghost use Rattle.iv_algebra.specs.Plans.{Lists};
+ghost use Rattle.iv_access.specs.Known.{named};
 ghost use Rattle.iv_machine.specs.Act as machine;
 ghost use Rattle.iv_machine.specs.Refusing.{frame_refusal};
 ghost use Rattle.iv_machine.specs.State.{is_open};
 ghost use Rattle.iv_engine.specs.Answering.{AreEnded, IsStep, last_line};
-ghost use Rattle.iv_engine.specs.Kept.{IsOpen, IsSound, IsStored, frame_of, may_read};
-ghost use Rattle.iv_engine.specs.Next.{next};
+ghost use Rattle.iv_engine.specs.Kept.{IsOpen, IsSound, IsStored, IsWithin, frame_of, may_read};
+ghost use Rattle.iv_engine.specs.Next.{IsFirstRefusal, next};
 ghost use Rattle.iv_engine.specs.Stands.{Stands};
 ghost use Rattle.iv_engine.specs.Views.{line_of, refusal_of};
 
@@ -31,8 +32,9 @@ struct Split {
 impl Store {
     /// The subscriptions that may be read, and for each other one the line that ends it and takes back all that it shows.
     fn split(&self, subscriptions: Vec<Subscription>) -> Result<Split, AllocError>
+        requires stored { IsStored self.now }
         requires open { AllByRecursion (IsOpen self.now) subscriptions.items }
-        requires bags { length self.now.bags ≡ length self.now.columns }
+        requires within { AllByRecursion (IsWithin self.now) subscriptions.items }
         ensures kept { IfOk result (λ s. s.kept.items ≡ filter (may_read self.now) subscriptions.items) }
         ensures lines { IfOk result (λ s. AreEnded self.now subscriptions.items (map line_of s.lines.items)) }
     {
@@ -51,11 +53,14 @@ impl Store {
 
     /// The line that ends a subscription.
     fn ended(&self, subscription: &Subscription) -> Result<Line, AllocError>
+        requires stored { IsStored self.now }
         requires open { IsOpen self.now subscription.now }
-        requires bags { length self.now.bags ≡ length self.now.columns }
+        requires within { IsWithin self.now subscription.now }
         ensures { IfOk result (λ line. (T : Lists) → Stands T self.now.bags → line_of line ≡ last_line self.now T subscription.now) }
     {
-        let rows = self.shown(subscription, true)?;
+        let Some(rows) = self.shown(subscription, true)? else {
+            unreachable!()
+        };
         Ok(Line::Ended {
             session: subscription.session,
             sub: subscription.number,
@@ -64,7 +69,7 @@ impl Store {
         })
     }
 
-    /// Takes privileges on a table back, or says which test fails first.
+    /// Takes privileges on a relation back, or says which test fails first.
     fn take_back(
         &mut self,
         session: u32,
@@ -73,20 +78,20 @@ impl Store {
         grantee: Option<&str>,
     ) -> Result<Option<Refusal>, AllocError>
         requires { IsStored self.old }
-        ensures refused { IfOk result (λ r. option_map refusal_of r ≡ frame_refusal (frame_of self.old) session (machine.revoke (string_bytes rel) privileges.now (option_map (λ n. n.now) grantee.entry))) }
-        ensures state { OnOk result (self.new ≡ next self.old session (machine.revoke (string_bytes rel) privileges.now (option_map (λ n. n.now) grantee.entry))) }
+        ensures refused { IfOk result (IsFirstRefusal self.old session (machine.revoke (string_bytes rel) privileges.now (named grantee.entry))) }
+        ensures state { OnOk result (self.new ≡ next self.old session (machine.revoke (string_bytes rel) privileges.now (named grantee.entry))) }
     {
         let Some(acting) = self.actor(session) else {
             return Ok(Some(Refusal::NoSession));
         };
-        let Some(number) = self.table(rel.as_str()) else {
+        let Some(number) = self.relation(rel.as_str()) else {
             return Ok(Some(Refusal::UnknownRelation));
         };
         let change = self.access.revoke(acting, number, privileges, grantee);
         outcome(change, rel)
     }
 
-    /// Takes privileges on a table from a role or from PUBLIC, and ends the subscriptions that may not be read any more.
+    /// Takes privileges on a relation from a role or from PUBLIC, and ends the subscriptions that may not be read any more.
     pub fn revoke(
         &mut self,
         session: u32,
@@ -95,7 +100,7 @@ impl Store {
         grantee: Option<&str>,
     ) -> Result<Answer, AllocError>
         requires { IsSound self.old }
-        ensures { IfOk result (λ answer. IsStep self.old session (machine.revoke (string_bytes rel) privileges.now (option_map (λ n. n.now) grantee.entry)) answer self.new) }
+        ensures { IfOk result (λ answer. IsStep self.old session (machine.revoke (string_bytes rel) privileges.now (named grantee.entry)) answer self.new) }
     {
         if let Some(refusal) = self.take_back(session, rel, privileges, grantee)? {
             return Ok(Answer::Refused(refusal));

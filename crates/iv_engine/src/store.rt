@@ -1,6 +1,6 @@
 //! All that the engine stores.
-ghost use Rattle.std.specs.Prelude.{◌≡◌, ◌<◌, IfOk, IfSome, is_some, length, option_map, slice_get};
-ghost use Rattle.iv_bind.specs.Catalogs.{named};
+ghost use Rattle.std.specs.Prelude.{◌≡◌, ◌<◌, IfOk, IfSome, is_some, length, option_map, true, Some};
+ghost use Rattle.iv_bind.specs.Catalogs.{named, schema_of};
 ghost use Rattle.iv_machine.specs.State.{name_of, rel_of, session_of, start, table_columns};
 ghost use Rattle.iv_engine.specs.Answering.{seen};
 ghost use Rattle.iv_engine.specs.Kept.{IsSound, IsStored, cap, frame_of};
@@ -8,17 +8,18 @@ ghost use Rattle.iv_engine.specs.Seen.{IsBehind};
 
 use crate::stored::{Session, Subscription, find_session};
 use iv_access::{Access, RoleId};
+use iv_bind::Catalog;
 use iv_rows::{RelId, Schema};
 use iv_zset::ZSet;
 use std::alloc::{AllocError, Global};
 use std::marker::Model;
 
-/// Rights, tables with their rows, sessions and subscriptions. A table's columns and rows stand at its number, and
+/// Rights, relations, the rows of tables, sessions and subscriptions. A table's rows stand at its number, and
 /// subscriptions in the order of their lines.
 #[derive(Drop)]
 pub struct Store {
     pub access: Access,
-    pub schemas: Vec<Schema>,
+    pub catalog: Catalog,
     pub sessions: Vec<Session>,
     pub subscriptions: Vec<Subscription>,
     pub last: u64,
@@ -34,7 +35,14 @@ impl Model for Store {
 
     ghost coded = { kept_code };
 
-    ghost view = { λ s. record { known = s.access; columns = s.schemas.items; sessions = s.sessions.items; subscriptions = s.subscriptions.items; last = s.last; bags = s.bags.items } };
+    ghost view = { λ s. record {
+      known = s.access;
+      catalog = s.catalog;
+      sessions = s.sessions.items;
+      subscriptions = s.subscriptions.items;
+      last = s.last;
+      bags = s.bags.items;
+    } };
 }
 
 impl Store {
@@ -45,7 +53,7 @@ impl Store {
     {
         Ok(Store {
             access: Access::new(alloc)?,
-            schemas: Vec::new(alloc),
+            catalog: Catalog::new(alloc),
             sessions: Vec::new(alloc),
             subscriptions: Vec::new(alloc),
             last: 0,
@@ -64,15 +72,26 @@ impl Store {
         }
     }
 
-    /// The table of a name; none where there is none.
-    pub fn table(&self, name: &str) -> Option<RelId>
+    /// The relation of a name; none where there is none.
+    pub fn relation(&self, name: &str) -> Option<RelId>
         requires { IsStored self.now }
         ensures known { is_some result ≡ is_some (named (frame_of self.now).catalog name.now) }
         ensures number { IfSome result (λ rel. rel_of (frame_of self.now).catalog name.now ≡ rel.0) }
         ensures name { IfSome result (λ rel. name_of (frame_of self.now).catalog rel.0 ≡ name.now) }
-        ensures columns { IfSome result (λ rel. table_columns (frame_of self.now).catalog name.now ≡ slice_get self.now.columns rel.0) }
-        ensures below { IfSome result (λ rel. rel.0 < length self.now.columns) }
+        ensures columns { IfSome result (λ rel. table_columns self.now.catalog name.now ≡ schema_of self.now.catalog rel.0) }
+        ensures below { IfSome result (λ rel. rel.0 < length self.now.catalog) }
     {
         self.access.relation(name)
+    }
+
+    /// The columns of a table.
+    pub fn schema(&self, table: RelId) -> &Schema
+        requires { is_some (schema_of self.now.catalog table.0) ≡ true }
+        ensures { Some result.now ≡ schema_of self.now.catalog table.0 }
+    {
+        match self.catalog.schema(table) {
+            Some(schema) => schema,
+            None => unreachable!(),
+        }
     }
 }

@@ -8,6 +8,7 @@ ghost use Rattle.iv_engine.specs.Entries.{copies_of, op_of};
 ghost use Rattle.iv_engine.specs.Views.{act_of, command_of};
 
 use crate::command::{Act, Command, Entry, Op, PolicyText};
+use crate::subscribing::LAST_NUMBER;
 use iv_access::PolicyCommand;
 use iv_rows::{columns_ok, name_ok};
 
@@ -37,12 +38,18 @@ fn is_well_act(act: &Act) -> bool
 {
     match act {
         Act::Begin { role } => name_ok(role.as_str()),
+        Act::Finish => true,
         Act::CreateRole { name } => name_ok(name.as_str()),
         Act::CreateTable {
             name,
             owner,
             columns,
         } => name_ok(name.as_str()) && (name_ok(owner.as_str()) && columns_ok(columns)),
+        Act::CreateView {
+            name,
+            owner,
+            query: _,
+        } => name_ok(name.as_str()) && name_ok(owner.as_str()),
         Act::Grant {
             rel,
             privileges,
@@ -62,6 +69,7 @@ fn is_well_act(act: &Act) -> bool
         Act::DropPolicy { rel, name } => name_ok(rel.as_str()) && name_ok(name.as_str()),
         Act::Write { entries } => is_between(1, 1000, entries.len()) && are_well(entries),
         Act::Subscribe { rel } => name_ok(rel.as_str()),
+        Act::Unsubscribe { sub } => is_number(*sub),
     }
 }
 
@@ -80,6 +88,13 @@ fn is_between(low: usize, high: usize, number: usize) -> bool
     ensures { result ≡ is_between low high number }
 {
     low <= number && number <= high
+}
+
+/// Whether a subscription may have the number: 1 to 2^63 - 1.
+fn is_number(sub: u64) -> bool
+    ensures { result ≡ is_positive sub }
+{
+    1 <= sub && sub <= LAST_NUMBER
 }
 
 /// Whether the policy keeps the rules on shape.

@@ -19,7 +19,7 @@ use Rattle.iv_access.specs.declared.policy.PolicyCommand.{PolicyCommand}
 use Rattle.iv_access.specs.declared.policy.PolicyCommand.TheVariants as policy_command
 use Rattle.iv_access.specs.declared.privilege.Privilege.{Privilege}
 use Rattle.iv_access.specs.declared.privilege.Privilege.TheVariants.{Select, Insert, Update, Delete}
-use Rattle.iv_wire.specs.Asked.{column_data, privilege_data, entry_data, grantee_text, grantee_data, policy_command_text, act_data, command_data, is_small, is_small_entry, is_plain}
+use Rattle.iv_wire.specs.Asked.{column_data, privilege_data, entry_data, grantee_text, grantee_data, policy_command_text, act_data, command_data, is_small, is_small_entry, is_small_act}
 use Rattle.iv_wire.specs.Request.{each, cell_of, column_of, privilege_of, entry, entry_of, grantee_named, grantee_of, policy_command_named, Scope, scope, policy, is_schema, is_session, command, request}
 use Rattle.iv_wire.specs.Texts.{cell_data}
 
@@ -141,7 +141,7 @@ policy_asked n rel name s None (Some k) h r m few to t = rw (h, policy_command_a
 policy_asked n rel name s (Some u) None h r m few to t = rw (h, policy_command_asked s.command, grantees_asked s.to to, few, r, m, t) refl
 policy_asked n rel name s (Some u) (Some k) h r m few to t = rw (h, policy_command_asked s.command, grantees_asked s.to to, few, r, m, t) refl
 
-act_asked : (n : ℕ) (a : Act) → is_session n ≡ true → is_well_act a ≡ true → is_plain a ≡ true → request (act_data n a) ≡ Some (command n a)
+act_asked : (n : ℕ) (a : Act) → is_session n ≡ true → is_well_act a ≡ true → is_small_act a ≡ true → request (act_data n a) ≡ Some (command n a)
 act_asked n (begin role) s h p = rw (s, h) refl
 act_asked n (create_role name) s h p = rw (s, h) refl
 act_asked n (create_table name owner columns) s h p =
@@ -160,8 +160,8 @@ act_asked n (write entries) s h p =
     let c = left_true (is_between 1 1000 (length entries)) _ h in
     rw (s, entries_asked entries (right_true (is_between 1 1000 (length entries)) _ h) p, c) refl
 act_asked n (subscribe rel) s h p = rw (s, h) refl
-act_asked n finish s h p = cc
-act_asked n (create_view name owner query) s h p = cc
+act_asked n finish s h p = rw s refl
+act_asked n (create_view name owner query) s h p = rw (s, left_true (is_name name) _ h, right_true (is_name name) _ h) refl
 act_asked n (row_security rel enable force) s h p = rw (s, h) refl
 act_asked n (create_policy q) s h p =
     let r = right_true (is_name q.rel) _ h in
@@ -169,7 +169,7 @@ act_asked n (create_policy q) s h p =
     let t = right_true (is_between 1 16 (length q.to)) _ g in
     policy_asked n q.rel q.name (scope q.restrictive q.command q.to) q.using_text q.check_text s (left_true (is_name q.rel) _ h) (left_true (is_name q.name) _ r) (left_true (is_between 1 16 (length q.to)) _ g) (left_true (list_all is_grantee q.to) _ t) (right_true (list_all is_grantee q.to) _ t)
 act_asked n (drop_policy rel name) s h p = rw (s, left_true (is_name rel) _ h, right_true (is_name rel) _ h) refl
-act_asked n (unsubscribe number) s h p = cc
+act_asked n (unsubscribe number) s h p = rw (s, h) refl
 
-pub command_asked : (c : Command) → is_well_command c ≡ true → is_plain c.act ≡ true → request (command_data c) ≡ Some c
+pub command_asked : (c : Command) → is_well_command c ≡ true → is_small_act c.act ≡ true → request (command_data c) ≡ Some c
 command_asked c h p = act_asked c.session c.act (left_true (is_session c.session) (is_well_act c.act) h) (right_true (is_session c.session) (is_well_act c.act) h) p

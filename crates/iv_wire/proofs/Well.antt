@@ -14,7 +14,7 @@ use Rattle.iv_machine.specs.Well.{is_grantee, is_positive, is_well_entry, is_wel
 use Rattle.iv_access.specs.declared.privilege.Privilege.{Privilege}
 use Rattle.iv_access.specs.declared.policy.PolicyCommand.{PolicyCommand}
 use Rattle.iv_access.specs.declared.policy.PolicyCommand.TheVariants as policy_command
-use Rattle.iv_wire.specs.Request.{passing, each, list_at, name_at, text_at, is_schema, columns_at, column_of, privileges_at, privilege_of, cell_of, bool_at, given_or, found_or, has, list_of, row_of, update_of, op_at, copies_of, copies_at, entry, entry_of, row_security_of, policy_command_of, grantee_of, grantees_of, everyone, text_if_at, Scope, scope, scope_at, policy, policy_at, policy_of, has_its_texts, create_policy_of, drop_policy_of, entries_at, begin_of, create_role_of, create_table_of, grantee_named, grantee_at, Granting, granting, granting_of, grant_by, revoke_by, write_of, subscribe_of, act_for, asked_act, is_session, session_of, command, request}
+use Rattle.iv_wire.specs.Request.{passing, each, list_at, name_at, text_at, is_schema, columns_at, column_of, privileges_at, privilege_of, cell_of, bool_at, given_or, found_or, has, list_of, row_of, update_of, op_at, positive_of, copies_at, entry, entry_of, row_security_of, policy_command_of, grantee_of, grantees_of, everyone, text_if_at, Scope, scope, scope_at, policy, policy_at, policy_of, has_its_texts, create_policy_of, drop_policy_of, entries_at, begin_of, finish_of, create_role_of, create_table_of, create_view_of, grantee_named, grantee_at, Granting, granting, granting_of, grant_by, revoke_by, write_of, subscribe_of, unsubscribe_of, act_for, asked_act, is_session, session_of, command, request}
 
 both : (a b : Bool) → a ≡ true → b ≡ true → (a && b) ≡ true
 both a b p q = rw (p, q) refl
@@ -114,17 +114,17 @@ op_well d =
 found_well : {X : Type 0} (P : X → Type 0) (x : X) (f : Data → Option X) (key : List ℕ) (d : Data) → P x → ((v : Data) → IfSome (f v) P) → IfSome (found_or x f key d) P
 found_well P x f key d p h = given_well P x f (get key d) p h
 
-copies_of_well : (d : Data) → IfSome (copies_of d) (λ n. is_positive n ≡ true)
-copies_of_well d =
+positive_well : (d : Data) → IfSome (positive_of d) (λ n. is_positive n ≡ true)
+positive_well d =
     let o : Option ℕ = option_and_then as_u64 (as_number d) in
-    weaker (λ (n : ℕ). (is_positive n ≡ true) × Unit {0}) (λ (n : ℕ). is_positive n ≡ true) (copies_of d) (passes (λ (n : ℕ). Unit {0}) is_positive o (nothing_more o)) (λ n h. h.0)
+    weaker (λ (n : ℕ). (is_positive n ≡ true) × Unit {0}) (λ (n : ℕ). is_positive n ≡ true) (positive_of d) (passes (λ (n : ℕ). Unit {0}) is_positive o (nothing_more o)) (λ n h. h.0)
 
 entry_well : (d : Data) → IfSome (entry_of d) (λ e. is_well_entry e ≡ true)
 entry_well d =
     chosen (λ (e : machine.Entry). is_well_entry e ≡ true) _ _ None
     (bound (λ (s : List ℕ). is_name s ≡ true) (λ (e : machine.Entry). is_well_entry e ≡ true) (λ rel. option_and_then (λ op. option_map (entry rel op) (copies_at d)) (op_at d)) (name_at (codes "on") d) (name_well (codes "on") d)
     (λ rel p. bound IsWellOp (λ (e : machine.Entry). is_well_entry e ≡ true) (λ op. option_map (entry rel op) (copies_at d)) (op_at d) (op_well d)
-    (λ op q. mapped (λ (n : ℕ). is_positive n ≡ true) (λ (e : machine.Entry). is_well_entry e ≡ true) (entry rel op) (copies_at d) (found_well (λ (n : ℕ). is_positive n ≡ true) 1 copies_of (codes "copies") d refl copies_of_well)
+    (λ op q. mapped (λ (n : ℕ). is_positive n ≡ true) (λ (e : machine.Entry). is_well_entry e ≡ true) (entry rel op) (copies_at d) (found_well (λ (n : ℕ). is_positive n ≡ true) 1 positive_of (codes "copies") d refl positive_well)
     (λ n r. both (is_name rel) (list_all is_well (rows_in op) && is_positive n) p (both (list_all is_well (rows_in op)) (is_positive n) q r)))))
     tt
 
@@ -139,6 +139,9 @@ IsWellAct a = is_well_act a ≡ true
 begin_well : (d : Data) → IfSome (begin_of d) IsWellAct
 begin_well d = chosen IsWellAct _ _ None (mapped (λ (s : List ℕ). is_name s ≡ true) IsWellAct machine.begin (name_at (codes "role") d) (name_well (codes "role") d) (λ s h. h)) tt
 
+finish_well : (d : Data) → IfSome (finish_of d) IsWellAct
+finish_well d = chosen IsWellAct _ (Some machine.finish) None refl tt
+
 create_role_well : (d : Data) → IfSome (create_role_of d) IsWellAct
 create_role_well d = chosen IsWellAct _ _ None (mapped (λ (s : List ℕ). is_name s ≡ true) IsWellAct machine.create_role (name_at (codes "name") d) (name_well (codes "name") d) (λ s h. h)) tt
 
@@ -149,6 +152,15 @@ create_table_well d =
     (λ name p. bound (λ (s : List ℕ). is_name s ≡ true) IsWellAct (λ owner. option_map (machine.create_table name owner) (columns_at d)) (name_at (codes "owner") d) (name_well (codes "owner") d)
     (λ owner q. mapped (λ (cs : List Column). is_schema cs ≡ true) IsWellAct (machine.create_table name owner) (columns_at d) (columns_well d)
     (λ cs r. both (is_name name) (is_name owner && is_schema cs) p (both (is_name owner) (is_schema cs) q r)))))
+    tt
+
+create_view_well : (d : Data) → IfSome (create_view_of d) IsWellAct
+create_view_well d =
+    let t : Option (List ℕ) = text_at (codes "query") d in
+    chosen IsWellAct _ _ None
+    (bound (λ (s : List ℕ). is_name s ≡ true) IsWellAct (λ name. option_and_then (λ owner. option_map (machine.create_view name owner) t) (name_at (codes "owner") d)) (name_at (codes "name") d) (name_well (codes "name") d)
+    (λ name p. bound (λ (s : List ℕ). is_name s ≡ true) IsWellAct (λ owner. option_map (machine.create_view name owner) t) (name_at (codes "owner") d) (name_well (codes "owner") d)
+    (λ owner q. mapped (λ (s : List ℕ). Unit {0}) IsWellAct (machine.create_view name owner) t (nothing_more t) (λ query _. both (is_name name) (is_name owner) p q))))
     tt
 
 abbrev IsWellGrantee : Option (List ℕ) → Type 0
@@ -251,28 +263,42 @@ write_well d =
 subscribe_well : (d : Data) → IfSome (subscribe_of d) IsWellAct
 subscribe_well d = chosen IsWellAct _ _ None (mapped (λ (s : List ℕ). is_name s ≡ true) IsWellAct machine.subscribe (name_at (codes "on") d) (name_well (codes "on") d) (λ s h. h)) tt
 
+unsubscribe_well : (d : Data) → IfSome (unsubscribe_of d) IsWellAct
+unsubscribe_well d =
+    let o : Option Data = get (codes "sub") d in
+    chosen IsWellAct _ _ None
+    (mapped (λ (n : ℕ). is_positive n ≡ true) IsWellAct machine.unsubscribe (option_and_then positive_of o)
+    (bound (λ (x : Data). Unit {0}) (λ (n : ℕ). is_positive n ≡ true) positive_of o (nothing_more o) (λ x _. positive_well x)) (λ n h. h))
+    tt
+
 act_well : (word : List ℕ) (d : Data) → IfSome (act_for word d) IsWellAct
 act_well word d =
     let is : List ℕ → Bool = λ w. bytes_eq word w in
-    let o6 : Option machine.Act = cond (is (codes "subscribe")) (subscribe_of d) None in
-    let o5 : Option machine.Act = cond (is (codes "write")) (write_of d) o6 in
-    let p3 : Option machine.Act = cond (is (codes "drop_policy")) (drop_policy_of d) o5 in
-    let p2 : Option machine.Act = cond (is (codes "create_policy")) (create_policy_of d) p3 in
-    let p1 : Option machine.Act = cond (is (codes "row_security")) (row_security_of d) p2 in
-    let o4 : Option machine.Act = cond (is (codes "revoke")) (option_map revoke_by (granting_of d)) p1 in
-    let o3 : Option machine.Act = cond (is (codes "grant")) (option_map grant_by (granting_of d)) o4 in
-    let o2 : Option machine.Act = cond (is (codes "create_table")) (create_table_of d) o3 in
-    let o1 : Option machine.Act = cond (is (codes "create_role")) (create_role_of d) o2 in
-    chosen IsWellAct (is (codes "begin")) (begin_of d) o1 (begin_well d)
-    (chosen IsWellAct (is (codes "create_role")) (create_role_of d) o2 (create_role_well d)
-    (chosen IsWellAct (is (codes "create_table")) (create_table_of d) o3 (create_table_well d)
-    (chosen IsWellAct (is (codes "grant")) (option_map grant_by (granting_of d)) o4 (grant_well d)
-    (chosen IsWellAct (is (codes "revoke")) (option_map revoke_by (granting_of d)) p1 (revoke_well d)
-    (chosen IsWellAct (is (codes "row_security")) (row_security_of d) p2 (row_security_well d)
-    (chosen IsWellAct (is (codes "create_policy")) (create_policy_of d) p3 (create_policy_well d)
-    (chosen IsWellAct (is (codes "drop_policy")) (drop_policy_of d) o5 (drop_policy_well d)
-    (chosen IsWellAct (is (codes "write")) (write_of d) o6 (write_well d)
-    (chosen IsWellAct (is (codes "subscribe")) (subscribe_of d) None (subscribe_well d) tt)))))))))
+    let from_unsubscribe : Option machine.Act = cond (is (codes "unsubscribe")) (unsubscribe_of d) None in
+    let from_subscribe : Option machine.Act = cond (is (codes "subscribe")) (subscribe_of d) from_unsubscribe in
+    let from_write : Option machine.Act = cond (is (codes "write")) (write_of d) from_subscribe in
+    let from_drop_policy : Option machine.Act = cond (is (codes "drop_policy")) (drop_policy_of d) from_write in
+    let from_create_policy : Option machine.Act = cond (is (codes "create_policy")) (create_policy_of d) from_drop_policy in
+    let from_row_security : Option machine.Act = cond (is (codes "row_security")) (row_security_of d) from_create_policy in
+    let from_revoke : Option machine.Act = cond (is (codes "revoke")) (option_map revoke_by (granting_of d)) from_row_security in
+    let from_grant : Option machine.Act = cond (is (codes "grant")) (option_map grant_by (granting_of d)) from_revoke in
+    let from_create_view : Option machine.Act = cond (is (codes "create_view")) (create_view_of d) from_grant in
+    let from_create_table : Option machine.Act = cond (is (codes "create_table")) (create_table_of d) from_create_view in
+    let from_create_role : Option machine.Act = cond (is (codes "create_role")) (create_role_of d) from_create_table in
+    let from_finish : Option machine.Act = cond (is (codes "finish")) (finish_of d) from_create_role in
+    chosen IsWellAct (is (codes "begin")) (begin_of d) from_finish (begin_well d)
+    (chosen IsWellAct (is (codes "finish")) (finish_of d) from_create_role (finish_well d)
+    (chosen IsWellAct (is (codes "create_role")) (create_role_of d) from_create_table (create_role_well d)
+    (chosen IsWellAct (is (codes "create_table")) (create_table_of d) from_create_view (create_table_well d)
+    (chosen IsWellAct (is (codes "create_view")) (create_view_of d) from_grant (create_view_well d)
+    (chosen IsWellAct (is (codes "grant")) (option_map grant_by (granting_of d)) from_revoke (grant_well d)
+    (chosen IsWellAct (is (codes "revoke")) (option_map revoke_by (granting_of d)) from_row_security (revoke_well d)
+    (chosen IsWellAct (is (codes "row_security")) (row_security_of d) from_create_policy (row_security_well d)
+    (chosen IsWellAct (is (codes "create_policy")) (create_policy_of d) from_drop_policy (create_policy_well d)
+    (chosen IsWellAct (is (codes "drop_policy")) (drop_policy_of d) from_write (drop_policy_well d)
+    (chosen IsWellAct (is (codes "write")) (write_of d) from_subscribe (write_well d)
+    (chosen IsWellAct (is (codes "subscribe")) (subscribe_of d) from_unsubscribe (subscribe_well d)
+    (chosen IsWellAct (is (codes "unsubscribe")) (unsubscribe_of d) None (unsubscribe_well d) tt))))))))))))
 
 asked_well : (d : Data) → IfSome (asked_act d) IsWellAct
 asked_well d = bound (λ _. Unit {0}) IsWellAct (λ word. act_for word d) (text_at (codes "do") d) (nothing_more (text_at (codes "do") d)) (λ word _. act_well word d)

@@ -1,16 +1,16 @@
 -- The JSON value that asks for a command.
-use Rattle.std.specs.Prelude.{ℕ, ◌^◌, pos, negsuc, Bool, true, false, List, map, codes, nat_lt, Option, Some, None}
+use Rattle.std.specs.Prelude.{ℕ, ◌^◌, pos, negsuc, Bool, true, List, map, codes, nat_lt, Option, Some, None}
 use Rattle.std.specs.List.{list_all}
 use Rattle.iv_rows.specs.Cell.{Cell, num, text, flag}
 use Rattle.iv_rows.specs.Columns.{Column}
 use Rattle.iv_rows.specs.declared.value.Kind.{Kind}
 use Rattle.iv_rows.specs.declared.value.Kind.TheVariants.{Int, Text, Flag}
-use Rattle.iv_machine.specs.Act.{Act, begin, create_role, create_table, grant, revoke, row_security, create_policy, drop_policy, write, subscribe, Command, PolicyText, Entry, Op, insert, delete, update}
+use Rattle.iv_machine.specs.Act.{Act, begin, finish, create_role, create_table, create_view, grant, revoke, row_security, create_policy, drop_policy, subscribe, unsubscribe, write, Command, PolicyText, Entry, Op, insert, delete, update}
 use Rattle.iv_machine.specs.Refusing.{rows_in}
 use Rattle.iv_access.specs.declared.policy.PolicyCommand.{PolicyCommand}
 use Rattle.iv_access.specs.declared.policy.PolicyCommand.TheVariants as command
 use Rattle.iv_access.specs.declared.privilege.Privilege.{Privilege}
-use Rattle.serde_json.specs.Data.{Data, null, boolean, string, array, object, item, no_items, Members, member, no_members}
+use Rattle.serde_json.specs.Data.{Data, boolean, string, array, object, item, no_items, Members, member, no_members}
 use Rattle.serde_json.specs.View.{items_of}
 use Rattle.iv_wire.specs.Texts.{natural, privilege_text, row_data}
 
@@ -54,6 +54,12 @@ table_data name owner columns =
     (member (codes "owner") (string owner)
     (member (codes "columns") (array (items_of (map column_data columns))) no_members))
 
+abbrev pub view_data : List ℕ → List ℕ → List ℕ → Members
+view_data name owner query =
+    member (codes "name") (string name)
+    (member (codes "owner") (string owner)
+    (member (codes "query") (string query) no_members))
+
 abbrev pub grantee_data : Option (List ℕ) → Data
 grantee_data to = string (grantee_text to)
 
@@ -84,11 +90,12 @@ row_security_data rel enable force =
     (member (codes "enable") (boolean enable)
     (member (codes "force") (boolean force) no_members))
 
--- no value asks for the requests that are not listed
 abbrev pub act_data : ℕ → Act → Data
 act_data n (begin role) = asking (codes "begin") n (member (codes "role") (string role) no_members)
+act_data n finish = asking (codes "finish") n no_members
 act_data n (create_role name) = asking (codes "create_role") n (member (codes "name") (string name) no_members)
 act_data n (create_table name owner columns) = asking (codes "create_table") n (table_data name owner columns)
+act_data n (create_view name owner query) = asking (codes "create_view") n (view_data name owner query)
 act_data n (grant rel privileges to) = granting (codes "grant") n rel privileges to
 act_data n (revoke rel privileges to) = granting (codes "revoke") n rel privileges to
 act_data n (row_security rel enable force) = asking (codes "row_security") n (row_security_data rel enable force)
@@ -96,7 +103,7 @@ act_data n (create_policy p) = asking (codes "create_policy") n (policy_data p)
 act_data n (drop_policy rel name) = asking (codes "drop_policy") n (member (codes "on") (string rel) (member (codes "name") (string name) no_members))
 act_data n (write entries) = asking (codes "write") n (member (codes "entries") (array (items_of (map entry_data entries))) no_members)
 act_data n (subscribe rel) = asking (codes "subscribe") n (member (codes "on") (string rel) no_members)
-act_data n _ = null
+act_data n (unsubscribe number) = asking (codes "unsubscribe") n (member (codes "sub") (natural number) no_members)
 
 abbrev pub command_data : Command → Data
 command_data c = act_data c.session c.act
@@ -108,20 +115,10 @@ is_small (num (negsuc n)) = nat_lt n (2 ^ 63)
 is_small (text t) = true
 is_small (flag b) = true
 
--- the whole numbers in its rows are of 64 bits
 abbrev pub is_small_entry : Entry → Bool
 is_small_entry e = list_all (list_all is_small) (rows_in e.op)
 
--- the requests that a value asks for
-abbrev pub is_plain : Act → Bool
-is_plain (begin role) = true
-is_plain (create_role name) = true
-is_plain (create_table name owner columns) = true
-is_plain (grant rel privileges to) = true
-is_plain (revoke rel privileges to) = true
-is_plain (row_security rel enable force) = true
-is_plain (create_policy p) = true
-is_plain (drop_policy rel name) = true
-is_plain (write entries) = list_all is_small_entry entries
-is_plain (subscribe rel) = true
-is_plain _ = false
+-- the whole numbers in the rows of a write are of 64 bits
+abbrev pub is_small_act : Act → Bool
+is_small_act (write entries) = list_all is_small_entry entries
+is_small_act _ = true

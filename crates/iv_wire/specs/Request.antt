@@ -61,6 +61,10 @@ name_at key d = option_and_then (passing is_name) (text_at key d)
 abbrev pub bool_at : List ℕ → Data → Option Bool
 bool_at key d = option_and_then as_bool (get key d)
 
+-- 1 to 2^63 - 1
+abbrev pub positive_of : Data → Option ℕ
+positive_of d = option_and_then (passing is_positive) (option_and_then as_u64 (as_number d))
+
 -- what a value is that need not be there, and x where there is none
 abbrev pub given_or : {X : Type 0} → X → (Data → Option X) → Option Data → Option X
 given_or x f None = Some x
@@ -146,12 +150,8 @@ op_at d =
     else if has (codes "delete") d then option_map machine.delete (option_and_then row_of (get (codes "delete") d))
     else option_and_then update_of (get (codes "update") d)
 
--- 1 to 2^63 - 1
-abbrev pub copies_of : Data → Option ℕ
-copies_of d = option_and_then (passing is_positive) (option_and_then as_u64 (as_number d))
-
 abbrev pub copies_at : Data → Option ℕ
-copies_at d = found_or 1 copies_of (codes "copies") d
+copies_at d = found_or 1 positive_of (codes "copies") d
 
 abbrev pub entry : List ℕ → machine.Op → ℕ → machine.Entry
 entry rel op copies = record { rel = rel; op = op; copies = copies }
@@ -167,11 +167,13 @@ entry_of d =
 abbrev pub entries_at : Data → Option (List machine.Entry)
 entries_at d = option_and_then (passing (λ es. is_between 1 1000 (length es))) (list_at entry_of (codes "entries") d)
 
--- ---- requests: the keys are `do`, `session` and the ones that are looked for; each is there, and there are no more.
--- The machine has further requests, which no value asks for yet
+-- ---- requests: the keys are `do`, `session` and the ones that are looked for; each is there, and there are no more
 
 abbrev pub begin_of : Data → Option machine.Act
 begin_of d = if size d == 3 then option_map machine.begin (name_at (codes "role") d) else None
+
+abbrev pub finish_of : Data → Option machine.Act
+finish_of d = if size d == 2 then Some machine.finish else None
 
 abbrev pub create_role_of : Data → Option machine.Act
 create_role_of d = if size d == 3 then option_map machine.create_role (name_at (codes "name") d) else None
@@ -181,6 +183,15 @@ create_table_of d =
     if size d == 5
     then option_and_then
     (λ name. option_and_then (λ owner. option_map (machine.create_table name owner) (columns_at d))
+    (name_at (codes "owner") d)) (name_at (codes "name") d)
+    else None
+
+-- the query may be any text
+abbrev pub create_view_of : Data → Option machine.Act
+create_view_of d =
+    if size d == 5
+    then option_and_then
+    (λ name. option_and_then (λ owner. option_map (machine.create_view name owner) (text_at (codes "query") d))
     (name_at (codes "owner") d)) (name_at (codes "name") d)
     else None
 
@@ -324,11 +335,16 @@ write_of d = if size d == 3 then option_map machine.write (entries_at d) else No
 abbrev pub subscribe_of : Data → Option machine.Act
 subscribe_of d = if size d == 3 then option_map machine.subscribe (name_at (codes "on") d) else None
 
+abbrev pub unsubscribe_of : Data → Option machine.Act
+unsubscribe_of d = if size d == 3 then option_map machine.unsubscribe (option_and_then positive_of (get (codes "sub") d)) else None
+
 abbrev pub act_for : List ℕ → Data → Option machine.Act
 act_for word d =
     if bytes_eq word (codes "begin") then begin_of d
+    else if bytes_eq word (codes "finish") then finish_of d
     else if bytes_eq word (codes "create_role") then create_role_of d
     else if bytes_eq word (codes "create_table") then create_table_of d
+    else if bytes_eq word (codes "create_view") then create_view_of d
     else if bytes_eq word (codes "grant") then option_map grant_by (granting_of d)
     else if bytes_eq word (codes "revoke") then option_map revoke_by (granting_of d)
     else if bytes_eq word (codes "row_security") then row_security_of d
@@ -336,6 +352,7 @@ act_for word d =
     else if bytes_eq word (codes "drop_policy") then drop_policy_of d
     else if bytes_eq word (codes "write") then write_of d
     else if bytes_eq word (codes "subscribe") then subscribe_of d
+    else if bytes_eq word (codes "unsubscribe") then unsubscribe_of d
     else None
 
 -- 1 to 2^32 - 1

@@ -15,7 +15,8 @@ pub data IsTextOf : List Line → List ℕ → Type 0 where
   line : (l : Line) {ls : List Line} {text : List ℕ} → IsTextOf ls text → IsTextOf (l ∷ ls) (line_text l ++ text)
   fault : (n : ℕ) {ls : List Line} {text : List ℕ} → IsTextOf ls text → IsTextOf ls (fault_text n ++ text)
 
--- lines of the machine's run were written; they add up, and its state stands behind the engine
+-- lines of the machine's run were written, and its state stands behind the engine; for each subscription that its reader
+-- did not close the lines add up to what it shows then, minus what it showed before
 pub record HasWritten (before : State) (r : Run) : Type 0 where
   pub commands : List Command
   pub text : List ℕ

@@ -4,7 +4,7 @@ use Rattle.iv_rows.specs.Cell.{Cell, num, text}
 use Rattle.iv_rows.specs.Columns.{Column}
 use Rattle.iv_rows.specs.declared.value.Kind.TheVariants as kind
 use Rattle.iv_access.specs.declared.policy.PolicyCommand.TheVariants as command
-use Rattle.iv_machine.specs.Act.{Act, write, Command, Op, PolicyText, Refusal, reply, refused}
+use Rattle.iv_machine.specs.Act.{Act, create_view, write, Command, Op, PolicyText, Refusal, reply, refused}
 use Rattle.serde_json.specs.Read.{read}
 use Rattle.iv_wire.specs.Request as asked
 use Rattle.iv_wire.specs.Request.{column, entry, everyone, policy, request, scope}
@@ -101,3 +101,18 @@ update_refused_line = codes "{\"check\":\"update old\",\"entry\":2,\"error\":14,
 
 abbrev pub bad_policy_line : List ℕ
 bad_policy_line = codes "{\"error\":10,\"place\":0,\"session\":1,\"why\":\"unknown column\"}\n"
+
+-- ---- views
+
+-- a view of this query
+abbrev pub view_line : List ℕ → List ℕ
+view_line query = codes "{\"do\":\"create_view\",\"name\":\"ids\",\"owner\":\"admin\",\"query\":" ++ (query ++ codes ",\"session\":1}")
+
+abbrev pub unsubscribe_line : List ℕ → List ℕ
+unsubscribe_line number = codes "{\"do\":\"unsubscribe\",\"session\":2,\"sub\":" ++ (number ++ codes "}")
+
+abbrev pub view_of : List ℕ → Act
+view_of query = create_view (codes "ids") (codes "admin") query
+
+abbrev pub limit_line : List ℕ
+limit_line = codes "{\"changes\":[[-1,[1,\"ann\"]]],\"ended\":\"limit\",\"session\":2,\"sub\":1}\n"

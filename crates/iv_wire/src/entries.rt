@@ -4,9 +4,9 @@ ghost use Rattle.serde_json.specs.View.{view, items_view};
 ghost use Rattle.serde_json.specs.Find.{get, at};
 ghost use Rattle.iv_rows.specs.View as iv_rows;
 ghost use Rattle.iv_engine.specs.Entries as entries;
-ghost use Rattle.iv_wire.specs.Request.{cell_of, each, row_of, update_of, op_at, copies_of, copies_at, entry_of, entries_at};
+ghost use Rattle.iv_wire.specs.Request.{cell_of, each, row_of, update_of, op_at, positive_of, copies_at, entry_of, entries_at};
 
-use crate::parts::{count, has, items_at, name_at, present, size};
+use crate::parts::{count, has, items_at, name_at, positive_of, present, size};
 use iv_engine::{Entry, Op};
 use iv_rows::{Row, Value};
 use serde_json::Value as Json;
@@ -14,9 +14,6 @@ use std::alloc::{AllocError, Global};
 
 /// The greatest number of entries of a write.
 const MOST_ENTRIES: usize = 1000;
-
-/// The greatest number of copies of an entry.
-const MOST_COPIES: u64 = 9_223_372_036_854_775_807;
 
 /// The value of a column that a JSON value is.
 fn cell_of(alloc: Global, value: &Json) -> Result<Option<Value>, AllocError>
@@ -125,17 +122,11 @@ fn op_at(alloc: Global, value: &Json) -> Result<Option<Op>, AllocError>
 
 /// The number of copies that a JSON value is.
 fn copies_of(value: &Json) -> Option<i64>
-    ensures { option_map entries.copies_of result ≡ copies_of (view value.now) }
+    ensures { option_map entries.copies_of result ≡ positive_of (view value.now) }
 {
-    match value.as_u64() {
+    match positive_of(value) {
         None => None,
-        Some(copies) => {
-            if 1 <= copies && copies <= MOST_COPIES {
-                Some(copies as i64)
-            } else {
-                None
-            }
-        }
+        Some(copies) => Some(copies as i64),
     }
 }
 

@@ -1,7 +1,7 @@
 //! Laws of the definitions, and cases computed from them. Each is the contract of a function that does nothing.
-ghost use Rattle.std.specs.Prelude.{◌≡◌, ◌≢◌, ◌≤◌, ◌<◌, ◌∷◌, ◌++◌, [], ℕ, List, All, length, codes, pos, Some, None, IfSome, true, false};
+ghost use Rattle.std.specs.Prelude.{◌≡◌, ◌≢◌, ◌≤◌, ◌<◌, ◌∷◌, ◌++◌, [], ℕ, List, All, length, codes, pos, negsuc, Some, None, IfSome, true, false};
 ghost use Rattle.iv_machine.specs.Act as machine;
-ghost use Rattle.iv_wire.specs.Asked.{command_data, is_plain};
+ghost use Rattle.iv_wire.specs.Asked.{command_data, is_small_act};
 ghost use Rattle.iv_wire.specs.Cut.{cut, endless, last_line, line_room, whole};
 ghost use Rattle.iv_machine.specs.Machine.{run};
 ghost use Rattle.iv_machine.specs.State.{State};
@@ -14,6 +14,7 @@ ghost use Rattle.iv_wire.specs.Sums.{IsTextOf};
 ghost use Rattle.iv_wire.specs.Texts.{fault_text, line_text};
 ghost use Rattle.iv_wire.specs.Worked.{IsAsked, IsNotAsked, ann, notes, notes_columns, first_row, table_line, grant_line, revoke_line, write_line, refused_text, missing_line, permissive_line, restrictive_line};
 ghost use Rattle.iv_wire.specs.Worked.{row_security_line, own_line, own, few_line, few, give_line, give, entry_line, second_row, one_entry, policy_line, update_refused_line, bad_policy_line};
+ghost use Rattle.iv_wire.specs.Worked.{view_line, view_of, unsubscribe_line, limit_line};
 ghost use Rattle.iv_query.specs.declared.fault.Why.TheVariants as reading;
 ghost use Rattle.iv_bind.specs.declared.fault.BindWhy.TheVariants as binding;
 ghost use Rattle.iv_bind.specs.BoundTexts.{Reading, Binding};
@@ -31,7 +32,7 @@ pub fn lines_are_cut()
 /// Each command that keeps the rules of commands, with whole numbers of 64 bits in its rows, is what its JSON value asks
 /// for.
 pub fn commands_are_asked()
-    ensures { (c : machine.Command) → is_well_command c ≡ true → is_plain c.act ≡ true → request (command_data c) ≡ Some c }
+    ensures { (c : machine.Command) → is_well_command c ≡ true → is_small_act c.act ≡ true → request (command_data c) ≡ Some c }
 {}
 
 /// The requests of the worked example `first_change` are its commands, and so are those of a revoke and of PUBLIC.
@@ -58,9 +59,18 @@ pub fn policies_are_read()
     ensures copies { IsAsked (entry_line (codes "\"delete\":[1,\"ann\"],\"copies\":7")) 1 (one_entry (machine.delete first_row) 7) }
 {}
 
+/// Requests that make a view, of any text, and that close a subscription and a session.
+pub fn views_are_read()
+    ensures create_view { IsAsked (view_line (codes "\"select id from notes\"")) 1 (view_of (codes "select id from notes")) }
+    ensures any_text { IsAsked (view_line (codes "\"\"")) 1 (view_of []) }
+    ensures unsubscribe { IsAsked (unsubscribe_line (codes "1")) 2 (machine.unsubscribe 1) }
+    ensures last { IsAsked (unsubscribe_line (codes "9223372036854775807")) 2 (machine.unsubscribe 9223372036854775807) }
+    ensures finish { IsAsked (codes "{\"do\":\"finish\",\"session\":2}") 2 machine.finish }
+{}
+
 /// Values that are no request: a session of 0, a further key, a number of copies that is 0, two things that one entry
 /// does, an update of one row, a word that is never a name, policies that lack a text or have one that is not theirs or
-/// no grantee, and a request that has no code yet.
+/// no grantee, a view whose query is no text, and subscriptions without a number of theirs.
 pub fn unshapely_values_are_refused()
     ensures zero { IsNotAsked (codes "{\"do\":\"begin\",\"role\":\"admin\",\"session\":0}") }
     ensures further { IsNotAsked (codes "{\"do\":\"begin\",\"role\":\"admin\",\"session\":1,\"x\":1}") }
@@ -72,16 +82,21 @@ pub fn unshapely_values_are_refused()
     ensures no_text { IsNotAsked (policy_line (codes "\"check\":\"true\"")) }
     ensures no_grantee { IsNotAsked (policy_line (codes "\"using\":\"true\",\"to\":[]")) }
     ensures reserved { IsNotAsked (grant_line (codes "select")) }
-    ensures finish { IsNotAsked (codes "{\"do\":\"finish\",\"session\":1}") }
+    ensures query { IsNotAsked (view_line (codes "7")) }
+    ensures no_subscription { IsNotAsked (unsubscribe_line (codes "0")) }
+    ensures beyond { IsNotAsked (unsubscribe_line (codes "9223372036854775808")) }
+    ensures finish { IsNotAsked (codes "{\"do\":\"finish\",\"session\":1,\"sub\":1}") }
 {}
 
-/// The lines of the worked example `first_change`, a last line, refusals, and what lines are answered that are no request.
+/// The lines of the worked example `first_change`, last lines, refusals, and what lines are answered that are no request.
 pub fn lines_are_written()
     ensures done { line_text (machine.reply 1 machine.done) ≡ codes "{\"ok\":true,\"session\":1}\n" }
     ensures subscribed { line_text (machine.reply 2 (machine.subscribed 1)) ≡ codes "{\"ok\":true,\"session\":2,\"sub\":1}\n" }
     ensures change { line_text (machine.change 2 1 ((first_row, pos 1) ∷ [])) ≡ codes "{\"changes\":[[1,[1,\"ann\"]]],\"session\":2,\"sub\":1}\n" }
     ensures ended { line_text (machine.ended 2 1 cause.Privilege []) ≡ codes "{\"changes\":[],\"ended\":\"privilege\",\"session\":2,\"sub\":1}\n" }
     ensures no_session { refused_text 9 machine.no_session ≡ codes "{\"error\":3,\"session\":9}\n" }
+    ensures limit { line_text (machine.ended 2 1 cause.Limit ((first_row, negsuc 0) ∷ [])) ≡ limit_line }
+    ensures not_a_table { refused_text 1 machine.not_a_table ≡ codes "{\"error\":8,\"session\":1}\n" }
     ensures bad_row { refused_text 1 (machine.bad_row 1) ≡ codes "{\"entry\":1,\"error\":9,\"session\":1}\n" }
     ensures bad_query { refused_text 1 (machine.bad_query 11 (Reading reading.Unexpected)) ≡ codes "{\"error\":10,\"place\":11,\"session\":1,\"why\":\"unexpected\"}\n" }
     ensures privilege { refused_text 2 (machine.missing_privilege privilege.Insert notes) ≡ missing_line }
@@ -90,6 +105,7 @@ pub fn lines_are_written()
     ensures update_old { refused_text 2 (machine.no_permissive notes check.UpdateOld 2) ≡ update_refused_line }
     ensures no_such_row { refused_text 1 (machine.no_such_row 3) ≡ codes "{\"entry\":3,\"error\":16,\"session\":1}\n" }
     ensures unknown_policy { refused_text 1 machine.unknown_policy ≡ codes "{\"error\":18,\"session\":1}\n" }
+    ensures unknown_subscription { refused_text 2 machine.unknown_subscription ≡ codes "{\"error\":19,\"session\":2}\n" }
     ensures bad_policy { refused_text 1 (machine.bad_query 0 (Binding binding.UnknownColumn)) ≡ bad_policy_line }
     ensures fault { fault_text 22 ≡ codes "{\"error\":22}\n" }
 {}

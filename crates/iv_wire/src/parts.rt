@@ -2,11 +2,14 @@
 ghost use Rattle.std.specs.Prelude.{◌≡◌, IfOk, map, option_map, option_and_then, string_bytes};
 ghost use Rattle.serde_json.specs.View.{view, items_view};
 ghost use Rattle.serde_json.specs.Find.{get, as_array};
-ghost use Rattle.iv_wire.specs.Request.{size, count, text_at, name_at, bool_at, has, present};
+ghost use Rattle.iv_wire.specs.Request.{size, count, text_at, name_at, bool_at, positive_of, has, present};
 
 use iv_rows::name_ok;
 use serde_json::Value as Json;
 use std::alloc::{AllocError, Global};
+
+/// The greatest number that is read: a signed one of 64 bits.
+const MOST: u64 = 9_223_372_036_854_775_807;
 
 /// How many keys an object has, and 0 where it is none.
 pub fn size(value: &Json) -> usize
@@ -67,6 +70,22 @@ pub fn bool_at(value: &Json, key: &str) -> Option<bool>
     ensures { result ≡ bool_at key.now (view value.now) }
 {
     value.get(key).and_then(Json::as_bool)
+}
+
+/// The number from 1 on that a JSON value is.
+pub fn positive_of(value: &Json) -> Option<u64>
+    ensures { result ≡ positive_of (view value.now) }
+{
+    match value.as_u64() {
+        None => None,
+        Some(number) => {
+            if 1 <= number && number <= MOST {
+                Some(number)
+            } else {
+                None
+            }
+        }
+    }
 }
 
 /// Whether the key is there.

@@ -3,13 +3,13 @@ ghost use Rattle.std.specs.Prelude.{◌≡◌, IfOk, IsErrOf, option_map, true};
 ghost use Rattle.serde_json.specs.View.{view};
 ghost use Rattle.iv_machine.specs.Well.{is_well_command};
 ghost use Rattle.iv_engine.specs.Views.{act_of, command_of};
-ghost use Rattle.iv_wire.specs.Request.{session_of, begin_of, create_role_of, create_table_of, write_of, subscribe_of, act_for, asked_act, request};
+ghost use Rattle.iv_wire.specs.Request.{session_of, begin_of, finish_of, create_role_of, create_table_of, create_view_of, write_of, subscribe_of, unsubscribe_of, act_for, asked_act, request};
 ghost use Rattle.iv_wire.specs.Answer.{bad_json, bad_request, asked, reading_of, value_of};
 
 use crate::columns::columns_at;
 use crate::entries::entries_at;
 use crate::grants::{Granting, granting_of};
-use crate::parts::{size, string_at, text_at};
+use crate::parts::{positive_of, size, string_at, text_at};
 use crate::policies::{create_policy_of, drop_policy_of, row_security_of};
 use iv_engine::{Act, Command};
 use serde_json::Value;
@@ -64,6 +64,16 @@ fn begin_of(alloc: Global, value: &Value) -> Result<Option<Act>, AllocError>
     }
 }
 
+fn finish_of(value: &Value) -> Option<Act>
+    ensures { option_map act_of result ≡ finish_of (view value.now) }
+{
+    if size(value) == 2 {
+        Some(Act::Finish)
+    } else {
+        None
+    }
+}
+
 fn create_role_of(alloc: Global, value: &Value) -> Result<Option<Act>, AllocError>
     ensures { IfOk result (λ act. option_map act_of act ≡ create_role_of (view value.now)) }
 {
@@ -98,6 +108,28 @@ fn create_table_of(alloc: Global, value: &Value) -> Result<Option<Act>, AllocErr
     }
 }
 
+fn create_view_of(alloc: Global, value: &Value) -> Result<Option<Act>, AllocError>
+    ensures { IfOk result (λ act. option_map act_of act ≡ create_view_of (view value.now)) }
+{
+    if size(value) != 5 {
+        return Ok(None);
+    }
+    let Some(name) = string_at(alloc, value, "name")? else {
+        return Ok(None);
+    };
+    let Some(owner) = string_at(alloc, value, "owner")? else {
+        return Ok(None);
+    };
+    match text_at(value, "query") {
+        None => Ok(None),
+        Some(query) => Ok(Some(Act::CreateView {
+            name,
+            owner,
+            query: String::from_str(alloc, query)?,
+        })),
+    }
+}
+
 fn write_of(alloc: Global, value: &Value) -> Result<Option<Act>, AllocError>
     ensures { IfOk result (λ act. option_map act_of act ≡ write_of (view value.now)) }
 {
@@ -122,15 +154,31 @@ fn subscribe_of(alloc: Global, value: &Value) -> Result<Option<Act>, AllocError>
     }
 }
 
+fn unsubscribe_of(value: &Value) -> Option<Act>
+    ensures { option_map act_of result ≡ unsubscribe_of (view value.now) }
+{
+    if size(value) != 3 {
+        return None;
+    }
+    match value.get("sub").and_then(positive_of) {
+        None => None,
+        Some(sub) => Some(Act::Unsubscribe { sub }),
+    }
+}
+
 fn act_for(alloc: Global, word: &str, value: &Value) -> Result<Option<Act>, AllocError>
     ensures { IfOk result (λ act. option_map act_of act ≡ act_for word.now (view value.now)) }
 {
     if word == "begin" {
         begin_of(alloc, value)
+    } else if word == "finish" {
+        Ok(finish_of(value))
     } else if word == "create_role" {
         create_role_of(alloc, value)
     } else if word == "create_table" {
         create_table_of(alloc, value)
+    } else if word == "create_view" {
+        create_view_of(alloc, value)
     } else if word == "grant" {
         Ok(granting_of(alloc, value)?.map(Granting::grant))
     } else if word == "revoke" {
@@ -145,6 +193,8 @@ fn act_for(alloc: Global, word: &str, value: &Value) -> Result<Option<Act>, Allo
         write_of(alloc, value)
     } else if word == "subscribe" {
         subscribe_of(alloc, value)
+    } else if word == "unsubscribe" {
+        Ok(unsubscribe_of(value))
     } else {
         Ok(None)
     }

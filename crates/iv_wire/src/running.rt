@@ -136,6 +136,7 @@ pub fn run<R: Source, W: Sink>(
       written = W.taken writer.new;
       now = engine.new;
     }) result }
+    // For each subscription that its reader did not close, the lines written add up to what it shows more than before.
     ensures adds_up { OnOk result ((s : State) → IsBehind s engine.old
         → IfSome (R.left reader.old) (λ _. HasWritten s (record {
           lines = lines;

@@ -93,12 +93,24 @@ true
 {"do":"write","entries":[{"on":"notes","insert":[1,"a\u0000b"]}],"session":1}
 {"do":"write","entries":[{"on":"notes","insert":[1,["x"]]}],"session":1}
 {"do":"subscribe","on":"notes","session":2,"sub":1}
+{"do":"finish"}
+{"do":"finish","session":1,"sub":1}
+{"do":"unsubscribe","session":2}
+{"do":"unsubscribe","sub":0,"session":2}
+{"do":"unsubscribe","sub":9223372036854775808,"session":2}
+{"do":"unsubscribe","sub":1.0,"session":2}
+{"do":"unsubscribe","sub":"1","session":2}
+{"do":"create_view","name":"v","owner":"ann","session":1}
+{"do":"create_view","name":"v","owner":"ann","query":["select id from notes"],"session":1}
+{"do":"create_view","name":"v","owner":"ann","query":"select id from notes","columns":[],"session":1}
+{"do":"create_view","name":"V","owner":"ann","query":"select id from notes","session":1}
+{"do":"create_view","name":"v","owner":"public","query":"select id from notes","session":1}
 "#;
 
 #[test]
 fn unshapely_lines(rt: HostRuntime) -> Result<(), Fail> {
     let alloc = rt.alloc();
-    let mut wanted = repeated(alloc, "", "{\"error\":2}\n", 46, "")?;
+    let mut wanted = repeated(alloc, "", "{\"error\":2}\n", 58, "")?;
     wanted.extend_from_slice(b"end of input")?;
     assert_eq!(rt; replayed(alloc, UNSHAPELY.as_bytes(), 1_000_000)?, wanted);
     Ok(())

@@ -14,4 +14,6 @@ mod refused;
 #[cfg(test)]
 mod replayed;
 #[cfg(test)]
+mod views;
+#[cfg(test)]
 mod worked;

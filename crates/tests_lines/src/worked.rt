@@ -28,7 +28,7 @@ fn first_change(rt: HostRuntime) -> Result<(), Fail> {
 
 #[test]
 fn one_of_each_refusal(rt: HostRuntime) -> Result<(), Fail> {
-    let lines = r#"{"do":"subscribe","on":"notes","session":9}
+    let lines = r#"{"do":"finish","session":9}
 {"do":"create_role","name":"bob","session":2}
 {"do":"write","entries":[{"on":"notes","insert":[2,"x"]}],"session":2}
 {"do":"write","entries":[{"on":"notes","insert":["x",1]}],"session":1}

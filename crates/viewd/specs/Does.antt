@@ -37,7 +37,8 @@ abbrev pub Does : Settings → Ends → Result (Unit {0}) Fault → Type 0
 Does (Replay lines) e result = (now : Seen) × Replays (run_of lines e now) result
 Does (Serve port connections lines) e result = Listens port e.taken e.written result
 
--- the lines that were written add up, where lines of the reader are answered and the reader tells its bytes
+-- where lines of the reader are answered and the reader tells its bytes, the lines that were written add up, for each
+-- subscription that its reader did not close, to what it shows
 abbrev pub AddsUp : Settings → Ends → Type 0
 AddsUp (Replay lines) e = (now : Seen) × IfSome e.given (λ _. HasWritten (start 65536) (run_of lines e now))
 AddsUp (Serve port connections lines) e = ⊤

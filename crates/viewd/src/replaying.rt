@@ -79,6 +79,7 @@ pub fn work<R: Source, W: Sink>(
       taken = W.taken writer.old;
       written = W.taken writer.new;
     }) result }
+    // For each subscription that its reader did not close, the lines written add up to what it shows.
     ensures adds_up { OnOk result (AddsUp settings (record {
       given = R.left reader.old;
       left = R.left reader.new;

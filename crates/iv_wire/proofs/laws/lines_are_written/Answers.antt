@@ -62,3 +62,15 @@ returns-clause-unknown_policy c = refl
 pub returns-clause-bad_policy : goal.returns-clause-bad_policy
 unfolding serde_json_on_literals digits
 returns-clause-bad_policy c = refl
+
+pub returns-clause-limit : goal.returns-clause-limit
+unfolding serde_json_on_literals digits
+returns-clause-limit c = refl
+
+pub returns-clause-not_a_table : goal.returns-clause-not_a_table
+unfolding serde_json_on_literals digits
+returns-clause-not_a_table c = refl
+
+pub returns-clause-unknown_subscription : goal.returns-clause-unknown_subscription
+unfolding serde_json_on_literals digits
+returns-clause-unknown_subscription c = refl

@@ -46,3 +46,15 @@ returns-clause-no_text c = refl
 pub returns-clause-no_grantee : goal.returns-clause-no_grantee
 unfolding serde_json_on_literals reserved
 returns-clause-no_grantee c = refl
+
+pub returns-clause-query : goal.returns-clause-query
+unfolding serde_json_on_literals reserved
+returns-clause-query c = refl
+
+pub returns-clause-no_subscription : goal.returns-clause-no_subscription
+unfolding serde_json_on_literals reserved
+returns-clause-no_subscription c = refl
+
+pub returns-clause-beyond : goal.returns-clause-beyond
+unfolding serde_json_on_literals reserved
+returns-clause-beyond c = refl

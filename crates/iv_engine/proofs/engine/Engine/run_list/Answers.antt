@@ -9,11 +9,9 @@ use Rattle.iv_machine.specs.Reached.{IsReached}
 use Rattle.iv_machine.specs.State.{State}
 use Rattle.iv_machine.specs.Well.{is_well_command}
 use Rattle.iv_engine.specs.declared.command.Command.{Command}
-use Rattle.std.specs.List.{list_any}
-use Rattle.std.specs.Prelude.{◌==◌}
 use Rattle.iv_engine.specs.Seen.{IsBehind}
 use Rattle.iv_engine.specs.Views.{command_of, line_of}
-use Rattle.iv_engine.proofs.Running.{no_items, none_closed, nothing_more, run_more, well_others}
+use Rattle.iv_engine.proofs.Running.{no_items, nothing_more, run_more, well_others}
 use Rattle.iv_engine.proofs.engine.Engine.run_list.Goals as goal
 
 pub loop-command-preserved : goal.loop-command-preserved
@@ -51,9 +49,9 @@ returns-clause-state c = λ s b.
     subst (λ (t : State). IsBehind t c.loop-command.self) (sym (ap (λ (cs : List Command). (run x.0 (map command_of cs)).state) none) ∙ x.3) x.1
 
 pub returns-clause-held : goal.returns-clause-held
-returns-clause-held c = λ s b k q.
+returns-clause-held c = λ s b k q kept.
     let x = c.loop-command.invariant.4 s b in
     let none : into_iter_items c.loop-command.command-iterator ≡ [] = no_items (into_iter_items c.loop-command.command-iterator) (let empty = c.in-None.ensures.steps.0 in let ok = c.loop-command.command-iterator.rest.ok in omega (arith, empty, ok)) in
     let lines : map line_of c.loop-command.lines.items ≡ (run s (map command_of c.args.commands.items)).lines = nothing_more (map line_of c.loop-command.lines.items) ∙ sym (ap (λ (cs : List Command). map line_of c.loop-command.lines.items ++ (run x.0 (map command_of cs)).lines) none) ∙ x.2 in
     let reached : IsReached s.frame = subst IsReached (sym b.frame) (c.is_failed.ensures.reached c.if-is_failed.false) in
-    ap (held k q) lines ∙ adds_up s (map command_of c.args.commands.items) reached k q (ap (list_any (λ j. k == j)) (none_closed s c.args.commands.items))
+    ap (held k q) lines ∙ adds_up s (map command_of c.args.commands.items) reached k q kept

@@ -10,7 +10,7 @@ use Rattle.iv_engine.specs.Next.{next}
 use Rattle.iv_engine.specs.Views.{act_of}
 use Rattle.iv_engine.specs.declared.command.Act.{Act}
 use Rattle.iv_engine.proofs.Running.{well_columns}
-use Rattle.iv_engine.proofs.Stepping.{begin_quiet, grant_quiet, plain_step, role_quiet, table_quiet}
+use Rattle.iv_engine.proofs.Stepping.{begin_quiet, grant_quiet, plain_step, role_quiet, table_quiet, view_quiet}
 use Rattle.iv_engine.proofs.store.Store.act.Goals as goal
 
 pub create_table-requires-clause-columns : goal.create_table-requires-clause-columns
@@ -45,6 +45,20 @@ returns-in_ok-refusal-in-CreateTable c =
     (plain_step e c.create_table.new.self n (machine.create_table name owner columns) c.in_ok-refusal-in-CreateTable.refusal c.plain-in-CreateTable.result (table_quiet e n name owner columns) c.requires.sound c.plain-in-CreateTable.ensures
     (c.in_ok-refusal-in-CreateTable.ensures.refused ∙ ap (λ (x : Name). frame_refusal (frame_of e) n (machine.create_table name x columns)) c.as_str-in-CreateTable.ensures.value)
     (c.in_ok-refusal-in-CreateTable.ensures.state ∙ ap (λ (x : Name). next e n (machine.create_table name x columns)) c.as_str-in-CreateTable.ensures.value))
+
+pub returns-in_ok-refusal-in-CreateView : goal.returns-in_ok-refusal-in-CreateView
+returns-in_ok-refusal-in-CreateView c =
+    let e = c.args.self.now in
+    let n = c.args.session in
+    let name = string_bytes c.in-CreateView.name in
+    let owner = string_bytes c.in-CreateView.owner in
+    let query = string_bytes c.in-CreateView.query in
+    let refused = c.in_ok-refusal-in-CreateView.ensures.refused
+    ∙ (λ i. frame_refusal (frame_of e) n (machine.create_view (c.as_str-in-CreateView.ensures.value i) (c.as_str-in-CreateView-2.ensures.value i) (c.as_str-in-CreateView-3.ensures.value i))) in
+    let state = c.in_ok-refusal-in-CreateView.ensures.state
+    ∙ (λ i. next e n (machine.create_view (c.as_str-in-CreateView.ensures.value i) (c.as_str-in-CreateView-2.ensures.value i) (c.as_str-in-CreateView-3.ensures.value i))) in
+    subst (λ (a : Act). IsStep e n (act_of a) c.plain-in-CreateView.result c.create_view.new.self) (sym c.in-CreateView.is)
+    (plain_step e c.create_view.new.self n (machine.create_view name owner query) c.in_ok-refusal-in-CreateView.refusal c.plain-in-CreateView.result (view_quiet e n name owner query) c.requires.sound c.plain-in-CreateView.ensures refused state)
 
 pub returns-in_ok-refusal-in-Grant : goal.returns-in_ok-refusal-in-Grant
 returns-in_ok-refusal-in-Grant c =

@@ -1,13 +1,11 @@
-use Rattle.std.proofs.Common.{◌≡◌, ◌∙◌, Err, List, ap, get_or, subst, sym}
+use Rattle.std.proofs.Common.{◌∙◌, Err, ap, subst, sym}
 use Rattle.std.specs.Prelude.{Ok, option_map}
-use Rattle.iv_rows.specs.Columns.{Column}
 use Rattle.iv_access.specs.Rights.{Name}
 use Rattle.iv_machine.specs.Act.{PolicyText}
-use Rattle.iv_engine.specs.Kept.{Kept}
 use Rattle.iv_engine.specs.Owned.{IsChecked, IsOwner}
 use Rattle.iv_engine.specs.Views.{refusal_of}
 use Rattle.iv_engine.specs.declared.predicates.Stop.{Stop}
-use Rattle.iv_engine.proofs.Guarding.{checked, err_is, names_refuse}
+use Rattle.iv_engine.proofs.Owning.{checked, err_is, names_refuse}
 use Rattle.iv_engine.proofs.store.Store.check_policy.Goals as goal
 
 pub returns-in-Some : goal.returns-in-Some
@@ -21,8 +19,8 @@ returns-in_err-predicates c =
     let e = c.args.self.now in
     let n = c.args.session in
     let owner = subst (λ (rel : Name). IsOwner e n rel c.in_ok-owned.owned) (c.as_str.ensures.value ∙ ap (λ (p : PolicyText). p.rel) c.policy.view_is) c.in_ok-owned.ensures in
-    let schema = c.index-schema.result.now in
-    let at = subst (λ (cs : List (List Column)). schema ≡ get_or cs c.in_ok-owned.owned.table.0 schema) (ap (λ (v : Kept). v.columns) c.self.view_is) c.index-schema.ensures in
+    let schema = c.schema-schema.result.now in
+    let at = c.schema-schema.ensures in
     err_is c.from_residual-in_err-predicates.result _ (IsChecked e n c.args.policy.now) c.from_residual-in_err-predicates.ensures.1
     (λ stop is. subst (λ (s : Stop). IsChecked e n c.args.policy.now (Err s)) (sym is)
     (checked e n c.args.policy.now c.in_ok-owned.owned owner schema (Err c.in_err-predicates.field-0.0) at (sym c.check_names.ensures ∙ ap (option_map refusal_of) c.in_default.is) c.in_err-predicates.ensures))
@@ -32,6 +30,6 @@ returns c =
     let e = c.args.self.now in
     let n = c.args.session in
     let owner = subst (λ (rel : Name). IsOwner e n rel c.in_ok-owned.owned) (c.as_str.ensures.value ∙ ap (λ (p : PolicyText). p.rel) c.policy.view_is) c.in_ok-owned.ensures in
-    let schema = c.index-schema.result.now in
-    let at = subst (λ (cs : List (List Column)). schema ≡ get_or cs c.in_ok-owned.owned.table.0 schema) (ap (λ (v : Kept). v.columns) c.self.view_is) c.index-schema.ensures in
+    let schema = c.schema-schema.result.now in
+    let at = c.schema-schema.ensures in
     checked e n c.args.policy.now c.in_ok-owned.owned owner schema (Ok c.in_ok-predicates.predicates) at (sym c.check_names.ensures ∙ ap (option_map refusal_of) c.in_default.is) c.in_ok-predicates.ensures

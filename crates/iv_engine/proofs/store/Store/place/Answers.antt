@@ -1,41 +1,34 @@
-use Rattle.std.proofs.Common.{◌≡◌, ◌<◌, ◌∙◌, sym, ap, subst, ℕ, List, length, Some, None, true, not}
-use Rattle.std.specs.Prelude.{is_some, slice_get, string_bytes}
-use Rattle.iv_bind.specs.Catalogs.{named}
-use Rattle.iv_rows.specs.Columns.{Column}
+use Rattle.std.proofs.Common.{◌≡◌, ◌∙◌, sym, ap, subst, ℕ, List, Some, None, true, not}
+use Rattle.std.specs.Prelude.{is_some, string_bytes}
+use Rattle.iv_bind.specs.Catalogs.{named, schema_of}
 use Rattle.iv_machine.specs.Act as machine
 use Rattle.iv_machine.specs.Refusing.{entry_shape, or_else, test}
 use Rattle.iv_machine.specs.State.{table_columns}
 use Rattle.iv_engine.specs.Entries.{copies_of, op_of}
 use Rattle.iv_engine.specs.Kept.{Kept, frame_of}
-use Rattle.iv_engine.proofs.Checking.{get_is, shape_is}
+use Rattle.iv_engine.proofs.Checking.{shape_is}
 use Rattle.iv_engine.proofs.store.Store.place.Goals as goal
 
 pub returns-then-not-accepts-clause-refused : goal.returns-then-not-accepts-clause-refused
 returns-then-not-accepts-clause-refused c =
     let e = c.args.self.now in
     let k = c.in-Some.rel.0 in
-    let columns : c.self.inside.schemas.items ≡ e.columns = ap (λ (v : Kept). v.columns) c.self.view_is in
-    let low = subst (λ (cs : List (List Column)). k < length cs) (sym columns) c.in-Some.ensures.below in
-    let at : slice_get e.columns k ≡ Some c.index.result.now = ap (λ (cs : List (List Column)). slice_get cs k) (sym columns) ∙ get_is c.self.inside.schemas.items k c.index.result.now low c.index.ensures in
     let name = c.as_str.ensures.value in
     let rows = sym c.accepts.ensures ∙ c.if-not-accepts.true in
     ap (entry_shape (frame_of e) c.args.number) (sym c.entry.view_is)
-    ∙ shape_is (frame_of e) c.args.number (string_bytes c.entry.inside.rel) (op_of c.entry.inside.op) (copies_of c.entry.inside.copies) c.index.result.now
+    ∙ shape_is (frame_of e) c.args.number (string_bytes c.entry.inside.rel) (op_of c.entry.inside.op) (copies_of c.entry.inside.copies) c.in-Some-schema.schema.now
     (subst (λ (x : List ℕ). is_some (named (frame_of e).catalog x) ≡ true) name (sym c.in-Some.ensures.known))
-    (subst (λ (x : List ℕ). table_columns (frame_of e).catalog x ≡ Some c.index.result.now) name (c.in-Some.ensures.columns ∙ at))
+    (subst (λ (x : List ℕ). table_columns (frame_of e).catalog x ≡ Some c.in-Some-schema.schema.now) name (c.in-Some.ensures.columns ∙ sym (c.in-Some-schema.ensures ∙ ap (λ (v : Kept). schema_of v.catalog k) c.self.view_is)))
     ∙ ap (λ b. or_else (test (not b) (machine.bad_row c.args.number)) None) rows
 
 pub returns-clause-ok : goal.returns-clause-ok
 returns-clause-ok c =
     let e = c.args.self.now in
     let k = c.in-Some.rel.0 in
-    let columns : c.self.inside.schemas.items ≡ e.columns = ap (λ (v : Kept). v.columns) c.self.view_is in
-    let low = subst (λ (cs : List (List Column)). k < length cs) (sym columns) c.in-Some.ensures.below in
-    let at : slice_get e.columns k ≡ Some c.index.result.now = ap (λ (cs : List (List Column)). slice_get cs k) (sym columns) ∙ get_is c.self.inside.schemas.items k c.index.result.now low c.index.ensures in
     let name = c.as_str.ensures.value in
     let rows = sym c.accepts.ensures ∙ c.if-not-accepts.false in
     ap (entry_shape (frame_of e) c.args.number) (sym c.entry.view_is)
-    ∙ shape_is (frame_of e) c.args.number (string_bytes c.entry.inside.rel) (op_of c.entry.inside.op) (copies_of c.entry.inside.copies) c.index.result.now
+    ∙ shape_is (frame_of e) c.args.number (string_bytes c.entry.inside.rel) (op_of c.entry.inside.op) (copies_of c.entry.inside.copies) c.in-Some-schema.schema.now
     (subst (λ (x : List ℕ). is_some (named (frame_of e).catalog x) ≡ true) name (sym c.in-Some.ensures.known))
-    (subst (λ (x : List ℕ). table_columns (frame_of e).catalog x ≡ Some c.index.result.now) name (c.in-Some.ensures.columns ∙ at))
+    (subst (λ (x : List ℕ). table_columns (frame_of e).catalog x ≡ Some c.in-Some-schema.schema.now) name (c.in-Some.ensures.columns ∙ sym (c.in-Some-schema.ensures ∙ ap (λ (v : Kept). schema_of v.catalog k) c.self.view_is)))
     ∙ ap (λ b. or_else (test (not b) (machine.bad_row c.args.number)) None) rows

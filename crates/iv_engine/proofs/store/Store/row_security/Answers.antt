@@ -1,15 +1,14 @@
-use Rattle.std.proofs.Common.{◌≡◌, ◌∙◌, ap, length, refl, subst, sym, [], Err, List, Option, Some}
+use Rattle.std.proofs.Common.{◌≡◌, refl, subst, sym, [], Err, List, Option, Some}
 use Rattle.std.specs.Prelude.{string_bytes}
-use Rattle.iv_access.specs.Filters.{Filter}
 use Rattle.iv_access.specs.Rights.{Name}
 use Rattle.iv_machine.specs.Act.{Refusal, row_security}
+use Rattle.iv_engine.specs.Answering.{IsStep}
 use Rattle.iv_engine.specs.Kept.{Kept, IsStored, frame_of}
 use Rattle.iv_engine.specs.Owned.{IsOwned, IsOwner, owner_tests}
-use Rattle.iv_engine.specs.Turned.{AreFilters}
+use Rattle.iv_engine.specs.Turned.{Each, IsBefore, IsTold, Suits}
 use Rattle.iv_engine.specs.Views.{refusal_of}
 use Rattle.iv_engine.specs.declared.predicates.Stop.{Stop}
-use Rattle.iv_engine.proofs.Guarding.{guarded_sound, security_step}
-use Rattle.iv_engine.proofs.Passing.{filters_long}
+use Rattle.iv_engine.proofs.Guarding.{all_suit, by_told, guarded_stored, security_step}
 use Rattle.iv_engine.proofs.Stepping.{refused_step}
 use Rattle.iv_engine.proofs.store.Store.row_security.Goals as goal
 
@@ -22,20 +21,26 @@ returns-in-Err-Refused c =
     refused_step e e n (row_security (string_bytes c.args.rel) c.args.enable c.args.force) c.in-Err-Refused.refusal c.requires
     (subst (λ (rel : Name). owner_tests (frame_of e) n rel [] ≡ Some (refusal_of c.in-Err-Refused.refusal)) c.as_str.ensures.value (told [])) refl
 
-pub turned-requires-clause-stored : goal.turned-requires-clause-stored
-turned-requires-clause-stored c = subst IsStored (sym c.switch.ensures)
-    (guarded_sound c.args.self.now c.in-Ok.owned.table.0 (λ g. record g { enabled = c.args.enable; forced = c.args.force }) c.requires).stored
+pub tell_readers-requires-clause-stored : goal.tell_readers-requires-clause-stored
+tell_readers-requires-clause-stored c = subst IsStored (sym c.switch.ensures)
+    (guarded_stored c.args.self.now c.in-Ok.owned.table.0 (λ g. record g { enabled = c.args.enable; forced = c.args.force }) c.requires.stored)
 
-pub turned-requires-clause-each : goal.turned-requires-clause-each
-turned-requires-clause-each c = ap (λ (fs : List (Option Filter)). length fs) c.deref.ensures.value
-    ∙ filters_long c.args.self.now c.in-Ok.owned.table.0 c.args.self.now.subscriptions c.in_ok-filters.filters.items c.in_ok-filters.ensures
-    ∙ sym (ap (λ (v : Kept). length v.subscriptions) c.switch.ensures)
+pub tell_readers-requires-clause-suits : goal.tell_readers-requires-clause-suits
+tell_readers-requires-clause-suits c =
+    let e = c.args.self.now in
+    let t = c.in-Ok.owned.table.0 in
+    let all = subst (Each (IsBefore e t) e.subscriptions) (sym c.deref.ensures.value) c.in_ok-before.ensures in
+    subst (λ (v : Kept). Each (Suits v) v.subscriptions c.deref.result.now) (sym c.switch.ensures)
+    (all_suit e t (λ g. record g { enabled = c.args.enable; forced = c.args.force }) c.deref.result.now c.requires all)
 
 pub returns : goal.returns
 returns c =
     let e = c.args.self.now in
     let n = c.args.session in
     let name = string_bytes c.args.rel in
+    let bs = c.deref.result.now in
+    let new = c.tell_readers.new.self in
     let owner = subst (λ (rel : Name). IsOwner e n rel c.in-Ok.owned) c.as_str.ensures.value c.in-Ok.ensures in
-    let filters = subst (AreFilters e c.in-Ok.owned.table.0 e.subscriptions) (sym c.deref.ensures.value) c.in_ok-filters.ensures in
-    security_step e c.switch.new.self n name c.args.enable c.args.force c.in-Ok.owned c.in_ok-changes.changes c.deref.result.now c.requires owner c.switch.ensures filters c.in_ok-changes.ensures
+    let all = subst (Each (IsBefore e c.in-Ok.owned.table.0) e.subscriptions) (sym c.deref.ensures.value) c.in_ok-before.ensures in
+    by_told (IsTold c.switch.new.self bs) (IsStep e n (row_security name c.args.enable c.args.force)) new c.tell_readers.result
+    (λ a told. security_step e new n name c.args.enable c.args.force c.in-Ok.owned bs a c.requires owner all (subst (λ (v : Kept). IsTold v bs a new) c.switch.ensures told)) c.tell_readers.ensures

@@ -1,0 +1,165 @@
+-- Closing sessions and subscriptions: nothing is sent, and what is left shows what it showed.
+use Rattle.std.proofs.Common.{◌≡◌, ℕ, ◌<◌, Bool, true, false, cond, not, List, [], ◌∷◌, length, map, Option, None, Some, refl, sym, ap, subst, ◌∙◌, arith}
+use Rattle.std.proofs.lemmas.Bool.Decides.{nat_tests}
+use Rattle.std.specs.Prelude.{◌==◌, filter, flat_map, is_some, option_map}
+use Rattle.std.specs.Global.{Vec}
+use Rattle.std.specs.List.{AllByRecursion}
+use Rattle.iv_algebra.specs.Plans.{Lists}
+use Rattle.iv_bind.specs.Faults.{if_some}
+use Rattle.iv_access.specs.declared.role.RoleId.{RoleId}
+use Rattle.iv_machine.specs.Act as machine
+use Rattle.iv_machine.specs.Act.{finish, unsubscribe}
+use Rattle.iv_machine.specs.Machine.{difference, ending, line_for, line_of as machine_line}
+use Rattle.iv_machine.specs.Refusing.{has_subscription, or_else, test}
+use Rattle.iv_machine.specs.State.{Session, State, Subscription, is_open, session_of, shown, subscription_of, view_of}
+use Rattle.iv_machine.proofs.Placing.{all_kept}
+use Rattle.iv_machine.proofs.Reached.{given_kept, unique_kept}
+use Rattle.iv_engine.specs.Answering.{IsStep, seen}
+use Rattle.iv_engine.specs.Finished.{finished, unsubscribed}
+use Rattle.iv_engine.specs.Kept.{IsOpen, IsSound, IsWithin, Kept, at, frame_of, may_read}
+use Rattle.iv_engine.specs.Seen.{IsBehind}
+use Rattle.iv_engine.specs.Stands.{Stands}
+use Rattle.iv_engine.specs.Views.{line_of}
+use Rattle.iv_engine.specs.declared.answer.Answer.TheVariants.{Accepted}
+use Rattle.iv_engine.specs.declared.command.Line.{Line}
+use Rattle.iv_engine.specs.declared.command.Reply.TheVariants.{Ok}
+use Rattle.iv_engine.proofs.Showing.{difference_none, each_found}
+use Rattle.iv_engine.proofs.Sound.{all_zip}
+use Rattle.iv_engine.proofs.Stepping.{no_lines, no_refusal, none_ends, none_settled}
+use Rattle.iv_engine.proofs.Unmoved.{IsUnmoved, other_sessions, still_read, still_shown, still_within}
+
+-- ---- what is left of the subscriptions, whose sessions are as before
+
+module _ (e : Kept) (h : IsSound e) (ss : List Session) (p : Subscription → Bool) (roles : AllByRecursion (λ s. s.role < length e.known.rights.roles) ss)
+    (same : (s : Subscription) → p s ≡ true → session_of ss s.session ≡ session_of e.sessions s.session) where
+  abbrev c : Kept
+  c = record e { sessions = ss; subscriptions = filter p e.subscriptions }
+
+  unmoved : (s : Subscription) → p s ≡ true → IsUnmoved e c s
+  unmoved s k = other_sessions e ss (filter p e.subscriptions) s (same s k)
+
+  -- what each that is left had
+  left : (P Q : Subscription → Type 0) → ((s : Subscription) → p s ≡ true → P s → Q s) → AllByRecursion P e.subscriptions → AllByRecursion Q (filter p e.subscriptions)
+  left P Q go a = all_kept P Q p go e.subscriptions a
+
+  pub left_sound : IsSound c
+  left_sound = record {
+    stored = record {
+      reached = record { unique = unique_kept p e.subscriptions h.stored.reached.unique; given = given_kept e.last p e.subscriptions h.stored.reached.given };
+      roles = roles;
+      numbered = h.stored.numbered;
+      relations = h.stored.relations;
+      guards = h.stored.guards;
+      bags = h.stored.bags;
+      zsets = h.stored.zsets;
+      small = h.stored.small;
+      positive = h.stored.positive;
+      kinds = h.stored.kinds;
+      shows = left (IsOpen e) (IsOpen c) (λ s k o. record { session = ap (λ (x : Option Session). is_some x) (same s k) ∙ o.session; known = o.known }) h.stored.shows;
+    };
+    served = left (λ s. may_read e s ≡ true) (λ s. may_read c s ≡ true) (λ s k r. still_read e c s (unmoved s k) r) h.served;
+    within = left (IsWithin e) (IsWithin c) (λ s k w T y. still_within e c s (unmoved s k) T y ∙ w T y) h.within;
+  }
+
+  module _ (T : Lists) (stands : Stands T e.bags) where
+    -- each that is left is found before and now
+    abbrev IsLeft : Subscription → Type 0
+    IsLeft s = (p s ≡ true) × (subscription_of e.subscriptions s.number ≡ Some s)
+
+    each_left : AllByRecursion IsLeft (filter p e.subscriptions)
+    each_left = left (λ s. subscription_of e.subscriptions s.number ≡ Some s) IsLeft (λ s k f. (k, f)) (each_found e.subscriptions h.stored.reached.unique)
+
+    still : (s : Subscription) → IsLeft s → subscription_of (filter p e.subscriptions) s.number ≡ Some s → shown (at c T) s.number ≡ shown (at e T) s.number
+    still s x f = ap (λ o. if_some o [] (view_of (at c T))) f ∙ still_shown e c s (unmoved s x.0) T stands ∙ sym (ap (λ o. if_some o [] (view_of (at e T))) x.1)
+
+    quiet : (s : Subscription) → shown (at c T) s.number ≡ shown (at e T) s.number → ending (at c T) s ≡ None → line_for (at e T) (at c T) (ending (at c T)) s ≡ []
+    quiet s v k = (λ i. machine_line (k i) s (difference (shown (at e T) s.number) (v i))) ∙ ap (machine_line None s) (difference_none (shown (at e T) s.number))
+
+    still_each : AllByRecursion (λ s. shown (at c T) s.number ≡ shown (at e T) s.number) (filter p e.subscriptions)
+    still_each = all_zip IsLeft (λ s. subscription_of (filter p e.subscriptions) s.number ≡ Some s) (λ s. shown (at c T) s.number ≡ shown (at e T) s.number) (filter p e.subscriptions) still each_left (each_found (filter p e.subscriptions) left_sound.stored.reached.unique)
+
+    pub left_quiet : flat_map (line_for (at e T) (at c T) (ending (at c T))) (filter p e.subscriptions) ≡ []
+    left_quiet = no_lines (line_for (at e T) (at c T) (ending (at c T))) (filter p e.subscriptions)
+        (all_zip (λ s. shown (at c T) s.number ≡ shown (at e T) s.number) (λ s. ending (at c T) s ≡ None) (λ s. line_for (at e T) (at c T) (ending (at c T)) s ≡ []) (filter p e.subscriptions) quiet still_each (none_ends c T left_sound stands))
+
+    abbrev at_left : List Subscription → State
+    at_left subs = at (record c { subscriptions = subs }) T
+
+    pub left_sent : flat_map (line_for (at e T) (at_left (filter (λ s. not (is_some (ending (at c T) s))) (filter p e.subscriptions))) (ending (at c T))) (filter p e.subscriptions) ≡ []
+    left_sent = ap (λ subs. flat_map (line_for (at e T) (at_left subs) (ending (at c T))) (filter p e.subscriptions)) (none_settled c T left_sound stands) ∙ left_quiet
+
+    pub left_settled : at_left (filter (λ s. not (is_some (ending (at c T) s))) (filter p e.subscriptions)) ≡ at c T
+    left_settled = ap at_left (none_settled c T left_sound stands)
+
+-- ---- a session
+
+same_nat : (m n : ℕ) → (m == n) ≡ true → m ≡ n
+same_nat m n h = grind (arith, nat_tests)
+
+stays : (b : Bool) → not b ≡ true → b ≡ false
+stays true h = cc
+stays false h = refl
+
+-- the others are found as before
+others_stay : (ss : List Session) (n k : ℕ) → (n == k) ≡ false → session_of (filter (λ s. not (n == s.number)) ss) k ≡ session_of ss k
+others_stay [] n k h = refl
+others_stay (s ∷ ss) n k h = by (n == s.number) refl (others_stay ss n k h)
+  where
+    by : (b : Bool) → (n == s.number) ≡ b → session_of (filter (λ x. not (n == x.number)) ss) k ≡ session_of ss k
+        → session_of (cond (not b) (s ∷ filter (λ x. not (n == x.number)) ss) (filter (λ x. not (n == x.number)) ss)) k ≡ cond (k == s.number) (Some s) (session_of ss k)
+    by true is go = go ∙ ap (λ b. cond b (Some s) (session_of ss k)) (sym (apart k n s.number is h))
+      where
+        apart : (k n m : ℕ) → (n == m) ≡ true → (n == k) ≡ false → (k == m) ≡ false
+        apart k n m is h = grind (arith, nat_tests)
+    by false is go = ap (λ o. cond (k == s.number) (Some s) o) go
+
+passes : (b : Bool) (r : machine.Refusal) → b ≡ true → test (not b) r ≡ None
+passes b r h = ap (λ x. test (not x) r) h
+
+or_nothing : (o : Option machine.Refusal) → or_else o None ≡ o
+or_nothing None = refl
+or_nothing (Some r) = refl
+
+module _ (e new : Kept) (n : ℕ) (lines : Vec Line) (h : IsSound e) (none : lines.items ≡ []) (opened : is_open (frame_of e) n ≡ true) where
+  pub finished_step : new ≡ finished n e → IsStep e n finish (Accepted Ok lines) new
+  finished_step k =
+      let ss = filter (λ (s : Session). not (n == s.number)) e.sessions in
+      let p = λ (s : Subscription). not (n == s.session) in
+      let roles = all_kept (λ (s : Session). s.role < length e.known.rights.roles) (λ s. s.role < length e.known.rights.roles) (λ s. not (n == s.number)) (λ s b r. r) e.sessions h.stored.roles in
+      let same = λ (s : Subscription) (x : p s ≡ true). others_stay e.sessions n s.session (stays (n == s.session) x) in
+      record {
+        answer = λ T s. (
+          ap (λ b. or_else (or_else (test (not b) machine.no_session) None) None) opened,
+          refl,
+          ap (map line_of) none ∙ sym (left_sent e h ss p roles same T s),
+        );
+        left = λ T s. subst (λ (t : State). IsBehind t (seen new)) (sym (left_settled e h ss p roles same T s))
+            (subst (λ (v : Kept). IsBehind (at (finished n e) T) (seen v)) (sym k) (record { frame = refl; rows = s }));
+        kept = no_refusal Ok refl;
+        sound = subst IsSound (sym k) (left_sound e h ss p roles same);
+      }
+
+  -- ---- a subscription
+
+  pub unsubscribed_step : (number : ℕ) → has_subscription (frame_of e) n number ≡ true → new ≡ unsubscribed number e → IsStep e n (unsubscribe number) (Accepted Ok lines) new
+  unsubscribed_step number has k =
+      let p = λ (s : Subscription). not (number == s.number) in
+      let same = λ (s : Subscription) (x : p s ≡ true). refl in
+      record {
+        answer = λ T s. (
+          (λ i. or_else (or_else (test (not (opened i)) machine.no_session) (test (not (has i)) machine.unknown_subscription)) None),
+          refl,
+          ap (map line_of) none ∙ sym (left_sent e h e.sessions p h.stored.roles same T s),
+        );
+        left = λ T s. subst (λ (t : State). IsBehind t (seen new)) (sym (left_settled e h e.sessions p h.stored.roles same T s))
+            (subst (λ (v : Kept). IsBehind (at (unsubscribed number e) T) (seen v)) (sym k) (record { frame = refl; rows = s }));
+        kept = no_refusal Ok refl;
+        sound = subst IsSound (sym k) (left_sound e h e.sessions p h.stored.roles same);
+      }
+
+-- ---- the tests
+
+pub is_opened : (o : Option RoleId) (s : Option Session) → option_map (λ r. r.0) o ≡ option_map (λ x. x.role) s → is_some o ≡ true → is_some s ≡ true
+is_opened None s h k = cc
+is_opened (Some r) None h k = cc
+is_opened (Some r) (Some s) h k = refl

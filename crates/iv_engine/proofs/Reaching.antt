@@ -1,0 +1,123 @@
+-- What subscriptions show more after the changes of tables than before them.
+use Rattle.std.proofs.Common.{◌≡◌, ℕ, zero, suc, ◌+◌, ◌<◌, ◌≤◌, Bool, true, false, cond, ◌&&◌, List, [], ◌∷◌, ◌++◌, length, map, take, get_or, ℤ, Option, None, Some, refl, sym, ap, subst, ◌∙◌, arith}
+use Rattle.std.proofs.lemmas.Bool.Decides.{nat_tests}
+use Rattle.std.proofs.lemmas.List.{take_all, take_more}
+use Rattle.std.specs.Global.{Vec}
+use Rattle.std.specs.Prelude.{◌==◌, IfOk, Result, Ok, Err, filter, is_some, option_map}
+use Rattle.std.specs.List.{list_all}
+use Rattle.iv_rows.specs.Cell.{Cell}
+use Rattle.iv_access.specs.Policies.{may_see}
+use Rattle.iv_bind.specs.Catalogs as catalogs
+use Rattle.iv_bind.specs.Catalogs.{Entry, Held, table_in, view_in, view_of}
+use Rattle.iv_bind.specs.Faults.{if_some}
+use Rattle.iv_machine.specs.Machine.{difference, line_of as machine_line}
+use Rattle.iv_machine.specs.Numbered.{AreNumbered}
+use Rattle.iv_machine.specs.State.{Subscription, actor, is_within}
+use Rattle.iv_engine.specs.Changes.{Change, change_at}
+use Rattle.iv_engine.specs.Kept.{Kept, at, frame_of}
+use Rattle.iv_engine.specs.Answering.{moved_line}
+use Rattle.iv_engine.specs.Moved.{AreLines, AreLinesSoFar, IsChangeOf, IsMoved}
+use Rattle.iv_engine.specs.Views.{line_of}
+use Rattle.iv_engine.specs.declared.command.Line.{Line}
+use Rattle.iv_engine.proofs.Lines.{sends}
+use Rattle.iv_engine.proofs.Seeing.{difference_filter, seen}
+use Rattle.iv_engine.proofs.Showing.{view_is, view_within}
+use Rattle.iv_engine.proofs.Tables.{IsATable}
+
+-- ---- a relation that is no view is a table
+
+farther : (m n : ℕ) → (m == n) ≡ false → n ≤ m → suc n ≤ m
+farther m n h l = grind (arith, nat_tests)
+
+pub numbered_there : (n : ℕ) (es : List Entry) (k : ℕ) → AreNumbered n es → n ≤ k → k < n + length es → is_some (catalogs.numbered es k) ≡ true
+numbered_there n [] k u l h = absurd (omega arith)
+numbered_there n (e ∷ es) k u l h = by (k == e.rel) refl (λ f. numbered_there (suc n) es k u.1 (farther k n (subst (λ m. (k == m) ≡ false) u.0 f) l) (omega arith))
+  where
+    by : (b : Bool) → (k == e.rel) ≡ b → ((k == e.rel) ≡ false → is_some (catalogs.numbered es k) ≡ true) → is_some (cond b (Some e) (catalogs.numbered es k)) ≡ true
+    by true f go = refl
+    by false f go = go f
+
+no_view : (o : Option Entry) → is_some o ≡ true → is_some (if_some o None (λ x. view_in x.held)) ≡ false → is_some (if_some o None (λ x. table_in x.held)) ≡ true
+no_view None s h = cc
+no_view (Some x) s h = by x.held h
+  where
+    by : (y : Held) → is_some (view_in y) ≡ false → is_some (table_in y) ≡ true
+    by (catalogs.Table columns) k = refl
+    by (catalogs.View a) k = cc
+
+pub table_if_no_view : (catalog : List Entry) (rel : ℕ) → AreNumbered 0 catalog → rel < length catalog → is_some (view_of catalog rel) ≡ false → IsATable catalog rel
+table_if_no_view catalog rel u l h = no_view (catalogs.numbered catalog rel) (numbered_there 0 catalog rel u (omega arith) (omega arith)) h
+
+pub is_found : {A B : Type 0} (f : A → B) (o : Option A) (p : Option B) → option_map f o ≡ p → is_some p ≡ is_some o
+is_found f None p h = sym (ap (λ x. is_some x) h)
+is_found f (Some a) p h = sym (ap (λ x. is_some x) h)
+
+-- ---- of one subscription
+
+module _ (e : Kept) (s : Subscription) (changes : List Change) (role rel : ℕ) (r : role ≡ actor (frame_of e) s.session) (k : rel ≡ s.rel) where
+  pub of_view : {E : Type 0} (o : Result (Option (Vec (List Cell × ℤ))) E) → IfOk o (λ rows. IsMoved e role rel changes rows) → IfOk o (λ rows. IsChangeOf e s changes rows)
+  of_view (Ok rows) h = λ T U after within.
+      subst (λ x. IsMoved e x s.rel changes rows) r (subst (λ x. IsMoved e role x changes rows) k h) T U after.stands after.lead within
+  of_view (Err x) h = tt
+
+  pub of_table : (rows : Vec (List Cell × ℤ)) → IsATable e.catalog s.rel → rows.items ≡ filter (λ x. may_see e.known.rights role rel x.0) (change_at changes rel) → IsChangeOf e s changes (Some rows)
+  of_table rows table is T U after within = let reader = actor (frame_of e) s.session in let p = may_see e.known.rights reader s.rel in (
+    view_within e U reader s.rel table (after.tables s.rel),
+    is ∙ (λ i. filter (λ x. may_see e.known.rights (r i) (k i) x.0) (change_at changes (k i)))
+        ∙ ap (seen p) (after.differ s.rel) ∙ sym (difference_filter p (T s.rel) (U s.rel))
+        ∙ (λ i. difference (sym (view_is e T reader s.rel table) i) (sym (view_is e U reader s.rel table) i)),
+  )
+
+-- ---- of all subscriptions
+
+first_true : (b c : Bool) → (b && c) ≡ true → b ≡ true
+first_true true c h = refl
+first_true false c h = h
+
+second_true : (b c : Bool) → (b && c) ≡ true → c ≡ true
+second_true true c h = h
+second_true false c h = cc
+
+second_false : (b c : Bool) → c ≡ false → (b && c) ≡ false
+second_false true c h = h
+second_false false c h = refl
+
+module _ (p : Subscription → Bool) where
+  passes_at : (es : List Subscription) (i : ℕ) (s : Subscription) → list_all p es ≡ true → i < length es → s ≡ get_or es i s → p s ≡ true
+  passes_at [] i s a l h = absurd (omega arith)
+  passes_at (x ∷ es) zero s a l h = ap p h ∙ first_true (p x) (list_all p es) a
+  passes_at (x ∷ es) (suc i) s a l h = passes_at es i s (second_true (p x) (list_all p es) a) (omega arith) h
+
+  fails_at : (es : List Subscription) (i : ℕ) (s : Subscription) → p s ≡ false → i < length es → s ≡ get_or es i s → list_all p es ≡ false
+  fails_at [] i s f l h = absurd (omega arith)
+  fails_at (x ∷ es) zero s f l h = ap (λ b. b && list_all p es) (sym (ap p h) ∙ f)
+  fails_at (x ∷ es) (suc i) s f l h = second_false (p x) (list_all p es) (fails_at es i s f (omega arith) h)
+
+  all_append : (xs : List Subscription) (x : Subscription) → list_all p xs ≡ true → p x ≡ true → list_all p (xs ++ x ∷ []) ≡ true
+  all_append [] x a h = ap (λ b. b && true) h
+  all_append (y ∷ xs) x a h = ap (λ b. b && list_all p (xs ++ x ∷ [])) (first_true (p y) (list_all p xs) a) ∙ all_append xs x (second_true (p y) (list_all p xs) a) h
+
+  all_more : (es : List Subscription) (i : ℕ) (s : Subscription) → list_all p (take i es) ≡ true → p s ≡ true → i < length es → s ≡ get_or es i s → list_all p (take (i + 1) es) ≡ true
+  all_more es i s a h l at = ap (list_all p) (take_more es i s l) ∙ all_append (take i es) (get_or es i s) a (sym (ap p at) ∙ h)
+
+module _ (e : Kept) (changes : List Change) (all : List Subscription) (same : all ≡ e.subscriptions) (i : ℕ) (s : Subscription) (low : i < length all) (item : s ≡ get_or all i s) where
+  low_in : i < length e.subscriptions
+  low_in = subst (λ (xs : List Subscription). i < length xs) same low
+
+  item_in : s ≡ get_or e.subscriptions i s
+  item_in = subst (λ (xs : List Subscription). s ≡ get_or xs i s) same item
+
+  pub lines_out : IsChangeOf e s changes None → AreLines e changes None
+  lines_out h T U after within = fails_at (is_within (at e U)) e.subscriptions i s (h T U after (passes_at (is_within (at e T)) e.subscriptions i s within low_in item_in)) low_in item_in
+
+  pub lines_more : (rows : Vec (List Cell × ℤ)) (old new : List Line) → IsChangeOf e s changes (Some rows) → AreLinesSoFar e changes (take i e.subscriptions) old
+      → map line_of new ≡ map line_of old ++ machine_line None s rows.items → AreLinesSoFar e changes (take (i + 1) e.subscriptions) new
+  lines_more rows old new h before more T U after within =
+      let one = h T U after (passes_at (is_within (at e T)) e.subscriptions i s within low_in item_in) in
+      let so_far = before T U after within in (
+        all_more (is_within (at e U)) e.subscriptions i s so_far.0 one.0 low_in item_in,
+        sends (moved_line e T U) e.subscriptions i s low_in item_in [] (map line_of old) (machine_line None s rows.items) (map line_of new) so_far.1 (ap (machine_line None s) one.1) more,
+      )
+
+pub lines_whole : (e : Kept) (changes : List Change) (k : ℕ) (lines : Vec Line) → length e.subscriptions ≤ k → AreLinesSoFar e changes (take k e.subscriptions) lines.items → AreLines e changes (Some lines)
+lines_whole e changes k lines l h = subst (λ ss. AreLinesSoFar e changes ss lines.items) (take_all k e.subscriptions l) h

@@ -1,0 +1,104 @@
+-- Subscriptions that a change of sessions, rights or relations leaves as they were: what they show, the limits of it, and
+-- that their readers may read.
+use Rattle.std.proofs.Common.{◌≡◌, ℕ, zero, suc, ◌<◌, ◌≤◌, Bool, true, false, cond, not, List, [], ◌∷◌, ◌++◌, length, map, Option, None, Some, refl, sym, ap, ◌∙◌, arith}
+use Rattle.std.proofs.lemmas.Bool.Decides.{nat_tests}
+use Rattle.std.specs.Prelude.{◌==◌, filter, is_some, nat_lt, option_map, slice_get, unwrap_or}
+use Rattle.iv_zset.specs.Weights.{Weighed}
+use Rattle.iv_algebra.specs.Evaluation.{eval, plan_within}
+use Rattle.iv_algebra.specs.Plans.{Lists}
+use Rattle.iv_bind.specs.Catalogs.{Entry, Held, numbered}
+use Rattle.iv_access.specs.declared.privilege.Privilege.TheVariants.{Select}
+use Rattle.iv_access.specs.Policies.{allowed, may_see}
+use Rattle.iv_access.specs.Privileges.{first_missing, has, role_name}
+use Rattle.iv_access.specs.Rights.{Guard, Name, Rights}
+use Rattle.iv_machine.specs.Changing.{with_held}
+use Rattle.iv_machine.specs.State.{Session, Subscription, actor, is_within, needs_at, next_rel, plan_at, session_of}
+use Rattle.iv_machine.proofs.Placing.{find_kept}
+use Rattle.iv_engine.specs.Kept.{Kept, at, cap, frame_of, may_read, shown_rows}
+use Rattle.iv_engine.specs.Stands.{Stands, bag_at}
+use Rattle.iv_engine.proofs.Holding.{to_list}
+use Rattle.iv_engine.proofs.Seeing.{rows_same}
+
+-- in d it has the plan and the needs that it has in e, and its reader may select what it might, and sees the same rows
+pub record IsUnmoved (e d : Kept) (s : Subscription) : Type 0 where
+  pub plan : plan_at d.catalog s.rel ≡ plan_at e.catalog s.rel
+  pub needs : needs_at d.catalog s.rel ≡ needs_at e.catalog s.rel
+  pub reads : (rel : ℕ) → has e.known.rights (actor (frame_of e) s.session) Select rel ≡ true → has d.known.rights (actor (frame_of d) s.session) Select rel ≡ true
+  pub sees : (T : Lists) → Stands T e.bags → allowed d.known.rights (actor (frame_of d) s.session) T ≡ allowed e.known.rights (actor (frame_of e) s.session) T
+
+-- ---- what follows
+
+module _ (r q : Rights) (a b : ℕ) (go : (rel : ℕ) → has r a Select rel ≡ true → has q b Select rel ≡ true) where
+  pub reads_all : (ns : List ℕ) → not (is_some (first_missing r a (map (λ n. (Select, n)) ns))) ≡ true → not (is_some (first_missing q b (map (λ n. (Select, n)) ns))) ≡ true
+  reads_all [] h = refl
+  reads_all (n ∷ ns) h = by (has r a Select n) refl h (reads_all ns)
+    where
+      by : (x : Bool) → has r a Select n ≡ x → not (is_some (cond x (first_missing r a (map (λ m. (Select, m)) ns)) (Some (Select, n)))) ≡ true
+          → (not (is_some (first_missing r a (map (λ m. (Select, m)) ns))) ≡ true → not (is_some (first_missing q b (map (λ m. (Select, m)) ns))) ≡ true)
+          → not (is_some (cond (has q b Select n) (first_missing q b (map (λ m. (Select, m)) ns)) (Some (Select, n)))) ≡ true
+      by true k l rest = ap (λ c. not (is_some (cond c (first_missing q b (map (λ m. (Select, m)) ns)) (Some (Select, n))))) (go n k) ∙ rest l
+      by false k l rest = cc
+
+module _ (e d : Kept) (s : Subscription) (u : IsUnmoved e d s) where
+  pub still_read : may_read e s ≡ true → may_read d s ≡ true
+  still_read h = ap (λ ns. not (is_some (first_missing d.known.rights (actor (frame_of d) s.session) (map (λ n. (Select, n)) ns)))) u.needs
+      ∙ reads_all e.known.rights d.known.rights (actor (frame_of e) s.session) (actor (frame_of d) s.session) u.reads (needs_at e.catalog s.rel) h
+
+  module _ (T : Lists) (stands : Stands T e.bags) where
+    pub still_shown : shown_rows d T s ≡ shown_rows e T s
+    still_shown = λ i. eval (u.plan i) (u.sees T stands i)
+
+    pub still_within : is_within (at d T) s ≡ is_within (at e T) s
+    still_within = λ i. plan_within cap (u.plan i) (u.sees T stands i)
+
+-- ---- one relation more
+
+pub still_there : {X : Type 0} (xs : List X) (x : X) (k : ℕ) → k < length xs → slice_get (xs ++ x ∷ []) k ≡ slice_get xs k
+still_there [] x k l = absurd (omega arith)
+still_there (y ∷ xs) x zero l = refl
+still_there (y ∷ xs) x (suc k) l = still_there xs x k (omega arith)
+
+-- those before keep their plans and needs
+pub still_numbered : (name : Name) (o : Option Held) (es : List Entry) (rel : ℕ) → is_some (numbered es rel) ≡ true → numbered (with_held name o es) rel ≡ numbered es rel
+still_numbered name None es rel h = refl
+still_numbered name (Some held) es rel h = find_kept (λ (x : Entry). rel == x.rel) es (record { name = name; rel = next_rel es; held = held } ∷ []) h
+
+below : (m n : ℕ) → nat_lt m n ≡ true → m < n
+below m n h = grind (arith, nat_tests)
+
+beyond : (m n : ℕ) → nat_lt m n ≡ false → n ≤ m
+beyond m n h = grind (arith, nat_tests)
+
+no_bag : (bags : List Weighed) (t : ℕ) → length bags ≤ t → bag_at bags t ≡ []
+no_bag [] zero l = refl
+no_bag [] (suc t) l = refl
+no_bag (x ∷ bags) zero l = absurd (omega arith)
+no_bag (x ∷ bags) (suc t) l = no_bag bags t (omega arith)
+
+-- what has no bag has no row, and so a guard may come there
+pub sees_before : (r q : Rights) (role : ℕ) (g : Guard) (bags : List Weighed) (T : Lists) → role_name q role ≡ role_name r role → q.guards ≡ r.guards ++ g ∷ [] → length r.guards ≡ length bags → Stands T bags → allowed q role T ≡ allowed r role T
+sees_before r q role g bags T name guards long stands = λ i t. each t i
+  where
+    none : (t : ℕ) → length r.guards ≤ t → T t ≡ []
+    none t l = to_list None (bag_at bags t) (T t) (no_bag bags t (omega (arith, long, l))) (stands t)
+
+    by : (t : ℕ) (b : Bool) → nat_lt t (length r.guards) ≡ b → filter (may_see q role t) (T t) ≡ filter (may_see r role t) (T t)
+    by t true l = rows_same q r role t name (ap (λ gs. slice_get gs t) guards ∙ still_there r.guards g t (below t (length r.guards) l)) (T t)
+    by t false l = let empty = none t (beyond t (length r.guards) l) in ap (filter (may_see q role t)) empty ∙ sym (ap (filter (may_see r role t)) empty)
+
+    each : (t : ℕ) → filter (may_see q role t) (T t) ≡ filter (may_see r role t) (T t)
+    each t = by t (nat_lt t (length r.guards)) refl
+
+-- ---- other sessions
+
+-- where its session's role stays
+pub actor_same : (e : Kept) (ss : List Session) (n : ℕ) → session_of ss n ≡ session_of e.sessions n → actor (frame_of (record e { sessions = ss })) n ≡ actor (frame_of e) n
+actor_same e ss n h = ap (λ (o : Option Session). unwrap_or (option_map (λ x. x.role) o) (length e.known.rights.roles)) h
+
+pub other_sessions : (e : Kept) (ss : List Session) (es : List Subscription) (s : Subscription) → session_of ss s.session ≡ session_of e.sessions s.session → IsUnmoved e (record e { sessions = ss; subscriptions = es }) s
+other_sessions e ss es s h = let a = actor_same e ss s.session h in record {
+  plan = refl;
+  needs = refl;
+  reads = λ rel k. ap (λ role. has e.known.rights role Select rel) a ∙ k;
+  sees = λ T stands. ap (λ role. allowed e.known.rights role T) a;
+}

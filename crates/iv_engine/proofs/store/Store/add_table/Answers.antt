@@ -1,0 +1,18 @@
+use Rattle.std.proofs.Common.{◌≡◌, ◌∙◌, None, ap, length, subst, true}
+use Rattle.iv_bind.specs.Catalogs.{named, numbered}
+use Rattle.iv_access.specs.Faults.{add_relation_fault}
+use Rattle.iv_engine.specs.Kept.{Kept}
+use Rattle.iv_engine.proofs.Telling.{free_name, free_number}
+use Rattle.iv_engine.proofs.store.Store.add_table.Goals as goal
+
+pub add_table-requires-clause-name : goal.add_table-requires-clause-name
+add_table-requires-clause-name c =
+    let name = c.args.name.now in
+    ap (λ (v : Kept). named v.catalog name) c.self.view_is
+    ∙ free_name c.args.self.now c.requires.stored c.args.acting.0 name c.args.owner.now
+    (subst (λ (v : Kept). add_relation_fault v.known c.args.acting.0 name c.args.owner.now true ≡ None) c.self.view_is c.in-Ok.ensures.ok_when)
+
+pub add_table-requires-clause-number : goal.add_table-requires-clause-number
+add_table-requires-clause-number c =
+    ap (λ (v : Kept). numbered v.catalog c.in-Ok.rel.0) c.self.view_is
+    ∙ free_number c.args.self.now c.requires.stored c.in-Ok.rel.0 (c.in-Ok.ensures.number ∙ ap (λ (v : Kept). length v.known.relations) c.self.view_is)

@@ -1,0 +1,21 @@
+use Rattle.std.proofs.Common.{◌≡◌, ◌∙◌, ◌⊎◌, Some, ap, false, length, subst}
+use Rattle.iv_access.specs.Faults.{add_relation_fault}
+use Rattle.iv_access.specs.declared.fault.AccessFault.TheVariants.{Memory}
+use Rattle.iv_bind.specs.Catalogs.{numbered}
+use Rattle.iv_engine.specs.Kept.{Kept}
+use Rattle.iv_engine.proofs.Creating.{too_many}
+use Rattle.iv_engine.proofs.Telling.{free_number}
+use Rattle.iv_engine.proofs.store.Store.add_view.Goals as goal
+
+pub returns-in-Err-TooMany-clause-room : goal.returns-in-Err-TooMany-clause-room
+returns-in-Err-TooMany-clause-room c =
+    let x = c.in-Err-TooMany.field-0 in
+    let name = c.args.name.now in
+    let owner = c.args.owner.now in
+    too_many c.args.self.now c.requires.stored c.args.acting.0 name owner c.requires.admin c.requires.owner c.requires.free x c.in-Err-TooMany.field-0-is
+    (subst (λ (v : Kept). (x ≡ Memory) ⊎ (add_relation_fault v.known c.args.acting.0 name owner false ≡ Some x)) c.self.view_is c.in-Err-TooMany.ensures.err_when)
+
+pub add_view-requires-clause-number : goal.add_view-requires-clause-number
+add_view-requires-clause-number c =
+    ap (λ (v : Kept). numbered v.catalog c.in-Ok.rel.0) c.self.view_is
+    ∙ free_number c.args.self.now c.requires.stored c.in-Ok.rel.0 (c.in-Ok.ensures.number ∙ ap (λ (v : Kept). length v.known.relations) c.self.view_is)

@@ -1,0 +1,10 @@
+use Rattle.std.proofs.Common.{sym}
+use Rattle.iv_machine.specs.State.{session_of}
+use Rattle.iv_engine.proofs.Closed.{is_opened, unsubscribed_step}
+use Rattle.iv_engine.proofs.store.Store.unsubscribe.Goals as goal
+
+pub returns : goal.returns
+returns c =
+    let e = c.args.self.now in
+    let n = c.args.session in
+    unsubscribed_step e c.close.new.self n c.new.result c.requires c.new.ensures.items (is_opened c.actor.result (session_of e.sessions n) c.actor.ensures c.if-is_none.ensures) c.args.number (sym c.if-not-has_subscription.ensures) c.close.ensures
