@@ -2,6 +2,7 @@
 #![tactic(auto)]
 
 mod indexed;
+mod kept;
 mod pairs;
 mod positive;
 mod product;

@@ -1,7 +1,8 @@
 //! Steps of bilinear operators and of groups, on Z-sets of one row or two.
 ghost use Rattle.std.specs.Prelude.{◌≡◌, ◌≤ℤ◌, ◌+ℤ◌, ◌*ℤ◌, ℤ, pos, [], ◌∷◌, map, IfOk};
 ghost use Rattle.iv_rows.specs.Cell.{num};
-ghost use Rattle.iv_zset.specs.Weights.{SameZ, InRange};
+ghost use Rattle.iv_zset.specs.Weights.{InRange};
+ghost use Rattle.tests_steps.specs.Pairs.{MakesPair};
 
 use crate::product::Product;
 use crate::sets::{Seen, fill, seen_of};
@@ -33,7 +34,7 @@ fn step_pair<B: Bilinear>(
 ) -> Result<ZSet, DeltaFault>
     requires left { B.takes_left bilinear.now (map num rows.left.now) }
     requires right { B.takes_right bilinear.now (map num rows.right.now) }
-    requires pair { (v w : ℤ) → SameZ (B.image bilinear.now ((map num rows.left.now, v) ∷ []) ((map num rows.right.now, w) ∷ [])) ((map num rows.both.now, w *ℤ v) ∷ []) }
+    requires pair { MakesPair (B.image bilinear.now) rows.left.now rows.right.now rows.both.now }
     requires old { weight ≡ b *ℤ a }
     requires bag { pos 0 ≤ℤ weight }
     requires new_left { InRange (da +ℤ a) }

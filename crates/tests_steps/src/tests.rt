@@ -1,4 +1,5 @@
 use crate::indexed::{emptied_key, joined_by_key, kept_sums, moved};
+use crate::kept::regrouped;
 use crate::pairs::{counted, emptied, joined, multiplied, replaced, summed};
 use crate::sets::Seen;
 use crate::singles::{alone, filtered, once, projected, signs, united};
@@ -84,6 +85,18 @@ fn indexed_joins(rt: HostRuntime) {
 #[test]
 fn kept_groups(rt: HostRuntime) {
     assert!(rt; kept_sums(rt.alloc()) == Ok(((Some(3), Some(17)), (None, None))));
+}
+
+#[test]
+fn kept_group_steps(rt: HostRuntime) {
+    for (old, first, second, new, want) in [
+        (5, (5, -1), (5, 0), 0, Ok((1, -1, 0))),
+        (MAX, (3, 1), (MAX, -1), 3, Ok((2, -1, 1))),
+        (MAX, (1, 1), (1, 0), 0, Err(DeltaFault::Limit)),
+        (0, (MAX, 2), (-MAX, 2), 0, Err(DeltaFault::Limit)),
+    ] {
+        assert!(rt; regrouped(rt.alloc(), old, first, second, new) == want);
+    }
 }
 
 #[test]

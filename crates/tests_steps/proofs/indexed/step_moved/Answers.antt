@@ -1,4 +1,4 @@
-use Rattle.std.proofs.Common.{◌∙◌, sym, ap, List}
+use Rattle.std.proofs.Common.{◌∙◌, sym, ap}
 use Rattle.iv_zset.specs.Weights.{Weighed, weight_of}
 use Rattle.iv_delta.specs.KeyIndex.{Indexed}
 use Rattle.iv_delta.specs.Pairs.{joined_sum}

@@ -1,9 +1,5 @@
-use Rattle.std.proofs.Common.{◌≡◌, ◌∙◌, [], ◌∷◌, ◌++◌, cond, true, pos, ℤ, w64}
-use mir.Val.{SFits}
+use Rattle.std.proofs.Common.{◌++◌, true, w64}
 use Rattle.std.proofs.lemmas.Int.{to_z-of_z}
-use Rattle.iv_rows.specs.Order.{row_eq}
-use Rattle.iv_zset.specs.Weights.{weight_of, SameZ}
-use Rattle.iv_algebra.specs.Rows.{Cells}
 use Rattle.tests_steps.specs.Lines.{cells}
 use Rattle.tests_steps.proofs.Few.{one_row, two_rows, replaced_weighs, replaced_bag, replaced_range}
 use Rattle.tests_steps.proofs.pairs.step_groups.Goals as goal

@@ -1,7 +1,7 @@
-use Rattle.std.proofs.Common.{◌≡◌, ◌∙◌, [], ◌∷◌, ap, map, sym, ℤ, w64}
+use Rattle.std.proofs.Common.{◌∙◌, [], ◌∷◌, ap, map, sym, w64}
 use Rattle.std.proofs.lemmas.Int.{to_z-of_z}
 use Rattle.iv_rows.specs.Cell.{num}
-use Rattle.iv_zset.specs.Weights.{weight_of, SameZ}
+use Rattle.iv_zset.specs.Weights.{weight_of}
 use Rattle.tests_steps.proofs.Few.{one_row, of_as, of_more, of_none, sum_in_range, bag_as, bag_more, bag_none}
 use Rattle.tests_steps.proofs.pairs.step_pair.Goals as goal
 
