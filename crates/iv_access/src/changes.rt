@@ -1,8 +1,8 @@
 //! How rights change.
-ghost use Rattle.std.specs.Prelude.{◌≡◌, ◌⊎◌, ◌<◌, ◌∷◌, [], ◌++◌, None, Some, IfOk, IfErr, IfSome, OnOk, OnErr, is_some, length, option_map};
+ghost use Rattle.std.specs.Prelude.{◌≡◌, ◌⊎◌, ◌<◌, ◌∷◌, [], ◌++◌, None, Some, IfOk, IfErr, OnOk, OnErr, is_some, length, option_map};
 ghost use Rattle.iv_access.specs.declared.fault.AccessFault.TheVariants.{Memory};
 ghost use Rattle.iv_access.specs.Changing.{with_role, with_relation, with_grants, without_grants};
-ghost use Rattle.iv_access.specs.Faults.{count_like, is_grantee, create_role_fault, add_relation_fault, grant_fault};
+ghost use Rattle.iv_access.specs.Faults.{count_like, create_role_fault, add_relation_fault, grant_fault};
 ghost use Rattle.iv_access.specs.Grants.{seen};
 ghost use Rattle.iv_access.specs.Known.{relation_of, relation_with, role_number, grantee_of, named};
 
@@ -106,17 +106,22 @@ impl Access {
         Ok(rel)
     }
 
-    /// To whom the name goes, where it is a role's: all roles where there is none.
-    fn grantee(&self, to: Option<&str>) -> Option<Grantee>
-        ensures grantee { IfSome result (λ g. seen g ≡ grantee_of self.now.rights (named to.entry)) }
-        ensures known { is_some result ≡ is_grantee self.now.rights (named to.entry) }
+    /// To whom privileges on the relation go where the role may grant and revoke them, or why it is refused: all roles where
+    /// there is no name.
+    fn grantee(&self, acting: RoleId, rel: RelId, to: Option<&str>) -> Result<Grantee, AccessFault>
+        ensures grantee { IfOk result (λ g. seen g ≡ grantee_of self.now.rights (named to.entry)) }
+        ensures ok_when { OnOk result (grant_fault self.now.rights acting.0 rel.0 (named to.entry) ≡ None) }
+        ensures err_when { IfErr result (λ e. grant_fault self.now.rights acting.0 rel.0 (named to.entry) ≡ Some e) }
     {
+        if !self.owns(acting, rel) {
+            return Err(AccessFault::NotOwner);
+        }
         match to {
-            Some(name) => {
-                let role = self.role(name)?;
-                Some(Grantee::Role(role))
-            }
-            None => Some(Grantee::Public),
+            Some(name) => match self.role(name) {
+                Some(role) => Ok(Grantee::Role(role)),
+                None => Err(AccessFault::Role),
+            },
+            None => Ok(Grantee::Public),
         }
     }
 
@@ -137,12 +142,7 @@ impl Access {
         ensures err_when { IfErr result (λ e. (e ≡ Memory) ⊎ (grant_fault self.old.rights acting.0 rel.0 (named to.entry) ≡ Some e)) }
         ensures unchanged { OnErr result (self.new ≡ self.old) }
     {
-        if !self.owns(acting, rel) {
-            return Err(AccessFault::NotOwner);
-        }
-        let Some(grantee) = self.grantee(to) else {
-            return Err(AccessFault::Role);
-        };
+        let grantee = self.grantee(acting, rel, to)?;
         self.grants.reserve(privileges.len())?;
         grant::give(&mut self.grants, rel, privileges, grantee);
         Ok(())
@@ -166,12 +166,7 @@ impl Access {
         ensures err_when { IfErr result (λ e. grant_fault self.old.rights acting.0 rel.0 (named to.entry) ≡ Some e) }
         ensures unchanged { OnErr result (self.new ≡ self.old) }
     {
-        if !self.owns(acting, rel) {
-            return Err(AccessFault::NotOwner);
-        }
-        let Some(grantee) = self.grantee(to) else {
-            return Err(AccessFault::Role);
-        };
+        let grantee = self.grantee(acting, rel, to)?;
         grant::take(&mut self.grants, rel, privileges, grantee);
         Ok(())
     }

@@ -22,3 +22,4 @@ pub use filter::ReaderFilter;
 pub use policy::{Check, Policy, PolicyCommand, Verdict};
 pub use privilege::{Missing, Privilege};
 pub use role::{ADMIN, RoleId};
+pub use row_security::MOST_POLICIES;

@@ -18,7 +18,7 @@ use iv_rows::RelId;
 use std::alloc::AllocError;
 
 /// How many policies a table may have.
-const MOST_POLICIES: usize = 32;
+pub const MOST_POLICIES: usize = 32;
 
 impl Access {
     /// Switches row security of a table (PostgreSQL 16, ALTER TABLE: ENABLE and FORCE ROW LEVEL SECURITY). It takes no
@@ -49,8 +49,8 @@ impl Access {
         Ok(())
     }
 
-    /// How many policies a relation has.
-    fn policies(&self, rel: RelId) -> usize
+    /// How many policies a relation has. It takes no memory.
+    pub fn policies(&self, rel: RelId) -> usize
         ensures { result ≡ length (policies_of (slice_get self.now.rights.guards rel.0)) }
     {
         match self.guard(rel) {

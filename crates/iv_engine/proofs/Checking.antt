@@ -44,9 +44,9 @@ missing_is f role k name (p ∷ ps) h = by (has f.rights role p k) (missing_is f
     by false ih = ap (λ x. Some (machine.missing_privilege p x)) h
 
 -- of an entry
-pub privileges_are : (f : Frame) (tables role n : ℕ) (p : Placed) → IsPlaced f tables p
+pub privileges_are : (f : Frame) (role n : ℕ) (p : Placed) → IsPlaced f p
     → entry_privileges f role n (entry_of p) ≡ option_map (λ x. machine.missing_privilege x.0 p.name) (first_missing f.rights role (map (λ q. (q, p.rel)) (privileges_for p.op)))
-privileges_are f tables role n p h = ap (λ k. missing f (first_missing f.rights role (map (λ q. (q, k)) (privileges_for p.op)))) h.number ∙ missing_is f role p.rel p.name (privileges_for p.op) h.name
+privileges_are f role n p h = ap (λ k. missing f (first_missing f.rights role (map (λ q. (q, k)) (privileges_for p.op)))) h.number ∙ missing_is f role p.rel p.name (privileges_for p.op) h.name
 
 -- ---- the tests in their order
 

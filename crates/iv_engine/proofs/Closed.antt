@@ -15,7 +15,7 @@ use Rattle.iv_machine.specs.State.{Session, State, Subscription, is_open, sessio
 use Rattle.iv_machine.proofs.Placing.{all_kept}
 use Rattle.iv_machine.proofs.Reached.{given_kept, unique_kept}
 use Rattle.iv_engine.specs.Answering.{IsStep, seen}
-use Rattle.iv_engine.specs.Finished.{finished, unsubscribed}
+use Rattle.iv_engine.specs.Finished.{without_session, without_subscription}
 use Rattle.iv_engine.specs.Kept.{IsOpen, IsSound, IsWithin, Kept, at, frame_of, may_read}
 use Rattle.iv_engine.specs.Seen.{IsBehind}
 use Rattle.iv_engine.specs.Stands.{Stands}
@@ -50,7 +50,7 @@ module _ (e : Kept) (h : IsSound e) (ss : List Session) (p : Subscription → Bo
       numbered = h.stored.numbered;
       relations = h.stored.relations;
       guards = h.stored.guards;
-      bags = h.stored.bags;
+      tables = h.stored.tables;
       zsets = h.stored.zsets;
       small = h.stored.small;
       positive = h.stored.positive;
@@ -61,7 +61,7 @@ module _ (e : Kept) (h : IsSound e) (ss : List Session) (p : Subscription → Bo
     within = left (IsWithin e) (IsWithin c) (λ s k w T y. still_within e c s (unmoved s k) T y ∙ w T y) h.within;
   }
 
-  module _ (T : Lists) (stands : Stands T e.bags) where
+  module _ (T : Lists) (stands : Stands T e.tables) where
     -- each that is left is found before and now
     abbrev IsLeft : Subscription → Type 0
     IsLeft s = (p s ≡ true) × (subscription_of e.subscriptions s.number ≡ Some s)
@@ -121,7 +121,7 @@ or_nothing None = refl
 or_nothing (Some r) = refl
 
 module _ (e new : Kept) (n : ℕ) (lines : Vec Line) (h : IsSound e) (none : lines.items ≡ []) (opened : is_open (frame_of e) n ≡ true) where
-  pub finished_step : new ≡ finished n e → IsStep e n finish (Accepted Ok lines) new
+  pub finished_step : new ≡ without_session n e → IsStep e n finish (Accepted Ok lines) new
   finished_step k =
       let ss = filter (λ (s : Session). not (n == s.number)) e.sessions in
       let p = λ (s : Subscription). not (n == s.session) in
@@ -134,14 +134,14 @@ module _ (e new : Kept) (n : ℕ) (lines : Vec Line) (h : IsSound e) (none : lin
           ap (map line_of) none ∙ sym (left_sent e h ss p roles same T s),
         );
         left = λ T s. subst (λ (t : State). IsBehind t (seen new)) (sym (left_settled e h ss p roles same T s))
-            (subst (λ (v : Kept). IsBehind (at (finished n e) T) (seen v)) (sym k) (record { frame = refl; rows = s }));
+            (subst (λ (v : Kept). IsBehind (at (without_session n e) T) (seen v)) (sym k) (record { frame = refl; rows = s }));
         kept = no_refusal Ok refl;
         sound = subst IsSound (sym k) (left_sound e h ss p roles same);
       }
 
   -- ---- a subscription
 
-  pub unsubscribed_step : (number : ℕ) → has_subscription (frame_of e) n number ≡ true → new ≡ unsubscribed number e → IsStep e n (unsubscribe number) (Accepted Ok lines) new
+  pub unsubscribed_step : (number : ℕ) → has_subscription (frame_of e) n number ≡ true → new ≡ without_subscription number e → IsStep e n (unsubscribe number) (Accepted Ok lines) new
   unsubscribed_step number has k =
       let p = λ (s : Subscription). not (number == s.number) in
       let same = λ (s : Subscription) (x : p s ≡ true). refl in
@@ -152,7 +152,7 @@ module _ (e new : Kept) (n : ℕ) (lines : Vec Line) (h : IsSound e) (none : lin
           ap (map line_of) none ∙ sym (left_sent e h e.sessions p h.stored.roles same T s),
         );
         left = λ T s. subst (λ (t : State). IsBehind t (seen new)) (sym (left_settled e h e.sessions p h.stored.roles same T s))
-            (subst (λ (v : Kept). IsBehind (at (unsubscribed number e) T) (seen v)) (sym k) (record { frame = refl; rows = s }));
+            (subst (λ (v : Kept). IsBehind (at (without_subscription number e) T) (seen v)) (sym k) (record { frame = refl; rows = s }));
         kept = no_refusal Ok refl;
         sound = subst IsSound (sym k) (left_sound e h e.sessions p h.stored.roles same);
       }

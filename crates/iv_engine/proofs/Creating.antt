@@ -18,9 +18,9 @@ use Rattle.iv_machine.specs.Act.{create_view}
 use Rattle.iv_machine.specs.Changing.{view_held, with_held}
 use Rattle.iv_machine.specs.Refusing.{administrator, bad_text, first, frame_refusal, free_relation, full, known_role, or_else, test, views}
 use Rattle.iv_machine.specs.State.{actor, session_of}
-use Rattle.iv_engine.specs.Defined.{MayAdd, creator_tests, has_view_room, with_view}
+use Rattle.iv_engine.specs.Defined.{MayAdd, creator_tests, has_view_room}
 use Rattle.iv_engine.specs.Kept.{Kept, IsStored, frame_of, relation_in}
-use Rattle.iv_engine.specs.Next.{kept_after}
+use Rattle.iv_engine.specs.Next.{kept_after, with_relation_of}
 use Rattle.iv_engine.proofs.Telling.{closed, named_known, opened}
 
 -- ---- the session and the names
@@ -81,6 +81,19 @@ has_room false false true c h = cc
 has_room false false false true h = cc
 has_room false false false false h = refl
 
+-- neither too many, nor want of memory
+abbrev pub is_other : AccessFault → Bool
+is_other fault.Role = true
+is_other fault.Taken = true
+is_other fault.NotAdmin = true
+is_other fault.NotOwner = true
+is_other fault.Policy = true
+is_other fault.TooMany = false
+is_other fault.Memory = false
+
+true_is_not_false : true ≡ false → ⊥
+true_is_not_false h = cc
+
 -- where the other tests pass, the number of views alone can refuse it
 module _ (e : Kept) (h : IsStored e) (acting : ℕ) (name owner : Name) (admin : is_admin acting ≡ true) (known : is_some (role_of e.known.rights owner) ≡ true) (free : named e.catalog name ≡ None) where
   not_taken : is_some (relation_of e.known.relations name) ≡ false
@@ -103,6 +116,11 @@ module _ (e : Kept) (h : IsStored e) (acting : ℕ) (name owner : Name) (admin :
     where
       no_memory : (x : AccessFault) → x ≡ fault.TooMany → x ≡ fault.Memory → ⊥
       no_memory x i m = cc
+
+  pub no_other : (x y : AccessFault) → x ≡ y → is_other y ≡ true → (x ≡ fault.Memory) ⊎ (add_relation_fault e.known acting name owner false ≡ Some x) → ⊥
+  no_other x y is other h' = ⊎_elim
+      (λ m. true_is_not_false (sym other ∙ ap is_other (sym is ∙ m)))
+      (λ f. true_is_not_false (sym other ∙ ap is_other (sym is ∙ (full_alone x f).1))) h'
 
 -- ---- the text, and what is kept
 
@@ -131,5 +149,5 @@ module _ (e : Kept) (n : ℕ) (name owner : Name) (query : List ℕ) (acting : R
     pub view_passes : has_view_room e ≡ true → frame_refusal (frame_of e) n (create_view name owner query) ≡ None
     view_passes h = room_tests ∙ room_by (nat_le 64 (views (frame_of e))) h
 
-    pub view_kept : kept_after e n (create_view name owner query) ≡ with_view name owner a e
-    view_kept = ap (λ (b : Result Answer TextFault). record (with_view name owner a e) { catalog = with_held name (view_held b) e.catalog }) bound
+    pub view_kept : kept_after e n (create_view name owner query) ≡ with_relation_of name owner (View a) e
+    view_kept = ap (λ (b : Result Answer TextFault). record (with_relation_of name owner (View a) e) { catalog = with_held name (view_held b) e.catalog }) bound

@@ -53,7 +53,7 @@ split_stored e h = record {
   numbered = h.numbered;
   relations = h.relations;
   guards = h.guards;
-  bags = h.bags;
+  tables = h.tables;
   zsets = h.zsets;
   positive = h.positive;
   kinds = h.kinds;
@@ -85,7 +85,7 @@ module _ (e : Kept) (n : ℕ) (name : Name) (ps : List Privilege) (to : Option N
     numbered = h.stored.numbered;
     relations = h.stored.relations;
     guards = h.stored.guards;
-    bags = h.stored.bags;
+    tables = h.stored.tables;
     zsets = h.stored.zsets;
     positive = h.stored.positive;
     kinds = h.stored.kinds;
@@ -106,7 +106,7 @@ module _ (e : Kept) (n : ℕ) (name : Name) (ps : List Privilege) (to : Option N
       numbered = h.stored.numbered;
       relations = h.stored.relations;
       guards = h.stored.guards;
-      bags = h.stored.bags;
+      tables = h.stored.tables;
       zsets = h.stored.zsets;
       positive = h.stored.positive;
       kinds = h.stored.kinds;
@@ -119,7 +119,7 @@ module _ (e : Kept) (n : ℕ) (name : Name) (ps : List Privilege) (to : Option N
 
   -- ---- the lines
 
-  module _ (T : Lists) (stands : Stands T e.bags) where
+  module _ (T : Lists) (stands : Stands T e.tables) where
     stays_by : (b : Bool) → not (is_some (cause_for b)) ≡ b
     stays_by true = refl
     stays_by false = refl

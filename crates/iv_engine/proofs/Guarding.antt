@@ -27,7 +27,7 @@ use Rattle.iv_engine.specs.Kept.{Kept, IsOpen, IsSound, IsStored, IsWithin, at, 
 use Rattle.iv_engine.specs.Owned.{IsOwner, IsReady, asked, has_room}
 use Rattle.iv_engine.specs.Seen.{IsBehind}
 use Rattle.iv_engine.specs.Stands.{Stands}
-use Rattle.iv_engine.specs.Turned.{Each, IsBefore, IsTold, Showed, Suits, turned_by, turned_line}
+use Rattle.iv_engine.specs.Turned.{AreReadersTold, Each, IsBefore, Showed, Suits, turned_by, turned_line}
 use Rattle.iv_engine.specs.Views.{reply_of}
 use Rattle.iv_engine.specs.declared.answer.Answer.{Answer}
 use Rattle.iv_engine.specs.declared.answer.Answer.TheVariants.{Accepted, Refused}
@@ -97,7 +97,7 @@ module _ (e : Kept) (table : ℕ) (change : Guard → Guard) where
     numbered = h.numbered;
     relations = h.relations;
     guards = as_many change table e.known.rights.guards ∙ h.guards;
-    bags = h.bags;
+    tables = h.tables;
     zsets = h.zsets;
     positive = h.positive;
     kinds = h.kinds;
@@ -113,7 +113,7 @@ module _ (e : Kept) (table : ℕ) (change : Guard → Guard) where
     numbered = h.numbered;
     relations = h.relations;
     guards = h.guards;
-    bags = h.bags;
+    tables = h.tables;
     zsets = h.zsets;
     positive = h.positive;
     kinds = h.kinds;
@@ -141,13 +141,13 @@ module _ (e : Kept) (table : ℕ) (change : Guard → Guard) where
     other_within : is_within (at c T) s ≡ is_within (at e T) s
     other_within = within_same (allowed c.known.rights role T) (allowed e.known.rights role T) cap (plan_at e.catalog s.rel) sees_same
 
-  module _ (T : Lists) (stands : Stands T e.bags) where
+  module _ (T : Lists) (stands : Stands T e.tables) where
     showed_by : (s : Subscription) (b : Before) → IsWithin e s → IsBefore e table s b → Showed c T s b (shown_rows e T s)
     showed_by s before.Untouched w x = (other_within T s x.1 ∙ w T stands, sym (other_shows T s x.1))
     showed_by s (before.Table f) w x = rows_are e T s x.0 ∙ (λ i. filter (λ row. sym (x.1 row) i) (T s.rel))
     showed_by s (before.View bag) w x = x.1 T stands
 
-  pub all_showed : (bs : List Before) (T : Lists) → IsSound e → Stands T e.bags → Each (IsBefore e table) e.subscriptions bs → Each (λ s b. Showed c T s b (shown_rows e T s)) c.subscriptions bs
+  pub all_showed : (bs : List Before) (T : Lists) → IsSound e → Stands T e.tables → Each (IsBefore e table) e.subscriptions bs → Each (λ s b. Showed c T s b (shown_rows e T s)) c.subscriptions bs
   all_showed bs T h stands a = each_map (IsWithin e) (IsBefore e table) (λ s b. Showed c T s b (shown_rows e T s)) e.subscriptions bs (showed_by T stands) h.within a
 
   pub all_suit : (bs : List Before) → IsSound e → Each (IsBefore e table) e.subscriptions bs → Each (Suits c) c.subscriptions bs
@@ -161,7 +161,7 @@ module _ (e : Kept) (table : ℕ) (change : Guard → Guard) where
   -- ---- those that stay, and the lines
 
   module _ (h : IsSound e) where
-    module _ (T : Lists) (stands : Stands T e.bags) where
+    module _ (T : Lists) (stands : Stands T e.tables) where
       abbrev stays : Subscription → Bool
       stays = is_within (at c T)
 
@@ -197,11 +197,11 @@ module _ (e : Kept) (table : ℕ) (change : Guard → Guard) where
 
     -- ---- the state afterwards
 
-    each_within : (ks : List Subscription) → ((T : Lists) → Stands T e.bags → AllByRecursion (λ s. is_within (at c T) s ≡ true) ks) → AllByRecursion (IsWithin c) ks
+    each_within : (ks : List Subscription) → ((T : Lists) → Stands T e.tables → AllByRecursion (λ s. is_within (at c T) s ≡ true) ks) → AllByRecursion (IsWithin c) ks
     each_within [] all = tt
     each_within (s ∷ ks) all = (λ T stands. (all T stands).0, each_within ks (λ T stands. (all T stands).1))
 
-    left_sound : (ks : List Subscription) → ((T : Lists) → Stands T e.bags → ks ≡ filter (is_within (at c T)) e.subscriptions) → IsSound (record c { subscriptions = ks })
+    left_sound : (ks : List Subscription) → ((T : Lists) → Stands T e.tables → ks ≡ filter (is_within (at c T)) e.subscriptions) → IsSound (record c { subscriptions = ks })
     left_sound ks keeps =
         let T = lists_behind e in
         let is = keeps T (stands_behind e h.stored) in
@@ -226,7 +226,7 @@ module _ (e : Kept) (n : ℕ) (act : Act) (table : ℕ) (change : Guard → Guar
   abbrev now : Kept
   now = guarded table change e
 
-  module _ (T : Lists) (stands : Stands T e.bags) where
+  module _ (T : Lists) (stands : Stands T e.tables) where
     abbrev still : Kept
     still = record now { subscriptions = filter (is_within (at now T)) e.subscriptions }
 
@@ -244,10 +244,10 @@ module _ (e : Kept) (n : ℕ) (act : Act) (table : ℕ) (change : Guard → Guar
     act_refusal : frame_refusal (frame_of e) n act ≡ None → refusal (at e T) n act ≡ None
     act_refusal passed = (λ i. or_else (passed i) (g.rows T i))
 
-  guarded_step : (new : Kept) (bs : List Before) (a : Answer) → frame_refusal (frame_of e) n act ≡ None → Each (IsBefore e table) e.subscriptions bs → IsTold now bs a new → IsStep e n act a new
+  guarded_step : (new : Kept) (bs : List Before) (a : Answer) → frame_refusal (frame_of e) n act ≡ None → Each (IsBefore e table) e.subscriptions bs → AreReadersTold now bs a new → IsStep e n act a new
   guarded_step new bs (Refused r) passed all told = absurd told
   guarded_step new bs (Accepted reply lines) passed all told =
-      let parts = λ (T : Lists) (stands : Stands T e.bags). told.2 T stands (shown_rows e T) (all_showed e table change bs T h stands all) in
+      let parts = λ (T : Lists) (stands : Stands T e.tables). told.2 T stands (shown_rows e T) (all_showed e table change bs T h stands all) in
       record {
         answer = λ T stands. (act_refusal T stands passed, ap reply_of told.0 ∙ g.reply, (parts T stands).1 ∙ sym (act_sent T stands));
         left = λ T stands. subst (λ (t : State). IsBehind t (seen new)) (sym (act_left T stands))
@@ -263,14 +263,14 @@ by_told P Q new (OkResult a) go h = go a h
 by_told P Q new (Err x) go h = tt
 
 pub security_step : (e new : Kept) (n : ℕ) (rel : Name) (enable force : Bool) (owned : Owned) (bs : List Before) (a : Answer) → IsSound e → IsOwner e n rel owned
-    → Each (IsBefore e owned.table.0) e.subscriptions bs → IsTold (guarded owned.table.0 (λ g. record g { enabled = enable; forced = force }) e) bs a new → IsStep e n (row_security rel enable force) a new
+    → Each (IsBefore e owned.table.0) e.subscriptions bs → AreReadersTold (guarded owned.table.0 (λ g. record g { enabled = enable; forced = force }) e) bs a new → IsStep e n (row_security rel enable force) a new
 security_step e new n rel enable force owned bs a h o all told =
     let change : Guard → Guard = λ g. record g { enabled = enable; forced = force } in
     guarded_step e n (row_security rel enable force) owned.table.0 change
     (record { rows = λ T. refl; after = λ T. ap (λ k. at (guarded k change e) T) o.number; ends = λ s. refl; reply = refl }) h new bs a (owner_passes e n rel owned o []) all told
 
 pub drop_step : (e new : Kept) (n : ℕ) (rel name : Name) (owned : Owned) (bs : List Before) (a : Answer) → IsSound e → IsOwner e n rel owned → is_some (policy_of e.known.rights owned.table.0 name) ≡ true
-    → Each (IsBefore e owned.table.0) e.subscriptions bs → IsTold (guarded owned.table.0 (λ g. record g { policies = remove_policy name g.policies }) e) bs a new → IsStep e n (drop_policy rel name) a new
+    → Each (IsBefore e owned.table.0) e.subscriptions bs → AreReadersTold (guarded owned.table.0 (λ g. record g { policies = remove_policy name g.policies }) e) bs a new → IsStep e n (drop_policy rel name) a new
 drop_step e new n rel name owned bs a h o there all told =
     let change : Guard → Guard = λ g. record g { policies = remove_policy name g.policies } in
     guarded_step e n (drop_policy rel name) owned.table.0 change
@@ -287,7 +287,7 @@ module _ (e : Kept) (n : ℕ) (p : PolicyText) (owned : Owned) (preds : Predicat
   with_it = λ g. record g { policies = insert_policy (policy_from rights (asked p preds)) g.policies }
 
   pub policy_step : (new : Kept) (bs : List Before) (a : Answer) → IsSound e → has_room rights owned.table.0 ≡ true
-      → Each (IsBefore e owned.table.0) e.subscriptions bs → IsTold (guarded owned.table.0 with_it e) bs a new → IsStep e n (create_policy p) a new
+      → Each (IsBefore e owned.table.0) e.subscriptions bs → AreReadersTold (guarded owned.table.0 with_it e) bs a new → IsStep e n (create_policy p) a new
   policy_step new bs a h room all told =
       guarded_step e n (create_policy p) owned.table.0 with_it
       (record { rows = λ T. refl; after = λ T i. at (guarded (ready.owner.number i) (λ g. record g { policies = insert_policy (policy_is i) g.policies }) e) T; ends = λ s. refl; reply = refl })

@@ -1,4 +1,5 @@
 mod Tables
+mod Tabled
 mod Showing
 mod Sound
 mod Unmoved

@@ -89,7 +89,7 @@ module _ (e : Kept) (n k : ℕ) (name : Name) (h : IsSound e) (x : IsOpenable e 
       numbered = h.stored.numbered;
       relations = h.stored.relations;
       guards = h.stored.guards;
-      bags = h.stored.bags;
+      tables = h.stored.tables;
       zsets = h.stored.zsets;
       positive = h.stored.positive;
       kinds = h.stored.kinds;
@@ -100,7 +100,7 @@ module _ (e : Kept) (n k : ℕ) (name : Name) (h : IsSound e) (x : IsOpenable e 
     within = all_inserted (IsWithin new) s e.subscriptions fits (all_map (IsWithin e) (IsWithin new) e.subscriptions (λ y w. w) h.within);
   }
 
-  module _ (T : Lists) (stands : Stands T e.bags) where
+  module _ (T : Lists) (stands : Stands T e.tables) where
     after_is : after (at e T) n (subscribe name) ≡ at new T
     after_is = ap (λ j. at (opened e (asked e n j) (e.last + 1)) T) x.number
 

@@ -12,7 +12,7 @@ use Rattle.iv_machine.specs.Machine.{difference}
 use Rattle.iv_machine.specs.State.{Subscription, actor, view_for}
 use Rattle.iv_engine.specs.Answering.{AreListed, AreShown, IsShownBy}
 use Rattle.iv_engine.specs.Kept.{Kept, IsStored, at, frame_of}
-use Rattle.iv_engine.specs.Moved.{IsDifference, IsRead}
+use Rattle.iv_engine.specs.Moved.{IsBagDifference, IsRead}
 use Rattle.iv_engine.specs.Stands.{Stands}
 use Rattle.iv_engine.specs.Summed.{IsNet}
 use Rattle.iv_engine.proofs.Showing.{view_fits, view_is}
@@ -31,14 +31,14 @@ pub rising : {E : Type 0} (bag : Weighed) (minus : Bool) (r : Result Rows E) →
 rising bag minus (Ok rows) f net same = λ A counts. net.difference [] A (λ q. same q ∙ counts q ∙ from_none (copies q A)) ∙ ap (λ b. cond b (difference A []) (difference [] A)) (sym f)
 rising bag minus (Err x) f net same = tt
 
-pub taken : {E : Type 0} (bag none : Weighed) (minus : Bool) (r : Result Rows E) → minus ≡ true → none ≡ [] → IfOk r (λ rows. IsDifference bag none rows.items) → IfOk r (λ rows. AreListed bag minus rows.items)
+pub taken : {E : Type 0} (bag none : Weighed) (minus : Bool) (r : Result Rows E) → minus ≡ true → none ≡ [] → IfOk r (λ rows. IsBagDifference bag none rows.items) → IfOk r (λ rows. AreListed bag minus rows.items)
 taken bag none minus (Ok rows) t empty less = λ A counts. less A [] counts (subst (λ es. Counts es []) (sym empty) (λ q. refl)) ∙ ap (λ b. cond b (difference A []) (difference [] A)) (sym t)
 taken bag none minus (Err x) t empty less = tt
 
 -- ---- of a table
 
 pub table_listed : (e : Kept) (role rel : ℕ) (minus : Bool) (rows : Rows) → IsStored e → IsATable e.catalog rel
-    → ((T : Lists) → Stands T e.bags → rows.items ≡ cond minus (difference (filter (may_see e.known.rights role rel) (T rel)) []) (difference [] (filter (may_see e.known.rights role rel) (T rel))))
+    → ((T : Lists) → Stands T e.tables → rows.items ≡ cond minus (difference (filter (may_see e.known.rights role rel) (T rel)) []) (difference [] (filter (may_see e.known.rights role rel) (T rel))))
     → AreShown e role rel minus (Some rows)
 table_listed e role rel minus rows h table listed T stands = (
   view_fits e T h stands role rel table,

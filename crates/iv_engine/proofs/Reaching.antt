@@ -3,7 +3,7 @@ use Rattle.std.proofs.Common.{◌≡◌, ℕ, zero, suc, ◌+◌, ◌<◌, ◌�
 use Rattle.std.proofs.lemmas.Bool.Decides.{nat_tests}
 use Rattle.std.proofs.lemmas.List.{take_all, take_more}
 use Rattle.std.specs.Global.{Vec}
-use Rattle.std.specs.Prelude.{◌==◌, IfOk, Result, Ok, Err, filter, is_some, option_map}
+use Rattle.std.specs.Prelude.{◌==◌, IfOk, Result, Ok, Err, filter, is_some}
 use Rattle.std.specs.List.{list_all}
 use Rattle.iv_rows.specs.Cell.{Cell}
 use Rattle.iv_access.specs.Policies.{may_see}
@@ -16,7 +16,7 @@ use Rattle.iv_machine.specs.State.{Subscription, actor, is_within}
 use Rattle.iv_engine.specs.Changes.{Change, change_at}
 use Rattle.iv_engine.specs.Kept.{Kept, at, frame_of}
 use Rattle.iv_engine.specs.Answering.{moved_line}
-use Rattle.iv_engine.specs.Moved.{AreLines, AreLinesSoFar, IsChangeOf, IsMoved}
+use Rattle.iv_engine.specs.Moved.{AreLines, AreLinesFor, IsChangeOf, IsMoved}
 use Rattle.iv_engine.specs.Views.{line_of}
 use Rattle.iv_engine.specs.declared.command.Line.{Line}
 use Rattle.iv_engine.proofs.Lines.{sends}
@@ -48,25 +48,26 @@ no_view (Some x) s h = by x.held h
 pub table_if_no_view : (catalog : List Entry) (rel : ℕ) → AreNumbered 0 catalog → rel < length catalog → is_some (view_of catalog rel) ≡ false → IsATable catalog rel
 table_if_no_view catalog rel u l h = no_view (catalogs.numbered catalog rel) (numbered_there 0 catalog rel u (omega arith) (omega arith)) h
 
-pub is_found : {A B : Type 0} (f : A → B) (o : Option A) (p : Option B) → option_map f o ≡ p → is_some p ≡ is_some o
-is_found f None p h = sym (ap (λ x. is_some x) h)
-is_found f (Some a) p h = sym (ap (λ x. is_some x) h)
-
 -- ---- of one subscription
 
 module _ (e : Kept) (s : Subscription) (changes : List Change) (role rel : ℕ) (r : role ≡ actor (frame_of e) s.session) (k : rel ≡ s.rel) where
   pub of_view : {E : Type 0} (o : Result (Option (Vec (List Cell × ℤ))) E) → IfOk o (λ rows. IsMoved e role rel changes rows) → IfOk o (λ rows. IsChangeOf e s changes rows)
-  of_view (Ok rows) h = λ T U after within.
-      subst (λ x. IsMoved e x s.rel changes rows) r (subst (λ x. IsMoved e role x changes rows) k h) T U after.stands after.lead within
+  of_view (Ok rows) h = λ T U after.
+      subst (λ x. IsMoved e x s.rel changes rows) r (subst (λ x. IsMoved e role x changes rows) k h) T U after.stands after.lead
   of_view (Err x) h = tt
 
   pub of_table : (rows : Vec (List Cell × ℤ)) → IsATable e.catalog s.rel → rows.items ≡ filter (λ x. may_see e.known.rights role rel x.0) (change_at changes rel) → IsChangeOf e s changes (Some rows)
-  of_table rows table is T U after within = let reader = actor (frame_of e) s.session in let p = may_see e.known.rights reader s.rel in (
+  of_table rows table is T U after = let reader = actor (frame_of e) s.session in let p = may_see e.known.rights reader s.rel in (
     view_within e U reader s.rel table (after.tables s.rel),
     is ∙ (λ i. filter (λ x. may_see e.known.rights (r i) (k i) x.0) (change_at changes (k i)))
         ∙ ap (seen p) (after.differ s.rel) ∙ sym (difference_filter p (T s.rel) (U s.rel))
         ∙ (λ i. difference (sym (view_is e T reader s.rel table) i) (sym (view_is e U reader s.rel table) i)),
   )
+
+  pub of_table_ok : {E : Type 0} (o : Result (Vec (List Cell × ℤ)) E) → IsATable e.catalog s.rel → IfOk o (λ rows. rows.items ≡ filter (λ x. may_see e.known.rights role rel x.0) (change_at changes rel))
+      → IfOk o (λ rows. IsChangeOf e s changes (Some rows))
+  of_table_ok (Ok rows) table is = of_table rows table is
+  of_table_ok (Err x) table is = tt
 
 -- ---- of all subscriptions
 
@@ -83,11 +84,6 @@ second_false true c h = h
 second_false false c h = refl
 
 module _ (p : Subscription → Bool) where
-  passes_at : (es : List Subscription) (i : ℕ) (s : Subscription) → list_all p es ≡ true → i < length es → s ≡ get_or es i s → p s ≡ true
-  passes_at [] i s a l h = absurd (omega arith)
-  passes_at (x ∷ es) zero s a l h = ap p h ∙ first_true (p x) (list_all p es) a
-  passes_at (x ∷ es) (suc i) s a l h = passes_at es i s (second_true (p x) (list_all p es) a) (omega arith) h
-
   fails_at : (es : List Subscription) (i : ℕ) (s : Subscription) → p s ≡ false → i < length es → s ≡ get_or es i s → list_all p es ≡ false
   fails_at [] i s f l h = absurd (omega arith)
   fails_at (x ∷ es) zero s f l h = ap (λ b. b && list_all p es) (sym (ap p h) ∙ f)
@@ -108,16 +104,16 @@ module _ (e : Kept) (changes : List Change) (all : List Subscription) (same : al
   item_in = subst (λ (xs : List Subscription). s ≡ get_or xs i s) same item
 
   pub lines_out : IsChangeOf e s changes None → AreLines e changes None
-  lines_out h T U after within = fails_at (is_within (at e U)) e.subscriptions i s (h T U after (passes_at (is_within (at e T)) e.subscriptions i s within low_in item_in)) low_in item_in
+  lines_out h T U after = fails_at (is_within (at e U)) e.subscriptions i s (h T U after) low_in item_in
 
-  pub lines_more : (rows : Vec (List Cell × ℤ)) (old new : List Line) → IsChangeOf e s changes (Some rows) → AreLinesSoFar e changes (take i e.subscriptions) old
-      → map line_of new ≡ map line_of old ++ machine_line None s rows.items → AreLinesSoFar e changes (take (i + 1) e.subscriptions) new
-  lines_more rows old new h before more T U after within =
-      let one = h T U after (passes_at (is_within (at e T)) e.subscriptions i s within low_in item_in) in
-      let so_far = before T U after within in (
+  pub lines_more : (rows : Vec (List Cell × ℤ)) (old new : Vec Line) → IsChangeOf e s changes (Some rows) → AreLinesFor e changes (take i e.subscriptions) (Some old)
+      → map line_of new.items ≡ map line_of old.items ++ machine_line None s rows.items → AreLinesFor e changes (take (i + 1) e.subscriptions) (Some new)
+  lines_more rows old new h before more T U after =
+      let one = h T U after in
+      let so_far = before T U after in (
         all_more (is_within (at e U)) e.subscriptions i s so_far.0 one.0 low_in item_in,
-        sends (moved_line e T U) e.subscriptions i s low_in item_in [] (map line_of old) (machine_line None s rows.items) (map line_of new) so_far.1 (ap (machine_line None s) one.1) more,
+        sends (moved_line e T U) e.subscriptions i s low_in item_in [] (map line_of old.items) (machine_line None s rows.items) (map line_of new.items) so_far.1 (ap (machine_line None s) one.1) more,
       )
 
-pub lines_whole : (e : Kept) (changes : List Change) (k : ℕ) (lines : Vec Line) → length e.subscriptions ≤ k → AreLinesSoFar e changes (take k e.subscriptions) lines.items → AreLines e changes (Some lines)
-lines_whole e changes k lines l h = subst (λ ss. AreLinesSoFar e changes ss lines.items) (take_all k e.subscriptions l) h
+pub lines_whole : (e : Kept) (changes : List Change) (k : ℕ) (lines : Vec Line) → length e.subscriptions ≤ k → AreLinesFor e changes (take k e.subscriptions) (Some lines) → AreLines e changes (Some lines)
+lines_whole e changes k lines l h = subst (λ ss. AreLinesFor e changes ss (Some lines)) (take_all k e.subscriptions l) h

@@ -27,9 +27,9 @@ module _ (e : Kept) (T : Lists) (n : ℕ) (act : machine.Act) where
   said_lines (Refused r) h = sym (ap (λ o. (outcome (at e T) told o).lines) h)
   said_lines (Accepted reply lines) h = (λ i. machine.reply n (h.1 i) ∷ h.2 i) ∙ sym (ap (λ o. (outcome (at e T) told o).lines) h.0)
 
-  pub left_state : (a : Answer) (new : Kept) → IsAnswer e T n act a → IsLeft e T n act a new → IsKept e a new → Stands T e.bags → IsBehind (step (at e T) told).state (seen new)
+  pub left_state : (a : Answer) (new : Kept) → IsAnswer e T n act a → IsLeft e T n act a new → IsKept e a new → Stands T e.tables → IsBehind (step (at e T) told).state (seen new)
   left_state (Refused r) new h l k s = subst (λ (t : State). IsBehind t (seen new)) (sym (ap (λ o. (outcome (at e T) told o).state) h))
-      (record { frame = ap frame_of (sym k); rows = subst (λ (v : Kept). Stands T v.bags) (sym k) s })
+      (record { frame = ap frame_of (sym k); rows = subst (λ (v : Kept). Stands T v.tables) (sym k) s })
   left_state (Accepted reply lines) new h l k s = subst (λ (t : State). IsBehind t (seen new)) (sym (ap (λ o. (outcome (at e T) told o).state) h.0)) l
 
 head_reply : (n k : ℕ) (r : machine.Reply) (x : machine.Refusal) (ls : List machine.Line) → machine.reply n r ∷ ls ≡ machine.reply k (machine.refused x) ∷ [] → r ≡ machine.refused x

@@ -12,6 +12,7 @@ use Rattle.iv_zset.proofs.Limits.{within_is}
 use Rattle.iv_zset.specs.Support.{list_behind}
 use Rattle.iv_algebra.specs.Plans.{Lists}
 use Rattle.iv_algebra.specs.Evaluation.{eval, plan_within}
+use Rattle.iv_algebra.specs.Contents.{rows_of}
 use Rattle.iv_bind.specs.Faults.{if_some}
 use Rattle.iv_access.specs.Rights.{Rights}
 use Rattle.iv_access.specs.Privileges.{role_name}
@@ -23,7 +24,7 @@ use Rattle.iv_machine.specs.declared.Cause.{Cause}
 use Rattle.iv_machine.specs.declared.Cause.TheVariants as cause
 use Rattle.iv_engine.specs.Answering.{IsShownBy}
 use Rattle.iv_engine.specs.Kept.{Kept, IsStored, IsWithin, frame_of, at, cap, may_read, shown_rows, table_rows}
-use Rattle.iv_engine.specs.Stands.{Stands, bag_at}
+use Rattle.iv_engine.specs.Stands.{Stands}
 use Rattle.iv_engine.proofs.Seeing.{filter_within, rows_same}
 use Rattle.iv_engine.proofs.Tables.{IsATable, plan_is}
 
@@ -49,9 +50,9 @@ module _ (e : Kept) (T : Lists) where
   pub view_within : (role rel : ℕ) → IsATable e.catalog rel → within cap (T rel) ≡ true → is_within_for (at e T) role rel ≡ true
   view_within role rel t w = within_for role rel t ∙ filter_within (may_see e.known.rights role rel) cap (T rel) w
 
-  module _ (sound : IsStored e) (stands : Stands T e.bags) where
+  module _ (sound : IsStored e) (stands : Stands T e.tables) where
     pub table_fits : (t : ℕ) → within cap (T t) ≡ true
-    table_fits t = within_is cap (bag_at e.bags t) (T t) (sound.zsets t) (stands t) ∙ nat_at_most (length (bag_at e.bags t)) cap (sound.small t)
+    table_fits t = within_is cap (rows_of e.tables t) (T t) (sound.zsets t) (stands t) ∙ nat_at_most (length (rows_of e.tables t)) cap (sound.small t)
 
     pub view_fits : (role rel : ℕ) → IsATable e.catalog rel → is_within_for (at e T) role rel ≡ true
     view_fits role rel t = view_within role rel t (table_fits rel)
@@ -66,13 +67,13 @@ pub limits_same : (f : Frame) (q : Rights) (role rel : ℕ) (T : Lists) → role
     → is_within_for (record { frame = record f { rights = q }; rows = T }) role rel ≡ is_within_for (record { frame = f; rows = T }) role rel
 limits_same f q role rel T name guards = λ i. plan_within f.cap (plan_at f.catalog rel) (λ t. rows_same q f.rights role t name (guards t) (T t) i)
 
--- ---- lists behind the bags
+-- ---- lists behind the tables
 
 abbrev pub lists_behind : Kept → Lists
-lists_behind e = λ t. list_behind (bag_at e.bags t)
+lists_behind e = λ t. list_behind (rows_of e.tables t)
 
-pub stands_behind : (e : Kept) → IsStored e → Stands (lists_behind e) e.bags
-stands_behind e h = λ t. counts_behind (bag_at e.bags t) (h.positive t)
+pub stands_behind : (e : Kept) → IsStored e → Stands (lists_behind e) e.tables
+stands_behind e h = λ t. counts_behind (rows_of e.tables t) (h.positive t)
 
 -- what is within the limits is not said to be beyond them
 pub is_shown : (e : Kept) (s : Subscription) (minus : Bool) → IsStored e → IsWithin e s → IsShownBy e s minus None → ⊥

@@ -1,5 +1,5 @@
 -- What every stored state has is kept by requests that show nothing.
-use Rattle.std.proofs.Common.{◌≡◌, ℕ, zero, suc, ◌+◌, ◌<◌, ◌≤◌, Bool, true, false, cond, not, ◌&&◌, ◌||◌, List, [], ◌∷◌, ◌++◌, length, length-append, Option, None, Some, refl, sym, ap, subst, ◌∙◌, arith}
+use Rattle.std.proofs.Common.{◌≡◌, ℕ, ◌+◌, ◌<◌, ◌≤◌, Bool, true, false, cond, not, ◌&&◌, ◌||◌, List, [], ◌∷◌, ◌++◌, length, length-append, Option, None, Some, refl, sym, ap, subst, ◌∙◌, arith}
 use Rattle.std.specs.Prelude.{◌==◌, Result, Ok, Err, is_some, option_map, unwrap_or}
 use Rattle.std.specs.List.{AllByRecursion, IsDistinct, list_any}
 use Rattle.std.proofs.lemmas.Int.{ints}
@@ -8,8 +8,9 @@ use Rattle.iv_zset.specs.Weights.{Weighed, IsBag, IsZSet, weight_of}
 use Rattle.iv_rows.specs.Columns.{Column, kinds_of}
 use Rattle.iv_algebra.specs.Plans.{Lists}
 use Rattle.iv_algebra.specs.Shapes.{Scan}
+use Rattle.iv_algebra.specs.Contents.{rows_of}
 use Rattle.iv_bind.specs.BoundTexts.{FaultAt, TextFault, bound_query}
-use Rattle.iv_bind.specs.Catalogs.{Answer, Entry, Held, Table, View, extended, plan_of, reached_by, schema_of, table_in}
+use Rattle.iv_bind.specs.Catalogs.{Answer, Entry, Held, Table, View, plan_of, reached_by, schema_of, table_in}
 use Rattle.iv_bind.specs.Faults.{if_some}
 use Rattle.iv_access.specs.declared.privilege.Privilege.{Privilege}
 use Rattle.iv_access.specs.declared.privilege.Privilege.TheVariants.{Select}
@@ -17,7 +18,7 @@ use Rattle.iv_access.specs.Known.{Relation, known_at_start, role_number, grantee
 use Rattle.iv_access.specs.Policies.{allowed}
 use Rattle.iv_access.specs.Rights.{Grant, Grantee, Role, Guard, Name, Rights}
 use Rattle.iv_access.specs.Privileges.{has, is_admin, is_for, privilege_eq}
-use Rattle.iv_access.specs.Changing.{grant_eq, granted, for_each, with_relation, all_privileges}
+use Rattle.iv_access.specs.Changing.{grant_eq, granted, for_each, all_privileges}
 use Rattle.iv_machine.specs.State.{Session, Subscription, actor, is_open, rel_of, session_of}
 use Rattle.iv_machine.specs.Act.{begin, create_role, create_table, create_view, grant, no_session}
 use Rattle.iv_machine.specs.Changing.{view_held, with_held}
@@ -25,8 +26,9 @@ use Rattle.iv_machine.specs.Refusing.{administrator, bad_text, frame_refusal, fr
 use Rattle.iv_machine.proofs.Placing.{roles_after}
 use Rattle.iv_machine.proofs.Serving.{or_none}
 use Rattle.iv_engine.specs.Kept.{HoldsKinds, IsOpen, IsSound, IsWithin, Kept, frame_of, may_read, relation_in, shown_rows}
-use Rattle.iv_engine.specs.Next.{kept_after}
-use Rattle.iv_engine.specs.Stands.{Stands, bag_at}
+use Rattle.iv_engine.specs.Next.{kept_after, with_relation_of}
+use Rattle.iv_engine.specs.Stands.{Stands}
+use Rattle.iv_engine.proofs.Tabled.{heads_with, none_beyond, rows_with}
 use Rattle.iv_engine.proofs.Holding.{still_holds}
 use Rattle.iv_engine.proofs.Seeing.{for_same, rows_same}
 use Rattle.iv_engine.proofs.Tables.{known_at, numbered_push}
@@ -51,14 +53,6 @@ longer xs ys x y h = length-append xs (x ∷ []) ∙ ap (λ k. k + 1) h ∙ sym 
 
 from_zero : (n : ℕ) → n ≡ 0 + n
 from_zero n = omega arith
-
--- ---- one more bag, without rows
-
-pub pushed_at : (bags : List Weighed) (t : ℕ) → bag_at (bags ++ [] ∷ []) t ≡ bag_at bags t
-pushed_at [] zero = refl
-pushed_at [] (suc t) = refl
-pushed_at (x ∷ bags) zero = refl
-pushed_at (x ∷ bags) (suc t) = pushed_at bags t
 
 -- ---- more rights
 
@@ -133,34 +127,23 @@ module _ (e d : Kept) (es : List Subscription) (u : AllByRecursion (IsUnmoved e 
   pub all_read : AllByRecursion (λ s. may_read e s ≡ true) es → AllByRecursion (λ s. may_read d s ≡ true) es
   all_read a = all_zip (IsUnmoved e d) (λ s. may_read e s ≡ true) (λ s. may_read d s ≡ true) es (λ s v r. still_read e d s v r) u a
 
-  pub all_within : ((T : Lists) → Stands T d.bags → Stands T e.bags) → AllByRecursion (IsWithin e) es → AllByRecursion (IsWithin d) es
+  pub all_within : ((T : Lists) → Stands T d.tables → Stands T e.tables) → AllByRecursion (IsWithin e) es → AllByRecursion (IsWithin d) es
   all_within before a = all_zip (IsUnmoved e d) (IsWithin e) (IsWithin d) es (λ s v w T k. still_within e d s v T (before T k) ∙ w T (before T k)) u a
 
-  pub all_shown : (T : Lists) → Stands T e.bags → AllByRecursion (λ s. shown_rows d T s ≡ shown_rows e T s) es
+  pub all_shown : (T : Lists) → Stands T e.tables → AllByRecursion (λ s. shown_rows d T s ≡ shown_rows e T s) es
   all_shown T k = all_map (IsUnmoved e d) (λ s. shown_rows d T s ≡ shown_rows e T s) es (λ s v. still_shown e d s v T k) u
 
 -- ---- a new relation, which has no row
 
--- with a relation of the owner
-abbrev pub with_held_relation : Name → ℕ → Held → Kept → Kept
-with_held_relation name owner held e = record e {
-  known = record {
-    relations = e.known.relations ++ record { name = name; kinds = option_map kinds_of (table_in held) } ∷ [];
-    rights = with_relation owner e.known.rights;
-  };
-  catalog = extended e.catalog name (length e.catalog) held;
-  bags = e.bags ++ [] ∷ [];
-}
-
-module _ (e : Kept) (h : IsSound e) (name : Name) (owner : ℕ) (held : Held) where
+module _ (e : Kept) (h : IsSound e) (name owner : Name) (held : Held) where
   abbrev c : Kept
-  c = with_held_relation name owner held e
+  c = with_relation_of name owner held e
 
   abbrev x : Entry
   x = record { name = name; rel = length e.catalog; held = held }
 
   abbrev g : Guard
-  g = record { owner = owner; enabled = false; forced = false; policies = [] }
+  g = record { owner = role_number e.known.rights owner; enabled = false; forced = false; policies = [] }
 
   relation_unmoved_by : (s : Subscription) → IsOpen e s → IsUnmoved e c s
   relation_unmoved_by s o =
@@ -170,15 +153,15 @@ module _ (e : Kept) (h : IsSound e) (name : Name) (owner : ℕ) (held : Held) wh
       record {
         plan = ap (λ (y : Option Entry). if_some y (Scan s.rel) (λ z. plan_of z.rel z.held)) same;
         needs = ap (λ (y : Option Entry). if_some y [] (λ z. reached_by z.rel z.held)) same;
-        reads = λ rel k. has_more r q (actor (frame_of e) s.session) Select rel (length r.guards) all_privileges (Role owner) refl k;
-        sees = λ T k. sees_before r q (actor (frame_of e) s.session) g e.bags T refl refl (h.stored.guards ∙ sym h.stored.bags) k;
+        reads = λ rel k. has_more r q (actor (frame_of e) s.session) Select rel (length r.guards) all_privileges (Role (role_number e.known.rights owner)) refl k;
+        sees = λ T k. sees_before r q (actor (frame_of e) s.session) g e.tables T refl refl (λ t l. none_beyond e h.stored t (subst (λ m. m ≤ t) h.stored.guards l)) k;
       }
 
   pub relation_unmoved : AllByRecursion (IsUnmoved e c) e.subscriptions
   relation_unmoved = all_map (IsOpen e) (IsUnmoved e c) e.subscriptions relation_unmoved_by h.stored.shows
 
-  before : (T : Lists) → Stands T c.bags → Stands T e.bags
-  before T k t q = ap (λ z. weight_of z q) (sym (pushed_at e.bags t)) ∙ k t q
+  before : (T : Lists) → Stands T c.tables → Stands T e.tables
+  before T k t q = ap (λ z. weight_of z q) (sym (rows_with held (length e.catalog) e.tables t)) ∙ k t q
 
   pub relation_sound : IsSound c
   relation_sound =
@@ -189,11 +172,11 @@ module _ (e : Kept) (h : IsSound e) (name : Name) (owner : ℕ) (held : Held) wh
           numbered = numbered_push 0 e.catalog x h.stored.numbered (from_zero (length e.catalog));
           relations = ap (λ (rs : List Relation). rs ++ record { name = name; kinds = option_map kinds_of (table_in held) } ∷ []) h.stored.relations ∙ sym (map-append relation_in e.catalog (x ∷ []));
           guards = longer e.known.rights.guards e.catalog g x h.stored.guards;
-          bags = longer e.bags e.catalog [] x h.stored.bags;
-          zsets = λ t. subst IsZSet (sym (pushed_at e.bags t)) (h.stored.zsets t);
-          positive = λ t. subst IsBag (sym (pushed_at e.bags t)) (h.stored.positive t);
-          kinds = λ t. subst (HoldsKinds (schema_of (e.catalog ++ x ∷ []) t)) (sym (pushed_at e.bags t)) (still_holds e.catalog x t (bag_at e.bags t) (h.stored.kinds t));
-          small = λ t. subst (λ (z : Weighed). length z ≤ 65536) (sym (pushed_at e.bags t)) (h.stored.small t);
+          tables = heads_with e.catalog e.tables h.stored.numbered h.stored.tables name held;
+          zsets = λ t. subst IsZSet (sym (rows_with held (length e.catalog) e.tables t)) (h.stored.zsets t);
+          positive = λ t. subst IsBag (sym (rows_with held (length e.catalog) e.tables t)) (h.stored.positive t);
+          kinds = λ t. subst (HoldsKinds (schema_of (e.catalog ++ x ∷ []) t)) (sym (rows_with held (length e.catalog) e.tables t)) (still_holds e.catalog x t (rows_of e.tables t) (h.stored.kinds t));
+          small = λ t. subst (λ (z : Weighed). length z ≤ 65536) (sym (rows_with held (length e.catalog) e.tables t)) (h.stored.small t);
           shows = all_map (IsOpen e) (IsOpen c) e.subscriptions (λ s o. record { session = o.session; known = let k = o.known in let l = length-append e.catalog (x ∷ []) in omega (arith, k, l) }) h.stored.shows;
         };
         served = all_read e c e.subscriptions relation_unmoved h.served;
@@ -226,7 +209,7 @@ module _ (e : Kept) (n : ℕ) (h : IsSound e) where
         numbered = h.stored.numbered;
         relations = h.stored.relations;
         guards = h.stored.guards;
-        bags = h.stored.bags;
+        tables = h.stored.tables;
         zsets = h.stored.zsets;
         positive = h.stored.positive;
         kinds = h.stored.kinds;
@@ -262,7 +245,7 @@ module _ (e : Kept) (n : ℕ) (h : IsSound e) where
         numbered = h.stored.numbered;
         relations = h.stored.relations;
         guards = h.stored.guards;
-        bags = h.stored.bags;
+        tables = h.stored.tables;
         zsets = h.stored.zsets;
         positive = h.stored.positive;
         kinds = h.stored.kinds;
@@ -297,7 +280,7 @@ module _ (e : Kept) (n : ℕ) (h : IsSound e) where
         numbered = h.stored.numbered;
         relations = h.stored.relations;
         guards = h.stored.guards;
-        bags = h.stored.bags;
+        tables = h.stored.tables;
         zsets = h.stored.zsets;
         positive = h.stored.positive;
         kinds = h.stored.kinds;
@@ -310,10 +293,10 @@ module _ (e : Kept) (n : ℕ) (h : IsSound e) where
 
   module _ (name owner : Name) (columns : List Column) where
     pub table_unmoved : AllByRecursion (IsUnmoved e (kept_after e n (create_table name owner columns))) e.subscriptions
-    table_unmoved = relation_unmoved e h name (role_number e.known.rights owner) (Table columns)
+    table_unmoved = relation_unmoved e h name owner (Table columns)
 
     pub table_sound : IsSound (kept_after e n (create_table name owner columns))
-    table_sound = relation_sound e h name (role_number e.known.rights owner) (Table columns)
+    table_sound = relation_sound e h name owner (Table columns)
 
   module _ (name owner : Name) (query : Name) (passed : frame_refusal (frame_of e) n (create_view name owner query) ≡ None) where
     abbrev o : Result Answer TextFault
@@ -329,14 +312,14 @@ module _ (e : Kept) (n : ℕ) (h : IsSound e) where
         let d = or_none (free_relation f name) _ b.1 in
         text_bound o (or_none (bad_text o) _ d.1).0
 
-    view_is : kept_after e n (create_view name owner query) ≡ with_held_relation name (role_number e.known.rights owner) (View view_bound.0) e
+    view_is : kept_after e n (create_view name owner query) ≡ with_relation_of name owner (View view_bound.0) e
     view_is = ap (λ (r : Result Answer TextFault). record (kept_after e n (create_view name owner query)) { catalog = with_held name (view_held r) e.catalog }) view_bound.1
 
     pub view_unmoved : AllByRecursion (IsUnmoved e (kept_after e n (create_view name owner query))) e.subscriptions
-    view_unmoved = subst (λ (d : Kept). AllByRecursion (IsUnmoved e d) e.subscriptions) (sym view_is) (relation_unmoved e h name (role_number e.known.rights owner) (View view_bound.0))
+    view_unmoved = subst (λ (d : Kept). AllByRecursion (IsUnmoved e d) e.subscriptions) (sym view_is) (relation_unmoved e h name owner (View view_bound.0))
 
     pub view_sound : IsSound (kept_after e n (create_view name owner query))
-    view_sound = subst IsSound (sym view_is) (relation_sound e h name (role_number e.known.rights owner) (View view_bound.0))
+    view_sound = subst IsSound (sym view_is) (relation_sound e h name owner (View view_bound.0))
 
 -- ---- the start
 
@@ -345,7 +328,7 @@ unfolding IsDistinct
 empty_zset = record { distinct = tt; weights = λ q. tt }
 
 abbrev pub kept_at_start : Kept
-kept_at_start = record { known = known_at_start; catalog = []; sessions = []; subscriptions = []; last = 0; bags = [] }
+kept_at_start = record { known = known_at_start; catalog = []; sessions = []; subscriptions = []; last = 0; tables = [] }
 
 pub start_sound : IsSound kept_at_start
 start_sound = record {
@@ -355,7 +338,7 @@ start_sound = record {
     numbered = tt;
     relations = refl;
     guards = refl;
-    bags = refl;
+    tables = λ t. refl;
     zsets = λ t. empty_zset;
     positive = λ t q. omega (arith, ints);
     kinds = λ t. refl;

@@ -6,6 +6,7 @@ use Rattle.std.specs.List.{AllByRecursion}
 use Rattle.iv_rows.specs.Columns.{Column}
 use Rattle.iv_zset.specs.Weights.{weight_of}
 use Rattle.iv_algebra.specs.Plans.{Lists}
+use Rattle.iv_bind.specs.Catalogs as catalogs
 use Rattle.iv_access.specs.declared.privilege.Privilege.{Privilege}
 use Rattle.iv_access.specs.Rights.{Name}
 use Rattle.iv_machine.specs.Act as machine
@@ -27,8 +28,9 @@ use Rattle.iv_engine.specs.declared.command.Reply.{Reply}
 use Rattle.iv_engine.specs.declared.command.Reply.TheVariants.{Ok}
 use Rattle.iv_engine.specs.declared.answer.Answer.{Answer}
 use Rattle.iv_engine.specs.declared.answer.Answer.TheVariants.{Refused, Accepted}
+use Rattle.iv_engine.proofs.Tabled.{rows_with}
 use Rattle.iv_engine.proofs.Showing.{cause_for, difference_none, each_found, ending_is, shown_is}
-use Rattle.iv_engine.proofs.Sound.{all_map, all_shown, all_zip, begin_sound, begin_unmoved, grant_sound, grant_unmoved, pushed_at, role_sound, role_unmoved, table_sound, table_unmoved, view_sound, view_unmoved}
+use Rattle.iv_engine.proofs.Sound.{all_map, all_shown, all_zip, begin_sound, begin_unmoved, grant_sound, grant_unmoved, role_sound, role_unmoved, table_sound, table_unmoved, view_sound, view_unmoved}
 use Rattle.iv_engine.proofs.Unmoved.{IsUnmoved}
 
 -- ---- lists of subscriptions
@@ -54,11 +56,11 @@ pub each_shown : (e : Kept) → IsStored e → AllByRecursion (IsShown e) e.subs
 each_shown e h = all_zip (λ s. subscription_of e.subscriptions s.number ≡ Some s) (IsOpen e) (IsShown e) e.subscriptions (λ s f o. record { found = f; known = o.known }) (each_found e.subscriptions h.reached.unique) h.shows
 
 -- none ends where each may be read
-pub none_ends : (c : Kept) (T : Lists) → IsSound c → Stands T c.bags → AllByRecursion (λ s. ending (at c T) s ≡ None) c.subscriptions
+pub none_ends : (c : Kept) (T : Lists) → IsSound c → Stands T c.tables → AllByRecursion (λ s. ending (at c T) s ≡ None) c.subscriptions
 none_ends c T h stands = all_zip (λ s. may_read c s ≡ true) (IsWithin c) (λ s. ending (at c T) s ≡ None) c.subscriptions
     (λ s r w. ending_is c T s (w T stands) ∙ ap cause_for r) h.served h.within
 
-pub none_settled : (c : Kept) (T : Lists) → IsSound c → Stands T c.bags → filter (λ s. not (is_some (ending (at c T) s))) c.subscriptions ≡ c.subscriptions
+pub none_settled : (c : Kept) (T : Lists) → IsSound c → Stands T c.tables → filter (λ s. not (is_some (ending (at c T) s))) c.subscriptions ≡ c.subscriptions
 none_settled c T h stands = keep_each (λ s. not (is_some (ending (at c T) s))) c.subscriptions
     (all_map (λ s. ending (at c T) s ≡ None) (λ s. not (is_some (ending (at c T) s)) ≡ true) c.subscriptions (λ s k. ap (λ o. not (is_some o)) k) (none_ends c T h stands))
 
@@ -82,14 +84,14 @@ pub record KeepsRows (e : Kept) (n : ℕ) (act : Act) : Type 0 where
   pub after : (T : Lists) → IsStored e → after (at e T) n act ≡ at (kept_after e n act) T
   pub ends : (s : State) → ending_by act s ≡ ending s
   pub reply : machine.done ≡ reply_to (frame_of e) act
-  pub bags : (T : Lists) → Stands T e.bags → Stands T (kept_after e n act).bags
+  pub tables : (T : Lists) → Stands T e.tables → Stands T (kept_after e n act).tables
   pub sound : frame_refusal (frame_of e) n act ≡ None → IsSound e → IsSound (kept_after e n act)
 
 or_nothing : (o p : Option machine.Refusal) → p ≡ None → or_else o p ≡ o
 or_nothing None p h = h
 or_nothing (Some r) p h = refl
 
-module _ (e : Kept) (n : ℕ) (act : Act) (q : KeepsRows e n act) (h : IsSound e) (T : Lists) (stands : Stands T e.bags) where
+module _ (e : Kept) (n : ℕ) (act : Act) (q : KeepsRows e n act) (h : IsSound e) (T : Lists) (stands : Stands T e.tables) where
   abbrev left : Kept
   left = kept_after e n act
 
@@ -101,18 +103,18 @@ module _ (e : Kept) (n : ℕ) (act : Act) (q : KeepsRows e n act) (h : IsSound e
     pub changed_sent : sent e T n act ≡ flat_map (change_line e left T T) e.subscriptions
     changed_sent = (λ i. changes act (at e T) (q.after T h.stored i) (settled act (q.after T h.stored i)))
         ∙ (λ i. flat_map (line_for (at e T) (record (at left T) { frame = record (frame_of left) { subscriptions = filter (λ s. not (is_some (q.ends (at left T) i s))) left.subscriptions } }) (q.ends (at left T) i)) left.subscriptions)
-        ∙ (λ i. flat_map (line_for (at e T) (record (at left T) { frame = record (frame_of left) { subscriptions = none_settled left T (q.sound passed h) (q.bags T stands) i } }) (ending (at left T))) left.subscriptions)
-        ∙ change_lines e left T T h.stored (ending (at left T)) (none_ends left T (q.sound passed h) (q.bags T stands))
+        ∙ (λ i. flat_map (line_for (at e T) (record (at left T) { frame = record (frame_of left) { subscriptions = none_settled left T (q.sound passed h) (q.tables T stands) i } }) (ending (at left T))) left.subscriptions)
+        ∙ change_lines e left T T h.stored (ending (at left T)) (none_ends left T (q.sound passed h) (q.tables T stands))
 
     pub changed_left : settled act (after (at e T) n act) ≡ at left T
     changed_left = ap (settled act) (q.after T h.stored)
         ∙ (λ i. record (at left T) { frame = record (frame_of left) { subscriptions = filter (λ s. not (is_some (q.ends (at left T) i s))) left.subscriptions } })
-        ∙ (λ i. record (at left T) { frame = record (frame_of left) { subscriptions = none_settled left T (q.sound passed h) (q.bags T stands) i } })
+        ∙ (λ i. record (at left T) { frame = record (frame_of left) { subscriptions = none_settled left T (q.sound passed h) (q.tables T stands) i } })
 
 -- and nothing that is shown
 pub record IsQuiet (e : Kept) (n : ℕ) (act : Act) : Type 0 where
   pub keeps : KeepsRows e n act
-  pub shows : frame_refusal (frame_of e) n act ≡ None → IsSound e → (T : Lists) → Stands T e.bags → AllByRecursion (λ s. shown_rows (kept_after e n act) T s ≡ shown_rows e T s) e.subscriptions
+  pub shows : frame_refusal (frame_of e) n act ≡ None → IsSound e → (T : Lists) → Stands T e.tables → AllByRecursion (λ s. shown_rows (kept_after e n act) T s ≡ shown_rows e T s) e.subscriptions
 
 quiet_lines : (e c : Kept) (T : Lists) (es : List Subscription) → AllByRecursion (λ s. shown_rows c T s ≡ shown_rows e T s) es → flat_map (change_line e c T T) es ≡ []
 quiet_lines e c T es a = no_lines (change_line e c T T) es (all_map (λ s. shown_rows c T s ≡ shown_rows e T s) (λ s. change_line e c T T s ≡ []) es
@@ -126,27 +128,27 @@ quiet e n act k u = record { keeps = k; shows = λ p h T s. all_shown e (kept_af
 
 pub begin_quiet : (e : Kept) (n : ℕ) (role : Name) → IsQuiet e n (begin role)
 begin_quiet e n role = quiet e n (begin role)
-    (record { rows = λ T. refl; after = λ T h. refl; ends = λ s. refl; reply = refl; bags = λ T s. s; sound = λ p h. begin_sound e n h role p })
+    (record { rows = λ T. refl; after = λ T h. refl; ends = λ s. refl; reply = refl; tables = λ T s. s; sound = λ p h. begin_sound e n h role p })
     (λ p h. begin_unmoved e n h role)
 
 pub role_quiet : (e : Kept) (n : ℕ) (name : Name) → IsQuiet e n (create_role name)
 role_quiet e n name = quiet e n (create_role name)
-    (record { rows = λ T. refl; after = λ T h. refl; ends = λ s. refl; reply = refl; bags = λ T s. s; sound = λ p h. role_sound e n h name p })
+    (record { rows = λ T. refl; after = λ T h. refl; ends = λ s. refl; reply = refl; tables = λ T s. s; sound = λ p h. role_sound e n h name p })
     (λ p h. role_unmoved e n h name)
 
 pub grant_quiet : (e : Kept) (n : ℕ) (rel : Name) (ps : List Privilege) (to : Option Name) → IsQuiet e n (grant rel ps to)
 grant_quiet e n rel ps to = quiet e n (grant rel ps to)
-    (record { rows = λ T. refl; after = λ T h. refl; ends = λ s. refl; reply = refl; bags = λ T s. s; sound = λ p h. grant_sound e n h rel ps to })
+    (record { rows = λ T. refl; after = λ T h. refl; ends = λ s. refl; reply = refl; tables = λ T s. s; sound = λ p h. grant_sound e n h rel ps to })
     (λ p h. grant_unmoved e n h rel ps to)
 
 pub table_quiet : (e : Kept) (n : ℕ) (name owner : Name) (columns : List Column) → IsQuiet e n (create_table name owner columns)
 table_quiet e n name owner columns = quiet e n (create_table name owner columns)
-    (record { rows = λ T. refl; after = λ T h. refl; ends = λ s. refl; reply = refl; bags = λ T s t q. ap (λ z. weight_of z q) (pushed_at e.bags t) ∙ s t q; sound = λ p h. table_sound e n h name owner columns })
+    (record { rows = λ T. refl; after = λ T h. refl; ends = λ s. refl; reply = refl; tables = λ T s t q. ap (λ z. weight_of z q) (rows_with (catalogs.Table columns) (length e.catalog) e.tables t) ∙ s t q; sound = λ p h. table_sound e n h name owner columns })
     (λ p h. table_unmoved e n h name owner columns)
 
 pub view_quiet : (e : Kept) (n : ℕ) (name owner query : Name) → IsQuiet e n (create_view name owner query)
 view_quiet e n name owner query = quiet e n (create_view name owner query)
-    (record { rows = λ T. refl; after = λ T h. refl; ends = λ s. refl; reply = refl; bags = λ T s t q. ap (λ z. weight_of z q) (pushed_at e.bags t) ∙ s t q; sound = λ p h. view_sound e n h name owner query p })
+    (record { rows = λ T. refl; after = λ T h. refl; ends = λ s. refl; reply = refl; tables = λ T s. s; sound = λ p h. view_sound e n h name owner query p })
     (λ p h. view_unmoved e n h name owner query p)
 
 -- ---- the step
@@ -165,11 +167,11 @@ refused_step e new n act r sound h k = record {
 
 -- an accepted one that tells each subscription what it shows now and did not show before
 pub changed_step : (e new : Kept) (n : ℕ) (act : Act) (reply : Reply) (lines : Vec Line) → KeepsRows e n act → IsSound e → frame_refusal (frame_of e) n act ≡ None → new ≡ kept_after e n act → reply ≡ Ok
-    → ((T : Lists) → Stands T e.bags → map line_of lines.items ≡ flat_map (change_line e (kept_after e n act) T T) e.subscriptions) → IsStep e n act (Accepted reply lines) new
+    → ((T : Lists) → Stands T e.tables → map line_of lines.items ≡ flat_map (change_line e (kept_after e n act) T T) e.subscriptions) → IsStep e n act (Accepted reply lines) new
 changed_step e new n act reply lines q sound passed k r told = record {
   answer = λ T s. (decided e n act q sound T s ∙ passed, ap reply_of r ∙ q.reply, told T s ∙ sym (changed_sent e n act q sound T s passed));
   left = λ T s. subst (λ (t : State). IsBehind t (seen new)) (sym (changed_left e n act q sound T s passed))
-      (subst (λ (v : Kept). IsBehind (at (kept_after e n act) T) (seen v)) (sym k) (record { frame = refl; rows = q.bags T s }));
+      (subst (λ (v : Kept). IsBehind (at (kept_after e n act) T) (seen v)) (sym k) (record { frame = refl; rows = q.tables T s }));
   kept = no_refusal reply r;
   sound = subst IsSound (sym k) (q.sound passed sound);
 }

@@ -9,7 +9,9 @@ use Rattle.iv_zset.proofs.Places.{empty_zset}
 use Rattle.iv_machine.proofs.Alike.{rows_are}
 use Rattle.iv_machine.proofs.Distinct.{placed_is}
 use Rattle.iv_engine.specs.Changes.{Change, change_at}
+use Rattle.iv_algebra.specs.declared.tables.Table.{Table}
 use Rattle.iv_engine.specs.Summed.{AreTables, IsFirst, IsNet}
+use Rattle.iv_engine.specs.Stands.{HasTable}
 
 abbrev Line : Type 0
 Line = List Cell
@@ -86,10 +88,10 @@ any_set (c ∷ cs) zero t u new f h = ap (λ n. (u == n) || list_any (λ (d : Ch
     same_nat m n h = grind (arith, nat_tests)
 any_set (c ∷ cs) (suc k) t u new f h = ap (λ b. (u == c.rel) || b) (any_set cs k t u new f.1 h)
 
-pub set_tables : (tables : ℕ) (cs : List Change) (k t : ℕ) (new : Change) → IsFirst cs k t → new.rel ≡ t → AreTables tables cs → AreTables tables (set cs k new)
+pub set_tables : (tables : List Table) (cs : List Change) (k t : ℕ) (new : Change) → IsFirst cs k t → new.rel ≡ t → AreTables tables cs → AreTables tables (set cs k new)
 set_tables tables [] k t new f h a = absurd f
 set_tables tables (c ∷ cs) zero t new f h a = (
-  subst (λ n. n < tables) (sym same) a.0,
+  subst (HasTable tables) (sym same) a.0,
   ap (λ n. list_any (λ (d : Change). n == d.rel) cs) same ∙ a.1,
   a.2,
 )
@@ -132,8 +134,8 @@ any_pushed : (cs : List Change) (new : Change) (u : ℕ) → (u == new.rel) ≡ 
 any_pushed [] new u h = ap (λ b. b || false) h
 any_pushed (c ∷ cs) new u h = ap (λ b. (u == c.rel) || b) (any_pushed cs new u h)
 
-pub pushed_tables : (tables : ℕ) (cs : List Change) (new : Change) (t : ℕ) → new.rel ≡ t → t < tables → list_any (of_table t) cs ≡ false → AreTables tables cs → AreTables tables (cs ++ new ∷ [])
-pushed_tables tables [] new t e l n a = (subst (λ r. r < tables) (sym e) l, refl, tt)
+pub pushed_tables : (tables : List Table) (cs : List Change) (new : Change) (t : ℕ) → new.rel ≡ t → HasTable tables t → list_any (of_table t) cs ≡ false → AreTables tables cs → AreTables tables (cs ++ new ∷ [])
+pushed_tables tables [] new t e l n a = (subst (HasTable tables) (sym e) l, refl, tt)
 pushed_tables tables (c ∷ cs) new t e l n a = let x = neither (c.rel == t) (list_any (of_table t) cs) n in (
   a.0,
   any_pushed cs new c.rel (ap (λ r. c.rel == r) e ∙ x.0) ∙ a.1,
@@ -154,8 +156,8 @@ module _ (s c : Change) (rel : c.rel ≡ s.rel) where
   any_same u [] ys = ap (λ n. (u == n) || list_any (λ (d : Change). u == d.rel) ys) rel
   any_same u (x ∷ xs) ys = ap (λ b. (u == x.rel) || b) (any_same u xs ys)
 
-  pub same_tables : (tables : ℕ) (xs ys : List Change) → AreTables tables (xs ++ s ∷ ys) → AreTables tables ((xs ++ c ∷ []) ++ ys)
-  same_tables tables [] ys a = (subst (λ n. n < tables) (sym rel) a.0, ap (λ n. list_any (λ (d : Change). n == d.rel) ys) rel ∙ a.1, a.2)
+  pub same_tables : (tables : List Table) (xs ys : List Change) → AreTables tables (xs ++ s ∷ ys) → AreTables tables ((xs ++ c ∷ []) ++ ys)
+  same_tables tables [] ys a = (subst (HasTable tables) (sym rel) a.0, ap (λ n. list_any (λ (d : Change). n == d.rel) ys) rel ∙ a.1, a.2)
   same_tables tables (x ∷ xs) ys a = (a.0, any_same x.rel xs ys ∙ a.1, same_tables tables xs ys a.2)
 
   pub same_rows : SameZ c.rows s.rows → (t : ℕ) (xs ys : List Change) → SameZ (change_at ((xs ++ c ∷ []) ++ ys) t) (change_at (xs ++ s ∷ ys) t)
@@ -171,7 +173,7 @@ module _ (s c : Change) (rel : c.rel ≡ s.rel) where
       by false k = k
 
 -- the one in the middle is that of its table
-pub middle_rows : (tables : ℕ) (s : Change) (xs ys : List Change) → AreTables tables (xs ++ s ∷ ys) → (change_at (xs ++ s ∷ ys) s.rel ≡ s.rows) × (s.rel < tables)
+pub middle_rows : (tables : List Table) (s : Change) (xs ys : List Change) → AreTables tables (xs ++ s ∷ ys) → (change_at (xs ++ s ∷ ys) s.rel ≡ s.rows) × HasTable tables s.rel
 middle_rows tables s [] ys a = (ap (λ b. cond b s.rows (change_at ys s.rel)) (own s.rel), a.0)
   where
     own : (n : ℕ) → (n == n) ≡ true

@@ -4,7 +4,7 @@ use Rattle.std.specs.Prelude.{Result, Ok, Err, IfSome, is_some, nat_le, option_m
 use Rattle.std.specs.List.{position_from}
 use Rattle.std.proofs.lemmas.Iterator.Adapters.{position_from-zero}
 use Rattle.std.proofs.lemmas.List.Quantifiers.{position-Some}
-use Rattle.iv_rows.specs.Columns.{Column, kinds_of}
+use Rattle.iv_rows.specs.Columns.{Column}
 use Rattle.iv_rows.specs.declared.schema.RelId.{RelId}
 use Rattle.iv_bind.specs.Faults.{if_some}
 use Rattle.iv_bind.specs.Catalogs.{Entry, named, numbered, schema_of, table_in}
@@ -129,7 +129,7 @@ free_number e h k l = none_later 0 e.catalog k h.numbered (let m = as_long e h i
 
 added_by : (e new : Kept) (n a : ℕ) (name owner : Name) (columns : List Column) (f : Option Refusal) (x : Result Unit AccessFault) (r : Option Refusal)
     → Tells (add_relation_fault e.known a name owner true) name f → f ≡ frame_refusal (frame_of e) n (create_table name owner columns)
-    → IsTold x name r → IsAdded e a name owner (kinds_of columns) columns x new → Agrees e new n (create_table name owner columns) r
+    → IsTold x name r → IsAdded e a name owner columns x new → Agrees e new n (create_table name owner columns) r
 added_by e new n a name owner columns f (Ok u) r tells is t d = let none = tells.none d.0 in record {
   refused = t ∙ sym none ∙ is;
   state = d.1 ∙ ap (next_by e n (create_table name owner columns)) (sym none ∙ is);
@@ -141,7 +141,7 @@ added_by e new n a name owner columns f (Err y) r tells is t d = ⊎_elim (λ m.
 
 pub added : (e new : Kept) (n a : ℕ) (name owner : Name) (columns : List Column) (x : Result Unit AccessFault) (r : Option Refusal)
     → IsStored e → Some a ≡ option_map (λ s. s.role) (session_of e.sessions n)
-    → IsTold x name r → IsAdded e a name owner (kinds_of columns) columns x new → Agrees e new n (create_table name owner columns) r
+    → IsTold x name r → IsAdded e a name owner columns x new → Agrees e new n (create_table name owner columns) r
 added e new n a name owner columns x r h o t d = added_by e new n a name owner columns (frame_refusal (frame_of e) n (create_table name owner columns)) x r (table_told e h n a name owner columns o) refl t d
 
 -- ---- a table by its name

@@ -3,9 +3,10 @@
 use Rattle.std.proofs.Common.{◌≡◌, ℕ, zero, suc, ◌<◌, ◌≤◌, Bool, true, false, cond, not, List, [], ◌∷◌, ◌++◌, length, map, Option, None, Some, refl, sym, ap, ◌∙◌, arith}
 use Rattle.std.proofs.lemmas.Bool.Decides.{nat_tests}
 use Rattle.std.specs.Prelude.{◌==◌, filter, is_some, nat_lt, option_map, slice_get, unwrap_or}
-use Rattle.iv_zset.specs.Weights.{Weighed}
 use Rattle.iv_algebra.specs.Evaluation.{eval, plan_within}
 use Rattle.iv_algebra.specs.Plans.{Lists}
+use Rattle.iv_algebra.specs.Contents.{rows_of}
+use Rattle.iv_algebra.specs.declared.tables.Table.{Table}
 use Rattle.iv_bind.specs.Catalogs.{Entry, Held, numbered}
 use Rattle.iv_access.specs.declared.privilege.Privilege.TheVariants.{Select}
 use Rattle.iv_access.specs.Policies.{allowed, may_see}
@@ -15,7 +16,7 @@ use Rattle.iv_machine.specs.Changing.{with_held}
 use Rattle.iv_machine.specs.State.{Session, Subscription, actor, is_within, needs_at, next_rel, plan_at, session_of}
 use Rattle.iv_machine.proofs.Placing.{find_kept}
 use Rattle.iv_engine.specs.Kept.{Kept, at, cap, frame_of, may_read, shown_rows}
-use Rattle.iv_engine.specs.Stands.{Stands, bag_at}
+use Rattle.iv_engine.specs.Stands.{Stands}
 use Rattle.iv_engine.proofs.Holding.{to_list}
 use Rattle.iv_engine.proofs.Seeing.{rows_same}
 
@@ -24,7 +25,7 @@ pub record IsUnmoved (e d : Kept) (s : Subscription) : Type 0 where
   pub plan : plan_at d.catalog s.rel ≡ plan_at e.catalog s.rel
   pub needs : needs_at d.catalog s.rel ≡ needs_at e.catalog s.rel
   pub reads : (rel : ℕ) → has e.known.rights (actor (frame_of e) s.session) Select rel ≡ true → has d.known.rights (actor (frame_of d) s.session) Select rel ≡ true
-  pub sees : (T : Lists) → Stands T e.bags → allowed d.known.rights (actor (frame_of d) s.session) T ≡ allowed e.known.rights (actor (frame_of e) s.session) T
+  pub sees : (T : Lists) → Stands T e.tables → allowed d.known.rights (actor (frame_of d) s.session) T ≡ allowed e.known.rights (actor (frame_of e) s.session) T
 
 -- ---- what follows
 
@@ -44,7 +45,7 @@ module _ (e d : Kept) (s : Subscription) (u : IsUnmoved e d s) where
   still_read h = ap (λ ns. not (is_some (first_missing d.known.rights (actor (frame_of d) s.session) (map (λ n. (Select, n)) ns)))) u.needs
       ∙ reads_all e.known.rights d.known.rights (actor (frame_of e) s.session) (actor (frame_of d) s.session) u.reads (needs_at e.catalog s.rel) h
 
-  module _ (T : Lists) (stands : Stands T e.bags) where
+  module _ (T : Lists) (stands : Stands T e.tables) where
     pub still_shown : shown_rows d T s ≡ shown_rows e T s
     still_shown = λ i. eval (u.plan i) (u.sees T stands i)
 
@@ -69,18 +70,12 @@ below m n h = grind (arith, nat_tests)
 beyond : (m n : ℕ) → nat_lt m n ≡ false → n ≤ m
 beyond m n h = grind (arith, nat_tests)
 
-no_bag : (bags : List Weighed) (t : ℕ) → length bags ≤ t → bag_at bags t ≡ []
-no_bag [] zero l = refl
-no_bag [] (suc t) l = refl
-no_bag (x ∷ bags) zero l = absurd (omega arith)
-no_bag (x ∷ bags) (suc t) l = no_bag bags t (omega arith)
-
--- what has no bag has no row, and so a guard may come there
-pub sees_before : (r q : Rights) (role : ℕ) (g : Guard) (bags : List Weighed) (T : Lists) → role_name q role ≡ role_name r role → q.guards ≡ r.guards ++ g ∷ [] → length r.guards ≡ length bags → Stands T bags → allowed q role T ≡ allowed r role T
-sees_before r q role g bags T name guards long stands = λ i t. each t i
+-- what is no relation has no row, and so a guard may come there
+pub sees_before : (r q : Rights) (role : ℕ) (g : Guard) (tables : List Table) (T : Lists) → role_name q role ≡ role_name r role → q.guards ≡ r.guards ++ g ∷ [] → ((t : ℕ) → length r.guards ≤ t → rows_of tables t ≡ []) → Stands T tables → allowed q role T ≡ allowed r role T
+sees_before r q role g tables T name guards beyond_none stands = λ i t. each t i
   where
     none : (t : ℕ) → length r.guards ≤ t → T t ≡ []
-    none t l = to_list None (bag_at bags t) (T t) (no_bag bags t (omega (arith, long, l))) (stands t)
+    none t l = to_list None (rows_of tables t) (T t) (beyond_none t l) (stands t)
 
     by : (t : ℕ) (b : Bool) → nat_lt t (length r.guards) ≡ b → filter (may_see q role t) (T t) ≡ filter (may_see r role t) (T t)
     by t true l = rows_same q r role t name (ap (λ gs. slice_get gs t) guards ∙ still_there r.guards g t (below t (length r.guards) l)) (T t)

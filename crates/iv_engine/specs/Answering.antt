@@ -22,7 +22,7 @@ use Rattle.iv_engine.specs.declared.answer.Answer.TheVariants.{Refused, Accepted
 
 -- what the engine shows of itself while it has not failed
 abbrev pub seen : Kept → Seen
-seen e = record { frame = frame_of e; bags = e.bags; failed = false }
+seen e = record { frame = frame_of e; tables = e.tables; failed = false }
 
 -- the lines of an answer
 abbrev pub said : ℕ → Answer → List machine.Line
@@ -51,8 +51,8 @@ IsKept old (Accepted reply lines) new = (r : machine.Refusal) → reply_of reply
 
 -- one step of the machine from e to new, for all lists behind e
 pub record IsStep (e : Kept) (n : ℕ) (act : machine.Act) (a : Answer) (new : Kept) : Type 0 where
-  pub answer : (T : Lists) → Stands T e.bags → IsAnswer e T n act a
-  pub left : (T : Lists) → Stands T e.bags → IsLeft e T n act a new
+  pub answer : (T : Lists) → Stands T e.tables → IsAnswer e T n act a
+  pub left : (T : Lists) → Stands T e.tables → IsLeft e T n act a new
   pub kept : IsKept e a new
   pub sound : IsSound new
 
@@ -87,7 +87,7 @@ AreShownAt e role rel minus T (Some rows) =
     × (rows.items ≡ cond minus (difference (view_for (at e T) role rel) []) (difference [] (view_for (at e T) role rel)))
 
 abbrev pub AreShown : Kept → (role rel : ℕ) → Bool → Option (Vec (List Cell × ℤ)) → Type 0
-AreShown e role rel minus rows = (T : Lists) → Stands T e.bags → AreShownAt e role rel minus T rows
+AreShown e role rel minus rows = (T : Lists) → Stands T e.tables → AreShownAt e role rel minus T rows
 
 -- the same of a subscription and its reader
 abbrev pub IsShownBy : Kept → Subscription → Bool → Option (Vec (List Cell × ℤ)) → Type 0
@@ -103,12 +103,12 @@ ended_line e T s = cond (may_read e s) [] (last_line e T s ∷ [])
 
 -- the last lines of those subscriptions whose readers may not select any more
 abbrev pub AreEnded : Kept → List Subscription → List machine.Line → Type 0
-AreEnded e es lines = (T : Lists) → Stands T e.bags → lines ≡ flat_map (ended_line e T) es
+AreEnded e es lines = (T : Lists) → Stands T e.tables → lines ≡ flat_map (ended_line e T) es
 
 -- the lines of a step of the machine, for all lists behind e
 abbrev pub IsSaid : Kept → machine.Command → List machine.Line → Type 0
-IsSaid e c lines = (T : Lists) → Stands T e.bags → lines ≡ (step (at e T) c).lines
+IsSaid e c lines = (T : Lists) → Stands T e.tables → lines ≡ (step (at e T) c).lines
 
 -- what such a step leaves
 abbrev pub IsNext : Kept → machine.Command → Kept → Type 0
-IsNext e c new = (T : Lists) → Stands T e.bags → IsBehind (step (at e T) c).state (seen new)
+IsNext e c new = (T : Lists) → Stands T e.tables → IsBehind (step (at e T) c).state (seen new)

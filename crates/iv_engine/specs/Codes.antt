@@ -2,9 +2,11 @@
 use Rattle.std.specs.Prelude.{ℕ, Bool, List, refl}
 use Rattle.std.specs.Coded.{Coded, code_by, coded_ℕ, coded_ℤ, coded_bool, coded_list, coded×}
 use Rattle.iv_zset.specs.Weights.{Weighed}
+use Rattle.iv_rows.specs.Columns.{Column}
 use Rattle.iv_algebra.specs.Codes.{cell_code}
+use Rattle.iv_algebra.specs.declared.tables.Table.{Table}
 use Rattle.iv_bind.specs.Catalogs.{Entry}
-use Rattle.iv_bind.specs.Codes.{entries_code}
+use Rattle.iv_bind.specs.Codes.{column_code, entries_code}
 use Rattle.iv_access.specs.Codes.{known_code, rights_code}
 use Rattle.iv_access.specs.Known.{Known}
 use Rattle.iv_access.specs.Rights.{Rights}
@@ -23,6 +25,11 @@ subscription_code =
 abbrev pub weighed_code : Coded Weighed
 weighed_code = coded_list (coded× (coded_list cell_code) coded_ℤ)
 
+abbrev pub table_code : Coded Table
+table_code =
+    code_by (ℕ × (List Column × Weighed)) (coded× coded_ℕ (coded× (coded_list column_code) weighed_code))
+    (λ t. (t.rel.0, (t.schema, t.rows))) (λ p. record { rel = record { 0 = p.0 }; schema = p.1.0; rows = p.1.1 }) (λ _. refl)
+
 abbrev pub frame_code : Coded Frame
 frame_code =
     code_by ((ℕ × Rights) × ((List Entry × List Session) × (List Subscription × ℕ)))
@@ -32,14 +39,14 @@ frame_code =
 
 abbrev pub kept_code : Coded Kept
 kept_code =
-    code_by ((Known × List Entry) × ((List Session × List Subscription) × (ℕ × List Weighed)))
+    code_by ((Known × List Entry) × ((List Session × List Subscription) × (ℕ × List Table)))
     (coded× (coded× known_code entries_code)
     (coded× (coded× (coded_list session_code) (coded_list subscription_code))
-    (coded× coded_ℕ (coded_list weighed_code))))
-    (λ e. ((e.known, e.catalog), ((e.sessions, e.subscriptions), (e.last, e.bags))))
-    (λ p. record { known = p.0.0; catalog = p.0.1; sessions = p.1.0.0; subscriptions = p.1.0.1; last = p.1.1.0; bags = p.1.1.1 }) (λ _. refl)
+    (coded× coded_ℕ (coded_list table_code))))
+    (λ e. ((e.known, e.catalog), ((e.sessions, e.subscriptions), (e.last, e.tables))))
+    (λ p. record { known = p.0.0; catalog = p.0.1; sessions = p.1.0.0; subscriptions = p.1.0.1; last = p.1.1.0; tables = p.1.1.1 }) (λ _. refl)
 
 abbrev pub seen_code : Coded Seen
 seen_code =
-    code_by (Frame × (List Weighed × Bool)) (coded× frame_code (coded× (coded_list weighed_code) coded_bool))
-    (λ e. (e.frame, (e.bags, e.failed))) (λ p. record { frame = p.0; bags = p.1.0; failed = p.1.1 }) (λ _. refl)
+    code_by (Frame × (List Table × Bool)) (coded× frame_code (coded× (coded_list table_code) coded_bool))
+    (λ e. (e.frame, (e.tables, e.failed))) (λ p. record { frame = p.0; tables = p.1.0; failed = p.1.1 }) (λ _. refl)

@@ -1,10 +1,8 @@
 -- A new view: the tests of its names and of its text, and what is kept with it.
-use Rattle.std.specs.Prelude.{◌≡◌, ℕ, Bool, cond, not, nat_le, true, List, [], ◌∷◌, ◌++◌, length, Option, Some, None, option_map, is_some, Result, Ok, Err}
+use Rattle.std.specs.Prelude.{◌≡◌, ℕ, Bool, cond, not, nat_le, true, List, ◌∷◌, Option, Some, None, option_map, is_some, Result, Ok, Err}
 use Rattle.iv_bind.specs.BoundTexts.{TextFault}
-use Rattle.iv_bind.specs.Catalogs.{Answer, View, answer_of, extended, named}
+use Rattle.iv_bind.specs.Catalogs.{Answer, View, answer_of, named}
 use Rattle.iv_bind.specs.declared.bound.Bound.{Bound}
-use Rattle.iv_access.specs.Changing.{with_relation}
-use Rattle.iv_access.specs.Known.{role_number}
 use Rattle.iv_access.specs.Privileges.{is_admin, role_of}
 use Rattle.iv_access.specs.Rights.{Name}
 use Rattle.iv_access.specs.declared.role.RoleId.{RoleId}
@@ -12,6 +10,7 @@ use Rattle.iv_machine.specs.Act.{Refusal, no_session}
 use Rattle.iv_machine.specs.Refusing.{administrator, bad_text, first, free_relation, known_role, or_else, test, views}
 use Rattle.iv_machine.specs.State.{Frame, actor, is_open, session_of}
 use Rattle.iv_engine.specs.Kept.{Kept, frame_of}
+use Rattle.iv_engine.specs.Next.{with_relation_of}
 use Rattle.iv_engine.specs.Views.{refusal_of}
 use Rattle.iv_engine.specs.declared.command.Refusal as said
 use Rattle.iv_engine.specs.declared.predicates.Stop.{Stop}
@@ -44,17 +43,6 @@ IsCreator e n name owner (Err r) = (more : List (Option Refusal)) → creator_te
 abbrev pub has_view_room : Kept → Bool
 has_view_room e = not (nat_le 64 (views (frame_of e)))
 
--- with a view, which has no rows of its own
-abbrev pub with_view : (name owner : Name) → Answer → Kept → Kept
-with_view name owner a e = record e {
-  known = record {
-    relations = e.known.relations ++ record { name = name; kinds = None } ∷ [];
-    rights = with_relation (role_number e.known.rights owner) e.known.rights;
-  };
-  catalog = extended e.catalog name (length e.catalog) (View a);
-  bags = e.bags ++ [] ∷ [];
-}
-
 -- the view is added, or not
 abbrev pub with_view_if : Bool → (name owner : Name) → Answer → Kept → Kept
-with_view_if added name owner a e = cond added (with_view name owner a e) e
+with_view_if added name owner a e = cond added (with_relation_of name owner (View a) e) e

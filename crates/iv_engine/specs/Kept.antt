@@ -3,26 +3,32 @@ use Rattle.std.specs.Prelude.{◌≡◌, ℕ, ◌<◌, ◌≤◌, Bool, true, no
 use Rattle.std.specs.List.{AllByRecursion}
 use Rattle.iv_rows.specs.Columns.{Column, kinds_of}
 use Rattle.iv_zset.specs.Weights.{Weighed, IsBag, IsZSet}
-use Rattle.iv_algebra.specs.Contents.{AreOf}
+use Rattle.iv_algebra.specs.Contents.{AreOf, heads_of, rows_of}
+use Rattle.iv_algebra.specs.Fits.{Heads}
+use Rattle.iv_algebra.specs.declared.tables.Table.{Table}
 use Rattle.iv_algebra.specs.Plans.{Lists}
 use Rattle.iv_rows.specs.Cell.{Cell}
 use Rattle.iv_bind.specs.Catalogs.{Entry, schema_of, table_in}
 use Rattle.iv_access.specs.Known.{Known, Relation}
 use Rattle.iv_access.specs.Policies.{may_see}
 use Rattle.iv_access.specs.Rights.{Rights}
-use Rattle.iv_machine.specs.State.{Frame, State, Session, Subscription, actor, is_open, is_within, missing_for, view_for}
+use Rattle.iv_machine.specs.State.{Frame, State, Session, Subscription, actor, is_open, is_within_for, missing_for, view_for}
 use Rattle.iv_machine.specs.Numbered.{AreNumbered}
 use Rattle.iv_machine.specs.Reached.{IsReached}
-use Rattle.iv_engine.specs.Stands.{Stands, bag_at}
+use Rattle.iv_engine.specs.Stands.{Stands}
 
--- the relations stand in the catalog at their numbers, and so do their bags
+-- the relations stand in the catalog at their numbers, and the tables among them have their rows
 pub record Kept : Type 0 where
   pub known : Known
   pub catalog : List Entry
   pub sessions : List Session
   pub subscriptions : List Subscription
   pub last : ℕ
-  pub bags : List Weighed
+  pub tables : List Table
+
+-- the kinds of each table's columns, by its number; none of what is no table
+abbrev pub kinds_at : List Entry → Heads
+kinds_at catalog n = option_map kinds_of (schema_of catalog n)
 
 -- with other rights
 abbrev pub with_rights : Rights → Kept → Kept
@@ -52,9 +58,13 @@ pub record IsOpen (e : Kept) (s : Subscription) : Type 0 where
 abbrev pub may_read : Kept → Subscription → Bool
 may_read e s = not (is_some (missing_for (frame_of e) (actor (frame_of e) s.session) s.rel))
 
+-- the limits hold at each node of what the relation shows to the role
+abbrev pub IsWithinFor : Kept → (role rel : ℕ) → Type 0
+IsWithinFor e role rel = (T : Lists) → Stands T e.tables → is_within_for (at e T) role rel ≡ true
+
 -- the limits hold at each node of what it shows
 abbrev pub IsWithin : Kept → Subscription → Type 0
-IsWithin e s = (T : Lists) → Stands T e.bags → is_within (at e T) s ≡ true
+IsWithin e s = IsWithinFor e (actor (frame_of e) s.session) s.rel
 
 -- the rows that a subscription shows
 abbrev pub shown_rows : Kept → Lists → Subscription → List (List Cell)
@@ -70,18 +80,18 @@ HoldsKinds None rows = rows ≡ []
 HoldsKinds (Some columns) rows = AreOf (kinds_of columns) rows
 
 -- the machine reaches the frame; sessions act for roles that are there; each relation has its place as its number,
--- a guard, and a bag with at most 65,536 rows, of its kinds, none with a weight below 0
+-- and a guard; each table has its kinds, and at most 65,536 rows, of these kinds, none with a weight below 0
 pub record IsStored (e : Kept) : Type 0 where
   pub reached : IsReached (frame_of e)
   pub roles : AllByRecursion (λ s. s.role < length e.known.rights.roles) e.sessions
   pub numbered : AreNumbered 0 e.catalog
   pub relations : e.known.relations ≡ map relation_in e.catalog
   pub guards : length e.known.rights.guards ≡ length e.catalog
-  pub bags : length e.bags ≡ length e.catalog
-  pub zsets : (t : ℕ) → IsZSet (bag_at e.bags t)
-  pub positive : (t : ℕ) → IsBag (bag_at e.bags t)
-  pub kinds : (t : ℕ) → HoldsKinds (schema_of e.catalog t) (bag_at e.bags t)
-  pub small : (t : ℕ) → length (bag_at e.bags t) ≤ 65536
+  pub tables : (t : ℕ) → heads_of e.tables t ≡ kinds_at e.catalog t
+  pub zsets : (t : ℕ) → IsZSet (rows_of e.tables t)
+  pub positive : (t : ℕ) → IsBag (rows_of e.tables t)
+  pub kinds : (t : ℕ) → HoldsKinds (schema_of e.catalog t) (rows_of e.tables t)
+  pub small : (t : ℕ) → length (rows_of e.tables t) ≤ cap
   pub shows : AllByRecursion (IsOpen e) e.subscriptions
 
 -- and of each open subscription the reader may select from all that it needs, and the limits hold

@@ -1,5 +1,5 @@
 -- The requests on the policies of a table, which its owner and `admin` alone may make.
-use Rattle.std.specs.Prelude.{◌≡◌, ℕ, ◌<◌, Bool, true, cond, not, nat_le, List, ◌∷◌, length, Option, Some, None, option_map, is_some, slice_get, Result, Ok, Err}
+use Rattle.std.specs.Prelude.{◌≡◌, ℕ, ◌<◌, Bool, true, not, nat_le, List, ◌∷◌, length, Option, Some, None, option_map, is_some, slice_get, Result, Ok, Err}
 use Rattle.std.specs.List.{list_all}
 use Rattle.iv_rows.specs.Columns.{Column}
 use Rattle.iv_query.specs.declared.fault.QueryFault.{QueryFault}
@@ -110,9 +110,9 @@ asked p preds = record {
   check = option_map condition_of preds.check;
 }
 
--- the policy is added, or not
-abbrev pub with_asked : ℕ → Asked → Bool → Kept → Kept
-with_asked table a added e = cond added (with_rights (with_policy table (policy_from e.known.rights a) e.known.rights) e) e
+-- with the policy
+abbrev pub with_asked : ℕ → Asked → Kept → Kept
+with_asked table a e = with_rights (with_policy table (policy_from e.known.rights a) e.known.rights) e
 
 -- all tests of a policy pass but that of the number of policies
 pub record IsReady (e : Kept) (n : ℕ) (p : PolicyText) (owned : Owned) (preds : Predicates) : Type 0 where

@@ -1,9 +1,11 @@
 -- The entries of a write at the numbers of their tables.
 use Rattle.std.specs.Borrow.{Bor}
-use Rattle.std.specs.Prelude.{◌≡◌, ℕ, ◌<◌, ◌==◌, Bool, cond, pos, ◌+ℤ◌, List, Option, map}
+use Rattle.std.specs.Prelude.{◌≡◌, ℕ, ◌==◌, Bool, true, cond, pos, ◌+ℤ◌, List, Option, is_some, map}
 use Rattle.iv_rows.specs.Cell.{Cell}
-use Rattle.iv_zset.specs.Weights.{Weighed, weight_of}
+use Rattle.iv_zset.specs.Weights.{weight_of}
 use Rattle.iv_algebra.specs.Plans.{Lists}
+use Rattle.iv_algebra.specs.declared.tables.Table.{Table}
+use Rattle.iv_bind.specs.Catalogs.{schema_of}
 use Rattle.iv_access.specs.Rights.{Name}
 use Rattle.iv_access.specs.declared.policy.Check.{Check}
 use Rattle.iv_access.specs.declared.privilege.Privilege.{Privilege}
@@ -25,10 +27,10 @@ abbrev pub entry_of : Placed → Entry
 entry_of p = record { rel = p.name; op = p.op; copies = p.copies }
 
 -- the number is that of the name, and that of a table
-pub record IsPlaced (f : Frame) (tables : ℕ) (p : Placed) : Type 0 where
+pub record IsPlaced (f : Frame) (p : Placed) : Type 0 where
   pub number : rel_of f.catalog p.name ≡ p.rel
   pub name : name_of f.catalog p.rel ≡ p.name
-  pub below : p.rel < tables
+  pub table : is_some (schema_of f.catalog p.rel) ≡ true
 
 -- the privileges that it needs, on its table
 abbrev pub needs_of : Placed → List (Privilege × ℕ)
@@ -38,9 +40,9 @@ needs_of p = map (λ x. (x, p.rel)) (privileges_for p.op)
 abbrev pub first_of : (Check × List Cell → Option Refusal) → List (Check × Bor (List Cell)) → Option Refusal
 first_of f tests = first (map (λ t. f (t.0, t.1.now)) tests)
 
--- whether the rows that it removes are there, in the bags with the sums
-abbrev pub IsFound : Placed → List Change → List Weighed → Bool → Type 0
-IsFound p sums bags found = (V : Lists) → LeadTo sums bags V → found ≡ is_present p.op p.copies (V p.rel)
+-- whether the rows that it removes are there, in the tables with the sums
+abbrev pub IsFound : Placed → List Change → List Table → Bool → Type 0
+IsFound p sums tables found = (V : Lists) → LeadTo sums tables V → found ≡ is_present p.op p.copies (V p.rel)
 
 -- what it adds is added to the sums of its table
 abbrev pub IsGathered : Placed → (old new : List Change) → Type 0

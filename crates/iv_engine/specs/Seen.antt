@@ -1,25 +1,24 @@
 -- What contracts see of an engine, and the machine's states that stand behind it.
-use Rattle.std.specs.Prelude.{◌≡◌, ℕ, ◌==◌, Bool, false, List, [], ◌∷◌}
-use Rattle.std.specs.List.{All, list_any}
-use Rattle.iv_rows.specs.Cell.{Cell}
-use Rattle.iv_zset.specs.Weights.{Weighed}
+use Rattle.std.specs.Prelude.{◌≡◌, ℕ, Bool, List, [], ◌∷◌}
+use Rattle.std.specs.List.{All}
+use Rattle.iv_algebra.specs.declared.tables.Table.{Table}
 use Rattle.iv_machine.specs.Act.{Command, Line, Refusal, refused, reply}
-use Rattle.iv_machine.specs.Held.{closed, held}
-use Rattle.iv_machine.specs.Machine.{run, step, weight}
+use Rattle.iv_machine.specs.Machine.{run, step}
+use Rattle.iv_machine.specs.Reached.{LinesAddUp}
 use Rattle.iv_machine.specs.Readers.{ShowsKnownRows}
-use Rattle.iv_machine.specs.State.{Frame, State, shown}
+use Rattle.iv_machine.specs.State.{Frame, State}
 use Rattle.iv_engine.specs.Stands.{Stands}
 
--- all but the rows, a bag of rows for each table, and whether the engine has failed
+-- all but the rows, the tables with their rows, and whether the engine has failed
 pub record Seen : Type 0 where
   pub frame : Frame
-  pub bags : List Weighed
+  pub tables : List Table
   pub failed : Bool
 
 -- the state is the engine's, but for the order of rows in its lists
 pub record IsBehind (s : State) (e : Seen) : Type 0 where
   pub frame : s.frame ≡ e.frame
-  pub rows : Stands s.rows e.bags
+  pub rows : Stands s.rows e.tables
 
 -- the rows of a subscription to a table are known: a change has rows that it showed before or that its reader may see
 -- now, and a last line takes back all that it showed
@@ -47,9 +46,5 @@ ChangesWhereAccepted old lines new = (n : ℕ) (r : Refusal) → lines ≡ reply
 
 -- for each subscription that its reader did not close the lines add up to what it shows after the commands, minus what
 -- it showed before
-abbrev pub LinesAddUp : State → List Command → List Line → Type 0
-LinesAddUp s cs lines = (k : ℕ) (q : List Cell) → list_any (λ j. k == j) (closed s cs) ≡ false
-    → held k q lines ≡ weight (shown s k) (shown (run s cs).state k) q
-
 abbrev pub LinesAddUpBehind : Seen → List Command → List Line → Type 0
 LinesAddUpBehind e cs lines = (s : State) → IsBehind s e → LinesAddUp s cs lines

@@ -1,5 +1,5 @@
--- What the entries of a write add to tables, and what that makes of their bags.
-use Rattle.std.specs.Prelude.{◌≡◌, ℕ, zero, suc, ◌*◌, ◌^◌, ◌<◌, ◌≤◌, ◌==◌, ℤ, pos, ◌+ℤ◌, ◌≤ℤ◌, true, false, List, [], ◌∷◌, ◌++◌, length, Option, None, Some}
+-- What the entries of a write add to tables, and what that makes of them.
+use Rattle.std.specs.Prelude.{◌≡◌, ℕ, zero, suc, ◌*◌, ◌^◌, ◌≤◌, ◌==◌, ℤ, pos, ◌+ℤ◌, ◌≤ℤ◌, true, false, List, [], ◌∷◌, ◌++◌, Option, None, Some}
 use Rattle.std.specs.Global.{Vec}
 use Rattle.std.specs.List.{list_any}
 use Rattle.iv_rows.specs.Cell.{Cell}
@@ -7,14 +7,17 @@ use Rattle.iv_zset.specs.Limits.{Counts}
 use Rattle.iv_zset.specs.Support.{rows_in}
 use Rattle.iv_zset.specs.Weights.{Weighed, weight_of, SameZ, AllInRange, IsOutOfRange, IsZSet}
 use Rattle.iv_algebra.specs.Plans.{Lists}
+use Rattle.iv_algebra.specs.declared.tables.Table.{Table}
+use Rattle.iv_algebra.specs.Contents.{heads_of, rows_of}
 use Rattle.iv_machine.specs.Machine.{difference, weight}
 use Rattle.iv_engine.specs.Changes.{Change, change_at}
-use Rattle.iv_engine.specs.Stands.{bag_at}
+use Rattle.iv_engine.specs.Kept.{cap}
+use Rattle.iv_engine.specs.Stands.{HasTable}
 
--- each is of one of so many tables, and no two are of one
-abbrev pub AreTables : ℕ → List Change → Type 0
+-- each is of one of the tables, and no two are of one
+abbrev pub AreTables : List Table → List Change → Type 0
 AreTables tables [] = Unit {0}
-AreTables tables (c ∷ cs) = (c.rel < tables) × (list_any (λ d. c.rel == d.rel) cs ≡ false) × AreTables tables cs
+AreTables tables (c ∷ cs) = HasTable tables c.rel × (list_any (λ d. c.rel == d.rel) cs ≡ false) × AreTables tables cs
 
 -- the first of table t stands at the place
 abbrev pub IsFirst : List Change → ℕ → ℕ → Type 0
@@ -30,9 +33,9 @@ AreSmall n es = (q : List Cell) → (pos 0 ≤ℤ (weight_of es q +ℤ pos (n * 
 abbrev pub AreCopies : ℤ → Type 0
 AreCopies c = (pos 0 ≤ℤ c) × (c ≤ℤ pos (2 ^ 63))
 
--- the bags with the changes are those of the lists U
-abbrev pub LeadTo : List Change → List Weighed → Lists → Type 0
-LeadTo changes bags U = (t : ℕ) → Counts (change_at changes t ++ bag_at bags t) (U t)
+-- the tables with the changes are those of the lists U
+abbrev pub LeadTo : List Change → List Table → Lists → Type 0
+LeadTo changes tables U = (t : ℕ) → Counts (change_at changes t ++ rows_of tables t) (U t)
 
 -- a net change: each row once, in rising order, with its weight, which is not 0
 pub record IsNet (rows : Weighed) : Type 0 where
@@ -45,22 +48,22 @@ IsFinished s None = IsOutOfRange s.rows
 IsFinished s (Some c) = (c.rel ≡ s.rel) × SameZ c.rows s.rows × IsNet c.rows
 
 -- the net changes of the sums of tables
-pub record AreNet (tables : ℕ) (sums changes : List Change) : Type 0 where
+pub record AreNet (tables : List Table) (sums changes : List Change) : Type 0 where
   pub tables_are : AreTables tables changes
   pub same : (t : ℕ) → SameZ (change_at changes t) (change_at sums t)
   pub net : (t : ℕ) → IsNet (change_at changes t)
 
-abbrev pub AreFinished : ℕ → List Change → Option (Vec Change) → Type 0
-AreFinished tables sums None = (t : ℕ) × (t < tables) × IsOutOfRange (change_at sums t)
+abbrev pub AreFinished : List Table → List Change → Option (Vec Change) → Type 0
+AreFinished tables sums None = (t : ℕ) × HasTable tables t × IsOutOfRange (change_at sums t)
 AreFinished tables sums (Some changes) = AreNet tables sums changes.items
 
 -- a bag with its change can be stored, with at most 65,536 rows
 pub record KeepsLimits (bag change : Weighed) : Type 0 where
   pub in_range : AllInRange (change ++ bag)
-  pub few : rows_in (change ++ bag) ≤ 65536
+  pub few : rows_in (change ++ bag) ≤ cap
 
--- each bag has become its sum with its change
-pub record AreAdded (old : List Weighed) (changes : List Change) (new : List Weighed) : Type 0 where
-  pub tables : length new ≡ length old
-  pub zsets : (t : ℕ) → IsZSet (bag_at new t)
-  pub sums : (t : ℕ) → SameZ (bag_at new t) (change_at changes t ++ bag_at old t)
+-- the rows of each table have become their sum with its change
+pub record AreAdded (old : List Table) (changes : List Change) (new : List Table) : Type 0 where
+  pub heads : (t : ℕ) → heads_of new t ≡ heads_of old t
+  pub zsets : (t : ℕ) → IsZSet (rows_of new t)
+  pub sums : (t : ℕ) → SameZ (rows_of new t) (change_at changes t ++ rows_of old t)

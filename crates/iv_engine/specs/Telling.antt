@@ -1,16 +1,14 @@
 -- Which refusal a refused change of rights is.
-use Rattle.std.specs.Prelude.{◌≡◌, ◌≢◌, ◌⊎◌, ℕ, List, [], ◌∷◌, ◌++◌, Option, Some, None, Result, Ok, Err, length, true}
+use Rattle.std.specs.Prelude.{◌≡◌, ◌≢◌, ◌⊎◌, ℕ, List, Option, Some, None, Result, Ok, Err, true}
 use Rattle.iv_rows.specs.Columns.{Column}
-use Rattle.iv_rows.specs.declared.value.Kind.{Kind}
-use Rattle.iv_bind.specs.Catalogs.{Table, extended}
-use Rattle.iv_access.specs.Changing.{with_relation}
+use Rattle.iv_bind.specs.Catalogs.{Table}
 use Rattle.iv_access.specs.Faults.{add_relation_fault}
-use Rattle.iv_access.specs.Known.{role_number}
 use Rattle.iv_access.specs.Rights.{Name}
 use Rattle.iv_access.specs.declared.fault.AccessFault.{AccessFault}
 use Rattle.iv_access.specs.declared.fault.AccessFault.TheVariants as fault
 use Rattle.iv_machine.specs.Act.{Refusal, unknown_role, name_taken, not_administrator, not_owner, unknown_policy, too_many}
 use Rattle.iv_engine.specs.Kept.{Kept}
+use Rattle.iv_engine.specs.Next.{with_relation_of}
 
 -- want of memory is no refusal
 abbrev pub told : AccessFault → Name → Option Refusal
@@ -28,15 +26,7 @@ IsTold (Ok u) rel r = r ≡ None
 IsTold (Err f) rel r = (f ≢ fault.Memory) × (r ≡ told f rel)
 
 -- a table was added, or why not
-abbrev pub IsAdded : Kept → ℕ → Name → Name → List Kind → List Column → Result Unit AccessFault → Kept → Type 0
-IsAdded e acting name owner kinds columns (Ok u) new =
-    (add_relation_fault e.known acting name owner true ≡ None)
-    × (new ≡ record e {
-      known = record {
-        relations = e.known.relations ++ record { name = name; kinds = Some kinds } ∷ [];
-        rights = with_relation (role_number e.known.rights owner) e.known.rights;
-      };
-      catalog = extended e.catalog name (length e.catalog) (Table columns);
-      bags = e.bags ++ [] ∷ [];
-    })
-IsAdded e acting name owner kinds columns (Err f) new = ((f ≡ fault.Memory) ⊎ (add_relation_fault e.known acting name owner true ≡ Some f)) × (new ≡ e)
+abbrev pub IsAdded : Kept → ℕ → (name owner : Name) → List Column → Result Unit AccessFault → Kept → Type 0
+IsAdded e acting name owner columns (Ok u) new =
+    (add_relation_fault e.known acting name owner true ≡ None) × (new ≡ with_relation_of name owner (Table columns) e)
+IsAdded e acting name owner columns (Err f) new = ((f ≡ fault.Memory) ⊎ (add_relation_fault e.known acting name owner true ≡ Some f)) × (new ≡ e)

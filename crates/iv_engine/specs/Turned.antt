@@ -48,7 +48,7 @@ IsFilter e s f = (row : Cells) → lets_through f row ≡ may_see e.known.rights
 
 -- the bag has the rows that the subscription shows
 abbrev pub IsBagOf : Kept → Subscription → Weighed → Type 0
-IsBagOf e s bag = (T : Lists) → Stands T e.bags → Counts bag (shown_rows e T s)
+IsBagOf e s bag = (T : Lists) → Stands T e.tables → Counts bag (shown_rows e T s)
 
 -- a filter belongs to a table, and a bag to a view
 abbrev pub Suits : Kept → Subscription → Before → Type 0
@@ -94,17 +94,17 @@ IsLimitLine s bag line = (rows : List Cells) → Counts bag rows → line_of lin
 
 -- whether the subscription stays open, and its line, behind those before
 abbrev pub IsTurned : Kept → Subscription → Before → Bool → (old new : List Line) → Type 0
-IsTurned e s b stays old new = (T : Lists) → Stands T e.bags → (rows : List Cells) → Showed e T s b rows
+IsTurned e s b stays old new = (T : Lists) → Stands T e.tables → (rows : List Cells) → Showed e T s b rows
     → (stays ≡ is_within (at e T) s) × (map line_of new ≡ map line_of old ++ turned_line e T s rows)
 
 -- of these subscriptions those that stay open, and the lines
 abbrev pub AreSettled : Kept → List Before → (all kept : List Subscription) → List Line → Type 0
-AreSettled e bs all kept lines = (T : Lists) → Stands T e.bags → (showed : Subscription → List Cells)
+AreSettled e bs all kept lines = (T : Lists) → Stands T e.tables → (showed : Subscription → List Cells)
     → Each (λ s b. Showed e T s b (showed s)) e.subscriptions bs
     → (kept ≡ filter (is_within (at e T)) all) × (map line_of lines ≡ flat_map (λ s. turned_line e T s (showed s)) all)
 
 -- the answer has the lines, and those that stay open are left
-abbrev pub IsTold : Kept → List Before → Answer → Kept → Type 0
-IsTold e bs (Refused r) new = ⊥
-IsTold e bs (Accepted reply lines) new = (reply ≡ Ok) × (new ≡ record e { subscriptions = new.subscriptions })
+abbrev pub AreReadersTold : Kept → List Before → Answer → Kept → Type 0
+AreReadersTold e bs (Refused r) new = ⊥
+AreReadersTold e bs (Accepted reply lines) new = (reply ≡ Ok) × (new ≡ record e { subscriptions = new.subscriptions })
     × AreSettled e bs e.subscriptions new.subscriptions lines.items

@@ -16,7 +16,6 @@ use crate::store::Store;
 use iv_access::{AccessFault, RoleId};
 use iv_bind::{Bound, Catalog, bind};
 use iv_query::read_query;
-use iv_zset::ZSet;
 use std::alloc::{AllocError, Global};
 
 /// What the text of a view is bound to over the catalog.
@@ -71,11 +70,14 @@ impl Store {
         let rel = match self.access.add_relation(acting, name, owner, None) {
             Ok(rel) => rel,
             Err(AccessFault::TooMany) => return Ok(false),
-            // The other tests pass, so that memory ran out.
-            Err(_) => return Err(AllocError),
+            Err(AccessFault::Memory) => return Err(AllocError),
+            Err(AccessFault::NotAdmin) => unreachable!(),
+            Err(AccessFault::Role) => unreachable!(),
+            Err(AccessFault::Taken) => unreachable!(),
+            Err(AccessFault::NotOwner) => unreachable!(),
+            Err(AccessFault::Policy) => unreachable!(),
         };
         self.catalog.add_view(name, rel, bound)?;
-        self.bags.push(ZSet::new(self.alloc))?;
         Ok(true)
     }
 

@@ -31,7 +31,7 @@ impl Model for Engine {
 
     ghost coded = { seen_code };
 
-    ghost view = { λ e. record { frame = frame_of e.store; bags = e.store.bags; failed = e.failed } };
+    ghost view = { λ e. record { frame = frame_of e.store; tables = e.store.tables; failed = e.failed } };
 
     ghost invariant = { λ e. e.failed ≡ false → IsSound e.store };
 }

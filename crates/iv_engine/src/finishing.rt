@@ -3,7 +3,7 @@ ghost use Rattle.std.specs.Prelude.{◌≡◌};
 ghost use Rattle.iv_machine.specs.Act as machine;
 ghost use Rattle.iv_machine.specs.Refusing.{has_subscription};
 ghost use Rattle.iv_engine.specs.Answering.{IsStep};
-ghost use Rattle.iv_engine.specs.Finished.{finished, unsubscribed};
+ghost use Rattle.iv_engine.specs.Finished.{without_session, without_subscription};
 ghost use Rattle.iv_engine.specs.Kept.{IsSound, frame_of};
 
 use crate::answer::Answer;
@@ -13,7 +13,7 @@ use crate::store::Store;
 impl Store {
     /// Takes out the session of the number and its subscriptions.
     fn close_session(&mut self, session: u32)
-        ensures { self.new ≡ finished session self.old }
+        ensures { self.new ≡ without_session session self.old }
     {
         self.sessions.retain(|open| session != open.number);
         self.subscriptions.retain(|open| session != open.session);
@@ -21,7 +21,7 @@ impl Store {
 
     /// Takes out the subscription of the number.
     fn close(&mut self, number: u64)
-        ensures { self.new ≡ unsubscribed number self.old }
+        ensures { self.new ≡ without_subscription number self.old }
     {
         self.subscriptions.retain(|open| number != open.number);
     }

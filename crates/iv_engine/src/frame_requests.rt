@@ -10,11 +10,11 @@ ghost use Rattle.iv_engine.specs.Telling.{IsAdded, IsTold};
 ghost use Rattle.iv_engine.specs.Views.{refusal_of};
 
 use crate::command::Refusal;
+use crate::reading::copy_schema;
 use crate::store::Store;
 use crate::stored::Session;
 use iv_access::{AccessFault, Privilege, RoleId};
 use iv_rows::{Column, Kind, Schema};
-use iv_zset::ZSet;
 use std::alloc::{AllocError, Global};
 
 /// The most sessions that are open at once.
@@ -97,8 +97,7 @@ impl Store {
         let Some(acting) = self.actor(session) else {
             return Ok(Some(Refusal::NoSession));
         };
-        let kinds = kinds(self.alloc, &columns)?;
-        let change = self.add_table(acting, name.as_str(), owner, kinds, columns)?;
+        let change = self.add_table(acting, name.as_str(), owner, columns)?;
         outcome(change, name)
     }
 
@@ -108,13 +107,13 @@ impl Store {
         acting: RoleId,
         name: &str,
         owner: &str,
-        kinds: Vec<Kind>,
         columns: Vec<Column>,
     ) -> Result<Result<(), AccessFault>, AllocError>
         requires columns { (has_columns columns.items && has_distinct_names columns.items) ≡ true }
         requires stored { IsStored self.old }
-        ensures { IfOk result (λ change. IsAdded self.old acting.0 name.now owner.now kinds.items columns.items change self.new) }
+        ensures { IfOk result (λ change. IsAdded self.old acting.0 name.now owner.now columns.items change self.new) }
     {
+        let kinds = kinds(self.alloc, &columns)?;
         let rel = match self.access.add_relation(acting, name, owner, Some(kinds)) {
             Ok(rel) => rel,
             Err(fault) => return Ok(Err(fault)),
@@ -122,8 +121,9 @@ impl Store {
         let Ok(schema) = Schema::try_new(columns) else {
             unreachable!()
         };
+        let columns = copy_schema(self.alloc, &schema)?;
         self.catalog.add_table(name, rel, schema)?;
-        self.bags.push(ZSet::new(self.alloc))?;
+        self.tables.add_table(rel, columns)?;
         Ok(Ok(()))
     }
 

@@ -41,7 +41,7 @@ impl Store {
         acting: RoleId,
         entries: &[Placement],
     ) -> Result<Option<Refusal>, AllocError>
-        requires { AllByRecursion (IsPlaced (frame_of self.now) (length self.now.catalog)) entries.now }
+        requires { AllByRecursion (IsPlaced (frame_of self.now)) entries.now }
         ensures { IfOk result (λ r. option_map refusal_of r ≡ each_entry (entry_privileges (frame_of self.now) acting.0) 1 (map entry_of entries.now)) }
     {
         for entry in entries {
@@ -65,7 +65,7 @@ impl Store {
         test: Check,
         row: &Row,
     ) -> Result<Option<Refusal>, AllocError>
-        requires { IsPlaced (frame_of self.now) (length self.now.catalog) entry.now }
+        requires { IsPlaced (frame_of self.now) entry.now }
         ensures { IfOk result (λ r. option_map refusal_of r ≡ entry_check (frame_of self.now) acting.0 number entry.now.name (test, row.now)) }
     {
         let place = match self.access.check(acting, entry.rel, test, row) {
@@ -98,7 +98,7 @@ impl Store {
         entry: &Placement,
         tests: &[(Check, &Row)],
     ) -> Result<Option<Refusal>, AllocError>
-        requires { IsPlaced (frame_of self.now) (length self.now.catalog) entry.now }
+        requires { IsPlaced (frame_of self.now) entry.now }
         ensures { IfOk result (λ r. option_map refusal_of r ≡ first_of (entry_check (frame_of self.now) acting.0 number entry.now.name) tests.now) }
     {
         for (test, row) in tests {
@@ -117,7 +117,7 @@ impl Store {
         number: usize,
         entry: &Placement,
     ) -> Result<Option<Refusal>, AllocError>
-        requires { IsPlaced (frame_of self.now) (length self.now.catalog) entry.now }
+        requires { IsPlaced (frame_of self.now) entry.now }
         ensures { IfOk result (λ r. option_map refusal_of r ≡ entry_policies (frame_of self.now) acting.0 number (entry_of entry.now)) }
     {
         match &entry.op {
@@ -148,7 +148,7 @@ impl Store {
         acting: RoleId,
         entries: &[Placement],
     ) -> Result<Option<Refusal>, AllocError>
-        requires { AllByRecursion (IsPlaced (frame_of self.now) (length self.now.catalog)) entries.now }
+        requires { AllByRecursion (IsPlaced (frame_of self.now)) entries.now }
         ensures { IfOk result (λ r. option_map refusal_of r ≡ each_entry (entry_policies (frame_of self.now) acting.0) 1 (map entry_of entries.now)) }
     {
         for (place, entry) in entries.iter().enumerate() {

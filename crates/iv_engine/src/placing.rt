@@ -58,7 +58,7 @@ impl Store {
         requires { IsStored self.now }
         ensures ok { OnOk result (entry_shape (frame_of self.now) number entry ≡ None) }
         ensures entry { IfOk result (λ p. entry ≡ entry_of p) }
-        ensures placed { IfOk result (λ p. IsPlaced (frame_of self.now) (length self.now.catalog) p) }
+        ensures placed { IfOk result (λ p. IsPlaced (frame_of self.now) p) }
         ensures refused { IfErr result (λ r. entry_shape (frame_of self.now) number entry ≡ Some (refusal_of r)) }
     {
         let Entry {
@@ -86,7 +86,7 @@ impl Store {
     /// The entries at the numbers of their tables, or the first whose table or rows fail.
     pub fn placed(&self, entries: Vec<Entry>) -> Result<Entries, AllocError>
         requires { IsStored self.now }
-        ensures { IfOk result (λ r. AreEntries (frame_of self.now) (length self.now.catalog) entries.items r) }
+        ensures { IfOk result (λ r. AreEntries (frame_of self.now) entries.items r) }
     {
         let mut placed: Vec<Placement> = Vec::new(self.alloc);
         for entry in entries {

@@ -1,9 +1,9 @@
 //! The requests that change which rows readers see: `row_security`, `create_policy` and `drop_policy`.
-ghost use Rattle.std.specs.Prelude.{◌≡◌, ◌<◌, IfOk, None, is_some, length, map, option_map, string_bytes, true};
+ghost use Rattle.std.specs.Prelude.{◌≡◌, ◌<◌, IfOk, None, OnOk, is_some, length, map, nat_le, option_map, slice_get, string_bytes, true};
 ghost use Rattle.std.specs.List.{list_all};
 ghost use Rattle.iv_access.specs.Changing.{with_security, without_policy};
 ghost use Rattle.iv_access.specs.Faults.{is_grantee};
-ghost use Rattle.iv_access.specs.Policies.{policy_of};
+ghost use Rattle.iv_access.specs.Policies.{policies_of, policy_of};
 ghost use Rattle.iv_access.specs.Privileges.{owns};
 ghost use Rattle.iv_machine.specs.Act as machine;
 ghost use Rattle.iv_engine.specs.Answering.{IsStep};
@@ -15,7 +15,7 @@ use crate::answer::Answer;
 use crate::command::{PolicyText, Refusal};
 use crate::predicates::{Predicates, Stop, bound_texts};
 use crate::store::Store;
-use iv_access::{AccessFault, Policy, RoleId};
+use iv_access::{AccessFault, MOST_POLICIES, Policy, RoleId};
 use iv_rows::RelId;
 use std::alloc::AllocError;
 
@@ -138,21 +138,26 @@ impl Store {
         }
     }
 
-    /// Adds a policy to the table, unless it has as many as it may have: then `false`, and nothing has changed.
-    fn add(&mut self, owned: Owned, policy: Policy) -> Result<bool, AllocError>
+    /// Whether the table has as many policies as it may have.
+    fn has_most_policies(&self, table: RelId) -> bool
+        ensures { result ≡ nat_le 32 (length (policies_of (slice_get self.now.known.rights.guards table.0))) }
+    {
+        self.access.policies(table) >= MOST_POLICIES
+    }
+
+    /// Adds a policy to the table.
+    fn add(&mut self, owned: Owned, policy: Policy) -> Result<(), AllocError>
         requires below { owned.table.0 < length self.old.known.rights.guards }
         requires owns { owns self.old.known.rights owned.acting.0 owned.table.0 ≡ true }
         requires names { named_tests self.old.known.rights owned.table.0 policy.name policy.to ≡ None }
-        ensures room { IfOk result (λ added. added ≡ has_room self.old.known.rights owned.table.0) }
-        ensures state { IfOk result (λ added. self.new ≡ with_asked owned.table.0 policy added self.old) }
+        requires room { has_room self.old.known.rights owned.table.0 ≡ true }
+        ensures { OnOk result (self.new ≡ with_asked owned.table.0 policy self.old) }
     {
         match self.access.create_policy(owned.acting, owned.table, policy) {
-            Ok(()) => {}
-            Err(AccessFault::TooMany) => return Ok(false),
-            Err(AccessFault::Memory) => return Err(AllocError),
+            Ok(()) => Ok(()),
+            Err(AccessFault::Memory) => Err(AllocError),
             Err(_) => unreachable!(),
         }
-        Ok(true)
     }
 
     /// Switches row security of a table, and tells readers of it and of views over it what they see more and less.
@@ -186,10 +191,11 @@ impl Store {
             Err(Stop::Refused(refusal)) => return Ok(Answer::Refused(refusal)),
             Err(Stop::Memory) => return Err(AllocError),
         };
-        let before = self.all_before(owned.table)?;
-        if !self.add(owned, asked(policy, predicates))? {
+        if self.has_most_policies(owned.table) {
             return Ok(Answer::Refused(Refusal::TooMany));
         }
+        let before = self.all_before(owned.table)?;
+        self.add(owned, asked(policy, predicates))?;
         self.tell_readers(&before)
     }
 

@@ -56,7 +56,7 @@ impl Store {
         requires stored { IsStored self.now }
         requires open { IsOpen self.now subscription.now }
         requires within { IsWithin self.now subscription.now }
-        ensures { IfOk result (λ line. (T : Lists) → Stands T self.now.bags → line_of line ≡ last_line self.now T subscription.now) }
+        ensures { IfOk result (λ line. (T : Lists) → Stands T self.now.tables → line_of line ≡ last_line self.now T subscription.now) }
     {
         let Some(rows) = self.shown(subscription, true)? else {
             unreachable!()

@@ -8,14 +8,13 @@ ghost use Rattle.iv_engine.specs.Seen.{IsBehind};
 
 use crate::stored::{Session, Subscription, find_session};
 use iv_access::{Access, RoleId};
+use iv_algebra::Tables;
 use iv_bind::Catalog;
 use iv_rows::{RelId, Schema};
-use iv_zset::ZSet;
 use std::alloc::{AllocError, Global};
 use std::marker::Model;
 
-/// Rights, relations, the rows of tables, sessions and subscriptions. A table's rows stand at its number, and
-/// subscriptions in the order of their lines.
+/// Rights, relations, the rows of tables, sessions and subscriptions. Subscriptions stand in the order of their lines.
 #[derive(Drop)]
 pub struct Store {
     pub access: Access,
@@ -23,7 +22,7 @@ pub struct Store {
     pub sessions: Vec<Session>,
     pub subscriptions: Vec<Subscription>,
     pub last: u64,
-    pub bags: Vec<ZSet>,
+    pub tables: Tables,
     pub alloc: Global,
 }
 
@@ -41,7 +40,7 @@ impl Model for Store {
       sessions = s.sessions.items;
       subscriptions = s.subscriptions.items;
       last = s.last;
-      bags = s.bags.items;
+      tables = s.tables;
     } };
 }
 
@@ -57,7 +56,7 @@ impl Store {
             sessions: Vec::new(alloc),
             subscriptions: Vec::new(alloc),
             last: 0,
-            bags: Vec::new(alloc),
+            tables: Tables::new(alloc),
             alloc,
         })
     }

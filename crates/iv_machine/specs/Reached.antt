@@ -3,7 +3,7 @@ use Rattle.std.specs.Prelude.{◌≡◌, ℕ, ◌==◌, ◌≤◌, false, List, 
 use Rattle.std.specs.List.{list_any}
 use Rattle.iv_rows.specs.Cell.{Cell}
 use Rattle.iv_zset.specs.Limits.{copies}
-use Rattle.iv_machine.specs.Act.{Command}
+use Rattle.iv_machine.specs.Act.{Command, Line}
 use Rattle.iv_machine.specs.State.{State, Frame, Subscription, is_open_number, shown, start}
 use Rattle.iv_machine.specs.Machine.{run, weight}
 use Rattle.iv_machine.specs.Held.{held, closed}
@@ -24,9 +24,13 @@ pub record IsReached (f : Frame) : Type 0 where
 
 -- for each subscription that its reader did not close the lines add up to what it shows after the commands, minus what
 -- it showed before
+abbrev pub LinesAddUp : State → List Command → List Line → Type 0
+LinesAddUp s cs lines = (k : ℕ) (q : List Cell) → list_any (λ j. k == j) (closed s cs) ≡ false
+    → held k q lines ≡ weight (shown s k) (shown (run s cs).state k) q
+
+-- the machine's lines do
 abbrev pub AddsUp : State → List Command → Type 0
-AddsUp s cs = let last = run s cs in
-    (k : ℕ) (q : List Cell) → list_any (λ j. k == j) (closed s cs) ≡ false → held k q last.lines ≡ weight (shown s k) (shown last.state k) q
+AddsUp s cs = LinesAddUp s cs (run s cs).lines
 
 -- from the start they add up to what it shows
 abbrev pub AddsUpToView : (cap : ℕ) → List Command → Type 0

@@ -15,20 +15,20 @@ use Rattle.iv_engine.proofs.engine.Engine.apply.Goals as goal
 pub returns-in-Ok-clause-lines : goal.returns-in-Ok-clause-lines
 returns-in-Ok-clause-lines c = λ s b.
     let frame : s.frame ≡ frame_of c.self.inside.store = b.frame ∙ ap (λ (v : Seen). v.frame) (sym c.self.view_is) in
-    let rows = subst (λ (v : Seen). Stands s.rows v.bags) (sym c.self.view_is) b.rows in
+    let rows = subst (λ (v : Seen). Stands s.rows v.tables) (sym c.self.view_is) b.rows in
     c.in-Ok.ensures.lines s.rows rows ∙ ap (λ (f : Frame). (step (record { frame = f; rows = s.rows }) (command_of c.args.command)).lines) (sym frame)
 
 pub returns-in-Ok-clause-state : goal.returns-in-Ok-clause-state
 returns-in-Ok-clause-state c = λ s b.
     let frame : s.frame ≡ frame_of c.self.inside.store = b.frame ∙ ap (λ (v : Seen). v.frame) (sym c.self.view_is) in
-    let rows = subst (λ (v : Seen). Stands s.rows v.bags) (sym c.self.view_is) b.rows in
+    let rows = subst (λ (v : Seen). Stands s.rows v.tables) (sym c.self.view_is) b.rows in
     let behind = subst (λ (f : Frame). IsBehind (step (record { frame = f; rows = s.rows }) (command_of c.args.command)).state (seen c.step.new.self)) (sym frame) (c.in-Ok.ensures.state s.rows rows) in
     record { frame = behind.frame; rows = behind.rows }
 
 pub returns-in-Ok-clause-known_rows : goal.returns-in-Ok-clause-known_rows
 returns-in-Ok-clause-known_rows c = λ s b.
     let frame : s.frame ≡ frame_of c.self.inside.store = b.frame ∙ ap (λ (v : Seen). v.frame) (sym c.self.view_is) in
-    let rows = subst (λ (v : Seen). Stands s.rows v.bags) (sym c.self.view_is) b.rows in
+    let rows = subst (λ (v : Seen). Stands s.rows v.tables) (sym c.self.view_is) b.rows in
     let lines = c.in-Ok.ensures.lines s.rows rows ∙ ap (λ (f : Frame). (step (record { frame = f; rows = s.rows }) (command_of c.args.command)).lines) (sym frame) in
     let reached : IsReached s.frame = subst IsReached (sym b.frame) (c.is_failed.ensures.reached c.if-is_failed.false) in
     subst (All (ShowsKnownRows s (step s (command_of c.args.command)).state)) (sym lines) (step_shows s (command_of c.args.command) reached)

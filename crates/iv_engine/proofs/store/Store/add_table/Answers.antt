@@ -2,6 +2,8 @@ use Rattle.std.proofs.Common.{◌≡◌, ◌∙◌, None, ap, length, subst, tru
 use Rattle.iv_bind.specs.Catalogs.{named, numbered}
 use Rattle.iv_access.specs.Faults.{add_relation_fault}
 use Rattle.iv_engine.specs.Kept.{Kept}
+use Rattle.iv_engine.proofs.Tabled.{free_table}
+use Rattle.iv_algebra.specs.Contents.{table_of}
 use Rattle.iv_engine.proofs.Telling.{free_name, free_number}
 use Rattle.iv_engine.proofs.store.Store.add_table.Goals as goal
 
@@ -16,3 +18,10 @@ pub add_table-requires-clause-number : goal.add_table-requires-clause-number
 add_table-requires-clause-number c =
     ap (λ (v : Kept). numbered v.catalog c.in-Ok.rel.0) c.self.view_is
     ∙ free_number c.args.self.now c.requires.stored c.in-Ok.rel.0 (c.in-Ok.ensures.number ∙ ap (λ (v : Kept). length v.known.relations) c.self.view_is)
+
+pub add_table-requires-2 : goal.add_table-requires-2
+add_table-requires-2 c =
+    let e = c.args.self.now in
+    let k = c.in-Ok.rel.0 in
+    ap (λ (v : Kept). table_of v.tables k) c.self.view_is
+    ∙ free_table e c.requires.stored k (free_number e c.requires.stored k (c.in-Ok.ensures.number ∙ ap (λ (v : Kept). length v.known.relations) c.self.view_is))

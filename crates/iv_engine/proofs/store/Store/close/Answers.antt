@@ -2,12 +2,12 @@ use Rattle.std.proofs.Common.{◌≡◌, ◌==◌, ◌∙◌, ap, rules}
 use Rattle.std.specs.Prelude.{filter, not}
 use Rattle.std.proofs.lemmas.Fn.{filter_same}
 use Rattle.iv_machine.specs.State.{Subscription}
-use Rattle.iv_engine.specs.Finished.{unsubscribed}
+use Rattle.iv_engine.specs.Finished.{without_subscription}
 use Rattle.iv_engine.proofs.store.Store.close.Goals as goal
 
 pub returns : goal.returns
 returns c =
     let x = c.self.inside in
     let after : c.retain.new.self.items ≡ filter (λ (s : Subscription). not (c.args.number == s.number)) x.subscriptions.items = filter_same _ _ _ (λ s b f' k. search rules) _ _ c.retain.ensures.filtered in
-    (λ i. record { known = x.access; catalog = x.catalog; sessions = x.sessions.items; subscriptions = after i; last = x.last; bags = x.bags.items })
-    ∙ ap (unsubscribed c.args.number) c.self.view_is
+    (λ i. record { known = x.access; catalog = x.catalog; sessions = x.sessions.items; subscriptions = after i; last = x.last; tables = x.tables })
+    ∙ ap (without_subscription c.args.number) c.self.view_is

@@ -2,7 +2,7 @@ use Rattle.std.proofs.Common.{◌≡◌, ◌==◌, ◌∙◌, ap, rules}
 use Rattle.std.specs.Prelude.{filter, not}
 use Rattle.std.proofs.lemmas.Fn.{filter_same}
 use Rattle.iv_machine.specs.State.{Session, Subscription}
-use Rattle.iv_engine.specs.Finished.{finished}
+use Rattle.iv_engine.specs.Finished.{without_session}
 use Rattle.iv_engine.proofs.store.Store.close_session.Goals as goal
 
 pub returns : goal.returns
@@ -11,5 +11,5 @@ returns c =
     let n = c.args.session in
     let sessions : c.retain.new.self.items ≡ filter (λ (s : Session). not (n == s.number)) x.sessions.items = filter_same _ _ _ (λ s b f' k. search rules) _ _ c.retain.ensures.filtered in
     let after : c.retain-2.new.self.items ≡ filter (λ (s : Subscription). not (n == s.session)) x.subscriptions.items = filter_same _ _ _ (λ s b f' k. search rules) _ _ c.retain-2.ensures.filtered in
-    (λ i. record { known = x.access; catalog = x.catalog; sessions = sessions i; subscriptions = after i; last = x.last; bags = x.bags.items })
-    ∙ ap (finished n) c.self.view_is
+    (λ i. record { known = x.access; catalog = x.catalog; sessions = sessions i; subscriptions = after i; last = x.last; tables = x.tables })
+    ∙ ap (without_session n) c.self.view_is

@@ -1,8 +1,6 @@
-use Rattle.std.proofs.Common.{◌≡◌, ◌∙◌, ap, subst, ℕ, List}
+use Rattle.std.proofs.Common.{◌≡◌, subst, ℕ, List}
 use Rattle.std.specs.Prelude.{option_map, string_bytes}
 use Rattle.std.proofs.lemmas.Result.{IfOk-weaker}
-use Rattle.iv_rows.specs.Columns.{kinds_of}
-use Rattle.iv_rows.specs.declared.value.Kind.{Kind}
 use Rattle.iv_machine.specs.Act as machine
 use Rattle.iv_machine.specs.Refusing.{frame_refusal}
 use Rattle.iv_engine.specs.Kept.{frame_of}
@@ -18,8 +16,7 @@ returns-clause-refused c = IfOk-weaker c.outcome.result
     (λ r. option_map refusal_of r ≡ frame_refusal (frame_of c.args.self.now) c.args.session (machine.create_table (string_bytes c.args.name) c.args.owner.now c.args.columns.items))
     (λ r t. (added c.args.self.now c.add_table.new.self c.args.session c.in-Some.acting.0 (string_bytes c.args.name) c.args.owner.now c.args.columns.items c.in_ok-change.change (option_map refusal_of r) c.requires.stored
     c.in-Some.ensures t
-    (subst (λ (ks : List Kind). IsAdded c.args.self.now c.in-Some.acting.0 (string_bytes c.args.name) c.args.owner.now ks c.args.columns.items c.in_ok-change.change c.add_table.new.self) (c.in_ok-kinds.ensures ∙ ap kinds_of c.deref.ensures.value)
-    (subst (λ (n : List ℕ). IsAdded c.args.self.now c.in-Some.acting.0 n c.args.owner.now c.in_ok-kinds.kinds.items c.args.columns.items c.in_ok-change.change c.add_table.new.self) c.as_str.ensures.value c.in_ok-change.ensures))).refused) c.outcome.ensures
+    (subst (λ (n : List ℕ). IsAdded c.args.self.now c.in-Some.acting.0 n c.args.owner.now c.args.columns.items c.in_ok-change.change c.add_table.new.self) c.as_str.ensures.value c.in_ok-change.ensures)).refused) c.outcome.ensures
 
 pub returns-clause-state : goal.returns-clause-state
 returns-clause-state c = IfOk-weaker c.outcome.result
@@ -27,5 +24,4 @@ returns-clause-state c = IfOk-weaker c.outcome.result
     (λ r. c.add_table.new.self ≡ next c.args.self.now c.args.session (machine.create_table (string_bytes c.args.name) c.args.owner.now c.args.columns.items))
     (λ r t. (added c.args.self.now c.add_table.new.self c.args.session c.in-Some.acting.0 (string_bytes c.args.name) c.args.owner.now c.args.columns.items c.in_ok-change.change (option_map refusal_of r) c.requires.stored
     c.in-Some.ensures t
-    (subst (λ (ks : List Kind). IsAdded c.args.self.now c.in-Some.acting.0 (string_bytes c.args.name) c.args.owner.now ks c.args.columns.items c.in_ok-change.change c.add_table.new.self) (c.in_ok-kinds.ensures ∙ ap kinds_of c.deref.ensures.value)
-    (subst (λ (n : List ℕ). IsAdded c.args.self.now c.in-Some.acting.0 n c.args.owner.now c.in_ok-kinds.kinds.items c.args.columns.items c.in_ok-change.change c.add_table.new.self) c.as_str.ensures.value c.in_ok-change.ensures))).state) c.outcome.ensures
+    (subst (λ (n : List ℕ). IsAdded c.args.self.now c.in-Some.acting.0 n c.args.owner.now c.args.columns.items c.in_ok-change.change c.add_table.new.self) c.as_str.ensures.value c.in_ok-change.ensures)).state) c.outcome.ensures

@@ -7,7 +7,7 @@ use Rattle.iv_machine.specs.Act.{Refusal, drop_policy}
 use Rattle.iv_engine.specs.Answering.{IsStep}
 use Rattle.iv_engine.specs.Kept.{Kept, IsStored, frame_of}
 use Rattle.iv_engine.specs.Owned.{IsOwned, IsOwner, owner_tests}
-use Rattle.iv_engine.specs.Turned.{Each, IsBefore, IsTold, Suits}
+use Rattle.iv_engine.specs.Turned.{AreReadersTold, Each, IsBefore, Suits}
 use Rattle.iv_engine.specs.Views.{refusal_of}
 use Rattle.iv_engine.specs.declared.command.Refusal.TheVariants.{UnknownPolicy}
 use Rattle.iv_engine.specs.declared.predicates.Stop.{Stop}
@@ -48,8 +48,8 @@ returns c =
     let owner = subst (λ (rel : Name). IsOwner e n rel c.in-Ok.owned) c.as_str.ensures.value c.in-Ok.ensures in
     let all = subst (Each (IsBefore e c.in-Ok.owned.table.0) e.subscriptions) (sym c.deref.ensures.value) c.in_ok-before.ensures in
     let there = sym (ap (λ (o : Option ℕ). is_some o) (c.policy.ensures ∙ ap (λ (v : Kept). policy_of v.known.rights c.in-Ok.owned.table.0 c.args.name.now) c.self.view_is)) ∙ c.if-is_none.ensures in
-    by_told (IsTold c.remove.new.self bs) (IsStep e n (drop_policy name c.args.name.now)) new c.tell_readers.result
-    (λ a told. drop_step e new n name c.args.name.now c.in-Ok.owned bs a c.requires owner there all (subst (λ (v : Kept). IsTold v bs a new) c.remove.ensures told)) c.tell_readers.ensures
+    by_told (AreReadersTold c.remove.new.self bs) (IsStep e n (drop_policy name c.args.name.now)) new c.tell_readers.result
+    (λ a told. drop_step e new n name c.args.name.now c.in-Ok.owned bs a c.requires owner there all (subst (λ (v : Kept). AreReadersTold v bs a new) c.remove.ensures told)) c.tell_readers.ensures
 
 pub returns-then-is_none : goal.returns-then-is_none
 returns-then-is_none c =

@@ -13,4 +13,4 @@ invariant-loop-entry l =
     (goal.iterator-loop-entry).is_finite l.entry-iterator ×
     (each_entry (entry_shape (frame_of l.self)) 1 l.fn.entries.items ≡ each_entry (entry_shape (frame_of l.self)) (length l.placed.items + 1) (into_iter_items l.entry-iterator)) ×
     (l.fn.entries.items ≡ map entry_of l.placed.items ++ into_iter_items l.entry-iterator) ×
-    AllByRecursion (IsPlaced (frame_of l.self) (length l.self.catalog)) l.placed.items
+    AllByRecursion (IsPlaced (frame_of l.self)) l.placed.items

@@ -24,7 +24,7 @@ split-requires-clause-stored c =
     let act = revoke name ps to in
     let passed : frame_refusal (frame_of e) n act ≡ None = sym c.in_ok-refusal.ensures.refused ∙ ap (option_map refusal_of) c.in_default.is in
     let k : Kept = kept_after e n act in
-    let old : Kept = record { known = c.self.inside.access; catalog = c.self.inside.catalog; sessions = c.self.inside.sessions.items; subscriptions = c.self.inside.subscriptions.items; last = c.self.inside.last; bags = c.self.inside.bags.items } in
+    let old : Kept = record { known = c.self.inside.access; catalog = c.self.inside.catalog; sessions = c.self.inside.sessions.items; subscriptions = c.self.inside.subscriptions.items; last = c.self.inside.last; tables = c.self.inside.tables } in
     let was : old ≡ k = c.self.view_is ∙ c.in_ok-refusal.ensures.state ∙ ap (next_by e n act) passed in
     let subs : c.replace-subscriptions.result.items ≡ old.subscriptions = ap (λ v. v.items) c.replace-subscriptions.ensures.value in
     let none = ap (λ v. v.items) c.replace-subscriptions.ensures.after ∙ c.new.ensures.items in
@@ -41,7 +41,7 @@ split-requires-clause-open c =
     let act = revoke name ps to in
     let passed : frame_refusal (frame_of e) n act ≡ None = sym c.in_ok-refusal.ensures.refused ∙ ap (option_map refusal_of) c.in_default.is in
     let k : Kept = kept_after e n act in
-    let old : Kept = record { known = c.self.inside.access; catalog = c.self.inside.catalog; sessions = c.self.inside.sessions.items; subscriptions = c.self.inside.subscriptions.items; last = c.self.inside.last; bags = c.self.inside.bags.items } in
+    let old : Kept = record { known = c.self.inside.access; catalog = c.self.inside.catalog; sessions = c.self.inside.sessions.items; subscriptions = c.self.inside.subscriptions.items; last = c.self.inside.last; tables = c.self.inside.tables } in
     let was : old ≡ k = c.self.view_is ∙ c.in_ok-refusal.ensures.state ∙ ap (next_by e n act) passed in
     let subs : c.replace-subscriptions.result.items ≡ old.subscriptions = ap (λ v. v.items) c.replace-subscriptions.ensures.value in
     let none = ap (λ v. v.items) c.replace-subscriptions.ensures.after ∙ c.new.ensures.items in
@@ -58,7 +58,7 @@ split-requires-clause-within c =
     let act = revoke name ps to in
     let passed : frame_refusal (frame_of e) n act ≡ None = sym c.in_ok-refusal.ensures.refused ∙ ap (option_map refusal_of) c.in_default.is in
     let k : Kept = kept_after e n act in
-    let old : Kept = record { known = c.self.inside.access; catalog = c.self.inside.catalog; sessions = c.self.inside.sessions.items; subscriptions = c.self.inside.subscriptions.items; last = c.self.inside.last; bags = c.self.inside.bags.items } in
+    let old : Kept = record { known = c.self.inside.access; catalog = c.self.inside.catalog; sessions = c.self.inside.sessions.items; subscriptions = c.self.inside.subscriptions.items; last = c.self.inside.last; tables = c.self.inside.tables } in
     let was : old ≡ k = c.self.view_is ∙ c.in_ok-refusal.ensures.state ∙ ap (next_by e n act) passed in
     let subs : c.replace-subscriptions.result.items ≡ old.subscriptions = ap (λ v. v.items) c.replace-subscriptions.ensures.value in
     let none = ap (λ v. v.items) c.replace-subscriptions.ensures.after ∙ c.new.ensures.items in
@@ -75,7 +75,7 @@ returns c =
     let act = revoke name ps to in
     let passed : frame_refusal (frame_of e) n act ≡ None = sym c.in_ok-refusal.ensures.refused ∙ ap (option_map refusal_of) c.in_default.is in
     let k : Kept = kept_after e n act in
-    let old : Kept = record { known = c.self.inside.access; catalog = c.self.inside.catalog; sessions = c.self.inside.sessions.items; subscriptions = c.self.inside.subscriptions.items; last = c.self.inside.last; bags = c.self.inside.bags.items } in
+    let old : Kept = record { known = c.self.inside.access; catalog = c.self.inside.catalog; sessions = c.self.inside.sessions.items; subscriptions = c.self.inside.subscriptions.items; last = c.self.inside.last; tables = c.self.inside.tables } in
     let was : old ≡ k = c.self.view_is ∙ c.in_ok-refusal.ensures.state ∙ ap (next_by e n act) passed in
     let subs : c.replace-subscriptions.result.items ≡ old.subscriptions = ap (λ v. v.items) c.replace-subscriptions.ensures.value in
     let new : Kept = record old { subscriptions = c.in_ok-kept.field-0.kept.items } in
@@ -85,7 +85,7 @@ returns c =
       answer = λ T s. (
         revoked_ready e n name ps to c.requires T s passed,
         refl,
-        c.in_ok-kept.ensures.lines T (subst (Stands T) (sym (ap (λ (v : Kept). v.bags) was)) s) ∙ ap (flat_map (ended_line old T)) subs
+        c.in_ok-kept.ensures.lines T (subst (Stands T) (sym (ap (λ (v : Kept). v.tables) was)) s) ∙ ap (flat_map (ended_line old T)) subs
             ∙ ap (λ (v : Kept). flat_map (ended_line v T) v.subscriptions) was ∙ revoked_sent e n name ps to c.requires T s,
       );
       left = λ T s. subst (λ (t : State). IsBehind t (seen new)) (sym (revoked_left e n name ps to c.requires T s))

@@ -5,7 +5,7 @@ use Rattle.iv_machine.specs.Act.{Refusal, row_security}
 use Rattle.iv_engine.specs.Answering.{IsStep}
 use Rattle.iv_engine.specs.Kept.{Kept, IsStored, frame_of}
 use Rattle.iv_engine.specs.Owned.{IsOwned, IsOwner, owner_tests}
-use Rattle.iv_engine.specs.Turned.{Each, IsBefore, IsTold, Suits}
+use Rattle.iv_engine.specs.Turned.{AreReadersTold, Each, IsBefore, Suits}
 use Rattle.iv_engine.specs.Views.{refusal_of}
 use Rattle.iv_engine.specs.declared.predicates.Stop.{Stop}
 use Rattle.iv_engine.proofs.Guarding.{all_suit, by_told, guarded_stored, security_step}
@@ -42,5 +42,5 @@ returns c =
     let new = c.tell_readers.new.self in
     let owner = subst (λ (rel : Name). IsOwner e n rel c.in-Ok.owned) c.as_str.ensures.value c.in-Ok.ensures in
     let all = subst (Each (IsBefore e c.in-Ok.owned.table.0) e.subscriptions) (sym c.deref.ensures.value) c.in_ok-before.ensures in
-    by_told (IsTold c.switch.new.self bs) (IsStep e n (row_security name c.args.enable c.args.force)) new c.tell_readers.result
-    (λ a told. security_step e new n name c.args.enable c.args.force c.in-Ok.owned bs a c.requires owner all (subst (λ (v : Kept). IsTold v bs a new) c.switch.ensures told)) c.tell_readers.ensures
+    by_told (AreReadersTold c.switch.new.self bs) (IsStep e n (row_security name c.args.enable c.args.force)) new c.tell_readers.result
+    (λ a told. security_step e new n name c.args.enable c.args.force c.in-Ok.owned bs a c.requires owner all (subst (λ (v : Kept). AreReadersTold v bs a new) c.switch.ensures told)) c.tell_readers.ensures

@@ -17,4 +17,4 @@ invariant-loop-subscription l =
     AllByRecursion (IsOpen l.self) (into_iter_items l.subscription-iterator) ×
     AllByRecursion (IsWithin l.self) (into_iter_items l.subscription-iterator) ×
     (l.kept.items ++ filter (may_read l.self) (into_iter_items l.subscription-iterator) ≡ filter (may_read l.self) l.fn.subscriptions.items) ×
-    ((T : Lists) → Stands T l.self.bags → map line_of l.lines.items ++ flat_map (ended_line l.self T) (into_iter_items l.subscription-iterator) ≡ flat_map (ended_line l.self T) l.fn.subscriptions.items)
+    ((T : Lists) → Stands T l.self.tables → map line_of l.lines.items ++ flat_map (ended_line l.self T) (into_iter_items l.subscription-iterator) ≡ flat_map (ended_line l.self T) l.fn.subscriptions.items)

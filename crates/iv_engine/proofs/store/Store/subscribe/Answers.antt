@@ -23,9 +23,9 @@ returns c =
     let s : ℕ → Subscription = λ m. record { session = n; number = m + 1; rel = k } in
     let shown = subst (λ m. IsShownBy e (s m) false (Some c.in-Some.rows)) last (subst (IsShownBy e (s c.self.inside.last) false) c.in-Some.is c.in_ok-rows.ensures) in
     let fits : IsWithin e (asked e n k) = λ T stands. (shown T stands).0 in
-    let after : Kept = record { known = c.self.inside.access; catalog = c.self.inside.catalog; sessions = c.self.inside.sessions.items; subscriptions = c.insert.new.subscriptions.items; last = c.self.inside.last + 1; bags = c.self.inside.bags.items } in
+    let after : Kept = record { known = c.self.inside.access; catalog = c.self.inside.catalog; sessions = c.self.inside.sessions.items; subscriptions = c.insert.new.subscriptions.items; last = c.self.inside.last + 1; tables = c.self.inside.tables } in
     let new : opened e (s e.last) (e.last + 1) ≡ after =
-    sym ((λ i. record { known = c.self.inside.access; catalog = c.self.inside.catalog; sessions = c.self.inside.sessions.items; subscriptions = c.in_ok-insert.ensures i; last = c.self.inside.last + 1; bags = c.self.inside.bags.items }) ∙ ap (λ (v : Kept). opened v (s v.last) (v.last + 1)) c.self.view_is) in
+    sym ((λ i. record { known = c.self.inside.access; catalog = c.self.inside.catalog; sessions = c.self.inside.sessions.items; subscriptions = c.in_ok-insert.ensures i; last = c.self.inside.last + 1; tables = c.self.inside.tables }) ∙ ap (λ (v : Kept). opened v (s v.last) (v.last + 1)) c.self.view_is) in
     record {
       answer = λ T stands. (
         decided e n k name x T (fits T stands),
