@@ -6,6 +6,7 @@ pub mod Each
 pub mod Joining
 pub mod Known
 pub mod Members
+pub mod Parting
 pub mod Ran
 pub mod Reading
 pub mod Sums

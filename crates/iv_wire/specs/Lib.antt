@@ -5,9 +5,11 @@ pub mod Calls
 pub mod Cut
 pub mod Endings
 pub mod Names
+pub mod Parts
 pub mod Ran
 pub mod Reads
 pub mod Request
 pub mod Sums
 pub mod Texts
+pub mod Tokens
 pub mod Worked

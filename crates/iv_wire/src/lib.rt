@@ -1,7 +1,9 @@
 //! Bytes in, bytes out: lines of JSON through an engine.
 #![tactic(auto)]
 
+mod answers;
 mod calls;
+mod changes;
 mod columns;
 mod ends;
 mod entries;
@@ -17,9 +19,9 @@ mod std_ends;
 mod texts;
 mod watched;
 
+pub use answers::write_line;
 pub use ends::{EndFault, Sink, Source, write_all};
 pub use lines::{End, RunFault};
 pub use requests::{WireFault, read_line};
 pub use running::run;
 pub use std_ends::{FromRead, FromWrite};
-pub use texts::write_line;

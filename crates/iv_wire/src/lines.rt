@@ -5,11 +5,8 @@ ghost use Rattle.iv_wire.specs.Ahead.{known};
 ghost use Rattle.iv_wire.specs.Reads.{IsCut, IsCutShort, is_read};
 
 use crate::ends::Source;
-use crate::room::Room;
+use crate::room::{LINE_ROOM, Room};
 use std::alloc::{AllocError, AllocFailed, Global};
-
-/// The bytes of the longest line, with its newline.
-const LINE_ROOM: u32 = 65_537;
 
 /// How a run ends.
 #[derive(Clone, Copy, Debug, PartialEq, Eq)]
@@ -81,21 +78,18 @@ pub fn next_line<R: Source>(
     ensures reads { R.reads reader.new ≤ R.reads reader.old + line_room }
 {
     let mut line = Vec::new(alloc);
-    for _ in 0..LINE_ROOM {
-        match room.next_byte(reader) {
-            Err(_) => return Err(RunFault::Read),
-            Ok(None) => {
-                if line.is_empty() {
-                    return Ok(Next::Nothing);
-                }
-                return Ok(Next::Line(line));
+    while line.len() < LINE_ROOM {
+        if room.fill(reader).is_err() {
+            return Err(RunFault::Read);
+        }
+        if room.is_empty() {
+            if line.is_empty() {
+                return Ok(Next::Nothing);
             }
-            Ok(Some(byte)) => {
-                if byte == b'\n' {
-                    return Ok(Next::Line(line));
-                }
-                line.push(byte)?;
-            }
+            return Ok(Next::Line(line));
+        }
+        if room.take_part(&mut line)? {
+            return Ok(Next::Line(line));
         }
     }
     Ok(Next::Endless)

@@ -1,11 +1,15 @@
 //! Bytes that are read before they are asked for.
-ghost use Rattle.std.specs.Prelude.{◌≡◌, ◌≤◌, ◌<◌, ◌+◌, ◌||◌, ◌∷◌, [], IfOk, OnOk, OnErr, is_err};
+ghost use Rattle.std.specs.Prelude.{◌≡◌, ◌≤◌, ◌<◌, ◌+◌, ◌||◌, ◌==◌, [], true, false, length, position, IfOk, OnOk, OnErr, is_err};
 ghost use Rattle.std.specs.Io.KnownBytes.{Keeps, IsAtEnd};
 
 use crate::ends::{EndFault, Source};
+use std::alloc::AllocError;
 
 /// How many bytes are read at most at a time.
 const ROOM: usize = 4096;
+
+/// The bytes of the longest line, with its newline.
+pub const LINE_ROOM: usize = 65_537;
 
 /// Bytes that were read and not taken yet.
 #[derive(Drop)]
@@ -18,7 +22,8 @@ pub struct Room {
 }
 
 impl Room {
-    ghost use Rattle.iv_wire.specs.Ahead.{ahead, known, TakesByte};
+    ghost use Rattle.iv_wire.specs.Ahead.{ahead, known, TakesPart};
+    ghost use Rattle.iv_wire.specs.Cut.{line_room};
 
     pub fn new() -> Room
         ensures { ahead result ≡ [] }
@@ -31,12 +36,12 @@ impl Room {
     }
 
     /// Reads again, where all was taken.
+    #[tactic(auto, using(crate::proofs::Ahead::ahead_empty))]
     fn refill<R: Source>(&mut self, reader: &mut R) -> Result<(), EndFault>
         requires { self.old.at ≡ self.old.filled }
         ensures ok { OnOk result (Keeps (R.left reader.old) (known self.new (R.left reader.new))) }
-        ensures end { OnOk result (self.new.at ≡ self.new.filled → IsAtEnd (R.left reader.new)) }
+        ensures end { OnOk result (ahead self.new ≡ [] → IsAtEnd (R.left reader.new)) }
         ensures err { OnErr result (Keeps (R.left reader.old) (R.left reader.new)) }
-        ensures empty { OnErr result (self.new.at ≡ self.new.filled) }
         ensures failed { R.has_failed reader.new ≡ (R.has_failed reader.old || is_err result) }
         ensures counted { R.reads reader.new ≤ R.reads reader.old + 1 }
     {
@@ -46,34 +51,55 @@ impl Room {
         Ok(())
     }
 
-    /// Takes the first byte ahead.
-    #[tactic(auto, using(crate::proofs::Ahead::ahead_cons))]
-    fn take(&mut self) -> u8
-        requires { self.old.at < self.old.filled }
-        ensures { ahead self.old ≡ result ∷ ahead self.new }
-    {
-        let byte = self.bytes[self.at];
-        self.at += 1;
-        byte
-    }
-
-    /// The next byte, if one is left.
-    #[tactic(auto, using(crate::proofs::Ahead::ahead_none, crate::proofs::Ahead::taken, crate::proofs::Ahead::taken_behind, crate::proofs::Ahead::kept_behind))]
-    pub fn next_byte<R: Source>(&mut self, reader: &mut R) -> Result<Option<u8>, EndFault>
-        ensures byte { IfOk result (λ b. TakesByte (known self.old (R.left reader.old)) b (known self.new (R.left reader.new))) }
-        ensures fault { OnErr result (Keeps (known self.old (R.left reader.old)) (R.left reader.new)) }
+    /// Reads again, unless something is ahead. Nothing is ahead then only where no byte is left.
+    pub fn fill<R: Source>(&mut self, reader: &mut R) -> Result<(), EndFault>
+        ensures ok { OnOk result (Keeps (known self.old (R.left reader.old)) (known self.new (R.left reader.new))) }
+        ensures end { OnOk result (ahead self.new ≡ [] → IsAtEnd (R.left reader.new)) }
+        ensures err { OnErr result (Keeps (known self.old (R.left reader.old)) (R.left reader.new)) }
         ensures failed { R.has_failed reader.new ≡ (R.has_failed reader.old || is_err result) }
         ensures counted { R.reads reader.new ≤ R.reads reader.old + 1 }
     {
         if self.at < self.filled {
-            return Ok(Some(self.take()));
+            return Ok(());
         }
-        if self.refill(reader).is_err() {
-            return Err(EndFault);
-        }
-        if self.at < self.filled {
-            return Ok(Some(self.take()));
-        }
-        Ok(None)
+        self.refill(reader)
     }
+
+    /// Whether nothing is ahead.
+    pub fn is_empty(&self) -> bool
+        ensures empty { result ≡ true → ahead self.now ≡ [] }
+        ensures some { result ≡ false → 0 < length (ahead self.now) }
+    {
+        self.at == self.filled
+    }
+
+    /// Moves the bytes ahead to the line, up to a newline, or until the line has 65,537 bytes. Says whether it took a
+    /// newline, which is not moved.
+    pub fn take_part(&mut self, line: &mut Vec<u8>) -> Result<bool, AllocError>
+        requires room { length line.old.items < line_room }
+        requires some { 0 < length (ahead self.old) }
+        ensures { IfOk result (λ ended. TakesPart (ahead self.old) (ahead self.new) line.old.items line.new.items ended) }
+    {
+        let end = self.filled.min(self.at + (LINE_ROOM - line.len()));
+        let part = &self.bytes[self.at..end];
+        match newline(part) {
+            Some(count) => {
+                line.extend_from_slice(&part[..count])?;
+                self.at += count + 1;
+                Ok(true)
+            }
+            None => {
+                line.extend_from_slice(part)?;
+                self.at = end;
+                Ok(false)
+            }
+        }
+    }
+}
+
+/// The place of the first newline.
+fn newline(bytes: &[u8]) -> Option<usize>
+    ensures { result ≡ position (λ b. b == 10) bytes.now }
+{
+    bytes.iter().position(|b| *b == b'\n')
 }

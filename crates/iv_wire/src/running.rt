@@ -14,11 +14,12 @@ ghost use Rattle.iv_wire.specs.Endings.{IsAnswered};
 ghost use Rattle.iv_wire.specs.Ran.{HasRun};
 ghost use Rattle.iv_wire.specs.Sums.{HasWritten};
 
+use crate::answers::write_lines;
 use crate::ends::{Sink, Source, write_all};
 use crate::lines::{End, Next, RunFault, is_blank_line, next_line};
 use crate::requests::{WireFault, read_line};
 use crate::room::Room;
-use crate::texts::{write_fault, write_lines};
+use crate::texts::write_fault;
 use iv_engine::{Command, Engine};
 use std::alloc::{AllocError, Global};
 

@@ -1,54 +1,15 @@
-//! Lines as texts.
-ghost use Rattle.std.specs.Prelude.{◌≡◌, map, flat_map, false, IfOk};
+//! Refusals as texts.
+ghost use Rattle.std.specs.Prelude.{◌≡◌, false, IfOk};
 ghost use Rattle.serde_json.specs.View.{view};
 ghost use Rattle.serde_json.specs.Written.{has_float};
-ghost use Rattle.iv_rows.specs.View.{cell_of, cells_of};
 ghost use Rattle.iv_machine.specs.Act as machine;
-ghost use Rattle.iv_engine.specs.Views.{reason_of, refusal_of, reply_of, line_of};
+ghost use Rattle.iv_engine.specs.Views.{reason_of, refusal_of};
 ghost use Rattle.iv_wire.specs.Texts as texts;
-ghost use Rattle.iv_wire.specs.Texts.{cell_data, row_data, entry_data, rows_data, privilege_text, cause_text, check_text, reading_text, binding_text, reason_text, line_data, line_text, text_of, fault_text};
+ghost use Rattle.iv_wire.specs.Texts.{privilege_text, check_text, reading_text, binding_text, reason_text, line_text, text_of, fault_text};
 
-use iv_engine::{BindWhy, Cause, Check, Line, Privilege, Reason, Refusal, Reply, Why};
-use iv_rows::{Row, Value};
+use iv_engine::{BindWhy, Check, Privilege, Reason, Refusal, Why};
 use serde_json::{Value as Json, json};
 use std::alloc::{AllocError, Global};
-
-fn cell_value(alloc: Global, cell: &Value) -> Result<Json, AllocError>
-    ensures { IfOk result (λ v. view v ≡ cell_data (cell_of cell.now)) }
-{
-    match cell {
-        Value::Int(n) => json!(in alloc; *n),
-        Value::Text(text) => json!(in alloc; text.as_str()),
-        Value::Flag(flag) => json!(in alloc; *flag),
-    }
-}
-
-fn cells_value(alloc: Global, cells: &[Value]) -> Result<Json, AllocError>
-    ensures { IfOk result (λ v. view v ≡ row_data (cells_of cells.now)) }
-{
-    let mut values = Vec::new(alloc);
-    for cell in cells {
-        values.push(cell_value(alloc, cell)?)?;
-    }
-    Ok(Json::from(values))
-}
-
-fn entry_value(alloc: Global, entry: &(Row, i64)) -> Result<Json, AllocError>
-    ensures { IfOk result (λ v. view v ≡ entry_data entry.now) }
-{
-    let row = cells_value(alloc, entry.0.values())?;
-    json!(in alloc; [entry.1, row])
-}
-
-fn rows_value(alloc: Global, rows: &[(Row, i64)]) -> Result<Json, AllocError>
-    ensures { IfOk result (λ v. view v ≡ rows_data rows.now) }
-{
-    let mut values = Vec::new(alloc);
-    for entry in rows {
-        values.push(entry_value(alloc, entry)?)?;
-    }
-    Ok(Json::from(values))
-}
 
 fn privilege_text(privilege: Privilege) -> &'static str
     ensures { result.now ≡ privilege_text privilege }
@@ -58,15 +19,6 @@ fn privilege_text(privilege: Privilege) -> &'static str
         Privilege::Insert => "insert",
         Privilege::Update => "update",
         Privilege::Delete => "delete",
-    }
-}
-
-fn cause_text(cause: Cause) -> &'static str
-    ensures { result.now ≡ cause_text cause }
-{
-    match cause {
-        Cause::Privilege => "privilege",
-        Cause::Limit => "limit",
     }
 }
 
@@ -230,57 +182,6 @@ fn refused_value(alloc: Global, session: u32, refusal: &Refusal) -> Result<Json,
     }
 }
 
-fn reply_value(alloc: Global, session: u32, reply: &Reply) -> Result<Json, AllocError>
-    ensures { IfOk result (λ v. view v ≡ texts.reply_data session (reply_of reply.now)) }
-{
-    match reply {
-        Reply::Ok => json!(in alloc; {"ok": true, "session": session}),
-        Reply::Subscribed(sub) => { json!(in alloc; {"ok": true, "session": session, "sub": *sub}) }
-        Reply::Refused(refusal) => refused_value(alloc, session, refusal),
-    }
-}
-
-fn change_value(
-    alloc: Global,
-    session: u32,
-    sub: u64,
-    rows: &[(Row, i64)],
-) -> Result<Json, AllocError>
-    ensures { IfOk result (λ v. view v ≡ texts.change_data session sub rows.now) }
-{
-    let changes = rows_value(alloc, rows)?;
-    json!(in alloc; {"changes": changes, "session": session, "sub": sub})
-}
-
-fn ended_value(
-    alloc: Global,
-    session: u32,
-    sub: u64,
-    cause: Cause,
-    rows: &[(Row, i64)],
-) -> Result<Json, AllocError>
-    ensures { IfOk result (λ v. view v ≡ texts.ended_data session sub cause rows.now) }
-{
-    let changes = rows_value(alloc, rows)?;
-    let cause = cause_text(cause);
-    json!(in alloc; {"changes": changes, "ended": cause, "session": session, "sub": sub})
-}
-
-fn line_value(alloc: Global, line: &Line) -> Result<Json, AllocError>
-    ensures { IfOk result (λ v. view v ≡ line_data (line_of line.now)) }
-{
-    match line {
-        Line::Reply { session, reply } => reply_value(alloc, *session, reply),
-        Line::Change { session, sub, rows } => change_value(alloc, *session, *sub, rows),
-        Line::Ended {
-            session,
-            sub,
-            cause,
-            rows,
-        } => ended_value(alloc, *session, *sub, *cause, rows),
-    }
-}
-
 /// The compact text of a value, with a newline.
 fn text_of(alloc: Global, value: &Json) -> Result<Vec<u8>, AllocError>
     ensures { IfOk result (λ text. has_float (view value.now) ≡ false → text.items ≡ text_of (view value.now)) }
@@ -290,29 +191,12 @@ fn text_of(alloc: Global, value: &Json) -> Result<Vec<u8>, AllocError>
     Ok(text)
 }
 
-/// The text of a line, with its newline.
-///
-/// # Errors
-/// `AllocError` where a growth of memory was refused.
-///
-/// Source: RFC 8259, compact, keys in the order of their bytes.
-pub fn write_line(alloc: Global, line: &Line) -> Result<Vec<u8>, AllocError>
-    ensures { IfOk result (λ text. text.items ≡ line_text (line_of line.now)) }
+/// The text of a refusal, with its newline.
+pub fn write_refusal(alloc: Global, session: u32, refusal: &Refusal) -> Result<Vec<u8>, AllocError>
+    ensures { IfOk result (λ text. text.items ≡ line_text (machine.reply session (machine.refused (refusal_of refusal.now)))) }
 {
-    let value = line_value(alloc, line)?;
+    let value = refused_value(alloc, session, refusal)?;
     text_of(alloc, &value)
-}
-
-/// The texts of the lines of a command.
-pub fn write_lines(alloc: Global, lines: &[Line]) -> Result<Vec<u8>, AllocError>
-    ensures { IfOk result (λ text. text.items ≡ flat_map line_text (map line_of lines.now)) }
-{
-    let mut text = Vec::new(alloc);
-    for line in lines {
-        let part = write_line(alloc, line)?;
-        text.extend_from_slice(&part)?;
-    }
-    Ok(text)
 }
 
 fn fault_value(alloc: Global, number: u64) -> Result<Json, AllocError>

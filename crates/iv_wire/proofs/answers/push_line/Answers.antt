@@ -1,0 +1,20 @@
+use Rattle.std.proofs.Common.{◌∙◌, sym, ap}
+use Rattle.iv_engine.specs.Views.{line_of}
+use Rattle.iv_engine.specs.declared.command.Line.{Line}
+use Rattle.iv_wire.specs.Parts.{change_text, ended_text}
+use Rattle.iv_wire.specs.Texts.{line_text, rows_data}
+use Rattle.serde_json.specs.Written.{compact_text}
+use Rattle.iv_wire.proofs.Parting.{then_same, change_line_text, ended_line_text}
+use Rattle.iv_wire.proofs.answers.push_line.Goals as goal
+
+pub returns-in_ok-write-in-Change-clause-text : goal.returns-in_ok-write-in-Change-clause-text
+returns-in_ok-write-in-Change-clause-text c =
+    let rows = c.deref-in-Change.ensures.value ∙ (c.in_ok-write-in-Change.ensures.text ∙ ap (λ es. compact_text (rows_data es)) c.deref.ensures.value) in
+    then_same c.push_change.result c.args.text.now.items _ _ c.push_change.new.text.items c.push_change.ensures
+    (ap (change_text c.in-Change.session c.in-Change.sub) rows ∙ (change_line_text c.in-Change.session c.in-Change.sub c.in-Change.rows.items ∙ ap (λ (l : Line). line_text (line_of l)) (sym c.in-Change.is)))
+
+pub returns-in_ok-write-in-Ended-clause-text : goal.returns-in_ok-write-in-Ended-clause-text
+returns-in_ok-write-in-Ended-clause-text c =
+    let rows = c.deref-in-Ended-2.ensures.value ∙ (c.in_ok-write-in-Ended.ensures.text ∙ ap (λ es. compact_text (rows_data es)) c.deref-in-Ended.ensures.value) in
+    then_same c.push_ended.result c.args.text.now.items _ _ c.push_ended.new.text.items c.push_ended.ensures
+    (ap (ended_text c.in-Ended.session c.in-Ended.sub c.in-Ended.cause) rows ∙ (ended_line_text c.in-Ended.session c.in-Ended.sub c.in-Ended.cause c.in-Ended.rows.items ∙ ap (λ (l : Line). line_text (line_of l)) (sym c.in-Ended.is)))
