@@ -4,8 +4,9 @@ use Rattle.std.proofs.lemmas.Bool.Decides.{nat_tests}
 use Rattle.std.proofs.lemmas.List.{take_all, take_more}
 use Rattle.std.specs.Global.{Vec}
 use Rattle.std.specs.Prelude.{◌==◌, IfOk, Result, Ok, Err, filter, is_some}
-use Rattle.std.specs.List.{list_all}
+use Rattle.std.specs.List.{AllByRecursion, list_all}
 use Rattle.iv_rows.specs.Cell.{Cell}
+use Rattle.iv_zset.specs.Weights.{Weighed}
 use Rattle.iv_access.specs.Policies.{may_see}
 use Rattle.iv_bind.specs.Catalogs as catalogs
 use Rattle.iv_bind.specs.Catalogs.{Entry, Held, table_in, view_in, view_of}
@@ -14,12 +15,13 @@ use Rattle.iv_machine.specs.Machine.{difference, line_of as machine_line}
 use Rattle.iv_machine.specs.Numbered.{AreNumbered}
 use Rattle.iv_machine.specs.State.{Subscription, actor, is_within}
 use Rattle.iv_engine.specs.Changes.{Change, change_at}
-use Rattle.iv_engine.specs.Kept.{Kept, at, frame_of}
+use Rattle.iv_engine.specs.Kept.{IsWithin, IsWithinFor, Kept, at, frame_of}
 use Rattle.iv_engine.specs.Answering.{moved_line}
-use Rattle.iv_engine.specs.Moved.{AreLines, AreLinesFor, IsChangeOf, IsMoved}
+use Rattle.iv_engine.specs.Moved.{AreLines, AreLinesFor, IsChangeOf, IsMore, IsMoved, IsToldTo, shared_rows}
 use Rattle.iv_engine.specs.Views.{line_of}
 use Rattle.iv_engine.specs.declared.command.Line.{Line}
-use Rattle.iv_engine.proofs.Lines.{sends}
+use Rattle.iv_engine.specs.declared.moving.Told.{Told}
+use Rattle.iv_engine.proofs.Lines.{each_at, no_more, sends}
 use Rattle.iv_engine.proofs.Seeing.{difference_filter, seen}
 use Rattle.iv_engine.proofs.Showing.{view_is, view_within}
 use Rattle.iv_engine.proofs.Tables.{IsATable}
@@ -48,26 +50,19 @@ no_view (Some x) s h = by x.held h
 pub table_if_no_view : (catalog : List Entry) (rel : ℕ) → AreNumbered 0 catalog → rel < length catalog → is_some (view_of catalog rel) ≡ false → IsATable catalog rel
 table_if_no_view catalog rel u l h = no_view (catalogs.numbered catalog rel) (numbered_there 0 catalog rel u (omega arith) (omega arith)) h
 
--- ---- of one subscription
+-- ---- of one relation
 
-module _ (e : Kept) (s : Subscription) (changes : List Change) (role rel : ℕ) (r : role ≡ actor (frame_of e) s.session) (k : rel ≡ s.rel) where
-  pub of_view : {E : Type 0} (o : Result (Option (Vec (List Cell × ℤ))) E) → IfOk o (λ rows. IsMoved e role rel changes rows) → IfOk o (λ rows. IsChangeOf e s changes rows)
-  of_view (Ok rows) h = λ T U after.
-      subst (λ x. IsMoved e x s.rel changes rows) r (subst (λ x. IsMoved e role x changes rows) k h) T U after.stands after.lead
+module _ (e : Kept) (role rel : ℕ) (changes : List Change) where
+  pub of_view : {E : Type 0} (o : Result (Option (Vec (List Cell × ℤ))) E) → IfOk o (λ rows. IsMoved e role rel changes rows) → IfOk o (λ rows. IsChangeOf e role rel changes rows)
+  of_view (Ok rows) h = λ T U after. h T U after.stands after.lead
   of_view (Err x) h = tt
 
-  pub of_table : (rows : Vec (List Cell × ℤ)) → IsATable e.catalog s.rel → rows.items ≡ filter (λ x. may_see e.known.rights role rel x.0) (change_at changes rel) → IsChangeOf e s changes (Some rows)
-  of_table rows table is T U after = let reader = actor (frame_of e) s.session in let p = may_see e.known.rights reader s.rel in (
-    view_within e U reader s.rel table (after.tables s.rel),
-    is ∙ (λ i. filter (λ x. may_see e.known.rights (r i) (k i) x.0) (change_at changes (k i)))
-        ∙ ap (seen p) (after.differ s.rel) ∙ sym (difference_filter p (T s.rel) (U s.rel))
-        ∙ (λ i. difference (sym (view_is e T reader s.rel table) i) (sym (view_is e U reader s.rel table) i)),
+  pub of_table : (rows : Weighed) → IsATable e.catalog rel → rows ≡ filter (λ x. may_see e.known.rights role rel x.0) (change_at changes rel) → IsMore e role rel changes rows
+  of_table rows table is T U after = let p = may_see e.known.rights role rel in (
+    view_within e U role rel table (after.tables rel),
+    is ∙ ap (seen p) (after.differ rel) ∙ sym (difference_filter p (T rel) (U rel))
+        ∙ (λ i. difference (sym (view_is e T role rel table) i) (sym (view_is e U role rel table) i)),
   )
-
-  pub of_table_ok : {E : Type 0} (o : Result (Vec (List Cell × ℤ)) E) → IsATable e.catalog s.rel → IfOk o (λ rows. rows.items ≡ filter (λ x. may_see e.known.rights role rel x.0) (change_at changes rel))
-      → IfOk o (λ rows. IsChangeOf e s changes (Some rows))
-  of_table_ok (Ok rows) table is = of_table rows table is
-  of_table_ok (Err x) table is = tt
 
 -- ---- of all subscriptions
 
@@ -103,17 +98,31 @@ module _ (e : Kept) (changes : List Change) (all : List Subscription) (same : al
   item_in : s ≡ get_or e.subscriptions i s
   item_in = subst (λ (xs : List Subscription). s ≡ get_or xs i s) same item
 
-  pub lines_out : IsChangeOf e s changes None → AreLines e changes None
+  pub lines_out : IsToldTo e s changes None → AreLines e changes None
   lines_out h T U after = fails_at (is_within (at e U)) e.subscriptions i s (h T U after) low_in item_in
 
-  pub lines_more : (rows : Vec (List Cell × ℤ)) (old new : Vec Line) → IsChangeOf e s changes (Some rows) → AreLinesFor e changes (take i e.subscriptions) (Some old)
-      → map line_of new.items ≡ map line_of old.items ++ machine_line None s rows.items → AreLinesFor e changes (take (i + 1) e.subscriptions) (Some new)
+  pub lines_more : (rows : Weighed) (old new : Vec Line) → IsMore e (actor (frame_of e) s.session) s.rel changes rows → AreLinesFor e changes (take i e.subscriptions) (Some old)
+      → map line_of new.items ≡ map line_of old.items ++ machine_line None s rows → AreLinesFor e changes (take (i + 1) e.subscriptions) (Some new)
   lines_more rows old new h before more T U after =
       let one = h T U after in
       let so_far = before T U after in (
         all_more (is_within (at e U)) e.subscriptions i s so_far.0 one.0 low_in item_in,
-        sends (moved_line e T U) e.subscriptions i s low_in item_in [] (map line_of old.items) (machine_line None s rows.items) (map line_of new.items) so_far.1 (ap (machine_line None s) one.1) more,
+        sends (moved_line e T U) e.subscriptions i s low_in item_in [] (map line_of old.items) (machine_line None s rows) (map line_of new.items) so_far.1 (ap (machine_line None s) one.1) more,
       )
+
+  -- a subscription to what no change reaches
+  pub lines_same : (k : ℕ) → k ≡ s.rel → ((role : ℕ) → IsWithinFor e role k → IsMore e role k changes []) → AllByRecursion (IsWithin e) e.subscriptions → (lines : Vec Line)
+      → AreLinesFor e changes (take i e.subscriptions) (Some lines) → AreLinesFor e changes (take (i + 1) e.subscriptions) (Some lines)
+  lines_same k rel untouched within lines before = lines_more [] lines lines
+      (subst (λ n. (role : ℕ) → IsWithinFor e role n → IsMore e role n changes []) rel untouched (actor (frame_of e) s.session) (each_at (IsWithin e) e.subscriptions i s within low_in item_in))
+      before (sym (no_more (map line_of lines.items)))
+
+  -- and one that is told rows
+  pub lines_told : (told : Told) (old new : Vec Line) → IsToldTo e s changes (Some told) → AreLinesFor e changes (take i e.subscriptions) (Some old)
+      → map line_of new.items ≡ map line_of old.items ++ machine_line None s (shared_rows told.rows) → AreLinesFor e changes (take (i + 1) e.subscriptions) (Some new)
+  lines_told told old new h before more = lines_more (shared_rows told.rows) old new
+      (subst (λ role. IsMore e role s.rel changes (shared_rows told.rows)) (h.0.reader ∙ ap (actor (frame_of e)) h.1)
+      (subst (λ rel. IsMore e told.role.0 rel changes (shared_rows told.rows)) h.2 h.0.rows)) before more
 
 pub lines_whole : (e : Kept) (changes : List Change) (k : ℕ) (lines : Vec Line) → length e.subscriptions ≤ k → AreLinesFor e changes (take k e.subscriptions) (Some lines) → AreLines e changes (Some lines)
 lines_whole e changes k lines l h = subst (λ ss. AreLinesFor e changes ss (Some lines)) (take_all k e.subscriptions l) h

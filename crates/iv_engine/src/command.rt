@@ -8,6 +8,7 @@ use iv_query::Why;
 use iv_rows::{Column, Row};
 use std::alloc::AllocError;
 use std::marker::Model;
+use std::rc::Rc;
 
 /// A request of a session.
 #[derive(Drop)]
@@ -237,6 +238,9 @@ pub enum Reply {
     Refused(Refusal),
 }
 
+/// Rows with their weights, which several lines may share.
+pub type SharedRows = Rc<Vec<(Row, i64)>>;
+
 /// A line of the answer.
 #[derive(Drop)]
 pub enum Line {
@@ -250,7 +254,7 @@ pub enum Line {
     Change {
         session: u32,
         sub: u64,
-        rows: Vec<(Row, i64)>,
+        rows: SharedRows,
     },
     /// The subscription is ended, and nothing is sent for it again: what its view showed, each row once, in rising
     /// order, with its weight below 0; perhaps no row.

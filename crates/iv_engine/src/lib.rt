@@ -28,7 +28,9 @@ mod turning;
 mod well;
 mod writing;
 
-pub use command::{Act, Command, EngineFault, Entry, Line, Op, PolicyText, Reason, Refusal, Reply};
+pub use command::{
+    Act, Command, EngineFault, Entry, Line, Op, PolicyText, Reason, Refusal, Reply, SharedRows,
+};
 pub use engine::Engine;
 pub use iv_access::{Check, PolicyCommand, Privilege};
 pub use iv_bind::BindWhy;

@@ -77,11 +77,18 @@ fn begins_well(bytes: &[u8]) -> bool
     is_first(bytes[0])
 }
 
+/// Whether the text is the word. Most words differ in their length.
+fn is_word(word: &str, text: &str) -> bool
+    ensures { result ≡ bytes_eq word.now text.now }
+{
+    word.len() == text.len() && word == text
+}
+
 /// Whether the text is one of the words.
 fn is_one_of(words: &[&str], text: &str) -> bool
     ensures { result ≡ list_any (λ word. bytes_eq word.now text.now) words.now }
 {
-    words.iter().any(|word| *word == text)
+    words.iter().any(|word| is_word(word, text))
 }
 
 /// Whether the text is a word that is never a name.

@@ -40,3 +40,9 @@ goes_on f vs xs i v x h e b k =
 -- there are no more
 pub all_read : {X : Type 0} (f : Data → Option X) (vs : List Value) (xs : List X) (i : ℕ) → length vs ≤ i → each f (items_view vs) ≡ behind xs (each f (items_view (drop i vs))) → Some xs ≡ each f (items_view vs)
 all_read f vs xs i h b = sym (b ∙ ap (λ ws. behind xs (each f (items_view ws))) (drop_all i vs h) ∙ ap Some (append-nil xs))
+
+-- the next item, taken out of the list, is x
+pub passes : {X : Type 0} (f : Data → Option X) (all : Option (List X)) (xs : List X) (v : Value) (vs : List Value) (x : X) → all ≡ behind xs (each f (items_view (v ∷ vs))) → Some x ≡ f (view v) → all ≡ behind (xs ++ x ∷ []) (each f (items_view vs))
+passes f all xs v vs x b k =
+    b ∙ ap (λ o. behind xs (option_and_then (λ y. option_map (λ ys. y ∷ ys) (each f (items_view vs))) o)) (sym k)
+    ∙ behind_cons xs x (each f (items_view vs))

@@ -10,5 +10,6 @@ pub mod Parting
 pub mod Ran
 pub mod Reading
 pub mod Sums
+pub mod Taking
 pub mod Well
 pub mod Writing

@@ -1,12 +1,12 @@
 //! The entries of a write, of a JSON value.
 ghost use Rattle.std.specs.Prelude.{◌≡◌, IfOk, Some, None, option_map, option_and_then, codes};
 ghost use Rattle.serde_json.specs.View.{view, items_view};
-ghost use Rattle.serde_json.specs.Find.{get, at};
+ghost use Rattle.serde_json.specs.Find.{get};
 ghost use Rattle.iv_rows.specs.View as iv_rows;
 ghost use Rattle.iv_engine.specs.Entries as entries;
 ghost use Rattle.iv_wire.specs.Request.{cell_of, each, row_of, update_of, op_at, positive_of, copies_at, entry_of, entries_at};
 
-use crate::parts::{count, has, items_at, name_at, positive_of, present, size};
+use crate::parts::{count, has, items_of, positive_of, present, size, take_at, take_name};
 use iv_engine::{Entry, Op};
 use iv_rows::{Row, Value};
 use serde_json::Value as Json;
@@ -16,34 +16,30 @@ use std::alloc::{AllocError, Global};
 const MOST_ENTRIES: usize = 1000;
 
 /// The value of a column that a JSON value is.
-fn cell_of(alloc: Global, value: &Json) -> Result<Option<Value>, AllocError>
-    ensures { IfOk result (λ found. option_map iv_rows.cell_of found ≡ cell_of (view value.now)) }
+fn cell_of(value: Json) -> Option<Value>
+    ensures { option_map iv_rows.cell_of result ≡ cell_of (view value) }
 {
     match value {
-        Json::Bool(flag) => Ok(Some(Value::Flag(*flag))),
+        Json::Bool(flag) => Some(Value::Flag(flag)),
         Json::Number(number) => match number.as_i64() {
-            None => Ok(None),
-            Some(n) => Ok(Some(Value::Int(n))),
+            None => None,
+            Some(n) => Some(Value::Int(n)),
         },
         Json::String(text) => {
-            let found = Value::Text(String::from_str(alloc, text.as_str())?);
-            if found.well() {
-                Ok(Some(found))
-            } else {
-                Ok(None)
-            }
+            let found = Value::Text(text);
+            if found.well() { Some(found) } else { None }
         }
-        _ => Ok(None),
+        _ => None,
     }
 }
 
 /// The row of these values.
-fn cells_of(alloc: Global, items: &[Json]) -> Result<Option<Row>, AllocError>
-    ensures { IfOk result (λ found. found ≡ each cell_of (items_view items.now)) }
+fn cells_of(alloc: Global, items: Vec<Json>) -> Result<Option<Row>, AllocError>
+    ensures { IfOk result (λ found. found ≡ each cell_of (items_view items.items)) }
 {
-    let mut values = Vec::new(alloc);
+    let mut values = Vec::with_capacity(alloc, items.len())?;
     for item in items {
-        match cell_of(alloc, item)? {
+        match cell_of(item) {
             None => return Ok(None),
             Some(value) => values.push(value)?,
         }
@@ -52,68 +48,61 @@ fn cells_of(alloc: Global, items: &[Json]) -> Result<Option<Row>, AllocError>
 }
 
 /// The row that a JSON value is.
-fn row_of(alloc: Global, value: &Json) -> Result<Option<Row>, AllocError>
-    ensures { IfOk result (λ found. found ≡ row_of (view value.now)) }
+fn row_of(alloc: Global, value: Json) -> Result<Option<Row>, AllocError>
+    ensures { IfOk result (λ found. found ≡ row_of (view value)) }
 {
-    match value.as_array() {
+    match items_of(value) {
         None => Ok(None),
         Some(items) => cells_of(alloc, items),
     }
 }
 
-/// The row at a place of a list.
-fn row_in(alloc: Global, value: &Json, place: usize) -> Result<Option<Row>, AllocError>
-    ensures { IfOk result (λ found. found ≡ option_and_then row_of (at place (view value.now))) }
-{
-    match value.get(place) {
-        None => Ok(None),
-        Some(item) => row_of(alloc, item),
-    }
-}
-
 /// The row at a key.
-fn row_at(alloc: Global, value: &Json, key: &str) -> Result<Option<Row>, AllocError>
-    ensures { IfOk result (λ found. found ≡ option_and_then row_of (get key.now (view value.now))) }
+fn row_at(alloc: Global, mut value: Json, key: &str) -> Result<Option<Row>, AllocError>
+    ensures { IfOk result (λ found. found ≡ option_and_then row_of (get key.now (view value))) }
 {
-    match value.get(key) {
+    match take_at(&mut value, key) {
         None => Ok(None),
         Some(item) => row_of(alloc, item),
     }
 }
 
 /// The old and the new row that a JSON value is.
-fn update_of(alloc: Global, value: &Json) -> Result<Option<Op>, AllocError>
-    ensures { IfOk result (λ found. option_map entries.op_of found ≡ update_of (view value.now)) }
+fn update_of(alloc: Global, value: Json) -> Result<Option<Op>, AllocError>
+    ensures { IfOk result (λ found. option_map entries.op_of found ≡ update_of (view value)) }
 {
-    if count(value) != 2 {
+    if count(&value) != 2 {
         return Ok(None);
     }
-    let Some(old) = row_in(alloc, value, 0)? else {
+    let Some(mut items) = items_of(value) else {
         return Ok(None);
     };
-    match row_in(alloc, value, 1)? {
+    let Some(old) = row_of(alloc, items[0].take())? else {
+        return Ok(None);
+    };
+    match row_of(alloc, items[1].take())? {
         None => Ok(None),
         Some(new) => Ok(Some(Op::Update(old, new))),
     }
 }
 
 /// The old and the new row at the key of an update.
-fn update_at(alloc: Global, value: &Json) -> Result<Option<Op>, AllocError>
-    ensures { IfOk result (λ found. option_map entries.op_of found ≡ option_and_then update_of (get (codes "update") (view value.now))) }
+fn update_at(alloc: Global, mut value: Json) -> Result<Option<Op>, AllocError>
+    ensures { IfOk result (λ found. option_map entries.op_of found ≡ option_and_then update_of (get (codes "update") (view value))) }
 {
-    match value.get("update") {
+    match take_at(&mut value, "update") {
         None => Ok(None),
         Some(rows) => update_of(alloc, rows),
     }
 }
 
 /// What an entry does.
-fn op_at(alloc: Global, value: &Json) -> Result<Option<Op>, AllocError>
-    ensures { IfOk result (λ found. option_map entries.op_of found ≡ op_at (view value.now)) }
+fn op_at(alloc: Global, value: Json) -> Result<Option<Op>, AllocError>
+    ensures { IfOk result (λ found. option_map entries.op_of found ≡ op_at (view value)) }
 {
-    if has(value, "insert") {
+    if has(&value, "insert") {
         Ok(row_at(alloc, value, "insert")?.map(Op::Insert))
-    } else if has(value, "delete") {
+    } else if has(&value, "delete") {
         Ok(row_at(alloc, value, "delete")?.map(Op::Delete))
     } else {
         update_at(alloc, value)
@@ -141,31 +130,28 @@ fn copies_at(value: &Json) -> Option<i64>
 }
 
 /// The entry of a write that a JSON value is.
-fn entry_of(alloc: Global, value: &Json) -> Result<Option<Entry>, AllocError>
-    ensures { IfOk result (λ found. found ≡ entry_of (view value.now)) }
+fn entry_of(alloc: Global, mut value: Json) -> Result<Option<Entry>, AllocError>
+    ensures { IfOk result (λ found. found ≡ entry_of (view value)) }
 {
-    if size(value) != 2 + present(value, &["copies"]) {
+    if size(&value) != 2 + present(&value, &["copies"]) {
         return Ok(None);
     }
-    let Some(rel) = name_at(value, "on") else {
+    let copies = copies_at(&value);
+    let Some(rel) = take_name(&mut value, "on") else {
         return Ok(None);
     };
     let Some(op) = op_at(alloc, value)? else {
         return Ok(None);
     };
-    match copies_at(value) {
+    match copies {
         None => Ok(None),
-        Some(copies) => Ok(Some(Entry {
-            rel: String::from_str(alloc, rel)?,
-            op,
-            copies,
-        })),
+        Some(copies) => Ok(Some(Entry { rel, op, copies })),
     }
 }
 
 /// The entries that a list is, however many.
-fn entries_of(alloc: Global, items: &[Json]) -> Result<Option<Vec<Entry>>, AllocError>
-    ensures { IfOk result (λ found. option_map (λ v. v.items) found ≡ each entry_of (items_view items.now)) }
+fn entries_of(alloc: Global, items: Vec<Json>) -> Result<Option<Vec<Entry>>, AllocError>
+    ensures { IfOk result (λ found. option_map (λ v. v.items) found ≡ each entry_of (items_view items.items)) }
 {
     let mut entries = Vec::new(alloc);
     for item in items {
@@ -178,10 +164,10 @@ fn entries_of(alloc: Global, items: &[Json]) -> Result<Option<Vec<Entry>>, Alloc
 }
 
 /// The 1 to 1,000 entries of a write.
-pub fn entries_at(alloc: Global, value: &Json) -> Result<Option<Vec<Entry>>, AllocError>
-    ensures { IfOk result (λ found. option_map (λ v. v.items) found ≡ entries_at (view value.now)) }
+pub fn entries_at(alloc: Global, mut value: Json) -> Result<Option<Vec<Entry>>, AllocError>
+    ensures { IfOk result (λ found. option_map (λ v. v.items) found ≡ entries_at (view value)) }
 {
-    match items_at(value, "entries") {
+    match take_at(&mut value, "entries").and_then(items_of) {
         None => Ok(None),
         Some(items) => match entries_of(alloc, items)? {
             None => Ok(None),

@@ -1,7 +1,8 @@
 //! Parts of a JSON value.
-ghost use Rattle.std.specs.Prelude.{◌≡◌, IfOk, map, option_map, option_and_then, string_bytes};
+ghost use Rattle.std.specs.Prelude.{◌≡◌, ℕ, List, IfOk, IfSome, bytes_eq, false, map, option_map, option_and_then, string_bytes};
+ghost use Rattle.serde_json.specs.Data.{array};
 ghost use Rattle.serde_json.specs.View.{view, items_view};
-ghost use Rattle.serde_json.specs.Find.{get, as_array};
+ghost use Rattle.serde_json.specs.Find.{get, as_array, as_str};
 ghost use Rattle.iv_wire.specs.Request.{size, count, text_at, name_at, bool_at, positive_of, has, present};
 
 use iv_rows::name_ok;
@@ -53,6 +54,47 @@ pub fn items_at<'a>(value: &'a Json, key: &str) -> Option<&'a Vec<Json>>
     ensures { option_map (λ v. items_view v.now.items) result ≡ option_and_then as_array (get key.now (view value.now)) }
 {
     value.get(key).and_then(Json::as_array)
+}
+
+/// The text that a JSON value is.
+pub fn text_of(value: Json) -> Option<String>
+    ensures { option_map string_bytes result ≡ as_str (view value) }
+{
+    match value {
+        Json::String(text) => Some(text),
+        _ => None,
+    }
+}
+
+/// The items of the list that a JSON value is.
+pub fn items_of(value: Json) -> Option<Vec<Json>>
+    ensures items { option_map (λ v. items_view v.items) result ≡ as_array (view value) }
+    ensures list { IfSome result (λ v. view value ≡ array (items_view v.items)) }
+{
+    match value {
+        Json::Array(items) => Some(items),
+        _ => None,
+    }
+}
+
+/// The value at a key, taken out of its object.
+pub fn take_at(value: &mut Json, key: &str) -> Option<Json>
+    ensures taken { option_map view result ≡ get key.now (view value.old) }
+    ensures others { (k : List ℕ) → bytes_eq k key.now ≡ false → get k (view value.new) ≡ get k (view value.old) }
+{
+    match value.as_object_mut() {
+        None => None,
+        Some(map) => map.remove(key),
+    }
+}
+
+/// The name at a key, taken out of its object.
+pub fn take_name(value: &mut Json, key: &str) -> Option<String>
+    ensures name { option_map string_bytes result ≡ name_at key.now (view value.old) }
+    ensures others { (k : List ℕ) → bytes_eq k key.now ≡ false → get k (view value.new) ≡ get k (view value.old) }
+{
+    let name = text_of(take_at(value, key)?)?;
+    if name_ok(&name) { Some(name) } else { None }
 }
 
 /// The name at a key, in memory of its own.

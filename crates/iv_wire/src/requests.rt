@@ -1,5 +1,5 @@
 //! A line as a command: the shape rules.
-ghost use Rattle.std.specs.Prelude.{◌≡◌, IfOk, IsErrOf, option_map, true};
+ghost use Rattle.std.specs.Prelude.{◌≡◌, IfOk, IsErrOf, bytes_eq, codes, false, option_map, true};
 ghost use Rattle.serde_json.specs.View.{view};
 ghost use Rattle.iv_machine.specs.Well.{is_well_command};
 ghost use Rattle.iv_engine.specs.Views.{act_of, command_of};
@@ -130,10 +130,10 @@ fn create_view_of(alloc: Global, value: &Value) -> Result<Option<Act>, AllocErro
     }
 }
 
-fn write_of(alloc: Global, value: &Value) -> Result<Option<Act>, AllocError>
-    ensures { IfOk result (λ act. option_map act_of act ≡ write_of (view value.now)) }
+fn write_of(alloc: Global, value: Value) -> Result<Option<Act>, AllocError>
+    ensures { IfOk result (λ act. option_map act_of act ≡ write_of (view value)) }
 {
-    if size(value) != 3 {
+    if size(&value) != 3 {
         return Ok(None);
     }
     match entries_at(alloc, value)? {
@@ -166,7 +166,9 @@ fn unsubscribe_of(value: &Value) -> Option<Act>
     }
 }
 
+/// What a word other than `write` asks.
 fn act_for(alloc: Global, word: &str, value: &Value) -> Result<Option<Act>, AllocError>
+    requires { bytes_eq word.now (codes "write") ≡ false }
     ensures { IfOk result (λ act. option_map act_of act ≡ act_for word.now (view value.now)) }
 {
     if word == "begin" {
@@ -189,8 +191,6 @@ fn act_for(alloc: Global, word: &str, value: &Value) -> Result<Option<Act>, Allo
         create_policy_of(alloc, value)
     } else if word == "drop_policy" {
         drop_policy_of(alloc, value)
-    } else if word == "write" {
-        write_of(alloc, value)
     } else if word == "subscribe" {
         subscribe_of(alloc, value)
     } else if word == "unsubscribe" {
@@ -201,20 +201,26 @@ fn act_for(alloc: Global, word: &str, value: &Value) -> Result<Option<Act>, Allo
 }
 
 /// What a request asks.
-fn asked_act(alloc: Global, value: &Value) -> Result<Option<Act>, AllocError>
-    ensures { IfOk result (λ act. option_map act_of act ≡ asked_act (view value.now)) }
+fn asked_act(alloc: Global, value: Value) -> Result<Option<Act>, AllocError>
+    ensures { IfOk result (λ act. option_map act_of act ≡ asked_act (view value)) }
 {
-    match text_at(value, "do") {
+    match text_at(&value, "do") {
         None => Ok(None),
-        Some(word) => act_for(alloc, word, value),
+        Some(word) => {
+            if word == "write" {
+                write_of(alloc, value)
+            } else {
+                act_for(alloc, word, &value)
+            }
+        }
     }
 }
 
 /// The command that a value is.
-fn request_of(alloc: Global, value: &Value) -> Result<Option<Command>, AllocError>
-    ensures { IfOk result (λ found. option_map command_of found ≡ request (view value.now)) }
+fn request_of(alloc: Global, value: Value) -> Result<Option<Command>, AllocError>
+    ensures { IfOk result (λ found. option_map command_of found ≡ request (view value)) }
 {
-    match session_of(value) {
+    match session_of(&value) {
         None => Ok(None),
         Some(session) => match asked_act(alloc, value)? {
             None => Ok(None),
@@ -256,7 +262,7 @@ pub fn read_line(alloc: Global, line: &[u8]) -> Result<Command, WireFault>
 {
     match read_value(alloc, line)? {
         None => Err(WireFault::BadJson),
-        Some(value) => match request_of(alloc, &value)? {
+        Some(value) => match request_of(alloc, value)? {
             None => Err(WireFault::BadRequest),
             Some(command) => Ok(command),
         },

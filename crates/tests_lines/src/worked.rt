@@ -4,6 +4,7 @@ use iv_engine::{Act, Line, Privilege, Refusal, Reply};
 use iv_rows::{Row, Value};
 use iv_wire::{read_line, write_line};
 use std::alloc::{AllocError, Global};
+use std::rc::Rc;
 use std::test::Fail;
 
 #[test]
@@ -200,7 +201,7 @@ fn change_written(alloc: Global) -> Result<Vec<u8>, AllocError> {
     let change = Line::Change {
         session: 4294967295,
         sub: 9223372036854775807,
-        rows,
+        rows: Rc::new(alloc, rows)?,
     };
     write_line(alloc, &change)
 }

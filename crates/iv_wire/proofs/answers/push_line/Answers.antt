@@ -9,9 +9,9 @@ use Rattle.iv_wire.proofs.answers.push_line.Goals as goal
 
 pub returns-in_ok-write-in-Change-clause-text : goal.returns-in_ok-write-in-Change-clause-text
 returns-in_ok-write-in-Change-clause-text c =
-    let rows = c.deref-in-Change.ensures.value ∙ (c.in_ok-write-in-Change.ensures.text ∙ ap (λ es. compact_text (rows_data es)) c.deref.ensures.value) in
+    let rows = c.deref-in-Change-2.ensures.value ∙ (c.in_ok-write-in-Change.ensures.text ∙ ap (λ es. compact_text (rows_data es)) (c.deref-in-Change.ensures.value ∙ ap (λ rows. rows.items) c.deref.ensures)) in
     then_same c.push_change.result c.args.text.now.items _ _ c.push_change.new.text.items c.push_change.ensures
-    (ap (change_text c.in-Change.session c.in-Change.sub) rows ∙ (change_line_text c.in-Change.session c.in-Change.sub c.in-Change.rows.items ∙ ap (λ (l : Line). line_text (line_of l)) (sym c.in-Change.is)))
+    (ap (change_text c.in-Change.session c.in-Change.sub) rows ∙ (change_line_text c.in-Change.session c.in-Change.sub c.in-Change.rows.value.items ∙ ap (λ (l : Line). line_text (line_of l)) (sym c.in-Change.is)))
 
 pub returns-in_ok-write-in-Ended-clause-text : goal.returns-in_ok-write-in-Ended-clause-text
 returns-in_ok-write-in-Ended-clause-text c =
