@@ -3,56 +3,6 @@ ghost use Rattle.std.specs.Prelude.{◌≡◌, bytes_eq, nat_le, length};
 ghost use Rattle.std.specs.List.{list_all, list_any};
 ghost use Rattle.iv_rows.specs.Names.{is_name, is_first, is_further, is_reserved, begins_well};
 
-/// The words that are never names.
-const RESERVED: [&str; 46] = [
-    "all",
-    "and",
-    "as",
-    "between",
-    "by",
-    "case",
-    "cast",
-    "count",
-    "cross",
-    "current_user",
-    "distinct",
-    "except",
-    "exists",
-    "false",
-    "fetch",
-    "for",
-    "from",
-    "full",
-    "group",
-    "having",
-    "in",
-    "inner",
-    "intersect",
-    "is",
-    "join",
-    "left",
-    "like",
-    "limit",
-    "natural",
-    "not",
-    "null",
-    "offset",
-    "on",
-    "or",
-    "order",
-    "outer",
-    "public",
-    "right",
-    "select",
-    "sum",
-    "true",
-    "union",
-    "using",
-    "where",
-    "window",
-    "with",
-];
-
 /// Whether the byte may begin a name: a to z or an underscore.
 fn is_first(byte: u8) -> bool
     ensures { result ≡ is_first byte }
@@ -91,11 +41,38 @@ fn is_one_of(words: &[&str], text: &str) -> bool
     words.iter().any(|word| is_word(word, text))
 }
 
-/// Whether the text is a word that is never a name.
+/// Whether the text is a word that is never a name. The words stand by their number of bytes.
 fn is_reserved(text: &str) -> bool
     ensures { result ≡ is_reserved text.now }
 {
-    is_one_of(&RESERVED, text)
+    match text.len() {
+        2 => is_one_of(&["as", "by", "in", "is", "on", "or"], text),
+        3 => is_one_of(&["all", "and", "for", "not", "sum"], text),
+        4 => is_one_of(
+            &[
+                "case", "cast", "from", "full", "join", "left", "like", "null", "true", "with",
+            ],
+            text,
+        ),
+        5 => is_one_of(
+            &[
+                "count", "cross", "false", "fetch", "group", "inner", "limit", "order", "outer",
+                "right", "union", "using", "where",
+            ],
+            text,
+        ),
+        6 => is_one_of(
+            &[
+                "except", "exists", "having", "offset", "public", "select", "window",
+            ],
+            text,
+        ),
+        7 => is_one_of(&["between", "natural"], text),
+        8 => is_one_of(&["distinct"], text),
+        9 => is_one_of(&["intersect"], text),
+        12 => is_one_of(&["current_user"], text),
+        _ => false,
+    }
 }
 
 /// Whether each byte may stand in a name.

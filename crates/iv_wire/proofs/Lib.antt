@@ -3,6 +3,7 @@ pub mod Answering
 pub mod Asking
 pub mod Cutting
 pub mod Each
+pub mod Finding
 pub mod Joining
 pub mod Known
 pub mod Members

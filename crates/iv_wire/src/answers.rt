@@ -15,6 +15,9 @@ use iv_rows::Row;
 use std::alloc::{AllocError, Global};
 use std::mem;
 
+/// The room that a text is begun with, in bytes: an answer of one line has fewer.
+const SHORT_TEXT: usize = 64;
+
 /// The rows that were written last, and their text; no text before the first.
 #[derive(Drop)]
 struct Written<'a> {
@@ -177,7 +180,7 @@ fn push_line<'a>(
 pub fn write_lines(alloc: Global, lines: &[Line]) -> Result<Vec<u8>, AllocError>
     ensures { IfOk result (λ text. text.items ≡ flat_map line_text (map line_of lines.now)) }
 {
-    let mut text = Vec::new(alloc);
+    let mut text = Vec::with_capacity(alloc, SHORT_TEXT)?;
     let mut written = Written::nothing(alloc);
     for line in lines {
         push_line(alloc, &mut text, &mut written, line)?;

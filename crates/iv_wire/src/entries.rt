@@ -1,12 +1,11 @@
 //! The entries of a write, of a JSON value.
-ghost use Rattle.std.specs.Prelude.{◌≡◌, IfOk, Some, None, option_map, option_and_then, codes};
+ghost use Rattle.std.specs.Prelude.{◌≡◌, IfOk, Some, None, option_map};
 ghost use Rattle.serde_json.specs.View.{view, items_view};
-ghost use Rattle.serde_json.specs.Find.{get};
 ghost use Rattle.iv_rows.specs.View as iv_rows;
 ghost use Rattle.iv_engine.specs.Entries as entries;
-ghost use Rattle.iv_wire.specs.Request.{cell_of, each, row_of, update_of, op_at, positive_of, copies_at, entry_of, entries_at};
+ghost use Rattle.iv_wire.specs.Request.{cell_of, each, row_of, update_of, op_at, positive_of, entry_of, entries_at};
 
-use crate::parts::{count, has, items_of, positive_of, present, size, take_at, take_name};
+use crate::parts::{count, items_of, positive_of, size, take_at, take_name};
 use iv_engine::{Entry, Op};
 use iv_rows::{Row, Value};
 use serde_json::Value as Json;
@@ -57,16 +56,6 @@ fn row_of(alloc: Global, value: Json) -> Result<Option<Row>, AllocError>
     }
 }
 
-/// The row at a key.
-fn row_at(alloc: Global, mut value: Json, key: &str) -> Result<Option<Row>, AllocError>
-    ensures { IfOk result (λ found. found ≡ option_and_then row_of (get key.now (view value))) }
-{
-    match take_at(&mut value, key) {
-        None => Ok(None),
-        Some(item) => row_of(alloc, item),
-    }
-}
-
 /// The old and the new row that a JSON value is.
 fn update_of(alloc: Global, value: Json) -> Result<Option<Op>, AllocError>
     ensures { IfOk result (λ found. option_map entries.op_of found ≡ update_of (view value)) }
@@ -86,26 +75,19 @@ fn update_of(alloc: Global, value: Json) -> Result<Option<Op>, AllocError>
     }
 }
 
-/// The old and the new row at the key of an update.
-fn update_at(alloc: Global, mut value: Json) -> Result<Option<Op>, AllocError>
-    ensures { IfOk result (λ found. option_map entries.op_of found ≡ option_and_then update_of (get (codes "update") (view value))) }
+/// What an entry does.
+fn op_at(alloc: Global, mut value: Json) -> Result<Option<Op>, AllocError>
+    ensures { IfOk result (λ found. option_map entries.op_of found ≡ op_at (view value)) }
 {
+    if let Some(row) = take_at(&mut value, "insert") {
+        return Ok(row_of(alloc, row)?.map(Op::Insert));
+    }
+    if let Some(row) = take_at(&mut value, "delete") {
+        return Ok(row_of(alloc, row)?.map(Op::Delete));
+    }
     match take_at(&mut value, "update") {
         None => Ok(None),
         Some(rows) => update_of(alloc, rows),
-    }
-}
-
-/// What an entry does.
-fn op_at(alloc: Global, value: Json) -> Result<Option<Op>, AllocError>
-    ensures { IfOk result (λ found. option_map entries.op_of found ≡ op_at (view value)) }
-{
-    if has(&value, "insert") {
-        Ok(row_at(alloc, value, "insert")?.map(Op::Insert))
-    } else if has(&value, "delete") {
-        Ok(row_at(alloc, value, "delete")?.map(Op::Delete))
-    } else {
-        update_at(alloc, value)
     }
 }
 
@@ -119,24 +101,18 @@ fn copies_of(value: &Json) -> Option<i64>
     }
 }
 
-/// How many copies an entry is for, 1 where it does not say it.
-fn copies_at(value: &Json) -> Option<i64>
-    ensures { option_map entries.copies_of result ≡ copies_at (view value.now) }
-{
-    match value.get("copies") {
-        None => Some(1),
-        Some(copies) => copies_of(copies),
-    }
-}
-
 /// The entry of a write that a JSON value is.
 fn entry_of(alloc: Global, mut value: Json) -> Result<Option<Entry>, AllocError>
     ensures { IfOk result (λ found. found ≡ entry_of (view value)) }
 {
-    if size(&value) != 2 + present(&value, &["copies"]) {
+    // Without `copies` the keys are `on` and what it does, for 1 copy.
+    let (keys, copies) = match value.get("copies") {
+        None => (2, Some(1)),
+        Some(copies) => (3, copies_of(copies)),
+    };
+    if size(&value) != keys {
         return Ok(None);
     }
-    let copies = copies_at(&value);
     let Some(rel) = take_name(&mut value, "on") else {
         return Ok(None);
     };

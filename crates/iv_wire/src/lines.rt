@@ -6,7 +6,7 @@ ghost use Rattle.iv_wire.specs.Reads.{IsCut, IsCutShort, is_read};
 
 use crate::ends::Source;
 use crate::room::{LINE_ROOM, Room};
-use std::alloc::{AllocError, AllocFailed, Global};
+use std::alloc::{AllocError, AllocFailed};
 
 /// How a run ends.
 #[derive(Clone, Copy, Debug, PartialEq, Eq)]
@@ -65,9 +65,9 @@ pub enum Next {
     Endless,
 }
 
-/// The next line.
+/// The next line, in the memory of a line that was answered.
 pub fn next_line<R: Source>(
-    alloc: Global,
+    mut line: Vec<u8>,
     room: &mut Room,
     reader: &mut R,
 ) -> Result<Next, RunFault>
@@ -77,7 +77,7 @@ pub fn next_line<R: Source>(
     ensures failed { R.has_failed reader.new ≡ (R.has_failed reader.old || is_read result) }
     ensures reads { R.reads reader.new ≤ R.reads reader.old + line_room }
 {
-    let mut line = Vec::new(alloc);
+    line.clear();
     while line.len() < LINE_ROOM {
         if room.fill(reader).is_err() {
             return Err(RunFault::Read);

@@ -3,6 +3,7 @@ ghost use Rattle.std.specs.Prelude.{◌≡◌, ◌≤◌, ◌<◌, ◌+◌, ◌|
 ghost use Rattle.std.specs.Io.KnownBytes.{Keeps, IsAtEnd};
 
 use crate::ends::{EndFault, Source};
+use memchr::memchr;
 use std::alloc::AllocError;
 
 /// How many bytes are read at most at a time.
@@ -101,5 +102,5 @@ impl Room {
 fn newline(bytes: &[u8]) -> Option<usize>
     ensures { result ≡ position (λ b. b == 10) bytes.now }
 {
-    bytes.iter().position(|b| *b == b'\n')
+    memchr(b'\n', bytes)
 }

@@ -99,8 +99,9 @@ fn run_lines<R: Source, W: Sink>(
     ensures reads { R.reads reader.new ≤ R.reads reader.old + (lines * line_room) }
 {
     let mut room = Room::new();
+    let mut answered = Vec::new(alloc);
     for _ in 0..lines {
-        match next_line(alloc, &mut room, reader)? {
+        match next_line(answered, &mut room, reader)? {
             Next::Nothing => return Ok(End::Input),
             Next::Endless => {
                 let text = write_fault(alloc, 22)?;
@@ -110,6 +111,7 @@ fn run_lines<R: Source, W: Sink>(
             Next::Line(line) => {
                 let text = answer_line(alloc, engine, &line)?;
                 send_answer(writer, &text)?;
+                answered = line;
             }
         }
     }

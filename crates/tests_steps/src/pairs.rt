@@ -70,7 +70,10 @@ pub(crate) fn on_first_columns(alloc: Global) -> Result<Join, AllocError>
     ensures { IfOk result (λ join. (join.left ≡ 2) × (join.pairs.items ≡ (0, 0) ∷ [])) }
 {
     let pairs = Vec::from_array(alloc, [(0, 0)])?;
-    Ok(Join { left: 2, pairs })
+    let mut left = Meter::new();
+    left.tick();
+    left.tick();
+    Ok(Join { left, pairs })
 }
 
 /// The join on the first column.
