@@ -1,6 +1,7 @@
 pub mod Entries
 pub mod Views
 pub mod Stands
+pub mod Target
 pub mod Changes
 pub mod Seen
 pub mod Kept

@@ -46,12 +46,7 @@ impl Store {
         requires { IsStored self.now }
         ensures { IsOwned self.now session rel.now result }
     {
-        let Some(acting) = self.actor(session) else {
-            return Err(Stop::Refused(Refusal::NoSession));
-        };
-        let Some(table) = self.relation(rel) else {
-            return Err(Stop::Refused(Refusal::UnknownRelation));
-        };
+        let (acting, table) = self.acting_on(session, rel)?;
         if self.catalog.schema(table).is_none() {
             return Err(Stop::Refused(Refusal::NotATable));
         }

@@ -30,6 +30,17 @@ impl From<AllocError> for Stop {
     }
 }
 
+impl From<Refusal> for Stop {
+    ghost use Rattle.std.specs.Prelude.{◌≡◌};
+    ghost use Rattle.iv_engine.specs.declared.predicates.Stop.TheVariants.{Refused};
+
+    ghost from_gives = { λ refusal stop. stop ≡ Refused refusal };
+
+    fn from(refusal: Refusal) -> Stop {
+        Stop::Refused(refusal)
+    }
+}
+
 impl From<QueryFault> for Stop {
     ghost use Rattle.std.specs.Prelude.{◌≡◌};
     ghost use Rattle.iv_engine.specs.Owned.{read_stop};

@@ -81,11 +81,9 @@ impl Store {
         ensures refused { IfOk result (IsFirstRefusal self.old session (machine.revoke (string_bytes rel) privileges.now (named grantee.entry))) }
         ensures state { OnOk result (self.new ≡ next self.old session (machine.revoke (string_bytes rel) privileges.now (named grantee.entry))) }
     {
-        let Some(acting) = self.actor(session) else {
-            return Ok(Some(Refusal::NoSession));
-        };
-        let Some(number) = self.relation(rel.as_str()) else {
-            return Ok(Some(Refusal::UnknownRelation));
+        let (acting, number) = match self.acting_on(session, rel.as_str()) {
+            Ok(found) => found,
+            Err(refusal) => return Ok(Some(refusal)),
         };
         let change = self.access.revoke(acting, number, privileges, grantee);
         outcome(change, rel)

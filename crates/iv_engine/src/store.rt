@@ -5,7 +5,9 @@ ghost use Rattle.iv_machine.specs.State.{name_of, rel_of, session_of, start, tab
 ghost use Rattle.iv_engine.specs.Answering.{seen};
 ghost use Rattle.iv_engine.specs.Kept.{IsSound, IsStored, cap, frame_of};
 ghost use Rattle.iv_engine.specs.Seen.{IsBehind};
+ghost use Rattle.iv_engine.specs.Target.{IsActingOn};
 
+use crate::command::Refusal;
 use crate::stored::{Session, Subscription, find_session};
 use iv_access::{Access, RoleId};
 use iv_algebra::Tables;
@@ -81,6 +83,20 @@ impl Store {
         ensures below { IfSome result (λ rel. rel.0 < length self.now.catalog) }
     {
         self.access.relation(name)
+    }
+
+    /// The role that acts in the session, and the relation of the name; else the first of these two tests that fails.
+    pub fn acting_on(&self, session: u32, name: &str) -> Result<(RoleId, RelId), Refusal>
+        requires { IsStored self.now }
+        ensures { IsActingOn self.now session name.now result }
+    {
+        let Some(acting) = self.actor(session) else {
+            return Err(Refusal::NoSession);
+        };
+        let Some(rel) = self.relation(name) else {
+            return Err(Refusal::UnknownRelation);
+        };
+        Ok((acting, rel))
     }
 
     /// The columns of a table.

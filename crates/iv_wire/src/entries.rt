@@ -129,7 +129,7 @@ fn entry_of(alloc: Global, mut value: Json) -> Result<Option<Entry>, AllocError>
 fn entries_of(alloc: Global, items: Vec<Json>) -> Result<Option<Vec<Entry>>, AllocError>
     ensures { IfOk result (λ found. option_map (λ v. v.items) found ≡ each entry_of (items_view items.items)) }
 {
-    let mut entries = Vec::new(alloc);
+    let mut entries = Vec::with_capacity(alloc, items.len())?;
     for item in items {
         match entry_of(alloc, item)? {
             None => return Ok(None),

@@ -84,7 +84,10 @@ pub fn take_at(value: &mut Json, key: &str) -> Option<Json>
 {
     match value.as_object_mut() {
         None => None,
-        Some(map) => map.remove(key),
+        Some(map) => match map.get_mut(key) {
+            None => None,
+            Some(found) => Some(found.take()),
+        },
     }
 }
 
