@@ -9,10 +9,9 @@ use Rattle.iv_access.specs.Rights.{Name}
 use Rattle.iv_access.specs.declared.privilege.Privilege.{Privilege}
 use Rattle.iv_machine.specs.Act as machine
 use Rattle.iv_machine.specs.Act.{Entry, Op, write}
-use Rattle.iv_machine.specs.Refusing.{each_entry, entry_policies, entry_privileges, entry_shape, frame_refusal, missing, or_else, privileges_for, rows_in, test}
+use Rattle.iv_machine.specs.Refusing.{each_entry, entry_policies, entry_privileges, entry_shape, frame_refusal, missing, or_else, rows_in, test}
 use Rattle.iv_machine.specs.State.{Frame, name_of, session_of, table_columns}
 use Rattle.iv_engine.specs.Kept.{Kept, frame_of}
-use Rattle.iv_engine.specs.Placed.{IsPlaced, Placed, entry_of}
 use Rattle.iv_engine.proofs.Telling.{acts}
 
 -- ---- the shape of an entry
@@ -42,11 +41,6 @@ missing_is f role k name (p ∷ ps) h = by (has f.rights role p k) (missing_is f
         → missing f (cond b (first_missing f.rights role (map (λ p. (p, k)) ps)) (Some (p, k))) ≡ told name (cond b (first_missing f.rights role (map (λ p. (p, k)) ps)) (Some (p, k)))
     by true ih = ih
     by false ih = ap (λ x. Some (machine.missing_privilege p x)) h
-
--- of an entry
-pub privileges_are : (f : Frame) (role n : ℕ) (p : Placed) → IsPlaced f p
-    → entry_privileges f role n (entry_of p) ≡ option_map (λ x. machine.missing_privilege x.0 p.name) (first_missing f.rights role (map (λ q. (q, p.rel)) (privileges_for p.op)))
-privileges_are f role n p h = ap (λ k. missing f (first_missing f.rights role (map (λ q. (q, k)) (privileges_for p.op)))) h.number ∙ missing_is f role p.rel p.name (privileges_for p.op) h.name
 
 -- ---- the tests in their order
 

@@ -1,7 +1,7 @@
 -- Closing sessions and subscriptions: nothing is sent, and what is left shows what it showed.
 use Rattle.std.proofs.Common.{◌≡◌, ℕ, ◌<◌, Bool, true, false, cond, not, List, [], ◌∷◌, length, map, Option, None, Some, refl, sym, ap, subst, ◌∙◌, arith}
 use Rattle.std.proofs.lemmas.Bool.Decides.{nat_tests}
-use Rattle.std.specs.Prelude.{◌==◌, filter, flat_map, is_some, option_map}
+use Rattle.std.specs.Prelude.{◌==◌, filter, flat_map, is_some, option_map, position}
 use Rattle.std.specs.Global.{Vec}
 use Rattle.std.specs.List.{AllByRecursion}
 use Rattle.iv_algebra.specs.Plans.{Lists}
@@ -15,16 +15,17 @@ use Rattle.iv_machine.specs.State.{Session, State, Subscription, is_open, sessio
 use Rattle.iv_machine.proofs.Placing.{all_kept}
 use Rattle.iv_machine.proofs.Reached.{given_kept, unique_kept}
 use Rattle.iv_engine.specs.Answering.{IsStep, seen}
-use Rattle.iv_engine.specs.Finished.{without_session, without_subscription}
-use Rattle.iv_engine.specs.Kept.{IsOpen, IsSound, IsWithin, Kept, at, frame_of, may_read}
+use Rattle.iv_engine.specs.Finished.{without_session, without_subscription, without_unread}
+use Rattle.iv_engine.specs.Kept.{IsOpen, IsRoleCircuit, IsSound, IsWithin, Kept, at, frame_of, is_for, may_read, place_of}
 use Rattle.iv_engine.specs.Seen.{IsBehind}
 use Rattle.iv_engine.specs.Stands.{Stands}
 use Rattle.iv_engine.specs.Views.{line_of}
 use Rattle.iv_engine.specs.declared.answer.Answer.TheVariants.{Accepted}
 use Rattle.iv_engine.specs.declared.command.Line.{Line}
 use Rattle.iv_engine.specs.declared.command.Reply.TheVariants.{Ok}
+use Rattle.iv_engine.proofs.Dropped.{left_have, left_read, left_there}
 use Rattle.iv_engine.proofs.Showing.{difference_none, each_found}
-use Rattle.iv_engine.proofs.Sound.{all_zip}
+use Rattle.iv_engine.proofs.Sound.{all_zip, circuits_stay}
 use Rattle.iv_engine.proofs.Stepping.{no_lines, no_refusal, none_ends, none_settled}
 use Rattle.iv_engine.proofs.Unmoved.{IsUnmoved, other_sessions, still_read, still_shown, still_within}
 
@@ -32,15 +33,28 @@ use Rattle.iv_engine.proofs.Unmoved.{IsUnmoved, other_sessions, still_read, stil
 
 module _ (e : Kept) (h : IsSound e) (ss : List Session) (p : Subscription → Bool) (roles : AllByRecursion (λ s. s.role < length e.known.rights.roles) ss)
     (same : (s : Subscription) → p s ≡ true → session_of ss s.session ≡ session_of e.sessions s.session) where
+  -- before circuits are dropped, and afterwards
+  abbrev b : Kept
+  b = record e { sessions = ss; subscriptions = filter p e.subscriptions }
+
   abbrev c : Kept
-  c = record e { sessions = ss; subscriptions = filter p e.subscriptions }
+  c = without_unread b
 
   unmoved : (s : Subscription) → p s ≡ true → IsUnmoved e c s
-  unmoved s k = other_sessions e ss (filter p e.subscriptions) s (same s k)
+  unmoved s k = other_sessions e ss (filter p e.subscriptions) c.circuits s (same s k)
 
   -- what each that is left had
   left : (P Q : Subscription → Type 0) → ((s : Subscription) → p s ≡ true → P s → Q s) → AllByRecursion P e.subscriptions → AllByRecursion Q (filter p e.subscriptions)
   left P Q go a = all_kept P Q p go e.subscriptions a
+
+  all_unmoved : AllByRecursion (IsUnmoved e c) (filter p e.subscriptions)
+  all_unmoved = left (IsOpen e) (IsUnmoved e c) (λ s k o. unmoved s k) h.stored.shows
+
+  all_open : AllByRecursion (IsOpen b) (filter p e.subscriptions)
+  all_open = left (IsOpen e) (IsOpen b) (λ s k o. record { session = ap (λ (x : Option Session). is_some x) (same s k) ∙ o.session; known = o.known }) h.stored.shows
+
+  all_there : AllByRecursion (λ s. is_some (place_of b s) ≡ true) (filter p e.subscriptions)
+  all_there = left (λ s. is_some (place_of e s) ≡ true) (λ s. is_some (place_of b s) ≡ true) (λ s k t. (λ i. is_some (position (is_for ((unmoved s k).acts i) s.rel) e.circuits)) ∙ t) h.there
 
   pub left_sound : IsSound c
   left_sound = record {
@@ -59,6 +73,9 @@ module _ (e : Kept) (h : IsSound e) (ss : List Session) (p : Subscription → Bo
     };
     served = left (λ s. may_read e s ≡ true) (λ s. may_read c s ≡ true) (λ s k r. still_read e c s (unmoved s k) r) h.served;
     within = left (IsWithin e) (IsWithin c) (λ s k w T y. still_within e c s (unmoved s k) T y ∙ w T y) h.within;
+    circuits = circuits_stay e c (λ T y. y) all_unmoved c.circuits (left_have b (IsRoleCircuit e) h.circuits) (left_read b (IsRoleCircuit e) h.circuits);
+    there = left_there b all_open all_there;
+    read = left_read b (IsRoleCircuit e) h.circuits;
   }
 
   module _ (T : Lists) (stands : Stands T e.tables) where
@@ -121,7 +138,7 @@ or_nothing None = refl
 or_nothing (Some r) = refl
 
 module _ (e new : Kept) (n : ℕ) (lines : Vec Line) (h : IsSound e) (none : lines.items ≡ []) (opened : is_open (frame_of e) n ≡ true) where
-  pub finished_step : new ≡ without_session n e → IsStep e n finish (Accepted Ok lines) new
+  pub finished_step : new ≡ without_unread (without_session n e) → IsStep e n finish (Accepted Ok lines) new
   finished_step k =
       let ss = filter (λ (s : Session). not (n == s.number)) e.sessions in
       let p = λ (s : Subscription). not (n == s.session) in
@@ -134,14 +151,14 @@ module _ (e new : Kept) (n : ℕ) (lines : Vec Line) (h : IsSound e) (none : lin
           ap (map line_of) none ∙ sym (left_sent e h ss p roles same T s),
         );
         left = λ T s. subst (λ (t : State). IsBehind t (seen new)) (sym (left_settled e h ss p roles same T s))
-            (subst (λ (v : Kept). IsBehind (at (without_session n e) T) (seen v)) (sym k) (record { frame = refl; rows = s }));
+            (subst (λ (v : Kept). IsBehind (at (without_unread (without_session n e)) T) (seen v)) (sym k) (record { frame = refl; rows = s }));
         kept = no_refusal Ok refl;
         sound = subst IsSound (sym k) (left_sound e h ss p roles same);
       }
 
   -- ---- a subscription
 
-  pub unsubscribed_step : (number : ℕ) → has_subscription (frame_of e) n number ≡ true → new ≡ without_subscription number e → IsStep e n (unsubscribe number) (Accepted Ok lines) new
+  pub unsubscribed_step : (number : ℕ) → has_subscription (frame_of e) n number ≡ true → new ≡ without_unread (without_subscription number e) → IsStep e n (unsubscribe number) (Accepted Ok lines) new
   unsubscribed_step number has k =
       let p = λ (s : Subscription). not (number == s.number) in
       let same = λ (s : Subscription) (x : p s ≡ true). refl in
@@ -152,7 +169,7 @@ module _ (e new : Kept) (n : ℕ) (lines : Vec Line) (h : IsSound e) (none : lin
           ap (map line_of) none ∙ sym (left_sent e h e.sessions p h.stored.roles same T s),
         );
         left = λ T s. subst (λ (t : State). IsBehind t (seen new)) (sym (left_settled e h e.sessions p h.stored.roles same T s))
-            (subst (λ (v : Kept). IsBehind (at (without_subscription number e) T) (seen v)) (sym k) (record { frame = refl; rows = s }));
+            (subst (λ (v : Kept). IsBehind (at (without_unread (without_subscription number e)) T) (seen v)) (sym k) (record { frame = refl; rows = s }));
         kept = no_refusal Ok refl;
         sound = subst IsSound (sym k) (left_sound e h e.sessions p h.stored.roles same);
       }

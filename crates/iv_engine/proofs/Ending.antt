@@ -1,25 +1,38 @@
 -- What a revoke takes back.
-use Rattle.std.proofs.Common.{◌≡◌, ℕ, Bool, true, false, cond, not, List, [], ◌∷◌, Option, None, Some, refl, sym, ap, subst, ◌∙◌}
+use Rattle.std.proofs.Common.{◌≡◌, ℕ, ◌+◌, ◌<◌, Bool, true, false, cond, not, List, [], ◌∷◌, ◌++◌, length, map, take, get_or, Option, None, Some, refl, sym, ap, subst, ◌∙◌}
+use Rattle.std.proofs.lemmas.List.Elements.{filter_more}
+use Rattle.std.specs.Global.{Vec}
 use Rattle.std.specs.Prelude.{filter, flat_map, is_some}
 use Rattle.std.specs.List.{AllByRecursion}
 use Rattle.iv_algebra.specs.Plans.{Lists}
 use Rattle.iv_bind.specs.Faults.{if_some}
 use Rattle.iv_access.specs.Rights.{Name}
 use Rattle.iv_access.specs.declared.privilege.Privilege.{Privilege}
+use Rattle.iv_circuit.specs.Nodes.{scans_of}
 use Rattle.iv_machine.specs.Act as machine
 use Rattle.iv_machine.specs.Act.{revoke}
 use Rattle.iv_machine.specs.Changing.{after}
 use Rattle.iv_machine.specs.Machine.{line_for, line_of as machine_line, ending, settled, difference}
 use Rattle.iv_machine.specs.Refusing.{refusal, frame_refusal, or_else}
-use Rattle.iv_machine.specs.State.{Subscription, actor, subscription_of, view_of}
+use Rattle.iv_machine.specs.State.{State, Subscription, actor, plan_at, subscription_of, view_of}
 use Rattle.iv_machine.proofs.Reached.{unique_kept, given_kept}
-use Rattle.iv_engine.specs.Answering.{ended_line, last_line, sent}
-use Rattle.iv_engine.specs.Kept.{Kept, IsOpen, IsSound, IsStored, IsWithin, at, frame_of, may_read, shown_rows}
+use Rattle.iv_engine.specs.Answering.{AreEnded, IsStep, ended_line, last_line, seen, sent}
+use Rattle.iv_engine.specs.Kept.{Kept, IsOpen, IsRoleCircuit, IsSound, IsStored, IsWithin, at, frame_of, may_read, place_of, shown_rows}
+use Rattle.iv_engine.specs.Finished.{with_those}
 use Rattle.iv_engine.specs.Next.{kept_after}
+use Rattle.iv_engine.specs.Seen.{IsBehind}
 use Rattle.iv_engine.specs.Stands.{Stands}
+use Rattle.iv_engine.specs.Views.{line_of}
+use Rattle.iv_engine.specs.declared.answer.Answer.TheVariants.{Accepted}
+use Rattle.iv_engine.specs.declared.command.Line.{Line}
+use Rattle.iv_engine.specs.declared.command.Reply.TheVariants.{Ok}
+use Rattle.iv_engine.proofs.Circling.{same_circuit, seen_circuit}
+use Rattle.iv_engine.proofs.Dropped.{left_have, left_read, left_there}
+use Rattle.iv_engine.proofs.Lines.{no_more, sends}
+use Rattle.iv_engine.proofs.Seeing.{sees_same}
 use Rattle.iv_engine.proofs.Showing.{cause_for, difference_none, ending_is, kept_found, kept_one, limits_same, shown_is, view_same}
 use Rattle.iv_engine.proofs.Sound.{all_map, all_zip}
-use Rattle.iv_engine.proofs.Stepping.{IsShown, each_shown, same_lines}
+use Rattle.iv_engine.proofs.Stepping.{IsShown, each_shown, no_refusal, same_lines}
 
 -- ---- lists
 
@@ -43,40 +56,46 @@ all_pass p (s ∷ es) = by (p s) refl (all_pass p es)
     by true h r = (h, r)
     by false h r = r
 
+nothing_more : (xs : List Subscription) → xs ++ [] ≡ xs
+nothing_more [] = refl
+nothing_more (x ∷ xs) = ap (λ l. x ∷ l) (nothing_more xs)
+
+-- ---- subscriptions split one by one
+
+-- those so far that pass, with one that passes, and with one that does not
+module _ (p : Subscription → Bool) (es : List Subscription) (i : ℕ) (s : Subscription) (low : i < length es) (s_is : s ≡ get_or es i s) (kept : List Subscription) (was : kept ≡ filter p (take i es)) where
+  with_next : (b : Bool) → p s ≡ b → filter p (take (i + 1) es) ≡ filter p (take i es) ++ cond b (s ∷ []) []
+  with_next b h = filter_more p es i s low ∙ ap (λ (x : Subscription). filter p (take i es) ++ cond (p x) (x ∷ []) []) (sym s_is) ∙ ap (λ d. filter p (take i es) ++ cond d (s ∷ []) []) h
+
+  pub kept_more : (new : List Subscription) → p s ≡ true → new ≡ kept ++ s ∷ [] → new ≡ filter p (take (i + 1) es)
+  kept_more new h more = more ∙ ap (λ ks. ks ++ s ∷ []) was ∙ sym (with_next true h)
+
+  pub left_more : p s ≡ false → kept ≡ filter p (take (i + 1) es)
+  left_more h = was ∙ sym (nothing_more (filter p (take i es))) ∙ sym (with_next false h)
+
+-- the lines so far, where the next one stays open, and where it ends
+module _ (e : Kept) (i : ℕ) (s : Subscription) (low : i < length e.subscriptions) (s_is : s ≡ get_or e.subscriptions i s) (lines : List machine.Line) (was : AreEnded e (take i e.subscriptions) lines) where
+  line_is_by : (T : Lists) (b : Bool) → may_read e s ≡ b → ended_line e T s ≡ cond b [] (last_line e T s ∷ [])
+  line_is_by T b h = ap (λ d. cond d [] (last_line e T s ∷ [])) h
+
+  pub still_ended : may_read e s ≡ true → AreEnded e (take (i + 1) e.subscriptions) lines
+  still_ended h T w = sends (ended_line e T) e.subscriptions i s low s_is [] lines [] lines (was T w) (sym (line_is_by T true h)) (sym (no_more lines))
+
+  pub ended_more : (one : machine.Line) (new : List machine.Line) → may_read e s ≡ false → ((T : Lists) → Stands T e.tables → one ≡ last_line e T s) → new ≡ lines ++ one ∷ [] → AreEnded e (take (i + 1) e.subscriptions) new
+  ended_more one new h last more T w = sends (ended_line e T) e.subscriptions i s low s_is [] lines (one ∷ []) new (was T w) (ap (λ l. l ∷ []) (last T w) ∙ sym (line_is_by T false h)) more
+
 -- ---- what is kept
-
--- while its subscriptions are split
-pub split_stored : (e : Kept) → IsStored e → IsStored (record e { subscriptions = [] })
-split_stored e h = record {
-  reached = record { unique = tt; given = tt };
-  roles = h.roles;
-  numbered = h.numbered;
-  relations = h.relations;
-  guards = h.guards;
-  tables = h.tables;
-  zsets = h.zsets;
-  positive = h.positive;
-  kinds = h.kinds;
-  small = h.small;
-  shows = tt;
-}
-
-pub split_ready : (c v : Kept) (ss : List Subscription) → v ≡ record c { subscriptions = [] } → ss ≡ c.subscriptions → IsStored c → AllByRecursion (IsWithin c) c.subscriptions
-    → IsStored v × AllByRecursion (IsOpen v) ss × AllByRecursion (IsWithin v) ss
-split_ready c v ss is same h within =
-    subst (λ (u : Kept). IsStored u × AllByRecursion (IsOpen u) ss × AllByRecursion (IsWithin u) ss) (sym is)
-    (subst (λ (xs : List Subscription). IsStored (record c { subscriptions = [] }) × AllByRecursion (IsOpen (record c { subscriptions = [] })) xs × AllByRecursion (IsWithin (record c { subscriptions = [] })) xs) (sym same) (
-      split_stored c h,
-      all_map (IsOpen c) (IsOpen (record c { subscriptions = [] })) c.subscriptions (λ s o. record { session = o.session; known = o.known }) h.shows,
-      all_map (IsWithin c) (IsWithin (record c { subscriptions = [] })) c.subscriptions (λ s w. w) within,
-    ))
 
 module _ (e : Kept) (n : ℕ) (name : Name) (ps : List Privilege) (to : Option Name) (h : IsSound e) where
   abbrev c : Kept
   c = kept_after e n (revoke name ps to)
 
   abbrev new : Kept
-  new = record c { subscriptions = filter (may_read c) e.subscriptions }
+  new = with_those (filter (may_read c) e.subscriptions) c
+
+  -- before circuits are dropped
+  abbrev b : Kept
+  b = record c { subscriptions = filter (may_read c) e.subscriptions }
 
   pub revoked_stored : IsStored c
   revoked_stored = record {
@@ -98,6 +117,16 @@ module _ (e : Kept) (n : ℕ) (name : Name) (ps : List Privilege) (to : Option N
   revoked_within = all_map (IsWithin e) (IsWithin c) e.subscriptions
       (λ s w T stands. limits_same (frame_of e) c.known.rights (actor (frame_of e) s.session) s.rel T refl (λ t. refl) ∙ w T stands) h.within
 
+  -- and no circuit either: the role sees what it saw
+  pub revoked_circuits : AllByRecursion (IsRoleCircuit c) e.circuits
+  revoked_circuits = all_map (IsRoleCircuit e) (IsRoleCircuit c) e.circuits (λ k i. record {
+    known = i.known;
+    is = seen_circuit e c.known.rights k.role (plan_at e.catalog k.rel) k.circuit (λ j x lt row. sees_same c.known.rights e.known.rights k.role (get_or (scans_of k.circuit.node) j x).table refl refl row) i.is;
+  }) h.circuits
+
+  kept_open : AllByRecursion (IsOpen b) b.subscriptions
+  kept_open = all_kept (IsOpen b) (may_read c) e.subscriptions (all_map (IsOpen e) (IsOpen b) e.subscriptions (λ s o. record { session = o.session; known = o.known }) h.stored.shows)
+
   pub revoked_sound : IsSound new
   revoked_sound = record {
     stored = record {
@@ -115,6 +144,10 @@ module _ (e : Kept) (n : ℕ) (name : Name) (ps : List Privilege) (to : Option N
     };
     served = all_pass (may_read c) e.subscriptions;
     within = all_kept (IsWithin new) (may_read c) e.subscriptions revoked_within;
+    circuits = all_map (IsRoleCircuit c) (IsRoleCircuit new) new.circuits
+        (λ k i. record { known = i.known; is = same_circuit c new.subscriptions new.circuits new.last k.role (plan_at c.catalog k.rel) k.circuit i.is }) (left_have b (IsRoleCircuit c) revoked_circuits);
+    there = left_there b kept_open (all_kept (λ s. is_some (place_of b s) ≡ true) (may_read c) e.subscriptions h.there);
+    read = left_read b (IsRoleCircuit c) revoked_circuits;
   }
 
   -- ---- the lines
@@ -167,3 +200,25 @@ module _ (e : Kept) (n : ℕ) (name : Name) (ps : List Privilege) (to : Option N
 
     pub revoked_ready : frame_refusal (frame_of e) n (revoke name ps to) ≡ None → refusal (at e T) n (revoke name ps to) ≡ None
     revoked_ready p = or_nothing (frame_refusal (frame_of e) n (revoke name ps to)) ∙ p
+
+  -- ---- the step
+
+  -- what is asked of the state in which subscriptions are split
+  pub split_ready : (v : Kept) → v ≡ c → IsStored v × AllByRecursion (IsRoleCircuit v) v.circuits × AllByRecursion (λ s. is_some (place_of v s) ≡ true) v.subscriptions
+  split_ready v is = subst (λ (u : Kept). IsStored u × AllByRecursion (IsRoleCircuit u) u.circuits × AllByRecursion (λ s. is_some (place_of u s) ≡ true) u.subscriptions) (sym is) (revoked_stored, revoked_circuits, h.there)
+
+  pub revoked_step : (v d : Kept) (kept : List Subscription) (lines : Vec Line) → frame_refusal (frame_of e) n (revoke name ps to) ≡ None → v ≡ c → kept ≡ filter (may_read v) v.subscriptions
+      → AreEnded v v.subscriptions (map line_of lines.items) → d ≡ with_those kept v → IsStep e n (revoke name ps to) (Accepted Ok lines) d
+  revoked_step v d kept lines passed was those ended left_is =
+      let is : d ≡ new = left_is ∙ ap (λ ss. with_those ss v) those ∙ ap (λ (u : Kept). with_those (filter (may_read u) u.subscriptions) u) was in
+      record {
+        answer = λ T s. (
+          revoked_ready T s passed,
+          refl,
+          ended T (subst (λ (u : Kept). Stands T u.tables) (sym was) s) ∙ ap (λ (u : Kept). flat_map (ended_line u T) u.subscriptions) was ∙ revoked_sent T s,
+        );
+        left = λ T s. subst (λ (t : State). IsBehind t (seen d)) (sym (revoked_left T s))
+            (subst (λ (u : Kept). IsBehind (at new T) (seen u)) (sym is) (record { frame = refl; rows = s }));
+        kept = no_refusal Ok refl;
+        sound = subst IsSound (sym is) revoked_sound;
+      }

@@ -1,14 +1,16 @@
 -- A change of the guard of a table as a step of the machine.
-use Rattle.std.proofs.Common.{◌≡◌, ℕ, zero, suc, Bool, true, false, cond, not, List, [], ◌∷◌, length, map, Option, None, Some, refl, sym, ap, subst, ◌∙◌, arith}
+use Rattle.std.proofs.Common.{◌≡◌, ℕ, zero, suc, Bool, true, false, cond, not, ◌||◌, List, [], ◌∷◌, length, map, Option, None, Some, refl, sym, ap, subst, ◌∙◌, arith}
 use Rattle.std.proofs.lemmas.Bool.Decides.{nat_tests}
-use Rattle.std.specs.Prelude.{◌==◌, Err, IfOk, Ok as OkResult, Result, filter, flat_map, is_some, slice_get}
-use Rattle.std.specs.List.{AllByRecursion}
+use Rattle.std.specs.Prelude.{◌==◌, Err, IfOk, IfSome, Ok as OkResult, Result, filter, flat_map, is_some, slice_get}
+use Rattle.std.proofs.lemmas.List.Elements.{All-cons, All-nil}
+use Rattle.std.specs.List.{All, AllByRecursion, list_any}
+use Rattle.iv_zset.specs.Limits.{Counts}
+use Rattle.iv_circuit.specs.Nodes.{Scanned, scans_of}
 use Rattle.iv_algebra.specs.Plans.{Lists}
-use Rattle.iv_algebra.specs.Shapes.{scans}
 use Rattle.iv_bind.specs.Faults.{if_some}
 use Rattle.iv_access.specs.Asked.{policy_from}
 use Rattle.iv_access.specs.Changing.{changed_at, insert_policy, remove_policy}
-use Rattle.iv_access.specs.Policies.{allowed, policy_of}
+use Rattle.iv_access.specs.Policies.{policy_of}
 use Rattle.iv_access.specs.Privileges.{first_missing}
 use Rattle.iv_access.specs.Rights.{Guard, Name, Rights}
 use Rattle.iv_access.specs.declared.privilege.Privilege.{Privilege}
@@ -23,26 +25,25 @@ use Rattle.iv_machine.specs.declared.Cause.{Cause}
 use Rattle.iv_machine.specs.declared.Cause.TheVariants as cause
 use Rattle.iv_machine.proofs.Reached.{given_kept, unique_kept}
 use Rattle.iv_engine.specs.Answering.{IsStep, seen, sent}
-use Rattle.iv_engine.specs.Kept.{Kept, IsOpen, IsSound, IsStored, IsWithin, at, cap, frame_of, may_read, shown_rows, with_rights}
+use Rattle.iv_engine.specs.Found.{total_at}
+use Rattle.iv_engine.specs.Kept.{IsCircuitFor, IsOpen, IsRoleCircuit, IsSound, IsStored, IsWithin, Kept, RoleCircuit, at, frame_of, is_read, may_read, place_of, shown_rows, with_rights}
 use Rattle.iv_engine.specs.Owned.{IsOwner, IsReady, asked, has_room}
 use Rattle.iv_engine.specs.Seen.{IsBehind}
 use Rattle.iv_engine.specs.Stands.{Stands}
-use Rattle.iv_engine.specs.Turned.{AreReadersTold, Each, IsBefore, Showed, Suits, turned_by, turned_line}
-use Rattle.iv_engine.specs.Views.{reply_of}
+use Rattle.iv_engine.specs.Turned.{AreReadersTold, AreShowed, WasRead, scans_table, turned_by, turned_line}
+use Rattle.iv_engine.specs.Views.{line_of, reply_of}
 use Rattle.iv_engine.specs.declared.answer.Answer.{Answer}
 use Rattle.iv_engine.specs.declared.answer.Answer.TheVariants.{Accepted, Refused}
 use Rattle.iv_engine.specs.declared.policies.Owned.{Owned}
 use Rattle.iv_engine.specs.declared.predicates.Predicates.{Predicates}
-use Rattle.iv_engine.specs.declared.turning.Before.{Before}
-use Rattle.iv_engine.specs.declared.turning.Before.TheVariants as before
+use Rattle.iv_engine.proofs.Circling.{bag_for, same_circuit, seen_circuit}
 use Rattle.iv_engine.proofs.Ending.{all_kept, all_pass, same_filter}
 use Rattle.iv_engine.proofs.Owning.{drop_tests, has_passed, owner_passes}
-use Rattle.iv_engine.proofs.Scanning.{eval_same, within_same}
-use Rattle.iv_engine.proofs.Seeing.{rows_same}
-use Rattle.iv_engine.proofs.Showing.{each_found, kept_found, kept_one, lists_behind, rows_are, shown_is, stands_behind}
+use Rattle.iv_engine.proofs.Seeing.{sees_same}
+use Rattle.iv_engine.proofs.Showing.{each_found, kept_found, kept_one, lists_behind, shown_is, stands_behind}
 use Rattle.iv_engine.proofs.Sound.{all_map, all_zip, has_same}
 use Rattle.iv_engine.proofs.Stepping.{no_refusal, same_lines}
-use Rattle.iv_engine.proofs.Turned.{each_map}
+use Rattle.iv_engine.proofs.Totals.{total_counts}
 
 -- ---- one guard of many
 
@@ -106,8 +107,8 @@ module _ (e : Kept) (table : ℕ) (change : Guard → Guard) where
   }
 
   -- those that stay open
-  kept_stored : (p : Subscription → Bool) → IsStored c → IsStored (record c { subscriptions = filter p e.subscriptions })
-  kept_stored p h = record {
+  kept_stored : (p : Subscription → Bool) (cs : List RoleCircuit) → IsStored c → IsStored (record c { subscriptions = filter p e.subscriptions; circuits = cs })
+  kept_stored p cs h = record {
     reached = record { unique = unique_kept p e.subscriptions h.reached.unique; given = given_kept e.last p e.subscriptions h.reached.given };
     roles = h.roles;
     numbered = h.numbered;
@@ -118,45 +119,34 @@ module _ (e : Kept) (table : ℕ) (change : Guard → Guard) where
     positive = h.positive;
     kinds = h.kinds;
     small = h.small;
-    shows = let new : Kept = record c { subscriptions = filter p e.subscriptions } in
+    shows = let new : Kept = record c { subscriptions = filter p e.subscriptions; circuits = cs } in
         all_kept (IsOpen new) p e.subscriptions (all_map (IsOpen c) (IsOpen new) e.subscriptions (λ s o. record { session = o.session; known = o.known }) h.shows);
   }
 
   may_read_same : (s : Subscription) → may_read c s ≡ may_read e s
   may_read_same s = ap (λ o. not (is_some o)) (first_same c.known.rights e.known.rights (actor (frame_of e) s.session) (map (λ r. (Select, r)) (needs_at e.catalog s.rel)) refl)
 
-  -- ---- what is shown where the table is not scanned
+  -- ---- circuits that do not scan the table
 
-  module _ (T : Lists) (s : Subscription) (others : AllByRecursion (λ t. (t == table) ≡ false) (scans (plan_at e.catalog s.rel))) where
-    abbrev role : ℕ
-    role = actor (frame_of e) s.session
+  neither : (x y : Bool) → (x || y) ≡ false → (x ≡ false) × (y ≡ false)
+  neither true y h = cc
+  neither false y h = (refl, h)
 
-    sees_same : AllByRecursion (λ t. allowed c.known.rights role T t ≡ allowed e.known.rights role T t) (scans (plan_at e.catalog s.rel))
-    sees_same = all_map (λ t. (t == table) ≡ false) (λ t. allowed c.known.rights role T t ≡ allowed e.known.rights role T t) (scans (plan_at e.catalog s.rel))
-        (λ t d. rows_same c.known.rights e.known.rights role t refl (other_guard change table t e.known.rights.guards d) (T t)) others
+  apart : (ss : List Scanned) → list_any (λ s. s.table == table) ss ≡ false → All (λ s. (s.table == table) ≡ false) ss
+  apart [] h = All-nil (λ (s : Scanned). (s.table == table) ≡ false)
+  apart (s ∷ ss) h = let x = neither (s.table == table) (list_any (λ (r : Scanned). r.table == table) ss) h in
+      All-cons (λ (r : Scanned). (r.table == table) ≡ false) s ss x.0 (apart ss x.1)
 
-    other_shows : shown_rows c T s ≡ shown_rows e T s
-    other_shows = eval_same (allowed c.known.rights role T) (allowed e.known.rights role T) (plan_at e.catalog s.rel) sees_same
+  other_circuit : (k : RoleCircuit) → scans_table k.circuit table ≡ false → IsRoleCircuit e k → IsCircuitFor c k.role (plan_at e.catalog k.rel) k.circuit
+  other_circuit k far i = seen_circuit e c.known.rights k.role (plan_at e.catalog k.rel) k.circuit
+      (λ j x lt row. sees_same c.known.rights e.known.rights k.role _ refl (other_guard change table _ e.known.rights.guards (apart (scans_of k.circuit.node) far j x lt)) row) i.is
 
-    other_within : is_within (at c T) s ≡ is_within (at e T) s
-    other_within = within_same (allowed c.known.rights role T) (allowed e.known.rights role T) cap (plan_at e.catalog s.rel) sees_same
+  pub were_read : IsSound e → AllByRecursion (WasRead c table) c.circuits
+  were_read h = all_map (IsRoleCircuit e) (WasRead c table) e.circuits
+      (λ k i. record { known = i.known; bag = bag_for e k.role k.rel k.circuit i.is h.stored; other = λ far. other_circuit k far i }) h.circuits
 
-  module _ (T : Lists) (stands : Stands T e.tables) where
-    showed_by : (s : Subscription) (b : Before) → IsWithin e s → IsBefore e table s b → Showed c T s b (shown_rows e T s)
-    showed_by s before.Untouched w x = (other_within T s x.1 ∙ w T stands, sym (other_shows T s x.1))
-    showed_by s (before.Table f) w x = rows_are e T s x.0 ∙ (λ i. filter (λ row. sym (x.1 row) i) (T s.rel))
-    showed_by s (before.View bag) w x = x.1 T stands
-
-  pub all_showed : (bs : List Before) (T : Lists) → IsSound e → Stands T e.tables → Each (IsBefore e table) e.subscriptions bs → Each (λ s b. Showed c T s b (shown_rows e T s)) c.subscriptions bs
-  all_showed bs T h stands a = each_map (IsWithin e) (IsBefore e table) (λ s b. Showed c T s b (shown_rows e T s)) e.subscriptions bs (showed_by T stands) h.within a
-
-  pub all_suit : (bs : List Before) → IsSound e → Each (IsBefore e table) e.subscriptions bs → Each (Suits c) c.subscriptions bs
-  all_suit bs h a = each_map (IsWithin e) (IsBefore e table) (Suits c) e.subscriptions bs suits h.within a
-    where
-      suits : (s : Subscription) (b : Before) → IsWithin e s → IsBefore e table s b → Suits c s b
-      suits s before.Untouched w x = tt
-      suits s (before.Table f) w x = x.0
-      suits s (before.View bag) w x = x.0
+  pub were_there : IsSound e → AllByRecursion (λ s. is_some (place_of c s) ≡ true) c.subscriptions
+  were_there h = h.there
 
   -- ---- those that stay, and the lines
 
@@ -201,16 +191,22 @@ module _ (e : Kept) (table : ℕ) (change : Guard → Guard) where
     each_within [] all = tt
     each_within (s ∷ ks) all = (λ T stands. (all T stands).0, each_within ks (λ T stands. (all T stands).1))
 
-    left_sound : (ks : List Subscription) → ((T : Lists) → Stands T e.tables → ks ≡ filter (is_within (at c T)) e.subscriptions) → IsSound (record c { subscriptions = ks })
-    left_sound ks keeps =
+    left_sound : (ks : List Subscription) (cs : List RoleCircuit) → ((T : Lists) → Stands T e.tables → ks ≡ filter (is_within (at c T)) e.subscriptions) → AllByRecursion (IsRoleCircuit c) cs
+        → AllByRecursion (λ s. is_some (place_of (record c { subscriptions = ks; circuits = cs }) s) ≡ true) ks
+        → AllByRecursion (λ k. is_read (frame_of (record c { subscriptions = ks; circuits = cs })) k ≡ true) cs → IsSound (record c { subscriptions = ks; circuits = cs })
+    left_sound ks cs keeps circuits there read =
         let T = lists_behind e in
         let is = keeps T (stands_behind e h.stored) in
         let stays = is_within (at c T) in
         record {
-          stored = subst (λ (xs : List Subscription). IsStored (record c { subscriptions = xs })) (sym is) (kept_stored stays (guarded_stored h.stored));
+          stored = subst (λ (xs : List Subscription). IsStored (record c { subscriptions = xs; circuits = cs })) (sym is) (kept_stored stays cs (guarded_stored h.stored));
           served = subst (AllByRecursion (λ s. may_read c s ≡ true)) (sym is)
               (all_kept (λ s. may_read c s ≡ true) stays e.subscriptions (all_map (λ s. may_read e s ≡ true) (λ s. may_read c s ≡ true) e.subscriptions (λ s r. may_read_same s ∙ r) h.served));
           within = each_within ks (λ U stands. subst (AllByRecursion (λ s. is_within (at c U) s ≡ true)) (sym (keeps U stands)) (all_pass (is_within (at c U)) e.subscriptions));
+          circuits = all_map (IsRoleCircuit c) (IsRoleCircuit (record c { subscriptions = ks; circuits = cs })) cs
+              (λ k i. record { known = i.known; is = same_circuit c ks cs e.last k.role (plan_at e.catalog k.rel) k.circuit i.is }) circuits;
+          there = there;
+          read = read;
         }
 
 -- ---- the step
@@ -244,16 +240,35 @@ module _ (e : Kept) (n : ℕ) (act : Act) (table : ℕ) (change : Guard → Guar
     act_refusal : frame_refusal (frame_of e) n act ≡ None → refusal (at e T) n act ≡ None
     act_refusal passed = (λ i. or_else (passed i) (g.rows T i))
 
-  guarded_step : (new : Kept) (bs : List Before) (a : Answer) → frame_refusal (frame_of e) n act ≡ None → Each (IsBefore e table) e.subscriptions bs → AreReadersTold now bs a new → IsStep e n act a new
-  guarded_step new bs (Refused r) passed all told = absurd told
-  guarded_step new bs (Accepted reply lines) passed all told =
-      let parts = λ (T : Lists) (stands : Stands T e.tables). told.2 T stands (shown_rows e T) (all_showed e table change bs T h stands all) in
+  if_found : (o : Option ℕ) (F : ℕ → Type 0) → ((i : ℕ) → o ≡ Some i → F i) → IfSome o F
+  if_found None F go = tt
+  if_found (Some i) F go = go i refl
+
+  each_of : (P : Subscription → Type 0) (ss : List Subscription) → ((s : Subscription) → P s) → AllByRecursion P ss
+  each_of P [] go = tt
+  each_of P (s ∷ ss) go = (go s, each_of P ss go)
+
+  -- the circuits show what was shown before
+  all_showed : (T : Lists) → Stands T e.tables → AreShowed now (shown_rows e T)
+  all_showed T stands = each_of (λ s. IfSome (place_of now s) (λ place. Counts (total_at now place) (shown_rows e T s))) e.subscriptions
+      (λ s. if_found (place_of now s) (λ place. Counts (total_at now place) (shown_rows e T s)) (λ i found. total_counts e h.circuits T stands s i found))
+
+  guarded_step : (new : Kept) (a : Answer) → frame_refusal (frame_of e) n act ≡ None → AreReadersTold now table a new → IsStep e n act a new
+  guarded_step new (Refused r) passed told = absurd told
+  guarded_step new (Accepted reply lines) passed told =
+      let ks = new.subscriptions in
+      let cs = new.circuits in
+      let left : (T : Lists) → Stands T e.tables → ks ≡ filter (is_within (at now T)) e.subscriptions = told.left in
+      let sent : (T : Lists) → Stands T e.tables → map line_of lines.items ≡ flat_map (λ s. turned_line now T s (shown_rows e T s)) e.subscriptions = λ T stands.
+      told.told T stands (shown_rows e T) (all_showed T stands) in
       record {
-        answer = λ T stands. (act_refusal T stands passed, ap reply_of told.0 ∙ g.reply, (parts T stands).1 ∙ sym (act_sent T stands));
+        answer = λ T stands. (act_refusal T stands passed, ap reply_of told.done ∙ g.reply, sent T stands ∙ sym (act_sent T stands));
         left = λ T stands. subst (λ (t : State). IsBehind t (seen new)) (sym (act_left T stands))
-            (subst (λ (v : Kept). IsBehind (at (still T stands) T) (seen v)) (sym (told.1 ∙ ap (λ ss. record now { subscriptions = ss }) (parts T stands).0)) (record { frame = refl; rows = stands }));
-        kept = no_refusal reply told.0;
-        sound = subst IsSound (sym told.1) (left_sound e table change h new.subscriptions (λ T stands. (parts T stands).0));
+            (subst (λ (v : Kept). IsBehind (at (still T stands) T) (seen v)) (sym (told.state ∙ ap (λ (ss : List Subscription). record now { subscriptions = ss; circuits = cs }) (left T stands))) (record { frame = refl; rows = stands }));
+        kept = no_refusal reply told.done;
+        sound = subst IsSound (sym told.state) (left_sound e table change h ks cs left told.circuits
+            (subst (λ (v : Kept). AllByRecursion (λ s. is_some (place_of v s) ≡ true) ks) told.state told.there)
+            (subst (λ (v : Kept). AllByRecursion (λ k. is_read (frame_of v) k ≡ true) cs) told.state told.read));
       }
 
 -- ---- the requests
@@ -262,19 +277,19 @@ pub by_told : {E : Type 0} (P Q : Answer → Kept → Type 0) (new : Kept) (r : 
 by_told P Q new (OkResult a) go h = go a h
 by_told P Q new (Err x) go h = tt
 
-pub security_step : (e new : Kept) (n : ℕ) (rel : Name) (enable force : Bool) (owned : Owned) (bs : List Before) (a : Answer) → IsSound e → IsOwner e n rel owned
-    → Each (IsBefore e owned.table.0) e.subscriptions bs → AreReadersTold (guarded owned.table.0 (λ g. record g { enabled = enable; forced = force }) e) bs a new → IsStep e n (row_security rel enable force) a new
-security_step e new n rel enable force owned bs a h o all told =
+pub security_step : (e new : Kept) (n : ℕ) (rel : Name) (enable force : Bool) (owned : Owned) (a : Answer) → IsSound e → IsOwner e n rel owned
+    → AreReadersTold (guarded owned.table.0 (λ g. record g { enabled = enable; forced = force }) e) owned.table.0 a new → IsStep e n (row_security rel enable force) a new
+security_step e new n rel enable force owned a h o told =
     let change : Guard → Guard = λ g. record g { enabled = enable; forced = force } in
     guarded_step e n (row_security rel enable force) owned.table.0 change
-    (record { rows = λ T. refl; after = λ T. ap (λ k. at (guarded k change e) T) o.number; ends = λ s. refl; reply = refl }) h new bs a (owner_passes e n rel owned o []) all told
+    (record { rows = λ T. refl; after = λ T. ap (λ k. at (guarded k change e) T) o.number; ends = λ s. refl; reply = refl }) h new a (owner_passes e n rel owned o []) told
 
-pub drop_step : (e new : Kept) (n : ℕ) (rel name : Name) (owned : Owned) (bs : List Before) (a : Answer) → IsSound e → IsOwner e n rel owned → is_some (policy_of e.known.rights owned.table.0 name) ≡ true
-    → Each (IsBefore e owned.table.0) e.subscriptions bs → AreReadersTold (guarded owned.table.0 (λ g. record g { policies = remove_policy name g.policies }) e) bs a new → IsStep e n (drop_policy rel name) a new
-drop_step e new n rel name owned bs a h o there all told =
+pub drop_step : (e new : Kept) (n : ℕ) (rel name : Name) (owned : Owned) (a : Answer) → IsSound e → IsOwner e n rel owned → is_some (policy_of e.known.rights owned.table.0 name) ≡ true
+    → AreReadersTold (guarded owned.table.0 (λ g. record g { policies = remove_policy name g.policies }) e) owned.table.0 a new → IsStep e n (drop_policy rel name) a new
+drop_step e new n rel name owned a h o there told =
     let change : Guard → Guard = λ g. record g { policies = remove_policy name g.policies } in
     guarded_step e n (drop_policy rel name) owned.table.0 change
-    (record { rows = λ T. refl; after = λ T. ap (λ k. at (guarded k change e) T) o.number; ends = λ s. refl; reply = refl }) h new bs a (drop_tests e n rel name owned true o there) all told
+    (record { rows = λ T. refl; after = λ T. ap (λ k. at (guarded k change e) T) o.number; ends = λ s. refl; reply = refl }) h new a (drop_tests e n rel name owned true o there) told
 
 module _ (e : Kept) (n : ℕ) (p : PolicyText) (owned : Owned) (preds : Predicates) (ready : IsReady e n p owned preds) where
   abbrev rights : Rights
@@ -286,9 +301,9 @@ module _ (e : Kept) (n : ℕ) (p : PolicyText) (owned : Owned) (preds : Predicat
   abbrev pub with_it : Guard → Guard
   with_it = λ g. record g { policies = insert_policy (policy_from rights (asked p preds)) g.policies }
 
-  pub policy_step : (new : Kept) (bs : List Before) (a : Answer) → IsSound e → has_room rights owned.table.0 ≡ true
-      → Each (IsBefore e owned.table.0) e.subscriptions bs → AreReadersTold (guarded owned.table.0 with_it e) bs a new → IsStep e n (create_policy p) a new
-  policy_step new bs a h room all told =
+  pub policy_step : (new : Kept) (a : Answer) → IsSound e → has_room rights owned.table.0 ≡ true
+      → AreReadersTold (guarded owned.table.0 with_it e) owned.table.0 a new → IsStep e n (create_policy p) a new
+  policy_step new a h room told =
       guarded_step e n (create_policy p) owned.table.0 with_it
       (record { rows = λ T. refl; after = λ T i. at (guarded (ready.owner.number i) (λ g. record g { policies = insert_policy (policy_is i) g.policies }) e) T; ends = λ s. refl; reply = refl })
-      h new bs a (has_passed e n p owned preds ready room) all told
+      h new a (has_passed e n p owned preds ready room) told

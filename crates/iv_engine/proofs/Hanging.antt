@@ -13,7 +13,7 @@ pub closed_behind : (s : State) (e new : Seen) → new ≡ record e { frame = cl
 closed_behind s e new h b = subst (λ (v : Seen). IsBehind (hung s) v) (sym h) (record { frame = ap closed b.frame; rows = b.rows })
 
 abbrev pub without_sessions : Kept → Kept
-without_sessions e = record e { sessions = []; subscriptions = [] }
+without_sessions e = record e { sessions = []; subscriptions = []; circuits = [] }
 
 pub all_closed : (e : Kept) → IsSound e → IsSound (without_sessions e)
 all_closed e h = record {
@@ -32,4 +32,7 @@ all_closed e h = record {
   };
   served = tt;
   within = tt;
+  circuits = tt;
+  there = tt;
+  read = tt;
 }

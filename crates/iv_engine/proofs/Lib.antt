@@ -22,7 +22,6 @@ mod Reaching
 mod Running
 mod Ending
 mod Seeing
-mod Passing
 mod Listing
 mod Turned
 mod Guarding
@@ -32,4 +31,18 @@ mod Creating
 mod Holding
 mod Hanging
 mod Needing
-mod Presenting
+mod Standing
+mod Beside
+mod Unread
+mod Becoming
+mod Replaced
+mod Totals
+mod Shared
+mod Dropped
+mod Circling
+mod Carrying
+mod Giving
+mod Building
+mod Pairing
+mod FoundLines
+mod Carried

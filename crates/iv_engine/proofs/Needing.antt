@@ -83,7 +83,3 @@ name_or_none (Some n) none r h is = ap (λ (m : Bor Name). m.now) is
 pub ok_as : {X E : Type 0} (f : X → Name) (r : Result X E) (a b : Name) → IfOk r (λ x. f x ≡ a) → a ≡ b → IfOk r (λ x. f x ≡ b)
 ok_as f (Ok x) a b h is = h ∙ is
 ok_as f (Err x) a b h is = tt
-
-pub some_mapped : {A B : Type 0} (f : A → B) (o : Option A) → is_some (option_map f o) ≡ is_some o
-some_mapped f None = refl
-some_mapped f (Some x) = refl

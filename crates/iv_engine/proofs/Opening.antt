@@ -1,30 +1,78 @@
 -- A new subscription.
-use Rattle.std.proofs.Common.{◌≡◌, ℕ, ◌+◌, Bool, true, false, cond, not, ◌||◌, List, [], ◌∷◌, ◌++◌, append-nil, None, Some, refl, ap, subst, ◌∙◌}
-use Rattle.std.specs.Prelude.{◌==◌, is_some, flat_map, nat_lt}
+use Rattle.std.proofs.Common.{◌≡◌, ℕ, ◌+◌, ◌<◌, Bool, true, false, cond, not, ◌&&◌, ◌||◌, List, [], ◌∷◌, ◌++◌, append-nil, length, map, get_or, Option, None, Some, refl, sym, ap, subst, ◌∙◌}
+use Rattle.std.specs.Prelude.{◌==◌, is_some, flat_map, nat_lt, position}
 use Rattle.std.specs.List.{AllByRecursion, list_any}
+use Rattle.std.specs.Global.{Vec}
+use Rattle.iv_zset.specs.Limits.{Counts}
+use Rattle.iv_zset.specs.Weights.{Weighed}
 use Rattle.iv_algebra.specs.Plans.{Lists}
 use Rattle.iv_bind.specs.Faults.{if_some}
 use Rattle.iv_access.specs.Rights.{Name}
+use Rattle.iv_circuit.specs.Circuits.{Running}
+use Rattle.iv_circuit.specs.Nodes.{total_of}
 use Rattle.iv_machine.specs.Act as machine
 use Rattle.iv_machine.specs.Act.{subscribe}
 use Rattle.iv_machine.specs.Refusing.{refusal, rows_refusal, or_else, test}
-use Rattle.iv_machine.specs.State.{Subscription, actor, is_within, is_within_for, subscription_of, shown, view_of}
+use Rattle.iv_machine.specs.State.{State, Subscription, actor, is_within, is_within_for, plan_at, subscription_of, shown, view_of}
 use Rattle.iv_machine.specs.Changing.{after, insert_subscription}
 use Rattle.iv_machine.specs.Machine.{changes, line_for, line_of as machine_line, ending, settled, difference}
 use Rattle.iv_machine.specs.Reached.{IsReached}
 use Rattle.iv_machine.proofs.Reached.{after_reached, next_is_new}
-use Rattle.iv_engine.specs.Answering.{sent}
-use Rattle.iv_engine.specs.Kept.{Kept, IsOpen, IsSound, IsWithin, at, frame_of, may_read, shown_rows}
-use Rattle.iv_engine.specs.Openable.{IsOpenable}
+use Rattle.iv_engine.specs.Answering.{IsStep, seen, sent}
+use Rattle.iv_engine.specs.Built.{AreInOrder, IsBeyond, IsNew}
+use Rattle.iv_engine.specs.Found.{total_at}
+use Rattle.iv_engine.specs.Kept.{Kept, IsCircuitFor, IsOpen, IsRoleCircuit, IsSound, IsWithin, RoleCircuit, acts_as, at, frame_of, is_for, is_read, may_read, place_of, shown_rows}
+use Rattle.iv_engine.specs.Openable.{AreFirstLines, HasCircuitAt, IsNewFor, IsOpenable, with_subscription}
+use Rattle.iv_engine.specs.Seen.{IsBehind}
 use Rattle.iv_engine.specs.Stands.{Stands}
+use Rattle.iv_engine.specs.Views.{line_of, reply_of}
+use Rattle.iv_engine.specs.declared.answer.Answer.TheVariants.{Accepted, Refused}
+use Rattle.iv_engine.specs.declared.command.Line.{Line}
+use Rattle.iv_engine.specs.declared.command.Refusal.TheVariants.{Limit}
+use Rattle.iv_engine.specs.declared.command.Reply.{Reply}
+use Rattle.iv_engine.proofs.Beside.{is_own, place_pushed, slot_is}
+use Rattle.iv_engine.proofs.Circling.{same_circuit}
+use Rattle.iv_engine.proofs.Listing.{from_none}
 use Rattle.iv_engine.proofs.Showing.{difference_none, shown_is}
 use Rattle.iv_engine.proofs.Sound.{all_map, all_zip}
 use Rattle.iv_engine.proofs.Stepping.{IsShown, each_shown, no_lines, none_ends, none_settled}
+use Rattle.iv_engine.proofs.Totals.{circuits_within, total_counts}
+use Rattle.iv_engine.proofs.Unread.{place_more, reads_it}
 
 -- ---- what is kept
 
-abbrev pub opened : Kept → Subscription → ℕ → Kept
-opened e s last = record e { subscriptions = insert_subscription s e.subscriptions; last = last }
+-- with the subscription, and perhaps a new circuit behind the others
+abbrev pub opened : Kept → List RoleCircuit → Subscription → ℕ → Kept
+opened e added s last = record e { subscriptions = insert_subscription s e.subscriptions; circuits = e.circuits ++ added; last = last }
+
+-- what one subscription passes, one passes after another is inserted; and where that passes one does
+or_true : (b c : Bool) → c ≡ true → (b || c) ≡ true
+or_true true c h = refl
+or_true false c h = h
+
+or_more : (b c d : Bool) → (b || c) ≡ true → (c ≡ true → d ≡ true) → (b || d) ≡ true
+or_more true c d h go = refl
+or_more false c d h go = go h
+
+any_inserted : (t : Subscription → Bool) (s : Subscription) (es : List Subscription) → list_any t es ≡ true → list_any t (insert_subscription s es) ≡ true
+any_inserted t s [] h = cc
+any_inserted t s (f ∷ es) h = by (nat_lt s.session f.session) (any_inserted t s es)
+  where
+    by : (b : Bool) → (list_any t es ≡ true → list_any t (insert_subscription s es) ≡ true) → list_any t (cond b (s ∷ f ∷ es) (f ∷ insert_subscription s es)) ≡ true
+    by true go = or_true (t s) (t f || list_any t es) h
+    by false go = or_more (t f) (list_any t es) (list_any t (insert_subscription s es)) h go
+
+own_inserted : (t : Subscription → Bool) (s : Subscription) (es : List Subscription) → t s ≡ true → list_any t (insert_subscription s es) ≡ true
+own_inserted t s [] h = ap (λ b. b || false) h
+own_inserted t s (f ∷ es) h = by (nat_lt s.session f.session) (own_inserted t s es h)
+  where
+    by : (b : Bool) → list_any t (insert_subscription s es) ≡ true → list_any t (cond b (s ∷ f ∷ es) (f ∷ insert_subscription s es)) ≡ true
+    by true later = ap (λ b. b || (t f || list_any t es)) h
+    by false later = or_true (t f) (list_any t (insert_subscription s es)) later
+
+all_joined : (P : RoleCircuit → Type 0) (ks more : List RoleCircuit) → AllByRecursion P ks → AllByRecursion P more → AllByRecursion P (ks ++ more)
+all_joined P [] more a b = b
+all_joined P (k ∷ ks) more a b = (a.0, all_joined P ks more a.1 b)
 
 all_inserted : (P : Subscription → Type 0) (s : Subscription) (es : List Subscription) → P s → AllByRecursion P es → AllByRecursion P (insert_subscription s es)
 all_inserted P s [] p a = (p, tt)
@@ -67,19 +115,43 @@ module _ (e : Kept) (n k : ℕ) (name : Name) (x : IsOpenable e n name k) (T : L
   rows_test = (λ i. or_else (x.passed i) (rows_refusal (at e T) n (subscribe name)))
       ∙ ap (λ j. test (not (is_within_for (at e T) (actor (frame_of e) n) j)) machine.limit) x.number
 
+  pub beyond : is_within (at e T) (asked e n k) ≡ false → refusal (at e T) n (subscribe name) ≡ Some machine.limit
+  beyond w = rows_test ∙ ap (λ b. test (not b) machine.limit) w
+
   pub decided : is_within (at e T) (asked e n k) ≡ true → refusal (at e T) n (subscribe name) ≡ None
   decided w = rows_test ∙ ap (λ b. test (not b) machine.limit) w
 
-module _ (e : Kept) (n k : ℕ) (name : Name) (h : IsSound e) (x : IsOpenable e n name k) (fits : IsWithin e (asked e n k)) where
+module _ (e : Kept) (n k : ℕ) (name : Name) (h : IsSound e) (x : IsOpenable e n name k) (fits : IsWithin e (asked e n k))
+    (added : List RoleCircuit) (are : AllByRecursion (IsNewFor e (actor (frame_of e) n) k) added) (found : is_some (position (is_for (actor (frame_of e) n) k) (e.circuits ++ added)) ≡ true) where
   abbrev s : Subscription
   s = asked e n k
 
   abbrev new : Kept
-  new = opened e s (e.last + 1)
+  new = opened e added s (e.last + 1)
 
   reached : IsReached (frame_of new)
-  reached = subst (λ j. IsReached (frame_of (opened e (asked e n j) (e.last + 1)))) x.number
+  reached = subst (λ j. IsReached (frame_of (opened e added (asked e n j) (e.last + 1)))) x.number
       (let r = after_reached (frame_of e) n (subscribe name) h.stored.reached in record { unique = r.unique; given = r.given })
+
+  -- ---- its circuits
+
+  still : (c : RoleCircuit) → IsRoleCircuit e c → IsRoleCircuit new c
+  still c i = record { known = i.known; is = same_circuit e new.subscriptions new.circuits new.last c.role (plan_at e.catalog c.rel) c.circuit i.is }
+
+  fresh : (c : RoleCircuit) → IsNewFor e (actor (frame_of e) n) k c → IsRoleCircuit new c
+  fresh c i = still c (record {
+    known = subst (λ rel. rel < length e.catalog) (sym i.shows) x.below;
+    is = subst (λ rel. IsCircuitFor e c.role (plan_at e.catalog rel) c.circuit) (sym i.shows) (subst (λ role. IsCircuitFor e role (plan_at e.catalog k) c.circuit) (sym i.acts) i.is.is);
+  })
+
+  old_read : (c : RoleCircuit) → is_read (frame_of e) c ≡ true → is_read (frame_of new) c ≡ true
+  old_read c r = any_inserted (λ y. (y.rel == c.rel) && acts_as (frame_of e) y.session c.role) s e.subscriptions r
+
+  new_read : (c : RoleCircuit) → IsNewFor e (actor (frame_of e) n) k c → is_read (frame_of new) c ≡ true
+  new_read c i = own_inserted (λ y. (y.rel == c.rel) && acts_as (frame_of e) y.session c.role) s e.subscriptions (reads_it (frame_of e) s c x.opened i.acts i.shows)
+
+  old_place : (y : Subscription) → is_some (place_of e y) ≡ true → is_some (place_of new y) ≡ true
+  old_place y t = place_more (is_for (actor (frame_of e) y.session) y.rel) e.circuits added t
 
   pub opened_sound : IsSound new
   opened_sound = record {
@@ -98,11 +170,17 @@ module _ (e : Kept) (n k : ℕ) (name : Name) (h : IsSound e) (x : IsOpenable e 
     };
     served = all_inserted (λ y. may_read new y ≡ true) s e.subscriptions (ap (λ o. not (is_some o)) x.reads) (all_map (λ y. may_read e y ≡ true) (λ y. may_read new y ≡ true) e.subscriptions (λ y r. r) h.served);
     within = all_inserted (IsWithin new) s e.subscriptions fits (all_map (IsWithin e) (IsWithin new) e.subscriptions (λ y w. w) h.within);
+    circuits = all_joined (IsRoleCircuit new) e.circuits added (all_map (IsRoleCircuit e) (IsRoleCircuit new) e.circuits still h.circuits) (all_map (IsNewFor e (actor (frame_of e) n) k) (IsRoleCircuit new) added fresh are);
+    there = all_inserted (λ y. is_some (place_of new y) ≡ true) s e.subscriptions found
+        (all_map (λ y. is_some (place_of e y) ≡ true) (λ y. is_some (place_of new y) ≡ true) e.subscriptions old_place h.there);
+    read = all_joined (λ c. is_read (frame_of new) c ≡ true) e.circuits added
+        (all_map (λ c. is_read (frame_of e) c ≡ true) (λ c. is_read (frame_of new) c ≡ true) e.circuits old_read h.read)
+        (all_map (IsNewFor e (actor (frame_of e) n) k) (λ c. is_read (frame_of new) c ≡ true) added new_read are);
   }
 
   module _ (T : Lists) (stands : Stands T e.tables) where
     after_is : after (at e T) n (subscribe name) ≡ at new T
-    after_is = ap (λ j. at (opened e (asked e n j) (e.last + 1)) T) x.number
+    after_is = ap (λ j. at (opened e added (asked e n j) (e.last + 1)) T) x.number
 
     abbrev P : Subscription → Type 0
     P y = IsShown new y × (ending (at new T) y ≡ None)
@@ -135,5 +213,92 @@ module _ (e : Kept) (n k : ℕ) (name : Name) (h : IsSound e) (x : IsOpenable e 
         ∙ inserted_lines (line_for (at e T) (at new T) (ending (at new T))) s e.subscriptions old_lines
         ∙ new_line
 
-pub subscribed_no_refusal : (k : ℕ) (r : machine.Refusal) → machine.subscribed k ≡ machine.refused r → ⊥
+subscribed_no_refusal : (k : ℕ) (r : machine.Refusal) → machine.subscribed k ≡ machine.refused r → ⊥
 subscribed_no_refusal k r h = cc
+
+-- ---- its circuit, and its first lines
+
+pub pushed_at : (e new : Kept) (role rel place : ℕ) (c : Running) → position (is_for role rel) e.circuits ≡ None → IsNew e role (plan_at e.catalog rel) c → place ≡ length e.circuits
+    → new ≡ record e { circuits = e.circuits ++ record { role = role; rel = rel; circuit = c } ∷ [] } → HasCircuitAt e role rel place new
+pushed_at e d role rel place c none is at state = record {
+  added = record { role = role; rel = rel; circuit = c } ∷ [];
+  is = (record { acts = refl; shows = refl; is = is }, tt);
+  shared = λ k. let no : false ≡ true = ap (λ (o : Option ℕ). is_some o) (sym none) ∙ k in cc;
+  first = ap (λ (v : Kept). position (is_for role rel) v.circuits) state
+      ∙ place_pushed (is_for role rel) (record { role = role; rel = rel; circuit = c }) (is_own role rel c) e.circuits none
+      ∙ ap (λ j. Some j) (sym at);
+  state = state;
+}
+
+pub first_lines : (e : Kept) (place : ℕ) (k : RoleCircuit) → place < length e.circuits → k ≡ get_or e.circuits place k → (s : Subscription) (showed : Weighed) → showed ≡ total_of k.circuit.node
+    → (rows : Weighed) → AreInOrder showed false rows → (lines : List machine.Line) → lines ≡ machine_line None s rows → AreFirstLines s (total_at e place) lines
+first_lines e place k low at s showed is rows order lines told all counts =
+    let total = ap (λ o. if_some o [] (λ (c : RoleCircuit). total_of c.circuit.node)) (slot_is e.circuits place k low at) ∙ sym is in
+    told ∙ ap (machine_line None s) (order [] all (from_none showed all (subst (λ (es : Weighed). Counts es all) total counts)))
+
+-- ---- the step
+
+module _ (e : Kept) (n k : ℕ) (name : Name) (h : IsSound e) (x : IsOpenable e n name k) (role : ℕ) (acts : role ≡ actor (frame_of e) n) where
+  -- where what it would show is beyond the limits
+  pub beyond_step : (new : Kept) → new ≡ e → IsBeyond e role (plan_at e.catalog k) → IsStep e n (subscribe name) (Refused Limit) new
+  beyond_step d same past = record {
+    answer = λ T stands. beyond e n k name x T (subst (λ r. is_within_for (at e T) r k ≡ false) acts (past T stands));
+    left = λ T stands. tt;
+    kept = same;
+    sound = subst IsSound (sym same) h;
+  }
+
+  module _ (place : ℕ) (mid : Kept) (got : HasCircuitAt e role k place mid) where
+    abbrev added : List RoleCircuit
+    added = got.added
+
+    are : AllByRecursion (IsNewFor e (actor (frame_of e) n) k) added
+    are = subst (λ r. AllByRecursion (IsNewFor e r k) added) acts got.is
+
+    -- with the circuit, and without the subscription yet
+    abbrev joined : Kept
+    joined = record e { circuits = e.circuits ++ added }
+
+    first : position (is_for (actor (frame_of e) n) k) (e.circuits ++ added) ≡ Some place
+    first = (λ i. position (is_for (sym acts i) k) (sym got.state i).circuits) ∙ got.first
+
+    found : is_some (position (is_for (actor (frame_of e) n) k) (e.circuits ++ added)) ≡ true
+    found = ap (λ (o : Option ℕ). is_some o) first
+
+    circuits : AllByRecursion (IsRoleCircuit joined) joined.circuits
+    circuits = all_joined (IsRoleCircuit joined) e.circuits added
+        (all_map (IsRoleCircuit e) (IsRoleCircuit joined) e.circuits
+        (λ c i. record { known = i.known; is = same_circuit e e.subscriptions joined.circuits e.last c.role (plan_at e.catalog c.rel) c.circuit i.is }) h.circuits)
+        (all_map (IsNewFor e (actor (frame_of e) n) k) (IsRoleCircuit joined) added (λ c i. record {
+          known = subst (λ rel. rel < length e.catalog) (sym i.shows) x.below;
+          is = same_circuit e e.subscriptions joined.circuits e.last c.role (plan_at e.catalog c.rel) c.circuit
+              (subst (λ rel. IsCircuitFor e c.role (plan_at e.catalog rel) c.circuit) (sym i.shows) (subst (λ r. IsCircuitFor e r (plan_at e.catalog k) c.circuit) (sym i.acts) i.is.is));
+        }) are)
+
+    fits : IsWithin e (asked e n k)
+    fits = circuits_within joined circuits (asked e n k) found
+
+    module _ (s : Subscription) (same : s ≡ asked e n k) (lines : Vec Line) (told : AreFirstLines s (total_at mid place) (map line_of lines.items)) (new : Kept) (left : new ≡ with_subscription s mid) where
+      abbrev now : Kept
+      now = opened e added (asked e n k) (e.last + 1)
+
+      now_is : new ≡ now
+      now_is = left ∙ (λ i. with_subscription (same i) (got.state i))
+
+      counts : (T : Lists) → Stands T e.tables → Counts (total_at mid place) (shown_rows e T (asked e n k))
+      counts T stands = subst (λ (v : Kept). Counts (total_at v place) (shown_rows e T (asked e n k))) (sym got.state) (total_counts joined circuits T stands (asked e n k) place first)
+
+      lines_sent : (T : Lists) (stands : Stands T e.tables) → map line_of lines.items ≡ sent e T n (subscribe name)
+      lines_sent T stands = told (shown_rows e T (asked e n k)) (counts T stands)
+          ∙ ap (λ (y : Subscription). machine_line None y (difference [] (shown_rows e T (asked e n k)))) same
+          ∙ sym (opened_sent e n k name h x fits added are found T stands)
+
+      -- it has its first lines, and is kept beside the others
+      pub opened_step : (reply : Reply) → reply_of reply ≡ machine.subscribed s.number → IsStep e n (subscribe name) (Accepted reply lines) new
+      opened_step reply is = record {
+        answer = λ T stands. (decided e n k name x T (fits T stands), is ∙ ap (λ (y : Subscription). machine.subscribed y.number) same, lines_sent T stands);
+        left = λ T stands. subst (λ (t : State). IsBehind t (seen new)) (sym (opened_left e n k name h x fits added are found T stands))
+            (subst (λ (v : Kept). IsBehind (at now T) (seen v)) (sym now_is) (record { frame = refl; rows = stands }));
+        kept = λ r no. subscribed_no_refusal s.number r (sym is ∙ no);
+        sound = subst IsSound (sym now_is) (opened_sound e n k name h x fits added are found);
+      }

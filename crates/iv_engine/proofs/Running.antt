@@ -1,5 +1,5 @@
 -- A step from its answer, and the lines of a list of commands one by one.
-use Rattle.std.proofs.Common.{◌≡◌, ℕ, Bool, true, false, ◌&&◌, List, [], ◌∷◌, ◌++◌, map, length, refl, sym, ap, ◌∙◌, append_assoc, arith, subst}
+use Rattle.std.proofs.Common.{◌≡◌, ℕ, Bool, true, false, ◌&&◌, List, [], ◌∷◌, ◌++◌, length, refl, sym, ap, ◌∙◌, append_assoc, arith, subst}
 use Rattle.std.specs.List.{list_all}
 use Rattle.iv_rows.specs.Columns.{Column, has_columns, has_distinct_names}
 use Rattle.iv_rows.specs.Names.{is_name}
@@ -13,7 +13,6 @@ use Rattle.iv_engine.specs.Answering.{IsAnswer, IsKept, IsLeft, said, seen}
 use Rattle.iv_engine.specs.Kept.{Kept, at, frame_of}
 use Rattle.iv_engine.specs.Seen.{IsBehind}
 use Rattle.iv_engine.specs.Stands.{Stands}
-use Rattle.iv_engine.specs.Views.{reply_of, line_of}
 use Rattle.iv_engine.specs.declared.answer.Answer.{Answer}
 use Rattle.iv_engine.specs.declared.answer.Answer.TheVariants.{Refused, Accepted}
 
@@ -35,15 +34,7 @@ module _ (e : Kept) (T : Lists) (n : ℕ) (act : machine.Act) where
 head_reply : (n k : ℕ) (r : machine.Reply) (x : machine.Refusal) (ls : List machine.Line) → machine.reply n r ∷ ls ≡ machine.reply k (machine.refused x) ∷ [] → r ≡ machine.refused x
 head_reply n k r x ls h = cc
 
-pub kept_refused : (e new : Kept) (n : ℕ) (a : Answer) → IsKept e a new → (k : ℕ) (x : machine.Refusal) → said n a ≡ machine.reply k (machine.refused x) ∷ [] → new ≡ e
-kept_refused e new n (Refused r) h k x l = h
-kept_refused e new n (Accepted reply lines) h k x l = absurd (h x (head_reply n k (reply_of reply) x (map line_of lines.items) l))
-
 -- ---- commands that keep the rules on shape
-
-and_first : (b c : Bool) → (b && c) ≡ true → b ≡ true
-and_first true c h = refl
-and_first false c h = cc
 
 and_second : (b c : Bool) → (b && c) ≡ true → c ≡ true
 and_second true c h = h

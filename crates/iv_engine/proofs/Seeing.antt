@@ -70,10 +70,6 @@ at_most m n k h l = grind (arith, nat_tests)
 less : (m n k : ℕ) → m ≤ n → nat_lt n k ≡ true → nat_lt m k ≡ true
 less m n k h l = grind (arith, nat_tests)
 
-fewer_by : (b e : Bool) (m n : ℕ) → m ≤ n → cond b (cond e 1 0 + m) m ≤ cond e 1 0 + n
-fewer_by true e m n h = omega arith
-fewer_by false e m n h = omega arith
-
 none_more : (n : ℕ) → n ≡ 0 + n
 none_more n = omega arith
 
@@ -190,7 +186,7 @@ module _ (p : List Cell → Bool) where
       by true k = (n.0, k)
       by false k = k
 
-  weight_filter : (a b : List (List Cell)) (q : List Cell) → weight (filter p a) (filter p b) q ≡ cond (p q) (weight a b q) (pos 0)
+  pub weight_filter : (a b : List (List Cell)) (q : List Cell) → weight (filter p a) (filter p b) q ≡ cond (p q) (weight a b q) (pos 0)
   weight_filter a b q = (λ i. pos (copies_filter q b i) -ℤ pos (copies_filter q a i)) ∙ by (p q) (copies q a) (copies q b)
     where
       by : (c : Bool) (m n : ℕ) → pos (cond c n 0) -ℤ pos (cond c m 0) ≡ cond c (pos n -ℤ pos m) (pos 0)

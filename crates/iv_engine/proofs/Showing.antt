@@ -1,5 +1,5 @@
 -- What subscriptions show, and which of them end.
-use Rattle.std.proofs.Common.{◌≡◌, ℕ, ◌≤◌, Bool, true, false, cond, not, ◌||◌, List, [], ◌∷◌, ◌++◌, length, map, pos, Option, None, Some, refl, sym, ap, ◌∙◌, arith}
+use Rattle.std.proofs.Common.{◌≡◌, ℕ, ◌≤◌, Bool, true, false, cond, not, ◌||◌, List, [], ◌∷◌, ◌++◌, length, map, pos, Option, None, Some, refl, ap, ◌∙◌, arith}
 use Rattle.std.proofs.lemmas.Bool.Decides.{nat_tests}
 use Rattle.std.proofs.lemmas.Int.{ints}
 use Rattle.std.specs.Prelude.{◌==◌, ◌-ℤ◌, is_some, filter, nat_le, slice_get}
@@ -22,8 +22,7 @@ use Rattle.iv_machine.specs.Machine.{difference, is_change, weighted, rising_row
 use Rattle.iv_machine.specs.Reached.{AreUnique}
 use Rattle.iv_machine.specs.declared.Cause.{Cause}
 use Rattle.iv_machine.specs.declared.Cause.TheVariants as cause
-use Rattle.iv_engine.specs.Answering.{IsShownBy}
-use Rattle.iv_engine.specs.Kept.{Kept, IsStored, IsWithin, frame_of, at, cap, may_read, shown_rows, table_rows}
+use Rattle.iv_engine.specs.Kept.{Kept, IsStored, frame_of, at, cap, may_read, shown_rows, table_rows}
 use Rattle.iv_engine.specs.Stands.{Stands}
 use Rattle.iv_engine.proofs.Seeing.{filter_within, rows_same}
 use Rattle.iv_engine.proofs.Tables.{IsATable, plan_is}
@@ -74,11 +73,6 @@ lists_behind e = λ t. list_behind (rows_of e.tables t)
 
 pub stands_behind : (e : Kept) → IsStored e → Stands (lists_behind e) e.tables
 stands_behind e h = λ t. counts_behind (rows_of e.tables t) (h.positive t)
-
--- what is within the limits is not said to be beyond them
-pub is_shown : (e : Kept) (s : Subscription) (minus : Bool) → IsStored e → IsWithin e s → IsShownBy e s minus None → ⊥
-is_shown e s minus h within none = let T = lists_behind e in let stands = stands_behind e h in
-    let d : false ≡ true = sym (none T stands) ∙ within T stands in cc
 
 -- ---- which subscriptions end
 

@@ -1,6 +1,6 @@
 -- What every stored state has is kept by requests that show nothing.
 use Rattle.std.proofs.Common.{◌≡◌, ℕ, ◌+◌, ◌<◌, ◌≤◌, Bool, true, false, cond, not, ◌&&◌, ◌||◌, List, [], ◌∷◌, ◌++◌, length, length-append, Option, None, Some, refl, sym, ap, subst, ◌∙◌, arith}
-use Rattle.std.specs.Prelude.{◌==◌, Result, Ok, Err, is_some, option_map, unwrap_or}
+use Rattle.std.specs.Prelude.{◌==◌, Result, Ok, Err, is_some, option_map, position, unwrap_or}
 use Rattle.std.specs.List.{AllByRecursion, IsDistinct, list_any}
 use Rattle.std.proofs.lemmas.Int.{ints}
 use Rattle.std.proofs.lemmas.List.{map-append}
@@ -15,24 +15,26 @@ use Rattle.iv_bind.specs.Faults.{if_some}
 use Rattle.iv_access.specs.declared.privilege.Privilege.{Privilege}
 use Rattle.iv_access.specs.declared.privilege.Privilege.TheVariants.{Select}
 use Rattle.iv_access.specs.Known.{Relation, known_at_start, role_number, grantee_of}
-use Rattle.iv_access.specs.Policies.{allowed}
+use Rattle.iv_access.specs.Policies.{allowed, may_see}
 use Rattle.iv_access.specs.Rights.{Grant, Grantee, Role, Guard, Name, Rights}
-use Rattle.iv_access.specs.Privileges.{has, is_admin, is_for, privilege_eq}
+use Rattle.iv_access.specs.Privileges.{has, is_admin, is_for, privilege_eq, role_name}
 use Rattle.iv_access.specs.Changing.{grant_eq, granted, for_each, all_privileges}
-use Rattle.iv_machine.specs.State.{Session, Subscription, actor, is_open, rel_of, session_of}
+use Rattle.iv_circuit.specs.Circuits.{Running}
+use Rattle.iv_machine.specs.State.{Session, Subscription, actor, is_open, plan_at, rel_of, session_of}
 use Rattle.iv_machine.specs.Act.{begin, create_role, create_table, create_view, grant, no_session}
 use Rattle.iv_machine.specs.Changing.{view_held, with_held}
 use Rattle.iv_machine.specs.Refusing.{administrator, bad_text, frame_refusal, free_relation, known_role, role_refusal, test}
 use Rattle.iv_machine.proofs.Placing.{roles_after}
 use Rattle.iv_machine.proofs.Serving.{or_none}
-use Rattle.iv_engine.specs.Kept.{HoldsKinds, IsOpen, IsSound, IsWithin, Kept, frame_of, may_read, relation_in, shown_rows}
+use Rattle.iv_engine.specs.Kept.{HoldsKinds, IsCircuitFor, IsOpen, IsRoleCircuit, IsSound, IsWithin, Kept, RoleCircuit, frame_of, is_for as is_circuit_for, is_read, may_read, place_of, relation_in, shown_rows}
 use Rattle.iv_engine.specs.Next.{kept_after, with_relation_of}
 use Rattle.iv_engine.specs.Stands.{Stands}
 use Rattle.iv_engine.proofs.Tabled.{heads_with, none_beyond, rows_with}
 use Rattle.iv_engine.proofs.Holding.{still_holds}
-use Rattle.iv_engine.proofs.Seeing.{for_same, rows_same}
+use Rattle.iv_engine.proofs.Seeing.{for_same, rows_same, sees_same}
 use Rattle.iv_engine.proofs.Tables.{known_at, numbered_push}
-use Rattle.iv_engine.proofs.Unmoved.{IsUnmoved, other_sessions, sees_before, still_numbered, still_read, still_shown, still_there, still_within}
+use Rattle.iv_engine.proofs.Unread.{read_has, read_same}
+use Rattle.iv_engine.proofs.Unmoved.{IsUnmoved, other_sessions, sees_before, sight_before, still_circuit, still_numbered, still_read, still_shown, still_there, still_within}
 
 -- ---- lists
 
@@ -64,10 +66,6 @@ any_same r q role p rel (g ∷ gs) = λ i. (rel == g.rel && (privilege_eq p g.pr
 pub has_same : (r q : Rights) (role : ℕ) (p : Privilege) (rel : ℕ) → r.grants ≡ q.grants → has r role p rel ≡ has q role p rel
 has_same r q role p rel h = ap (λ gs. is_admin role || list_any (λ g. rel == g.rel && (privilege_eq p g.privilege && is_for r role g.grantee)) gs) h
     ∙ ap (λ b. is_admin role || b) (any_same r q role p rel q.grants)
-
-or_left : (b c : Bool) → b ≡ true → (b || c) ≡ true
-or_left true c h = refl
-or_left false c h = cc
 
 or_more : (a b c : Bool) → (b ≡ true → c ≡ true) → (a || b) ≡ true → (a || c) ≡ true
 or_more true b c f h = refl
@@ -130,8 +128,34 @@ module _ (e d : Kept) (es : List Subscription) (u : AllByRecursion (IsUnmoved e 
   pub all_within : ((T : Lists) → Stands T d.tables → Stands T e.tables) → AllByRecursion (IsWithin e) es → AllByRecursion (IsWithin d) es
   all_within before a = all_zip (IsUnmoved e d) (IsWithin e) (IsWithin d) es (λ s v w T k. still_within e d s v T (before T k) ∙ w T (before T k)) u a
 
+  pub all_there : d.circuits ≡ e.circuits → AllByRecursion (λ s. is_some (place_of e s) ≡ true) es → AllByRecursion (λ s. is_some (place_of d s) ≡ true) es
+  all_there same a = all_zip (IsUnmoved e d) (λ s. is_some (place_of e s) ≡ true) (λ s. is_some (place_of d s) ≡ true) es
+      (λ s v h. (λ i. is_some (position (is_circuit_for (v.acts i) s.rel) (same i))) ∙ h) u a
+
   pub all_shown : (T : Lists) → Stands T e.tables → AllByRecursion (λ s. shown_rows d T s ≡ shown_rows e T s) es
   all_shown T k = all_map (IsUnmoved e d) (λ s. shown_rows d T s ≡ shown_rows e T s) es (λ s v. still_shown e d s v T k) u
+
+-- ---- circuits that subscriptions read which are unmoved
+
+module _ (e d : Kept) (back : (T : Lists) → Stands T d.tables → Stands T e.tables) (u : AllByRecursion (IsUnmoved e d) d.subscriptions) where
+  -- what is there of the role and the relation in e is there in d
+  abbrev Stays : (role rel : ℕ) → Type 0
+  Stays role rel = (c : Running) → rel < length e.catalog → IsCircuitFor e role (plan_at e.catalog rel) c → (rel < length d.catalog) × IsCircuitFor d role (plan_at d.catalog rel) c
+
+  one_stays : (s : Subscription) → IsUnmoved e d s → Stays (actor (frame_of d) s.session) s.rel
+  one_stays s v c l i = (
+    let g = v.grows in omega (arith, l, g),
+    still_circuit e d s v back c (subst (λ role. IsCircuitFor e role (plan_at e.catalog s.rel) c) v.acts i),
+  )
+
+  each_stays : AllByRecursion (λ s. Stays (actor (frame_of d) s.session) s.rel) d.subscriptions
+  each_stays = all_map (IsUnmoved e d) (λ s. Stays (actor (frame_of d) s.session) s.rel) d.subscriptions one_stays u
+
+  pub circuits_stay : (ks : List RoleCircuit) → AllByRecursion (IsRoleCircuit e) ks → AllByRecursion (λ k. is_read (frame_of d) k ≡ true) ks → AllByRecursion (IsRoleCircuit d) ks
+  circuits_stay [] a r = tt
+  circuits_stay (k ∷ ks) a r =
+      let x = read_has (frame_of d) k Stays r.0 each_stays k.circuit a.0.known a.0.is in
+      (record { known = x.0; is = x.1 }, circuits_stay ks a.1 r.1)
 
 -- ---- a new relation, which has no row
 
@@ -155,6 +179,10 @@ module _ (e : Kept) (h : IsSound e) (name owner : Name) (held : Held) where
         needs = ap (λ (y : Option Entry). if_some y [] (λ z. reached_by z.rel z.held)) same;
         reads = λ rel k. has_more r q (actor (frame_of e) s.session) Select rel (length r.guards) all_privileges (Role (role_number e.known.rights owner)) refl k;
         sees = λ T k. sees_before r q (actor (frame_of e) s.session) g e.tables T refl refl (λ t l. none_beyond e h.stored t (subst (λ m. m ≤ t) h.stored.guards l)) k;
+        acts = refl;
+        grows = let l = length-append e.catalog (x ∷ []) in omega (arith, l);
+        kinds = λ t l. ap (λ (y : Option Entry). option_map kinds_of (if_some y None (λ z. table_in z.held))) (still_numbered name (Some held) e.catalog t (known_at 0 e.catalog t h.stored.numbered (omega arith) (omega (arith, l))));
+        sight = λ t l. sight_before r q (actor (frame_of e) s.session) g refl refl t (subst (λ m. t < m) (sym h.stored.guards) l);
       }
 
   pub relation_unmoved : AllByRecursion (IsUnmoved e c) e.subscriptions
@@ -181,6 +209,9 @@ module _ (e : Kept) (h : IsSound e) (name owner : Name) (held : Held) where
         };
         served = all_read e c e.subscriptions relation_unmoved h.served;
         within = all_within e c e.subscriptions relation_unmoved before h.within;
+        circuits = circuits_stay e c before relation_unmoved e.circuits h.circuits h.read;
+        there = all_there e c e.subscriptions relation_unmoved refl h.there;
+        read = h.read;
       }
 
 -- the text of a view that passes
@@ -199,7 +230,11 @@ module _ (e : Kept) (n : ℕ) (h : IsSound e) where
     begin_same s o = open_same e.sessions (record { number = n; role = role_number e.known.rights role }) s.session o.session
 
     pub begin_unmoved : AllByRecursion (IsUnmoved e begun) e.subscriptions
-    begin_unmoved = all_map (IsOpen e) (IsUnmoved e begun) e.subscriptions (λ s o. other_sessions e begun.sessions e.subscriptions s (begin_same s o)) h.stored.shows
+    begin_unmoved = all_map (IsOpen e) (IsUnmoved e begun) e.subscriptions (λ s o. other_sessions e begun.sessions e.subscriptions e.circuits s (begin_same s o)) h.stored.shows
+
+    begin_read : AllByRecursion (λ k. is_read (frame_of begun) k ≡ true) e.circuits
+    begin_read = all_map (λ k. is_read (frame_of e) k ≡ true) (λ k. is_read (frame_of begun) k ≡ true) e.circuits
+        (λ k r. read_same (frame_of e) begun.sessions k e.subscriptions (all_map (IsOpen e) (λ s. session_of begun.sessions s.session ≡ session_of e.sessions s.session) e.subscriptions begin_same h.stored.shows) ∙ r) h.read
 
     pub begin_sound : frame_refusal (frame_of e) n (begin role) ≡ None → IsSound begun
     begin_sound passed = record {
@@ -218,6 +253,9 @@ module _ (e : Kept) (n : ℕ) (h : IsSound e) where
       };
       served = all_read e begun e.subscriptions begin_unmoved h.served;
       within = all_within e begun e.subscriptions begin_unmoved (λ T k. k) h.within;
+      circuits = circuits_stay e begun (λ T k. k) begin_unmoved e.circuits h.circuits begin_read;
+      there = all_there e begun e.subscriptions begin_unmoved refl h.there;
+      read = begin_read;
     }
 
   module _ (name : Name) where
@@ -230,11 +268,16 @@ module _ (e : Kept) (n : ℕ) (h : IsSound e) where
         let q = named.known.rights in
         let a = some_role (session_of e.sessions s.session) (length q.roles) (length r.roles) o.session in
         let k = actor (frame_of e) s.session in
+        let called : role_name q k ≡ role_name r k = ap (λ z. unwrap_or z []) (still_there r.roles name k (role_below e.sessions s.session (length r.roles) h.stored.roles o.session)) in
         record {
           plan = refl;
           needs = refl;
           reads = λ rel y. ap (λ role. has q role Select rel) a ∙ has_same q r k Select rel refl ∙ y;
-          sees = λ T y. ap (λ role. allowed q role T) a ∙ (λ i t. rows_same q r k t (ap (λ z. unwrap_or z []) (still_there r.roles name k (role_below e.sessions s.session (length r.roles) h.stored.roles o.session))) refl (T t) i);
+          sees = λ T y. ap (λ role. allowed q role T) a ∙ (λ i t. rows_same q r k t called refl (T t) i);
+          acts = a;
+          grows = omega arith;
+          kinds = λ t l. refl;
+          sight = λ t l row. ap (λ role. may_see q role t row) a ∙ sees_same q r k t called refl row;
         }) h.stored.shows
 
     pub role_sound : frame_refusal (frame_of e) n (create_role name) ≡ None → IsSound named
@@ -254,6 +297,9 @@ module _ (e : Kept) (n : ℕ) (h : IsSound e) where
       };
       served = all_read e named e.subscriptions role_unmoved h.served;
       within = all_within e named e.subscriptions role_unmoved (λ T k. k) h.within;
+      circuits = circuits_stay e named (λ T k. k) role_unmoved e.circuits h.circuits h.read;
+      there = all_there e named e.subscriptions role_unmoved refl h.there;
+      read = h.read;
     }
 
   module _ (rel : Name) (ps : List Privilege) (to : Option Name) where
@@ -270,6 +316,10 @@ module _ (e : Kept) (n : ℕ) (h : IsSound e) where
           needs = refl;
           reads = λ on y. has_more r q k Select on (rel_of e.catalog rel) ps (grantee_of r to) refl y;
           sees = λ T y. (λ i t. rows_same q r k t refl refl (T t) i);
+          acts = refl;
+          grows = omega arith;
+          kinds = λ t l. refl;
+          sight = λ t l row. sees_same q r k t refl refl row;
         }) h.stored.shows
 
     pub grant_sound : IsSound given
@@ -289,6 +339,9 @@ module _ (e : Kept) (n : ℕ) (h : IsSound e) where
       };
       served = all_read e given e.subscriptions grant_unmoved h.served;
       within = all_within e given e.subscriptions grant_unmoved (λ T k. k) h.within;
+      circuits = circuits_stay e given (λ T k. k) grant_unmoved e.circuits h.circuits h.read;
+      there = all_there e given e.subscriptions grant_unmoved refl h.there;
+      read = h.read;
     }
 
   module _ (name owner : Name) (columns : List Column) where
@@ -328,7 +381,7 @@ unfolding IsDistinct
 empty_zset = record { distinct = tt; weights = λ q. tt }
 
 abbrev pub kept_at_start : Kept
-kept_at_start = record { known = known_at_start; catalog = []; sessions = []; subscriptions = []; last = 0; tables = [] }
+kept_at_start = record { known = known_at_start; catalog = []; sessions = []; subscriptions = []; circuits = []; last = 0; tables = [] }
 
 pub start_sound : IsSound kept_at_start
 start_sound = record {
@@ -347,4 +400,7 @@ start_sound = record {
   };
   served = tt;
   within = tt;
+  circuits = tt;
+  there = tt;
+  read = tt;
 }

@@ -96,7 +96,7 @@ some_kinds : (o : Option Table) → is_some (kinds_held o) ≡ is_some o
 some_kinds None = refl
 some_kinds (Some t) = refl
 
-some_columns : (o : Option (List Column)) → is_some (option_map kinds_of o) ≡ is_some o
+pub some_columns : (o : Option (List Column)) → is_some (option_map kinds_of o) ≡ is_some o
 some_columns None = refl
 some_columns (Some columns) = refl
 

@@ -7,7 +7,7 @@ use Rattle.iv_access.specs.Faults.{count_like}
 use Rattle.std.specs.List.{position_from}
 use Rattle.std.proofs.lemmas.Slice.Eq.{bytes_eq-Decides}
 use Rattle.std.proofs.lemmas.List.Sums.{sum_by-cons}
-use Rattle.iv_rows.specs.Columns.{Column, kinds_of}
+use Rattle.iv_rows.specs.Columns.{kinds_of}
 use Rattle.iv_algebra.specs.Shapes.{Scan}
 use Rattle.iv_bind.specs.Faults.{if_some}
 use Rattle.iv_bind.specs.Catalogs.{Entry, Held, Table, View, named, numbered, plan_of, reached_by, schema_of, table_in}
@@ -32,11 +32,6 @@ differ m n h l = grind (arith, nat_tests)
 
 next_is : (n : ℕ) → suc n ≡ n + 1
 next_is n = omega arith
-
--- a table has columns
-pub held_is : (h : Held) → is_some (table_in h) ≡ true → (c : List Column) × (h ≡ Table c)
-held_is (Table c) t = (c, refl)
-held_is (View a) t = cc
 
 -- ---- a relation by its number
 
@@ -81,9 +76,6 @@ still_schema es more rel t = ap (λ o. if_some o None (λ (e : Entry). table_in 
     there : (o : Option Entry) → is_some (if_some o None (λ e. table_in e.held)) ≡ true → is_some o ≡ true
     there None k = k
     there (Some x) k = refl
-
-pub still_table : (es more : List Entry) (rel : ℕ) → IsATable es rel → IsATable (es ++ more) rel
-still_table es more rel t = ap (λ o. is_some o) (still_schema es more rel t) ∙ t
 
 -- no relation has a number that comes later
 pub none_later : (n : ℕ) (es : List Entry) (k : ℕ) → AreNumbered n es → n + length es ≤ k → numbered es k ≡ None

@@ -40,10 +40,6 @@ pub closed : (o : Option Session) → None ≡ option_map (λ s. s.role) o → i
 closed None h = refl
 closed (Some s) h = cc
 
-pub no_actor : (e : Kept) (n : ℕ) (act : Act) → None ≡ option_map (λ s. s.role) (session_of e.sessions n)
-    → or_else (test (not (is_open (frame_of e) n)) machine.no_session) (role_refusal (frame_of e) n (actor (frame_of e) n) act) ≡ Some machine.no_session
-no_actor e n act h = ap (λ b. or_else (test (not b) machine.no_session) (role_refusal (frame_of e) n (actor (frame_of e) n) act)) (closed (session_of e.sessions n) h)
-
 -- ---- faults in their order
 
 -- the fault is told as the refusal, and there is none where there is none

@@ -1,6 +1,6 @@
 -- Subscriptions that a change of sessions, rights or relations leaves as they were: what they show, the limits of it, and
 -- that their readers may read.
-use Rattle.std.proofs.Common.{◌≡◌, ℕ, zero, suc, ◌<◌, ◌≤◌, Bool, true, false, cond, not, List, [], ◌∷◌, ◌++◌, length, map, Option, None, Some, refl, sym, ap, ◌∙◌, arith}
+use Rattle.std.proofs.Common.{◌≡◌, ℕ, zero, suc, ◌<◌, ◌≤◌, Bool, true, false, cond, not, List, [], ◌∷◌, ◌++◌, length, map, Option, None, Some, refl, sym, ap, subst, ◌∙◌, arith}
 use Rattle.std.proofs.lemmas.Bool.Decides.{nat_tests}
 use Rattle.std.specs.Prelude.{◌==◌, filter, is_some, nat_lt, option_map, slice_get, unwrap_or}
 use Rattle.iv_algebra.specs.Evaluation.{eval, plan_within}
@@ -10,22 +10,31 @@ use Rattle.iv_algebra.specs.declared.tables.Table.{Table}
 use Rattle.iv_bind.specs.Catalogs.{Entry, Held, numbered}
 use Rattle.iv_access.specs.declared.privilege.Privilege.TheVariants.{Select}
 use Rattle.iv_access.specs.Policies.{allowed, may_see}
+use Rattle.iv_algebra.specs.Fits.{or_nothing}
+use Rattle.iv_algebra.specs.Rows.{Cells}
+use Rattle.iv_circuit.specs.Circuits.{Running}
+use Rattle.iv_circuit.specs.Keeping.{StandsOn}
 use Rattle.iv_access.specs.Privileges.{first_missing, has, role_name}
 use Rattle.iv_access.specs.Rights.{Guard, Name, Rights}
 use Rattle.iv_machine.specs.Changing.{with_held}
 use Rattle.iv_machine.specs.State.{Session, Subscription, actor, is_within, needs_at, next_rel, plan_at, session_of}
 use Rattle.iv_machine.proofs.Placing.{find_kept}
-use Rattle.iv_engine.specs.Kept.{Kept, at, cap, frame_of, may_read, shown_rows}
+use Rattle.iv_engine.specs.Kept.{IsCircuitOf, Kept, RoleCircuit, at, cap, frame_of, kinds_at, may_read, shown_rows}
 use Rattle.iv_engine.specs.Stands.{Stands}
 use Rattle.iv_engine.proofs.Holding.{to_list}
-use Rattle.iv_engine.proofs.Seeing.{rows_same}
+use Rattle.iv_engine.proofs.Seeing.{rows_same, sees_same}
 
--- in d it has the plan and the needs that it has in e, and its reader may select what it might, and sees the same rows
+-- in d it has the plan and the needs that it has in e, and its reader may select what it might, and sees the same rows; the
+-- relations of e are those of d, and the reader is the same and sees the same of each table
 pub record IsUnmoved (e d : Kept) (s : Subscription) : Type 0 where
   pub plan : plan_at d.catalog s.rel ≡ plan_at e.catalog s.rel
   pub needs : needs_at d.catalog s.rel ≡ needs_at e.catalog s.rel
   pub reads : (rel : ℕ) → has e.known.rights (actor (frame_of e) s.session) Select rel ≡ true → has d.known.rights (actor (frame_of d) s.session) Select rel ≡ true
   pub sees : (T : Lists) → Stands T e.tables → allowed d.known.rights (actor (frame_of d) s.session) T ≡ allowed e.known.rights (actor (frame_of e) s.session) T
+  pub acts : actor (frame_of d) s.session ≡ actor (frame_of e) s.session
+  pub grows : length e.catalog ≤ length d.catalog
+  pub kinds : (t : ℕ) → t < length e.catalog → kinds_at d.catalog t ≡ kinds_at e.catalog t
+  pub sight : (t : ℕ) → t < length e.catalog → (row : Cells) → may_see d.known.rights (actor (frame_of d) s.session) t row ≡ may_see e.known.rights (actor (frame_of e) s.session) t row
 
 -- ---- what follows
 
@@ -51,6 +60,18 @@ module _ (e d : Kept) (s : Subscription) (u : IsUnmoved e d s) where
 
     pub still_within : is_within (at d T) s ≡ is_within (at e T) s
     still_within = λ i. plan_within cap (u.plan i) (u.sees T stands i)
+
+  -- its circuit
+  pub still_circuit : ((T : Lists) → Stands T d.tables → Stands T e.tables) → (c : Running) → IsCircuitOf e s c → IsCircuitOf d s c
+  still_circuit back c h = record {
+    plan = h.plan ∙ sym u.plan;
+    known = λ k x lt. let l = h.known k x lt in let g = u.grows in omega (arith, l, g);
+    scans = λ k x lt. let l = h.known k x lt in let i = h.scans k x lt in record {
+      columns = i.columns ∙ ap (λ o. length (or_nothing o)) (sym (u.kinds _ l));
+      filter = λ row. i.filter row ∙ sym (u.sight _ l row);
+    };
+    stands = λ T w. subst (StandsOn cap c.node) (sym (u.sees T (back T w))) (h.stands T (back T w));
+  }
 
 -- ---- one relation more
 
@@ -84,16 +105,23 @@ sees_before r q role g tables T name guards beyond_none stands = λ i t. each t 
     each : (t : ℕ) → filter (may_see q role t) (T t) ≡ filter (may_see r role t) (T t)
     each t = by t (nat_lt t (length r.guards)) refl
 
+pub sight_before : (r q : Rights) (role : ℕ) (g : Guard) → role_name q role ≡ role_name r role → q.guards ≡ r.guards ++ g ∷ [] → (t : ℕ) → t < length r.guards → (row : Cells) → may_see q role t row ≡ may_see r role t row
+sight_before r q role g name guards t l = sees_same q r role t name (ap (λ gs. slice_get gs t) guards ∙ still_there r.guards g t l)
+
 -- ---- other sessions
 
 -- where its session's role stays
 pub actor_same : (e : Kept) (ss : List Session) (n : ℕ) → session_of ss n ≡ session_of e.sessions n → actor (frame_of (record e { sessions = ss })) n ≡ actor (frame_of e) n
 actor_same e ss n h = ap (λ (o : Option Session). unwrap_or (option_map (λ x. x.role) o) (length e.known.rights.roles)) h
 
-pub other_sessions : (e : Kept) (ss : List Session) (es : List Subscription) (s : Subscription) → session_of ss s.session ≡ session_of e.sessions s.session → IsUnmoved e (record e { sessions = ss; subscriptions = es }) s
-other_sessions e ss es s h = let a = actor_same e ss s.session h in record {
+pub other_sessions : (e : Kept) (ss : List Session) (es : List Subscription) (cs : List RoleCircuit) (s : Subscription) → session_of ss s.session ≡ session_of e.sessions s.session → IsUnmoved e (record e { sessions = ss; subscriptions = es; circuits = cs }) s
+other_sessions e ss es cs s h = let a = actor_same e ss s.session h in record {
   plan = refl;
   needs = refl;
   reads = λ rel k. ap (λ role. has e.known.rights role Select rel) a ∙ k;
   sees = λ T stands. ap (λ role. allowed e.known.rights role T) a;
+  acts = a;
+  grows = omega arith;
+  kinds = λ t l. refl;
+  sight = λ t l row. ap (λ role. may_see e.known.rights role t row) a;
 }

@@ -1,12 +1,8 @@
 -- What private functions promise of an answer: its lines, and what is kept afterwards.
-use Rattle.std.specs.Prelude.{◌≡◌, ℕ, Bool, cond, List, [], ◌∷◌, map, flat_map, ℤ, Option, Some, None, false, true}
-use Rattle.std.specs.Global.{Vec}
-use Rattle.iv_rows.specs.Cell.{Cell}
-use Rattle.iv_zset.specs.Limits.{Counts}
-use Rattle.iv_zset.specs.Weights.{Weighed}
+use Rattle.std.specs.Prelude.{◌≡◌, ℕ, cond, List, [], ◌∷◌, map, flat_map, Option, Some, None, false}
 use Rattle.iv_algebra.specs.Plans.{Lists}
 use Rattle.iv_machine.specs.Act as machine
-use Rattle.iv_machine.specs.State.{Subscription, actor, is_within_for, view_for}
+use Rattle.iv_machine.specs.State.{Subscription}
 use Rattle.iv_machine.specs.Refusing.{refusal}
 use Rattle.iv_machine.specs.Changing.{after}
 use Rattle.iv_machine.specs.Machine.{reply_to, changes, settled, line_of as machine_line, difference, step}
@@ -73,25 +69,6 @@ moved_line e T U s = change_line e e T U s
 -- the lines of subscriptions that were open before
 abbrev pub moved_lines : Kept → Lists → Lists → List Subscription → List machine.Line
 moved_lines e T U es = flat_map (moved_line e T U) es
-
--- the rows of a bag, as a difference from no row, or to none
-abbrev pub AreListed : Weighed → Bool → Weighed → Type 0
-AreListed bag minus rows = (A : List (List Cell)) → Counts bag A → rows ≡ cond minus (difference A []) (difference [] A)
-
--- the rows that a relation shows to a role, as a difference from no row, or to none, where the limits hold; none where
--- they do not
-abbrev pub AreShownAt : Kept → (role rel : ℕ) → Bool → Lists → Option (Vec (List Cell × ℤ)) → Type 0
-AreShownAt e role rel minus T None = is_within_for (at e T) role rel ≡ false
-AreShownAt e role rel minus T (Some rows) =
-    (is_within_for (at e T) role rel ≡ true)
-    × (rows.items ≡ cond minus (difference (view_for (at e T) role rel) []) (difference [] (view_for (at e T) role rel)))
-
-abbrev pub AreShown : Kept → (role rel : ℕ) → Bool → Option (Vec (List Cell × ℤ)) → Type 0
-AreShown e role rel minus rows = (T : Lists) → Stands T e.tables → AreShownAt e role rel minus T rows
-
--- the same of a subscription and its reader
-abbrev pub IsShownBy : Kept → Subscription → Bool → Option (Vec (List Cell × ℤ)) → Type 0
-IsShownBy e s minus rows = AreShown e (actor (frame_of e) s.session) s.rel minus rows
 
 -- the line that ends a subscription for want of a privilege, which takes back all that it shows
 abbrev pub last_line : Kept → Lists → Subscription → machine.Line

@@ -10,8 +10,10 @@ use Rattle.iv_bind.specs.Codes.{column_code, entries_code}
 use Rattle.iv_access.specs.Codes.{known_code, rights_code}
 use Rattle.iv_access.specs.Known.{Known}
 use Rattle.iv_access.specs.Rights.{Rights}
+use Rattle.iv_circuit.specs.Circuits.{Running}
+use Rattle.iv_circuit.specs.Codes.{running_code}
 use Rattle.iv_machine.specs.State.{Frame, Session, Subscription}
-use Rattle.iv_engine.specs.Kept.{Kept}
+use Rattle.iv_engine.specs.Kept.{Kept, RoleCircuit}
 use Rattle.iv_engine.specs.Seen.{Seen}
 
 abbrev pub session_code : Coded Session
@@ -37,14 +39,27 @@ frame_code =
     (λ f. ((f.cap, f.rights), ((f.catalog, f.sessions), (f.subscriptions, f.last))))
     (λ p. record { cap = p.0.0; rights = p.0.1; catalog = p.1.0.0; sessions = p.1.0.1; subscriptions = p.1.1.0; last = p.1.1.1 }) (λ _. refl)
 
+abbrev pub role_circuit_code : Coded RoleCircuit
+role_circuit_code =
+    code_by (ℕ × (ℕ × Running)) (coded× coded_ℕ (coded× coded_ℕ running_code)) (λ k. (k.role, (k.rel, k.circuit)))
+    (λ p. record { role = p.0; rel = p.1.0; circuit = p.1.1 }) (λ _. refl)
+
 abbrev pub kept_code : Coded Kept
 kept_code =
-    code_by ((Known × List Entry) × ((List Session × List Subscription) × (ℕ × List Table)))
+    code_by ((Known × List Entry) × ((List Session × (List Subscription × List RoleCircuit)) × (ℕ × List Table)))
     (coded× (coded× known_code entries_code)
-    (coded× (coded× (coded_list session_code) (coded_list subscription_code))
+    (coded× (coded× (coded_list session_code) (coded× (coded_list subscription_code) (coded_list role_circuit_code)))
     (coded× coded_ℕ (coded_list table_code))))
-    (λ e. ((e.known, e.catalog), ((e.sessions, e.subscriptions), (e.last, e.tables))))
-    (λ p. record { known = p.0.0; catalog = p.0.1; sessions = p.1.0.0; subscriptions = p.1.0.1; last = p.1.1.0; tables = p.1.1.1 }) (λ _. refl)
+    (λ e. ((e.known, e.catalog), ((e.sessions, (e.subscriptions, e.circuits)), (e.last, e.tables))))
+    (λ p. record {
+      known = p.0.0;
+      catalog = p.0.1;
+      sessions = p.1.0.0;
+      subscriptions = p.1.0.1.0;
+      circuits = p.1.0.1.1;
+      last = p.1.1.0;
+      tables = p.1.1.1;
+    }) (λ _. refl)
 
 abbrev pub seen_code : Coded Seen
 seen_code =

@@ -1,21 +1,32 @@
 -- What the engine keeps, and the machine's frame that it stands for.
-use Rattle.std.specs.Prelude.{◌≡◌, ℕ, ◌<◌, ◌≤◌, Bool, true, not, List, [], Option, None, Some, filter, length, map, is_some, option_map}
-use Rattle.std.specs.List.{AllByRecursion}
+use Rattle.std.specs.Prelude.{◌≡◌, ℕ, ◌<◌, ◌≤◌, ◌==◌, ◌&&◌, Bool, true, false, not, List, [], Option, None, Some, filter, length, map, is_some, option_map, position}
+use Rattle.std.specs.List.{All, AllByRecursion, list_any}
 use Rattle.iv_rows.specs.Columns.{Column, kinds_of}
 use Rattle.iv_zset.specs.Weights.{Weighed, IsBag, IsZSet}
 use Rattle.iv_algebra.specs.Contents.{AreOf, heads_of, rows_of}
 use Rattle.iv_algebra.specs.Fits.{Heads}
 use Rattle.iv_algebra.specs.declared.tables.Table.{Table}
 use Rattle.iv_algebra.specs.Plans.{Lists}
+use Rattle.iv_algebra.specs.Shapes.{Shape}
 use Rattle.iv_rows.specs.Cell.{Cell}
 use Rattle.iv_bind.specs.Catalogs.{Entry, schema_of, table_in}
+use Rattle.iv_bind.specs.Faults.{if_some}
 use Rattle.iv_access.specs.Known.{Known, Relation}
-use Rattle.iv_access.specs.Policies.{may_see}
+use Rattle.iv_access.specs.Policies.{allowed, may_see}
 use Rattle.iv_access.specs.Rights.{Rights}
-use Rattle.iv_machine.specs.State.{Frame, State, Session, Subscription, actor, is_open, is_within_for, missing_for, view_for}
+use Rattle.iv_circuit.specs.Circuits.{AreScans, Running}
+use Rattle.iv_circuit.specs.Keeping.{StandsOn}
+use Rattle.iv_circuit.specs.Nodes.{plan_of, scans_of}
+use Rattle.iv_machine.specs.State.{Frame, State, Session, Subscription, actor, is_open, is_within_for, missing_for, plan_at, session_of, view_for}
 use Rattle.iv_machine.specs.Numbered.{AreNumbered}
 use Rattle.iv_machine.specs.Reached.{IsReached}
 use Rattle.iv_engine.specs.Stands.{Stands}
+
+-- the circuit of what a relation shows to a role
+pub record RoleCircuit : Type 0 where
+  pub role : ℕ
+  pub rel : ℕ
+  pub circuit : Running
 
 -- the relations stand in the catalog at their numbers, and the tables among them have their rows
 pub record Kept : Type 0 where
@@ -23,6 +34,7 @@ pub record Kept : Type 0 where
   pub catalog : List Entry
   pub sessions : List Session
   pub subscriptions : List Subscription
+  pub circuits : List RoleCircuit
   pub last : ℕ
   pub tables : List Table
 
@@ -94,8 +106,49 @@ pub record IsStored (e : Kept) : Type 0 where
   pub small : (t : ℕ) → length (rows_of e.tables t) ≤ cap
   pub shows : AllByRecursion (IsOpen e) e.subscriptions
 
--- and of each open subscription the reader may select from all that it needs, and the limits hold
+-- the circuit of the plan for the role: over each table that it scans stands what the role may see of it, and it has taken
+-- in all rows of the tables
+pub record IsCircuitFor (e : Kept) (role : ℕ) (p : Shape) (c : Running) : Type 0 where
+  pub plan : plan_of c.node ≡ p
+  pub known : All (λ t. t.table < length e.catalog) (scans_of c.node)
+  pub scans : AreScans (kinds_at e.catalog) e.known.rights role c.node
+  pub stands : (T : Lists) → Stands T e.tables → StandsOn cap c.node (allowed e.known.rights role T)
+
+-- the circuit of what the subscription shows
+abbrev pub IsCircuitOf : Kept → Subscription → Running → Type 0
+IsCircuitOf e s c = IsCircuitFor e (actor (frame_of e) s.session) (plan_at e.catalog s.rel) c
+
+-- the circuit of what the relation shows to the role
+pub record IsRoleCircuit (e : Kept) (k : RoleCircuit) : Type 0 where
+  pub known : k.rel < length e.catalog
+  pub is : IsCircuitFor e k.role (plan_at e.catalog k.rel) k.circuit
+
+-- ---- which circuit a subscription reads
+
+-- it is for the role and the relation
+abbrev pub is_for : (role rel : ℕ) → RoleCircuit → Bool
+is_for role rel k = (k.role == role) && (k.rel == rel)
+
+-- the place of the first that is for the subscription
+abbrev pub place_of : Kept → Subscription → Option ℕ
+place_of e s = position (is_for (actor (frame_of e) s.session) s.rel) e.circuits
+
+-- the session is open, and acts for the role
+abbrev pub acts_as : Frame → (session role : ℕ) → Bool
+acts_as f n role = if_some (session_of f.sessions n) false (λ s. s.role == role)
+
+-- some open subscription reads it
+abbrev pub is_read : Frame → RoleCircuit → Bool
+is_read f k = list_any (λ s. (s.rel == k.rel) && acts_as f s.session k.role) f.subscriptions
+
+-- ---- what holds between requests
+
+-- and of each open subscription the reader may select from all that it needs, the limits hold, and its circuit is there;
+-- each circuit is that of its relation and role, and is read
 pub record IsSound (e : Kept) : Type 0 where
   pub stored : IsStored e
   pub served : AllByRecursion (λ s. may_read e s ≡ true) e.subscriptions
   pub within : AllByRecursion (IsWithin e) e.subscriptions
+  pub circuits : AllByRecursion (IsRoleCircuit e) e.circuits
+  pub there : AllByRecursion (λ s. is_some (place_of e s) ≡ true) e.subscriptions
+  pub read : AllByRecursion (λ k. is_read (frame_of e) k ≡ true) e.circuits

@@ -11,7 +11,9 @@ pub mod Telling
 pub mod Answering
 pub mod Summed
 pub mod Placed
-pub mod Reading
+pub mod Each
+pub mod Found
+pub mod Built
 pub mod Moved
 pub mod Resolving
 pub mod Turned
@@ -19,3 +21,4 @@ pub mod Owned
 pub mod Finished
 pub mod Defined
 pub mod Openable
+pub mod Taken

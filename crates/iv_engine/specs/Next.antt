@@ -47,6 +47,7 @@ kept_after e n act = record {
   catalog = after_catalog (frame_of e) act;
   sessions = after_sessions (frame_of e) n act;
   subscriptions = e.subscriptions;
+  circuits = e.circuits;
   last = e.last;
   tables = tables_after e act;
 }

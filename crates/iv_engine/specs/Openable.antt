@@ -1,13 +1,21 @@
 -- The relation that a subscription may be opened to.
-use Rattle.std.specs.Prelude.{◌≡◌, ◌<◌, ◌-◌, ◌^◌, ℕ, true, length, None, Some, Result, Ok, Err}
+use Rattle.std.specs.Prelude.{◌≡◌, ◌<◌, ◌-◌, ◌^◌, ℕ, true, List, [], ◌++◌, length, Option, None, Some, is_some, position, Result, Ok, Err}
+use Rattle.std.specs.List.{AllByRecursion}
+use Rattle.iv_rows.specs.Cell.{Cell}
 use Rattle.iv_rows.specs.declared.schema.RelId.{RelId}
 use Rattle.iv_access.specs.declared.privilege.Privilege.{Privilege}
 use Rattle.iv_access.specs.declared.privilege.Privilege.TheVariants.{Select}
 use Rattle.iv_access.specs.Rights.{Name}
+use Rattle.iv_zset.specs.Limits.{Counts}
+use Rattle.iv_zset.specs.Weights.{Weighed}
+use Rattle.iv_machine.specs.Act as machine
 use Rattle.iv_machine.specs.Act.{subscribe}
+use Rattle.iv_machine.specs.Changing.{insert_subscription}
+use Rattle.iv_machine.specs.Machine.{difference, line_of as machine_line}
 use Rattle.iv_machine.specs.Refusing.{frame_refusal}
-use Rattle.iv_machine.specs.State.{actor, is_open, missing_for, rel_of}
-use Rattle.iv_engine.specs.Kept.{Kept, frame_of}
+use Rattle.iv_machine.specs.State.{Subscription, actor, is_open, missing_for, plan_at, rel_of}
+use Rattle.iv_engine.specs.Built.{IsBeyond, IsNew}
+use Rattle.iv_engine.specs.Kept.{Kept, RoleCircuit, frame_of, is_for}
 use Rattle.iv_engine.specs.Views.{refusal_of}
 use Rattle.iv_engine.specs.declared.predicates.Stop.{Stop}
 use Rattle.iv_engine.specs.declared.predicates.Stop.TheVariants.{Refused, Memory}
@@ -30,3 +38,30 @@ abbrev pub MayOpen : Kept → ℕ → Name → Result RelId Stop → Type 0
 MayOpen e n name (Ok rel) = IsOpenable e n name rel.0
 MayOpen e n name (Err (Refused r)) = frame_refusal (frame_of e) n (subscribe name) ≡ Some (refusal_of r)
 MayOpen e n name (Err Memory) = Unit {0}
+
+-- the first line of a subscription, to all lists that the Z-set counts
+abbrev pub AreFirstLines : Subscription → Weighed → List machine.Line → Type 0
+AreFirstLines s showed lines = (rows : List (List Cell)) → Counts showed rows → lines ≡ machine_line None s (difference [] rows)
+
+-- with the subscription, which has the last number given
+abbrev pub with_subscription : Subscription → Kept → Kept
+with_subscription s e = record e { subscriptions = insert_subscription s e.subscriptions; last = s.number }
+
+-- a new circuit of what the relation shows to the role
+pub record IsNewFor (e : Kept) (role rel : ℕ) (k : RoleCircuit) : Type 0 where
+  pub acts : k.role ≡ role
+  pub shows : k.rel ≡ rel
+  pub is : IsNew e role (plan_at e.catalog rel) k.circuit
+
+-- the place of the first that is for the role and the relation: a new one behind the others only where there was none
+pub record HasCircuitAt (e : Kept) (role rel place : ℕ) (new : Kept) : Type 0 where
+  pub added : List RoleCircuit
+  pub is : AllByRecursion (IsNewFor e role rel) added
+  pub shared : is_some (position (is_for role rel) e.circuits) ≡ true → added ≡ []
+  pub first : position (is_for role rel) new.circuits ≡ Some place
+  pub state : new ≡ record e { circuits = e.circuits ++ added }
+
+-- none where that would break the limits
+abbrev pub IsCircuitAt : Kept → (role rel : ℕ) → Option ℕ → Kept → Type 0
+IsCircuitAt e role rel None new = (new ≡ e) × IsBeyond e role (plan_at e.catalog rel)
+IsCircuitAt e role rel (Some place) new = HasCircuitAt e role rel place new

@@ -5,7 +5,7 @@ use Rattle.std.specs.List.{list_any}
 use Rattle.iv_rows.specs.Cell.{Cell}
 use Rattle.iv_zset.specs.Limits.{Counts}
 use Rattle.iv_zset.specs.Support.{rows_in}
-use Rattle.iv_zset.specs.Weights.{Weighed, weight_of, SameZ, AllInRange, IsOutOfRange, IsZSet}
+use Rattle.iv_zset.specs.Weights.{Weighed, weight_of, SameZ, AllInRange, IsBag, IsOutOfRange, IsZSet}
 use Rattle.iv_algebra.specs.Plans.{Lists}
 use Rattle.iv_algebra.specs.declared.tables.Table.{Table}
 use Rattle.iv_algebra.specs.Contents.{heads_of, rows_of}
@@ -67,3 +67,8 @@ pub record AreAdded (old : List Table) (changes : List Change) (new : List Table
   pub heads : (t : ℕ) → heads_of new t ≡ heads_of old t
   pub zsets : (t : ℕ) → IsZSet (rows_of new t)
   pub sums : (t : ℕ) → SameZ (rows_of new t) (change_at changes t ++ rows_of old t)
+
+-- rows and what is added to them are a bag that can be stored
+pub record HasRoom (more base : Weighed) : Type 0 where
+  pub bag : IsBag (more ++ base)
+  pub in_range : AllInRange (more ++ base)

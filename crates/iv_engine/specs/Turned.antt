@@ -1,110 +1,126 @@
 -- What readers see more and less where the policies of a table change, and which subscriptions end.
-use Rattle.std.specs.Prelude.{◌≡◌, ℕ, ◌==◌, Bool, true, false, List, [], ◌∷◌, ◌++◌, ℤ, neg_ℤ, filter, flat_map, map, is_some, None, Some}
-use Rattle.std.specs.List.{AllByRecursion}
+use Rattle.std.specs.Prelude.{◌≡◌, ℕ, ◌<◌, ◌==◌, Bool, true, false, List, [], ◌∷◌, ◌++◌, filter, flat_map, length, map, None, IfSome, is_some}
+use Rattle.std.specs.List.{AllByRecursion, list_any}
 use Rattle.iv_zset.specs.Limits.{Counts}
 use Rattle.iv_zset.specs.Weights.{IsBag, Weighed}
 use Rattle.iv_algebra.specs.Rows.{Cells}
 use Rattle.iv_algebra.specs.Plans.{Lists}
-use Rattle.iv_algebra.specs.Shapes.{scans}
-use Rattle.iv_access.specs.Filters.{Filter, lets_through}
-use Rattle.iv_access.specs.Policies.{may_see}
-use Rattle.iv_bind.specs.Catalogs.{schema_of, view_of}
+use Rattle.iv_circuit.specs.Circuits.{Running}
+use Rattle.iv_circuit.specs.Nodes.{scans_of, total_of}
 use Rattle.iv_machine.specs.Act as machine
 use Rattle.iv_machine.specs.Machine.{difference, line_of as machine_line}
-use Rattle.iv_machine.specs.State.{Subscription, actor, is_within, plan_at}
+use Rattle.iv_machine.specs.State.{Subscription, is_within, plan_at}
 use Rattle.iv_machine.specs.declared.Cause.TheVariants as cause
-use Rattle.iv_engine.specs.Kept.{Kept, at, frame_of, shown_rows}
+use Rattle.iv_engine.specs.Built.{IsBeyond, IsNew}
+use Rattle.iv_engine.specs.Found.{beside_of, total_at}
+use Rattle.iv_engine.specs.Kept.{IsCircuitFor, IsRoleCircuit, Kept, RoleCircuit, at, frame_of, is_read, place_of, shown_rows}
+use Rattle.iv_engine.specs.Moved.{IsBagDifference, shared_rows}
 use Rattle.iv_engine.specs.Stands.{Stands}
 use Rattle.iv_engine.specs.Views.{line_of}
 use Rattle.iv_engine.specs.declared.answer.Answer.{Answer}
 use Rattle.iv_engine.specs.declared.answer.Answer.TheVariants.{Refused, Accepted}
 use Rattle.iv_engine.specs.declared.command.Line.{Line}
+use Rattle.iv_engine.specs.declared.command.Reply.{Reply}
 use Rattle.iv_engine.specs.declared.command.Reply.TheVariants.{Ok}
-use Rattle.iv_engine.specs.declared.turning.Before.{Before}
-use Rattle.iv_engine.specs.declared.turning.Before.TheVariants as before
+use Rattle.iv_engine.specs.declared.turning.Turn.{Turn}
+use Rattle.iv_engine.specs.declared.turning.Turn.TheVariants.{Same, Anew, Beyond}
 
--- ---- rows of a table
+-- ---- circuits
 
--- a row that passes now and did not pass before, and with minus its copies one that passed before and does not now
-abbrev pub turn : (was is : Bool) → Cells × ℤ → Weighed
-turn false false e = []
-turn false true e = e ∷ []
-turn true false e = (e.0, neg_ℤ e.1) ∷ []
-turn true true e = []
+-- the circuit scans the table
+abbrev pub scans_table : Running → ℕ → Bool
+scans_table c table = list_any (λ s. s.table == table) (scans_of c.node)
 
-abbrev pub turned : (was is : Cells → Bool) → Weighed → Weighed
-turned was is es = flat_map (λ e. turn (was e.0) (is e.0) e) es
+-- before the circuits that scan the table are built anew: it counts what was shown, and one that does not scan the table
+-- is that of what is shown now
+pub record WasRead (e : Kept) (table : ℕ) (k : RoleCircuit) : Type 0 where
+  pub known : k.rel < length e.catalog
+  pub bag : IsBag (total_of k.circuit.node)
+  pub other : scans_table k.circuit table ≡ false → IsCircuitFor e k.role (plan_at e.catalog k.rel) k.circuit
 
--- of the rows of a bag what passes after and before, as a difference
-abbrev pub AreTurned : Filter → Filter → Weighed → Weighed → Type 0
-AreTurned before after bag rows = (shown : List Cells) → Counts bag shown
-    → rows ≡ difference (filter (lets_through before) shown) (filter (lets_through after) shown)
+-- the new circuit, and what it shows more and less than the bag has
+abbrev pub IsAnewBy : Weighed → Running → Turn → Type 0
+IsAnewBy before c Same = ⊥
+IsAnewBy before c (Anew new rows) = (new ≡ c) × IsBagDifference before (total_of c.node) (shared_rows rows)
+IsAnewBy before c Beyond = ⊥
 
--- ---- before the change
+-- it scans the table; the circuit is a new one, and the rows are what that shows more and less
+pub record IsAnew (e : Kept) (table : ℕ) (k : RoleCircuit) (c : Running) (rows : Weighed) : Type 0 where
+  pub scans : scans_table k.circuit table ≡ true
+  pub is : IsNew e k.role (plan_at e.catalog k.rel) c
+  pub moves : IsBagDifference (total_of k.circuit.node) (total_of c.node) rows
 
--- the filter lets through what the reader of the subscription sees
-abbrev pub IsFilter : Kept → Subscription → Filter → Type 0
-IsFilter e s f = (row : Cells) → lets_through f row ≡ may_see e.known.rights (actor (frame_of e) s.session) s.rel row
+-- it scans the table, and a new one would break the limits
+pub record IsPast (e : Kept) (table : ℕ) (k : RoleCircuit) : Type 0 where
+  pub scans : scans_table k.circuit table ≡ true
+  pub beyond : IsBeyond e k.role (plan_at e.catalog k.rel)
 
--- the bag has the rows that the subscription shows
-abbrev pub IsBagOf : Kept → Subscription → Weighed → Type 0
-IsBagOf e s bag = (T : Lists) → Stands T e.tables → Counts bag (shown_rows e T s)
+-- what a change of the table's policies makes of it
+abbrev pub IsTurn : Kept → (table : ℕ) → RoleCircuit → Turn → Type 0
+IsTurn e table k Same = scans_table k.circuit table ≡ false
+IsTurn e table k (Anew c rows) = IsAnew e table k c (shared_rows rows)
+IsTurn e table k Beyond = IsPast e table k
 
--- a filter belongs to a table, and a bag to a view
-abbrev pub Suits : Kept → Subscription → Before → Type 0
-Suits e s before.Untouched = Unit {0}
-Suits e s (before.Table f) = is_some (schema_of e.catalog s.rel) ≡ true
-Suits e s (before.View bag) = (is_some (view_of e.catalog s.rel) ≡ true) × IsBag bag
+-- the new circuit stands in the place of the one before
+abbrev pub renewed_by : Turn → RoleCircuit → RoleCircuit
+renewed_by Same k = k
+renewed_by (Anew c rows) k = record k { circuit = c }
+renewed_by Beyond k = k
 
--- what the subscription shows is told by the filter or the bag; or its plan does not scan the table
-abbrev pub Tells : Kept → ℕ → Subscription → Before → Type 0
-Tells e table s before.Untouched = AllByRecursion (λ t. (t == table) ≡ false) (scans (plan_at e.catalog s.rel))
-Tells e table s (before.Table f) = IsFilter e s f
-Tells e table s (before.View bag) = IsBagOf e s bag
+abbrev pub IsRenewed : RoleCircuit → Turn → RoleCircuit → Type 0
+IsRenewed k turn new = new ≡ renewed_by turn k
 
-abbrev pub IsBefore : Kept → ℕ → Subscription → Before → Type 0
-IsBefore e table s b = Suits e s b × Tells e table s b
+-- ---- lines
 
--- subscriptions, each with what it showed before
-abbrev pub Each : (Subscription → Before → Type 0) → List Subscription → List Before → Type 0
-Each P [] [] = Unit {0}
-Each P [] (b ∷ bs) = ⊥
-Each P (s ∷ ss) [] = ⊥
-Each P (s ∷ ss) (b ∷ bs) = P s b × Each P ss bs
+-- whether the subscriptions that read it stay open
+abbrev pub leaves_open : Turn → Bool
+leaves_open Same = true
+leaves_open (Anew c rows) = true
+leaves_open Beyond = false
 
--- ---- after the change
+-- the line of a subscription that showed the rows
+abbrev pub line_by_turn : Subscription → List Cells → Turn → List machine.Line
+line_by_turn s showed Same = []
+line_by_turn s showed (Anew c rows) = machine_line None s (shared_rows rows)
+line_by_turn s showed Beyond = machine.ended s.session s.number cause.Limit (difference showed []) ∷ []
 
--- the rows are those that it showed before: of what is not touched those that it still shows, and the limits hold
-abbrev pub Showed : Kept → Lists → Subscription → Before → List Cells → Type 0
-Showed e T s before.Untouched rows = (is_within (at e T) s ≡ true) × (rows ≡ shown_rows e T s)
-Showed e T s (before.Table f) rows = rows ≡ filter (lets_through f) (T s.rel)
-Showed e T s (before.View bag) rows = Counts bag rows
+-- whether the subscription, which showed what the Z-set counts, stays open, and its line, behind those before
+pub record IsToldTurn (s : Subscription) (showed : Weighed) (turn : Turn) (stays : Bool) (old new : List Line) : Type 0 where
+  pub left : stays ≡ leaves_open turn
+  pub line : (rows : List Cells) → Counts showed rows → map line_of new ≡ map line_of old ++ line_by_turn s rows turn
+
+-- ---- all subscriptions
+
+-- the rows are those that the circuit of each shows
+abbrev pub AreShowed : Kept → (Subscription → List Cells) → Type 0
+AreShowed e showed = AllByRecursion (λ s. IfSome (place_of e s) (λ place. Counts (total_at e place) (showed s))) e.subscriptions
+
+-- the subscriptions that stay open, and the lines of all, each by what became of its circuit
+pub record AreSettled (e : Kept) (turns : List Turn) (kept : List Subscription) (lines : List Line) : Type 0 where
+  pub left : kept ≡ filter (λ s. leaves_open (beside_of Same e turns s)) e.subscriptions
+  pub told : (showed : Subscription → List Cells) → AreShowed e showed
+      → map line_of lines ≡ flat_map (λ s. line_by_turn s (showed s) (beside_of Same e turns s)) e.subscriptions
 
 -- the line of what it shows more and less; where the limits do not hold it ends, and all is taken back
 abbrev pub turned_by : Bool → Subscription → (old new : List Cells) → List machine.Line
 turned_by true s old new = machine_line None s (difference old new)
-turned_by false s old new = machine_line (Some cause.Limit) s (difference old [])
+turned_by false s old new = machine.ended s.session s.number cause.Limit (difference old []) ∷ []
 
 abbrev pub turned_line : Kept → Lists → Subscription → List Cells → List machine.Line
 turned_line e T s rows = turned_by (is_within (at e T) s) s rows (shown_rows e T s)
 
--- the line that ends a subscription by limit, which showed the rows of the bag
-abbrev pub IsLimitLine : Subscription → Weighed → Line → Type 0
-IsLimitLine s bag line = (rows : List Cells) → Counts bag rows → line_of line ∷ [] ≡ turned_by false s rows []
+-- the subscriptions within the limits are left, each has its line, and the circuits are those that they read
+pub record AreReaders (e : Kept) (table : ℕ) (reply : Reply) (lines : List Line) (new : Kept) : Type 0 where
+  pub done : reply ≡ Ok
+  pub left : (T : Lists) → Stands T e.tables → new.subscriptions ≡ filter (is_within (at e T)) e.subscriptions
+  pub told : (T : Lists) → Stands T e.tables → (showed : Subscription → List Cells) → AreShowed e showed
+      → map line_of lines ≡ flat_map (λ s. turned_line e T s (showed s)) e.subscriptions
+  pub circuits : AllByRecursion (IsRoleCircuit e) new.circuits
+  pub there : AllByRecursion (λ s. is_some (place_of new s) ≡ true) new.subscriptions
+  pub read : AllByRecursion (λ k. is_read (frame_of new) k ≡ true) new.circuits
+  pub state : new ≡ record e { subscriptions = new.subscriptions; circuits = new.circuits }
 
--- whether the subscription stays open, and its line, behind those before
-abbrev pub IsTurned : Kept → Subscription → Before → Bool → (old new : List Line) → Type 0
-IsTurned e s b stays old new = (T : Lists) → Stands T e.tables → (rows : List Cells) → Showed e T s b rows
-    → (stays ≡ is_within (at e T) s) × (map line_of new ≡ map line_of old ++ turned_line e T s rows)
-
--- of these subscriptions those that stay open, and the lines
-abbrev pub AreSettled : Kept → List Before → (all kept : List Subscription) → List Line → Type 0
-AreSettled e bs all kept lines = (T : Lists) → Stands T e.tables → (showed : Subscription → List Cells)
-    → Each (λ s b. Showed e T s b (showed s)) e.subscriptions bs
-    → (kept ≡ filter (is_within (at e T)) all) × (map line_of lines ≡ flat_map (λ s. turned_line e T s (showed s)) all)
-
--- the answer has the lines, and those that stay open are left
-abbrev pub AreReadersTold : Kept → List Before → Answer → Kept → Type 0
-AreReadersTold e bs (Refused r) new = ⊥
-AreReadersTold e bs (Accepted reply lines) new = (reply ≡ Ok) × (new ≡ record e { subscriptions = new.subscriptions })
-    × AreSettled e bs e.subscriptions new.subscriptions lines.items
+-- the answer has the lines
+abbrev pub AreReadersTold : Kept → (table : ℕ) → Answer → Kept → Type 0
+AreReadersTold e table (Refused r) new = ⊥
+AreReadersTold e table (Accepted reply lines) new = AreReaders e table reply lines.items new

@@ -7,10 +7,11 @@ use crate::store::Store;
 impl Store {
     /// Closes all sessions and subscriptions. All else is kept, the last number given too.
     pub fn close_all(&mut self)
-        ensures closed { self.new ≡ record self.old { sessions = []; subscriptions = [] } }
+        ensures closed { self.new ≡ record self.old { sessions = []; subscriptions = []; circuits = [] } }
         ensures sound { IsSound self.old → IsSound self.new }
     {
         self.sessions.clear();
         self.subscriptions.clear();
+        self.circuits.clear();
     }
 }

@@ -35,6 +35,7 @@ impl Store {
             return Answer::Refused(Refusal::NoSession);
         }
         self.close_session(session);
+        self.drop_unread();
         Answer::Accepted {
             reply: Reply::Ok,
             changes: Vec::new(self.alloc),
@@ -62,6 +63,7 @@ impl Store {
             return Answer::Refused(Refusal::UnknownSubscription);
         }
         self.close(number);
+        self.drop_unread();
         Answer::Accepted {
             reply: Reply::Ok,
             changes: Vec::new(self.alloc),

@@ -10,7 +10,7 @@ ghost use Rattle.iv_engine.specs.Telling.{IsAdded, IsTold};
 ghost use Rattle.iv_engine.specs.Views.{refusal_of};
 
 use crate::command::Refusal;
-use crate::reading::copy_schema;
+use crate::schemas::copy_schema;
 use crate::store::Store;
 use crate::stored::Session;
 use iv_access::{AccessFault, Privilege, RoleId};

@@ -171,9 +171,8 @@ impl Store {
             Err(Stop::Refused(refusal)) => return Ok(Answer::Refused(refusal)),
             Err(Stop::Memory) => return Err(AllocError),
         };
-        let before = self.all_before(owned.table)?;
         self.switch(owned, enable, force);
-        self.tell_readers(&before)
+        self.tell_readers(owned.table)
     }
 
     /// Adds a policy to a table, and tells readers of it and of views over it what they see more and less.
@@ -189,9 +188,8 @@ impl Store {
         if self.has_most_policies(owned.table) {
             return Ok(Answer::Refused(Refusal::TooMany));
         }
-        let before = self.all_before(owned.table)?;
         self.add(owned, asked(policy, predicates))?;
-        self.tell_readers(&before)
+        self.tell_readers(owned.table)
     }
 
     /// Takes a policy of a table away, and tells readers of it and of views over it what they see more and less.
@@ -212,8 +210,7 @@ impl Store {
         if self.access.policy(owned.table, name).is_none() {
             return Ok(Answer::Refused(Refusal::UnknownPolicy));
         }
-        let before = self.all_before(owned.table)?;
         self.remove(owned, name);
-        self.tell_readers(&before)
+        self.tell_readers(owned.table)
     }
 }

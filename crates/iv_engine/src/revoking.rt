@@ -1,18 +1,17 @@
 //! The request `revoke`.
-ghost use Rattle.std.specs.Prelude.{◌≡◌, ◌<◌, IfOk, OnOk, List, filter, map, option_map, string_bytes, true, Some};
+ghost use Rattle.std.specs.Prelude.{◌≡◌, IfOk, OnOk, filter, is_some, map, string_bytes, true};
 ghost use Rattle.std.specs.List.{AllByRecursion};
 ghost use Rattle.iv_algebra.specs.Plans.{Lists};
 ghost use Rattle.iv_access.specs.Known.{named};
 ghost use Rattle.iv_machine.specs.Act as machine;
-ghost use Rattle.iv_machine.specs.Refusing.{frame_refusal};
-ghost use Rattle.iv_machine.specs.State.{is_open};
 ghost use Rattle.iv_engine.specs.Answering.{AreEnded, IsStep, last_line};
-ghost use Rattle.iv_engine.specs.Kept.{IsOpen, IsSound, IsStored, IsWithin, frame_of, may_read};
+ghost use Rattle.iv_engine.specs.Kept.{IsOpen, IsRoleCircuit, IsSound, IsStored, may_read, place_of};
 ghost use Rattle.iv_engine.specs.Next.{IsFirstRefusal, next};
 ghost use Rattle.iv_engine.specs.Stands.{Stands};
-ghost use Rattle.iv_engine.specs.Views.{line_of, refusal_of};
+ghost use Rattle.iv_engine.specs.Views.{line_of};
 
 use crate::answer::Answer;
+use crate::circuits::last_line;
 use crate::command::{Line, Refusal, Reply};
 use crate::frame_requests::outcome;
 use crate::store::Store;
@@ -20,7 +19,6 @@ use crate::stored::Subscription;
 use iv_access::Privilege;
 use iv_machine::Cause;
 use std::alloc::AllocError;
-use std::mem;
 
 /// Subscriptions that stay open, and the lines of those that end.
 #[derive(Drop)]
@@ -31,20 +29,20 @@ struct Split {
 
 impl Store {
     /// The subscriptions that may be read, and for each other one the line that ends it and takes back all that it shows.
-    fn split(&self, subscriptions: Vec<Subscription>) -> Result<Split, AllocError>
+    fn split(&self) -> Result<Split, AllocError>
         requires stored { IsStored self.now }
-        requires open { AllByRecursion (IsOpen self.now) subscriptions.items }
-        requires within { AllByRecursion (IsWithin self.now) subscriptions.items }
-        ensures kept { IfOk result (λ s. s.kept.items ≡ filter (may_read self.now) subscriptions.items) }
-        ensures lines { IfOk result (λ s. AreEnded self.now subscriptions.items (map line_of s.lines.items)) }
+        requires circuits { AllByRecursion (IsRoleCircuit self.now) self.now.circuits }
+        requires there { AllByRecursion (λ s. is_some (place_of self.now s) ≡ true) self.now.subscriptions }
+        ensures kept { IfOk result (λ s. s.kept.items ≡ filter (may_read self.now) self.now.subscriptions) }
+        ensures lines { IfOk result (λ s. AreEnded self.now self.now.subscriptions (map line_of s.lines.items)) }
     {
         let mut kept = Vec::new(self.alloc);
         let mut lines = Vec::new(self.alloc);
-        for subscription in subscriptions {
-            if self.reads(&subscription) {
-                kept.push(subscription)?;
+        for subscription in &self.subscriptions {
+            if self.reads(subscription) {
+                kept.push(subscription.copy())?;
             } else {
-                let line = self.ended(&subscription)?;
+                let line = self.ended(subscription)?;
                 lines.push(line)?;
             }
         }
@@ -55,18 +53,13 @@ impl Store {
     fn ended(&self, subscription: &Subscription) -> Result<Line, AllocError>
         requires stored { IsStored self.now }
         requires open { IsOpen self.now subscription.now }
-        requires within { IsWithin self.now subscription.now }
+        requires circuits { AllByRecursion (IsRoleCircuit self.now) self.now.circuits }
+        requires there { is_some (place_of self.now subscription.now) ≡ true }
         ensures { IfOk result (λ line. (T : Lists) → Stands T self.now.tables → line_of line ≡ last_line self.now T subscription.now) }
     {
-        let Some(rows) = self.shown(subscription, true)? else {
-            unreachable!()
-        };
-        Ok(Line::Ended {
-            session: subscription.session,
-            sub: subscription.number,
-            cause: Cause::Privilege,
-            rows,
-        })
+        let found = self.found_after(None, subscription);
+        let showed = self.circuits[found.place].circuit.total();
+        last_line(self.alloc, subscription, showed, Cause::Privilege)
     }
 
     /// Takes privileges on a relation back, or says which test fails first.
@@ -103,9 +96,8 @@ impl Store {
         if let Some(refusal) = self.take_back(session, rel, privileges, grantee)? {
             return Ok(Answer::Refused(refusal));
         }
-        let subscriptions = mem::replace(&mut self.subscriptions, Vec::new(self.alloc));
-        let Split { kept, lines } = self.split(subscriptions)?;
-        self.subscriptions = kept;
+        let Split { kept, lines } = self.split()?;
+        self.leave(kept);
         Ok(Answer::Accepted {
             reply: Reply::Ok,
             changes: lines,

@@ -8,7 +8,7 @@ ghost use Rattle.iv_engine.specs.Seen.{IsBehind};
 ghost use Rattle.iv_engine.specs.Target.{IsActingOn};
 
 use crate::command::Refusal;
-use crate::stored::{Session, Subscription, find_session};
+use crate::stored::{RoleCircuit, Session, Subscription, find_session};
 use iv_access::{Access, RoleId};
 use iv_algebra::Tables;
 use iv_bind::Catalog;
@@ -16,13 +16,15 @@ use iv_rows::{RelId, Schema};
 use std::alloc::{AllocError, Global};
 use std::marker::Model;
 
-/// Rights, relations, the rows of tables, sessions and subscriptions. Subscriptions stand in the order of their lines.
+/// Rights, relations, the rows of tables, sessions, subscriptions and the circuits that they read. Subscriptions stand in
+/// the order of their lines.
 #[derive(Drop)]
 pub struct Store {
     pub access: Access,
     pub catalog: Catalog,
     pub sessions: Vec<Session>,
     pub subscriptions: Vec<Subscription>,
+    pub circuits: Vec<RoleCircuit>,
     pub last: u64,
     pub tables: Tables,
     pub alloc: Global,
@@ -41,6 +43,7 @@ impl Model for Store {
       catalog = s.catalog;
       sessions = s.sessions.items;
       subscriptions = s.subscriptions.items;
+      circuits = s.circuits.items;
       last = s.last;
       tables = s.tables;
     } };
@@ -57,6 +60,7 @@ impl Store {
             catalog: Catalog::new(alloc),
             sessions: Vec::new(alloc),
             subscriptions: Vec::new(alloc),
+            circuits: Vec::new(alloc),
             last: 0,
             tables: Tables::new(alloc),
             alloc,

@@ -1,0 +1,34 @@
+-- Lists walked one by one: what holds at a place, and a second list that grows beside the first.
+use Rattle.std.proofs.Common.{◌≡◌, ℕ, zero, suc, ◌+◌, ◌<◌, ◌≤◌, List, [], ◌∷◌, ◌++◌, length, map, take, get_or, sym, ap, subst, ◌∙◌, arith}
+use Rattle.std.proofs.lemmas.List.{take_all, take_more}
+use Rattle.std.specs.List.{AllByRecursion}
+use Rattle.iv_engine.specs.Each.{Each}
+
+pub all_at : {X : Type 0} (P : X → Type 0) (xs : List X) (i : ℕ) (x : X) → AllByRecursion P xs → i < length xs → x ≡ get_or xs i x → P x
+all_at P [] i x h l at = absurd (omega arith)
+all_at P (y ∷ ys) zero x h l at = subst P (sym at) h.0
+all_at P (y ∷ ys) (suc i) x h l at = all_at P ys i x h.1 (omega arith) at
+
+pub map_at : {X Y : Type 0} (f : X → Y) (xs : List X) (i : ℕ) (x : X) → i < length xs → x ≡ get_or xs i x → f x ≡ get_or (map f xs) i (f x)
+map_at f [] i x l at = absurd (omega arith)
+map_at f (y ∷ ys) zero x l at = ap f at
+map_at f (y ∷ ys) (suc i) x l at = map_at f ys i x (omega arith) at
+
+module _ {X Y : Type 0} (P : X → Y → Type 0) where
+  each_pushed : (xs : List X) (ys : List Y) (x : X) (y : Y) → Each P xs ys → P x y → Each P (xs ++ x ∷ []) (ys ++ y ∷ [])
+  each_pushed [] [] x y h k = (k, tt)
+  each_pushed [] (v ∷ vs) x y h k = absurd h
+  each_pushed (u ∷ us) [] x y h k = absurd h
+  each_pushed (u ∷ us) (v ∷ vs) x y h k = (h.0, each_pushed us vs x y h.1 k)
+
+  -- the first of the one list, and what is pushed to the other
+  pub each_more : (xs : List X) (i : ℕ) (x : X) (y : Y) (ys new : List Y) → i < length xs → x ≡ get_or xs i x → Each P (take i xs) ys → P x y → new ≡ ys ++ y ∷ [] → Each P (take (i + 1) xs) new
+  each_more xs i x y ys new low at h k is = subst (Each P (take (i + 1) xs)) (sym is)
+      (subst (λ (us : List X). Each P us (ys ++ y ∷ [])) (sym (take_more xs i x low ∙ ap (λ z. take i xs ++ z ∷ []) (sym at))) (each_pushed (take i xs) ys x y h k))
+
+  pub each_whole : (xs : List X) (k : ℕ) (ys : List Y) → length xs ≤ k → Each P (take k xs) ys → Each P xs ys
+  each_whole xs k ys l h = subst (λ (us : List X). Each P us ys) (take_all k xs l) h
+
+  -- two lists without an element
+  pub each_none : (xs : List X) (ys : List Y) → xs ≡ [] → ys ≡ [] → Each P xs ys
+  each_none xs ys a b = subst (λ (us : List X). Each P us ys) (sym a) (subst (λ (vs : List Y). Each P [] vs) (sym b) tt)
