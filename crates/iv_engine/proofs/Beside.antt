@@ -70,7 +70,7 @@ module _ (role rel : ℕ) where
   is_self : (n : ℕ) → (n == n) ≡ true
   is_self n = grind (arith, nat_tests)
 
-  pub is_own : (c : Running) → is_for role rel (record { role = role; rel = rel; circuit = c }) ≡ true
+  pub is_own : (c : Running) → is_for role rel (record { role = role; rel = rel; circuit = c; opened = [] }) ≡ true
   is_own c = ap (λ b. b && (rel == rel)) (is_self role) ∙ is_self rel
 
   -- the place is one of the list, and what stands there is for both

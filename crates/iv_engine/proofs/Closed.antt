@@ -15,14 +15,17 @@ use Rattle.iv_machine.specs.State.{Session, State, Subscription, is_open, sessio
 use Rattle.iv_machine.proofs.Placing.{all_kept}
 use Rattle.iv_machine.proofs.Reached.{given_kept, unique_kept}
 use Rattle.iv_engine.specs.Answering.{IsStep, seen}
+use Rattle.iv_engine.specs.Counting.{AreCounted}
 use Rattle.iv_engine.specs.Finished.{without_session, without_subscription, without_unread}
 use Rattle.iv_engine.specs.Kept.{IsOpen, IsRoleCircuit, IsSound, IsWithin, Kept, at, frame_of, is_for, may_read, place_of}
+use Rattle.iv_engine.specs.Rounds.{beside_number, rounds, rounds_of}
 use Rattle.iv_engine.specs.Seen.{IsBehind}
 use Rattle.iv_engine.specs.Stands.{Stands}
 use Rattle.iv_engine.specs.Views.{line_of}
 use Rattle.iv_engine.specs.declared.answer.Answer.TheVariants.{Accepted}
 use Rattle.iv_engine.specs.declared.command.Line.{Line}
 use Rattle.iv_engine.specs.declared.command.Reply.TheVariants.{Ok}
+use Rattle.iv_engine.proofs.Counted.{IsBeside, all_beside, left_rounds, same_rounds, those_counted}
 use Rattle.iv_engine.proofs.Dropped.{left_have, left_read, left_there}
 use Rattle.iv_engine.proofs.Showing.{difference_none, each_found}
 use Rattle.iv_engine.proofs.Sound.{all_zip, circuits_stay}
@@ -77,6 +80,11 @@ module _ (e : Kept) (h : IsSound e) (ss : List Session) (p : Subscription → Bo
     there = left_there b all_open all_there;
     read = left_read b (IsRoleCircuit e) h.circuits;
   }
+
+  -- and each has the rounds that it had
+  pub left_counted : AllByRecursion (λ s. beside_number s.number (rounds c) ≡ beside_number s.number (rounds e)) (filter p e.subscriptions)
+  left_counted = those_counted e c left_sound.stored (λ s was now. now ≡ was) (left (IsBeside e) (IsBeside e) (λ s k b. b) (all_beside e h.stored))
+      (all_zip (λ s. rounds_of c s ≡ rounds_of b s) (IsUnmoved e c) (λ s. rounds_of c s ≡ rounds_of e s) (filter p e.subscriptions) (λ s k u. k ∙ same_rounds e b s refl u.acts) (left_rounds b all_open) all_unmoved)
 
   module _ (T : Lists) (stands : Stands T e.tables) where
     -- each that is left is found before and now
@@ -153,6 +161,7 @@ module _ (e new : Kept) (n : ℕ) (lines : Vec Line) (h : IsSound e) (none : lin
         left = λ T s. subst (λ (t : State). IsBehind t (seen new)) (sym (left_settled e h ss p roles same T s))
             (subst (λ (v : Kept). IsBehind (at (without_unread (without_session n e)) T) (seen v)) (sym k) (record { frame = refl; rows = s }));
         kept = no_refusal Ok refl;
+        rounds = subst (λ (v : Kept). AreCounted (seen e) finish (seen v)) (sym k) (left_counted e h ss p roles same);
         sound = subst IsSound (sym k) (left_sound e h ss p roles same);
       }
 
@@ -171,6 +180,7 @@ module _ (e new : Kept) (n : ℕ) (lines : Vec Line) (h : IsSound e) (none : lin
         left = λ T s. subst (λ (t : State). IsBehind t (seen new)) (sym (left_settled e h e.sessions p h.stored.roles same T s))
             (subst (λ (v : Kept). IsBehind (at (without_unread (without_subscription number e)) T) (seen v)) (sym k) (record { frame = refl; rows = s }));
         kept = no_refusal Ok refl;
+        rounds = subst (λ (v : Kept). AreCounted (seen e) (unsubscribe number) (seen v)) (sym k) (left_counted e h e.sessions p h.stored.roles same);
         sound = subst IsSound (sym k) (left_sound e h e.sessions p h.stored.roles same);
       }
 

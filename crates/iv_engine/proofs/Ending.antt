@@ -17,6 +17,7 @@ use Rattle.iv_machine.specs.Refusing.{refusal, frame_refusal, or_else}
 use Rattle.iv_machine.specs.State.{State, Subscription, actor, plan_at, subscription_of, view_of}
 use Rattle.iv_machine.proofs.Reached.{unique_kept, given_kept}
 use Rattle.iv_engine.specs.Answering.{AreEnded, IsStep, ended_line, last_line, seen, sent}
+use Rattle.iv_engine.specs.Counting.{AreCounted}
 use Rattle.iv_engine.specs.Kept.{Kept, IsOpen, IsRoleCircuit, IsSound, IsStored, IsWithin, at, frame_of, may_read, place_of, shown_rows}
 use Rattle.iv_engine.specs.Finished.{with_those}
 use Rattle.iv_engine.specs.Next.{kept_after}
@@ -27,6 +28,7 @@ use Rattle.iv_engine.specs.declared.answer.Answer.TheVariants.{Accepted}
 use Rattle.iv_engine.specs.declared.command.Line.{Line}
 use Rattle.iv_engine.specs.declared.command.Reply.TheVariants.{Ok}
 use Rattle.iv_engine.proofs.Circling.{same_circuit, seen_circuit}
+use Rattle.iv_engine.proofs.Counted.{IsBeside, all_beside, left_rounds, those_counted}
 use Rattle.iv_engine.proofs.Dropped.{left_have, left_read, left_there}
 use Rattle.iv_engine.proofs.Lines.{no_more, sends}
 use Rattle.iv_engine.proofs.Seeing.{sees_same}
@@ -122,6 +124,7 @@ module _ (e : Kept) (n : ℕ) (name : Name) (ps : List Privilege) (to : Option N
   revoked_circuits = all_map (IsRoleCircuit e) (IsRoleCircuit c) e.circuits (λ k i. record {
     known = i.known;
     is = seen_circuit e c.known.rights k.role (plan_at e.catalog k.rel) k.circuit (λ j x lt row. sees_same c.known.rights e.known.rights k.role (get_or (scans_of k.circuit.node) j x).table refl refl row) i.is;
+    opened = i.opened;
   }) h.circuits
 
   kept_open : AllByRecursion (IsOpen b) b.subscriptions
@@ -145,10 +148,14 @@ module _ (e : Kept) (n : ℕ) (name : Name) (ps : List Privilege) (to : Option N
     served = all_pass (may_read c) e.subscriptions;
     within = all_kept (IsWithin new) (may_read c) e.subscriptions revoked_within;
     circuits = all_map (IsRoleCircuit c) (IsRoleCircuit new) new.circuits
-        (λ k i. record { known = i.known; is = same_circuit c new.subscriptions new.circuits new.last k.role (plan_at c.catalog k.rel) k.circuit i.is }) (left_have b (IsRoleCircuit c) revoked_circuits);
+        (λ k i. record { known = i.known; is = same_circuit c new.subscriptions new.circuits new.last k.role (plan_at c.catalog k.rel) k.circuit i.is; opened = i.opened }) (left_have b (IsRoleCircuit c) revoked_circuits);
     there = left_there b kept_open (all_kept (λ s. is_some (place_of b s) ≡ true) (may_read c) e.subscriptions h.there);
     read = left_read b (IsRoleCircuit c) revoked_circuits;
   }
+
+  -- each that stays open has the rounds that it had
+  pub revoked_counted : AreCounted (seen e) (revoke name ps to) (seen new)
+  revoked_counted = those_counted e new revoked_sound.stored (λ s was now. now ≡ was) (all_kept (IsBeside e) (may_read c) e.subscriptions (all_beside e h.stored)) (left_rounds b kept_open)
 
   -- ---- the lines
 
@@ -220,5 +227,6 @@ module _ (e : Kept) (n : ℕ) (name : Name) (ps : List Privilege) (to : Option N
         left = λ T s. subst (λ (t : State). IsBehind t (seen d)) (sym (revoked_left T s))
             (subst (λ (u : Kept). IsBehind (at new T) (seen u)) (sym is) (record { frame = refl; rows = s }));
         kept = no_refusal Ok refl;
+        rounds = subst (λ (u : Kept). AreCounted (seen e) (revoke name ps to) (seen u)) (sym is) revoked_counted;
         sound = subst IsSound (sym is) revoked_sound;
       }

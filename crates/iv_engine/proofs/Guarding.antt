@@ -25,10 +25,12 @@ use Rattle.iv_machine.specs.declared.Cause.{Cause}
 use Rattle.iv_machine.specs.declared.Cause.TheVariants as cause
 use Rattle.iv_machine.proofs.Reached.{given_kept, unique_kept}
 use Rattle.iv_engine.specs.Answering.{IsStep, seen, sent}
+use Rattle.iv_engine.specs.Counting.{TurnsRounds, scans_at}
 use Rattle.iv_engine.specs.Found.{total_at}
 use Rattle.iv_engine.specs.Kept.{IsCircuitFor, IsOpen, IsRoleCircuit, IsSound, IsStored, IsWithin, Kept, RoleCircuit, at, frame_of, is_read, may_read, place_of, shown_rows, with_rights}
 use Rattle.iv_engine.specs.Owned.{IsOwner, IsReady, asked, has_room}
-use Rattle.iv_engine.specs.Seen.{IsBehind}
+use Rattle.iv_engine.specs.Rounds.{rounds_of}
+use Rattle.iv_engine.specs.Seen.{IsBehind, Seen}
 use Rattle.iv_engine.specs.Stands.{Stands}
 use Rattle.iv_engine.specs.Turned.{AreReadersTold, AreShowed, WasRead, scans_table, turned_by, turned_line}
 use Rattle.iv_engine.specs.Views.{line_of, reply_of}
@@ -37,6 +39,7 @@ use Rattle.iv_engine.specs.declared.answer.Answer.TheVariants.{Accepted, Refused
 use Rattle.iv_engine.specs.declared.policies.Owned.{Owned}
 use Rattle.iv_engine.specs.declared.predicates.Predicates.{Predicates}
 use Rattle.iv_engine.proofs.Circling.{bag_for, same_circuit, seen_circuit}
+use Rattle.iv_engine.proofs.Counted.{IsBeside, all_beside, those_counted}
 use Rattle.iv_engine.proofs.Ending.{all_kept, all_pass, same_filter}
 use Rattle.iv_engine.proofs.Owning.{drop_tests, has_passed, owner_passes}
 use Rattle.iv_engine.proofs.Seeing.{sees_same}
@@ -143,7 +146,7 @@ module _ (e : Kept) (table : ℕ) (change : Guard → Guard) where
 
   pub were_read : IsSound e → AllByRecursion (WasRead c table) c.circuits
   were_read h = all_map (IsRoleCircuit e) (WasRead c table) e.circuits
-      (λ k i. record { known = i.known; bag = bag_for e k.role k.rel k.circuit i.is h.stored; other = λ far. other_circuit k far i }) h.circuits
+      (λ k i. record { known = i.known; plan = i.is.plan; bag = bag_for e k.role k.rel k.circuit i.is h.stored; other = λ far. other_circuit k far i; opened = i.opened }) h.circuits
 
   pub were_there : IsSound e → AllByRecursion (λ s. is_some (place_of c s) ≡ true) c.subscriptions
   were_there h = h.there
@@ -204,7 +207,7 @@ module _ (e : Kept) (table : ℕ) (change : Guard → Guard) where
               (all_kept (λ s. may_read c s ≡ true) stays e.subscriptions (all_map (λ s. may_read e s ≡ true) (λ s. may_read c s ≡ true) e.subscriptions (λ s r. may_read_same s ∙ r) h.served));
           within = each_within ks (λ U stands. subst (AllByRecursion (λ s. is_within (at c U) s ≡ true)) (sym (keeps U stands)) (all_pass (is_within (at c U)) e.subscriptions));
           circuits = all_map (IsRoleCircuit c) (IsRoleCircuit (record c { subscriptions = ks; circuits = cs })) cs
-              (λ k i. record { known = i.known; is = same_circuit c ks cs e.last k.role (plan_at e.catalog k.rel) k.circuit i.is }) circuits;
+              (λ k i. record { known = i.known; is = same_circuit c ks cs e.last k.role (plan_at e.catalog k.rel) k.circuit i.is; opened = i.opened }) circuits;
           there = there;
           read = read;
         }
@@ -217,6 +220,7 @@ record IsGuarding (e : Kept) (n : ℕ) (act : Act) (table : ℕ) (change : Guard
   after : (T : Lists) → after (at e T) n act ≡ at (guarded table change e) T
   ends : (s : State) → ending_by act s ≡ ending s
   reply : machine.done ≡ reply_to (frame_of e) act
+  counts : (new : Seen) (rel was now : ℕ) → now ≡ cond (scans_at e.catalog rel table) 0 was → TurnsRounds (seen e) new act rel was now
 
 module _ (e : Kept) (n : ℕ) (act : Act) (table : ℕ) (change : Guard → Guard) (g : IsGuarding e n act table change) (h : IsSound e) where
   abbrev now : Kept
@@ -261,14 +265,20 @@ module _ (e : Kept) (n : ℕ) (act : Act) (table : ℕ) (change : Guard → Guar
       let left : (T : Lists) → Stands T e.tables → ks ≡ filter (is_within (at now T)) e.subscriptions = told.left in
       let sent : (T : Lists) → Stands T e.tables → map line_of lines.items ≡ flat_map (λ s. turned_line now T s (shown_rows e T s)) e.subscriptions = λ T stands.
       told.told T stands (shown_rows e T) (all_showed T stands) in
+      let kept : IsSound new = subst IsSound (sym told.state) (left_sound e table change h ks cs left told.circuits
+      (subst (λ (v : Kept). AllByRecursion (λ s. is_some (place_of v s) ≡ true) ks) told.state told.there)
+      (subst (λ (v : Kept). AllByRecursion (λ k. is_read (frame_of v) k ≡ true) cs) told.state told.read)) in
+      let T = lists_behind e in
+      let were : AllByRecursion (IsBeside e) ks = subst (AllByRecursion (IsBeside e)) (sym (left T (stands_behind e h.stored))) (all_kept (IsBeside e) (is_within (at now T)) e.subscriptions (all_beside e h.stored)) in
       record {
         answer = λ T stands. (act_refusal T stands passed, ap reply_of told.done ∙ g.reply, sent T stands ∙ sym (act_sent T stands));
         left = λ T stands. subst (λ (t : State). IsBehind t (seen new)) (sym (act_left T stands))
             (subst (λ (v : Kept). IsBehind (at (still T stands) T) (seen v)) (sym (told.state ∙ ap (λ (ss : List Subscription). record now { subscriptions = ss; circuits = cs }) (left T stands))) (record { frame = refl; rows = stands }));
         kept = no_refusal reply told.done;
-        sound = subst IsSound (sym told.state) (left_sound e table change h ks cs left told.circuits
-            (subst (λ (v : Kept). AllByRecursion (λ s. is_some (place_of v s) ≡ true) ks) told.state told.there)
-            (subst (λ (v : Kept). AllByRecursion (λ k. is_read (frame_of v) k ≡ true) cs) told.state told.read));
+        rounds = those_counted e new kept.stored (λ s was counted. TurnsRounds (seen e) (seen new) act s.rel was counted) were
+            (all_map (λ s. rounds_of new s ≡ cond (scans_at e.catalog s.rel table) 0 (rounds_of e s)) (λ s. TurnsRounds (seen e) (seen new) act s.rel (rounds_of e s) (rounds_of new s)) ks
+            (λ s r. g.counts (seen new) s.rel (rounds_of e s) (rounds_of new s) r) told.rounds);
+        sound = kept;
       }
 
 -- ---- the requests
@@ -282,14 +292,14 @@ pub security_step : (e new : Kept) (n : ℕ) (rel : Name) (enable force : Bool) 
 security_step e new n rel enable force owned a h o told =
     let change : Guard → Guard = λ g. record g { enabled = enable; forced = force } in
     guarded_step e n (row_security rel enable force) owned.table.0 change
-    (record { rows = λ T. refl; after = λ T. ap (λ k. at (guarded k change e) T) o.number; ends = λ s. refl; reply = refl }) h new a (owner_passes e n rel owned o []) told
+    (record { rows = λ T. refl; after = λ T. ap (λ k. at (guarded k change e) T) o.number; ends = λ s. refl; reply = refl; counts = λ v k was now is. is ∙ ap (λ t. cond (scans_at e.catalog k t) 0 was) (sym o.number) }) h new a (owner_passes e n rel owned o []) told
 
 pub drop_step : (e new : Kept) (n : ℕ) (rel name : Name) (owned : Owned) (a : Answer) → IsSound e → IsOwner e n rel owned → is_some (policy_of e.known.rights owned.table.0 name) ≡ true
     → AreReadersTold (guarded owned.table.0 (λ g. record g { policies = remove_policy name g.policies }) e) owned.table.0 a new → IsStep e n (drop_policy rel name) a new
 drop_step e new n rel name owned a h o there told =
     let change : Guard → Guard = λ g. record g { policies = remove_policy name g.policies } in
     guarded_step e n (drop_policy rel name) owned.table.0 change
-    (record { rows = λ T. refl; after = λ T. ap (λ k. at (guarded k change e) T) o.number; ends = λ s. refl; reply = refl }) h new a (drop_tests e n rel name owned true o there) told
+    (record { rows = λ T. refl; after = λ T. ap (λ k. at (guarded k change e) T) o.number; ends = λ s. refl; reply = refl; counts = λ v k was now is. is ∙ ap (λ t. cond (scans_at e.catalog k t) 0 was) (sym o.number) }) h new a (drop_tests e n rel name owned true o there) told
 
 module _ (e : Kept) (n : ℕ) (p : PolicyText) (owned : Owned) (preds : Predicates) (ready : IsReady e n p owned preds) where
   abbrev rights : Rights
@@ -305,5 +315,5 @@ module _ (e : Kept) (n : ℕ) (p : PolicyText) (owned : Owned) (preds : Predicat
       → AreReadersTold (guarded owned.table.0 with_it e) owned.table.0 a new → IsStep e n (create_policy p) a new
   policy_step new a h room told =
       guarded_step e n (create_policy p) owned.table.0 with_it
-      (record { rows = λ T. refl; after = λ T i. at (guarded (ready.owner.number i) (λ g. record g { policies = insert_policy (policy_is i) g.policies }) e) T; ends = λ s. refl; reply = refl })
+      (record { rows = λ T. refl; after = λ T i. at (guarded (ready.owner.number i) (λ g. record g { policies = insert_policy (policy_is i) g.policies }) e) T; ends = λ s. refl; reply = refl; counts = λ v k was now is. is ∙ ap (λ t. cond (scans_at e.catalog k t) 0 was) (sym ready.owner.number) })
       h new a (has_passed e n p owned preds ready room) told

@@ -1,19 +1,27 @@
 -- Where all sessions and subscriptions are closed, the machine's state is the one that it hangs up, and all that was
 -- kept of the others still holds.
-use Rattle.std.proofs.Common.{◌≡◌, [], ap, subst, sym}
+use Rattle.std.proofs.Common.{◌≡◌, ◌∙◌, Bool, [], suc, ap, subst, sym}
 use Rattle.iv_machine.specs.Machine.{hung}
 use Rattle.iv_machine.specs.State.{Frame, State}
 use Rattle.iv_engine.specs.Kept.{IsSound, Kept}
+use Rattle.iv_engine.specs.Rounds.{rounds_of}
 use Rattle.iv_engine.specs.Seen.{Seen, IsBehind}
+use Rattle.iv_engine.proofs.Counted.{none_listed}
+use Rattle.iv_engine.proofs.Running.{shown_by}
 
-abbrev closed : Frame → Frame
-closed f = record f { sessions = []; subscriptions = [] }
+abbrev pub closed : Seen → Seen
+closed e = record e { frame = record e.frame { sessions = []; subscriptions = [] }; rounds = [] }
 
-pub closed_behind : (s : State) (e new : Seen) → new ≡ record e { frame = closed e.frame } → IsBehind s e → IsBehind (hung s) new
-closed_behind s e new h b = subst (λ (v : Seen). IsBehind (hung s) v) (sym h) (record { frame = ap closed b.frame; rows = b.rows })
+pub closed_behind : (s : State) (e new : Seen) → new ≡ closed e → IsBehind s e → IsBehind (hung s) new
+closed_behind s e new h b = subst (λ (v : Seen). IsBehind (hung s) v) (sym h) (record { frame = ap (λ (f : Frame). record f { sessions = []; subscriptions = [] }) b.frame; rows = b.rows })
 
 abbrev pub without_sessions : Kept → Kept
 without_sessions e = record e { sessions = []; subscriptions = []; circuits = [] }
+
+-- what is shown of it
+pub closed_shown : (e k : Kept) (failed : Bool) → k ≡ without_sessions e → shown_by k failed ≡ closed (shown_by e failed)
+closed_shown e k failed h = ap (λ (v : Kept). shown_by v failed) h
+    ∙ ap (λ xs. record (shown_by (without_sessions e) failed) { rounds = xs }) (none_listed (rounds_of (without_sessions e)) 0 (suc e.last))
 
 pub all_closed : (e : Kept) → IsSound e → IsSound (without_sessions e)
 all_closed e h = record {

@@ -46,3 +46,6 @@ mod Building
 mod Pairing
 mod FoundLines
 mod Carried
+mod Counted
+mod Opened
+mod Touched

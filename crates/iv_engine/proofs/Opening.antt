@@ -1,5 +1,6 @@
 -- A new subscription.
-use Rattle.std.proofs.Common.{◌≡◌, ℕ, ◌+◌, ◌<◌, Bool, true, false, cond, not, ◌&&◌, ◌||◌, List, [], ◌∷◌, ◌++◌, append-nil, length, map, get_or, Option, None, Some, refl, sym, ap, subst, ◌∙◌}
+use Rattle.std.proofs.Common.{◌≡◌, ℕ, ◌+◌, ◌<◌, ◌≤◌, Bool, true, false, cond, not, ◌&&◌, ◌||◌, List, [], ◌∷◌, ◌++◌, append-nil, length, map, get_or, Option, None, Some, refl, sym, ap, subst, ◌∙◌, arith}
+use Rattle.std.proofs.lemmas.Bool.Decides.{nat_tests}
 use Rattle.std.specs.Prelude.{◌==◌, is_some, flat_map, nat_lt, position}
 use Rattle.std.specs.List.{AllByRecursion, list_any}
 use Rattle.std.specs.Global.{Vec}
@@ -20,9 +21,12 @@ use Rattle.iv_machine.specs.Reached.{IsReached}
 use Rattle.iv_machine.proofs.Reached.{after_reached, next_is_new}
 use Rattle.iv_engine.specs.Answering.{IsStep, seen, sent}
 use Rattle.iv_engine.specs.Built.{AreInOrder, IsBeyond, IsNew}
+use Rattle.iv_engine.specs.Counting.{AreCounted}
+use Rattle.iv_engine.specs.Each.{Each}
 use Rattle.iv_engine.specs.Found.{total_at}
-use Rattle.iv_engine.specs.Kept.{Kept, IsCircuitFor, IsOpen, IsRoleCircuit, IsSound, IsWithin, RoleCircuit, acts_as, at, frame_of, is_for, is_read, may_read, place_of, shown_rows}
+use Rattle.iv_engine.specs.Kept.{Kept, IsCircuitFor, IsOpen, IsRoleCircuit, IsSound, IsWithin, RoleCircuit, WereOpened, acts_as, at, frame_of, is_for, is_read, may_read, opened_to, place_of, shown_rows}
 use Rattle.iv_engine.specs.Openable.{AreFirstLines, HasCircuitAt, IsNewFor, IsOpenable, with_subscription}
+use Rattle.iv_engine.specs.Rounds.{beside_number, rounds, rounds_of}
 use Rattle.iv_engine.specs.Seen.{IsBehind}
 use Rattle.iv_engine.specs.Stands.{Stands}
 use Rattle.iv_engine.specs.Views.{line_of, reply_of}
@@ -32,18 +36,25 @@ use Rattle.iv_engine.specs.declared.command.Refusal.TheVariants.{Limit}
 use Rattle.iv_engine.specs.declared.command.Reply.{Reply}
 use Rattle.iv_engine.proofs.Beside.{is_own, place_pushed, slot_is}
 use Rattle.iv_engine.proofs.Circling.{same_circuit}
+use Rattle.iv_engine.proofs.Counted.{all_beside, all_given, next_none, now_counted, rounds_more}
 use Rattle.iv_engine.proofs.Listing.{from_none}
+use Rattle.iv_engine.proofs.Opened.{opened_have, opened_same, others_rounds, own_rounds}
+use Rattle.iv_engine.proofs.Replaced.{IsSameReader, place_same, read_still}
 use Rattle.iv_engine.proofs.Showing.{difference_none, shown_is}
 use Rattle.iv_engine.proofs.Sound.{all_map, all_zip}
 use Rattle.iv_engine.proofs.Stepping.{IsShown, each_shown, no_lines, none_ends, none_settled}
 use Rattle.iv_engine.proofs.Totals.{circuits_within, total_counts}
-use Rattle.iv_engine.proofs.Unread.{place_more, reads_it}
+use Rattle.iv_engine.proofs.Unread.{place_found, place_more, reads_it}
 
 -- ---- what is kept
 
--- with the subscription, and perhaps a new circuit behind the others
-abbrev pub opened : Kept → List RoleCircuit → Subscription → ℕ → Kept
-opened e added s last = record e { subscriptions = insert_subscription s e.subscriptions; circuits = e.circuits ++ added; last = last }
+-- perhaps with a new circuit behind the others
+abbrev pub with_more : Kept → List RoleCircuit → Kept
+with_more e added = record e { circuits = e.circuits ++ added }
+
+-- and with the subscription, which reads the circuit at the place
+abbrev pub opened : Kept → List RoleCircuit → (place : ℕ) → Subscription → Kept
+opened e added place s = with_subscription s place (with_more e added)
 
 -- what one subscription passes, one passes after another is inserted; and where that passes one does
 or_true : (b c : Bool) → c ≡ true → (b || c) ≡ true
@@ -106,6 +117,16 @@ not_found k (f ∷ es) n = by (k == f.number) (not_found k es) n
     by true go h = cc
     by false go h = go h
 
+-- a circuit that was not opened was not opened at more rounds than it has
+unopened : (k : RoleCircuit) → k.opened ≡ [] → WereOpened k
+unopened k h = subst (AllByRecursion (λ (x : ℕ × ℕ). x.1 ≤ k.circuit.rounds)) (sym h) tt
+
+self_le : (r : ℕ) → r ≤ r
+self_le r = omega arith
+
+below_next : (m last : ℕ) → m ≤ last → (m == last + 1) ≡ false
+below_next m last h = grind (arith, nat_tests)
+
 abbrev pub asked : Kept → ℕ → ℕ → Subscription
 asked e n k = record { session = n; number = e.last + 1; rel = k }
 
@@ -122,26 +143,27 @@ module _ (e : Kept) (n k : ℕ) (name : Name) (x : IsOpenable e n name k) (T : L
   decided w = rows_test ∙ ap (λ b. test (not b) machine.limit) w
 
 module _ (e : Kept) (n k : ℕ) (name : Name) (h : IsSound e) (x : IsOpenable e n name k) (fits : IsWithin e (asked e n k))
-    (added : List RoleCircuit) (are : AllByRecursion (IsNewFor e (actor (frame_of e) n) k) added) (found : is_some (position (is_for (actor (frame_of e) n) k) (e.circuits ++ added)) ≡ true) where
+    (added : List RoleCircuit) (are : AllByRecursion (IsNewFor e (actor (frame_of e) n) k) added) (place : ℕ) (first : position (is_for (actor (frame_of e) n) k) (e.circuits ++ added) ≡ Some place) where
   abbrev s : Subscription
   s = asked e n k
 
   abbrev new : Kept
-  new = opened e added s (e.last + 1)
+  new = opened e added place s
 
   reached : IsReached (frame_of new)
-  reached = subst (λ j. IsReached (frame_of (opened e added (asked e n j) (e.last + 1)))) x.number
+  reached = subst (λ j. IsReached (frame_of (opened e added place (asked e n j)))) x.number
       (let r = after_reached (frame_of e) n (subscribe name) h.stored.reached in record { unique = r.unique; given = r.given })
 
   -- ---- its circuits
 
   still : (c : RoleCircuit) → IsRoleCircuit e c → IsRoleCircuit new c
-  still c i = record { known = i.known; is = same_circuit e new.subscriptions new.circuits new.last c.role (plan_at e.catalog c.rel) c.circuit i.is }
+  still c i = record { known = i.known; is = same_circuit e new.subscriptions new.circuits new.last c.role (plan_at e.catalog c.rel) c.circuit i.is; opened = i.opened }
 
   fresh : (c : RoleCircuit) → IsNewFor e (actor (frame_of e) n) k c → IsRoleCircuit new c
   fresh c i = still c (record {
     known = subst (λ rel. rel < length e.catalog) (sym i.shows) x.below;
     is = subst (λ rel. IsCircuitFor e c.role (plan_at e.catalog rel) c.circuit) (sym i.shows) (subst (λ role. IsCircuitFor e role (plan_at e.catalog k) c.circuit) (sym i.acts) i.is.is);
+    opened = unopened c i.opened;
   })
 
   old_read : (c : RoleCircuit) → is_read (frame_of e) c ≡ true → is_read (frame_of new) c ≡ true
@@ -150,8 +172,18 @@ module _ (e : Kept) (n k : ℕ) (name : Name) (h : IsSound e) (x : IsOpenable e 
   new_read : (c : RoleCircuit) → IsNewFor e (actor (frame_of e) n) k c → is_read (frame_of new) c ≡ true
   new_read c i = own_inserted (λ y. (y.rel == c.rel) && acts_as (frame_of e) y.session c.role) s e.subscriptions (reads_it (frame_of e) s c x.opened i.acts i.shows)
 
+  opens : (c : RoleCircuit) → IsRoleCircuit new c → IsRoleCircuit new (opened_to s.number c)
+  opens c i = record { known = i.known; is = i.is; opened = (self_le c.circuit.rounds, i.opened) }
+
+  readers : Each IsSameReader (e.circuits ++ added) new.circuits
+  readers = opened_same s.number place (e.circuits ++ added)
+
   old_place : (y : Subscription) → is_some (place_of e y) ≡ true → is_some (place_of new y) ≡ true
-  old_place y t = place_more (is_for (actor (frame_of e) y.session) y.rel) e.circuits added t
+  old_place y t = ap (λ (o : Option ℕ). is_some o) (place_same (actor (frame_of e) y.session) y.rel (e.circuits ++ added) new.circuits readers)
+      ∙ place_more (is_for (actor (frame_of e) y.session) y.rel) e.circuits added t
+
+  new_place : is_some (place_of new s) ≡ true
+  new_place = ap (λ (o : Option ℕ). is_some o) (place_same (actor (frame_of e) n) k (e.circuits ++ added) new.circuits readers ∙ first)
 
   pub opened_sound : IsSound new
   opened_sound = record {
@@ -170,17 +202,47 @@ module _ (e : Kept) (n k : ℕ) (name : Name) (h : IsSound e) (x : IsOpenable e 
     };
     served = all_inserted (λ y. may_read new y ≡ true) s e.subscriptions (ap (λ o. not (is_some o)) x.reads) (all_map (λ y. may_read e y ≡ true) (λ y. may_read new y ≡ true) e.subscriptions (λ y r. r) h.served);
     within = all_inserted (IsWithin new) s e.subscriptions fits (all_map (IsWithin e) (IsWithin new) e.subscriptions (λ y w. w) h.within);
-    circuits = all_joined (IsRoleCircuit new) e.circuits added (all_map (IsRoleCircuit e) (IsRoleCircuit new) e.circuits still h.circuits) (all_map (IsNewFor e (actor (frame_of e) n) k) (IsRoleCircuit new) added fresh are);
-    there = all_inserted (λ y. is_some (place_of new y) ≡ true) s e.subscriptions found
+    circuits = opened_have s.number (IsRoleCircuit new) opens place (e.circuits ++ added)
+        (all_joined (IsRoleCircuit new) e.circuits added (all_map (IsRoleCircuit e) (IsRoleCircuit new) e.circuits still h.circuits) (all_map (IsNewFor e (actor (frame_of e) n) k) (IsRoleCircuit new) added fresh are));
+    there = all_inserted (λ y. is_some (place_of new y) ≡ true) s e.subscriptions new_place
         (all_map (λ y. is_some (place_of e y) ≡ true) (λ y. is_some (place_of new y) ≡ true) e.subscriptions old_place h.there);
-    read = all_joined (λ c. is_read (frame_of new) c ≡ true) e.circuits added
+    read = read_still (frame_of new) (e.circuits ++ added) new.circuits readers (all_joined (λ c. is_read (frame_of new) c ≡ true) e.circuits added
         (all_map (λ c. is_read (frame_of e) c ≡ true) (λ c. is_read (frame_of new) c ≡ true) e.circuits old_read h.read)
-        (all_map (IsNewFor e (actor (frame_of e) n) k) (λ c. is_read (frame_of new) c ≡ true) added new_read are);
+        (all_map (IsNewFor e (actor (frame_of e) n) k) (λ c. is_read (frame_of new) c ≡ true) added new_read are));
   }
+
+  -- ---- its rounds, and those of the others
+
+  abbrev role_of : Subscription → ℕ
+  role_of y = actor (frame_of e) y.session
+
+  -- a subscription that was open, by a number that was given, has a circuit
+  record WasOpen (y : Subscription) : Type 0 where
+    beside : beside_number y.number (rounds e) ≡ rounds_of e y
+    given : y.number ≤ e.last
+    there : is_some (place_of e y) ≡ true
+
+  were_open : AllByRecursion WasOpen e.subscriptions
+  were_open = all_zip (λ y. is_some (place_of e y) ≡ true) (λ y. (beside_number y.number (rounds e) ≡ rounds_of e y) × (y.number ≤ e.last)) WasOpen e.subscriptions
+      (λ y t b. record { beside = b.0; given = b.1; there = t }) h.there
+      (all_zip (λ y. beside_number y.number (rounds e) ≡ rounds_of e y) (λ y. y.number ≤ e.last) (λ y. (beside_number y.number (rounds e) ≡ rounds_of e y) × (y.number ≤ e.last)) e.subscriptions
+      (λ y b g. (b, g)) (all_beside e h.stored) (all_given e.last e.subscriptions h.stored.reached.given))
+
+  old_rounds : (y : Subscription) → WasOpen y → rounds_of new y ≡ beside_number y.number (rounds e)
+  old_rounds y o = others_rounds s.number (role_of y) y.rel y.number (below_next y.number e.last o.given) place (e.circuits ++ added)
+      ∙ rounds_more (role_of y) y.rel y.number e.circuits added (place_found (is_for (role_of y) y.rel) e.circuits o.there)
+      ∙ sym o.beside
+
+  new_rounds : rounds_of new s ≡ beside_number s.number (rounds e)
+  new_rounds = own_rounds s.number (actor (frame_of e) n) k (e.circuits ++ added) place first ∙ sym (next_none e)
+
+  pub opened_counted : AreCounted (seen e) (subscribe name) (seen new)
+  opened_counted = now_counted e new opened_sound.stored (λ y was now. now ≡ was) (all_inserted (λ y. rounds_of new y ≡ beside_number y.number (rounds e)) s e.subscriptions new_rounds
+      (all_map WasOpen (λ y. rounds_of new y ≡ beside_number y.number (rounds e)) e.subscriptions old_rounds were_open))
 
   module _ (T : Lists) (stands : Stands T e.tables) where
     after_is : after (at e T) n (subscribe name) ≡ at new T
-    after_is = ap (λ j. at (opened e added (asked e n j) (e.last + 1)) T) x.number
+    after_is = ap (λ j. at (opened e added place (asked e n j)) T) x.number
 
     abbrev P : Subscription → Type 0
     P y = IsShown new y × (ending (at new T) y ≡ None)
@@ -219,13 +281,13 @@ subscribed_no_refusal k r h = cc
 -- ---- its circuit, and its first lines
 
 pub pushed_at : (e new : Kept) (role rel place : ℕ) (c : Running) → position (is_for role rel) e.circuits ≡ None → IsNew e role (plan_at e.catalog rel) c → place ≡ length e.circuits
-    → new ≡ record e { circuits = e.circuits ++ record { role = role; rel = rel; circuit = c } ∷ [] } → HasCircuitAt e role rel place new
+    → new ≡ record e { circuits = e.circuits ++ record { role = role; rel = rel; circuit = c; opened = [] } ∷ [] } → HasCircuitAt e role rel place new
 pushed_at e d role rel place c none is at state = record {
-  added = record { role = role; rel = rel; circuit = c } ∷ [];
-  is = (record { acts = refl; shows = refl; is = is }, tt);
+  added = record { role = role; rel = rel; circuit = c; opened = [] } ∷ [];
+  is = (record { acts = refl; shows = refl; is = is; opened = refl }, tt);
   shared = λ k. let no : false ≡ true = ap (λ (o : Option ℕ). is_some o) (sym none) ∙ k in cc;
   first = ap (λ (v : Kept). position (is_for role rel) v.circuits) state
-      ∙ place_pushed (is_for role rel) (record { role = role; rel = rel; circuit = c }) (is_own role rel c) e.circuits none
+      ∙ place_pushed (is_for role rel) (record { role = role; rel = rel; circuit = c; opened = [] }) (is_own role rel c) e.circuits none
       ∙ ap (λ j. Some j) (sym at);
   state = state;
 }
@@ -245,6 +307,7 @@ module _ (e : Kept) (n k : ℕ) (name : Name) (h : IsSound e) (x : IsOpenable e 
     answer = λ T stands. beyond e n k name x T (subst (λ r. is_within_for (at e T) r k ≡ false) acts (past T stands));
     left = λ T stands. tt;
     kept = same;
+    rounds = tt;
     sound = subst IsSound (sym same) h;
   }
 
@@ -268,22 +331,23 @@ module _ (e : Kept) (n k : ℕ) (name : Name) (h : IsSound e) (x : IsOpenable e 
     circuits : AllByRecursion (IsRoleCircuit joined) joined.circuits
     circuits = all_joined (IsRoleCircuit joined) e.circuits added
         (all_map (IsRoleCircuit e) (IsRoleCircuit joined) e.circuits
-        (λ c i. record { known = i.known; is = same_circuit e e.subscriptions joined.circuits e.last c.role (plan_at e.catalog c.rel) c.circuit i.is }) h.circuits)
+        (λ c i. record { known = i.known; is = same_circuit e e.subscriptions joined.circuits e.last c.role (plan_at e.catalog c.rel) c.circuit i.is; opened = i.opened }) h.circuits)
         (all_map (IsNewFor e (actor (frame_of e) n) k) (IsRoleCircuit joined) added (λ c i. record {
           known = subst (λ rel. rel < length e.catalog) (sym i.shows) x.below;
           is = same_circuit e e.subscriptions joined.circuits e.last c.role (plan_at e.catalog c.rel) c.circuit
               (subst (λ rel. IsCircuitFor e c.role (plan_at e.catalog rel) c.circuit) (sym i.shows) (subst (λ r. IsCircuitFor e r (plan_at e.catalog k) c.circuit) (sym i.acts) i.is.is));
+          opened = unopened c i.opened;
         }) are)
 
     fits : IsWithin e (asked e n k)
     fits = circuits_within joined circuits (asked e n k) found
 
-    module _ (s : Subscription) (same : s ≡ asked e n k) (lines : Vec Line) (told : AreFirstLines s (total_at mid place) (map line_of lines.items)) (new : Kept) (left : new ≡ with_subscription s mid) where
+    module _ (s : Subscription) (same : s ≡ asked e n k) (lines : Vec Line) (told : AreFirstLines s (total_at mid place) (map line_of lines.items)) (new : Kept) (left : new ≡ with_subscription s place mid) where
       abbrev now : Kept
-      now = opened e added (asked e n k) (e.last + 1)
+      now = opened e added place (asked e n k)
 
       now_is : new ≡ now
-      now_is = left ∙ (λ i. with_subscription (same i) (got.state i))
+      now_is = left ∙ (λ i. with_subscription (same i) place (got.state i))
 
       counts : (T : Lists) → Stands T e.tables → Counts (total_at mid place) (shown_rows e T (asked e n k))
       counts T stands = subst (λ (v : Kept). Counts (total_at v place) (shown_rows e T (asked e n k))) (sym got.state) (total_counts joined circuits T stands (asked e n k) place first)
@@ -291,14 +355,15 @@ module _ (e : Kept) (n k : ℕ) (name : Name) (h : IsSound e) (x : IsOpenable e 
       lines_sent : (T : Lists) (stands : Stands T e.tables) → map line_of lines.items ≡ sent e T n (subscribe name)
       lines_sent T stands = told (shown_rows e T (asked e n k)) (counts T stands)
           ∙ ap (λ (y : Subscription). machine_line None y (difference [] (shown_rows e T (asked e n k)))) same
-          ∙ sym (opened_sent e n k name h x fits added are found T stands)
+          ∙ sym (opened_sent e n k name h x fits added are place first T stands)
 
       -- it has its first lines, and is kept beside the others
       pub opened_step : (reply : Reply) → reply_of reply ≡ machine.subscribed s.number → IsStep e n (subscribe name) (Accepted reply lines) new
       opened_step reply is = record {
         answer = λ T stands. (decided e n k name x T (fits T stands), is ∙ ap (λ (y : Subscription). machine.subscribed y.number) same, lines_sent T stands);
-        left = λ T stands. subst (λ (t : State). IsBehind t (seen new)) (sym (opened_left e n k name h x fits added are found T stands))
+        left = λ T stands. subst (λ (t : State). IsBehind t (seen new)) (sym (opened_left e n k name h x fits added are place first T stands))
             (subst (λ (v : Kept). IsBehind (at now T) (seen v)) (sym now_is) (record { frame = refl; rows = stands }));
         kept = λ r no. subscribed_no_refusal s.number r (sym is ∙ no);
-        sound = subst IsSound (sym now_is) (opened_sound e n k name h x fits added are found);
+        rounds = subst (λ (v : Kept). AreCounted (seen e) (subscribe name) (seen v)) (sym now_is) (opened_counted e n k name h x fits added are place first);
+        sound = subst IsSound (sym now_is) (opened_sound e n k name h x fits added are place first);
       }

@@ -21,7 +21,7 @@ module _ {B : Type 0} (R : RoleCircuit → B → RoleCircuit → Type 0) (same :
   readers_same (k ∷ ks) (b ∷ bs) (n ∷ ns) l h = (same k b n h.0, readers_same ks bs ns (omega arith) h.1)
 
 module _ (role rel : ℕ) where
-  one_same : (k n : RoleCircuit) → IsSameReader k n → is_for role rel n ≡ is_for role rel k
+  pub one_same : (k n : RoleCircuit) → IsSameReader k n → is_for role rel n ≡ is_for role rel k
   one_same k n h = λ i. (h.role i == role) && (h.rel i == rel)
 
   first_same : (ks ns : List RoleCircuit) → Each IsSameReader ks ns → (position_or_len (is_for role rel) ns ≡ position_or_len (is_for role rel) ks) × (length ns ≡ length ks)

@@ -9,10 +9,12 @@ use Rattle.iv_machine.specs.Machine.{outcome, run, step}
 use Rattle.iv_algebra.specs.Plans.{Lists}
 use Rattle.iv_machine.specs.State.{State}
 use Rattle.iv_machine.specs.Well.{is_well_act, is_well_command}
-use Rattle.iv_engine.specs.Answering.{IsAnswer, IsKept, IsLeft, said, seen}
+use Rattle.iv_engine.specs.Answering.{AreRounds, IsAnswer, IsCountedBy, IsKept, IsLeft, said, seen}
+use Rattle.iv_engine.specs.Counting.{AreCountedWhereAccepted}
 use Rattle.iv_engine.specs.Kept.{Kept, at, frame_of}
-use Rattle.iv_engine.specs.Seen.{IsBehind}
+use Rattle.iv_engine.specs.Seen.{IsBehind, Seen}
 use Rattle.iv_engine.specs.Stands.{Stands}
+use Rattle.iv_engine.specs.Views.{refusal_of}
 use Rattle.iv_engine.specs.declared.answer.Answer.{Answer}
 use Rattle.iv_engine.specs.declared.answer.Answer.TheVariants.{Refused, Accepted}
 
@@ -31,8 +33,19 @@ module _ (e : Kept) (T : Lists) (n : ℕ) (act : machine.Act) where
       (record { frame = ap frame_of (sym k); rows = subst (λ (v : Kept). Stands T v.tables) (sym k) s })
   left_state (Accepted reply lines) new h l k s = subst (λ (t : State). IsBehind t (seen new)) (sym (ap (λ o. (outcome (at e T) told o).state) h.0)) l
 
-head_reply : (n k : ℕ) (r : machine.Reply) (x : machine.Refusal) (ls : List machine.Line) → machine.reply n r ∷ ls ≡ machine.reply k (machine.refused x) ∷ [] → r ≡ machine.refused x
-head_reply n k r x ls h = cc
+-- where it is accepted it counts the rounds
+pub counted_by : (e new : Kept) (n : ℕ) (act : machine.Act) (a : Answer) (lines : List machine.Line) → AreRounds e act a new → lines ≡ said n a → IsCountedBy e (record { session = n; act = act }) lines new
+counted_by e new n act (Refused r) lines h is = λ accepted. absurd (accepted n (refusal_of r) is)
+counted_by e new n act (Accepted reply said) lines h is = λ accepted. h
+
+-- what is seen of an engine with the store
+abbrev pub shown_by : Kept → (failed : Bool) → Seen
+shown_by e failed = record (seen e) { failed = failed }
+
+pub counted_seen : (e new : Kept) (old : Seen) (failed : Bool) (c : machine.Command) (lines : List machine.Line) → failed ≡ false → shown_by e failed ≡ old → IsCountedBy e c lines new
+    → AreCountedWhereAccepted old c lines (shown_by new failed)
+counted_seen e new old failed c lines off is h = subst (λ (v : Seen). AreCountedWhereAccepted v c lines (shown_by new failed)) is
+    (subst (λ b. AreCountedWhereAccepted (shown_by e b) c lines (shown_by new b)) (sym off) h)
 
 -- ---- commands that keep the rules on shape
 

@@ -155,7 +155,7 @@ module _ (e d : Kept) (back : (T : Lists) → Stands T d.tables → Stands T e.t
   circuits_stay [] a r = tt
   circuits_stay (k ∷ ks) a r =
       let x = read_has (frame_of d) k Stays r.0 each_stays k.circuit a.0.known a.0.is in
-      (record { known = x.0; is = x.1 }, circuits_stay ks a.1 r.1)
+      (record { known = x.0; is = x.1; opened = a.0.opened }, circuits_stay ks a.1 r.1)
 
 -- ---- a new relation, which has no row
 

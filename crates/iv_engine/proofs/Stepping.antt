@@ -11,15 +11,17 @@ use Rattle.iv_access.specs.declared.privilege.Privilege.{Privilege}
 use Rattle.iv_access.specs.Rights.{Name}
 use Rattle.iv_machine.specs.Act as machine
 use Rattle.iv_machine.specs.Act.{Act, begin, create_role, create_table, create_view, grant}
-use Rattle.iv_machine.specs.State.{State, Subscription, subscription_of}
+use Rattle.iv_machine.specs.State.{State, Subscription, actor, subscription_of}
 use Rattle.iv_machine.specs.Refusing.{refusal, frame_refusal, rows_refusal, or_else}
 use Rattle.iv_machine.specs.Changing.{after}
 use Rattle.iv_machine.specs.declared.Cause.{Cause}
 use Rattle.iv_machine.specs.Machine.{changes, line_for, line_of as machine_line, ending, ending_by, settled, reply_to, difference}
 use Rattle.iv_engine.specs.Answering.{IsPlain, IsStep, change_line, seen, sent}
+use Rattle.iv_engine.specs.Counting.{AreCounted, TurnsRounds}
 use Rattle.iv_engine.specs.Kept.{Kept, IsOpen, IsSound, IsStored, IsWithin, at, frame_of, may_read, shown_rows}
 use Rattle.iv_engine.specs.Next.{kept_after, next, next_by}
-use Rattle.iv_engine.specs.Seen.{IsBehind}
+use Rattle.iv_engine.specs.Rounds.{rounds_of}
+use Rattle.iv_engine.specs.Seen.{IsBehind, Seen}
 use Rattle.iv_engine.specs.Stands.{Stands}
 use Rattle.iv_engine.specs.Views.{line_of, refusal_of, reply_of}
 use Rattle.iv_engine.specs.declared.command.Line.{Line}
@@ -28,6 +30,7 @@ use Rattle.iv_engine.specs.declared.command.Reply.{Reply}
 use Rattle.iv_engine.specs.declared.command.Reply.TheVariants.{Ok}
 use Rattle.iv_engine.specs.declared.answer.Answer.{Answer}
 use Rattle.iv_engine.specs.declared.answer.Answer.TheVariants.{Refused, Accepted}
+use Rattle.iv_engine.proofs.Counted.{all_beside, same_rounds, those_counted}
 use Rattle.iv_engine.proofs.Tabled.{rows_with}
 use Rattle.iv_engine.proofs.Showing.{cause_for, difference_none, each_found, ending_is, shown_is}
 use Rattle.iv_engine.proofs.Sound.{all_map, all_shown, all_zip, begin_sound, begin_unmoved, grant_sound, grant_unmoved, role_sound, role_unmoved, table_sound, table_unmoved, view_sound, view_unmoved}
@@ -86,6 +89,7 @@ pub record KeepsRows (e : Kept) (n : ℕ) (act : Act) : Type 0 where
   pub reply : machine.done ≡ reply_to (frame_of e) act
   pub tables : (T : Lists) → Stands T e.tables → Stands T (kept_after e n act).tables
   pub sound : frame_refusal (frame_of e) n act ≡ None → IsSound e → IsSound (kept_after e n act)
+  pub counts : (old new : Seen) (rel k : ℕ) → TurnsRounds old new act rel k k
 
 or_nothing : (o p : Option machine.Refusal) → p ≡ None → or_else o p ≡ o
 or_nothing None p h = h
@@ -111,9 +115,14 @@ module _ (e : Kept) (n : ℕ) (act : Act) (q : KeepsRows e n act) (h : IsSound e
         ∙ (λ i. record (at left T) { frame = record (frame_of left) { subscriptions = filter (λ s. not (is_some (q.ends (at left T) i s))) left.subscriptions } })
         ∙ (λ i. record (at left T) { frame = record (frame_of left) { subscriptions = none_settled left T (q.sound passed h) (q.tables T stands) i } })
 
+-- each reader is the role that it was
+abbrev pub AreActors : Kept → Kept → Type 0
+AreActors e d = AllByRecursion (λ s. actor (frame_of d) s.session ≡ actor (frame_of e) s.session) e.subscriptions
+
 -- and nothing that is shown
 pub record IsQuiet (e : Kept) (n : ℕ) (act : Act) : Type 0 where
   pub keeps : KeepsRows e n act
+  pub acts : frame_refusal (frame_of e) n act ≡ None → IsSound e → AreActors e (kept_after e n act)
   pub shows : frame_refusal (frame_of e) n act ≡ None → IsSound e → (T : Lists) → Stands T e.tables → AllByRecursion (λ s. shown_rows (kept_after e n act) T s ≡ shown_rows e T s) e.subscriptions
 
 quiet_lines : (e c : Kept) (T : Lists) (es : List Subscription) → AllByRecursion (λ s. shown_rows c T s ≡ shown_rows e T s) es → flat_map (change_line e c T T) es ≡ []
@@ -122,33 +131,33 @@ quiet_lines e c T es a = no_lines (change_line e c T T) es (all_map (λ s. shown
 
 -- a request that keeps rows, where no subscription is moved, is quiet
 quiet : (e : Kept) (n : ℕ) (act : Act) → KeepsRows e n act → (frame_refusal (frame_of e) n act ≡ None → IsSound e → AllByRecursion (IsUnmoved e (kept_after e n act)) e.subscriptions) → IsQuiet e n act
-quiet e n act k u = record { keeps = k; shows = λ p h T s. all_shown e (kept_after e n act) e.subscriptions (u p h) T s }
+quiet e n act k u = record { keeps = k; acts = λ p h. all_map (IsUnmoved e (kept_after e n act)) (λ s. actor (frame_of (kept_after e n act)) s.session ≡ actor (frame_of e) s.session) e.subscriptions (λ s m. m.acts) (u p h); shows = λ p h T s. all_shown e (kept_after e n act) e.subscriptions (u p h) T s }
 
 -- ---- the requests
 
 pub begin_quiet : (e : Kept) (n : ℕ) (role : Name) → IsQuiet e n (begin role)
 begin_quiet e n role = quiet e n (begin role)
-    (record { rows = λ T. refl; after = λ T h. refl; ends = λ s. refl; reply = refl; tables = λ T s. s; sound = λ p h. begin_sound e n h role p })
+    (record { rows = λ T. refl; after = λ T h. refl; ends = λ s. refl; reply = refl; tables = λ T s. s; sound = λ p h. begin_sound e n h role p; counts = λ old new rel k. refl })
     (λ p h. begin_unmoved e n h role)
 
 pub role_quiet : (e : Kept) (n : ℕ) (name : Name) → IsQuiet e n (create_role name)
 role_quiet e n name = quiet e n (create_role name)
-    (record { rows = λ T. refl; after = λ T h. refl; ends = λ s. refl; reply = refl; tables = λ T s. s; sound = λ p h. role_sound e n h name p })
+    (record { rows = λ T. refl; after = λ T h. refl; ends = λ s. refl; reply = refl; tables = λ T s. s; sound = λ p h. role_sound e n h name p; counts = λ old new rel k. refl })
     (λ p h. role_unmoved e n h name)
 
 pub grant_quiet : (e : Kept) (n : ℕ) (rel : Name) (ps : List Privilege) (to : Option Name) → IsQuiet e n (grant rel ps to)
 grant_quiet e n rel ps to = quiet e n (grant rel ps to)
-    (record { rows = λ T. refl; after = λ T h. refl; ends = λ s. refl; reply = refl; tables = λ T s. s; sound = λ p h. grant_sound e n h rel ps to })
+    (record { rows = λ T. refl; after = λ T h. refl; ends = λ s. refl; reply = refl; tables = λ T s. s; sound = λ p h. grant_sound e n h rel ps to; counts = λ old new rel k. refl })
     (λ p h. grant_unmoved e n h rel ps to)
 
 pub table_quiet : (e : Kept) (n : ℕ) (name owner : Name) (columns : List Column) → IsQuiet e n (create_table name owner columns)
 table_quiet e n name owner columns = quiet e n (create_table name owner columns)
-    (record { rows = λ T. refl; after = λ T h. refl; ends = λ s. refl; reply = refl; tables = λ T s t q. ap (λ z. weight_of z q) (rows_with (catalogs.Table columns) (length e.catalog) e.tables t) ∙ s t q; sound = λ p h. table_sound e n h name owner columns })
+    (record { rows = λ T. refl; after = λ T h. refl; ends = λ s. refl; reply = refl; tables = λ T s t q. ap (λ z. weight_of z q) (rows_with (catalogs.Table columns) (length e.catalog) e.tables t) ∙ s t q; sound = λ p h. table_sound e n h name owner columns; counts = λ old new rel k. refl })
     (λ p h. table_unmoved e n h name owner columns)
 
 pub view_quiet : (e : Kept) (n : ℕ) (name owner query : Name) → IsQuiet e n (create_view name owner query)
 view_quiet e n name owner query = quiet e n (create_view name owner query)
-    (record { rows = λ T. refl; after = λ T h. refl; ends = λ s. refl; reply = refl; tables = λ T s. s; sound = λ p h. view_sound e n h name owner query p })
+    (record { rows = λ T. refl; after = λ T h. refl; ends = λ s. refl; reply = refl; tables = λ T s. s; sound = λ p h. view_sound e n h name owner query p; counts = λ old new rel k. refl })
     (λ p h. view_unmoved e n h name owner query p)
 
 -- ---- the step
@@ -162,23 +171,33 @@ refused_step e new n act r sound h k = record {
   answer = λ T s. ap (λ o. or_else o (rows_refusal (at e T) n act)) h;
   left = λ T s. tt;
   kept = k;
+  rounds = tt;
   sound = subst IsSound (sym k) sound;
 }
 
+-- an accepted one leaves the rounds
+same_counted : (e : Kept) (n : ℕ) (act : Act) → KeepsRows e n act → IsSound e → frame_refusal (frame_of e) n act ≡ None → AreActors e (kept_after e n act) → AreCounted (seen e) act (seen (kept_after e n act))
+same_counted e n act q sound passed acts =
+    let d = kept_after e n act in
+    those_counted e d (q.sound passed sound).stored (λ s was now. TurnsRounds (seen e) (seen d) act s.rel was now) (all_beside e sound.stored)
+    (all_map (λ s. actor (frame_of d) s.session ≡ actor (frame_of e) s.session) (λ s. TurnsRounds (seen e) (seen d) act s.rel (rounds_of e s) (rounds_of d s)) e.subscriptions
+    (λ s a. subst (TurnsRounds (seen e) (seen d) act s.rel (rounds_of e s)) (sym (same_rounds e d s refl a)) (q.counts (seen e) (seen d) s.rel (rounds_of e s))) acts)
+
 -- an accepted one that tells each subscription what it shows now and did not show before
-pub changed_step : (e new : Kept) (n : ℕ) (act : Act) (reply : Reply) (lines : Vec Line) → KeepsRows e n act → IsSound e → frame_refusal (frame_of e) n act ≡ None → new ≡ kept_after e n act → reply ≡ Ok
+pub changed_step : (e new : Kept) (n : ℕ) (act : Act) (reply : Reply) (lines : Vec Line) → KeepsRows e n act → AreActors e (kept_after e n act) → IsSound e → frame_refusal (frame_of e) n act ≡ None → new ≡ kept_after e n act → reply ≡ Ok
     → ((T : Lists) → Stands T e.tables → map line_of lines.items ≡ flat_map (change_line e (kept_after e n act) T T) e.subscriptions) → IsStep e n act (Accepted reply lines) new
-changed_step e new n act reply lines q sound passed k r told = record {
+changed_step e new n act reply lines q acts sound passed k r told = record {
   answer = λ T s. (decided e n act q sound T s ∙ passed, ap reply_of r ∙ q.reply, told T s ∙ sym (changed_sent e n act q sound T s passed));
   left = λ T s. subst (λ (t : State). IsBehind t (seen new)) (sym (changed_left e n act q sound T s passed))
       (subst (λ (v : Kept). IsBehind (at (kept_after e n act) T) (seen v)) (sym k) (record { frame = refl; rows = q.tables T s }));
   kept = no_refusal reply r;
+  rounds = subst (λ (v : Kept). AreCounted (seen e) act (seen v)) (sym k) (same_counted e n act q sound passed acts);
   sound = subst IsSound (sym k) (q.sound passed sound);
 }
 
 plain_by : (e new : Kept) (n : ℕ) (act : Act) (o : Option Refusal) (a : Answer) → IsQuiet e n act → IsSound e → IsPlain o a → option_map refusal_of o ≡ frame_refusal (frame_of e) n act → new ≡ next_by e n act (option_map refusal_of o) → IsStep e n act a new
 plain_by e new n act None (Refused r) q sound p h k = absurd p
-plain_by e new n act None (Accepted reply lines) q sound p h k = changed_step e new n act reply lines q.keeps sound (sym h) k p.0
+plain_by e new n act None (Accepted reply lines) q sound p h k = changed_step e new n act reply lines q.keeps (q.acts (sym h) sound) sound (sym h) k p.0
     (λ T s. ap (map line_of) p.1 ∙ sym (quiet_lines e (kept_after e n act) T e.subscriptions (q.shows (sym h) sound T s)))
 plain_by e new n act (Some r) a q sound p h k = subst (λ x. IsStep e n act x new) (sym p) (refused_step e new n act r sound (sym h) k)
 

@@ -103,7 +103,7 @@ module _ (t : RoleCircuit → Bool) where
   some_lt true n h = refl
   some_lt false n h = h
 
-  place_found : (ks : List RoleCircuit) → is_some (position t ks) ≡ true → list_any t ks ≡ true
+  pub place_found : (ks : List RoleCircuit) → is_some (position t ks) ≡ true → list_any t ks ≡ true
   place_found ks h = place_any ks (ltb-true (position_or_len t ks) (length ks) (some_lt (nat_lt (position_or_len t ks) (length ks)) (position_or_len t ks) h))
 
   found_place : (ks : List RoleCircuit) → list_any t ks ≡ true → is_some (position t ks) ≡ true

@@ -7,7 +7,9 @@ use Rattle.iv_machine.specs.Refusing.{refusal}
 use Rattle.iv_machine.specs.Changing.{after}
 use Rattle.iv_machine.specs.Machine.{reply_to, changes, settled, line_of as machine_line, difference, step}
 use Rattle.iv_machine.specs.declared.Cause.TheVariants as cause
+use Rattle.iv_engine.specs.Counting.{AreCounted, AreCountedWhereAccepted}
 use Rattle.iv_engine.specs.Kept.{Kept, IsSound, frame_of, at, may_read, shown_rows}
+use Rattle.iv_engine.specs.Rounds.{rounds}
 use Rattle.iv_engine.specs.Seen.{Seen, IsBehind}
 use Rattle.iv_engine.specs.Stands.{Stands}
 use Rattle.iv_engine.specs.Views.{refusal_of, reply_of, line_of}
@@ -18,7 +20,7 @@ use Rattle.iv_engine.specs.declared.answer.Answer.TheVariants.{Refused, Accepted
 
 -- what the engine shows of itself while it has not failed
 abbrev pub seen : Kept → Seen
-seen e = record { frame = frame_of e; tables = e.tables; failed = false }
+seen e = record { frame = frame_of e; tables = e.tables; rounds = rounds e; failed = false }
 
 -- the lines of an answer
 abbrev pub said : ℕ → Answer → List machine.Line
@@ -45,11 +47,17 @@ abbrev pub IsKept : Kept → Answer → Kept → Type 0
 IsKept old (Refused r) new = new ≡ old
 IsKept old (Accepted reply lines) new = (r : machine.Refusal) → reply_of reply ≡ machine.refused r → ⊥
 
+-- an accepted one counts the rounds of each subscription
+abbrev pub AreRounds : Kept → machine.Act → Answer → Kept → Type 0
+AreRounds e act (Refused r) new = Unit {0}
+AreRounds e act (Accepted reply lines) new = AreCounted (seen e) act (seen new)
+
 -- one step of the machine from e to new, for all lists behind e
 pub record IsStep (e : Kept) (n : ℕ) (act : machine.Act) (a : Answer) (new : Kept) : Type 0 where
   pub answer : (T : Lists) → Stands T e.tables → IsAnswer e T n act a
   pub left : (T : Lists) → Stands T e.tables → IsLeft e T n act a new
   pub kept : IsKept e a new
+  pub rounds : AreRounds e act a new
   pub sound : IsSound new
 
 -- the answer of a request that shows nothing
@@ -89,3 +97,7 @@ IsSaid e c lines = (T : Lists) → Stands T e.tables → lines ≡ (step (at e T
 -- what such a step leaves
 abbrev pub IsNext : Kept → machine.Command → Kept → Type 0
 IsNext e c new = (T : Lists) → Stands T e.tables → IsBehind (step (at e T) c).state (seen new)
+
+-- what it makes of the rounds of subscriptions, where it is accepted
+abbrev pub IsCountedBy : Kept → machine.Command → List machine.Line → Kept → Type 0
+IsCountedBy e c lines new = AreCountedWhereAccepted (seen e) c lines (seen new)

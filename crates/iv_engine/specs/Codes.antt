@@ -41,8 +41,8 @@ frame_code =
 
 abbrev pub role_circuit_code : Coded RoleCircuit
 role_circuit_code =
-    code_by (ℕ × (ℕ × Running)) (coded× coded_ℕ (coded× coded_ℕ running_code)) (λ k. (k.role, (k.rel, k.circuit)))
-    (λ p. record { role = p.0; rel = p.1.0; circuit = p.1.1 }) (λ _. refl)
+    code_by ((ℕ × ℕ) × (Running × List (ℕ × ℕ))) (coded× (coded× coded_ℕ coded_ℕ) (coded× running_code (coded_list (coded× coded_ℕ coded_ℕ))))
+    (λ k. ((k.role, k.rel), (k.circuit, k.opened))) (λ p. record { role = p.0.0; rel = p.0.1; circuit = p.1.0; opened = p.1.1 }) (λ _. refl)
 
 abbrev pub kept_code : Coded Kept
 kept_code =
@@ -63,5 +63,6 @@ kept_code =
 
 abbrev pub seen_code : Coded Seen
 seen_code =
-    code_by (Frame × (List Table × Bool)) (coded× frame_code (coded× (coded_list table_code) coded_bool))
-    (λ e. (e.frame, (e.tables, e.failed))) (λ p. record { frame = p.0; tables = p.1.0; failed = p.1.1 }) (λ _. refl)
+    code_by ((Frame × List Table) × (List (ℕ × ℕ) × Bool))
+    (coded× (coded× frame_code (coded_list table_code)) (coded× (coded_list (coded× coded_ℕ coded_ℕ)) coded_bool))
+    (λ e. ((e.frame, e.tables), (e.rounds, e.failed))) (λ p. record { frame = p.0.0; tables = p.0.1; rounds = p.1.0; failed = p.1.1 }) (λ _. refl)

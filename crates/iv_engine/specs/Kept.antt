@@ -1,5 +1,5 @@
 -- What the engine keeps, and the machine's frame that it stands for.
-use Rattle.std.specs.Prelude.{◌≡◌, ℕ, ◌<◌, ◌≤◌, ◌==◌, ◌&&◌, Bool, true, false, not, List, [], Option, None, Some, filter, length, map, is_some, option_map, position}
+use Rattle.std.specs.Prelude.{◌≡◌, ℕ, ◌<◌, ◌≤◌, ◌==◌, ◌&&◌, Bool, true, false, not, List, [], ◌∷◌, Option, None, Some, filter, length, map, is_some, option_map, position}
 use Rattle.std.specs.List.{All, AllByRecursion, list_any}
 use Rattle.iv_rows.specs.Columns.{Column, kinds_of}
 use Rattle.iv_zset.specs.Weights.{Weighed, IsBag, IsZSet}
@@ -22,11 +22,21 @@ use Rattle.iv_machine.specs.Numbered.{AreNumbered}
 use Rattle.iv_machine.specs.Reached.{IsReached}
 use Rattle.iv_engine.specs.Stands.{Stands}
 
--- the circuit of what a relation shows to a role
+-- the circuit of what a relation shows to a role, with the numbers of the subscriptions that were opened on it, the last
+-- first, each with the rounds that the circuit had then
 pub record RoleCircuit : Type 0 where
   pub role : ℕ
   pub rel : ℕ
   pub circuit : Running
+  pub opened : List (ℕ × ℕ)
+
+-- the circuit, opened to the subscription of the number now
+abbrev pub opened_to : (number : ℕ) → RoleCircuit → RoleCircuit
+opened_to n k = record k { opened = (n, k.circuit.rounds) ∷ k.opened }
+
+-- another circuit in its place, which is opened to none
+abbrev pub replaced_by : Running → RoleCircuit → RoleCircuit
+replaced_by c k = record k { circuit = c; opened = [] }
 
 -- the relations stand in the catalog at their numbers, and the tables among them have their rows
 pub record Kept : Type 0 where
@@ -118,10 +128,15 @@ pub record IsCircuitFor (e : Kept) (role : ℕ) (p : Shape) (c : Running) : Type
 abbrev pub IsCircuitOf : Kept → Subscription → Running → Type 0
 IsCircuitOf e s c = IsCircuitFor e (actor (frame_of e) s.session) (plan_at e.catalog s.rel) c
 
+-- none was opened at more rounds than the circuit has
+abbrev pub WereOpened : RoleCircuit → Type 0
+WereOpened k = AllByRecursion (λ x. x.1 ≤ k.circuit.rounds) k.opened
+
 -- the circuit of what the relation shows to the role
 pub record IsRoleCircuit (e : Kept) (k : RoleCircuit) : Type 0 where
   pub known : k.rel < length e.catalog
   pub is : IsCircuitFor e k.role (plan_at e.catalog k.rel) k.circuit
+  pub opened : WereOpened k
 
 -- ---- which circuit a subscription reads
 

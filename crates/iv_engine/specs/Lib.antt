@@ -4,7 +4,10 @@ pub mod Stands
 pub mod Target
 pub mod Changes
 pub mod Seen
+pub mod Openings
 pub mod Kept
+pub mod Rounds
+pub mod Counting
 pub mod Codes
 pub mod Next
 pub mod Telling

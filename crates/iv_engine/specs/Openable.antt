@@ -1,5 +1,5 @@
 -- The relation that a subscription may be opened to.
-use Rattle.std.specs.Prelude.{◌≡◌, ◌<◌, ◌-◌, ◌^◌, ℕ, true, List, [], ◌++◌, length, Option, None, Some, is_some, position, Result, Ok, Err}
+use Rattle.std.specs.Prelude.{◌≡◌, ◌<◌, ◌-◌, ◌^◌, ℕ, zero, suc, true, List, [], ◌∷◌, ◌++◌, length, Option, None, Some, is_some, position, Result, Ok, Err}
 use Rattle.std.specs.List.{AllByRecursion}
 use Rattle.iv_rows.specs.Cell.{Cell}
 use Rattle.iv_rows.specs.declared.schema.RelId.{RelId}
@@ -15,7 +15,7 @@ use Rattle.iv_machine.specs.Machine.{difference, line_of as machine_line}
 use Rattle.iv_machine.specs.Refusing.{frame_refusal}
 use Rattle.iv_machine.specs.State.{Subscription, actor, is_open, missing_for, plan_at, rel_of}
 use Rattle.iv_engine.specs.Built.{IsBeyond, IsNew}
-use Rattle.iv_engine.specs.Kept.{Kept, RoleCircuit, frame_of, is_for}
+use Rattle.iv_engine.specs.Kept.{Kept, RoleCircuit, frame_of, is_for, opened_to}
 use Rattle.iv_engine.specs.Views.{refusal_of}
 use Rattle.iv_engine.specs.declared.predicates.Stop.{Stop}
 use Rattle.iv_engine.specs.declared.predicates.Stop.TheVariants.{Refused, Memory}
@@ -43,15 +43,26 @@ MayOpen e n name (Err Memory) = Unit {0}
 abbrev pub AreFirstLines : Subscription → Weighed → List machine.Line → Type 0
 AreFirstLines s showed lines = (rows : List (List Cell)) → Counts showed rows → lines ≡ machine_line None s (difference [] rows)
 
--- with the subscription, which has the last number given
-abbrev pub with_subscription : Subscription → Kept → Kept
-with_subscription s e = record e { subscriptions = insert_subscription s e.subscriptions; last = s.number }
+-- the circuits, of which that at the place is opened to the subscription of the number
+abbrev pub opened_at : (place number : ℕ) → List RoleCircuit → List RoleCircuit
+opened_at place n [] = []
+opened_at zero n (k ∷ ks) = opened_to n k ∷ ks
+opened_at (suc place) n (k ∷ ks) = k ∷ opened_at place n ks
+
+-- with the subscription, which has the last number given and reads the circuit at the place
+abbrev pub with_subscription : Subscription → (place : ℕ) → Kept → Kept
+with_subscription s place e = record e {
+  subscriptions = insert_subscription s e.subscriptions;
+  circuits = opened_at place s.number e.circuits;
+  last = s.number;
+}
 
 -- a new circuit of what the relation shows to the role
 pub record IsNewFor (e : Kept) (role rel : ℕ) (k : RoleCircuit) : Type 0 where
   pub acts : k.role ≡ role
   pub shows : k.rel ≡ rel
   pub is : IsNew e role (plan_at e.catalog rel) k.circuit
+  pub opened : k.opened ≡ []
 
 -- the place of the first that is for the role and the relation: a new one behind the others only where there was none
 pub record HasCircuitAt (e : Kept) (role rel place : ℕ) (new : Kept) : Type 0 where

@@ -9,10 +9,12 @@ use Rattle.iv_machine.specs.Readers.{ShowsKnownRows}
 use Rattle.iv_machine.specs.State.{Frame, State}
 use Rattle.iv_engine.specs.Stands.{Stands}
 
--- all but the rows, the tables with their rows, and whether the engine has failed
+-- all but the rows, the tables with their rows, how many changes the circuit of each open subscription has taken in, by
+-- the numbers of the subscriptions, and whether the engine has failed
 pub record Seen : Type 0 where
   pub frame : Frame
   pub tables : List Table
+  pub rounds : List (ℕ × ℕ)
   pub failed : Bool
 
 -- the state is the engine's, but for the order of rows in its lists

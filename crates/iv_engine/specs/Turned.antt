@@ -1,20 +1,22 @@
 -- What readers see more and less where the policies of a table change, and which subscriptions end.
-use Rattle.std.specs.Prelude.{◌≡◌, ℕ, ◌<◌, ◌==◌, Bool, true, false, List, [], ◌∷◌, ◌++◌, filter, flat_map, length, map, None, IfSome, is_some}
+use Rattle.std.specs.Prelude.{◌≡◌, ℕ, ◌<◌, ◌==◌, Bool, cond, true, false, List, [], ◌∷◌, ◌++◌, filter, flat_map, length, map, None, IfSome, is_some}
 use Rattle.std.specs.List.{AllByRecursion, list_any}
 use Rattle.iv_zset.specs.Limits.{Counts}
 use Rattle.iv_zset.specs.Weights.{IsBag, Weighed}
 use Rattle.iv_algebra.specs.Rows.{Cells}
 use Rattle.iv_algebra.specs.Plans.{Lists}
 use Rattle.iv_circuit.specs.Circuits.{Running}
-use Rattle.iv_circuit.specs.Nodes.{scans_of, total_of}
+use Rattle.iv_circuit.specs.Nodes.{plan_of, scans_of, total_of}
 use Rattle.iv_machine.specs.Act as machine
 use Rattle.iv_machine.specs.Machine.{difference, line_of as machine_line}
 use Rattle.iv_machine.specs.State.{Subscription, is_within, plan_at}
 use Rattle.iv_machine.specs.declared.Cause.TheVariants as cause
 use Rattle.iv_engine.specs.Built.{IsBeyond, IsNew}
+use Rattle.iv_engine.specs.Counting.{scans_at}
 use Rattle.iv_engine.specs.Found.{beside_of, total_at}
-use Rattle.iv_engine.specs.Kept.{IsCircuitFor, IsRoleCircuit, Kept, RoleCircuit, at, frame_of, is_read, place_of, shown_rows}
+use Rattle.iv_engine.specs.Kept.{IsCircuitFor, IsRoleCircuit, Kept, RoleCircuit, WereOpened, at, frame_of, is_read, place_of, replaced_by, shown_rows}
 use Rattle.iv_engine.specs.Moved.{IsBagDifference, shared_rows}
+use Rattle.iv_engine.specs.Rounds.{rounds_of}
 use Rattle.iv_engine.specs.Stands.{Stands}
 use Rattle.iv_engine.specs.Views.{line_of}
 use Rattle.iv_engine.specs.declared.answer.Answer.{Answer}
@@ -31,12 +33,14 @@ use Rattle.iv_engine.specs.declared.turning.Turn.TheVariants.{Same, Anew, Beyond
 abbrev pub scans_table : Running → ℕ → Bool
 scans_table c table = list_any (λ s. s.table == table) (scans_of c.node)
 
--- before the circuits that scan the table are built anew: it counts what was shown, and one that does not scan the table
--- is that of what is shown now
+-- before the circuits that scan the table are built anew: it is that of the relation's plan and counts what was shown, and
+-- one that does not scan the table is that of what is shown now
 pub record WasRead (e : Kept) (table : ℕ) (k : RoleCircuit) : Type 0 where
   pub known : k.rel < length e.catalog
+  pub plan : plan_of k.circuit.node ≡ plan_at e.catalog k.rel
   pub bag : IsBag (total_of k.circuit.node)
   pub other : scans_table k.circuit table ≡ false → IsCircuitFor e k.role (plan_at e.catalog k.rel) k.circuit
+  pub opened : WereOpened k
 
 -- the new circuit, and what it shows more and less than the bag has
 abbrev pub IsAnewBy : Weighed → Running → Turn → Type 0
@@ -64,7 +68,7 @@ IsTurn e table k Beyond = IsPast e table k
 -- the new circuit stands in the place of the one before
 abbrev pub renewed_by : Turn → RoleCircuit → RoleCircuit
 renewed_by Same k = k
-renewed_by (Anew c rows) k = record k { circuit = c }
+renewed_by (Anew c rows) k = replaced_by c k
 renewed_by Beyond k = k
 
 abbrev pub IsRenewed : RoleCircuit → Turn → RoleCircuit → Type 0
@@ -109,7 +113,8 @@ turned_by false s old new = machine.ended s.session s.number cause.Limit (differ
 abbrev pub turned_line : Kept → Lists → Subscription → List Cells → List machine.Line
 turned_line e T s rows = turned_by (is_within (at e T) s) s rows (shown_rows e T s)
 
--- the subscriptions within the limits are left, each has its line, and the circuits are those that they read
+-- the subscriptions within the limits are left, each has its line, and the circuits are those that they read; those of the
+-- relations that scan the table have taken in no change yet
 pub record AreReaders (e : Kept) (table : ℕ) (reply : Reply) (lines : List Line) (new : Kept) : Type 0 where
   pub done : reply ≡ Ok
   pub left : (T : Lists) → Stands T e.tables → new.subscriptions ≡ filter (is_within (at e T)) e.subscriptions
@@ -118,6 +123,7 @@ pub record AreReaders (e : Kept) (table : ℕ) (reply : Reply) (lines : List Lin
   pub circuits : AllByRecursion (IsRoleCircuit e) new.circuits
   pub there : AllByRecursion (λ s. is_some (place_of new s) ≡ true) new.subscriptions
   pub read : AllByRecursion (λ k. is_read (frame_of new) k ≡ true) new.circuits
+  pub rounds : AllByRecursion (λ s. rounds_of new s ≡ cond (scans_at e.catalog s.rel table) 0 (rounds_of e s)) new.subscriptions
   pub state : new ≡ record e { subscriptions = new.subscriptions; circuits = new.circuits }
 
 -- the answer has the lines

@@ -2,7 +2,7 @@
 ghost use Rattle.std.specs.Prelude.{◌≡◌, IfOk, OnOk, map, option_map, string_bytes, true};
 ghost use Rattle.iv_machine.specs.Act as machine;
 ghost use Rattle.iv_machine.specs.Well.{is_well_act, is_well_command};
-ghost use Rattle.iv_engine.specs.Answering.{IsNext, IsPlain, IsSaid, IsStep};
+ghost use Rattle.iv_engine.specs.Answering.{IsCountedBy, IsNext, IsPlain, IsSaid, IsStep};
 ghost use Rattle.iv_engine.specs.Kept.{IsSound};
 ghost use Rattle.iv_engine.specs.Seen.{ChangesWhereAccepted};
 ghost use Rattle.iv_engine.specs.Views.{act_of, command_of, line_of};
@@ -100,6 +100,7 @@ impl Store {
         ensures lines { IfOk result (λ lines. IsSaid self.old (command_of command) (map line_of lines.items)) }
         ensures state { OnOk result (IsNext self.old (command_of command) self.new) }
         ensures refused { IfOk result (λ lines. ChangesWhereAccepted self.old (map line_of lines.items) self.new) }
+        ensures rounds { IfOk result (λ lines. IsCountedBy self.old (command_of command) (map line_of lines.items) self.new) }
         ensures sound { OnOk result (IsSound self.new) }
     {
         let session = command.session;

@@ -5,6 +5,7 @@ ghost use Rattle.iv_machine.specs.Machine.{hung};
 ghost use Rattle.iv_machine.specs.Reached.{IsReached};
 ghost use Rattle.iv_machine.specs.State.{State, start};
 ghost use Rattle.iv_machine.specs.Well.{is_well_command};
+ghost use Rattle.iv_engine.specs.Counting.{AreCountedWhereAccepted};
 ghost use Rattle.iv_engine.specs.Seen.{AreLinesOf, AreLinesOfAll, ChangesWhereAccepted, HasKnownRows, IsBehind, IsLeftBy, IsLeftByAll, LinesAddUpBehind};
 ghost use Rattle.iv_engine.specs.Views.{command_of, line_of};
 
@@ -25,13 +26,14 @@ impl Model for Engine {
     ghost use Rattle.std.specs.Prelude.{◌≡◌, false};
     ghost use Rattle.iv_engine.specs.Codes.{seen_code};
     ghost use Rattle.iv_engine.specs.Kept.{IsSound, frame_of};
+    ghost use Rattle.iv_engine.specs.Rounds.{rounds};
     ghost use Rattle.iv_engine.specs.Seen.{Seen};
 
     ghost Value = { Seen };
 
     ghost coded = { seen_code };
 
-    ghost view = { λ e. record { frame = frame_of e.store; tables = e.store.tables; failed = e.failed } };
+    ghost view = { λ e. record { frame = frame_of e.store; tables = e.store.tables; rounds = rounds e.store; failed = e.failed } };
 
     ghost invariant = { λ e. e.failed ≡ false → IsSound e.store };
 }
@@ -71,7 +73,7 @@ impl Engine {
     /// given again. An engine that has failed stays as it was.
     pub fn hang_up(&mut self)
         ensures hung { self.old.failed ≡ false → (s : State) → IsBehind s self.old → IsBehind (hung s) self.new }
-        ensures closed { self.old.failed ≡ false → self.new ≡ record self.old { frame = record self.old.frame { sessions = []; subscriptions = [] } } }
+        ensures closed { self.old.failed ≡ false → self.new ≡ record self.old { frame = record self.old.frame { sessions = []; subscriptions = [] }; rounds = [] } }
         ensures failed_unchanged { self.old.failed ≡ true → self.new ≡ self.old }
     {
         if !self.failed {
@@ -92,6 +94,9 @@ impl Engine {
         ensures state { OnOk result (IsLeftBy self.old (command_of command) self.new) }
         ensures known_rows { IfOk result (λ lines. HasKnownRows self.old (command_of command) (map line_of lines.items)) }
         ensures refused { IfOk result (λ lines. ChangesWhereAccepted self.old (map line_of lines.items) self.new) }
+        // An accepted write counts one round more for exactly the subscriptions that scan a table whose counts changed; a
+        // change of a table's policies counts anew for those that scan it. All others are as before.
+        ensures rounds { IfOk result (λ lines. AreCountedWhereAccepted self.old (command_of command) (map line_of lines.items) self.new) }
         ensures went_on { OnOk result (self.new.failed ≡ false) }
         ensures fails { OnErr result (self.new.failed ≡ true) }
         ensures failed { result ≡ Err EngineFault.Failed ↔ (self.old.failed ≡ true) }

@@ -2,6 +2,8 @@
 #![tactic(auto)]
 
 #[cfg(test)]
+mod batches;
+#[cfg(test)]
 mod commands;
 #[cfg(test)]
 mod damaged;
@@ -9,6 +11,8 @@ mod damaged;
 mod failing;
 #[cfg(test)]
 mod limits;
+#[cfg(test)]
+mod numbered;
 #[cfg(test)]
 mod refused;
 #[cfg(test)]

@@ -1,38 +1,8 @@
 //! The refusals of each request and the limits, as lines.
+use crate::numbered::{between, list_of, numbered};
 use crate::replayed::{answers, writes};
 use std::alloc::{AllocError, Global};
 use std::test::Fail;
-
-/// The text with the number at each mark `#`.
-fn marked(alloc: Global, text: &str, number: u64) -> Result<String, AllocError> {
-    let digits = format!(in alloc; "{number}")?;
-    let mut lines = String::new(alloc);
-    for c in text.chars() {
-        if c == '#' {
-            lines.push_str(&digits)?;
-        } else {
-            lines.push(c)?;
-        }
-    }
-    Ok(lines)
-}
-
-/// The text with each number from `low` on, before `high`.
-fn numbered(alloc: Global, text: &str, low: u64, high: u64) -> Result<String, AllocError> {
-    let mut lines = String::new(alloc);
-    for number in low..high {
-        lines.push_str(&marked(alloc, text, number)?)?;
-    }
-    Ok(lines)
-}
-
-/// The first text, the one in the middle with each number from `low` on, before `high`, and the last.
-fn between(alloc: Global, texts: [&str; 3], (low, high): (u64, u64)) -> Result<String, AllocError> {
-    let mut lines = String::from_str(alloc, texts[0])?;
-    lines.push_str(&numbered(alloc, texts[1], low, high)?)?;
-    lines.push_str(texts[2])?;
-    Ok(lines)
-}
 
 /// Whether, behind `first_change`, the lines with these numbers are answered by the texts with these numbers.
 fn answers_many(
@@ -221,13 +191,10 @@ fn refusals_of_subscribe(rt: HostRuntime) -> Result<(), Fail> {
 
 /// A write of the notes with the numbers from `low` on, before `high`, which are some.
 fn notes(alloc: Global, low: u64, high: u64) -> Result<String, AllocError> {
-    let mut line = String::from_str(alloc, "{\"do\":\"write\",\"session\":1,\"entries\":[")?;
-    line.push_str(&marked(alloc, "{\"on\":\"notes\",\"insert\":[#,\"x\"]}", low)?)?;
-    for number in low.saturating_add(1)..high {
-        line.push_str(&marked(alloc, ",{\"on\":\"notes\",\"insert\":[#,\"x\"]}", number)?)?;
-    }
-    line.push_str("]}\n")?;
-    Ok(line)
+    let front =
+        "{\"do\":\"write\",\"session\":1,\"entries\":[{\"on\":\"notes\",\"insert\":[#,\"x\"]}";
+    let more = ",{\"on\":\"notes\",\"insert\":[#,\"x\"]}";
+    list_of(alloc, [front, more, "]}\n"], (low, high))
 }
 
 /// A session, a table, and 65 writes of 1,000 rows.

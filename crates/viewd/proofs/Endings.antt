@@ -19,5 +19,5 @@ nothing_more (Some xs) = sym (append-nil xs)
 
 -- no engine was made: no line was answered
 pub nothing_answered : (lines : ℕ) (given left taken : Option (List ℕ)) → 1 ≤ lines → (now : Seen) × IsAnswered (start 65536) (ran lines given left taken taken now) (Err run.Memory)
-nothing_answered lines None left taken h = (record { frame = start_frame 65536; tables = []; failed = true }, tt)
-nothing_answered lines (Some bs) left taken h = (record { frame = start_frame 65536; tables = []; failed = true }, (0, omega arith, (refl, nothing_more taken)))
+nothing_answered lines None left taken h = (record { frame = start_frame 65536; tables = []; rounds = []; failed = true }, tt)
+nothing_answered lines (Some bs) left taken h = (record { frame = start_frame 65536; tables = []; rounds = []; failed = true }, (0, omega arith, (refl, nothing_more taken)))

@@ -1,4 +1,4 @@
-use Rattle.std.proofs.Common.{◌≡◌, ◌∙◌, sym, ap, subst}
+use Rattle.std.proofs.Common.{◌≡◌, ◌∙◌, false, map, sym, ap, subst}
 use Rattle.iv_machine.specs.Machine.{step}
 use Rattle.iv_machine.specs.State.{Frame}
 use Rattle.iv_machine.specs.Reached.{IsReached}
@@ -9,7 +9,8 @@ use Rattle.iv_engine.specs.Answering.{seen}
 use Rattle.iv_engine.specs.Kept.{frame_of}
 use Rattle.iv_engine.specs.Seen.{Seen, IsBehind}
 use Rattle.iv_engine.specs.Stands.{Stands}
-use Rattle.iv_engine.specs.Views.{command_of}
+use Rattle.iv_engine.specs.Views.{command_of, line_of}
+use Rattle.iv_engine.proofs.Running.{counted_seen}
 use Rattle.iv_engine.proofs.engine.Engine.apply.Goals as goal
 
 pub returns-in-Ok-clause-lines : goal.returns-in-Ok-clause-lines
@@ -32,3 +33,8 @@ returns-in-Ok-clause-known_rows c = λ s b.
     let lines = c.in-Ok.ensures.lines s.rows rows ∙ ap (λ (f : Frame). (step (record { frame = f; rows = s.rows }) (command_of c.args.command)).lines) (sym frame) in
     let reached : IsReached s.frame = subst IsReached (sym b.frame) (c.is_failed.ensures.reached c.if-is_failed.false) in
     subst (All (ShowsKnownRows s (step s (command_of c.args.command)).state)) (sym lines) (step_shows s (command_of c.args.command) reached)
+
+pub returns-in-Ok-clause-rounds : goal.returns-in-Ok-clause-rounds
+returns-in-Ok-clause-rounds c =
+    let off : c.self.inside.failed ≡ false = ap (λ (v : Seen). v.failed) c.self.view_is ∙ sym c.is_failed.ensures.failed ∙ c.if-is_failed.false in
+    counted_seen c.self.inside.store c.step.new.self c.args.self.now c.self.inside.failed (command_of c.args.command) (map line_of c.in-Ok.lines.items) off c.self.view_is c.in-Ok.ensures.rounds

@@ -1,0 +1,45 @@
+-- What a request makes of the rounds of the subscriptions that are open afterwards.
+use Rattle.std.specs.Prelude.{◌≡◌, ℕ, ◌+◌, ◌==◌, Bool, true, cond, List, [], ◌∷◌}
+use Rattle.std.specs.List.{AllByRecursion, list_any}
+use Rattle.iv_zset.specs.Weights.{SameZ}
+use Rattle.iv_algebra.specs.Contents.{rows_of}
+use Rattle.iv_algebra.specs.Shapes.{scans}
+use Rattle.iv_algebra.specs.declared.tables.Table.{Table}
+use Rattle.iv_bind.specs.Catalogs.{Entry}
+use Rattle.iv_machine.specs.Act.{Act, Command, Line, Refusal, create_policy, drop_policy, refused, reply, row_security, write}
+use Rattle.iv_machine.specs.State.{plan_at, rel_of}
+use Rattle.iv_engine.specs.Rounds.{beside_number}
+use Rattle.iv_engine.specs.Seen.{Seen}
+
+-- what the relation shows is read from the table
+abbrev pub scans_at : List Entry → (rel table : ℕ) → Bool
+scans_at catalog rel table = list_any (λ t. t == table) (scans (plan_at catalog rel))
+
+-- the table has as many copies of each row as it had
+abbrev pub HasSameCounts : (old new : List Table) → (table : ℕ) → Type 0
+HasSameCounts old new t = SameZ (rows_of new t) (rows_of old t)
+
+-- one round more exactly where the counts of a table have changed that the relation scans
+pub record IsCounted (old new : Seen) (rel was now : ℕ) : Type 0 where
+  pub changed : (t : ℕ) → scans_at old.frame.catalog rel t ≡ true → (HasSameCounts old.tables new.tables t → ⊥) → now ≡ was + 1
+  pub same : ((t : ℕ) → scans_at old.frame.catalog rel t ≡ true → HasSameCounts old.tables new.tables t) → now ≡ was
+
+-- none any more where the relation scans the table of the name
+abbrev pub IsRebuilt : Seen → (name : List ℕ) → (rel was now : ℕ) → Type 0
+IsRebuilt old name rel was now = now ≡ cond (scans_at old.frame.catalog rel (rel_of old.frame.catalog name)) 0 was
+
+-- what an accepted request makes of the rounds of a subscription to the relation
+abbrev pub TurnsRounds : (old new : Seen) → Act → (rel was now : ℕ) → Type 0
+TurnsRounds old new (write es) rel was now = IsCounted old new rel was now
+TurnsRounds old new (create_policy p) rel was now = IsRebuilt old p.rel rel was now
+TurnsRounds old new (drop_policy name policy) rel was now = IsRebuilt old name rel was now
+TurnsRounds old new (row_security name enable force) rel was now = IsRebuilt old name rel was now
+TurnsRounds old new act rel was now = now ≡ was
+
+-- that of each subscription that is open afterwards; a new one had none
+abbrev pub AreCounted : Seen → Act → Seen → Type 0
+AreCounted old act new = AllByRecursion (λ s. TurnsRounds old new act s.rel (beside_number s.number old.rounds) (beside_number s.number new.rounds)) new.frame.subscriptions
+
+-- where the one line is no refusal
+abbrev pub AreCountedWhereAccepted : Seen → Command → List Line → Seen → Type 0
+AreCountedWhereAccepted old c lines new = ((n : ℕ) (r : Refusal) → lines ≡ reply n (refused r) ∷ [] → ⊥) → AreCounted old c.act new

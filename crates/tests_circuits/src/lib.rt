@@ -1,0 +1,13 @@
+//! A test of circuits that counts: a batch over a join in which all left rows of a key go and right rows of it come.
+#![tactic(auto)]
+
+#[cfg(test)]
+mod circuits;
+#[cfg(test)]
+mod plans;
+#[cfg(test)]
+mod swaps;
+#[cfg(test)]
+mod tests;
+#[cfg(test)]
+mod worlds;
