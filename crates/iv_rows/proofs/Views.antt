@@ -1,16 +1,18 @@
 -- The derived comparisons of values are those of what they stand for.
-use Rattle.std.proofs.Common.{◌≡◌, suc, refl, ap, List, [], ◌∷◌}
-use Rattle.std.specs.Ordering.{ordering_then}
-use Rattle.std.specs.Cmp.Lexicographic.{slice_cmp}
+use Rattle.std.proofs.Common.{◌≡◌, ◌∙◌, suc, refl, ap, List, [], ◌∷◌}
+use Rattle.std.specs.Ordering.{ordering_then, is_eq}
+use Rattle.std.specs.Cmp.Lexicographic.{pointwise, slice_cmp, lists_ties}
 use Rattle.iv_rows.specs.declared.value.Value.{Value}
 use Rattle.iv_rows.specs.declared.value.Value.TheVariants.{Int, Text, Flag}
 use Rattle.iv_rows.specs.contracts.value.ValueOrd.TheImpl.{cmp-value}
+use Rattle.iv_rows.specs.contracts.value.ValueOrd.TheImpl.Laws.{matches_eq-law}
+use Rattle.iv_rows.specs.contracts.value.ValuePartialEq.TheImpl.{eq-value}
 use Rattle.iv_rows.specs.contracts.value.ValueHash.TheImpl.{hash_input-value}
 use Rattle.std.specs.Hash as fed
 use Rattle.std.specs.List.{flat_map}
 use Rattle.std.proofs.Common.{◌++◌, length}
 use Rattle.iv_rows.specs.Fed.{cell_fed, row_fed}
-use Rattle.iv_rows.specs.Order.{cell_cmp, row_cmp}
+use Rattle.iv_rows.specs.Order.{cell_cmp, row_cmp, row_eq}
 use Rattle.iv_rows.specs.View.{cell_of, cells_of}
 
 pub same_cmp : (v w : Value) → cmp-value.it v w ≡ cell_cmp (cell_of v) (cell_of w)
@@ -29,6 +31,10 @@ same_row_cmp [] [] = refl
 same_row_cmp [] (w ∷ ws) = refl
 same_row_cmp (v ∷ vs) [] = refl
 same_row_cmp (v ∷ vs) (w ∷ ws) = λ i. ordering_then (same_cmp v w i) (same_row_cmp vs ws i)
+
+-- values that are equal one by one are one row
+pub same_row_eq : (vs ws : List Value) → pointwise eq-value.it vs ws ≡ row_eq (cells_of vs) (cells_of ws)
+same_row_eq vs ws = lists_ties cmp-value.it matches_eq-law vs ws ∙ ap is_eq (same_row_cmp vs ws)
 
 pub same_fed : (v : Value) → hash_input-value.it v ≡ cell_fed (cell_of v)
 same_fed (Int n) = refl

@@ -91,7 +91,7 @@ impl PartialEq for Row {
     ghost laws = { partial_equiv_from_equiv row_eq_equiv };
 
     fn eq(&self, other: &Row) -> bool {
-        self.cmp(other).is_eq()
+        self.0 == other.0
     }
 }
 
