@@ -5,12 +5,9 @@ use Rattle.iv_machine.specs.Machine.{hung}
 use Rattle.iv_machine.specs.State.{Frame, State}
 use Rattle.iv_engine.specs.Kept.{IsSound, Kept}
 use Rattle.iv_engine.specs.Rounds.{rounds_of}
-use Rattle.iv_engine.specs.Seen.{Seen, IsBehind}
+use Rattle.iv_engine.specs.Seen.{Seen, IsBehind, closed}
 use Rattle.iv_engine.proofs.Counted.{none_listed}
 use Rattle.iv_engine.proofs.Running.{shown_by}
-
-abbrev pub closed : Seen → Seen
-closed e = record e { frame = record e.frame { sessions = []; subscriptions = [] }; rounds = [] }
 
 pub closed_behind : (s : State) (e new : Seen) → new ≡ closed e → IsBehind s e → IsBehind (hung s) new
 closed_behind s e new h b = subst (λ (v : Seen). IsBehind (hung s) v) (sym h) (record { frame = ap (λ (f : Frame). record f { sessions = []; subscriptions = [] }) b.frame; rows = b.rows })

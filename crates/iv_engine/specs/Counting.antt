@@ -36,9 +36,13 @@ TurnsRounds old new (drop_policy name policy) rel was now = IsRebuilt old name r
 TurnsRounds old new (row_security name enable force) rel was now = IsRebuilt old name rel was now
 TurnsRounds old new act rel was now = now ≡ was
 
+-- how many changes the circuit of the subscription of this number has taken in
+abbrev pub rounds_at : Seen → (number : ℕ) → ℕ
+rounds_at seen number = beside_number number seen.rounds
+
 -- that of each subscription that is open afterwards; a new one had none
 abbrev pub AreCounted : Seen → Act → Seen → Type 0
-AreCounted old act new = AllByRecursion (λ s. TurnsRounds old new act s.rel (beside_number s.number old.rounds) (beside_number s.number new.rounds)) new.frame.subscriptions
+AreCounted old act new = AllByRecursion (λ s. TurnsRounds old new act s.rel (rounds_at old s.number) (rounds_at new s.number)) new.frame.subscriptions
 
 -- where the one line is no refusal
 abbrev pub AreCountedWhereAccepted : Seen → Command → List Line → Seen → Type 0

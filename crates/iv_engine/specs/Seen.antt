@@ -17,6 +17,10 @@ pub record Seen : Type 0 where
   pub rounds : List (ℕ × ℕ)
   pub failed : Bool
 
+-- all sessions and subscriptions are closed
+abbrev pub closed : Seen → Seen
+closed e = record e { frame = record e.frame { sessions = []; subscriptions = [] }; rounds = [] }
+
 -- the state is the engine's, but for the order of rows in its lists
 pub record IsBehind (s : State) (e : Seen) : Type 0 where
   pub frame : s.frame ≡ e.frame

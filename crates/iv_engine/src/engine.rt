@@ -6,7 +6,7 @@ ghost use Rattle.iv_machine.specs.Reached.{IsReached};
 ghost use Rattle.iv_machine.specs.State.{State, start};
 ghost use Rattle.iv_machine.specs.Well.{is_well_command};
 ghost use Rattle.iv_engine.specs.Counting.{AreCountedWhereAccepted};
-ghost use Rattle.iv_engine.specs.Seen.{AreLinesOf, AreLinesOfAll, ChangesWhereAccepted, HasKnownRows, IsBehind, IsLeftBy, IsLeftByAll, LinesAddUpBehind};
+ghost use Rattle.iv_engine.specs.Seen.{AreLinesOf, AreLinesOfAll, ChangesWhereAccepted, HasKnownRows, IsBehind, IsLeftBy, IsLeftByAll, LinesAddUpBehind, closed};
 ghost use Rattle.iv_engine.specs.Views.{command_of, line_of};
 
 use crate::command::{Command, EngineFault, Line};
@@ -73,7 +73,7 @@ impl Engine {
     /// given again. An engine that has failed stays as it was.
     pub fn hang_up(&mut self)
         ensures hung { self.old.failed ≡ false → (s : State) → IsBehind s self.old → IsBehind (hung s) self.new }
-        ensures closed { self.old.failed ≡ false → self.new ≡ record self.old { frame = record self.old.frame { sessions = []; subscriptions = [] }; rounds = [] } }
+        ensures closed { self.old.failed ≡ false → self.new ≡ closed self.old }
         ensures failed_unchanged { self.old.failed ≡ true → self.new ≡ self.old }
     {
         if !self.failed {
