@@ -5,12 +5,12 @@ pub mod Cutting
 pub mod Each
 pub mod Finding
 pub mod Joining
+pub mod Keys
 pub mod Known
-pub mod Members
+pub mod Looking
 pub mod Parting
 pub mod Ran
 pub mod Reading
 pub mod Sums
-pub mod Taking
 pub mod Well
 pub mod Writing

@@ -1,5 +1,5 @@
 -- Lines that are put together of parts.
-use Rattle.std.proofs.Common.{◌≡◌, ℕ, ℤ, Bool, true, false, ◌&&◌, List, [], ◌++◌, ap, ◌∙◌, refl, subst, append_assoc}
+use Rattle.std.proofs.Common.{◌≡◌, ℕ, ℤ, Bool, true, false, ◌&&◌, List, [], ◌++◌, ap, ◌∙◌, refl, sym, subst, append_assoc}
 use Rattle.std.specs.Bool.{Decides}
 use Rattle.std.specs.Cmp.{signed_Decides}
 use Rattle.std.specs.Ordering.{int_eq}
@@ -13,7 +13,7 @@ use Rattle.iv_machine.specs.Act.{reply, done, subscribed, change, ended}
 use Rattle.iv_machine.specs.declared.Cause.{Cause}
 use Rattle.iv_machine.specs.declared.Cause.TheVariants as cause
 use Rattle.serde_json.specs.Written.{compact_text}
-use Rattle.iv_wire.specs.Parts.{change_text, ended_text, done_text, subscribed_text}
+use Rattle.iv_wire.specs.Parts.{behind_front, change_text, ended_text, done_text, front_text, subscribed_text}
 use Rattle.iv_wire.specs.Texts.{line_text, rows_data}
 
 -- a line ends in `}` and a newline
@@ -26,6 +26,14 @@ ends_so_with r c a n b k = simp append_assoc
 pub change_line_text : (n k : ℕ) (es : Weighed) → change_text n k (compact_text (rows_data es)) ≡ line_text (change n k es)
 unfolding json_on_literals
 change_line_text n k es = ap (λ v. codes "{\"changes\":" ++ v) (ends_so (compact_text (rows_data es)) (codes ",\"session\":") (decimal n) (codes ",\"sub\":") (decimal k))
+
+behind_parts : (a r s u d e : List ℕ) → ((a ++ (r ++ (s ++ u))) ++ d) ++ e ≡ a ++ (r ++ (s ++ ((u ++ d) ++ e)))
+behind_parts a r s u d e =
+    append_assoc (a ++ (r ++ (s ++ u))) d e ∙ (append_assoc a (r ++ (s ++ u)) (d ++ e)
+    ∙ ap (λ v. a ++ v) (append_assoc r (s ++ u) (d ++ e) ∙ ap (λ v. r ++ v) (append_assoc s u (d ++ e) ∙ ap (λ v. s ++ v) (sym (append_assoc u d e)))))
+
+pub front_line_text : (n k : ℕ) (rows : List ℕ) → behind_front (front_text n rows) k ≡ change_text n k rows
+front_line_text n k rows = behind_parts (codes "{\"changes\":") rows (codes ",\"session\":" ++ decimal n) (codes ",\"sub\":") (decimal k) (codes "}\n")
 
 pub ended_line_text : (n k : ℕ) (why : Cause) (es : Weighed) → ended_text n k why (compact_text (rows_data es)) ≡ line_text (ended n k why es)
 unfolding json_on_literals

@@ -3,6 +3,7 @@ pub mod Answer
 pub mod Asked
 pub mod Calls
 pub mod Cut
+pub mod Documents
 pub mod Endings
 pub mod Names
 pub mod Parts

@@ -49,6 +49,9 @@ write_line = codes "{\"do\":\"write\",\"entries\":[{\"on\":\"notes\",\"insert\":
 abbrev pub refused_text : ℕ → Refusal → List ℕ
 refused_text session r = line_text (reply session (refused r))
 
+abbrev pub unexpected_line : List ℕ
+unexpected_line = codes "{\"error\":10,\"place\":11,\"session\":1,\"why\":\"unexpected\"}\n"
+
 abbrev pub missing_line : List ℕ
 missing_line = codes "{\"error\":13,\"on\":\"notes\",\"privilege\":\"insert\",\"session\":2}\n"
 

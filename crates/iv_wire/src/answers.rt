@@ -4,7 +4,7 @@ ghost use Rattle.std.specs.Prelude.{◌≡◌, ◌++◌, [], map, flat_map, deci
 ghost use Rattle.iv_machine.specs.Act as machine;
 ghost use Rattle.iv_engine.specs.Views.{line_of, reply_of};
 ghost use Rattle.serde_json.specs.Written.{compact_text};
-ghost use Rattle.iv_wire.specs.Parts.{IsWritten, change_text, cause_part, done_text, ended_text, rest_text, subscribed_text};
+ghost use Rattle.iv_wire.specs.Parts.{IsWritten, behind_front, cause_part, done_text, ended_text, front_text, rest_text, subscribed_text};
 ghost use Rattle.iv_wire.specs.Texts.{line_text, rows_data};
 
 use crate::changes::write_rows;
@@ -18,11 +18,14 @@ use std::mem;
 /// The room that a text is begun with, in bytes: an answer of one line has fewer.
 const SHORT_TEXT: usize = 64;
 
-/// The rows that were written last, and their text; no text before the first.
+/// The rows that were written last, and their text; no text before the first. With them the front of the line of their
+/// change in a session, up to the number of the subscription; none before the first.
 #[derive(Drop)]
 struct Written<'a> {
     rows: &'a [(Row, i64)],
     text: Vec<u8>,
+    session: u32,
+    front: Vec<u8>,
 }
 
 impl<'a> Written<'a> {
@@ -32,6 +35,8 @@ impl<'a> Written<'a> {
         Written {
             rows: &[],
             text: Vec::new(alloc),
+            session: 0,
+            front: Vec::new(alloc),
         }
     }
 
@@ -44,10 +49,34 @@ impl<'a> Written<'a> {
         if !self.text.is_empty() && are_same(self.rows, rows) {
             return Ok(());
         }
+        self.front.clear();
         let mut room = mem::replace(&mut self.text, Vec::new(alloc));
         room.clear();
         self.text = write_rows(room, rows)?;
         self.rows = rows;
+        Ok(())
+    }
+
+    /// Writes the front of the line of a change in a session, unless it is the one that was written last.
+    fn write_front(
+        &mut self,
+        alloc: Global,
+        session: u32,
+        rows: &'a [(Row, i64)],
+    ) -> Result<(), AllocError>
+        requires { IsWritten self.old }
+        ensures text { OnOk result (self.new.front.items ≡ front_text session (compact_text (rows_data rows.now))) }
+        ensures written { OnOk result (IsWritten self.new) }
+    {
+        if !self.front.is_empty() && session == self.session && are_same(self.rows, rows) {
+            return Ok(());
+        }
+        self.write(alloc, rows)?;
+        let mut room = mem::replace(&mut self.front, Vec::new(alloc));
+        room.clear();
+        push_front(&mut room, session, &self.text)?;
+        self.front = room;
+        self.session = session;
         Ok(())
     }
 }
@@ -78,13 +107,24 @@ fn push_rest(text: &mut Vec<u8>, session: u32, sub: u64) -> Result<(), AllocErro
     Ok(())
 }
 
-/// Appends the line of a change, by the text of its rows.
-fn push_change(text: &mut Vec<u8>, session: u32, sub: u64, rows: &[u8]) -> Result<(), AllocError>
-    ensures { OnOk result (text.new.items ≡ text.old.items ++ change_text session sub rows.now) }
+/// Appends the front of the line of a change, by the text of its rows.
+fn push_front(text: &mut Vec<u8>, session: u32, rows: &[u8]) -> Result<(), AllocError>
+    ensures { OnOk result (text.new.items ≡ text.old.items ++ front_text session rows.now) }
 {
     text.extend_from_slice(b"{\"changes\":")?;
     text.extend_from_slice(rows)?;
-    push_rest(text, session, sub)
+    push_number(text, b",\"session\":", session as u64)?;
+    text.extend_from_slice(b",\"sub\":")?;
+    Ok(())
+}
+
+/// Appends the line of a change, by its front.
+fn push_change(text: &mut Vec<u8>, front: &[u8], sub: u64) -> Result<(), AllocError>
+    ensures { OnOk result (text.new.items ≡ text.old.items ++ behind_front front.now sub) }
+{
+    push_number(text, front, sub)?;
+    text.extend_from_slice(b"}\n")?;
+    Ok(())
 }
 
 fn cause_part(cause: Cause) -> &'static [u8]
@@ -161,8 +201,8 @@ fn push_line<'a>(
     match line {
         Line::Reply { session, reply } => push_reply(alloc, text, *session, reply),
         Line::Change { session, sub, rows } => {
-            written.write(alloc, rows)?;
-            push_change(text, *session, *sub, &written.text)
+            written.write_front(alloc, *session, rows)?;
+            push_change(text, &written.front, *sub)
         }
         Line::Ended {
             session,

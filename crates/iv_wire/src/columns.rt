@@ -1,12 +1,12 @@
 //! The columns of a table, of a JSON value.
 ghost use Rattle.std.specs.Prelude.{◌≡◌, IfOk, Some, None, option_map, option_and_then};
-ghost use Rattle.serde_json.specs.View.{view, items_view};
+ghost use Rattle.iv_wire.specs.Documents.{value_data, items_data};
 ghost use Rattle.serde_json.specs.Find.{at, as_str};
 ghost use Rattle.iv_wire.specs.Request.{kind_of, column_of, columns_at, each};
 
-use crate::parts::{count, items_at};
+use crate::parts::{count, item_at, items_at, text_of};
 use iv_rows::{Column, Kind, columns_ok, name_ok};
-use serde_json::Value as Json;
+use json::Value as Json;
 use std::alloc::{AllocError, Global};
 
 fn kind_of(text: &str) -> Option<Kind>
@@ -24,15 +24,15 @@ fn kind_of(text: &str) -> Option<Kind>
 }
 
 /// The text at a place of a list.
-fn text_in(value: &Json, place: usize) -> Option<&str>
-    ensures { option_map (λ s. s.now) result ≡ option_and_then as_str (at place (view value.now)) }
+fn text_in<'a>(value: &Json<'a>, place: usize) -> Option<&'a str>
+    ensures { option_map (λ s. s.now) result ≡ option_and_then as_str (at place (value_data value.now)) }
 {
-    value.get(place).and_then(Json::as_str)
+    text_of(item_at(value, place)?)
 }
 
 /// The kind that a column has.
-fn kind_in(value: &Json) -> Option<Kind>
-    ensures { result ≡ option_and_then kind_of (option_and_then as_str (at 1 (view value.now))) }
+fn kind_in(value: &Json<'_>) -> Option<Kind>
+    ensures { result ≡ option_and_then kind_of (option_and_then as_str (at 1 (value_data value.now))) }
 {
     match text_in(value, 1) {
         None => None,
@@ -41,8 +41,8 @@ fn kind_in(value: &Json) -> Option<Kind>
 }
 
 /// The column that a JSON value is.
-fn column_of(alloc: Global, value: &Json) -> Result<Option<Column>, AllocError>
-    ensures { IfOk result (λ found. found ≡ column_of (view value.now)) }
+fn column_of(alloc: Global, value: &Json<'_>) -> Result<Option<Column>, AllocError>
+    ensures { IfOk result (λ found. found ≡ column_of (value_data value.now)) }
 {
     if count(value) != 2 {
         return Ok(None);
@@ -65,8 +65,8 @@ fn column_of(alloc: Global, value: &Json) -> Result<Option<Column>, AllocError>
 }
 
 /// The columns that a list is, however many.
-fn columns_of(alloc: Global, items: &[Json]) -> Result<Option<Vec<Column>>, AllocError>
-    ensures { IfOk result (λ found. option_map (λ v. v.items) found ≡ each column_of (items_view items.now)) }
+fn columns_of(alloc: Global, items: &[Json<'_>]) -> Result<Option<Vec<Column>>, AllocError>
+    ensures { IfOk result (λ found. option_map (λ v. v.items) found ≡ each column_of (items_data items.now)) }
 {
     let mut columns = Vec::new(alloc);
     for item in items {
@@ -79,8 +79,8 @@ fn columns_of(alloc: Global, items: &[Json]) -> Result<Option<Vec<Column>>, Allo
 }
 
 /// The 1 to 16 columns of a table, with distinct names.
-pub fn columns_at(alloc: Global, value: &Json) -> Result<Option<Vec<Column>>, AllocError>
-    ensures { IfOk result (λ found. option_map (λ v. v.items) found ≡ columns_at (view value.now)) }
+pub fn columns_at(alloc: Global, value: &Json<'_>) -> Result<Option<Vec<Column>>, AllocError>
+    ensures { IfOk result (λ found. option_map (λ v. v.items) found ≡ columns_at (value_data value.now)) }
 {
     match items_at(value, "columns") {
         None => Ok(None),

@@ -1,44 +1,55 @@
 //! The entries of a write, of a JSON value.
-ghost use Rattle.std.specs.Prelude.{◌≡◌, IfOk, Some, None, option_map};
-ghost use Rattle.serde_json.specs.View.{view, items_view};
+ghost use Rattle.std.specs.Prelude.{◌≡◌, IfOk, Some, None, option_map, option_and_then};
+ghost use Rattle.serde_json.specs.Find.{at};
+ghost use Rattle.iv_rows.specs.Cell as cell;
+ghost use Rattle.iv_rows.specs.Texts.{is_well_cell};
 ghost use Rattle.iv_rows.specs.View as iv_rows;
 ghost use Rattle.iv_engine.specs.Entries as entries;
-ghost use Rattle.iv_wire.specs.Request.{cell_of, each, row_of, update_of, op_at, positive_of, entry_of, entries_at};
+ghost use Rattle.iv_wire.specs.Documents.{value_data, items_data};
+ghost use Rattle.iv_wire.specs.Request.{cell_of, each, passing, row_of, update_of, op_at, positive_of, entry_of, entries_at};
 
-use crate::parts::{count, items_of, positive_of, size, take_at, take_name};
+use crate::parts::{
+    count, get, has_size, i64_of, item_at, items_at, items_of, positive_of, string_at,
+};
 use iv_engine::{Entry, Op};
 use iv_rows::{Row, Value};
-use serde_json::Value as Json;
+use json::Value as Json;
 use std::alloc::{AllocError, Global};
 
 /// The greatest number of entries of a write.
 const MOST_ENTRIES: usize = 1000;
 
+/// The value of a column that a text is.
+fn text_cell(alloc: Global, text: &str) -> Result<Option<Value>, AllocError>
+    ensures { IfOk result (λ found. option_map iv_rows.cell_of found ≡ passing is_well_cell (cell.text text.now)) }
+{
+    let found = Value::Text(String::from_str(alloc, text)?);
+    if found.well() {
+        Ok(Some(found))
+    } else {
+        Ok(None)
+    }
+}
+
 /// The value of a column that a JSON value is.
-fn cell_of(value: Json) -> Option<Value>
-    ensures { option_map iv_rows.cell_of result ≡ cell_of (view value) }
+fn cell_of(alloc: Global, value: &Json<'_>) -> Result<Option<Value>, AllocError>
+    ensures { IfOk result (λ found. option_map iv_rows.cell_of found ≡ cell_of (value_data value.now)) }
 {
     match value {
-        Json::Bool(flag) => Some(Value::Flag(flag)),
-        Json::Number(number) => match number.as_i64() {
-            None => None,
-            Some(n) => Some(Value::Int(n)),
-        },
-        Json::String(text) => {
-            let found = Value::Text(text);
-            if found.well() { Some(found) } else { None }
-        }
-        _ => None,
+        Json::Bool(flag) => Ok(Some(Value::Flag(*flag))),
+        Json::Number(_) => Ok(i64_of(value).map(Value::Int)),
+        Json::String(text) => text_cell(alloc, text),
+        _ => Ok(None),
     }
 }
 
 /// The row of these values.
-fn cells_of(alloc: Global, items: Vec<Json>) -> Result<Option<Row>, AllocError>
-    ensures { IfOk result (λ found. found ≡ each cell_of (items_view items.items)) }
+fn cells_of(alloc: Global, items: &[Json<'_>]) -> Result<Option<Row>, AllocError>
+    ensures { IfOk result (λ found. found ≡ each cell_of (items_data items.now)) }
 {
     let mut values = Vec::with_capacity(alloc, items.len())?;
     for item in items {
-        match cell_of(item) {
+        match cell_of(alloc, item)? {
             None => return Ok(None),
             Some(value) => values.push(value)?,
         }
@@ -47,8 +58,8 @@ fn cells_of(alloc: Global, items: Vec<Json>) -> Result<Option<Row>, AllocError>
 }
 
 /// The row that a JSON value is.
-fn row_of(alloc: Global, value: Json) -> Result<Option<Row>, AllocError>
-    ensures { IfOk result (λ found. found ≡ row_of (view value)) }
+fn row_of(alloc: Global, value: &Json<'_>) -> Result<Option<Row>, AllocError>
+    ensures { IfOk result (λ found. found ≡ row_of (value_data value.now)) }
 {
     match items_of(value) {
         None => Ok(None),
@@ -56,44 +67,51 @@ fn row_of(alloc: Global, value: Json) -> Result<Option<Row>, AllocError>
     }
 }
 
-/// The old and the new row that a JSON value is.
-fn update_of(alloc: Global, value: Json) -> Result<Option<Op>, AllocError>
-    ensures { IfOk result (λ found. option_map entries.op_of found ≡ update_of (view value)) }
+/// The row at a place of a list.
+fn row_in(alloc: Global, value: &Json<'_>, place: usize) -> Result<Option<Row>, AllocError>
+    ensures { IfOk result (λ found. found ≡ option_and_then row_of (at place (value_data value.now))) }
 {
-    if count(&value) != 2 {
+    match item_at(value, place) {
+        None => Ok(None),
+        Some(row) => row_of(alloc, row),
+    }
+}
+
+/// The old and the new row that a JSON value is.
+fn update_of(alloc: Global, value: &Json<'_>) -> Result<Option<Op>, AllocError>
+    ensures { IfOk result (λ found. option_map entries.op_of found ≡ update_of (value_data value.now)) }
+{
+    if count(value) != 2 {
         return Ok(None);
     }
-    let Some(mut items) = items_of(value) else {
+    let Some(old) = row_in(alloc, value, 0)? else {
         return Ok(None);
     };
-    let Some(old) = row_of(alloc, items[0].take())? else {
-        return Ok(None);
-    };
-    match row_of(alloc, items[1].take())? {
+    match row_in(alloc, value, 1)? {
         None => Ok(None),
         Some(new) => Ok(Some(Op::Update(old, new))),
     }
 }
 
 /// What an entry does.
-fn op_at(alloc: Global, mut value: Json) -> Result<Option<Op>, AllocError>
-    ensures { IfOk result (λ found. option_map entries.op_of found ≡ op_at (view value)) }
+fn op_at(alloc: Global, value: &Json<'_>) -> Result<Option<Op>, AllocError>
+    ensures { IfOk result (λ found. option_map entries.op_of found ≡ op_at (value_data value.now)) }
 {
-    if let Some(row) = take_at(&mut value, "insert") {
+    if let Some(row) = get(value, "insert") {
         return Ok(row_of(alloc, row)?.map(Op::Insert));
     }
-    if let Some(row) = take_at(&mut value, "delete") {
+    if let Some(row) = get(value, "delete") {
         return Ok(row_of(alloc, row)?.map(Op::Delete));
     }
-    match take_at(&mut value, "update") {
+    match get(value, "update") {
         None => Ok(None),
         Some(rows) => update_of(alloc, rows),
     }
 }
 
 /// The number of copies that a JSON value is.
-fn copies_of(value: &Json) -> Option<i64>
-    ensures { option_map entries.copies_of result ≡ positive_of (view value.now) }
+fn copies_of(value: &Json<'_>) -> Option<i64>
+    ensures { option_map entries.copies_of result ≡ positive_of (value_data value.now) }
 {
     match positive_of(value) {
         None => None,
@@ -102,18 +120,18 @@ fn copies_of(value: &Json) -> Option<i64>
 }
 
 /// The entry of a write that a JSON value is.
-fn entry_of(alloc: Global, mut value: Json) -> Result<Option<Entry>, AllocError>
-    ensures { IfOk result (λ found. found ≡ entry_of (view value)) }
+fn entry_of(alloc: Global, value: &Json<'_>) -> Result<Option<Entry>, AllocError>
+    ensures { IfOk result (λ found. found ≡ entry_of (value_data value.now)) }
 {
     // Without `copies` the keys are `on` and what it does, for 1 copy.
-    let (keys, copies) = match value.get("copies") {
+    let (keys, copies) = match get(value, "copies") {
         None => (2, Some(1)),
         Some(copies) => (3, copies_of(copies)),
     };
-    if size(&value) != keys {
+    if !has_size(value, keys) {
         return Ok(None);
     }
-    let Some(rel) = take_name(&mut value, "on") else {
+    let Some(rel) = string_at(alloc, value, "on")? else {
         return Ok(None);
     };
     let Some(op) = op_at(alloc, value)? else {
@@ -126,8 +144,8 @@ fn entry_of(alloc: Global, mut value: Json) -> Result<Option<Entry>, AllocError>
 }
 
 /// The entries that a list is, however many.
-fn entries_of(alloc: Global, items: Vec<Json>) -> Result<Option<Vec<Entry>>, AllocError>
-    ensures { IfOk result (λ found. option_map (λ v. v.items) found ≡ each entry_of (items_view items.items)) }
+fn entries_of(alloc: Global, items: &[Json<'_>]) -> Result<Option<Vec<Entry>>, AllocError>
+    ensures { IfOk result (λ found. option_map (λ v. v.items) found ≡ each entry_of (items_data items.now)) }
 {
     let mut entries = Vec::with_capacity(alloc, items.len())?;
     for item in items {
@@ -140,10 +158,10 @@ fn entries_of(alloc: Global, items: Vec<Json>) -> Result<Option<Vec<Entry>>, All
 }
 
 /// The 1 to 1,000 entries of a write.
-pub fn entries_at(alloc: Global, mut value: Json) -> Result<Option<Vec<Entry>>, AllocError>
-    ensures { IfOk result (λ found. option_map (λ v. v.items) found ≡ entries_at (view value)) }
+pub fn entries_at(alloc: Global, value: &Json<'_>) -> Result<Option<Vec<Entry>>, AllocError>
+    ensures { IfOk result (λ found. option_map (λ v. v.items) found ≡ entries_at (value_data value.now)) }
 {
-    match take_at(&mut value, "entries").and_then(items_of) {
+    match items_at(value, "entries") {
         None => Ok(None),
         Some(items) => match entries_of(alloc, items)? {
             None => Ok(None),

@@ -1,13 +1,13 @@
 //! Grants and revokes, of a JSON value.
 ghost use Rattle.std.specs.Prelude.{◌≡◌, IfOk, option_map, string_bytes};
-ghost use Rattle.serde_json.specs.View.{view, items_view};
+ghost use Rattle.iv_wire.specs.Documents.{value_data, items_data};
 ghost use Rattle.iv_engine.specs.Views.{act_of};
 ghost use Rattle.iv_wire.specs.Request.{each, privilege_named, privilege_of, privileges_at, grantee_named, grantee_at, granting_of, grant_by, revoke_by};
 
-use crate::parts::{items_at, size, string_at, text_at};
+use crate::parts::{has_size, items_at, string_at, text_at, text_of};
 use iv_engine::{Act, Privilege};
 use iv_rows::name_ok;
-use serde_json::Value as Json;
+use json::Value as Json;
 use std::alloc::{AllocError, Global};
 use std::marker::Model;
 
@@ -30,18 +30,18 @@ fn privilege_named(text: &str) -> Option<Privilege>
     }
 }
 
-fn privilege_of(value: &Json) -> Option<Privilege>
-    ensures { result ≡ privilege_of (view value.now) }
+fn privilege_of(value: &Json<'_>) -> Option<Privilege>
+    ensures { result ≡ privilege_of (value_data value.now) }
 {
-    match value.as_str() {
+    match text_of(value) {
         None => None,
         Some(text) => privilege_named(text),
     }
 }
 
 /// The privileges that a list is, however many.
-fn privileges_of(alloc: Global, items: &[Json]) -> Result<Option<Vec<Privilege>>, AllocError>
-    ensures { IfOk result (λ found. option_map (λ v. v.items) found ≡ each privilege_of (items_view items.now)) }
+fn privileges_of(alloc: Global, items: &[Json<'_>]) -> Result<Option<Vec<Privilege>>, AllocError>
+    ensures { IfOk result (λ found. option_map (λ v. v.items) found ≡ each privilege_of (items_data items.now)) }
 {
     let mut privileges = Vec::new(alloc);
     for item in items {
@@ -54,8 +54,8 @@ fn privileges_of(alloc: Global, items: &[Json]) -> Result<Option<Vec<Privilege>>
 }
 
 /// The 1 to 4 privileges of a grant.
-fn privileges_at(alloc: Global, value: &Json) -> Result<Option<Vec<Privilege>>, AllocError>
-    ensures { IfOk result (λ found. option_map (λ v. v.items) found ≡ privileges_at (view value.now)) }
+fn privileges_at(alloc: Global, value: &Json<'_>) -> Result<Option<Vec<Privilege>>, AllocError>
+    ensures { IfOk result (λ found. option_map (λ v. v.items) found ≡ privileges_at (value_data value.now)) }
 {
     match items_at(value, "privileges") {
         None => Ok(None),
@@ -86,8 +86,8 @@ pub fn grantee_named(alloc: Global, word: &str) -> Result<Option<Option<String>>
 }
 
 /// To whom a grant goes: a role, or none where it goes to PUBLIC.
-fn grantee_at(alloc: Global, value: &Json) -> Result<Option<Option<String>>, AllocError>
-    ensures { IfOk result (λ found. option_map (λ to. option_map string_bytes to) found ≡ grantee_at (view value.now)) }
+fn grantee_at(alloc: Global, value: &Json<'_>) -> Result<Option<Option<String>>, AllocError>
+    ensures { IfOk result (λ found. option_map (λ to. option_map string_bytes to) found ≡ grantee_at (value_data value.now)) }
 {
     match text_at(value, "to") {
         None => Ok(None),
@@ -147,10 +147,10 @@ impl Granting {
 }
 
 /// What the request names, where it has these keys alone.
-pub fn granting_of(alloc: Global, value: &Json) -> Result<Option<Granting>, AllocError>
-    ensures { IfOk result (λ found. found ≡ granting_of (view value.now)) }
+pub fn granting_of(alloc: Global, value: &Json<'_>) -> Result<Option<Granting>, AllocError>
+    ensures { IfOk result (λ found. found ≡ granting_of (value_data value.now)) }
 {
-    if size(value) != 5 {
+    if !has_size(value, 5) {
         return Ok(None);
     }
     match string_at(alloc, value, "on")? {

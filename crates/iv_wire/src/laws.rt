@@ -12,7 +12,7 @@ ghost use Rattle.iv_wire.specs.Answer.{commands_of, text_of};
 ghost use Rattle.iv_wire.specs.Request.{request};
 ghost use Rattle.iv_wire.specs.Sums.{IsTextOf};
 ghost use Rattle.iv_wire.specs.Texts.{fault_text, line_text};
-ghost use Rattle.iv_wire.specs.Worked.{IsAsked, IsNotAsked, ann, notes, notes_columns, first_row, table_line, grant_line, revoke_line, write_line, refused_text, missing_line, permissive_line, restrictive_line};
+ghost use Rattle.iv_wire.specs.Worked.{IsAsked, IsNotAsked, ann, notes, notes_columns, first_row, table_line, grant_line, revoke_line, write_line, refused_text, unexpected_line, missing_line, permissive_line, restrictive_line};
 ghost use Rattle.iv_wire.specs.Worked.{row_security_line, own_line, own, few_line, few, give_line, give, entry_line, second_row, one_entry, policy_line, update_refused_line, bad_policy_line};
 ghost use Rattle.iv_wire.specs.Worked.{view_line, view_of, unsubscribe_line, limit_line};
 ghost use Rattle.iv_query.specs.declared.fault.Why.TheVariants as reading;
@@ -98,7 +98,7 @@ pub fn lines_are_written()
     ensures limit { line_text (machine.ended 2 1 cause.Limit ((first_row, negsuc 0) ∷ [])) ≡ limit_line }
     ensures not_a_table { refused_text 1 machine.not_a_table ≡ codes "{\"error\":8,\"session\":1}\n" }
     ensures bad_row { refused_text 1 (machine.bad_row 1) ≡ codes "{\"entry\":1,\"error\":9,\"session\":1}\n" }
-    ensures bad_query { refused_text 1 (machine.bad_query 11 (Reading reading.Unexpected)) ≡ codes "{\"error\":10,\"place\":11,\"session\":1,\"why\":\"unexpected\"}\n" }
+    ensures bad_query { refused_text 1 (machine.bad_query 11 (Reading reading.Unexpected)) ≡ unexpected_line }
     ensures privilege { refused_text 2 (machine.missing_privilege privilege.Insert notes) ≡ missing_line }
     ensures permissive { refused_text 2 (machine.no_permissive notes check.Insert 1) ≡ permissive_line }
     ensures restrictive { refused_text 2 (machine.restrictive_failed (codes "b_pos") notes check.UpdateNew 1) ≡ restrictive_line }

@@ -5,6 +5,7 @@ mod answers;
 mod calls;
 mod changes;
 mod columns;
+mod documents;
 mod ends;
 mod entries;
 mod grants;

@@ -1,47 +1,139 @@
 //! Parts of a JSON value.
-ghost use Rattle.std.specs.Prelude.{◌≡◌, ℕ, List, IfOk, IfSome, bytes_eq, false, map, option_map, option_and_then, string_bytes};
-ghost use Rattle.serde_json.specs.Data.{array};
-ghost use Rattle.serde_json.specs.View.{view, items_view};
-ghost use Rattle.serde_json.specs.Find.{get, as_array, as_str};
+ghost use Rattle.std.specs.Prelude.{◌≡◌, ◌==◌, ◌≤◌, IfOk, bytes_eq, false, length, map, option_map, option_and_then, string_bytes};
+ghost use Rattle.std.specs.List.{list_any};
+ghost use Rattle.json.specs.Value.{members_view};
+ghost use Rattle.serde_json.specs.Data.{no_members};
+ghost use Rattle.serde_json.specs.Events.{members_len};
+ghost use Rattle.serde_json.specs.Find.{get, at, as_array, as_bool, as_number, as_str, as_i64, as_u64};
+ghost use Rattle.iv_wire.specs.Documents.{value_data, items_data, members_of};
 ghost use Rattle.iv_wire.specs.Request.{size, count, text_at, name_at, bool_at, positive_of, has, present};
 
+use crate::documents::number_of;
 use iv_rows::name_ok;
-use serde_json::Value as Json;
+use json::Value as Json;
 use std::alloc::{AllocError, Global};
 
 /// The greatest number that is read: a signed one of 64 bits.
 const MOST: u64 = 9_223_372_036_854_775_807;
 
-/// How many keys an object has, and 0 where it is none.
-pub fn size(value: &Json) -> usize
-    ensures { result ≡ size (view value.now) }
+/// As many keys as a request may have: those of a policy.
+const MOST_KEYS: usize = 9;
+
+/// Whether a key is one of these.
+fn stands(keys: &[&str], key: &str) -> bool
+    ensures { result ≡ list_any (λ k. bytes_eq k.now key.now) keys.now }
 {
-    match value.as_object() {
-        None => 0,
-        Some(map) => map.len(),
+    keys.iter().any(|k| *k == key)
+}
+
+/// Whether there are so many keys, where a key that stands twice is one.
+fn has_keys(members: &Vec<(&str, Json<'_>)>, size: usize) -> bool
+    requires { size ≤ 9 }
+    ensures { result ≡ (members_len (members_of (members_view members.now.items) no_members) == size) }
+{
+    let mut keys = [""; MOST_KEYS];
+    let mut count = 0;
+    for member in members {
+        if !stands(&keys[..count], member.0) {
+            if count == size {
+                return false;
+            }
+            keys[count] = member.0;
+            count += 1;
+        }
+    }
+    count == size
+}
+
+/// Whether the value has so many keys, 0 where it is no object.
+pub fn has_size(value: &Json<'_>, keys: usize) -> bool
+    requires { keys ≤ 9 }
+    ensures { result ≡ (size (value_data value.now) == keys) }
+{
+    match value {
+        Json::Object(members) => has_keys(members, keys),
+        _ => keys == 0,
     }
 }
 
 /// How many items a list has, and 0 where it is none.
-pub fn count(value: &Json) -> usize
-    ensures { result ≡ count (view value.now) }
+pub fn count(value: &Json<'_>) -> usize
+    ensures { result ≡ count (value_data value.now) }
 {
-    match value.as_array() {
-        None => 0,
-        Some(items) => items.len(),
+    match value {
+        Json::Array(items) => items.len(),
+        _ => 0,
+    }
+}
+
+/// The value at a key.
+pub fn get<'v, 'a>(value: &'v Json<'a>, key: &str) -> Option<&'v Json<'a>>
+    ensures { option_map (λ v. value_data v.now) result ≡ get key.now (value_data value.now) }
+{
+    value.get(key)
+}
+
+/// The item at a place of a list.
+pub fn item_at<'v, 'a>(value: &'v Json<'a>, place: usize) -> Option<&'v Json<'a>>
+    ensures { option_map (λ v. value_data v.now) result ≡ at place (value_data value.now) }
+{
+    value.at(place)
+}
+
+/// The text that a value is.
+pub fn text_of<'a>(value: &Json<'a>) -> Option<&'a str>
+    ensures { option_map (λ s. s.now) result ≡ as_str (value_data value.now) }
+{
+    value.as_str()
+}
+
+/// The truth value that a value is.
+pub fn bool_of(value: &Json<'_>) -> Option<bool>
+    ensures { result ≡ as_bool (value_data value.now) }
+{
+    value.as_bool()
+}
+
+/// The items of the list that a value is.
+pub fn items_of<'v, 'a>(value: &'v Json<'a>) -> Option<&'v Vec<Json<'a>>>
+    ensures { option_map (λ v. items_data v.now.items) result ≡ as_array (value_data value.now) }
+{
+    match value {
+        Json::Array(items) => Some(items),
+        _ => None,
+    }
+}
+
+/// The whole number from 0 on that a value is.
+pub fn u64_of(value: &Json<'_>) -> Option<u64>
+    ensures { result ≡ option_and_then as_u64 (as_number (value_data value.now)) }
+{
+    match value {
+        Json::Number(text) => number_of(text)?.as_u64(),
+        _ => None,
+    }
+}
+
+/// The whole number that a value is.
+pub fn i64_of(value: &Json<'_>) -> Option<i64>
+    ensures { result ≡ option_and_then as_i64 (as_number (value_data value.now)) }
+{
+    match value {
+        Json::Number(text) => number_of(text)?.as_i64(),
+        _ => None,
     }
 }
 
 /// The text at a key.
-pub fn text_at<'a>(value: &'a Json, key: &str) -> Option<&'a str>
-    ensures { option_map (λ s. s.now) result ≡ text_at key.now (view value.now) }
+pub fn text_at<'a>(value: &Json<'a>, key: &str) -> Option<&'a str>
+    ensures { option_map (λ s. s.now) result ≡ text_at key.now (value_data value.now) }
 {
-    value.get(key).and_then(Json::as_str)
+    text_of(get(value, key)?)
 }
 
 /// The name at a key.
-pub fn name_at<'a>(value: &'a Json, key: &str) -> Option<&'a str>
-    ensures { option_map (λ s. s.now) result ≡ name_at key.now (view value.now) }
+pub fn name_at<'a>(value: &Json<'a>, key: &str) -> Option<&'a str>
+    ensures { option_map (λ s. s.now) result ≡ name_at key.now (value_data value.now) }
 {
     match text_at(value, key) {
         None => None,
@@ -50,59 +142,15 @@ pub fn name_at<'a>(value: &'a Json, key: &str) -> Option<&'a str>
 }
 
 /// The items of the list at a key.
-pub fn items_at<'a>(value: &'a Json, key: &str) -> Option<&'a Vec<Json>>
-    ensures { option_map (λ v. items_view v.now.items) result ≡ option_and_then as_array (get key.now (view value.now)) }
+pub fn items_at<'v, 'a>(value: &'v Json<'a>, key: &str) -> Option<&'v Vec<Json<'a>>>
+    ensures { option_map (λ v. items_data v.now.items) result ≡ option_and_then as_array (get key.now (value_data value.now)) }
 {
-    value.get(key).and_then(Json::as_array)
-}
-
-/// The text that a JSON value is.
-pub fn text_of(value: Json) -> Option<String>
-    ensures { option_map string_bytes result ≡ as_str (view value) }
-{
-    match value {
-        Json::String(text) => Some(text),
-        _ => None,
-    }
-}
-
-/// The items of the list that a JSON value is.
-pub fn items_of(value: Json) -> Option<Vec<Json>>
-    ensures items { option_map (λ v. items_view v.items) result ≡ as_array (view value) }
-    ensures list { IfSome result (λ v. view value ≡ array (items_view v.items)) }
-{
-    match value {
-        Json::Array(items) => Some(items),
-        _ => None,
-    }
-}
-
-/// The value at a key, taken out of its object.
-pub fn take_at(value: &mut Json, key: &str) -> Option<Json>
-    ensures taken { option_map view result ≡ get key.now (view value.old) }
-    ensures others { (k : List ℕ) → bytes_eq k key.now ≡ false → get k (view value.new) ≡ get k (view value.old) }
-{
-    match value.as_object_mut() {
-        None => None,
-        Some(map) => match map.get_mut(key) {
-            None => None,
-            Some(found) => Some(found.take()),
-        },
-    }
-}
-
-/// The name at a key, taken out of its object.
-pub fn take_name(value: &mut Json, key: &str) -> Option<String>
-    ensures name { option_map string_bytes result ≡ name_at key.now (view value.old) }
-    ensures others { (k : List ℕ) → bytes_eq k key.now ≡ false → get k (view value.new) ≡ get k (view value.old) }
-{
-    let name = text_of(take_at(value, key)?)?;
-    if name_ok(&name) { Some(name) } else { None }
+    items_of(get(value, key)?)
 }
 
 /// The name at a key, in memory of its own.
-pub fn string_at(alloc: Global, value: &Json, key: &str) -> Result<Option<String>, AllocError>
-    ensures { IfOk result (λ found. option_map string_bytes found ≡ name_at key.now (view value.now)) }
+pub fn string_at(alloc: Global, value: &Json<'_>, key: &str) -> Result<Option<String>, AllocError>
+    ensures { IfOk result (λ found. option_map string_bytes found ≡ name_at key.now (value_data value.now)) }
 {
     match name_at(value, key) {
         None => Ok(None),
@@ -111,17 +159,17 @@ pub fn string_at(alloc: Global, value: &Json, key: &str) -> Result<Option<String
 }
 
 /// The truth value at a key.
-pub fn bool_at(value: &Json, key: &str) -> Option<bool>
-    ensures { result ≡ bool_at key.now (view value.now) }
+pub fn bool_at(value: &Json<'_>, key: &str) -> Option<bool>
+    ensures { result ≡ bool_at key.now (value_data value.now) }
 {
-    value.get(key).and_then(Json::as_bool)
+    bool_of(get(value, key)?)
 }
 
 /// The number from 1 on that a JSON value is.
-pub fn positive_of(value: &Json) -> Option<u64>
-    ensures { result ≡ positive_of (view value.now) }
+pub fn positive_of(value: &Json<'_>) -> Option<u64>
+    ensures { result ≡ positive_of (value_data value.now) }
 {
-    match value.as_u64() {
+    match u64_of(value) {
         None => None,
         Some(number) => {
             if 1 <= number && number <= MOST {
@@ -134,15 +182,16 @@ pub fn positive_of(value: &Json) -> Option<u64>
 }
 
 /// Whether the key is there.
-pub fn has(value: &Json, key: &str) -> bool
-    ensures { result ≡ has key.now (view value.now) }
+pub fn has(value: &Json<'_>, key: &str) -> bool
+    ensures { result ≡ has key.now (value_data value.now) }
 {
-    value.get(key).is_some()
+    get(value, key).is_some()
 }
 
 /// How many of the keys are there.
-pub fn present(value: &Json, keys: &[&str]) -> usize
-    ensures { result ≡ present (map (λ key. key.now) keys.now) (view value.now) }
+pub fn present(value: &Json<'_>, keys: &[&str]) -> usize
+    ensures present { result ≡ present (map (λ key. key.now) keys.now) (value_data value.now) }
+    ensures within { result ≤ length keys.now }
 {
     keys.iter().filter(|key| has(value, key)).count()
 }

@@ -1,15 +1,15 @@
 //! Row security and policies, of a JSON value.
 ghost use Rattle.std.specs.Prelude.{◌≡◌, IfOk, option_map, string_bytes};
-ghost use Rattle.serde_json.specs.View.{view, items_view};
+ghost use Rattle.iv_wire.specs.Documents.{value_data, items_data};
 ghost use Rattle.iv_engine.specs.Views.{act_of};
 ghost use Rattle.iv_wire.specs.Names.{names_of};
 ghost use Rattle.iv_wire.specs.Request.{each, everyone, grantee_of, grantees_of, grantees_at, policy_command_named, policy_command_of, policy_command_at};
 ghost use Rattle.iv_wire.specs.Request.{restrictive_at, text_if_at, scope_at, policy_at, policy_of, row_security_of, create_policy_of, drop_policy_of};
 
 use crate::grants::grantee_named;
-use crate::parts::{bool_at, present, size, string_at};
+use crate::parts::{bool_at, bool_of, get, has_size, items_of, present, string_at, text_of};
 use iv_engine::{Act, PolicyCommand, PolicyText, has_texts};
-use serde_json::Value as Json;
+use json::Value as Json;
 use std::alloc::{AllocError, Global};
 use std::marker::Model;
 
@@ -20,10 +20,10 @@ const MOST_GRANTEES: usize = 16;
 const POLICY_KEYS: [&str; 5] = ["restrictive", "command", "to", "using", "check"];
 
 /// The request that puts policies into effect or out of it.
-pub fn row_security_of(alloc: Global, value: &Json) -> Result<Option<Act>, AllocError>
-    ensures { IfOk result (λ act. option_map act_of act ≡ row_security_of (view value.now)) }
+pub fn row_security_of(alloc: Global, value: &Json<'_>) -> Result<Option<Act>, AllocError>
+    ensures { IfOk result (λ act. option_map act_of act ≡ row_security_of (value_data value.now)) }
 {
-    if size(value) != 5 {
+    if !has_size(value, 5) {
         return Ok(None);
     }
     let Some(rel) = string_at(alloc, value, "on")? else {
@@ -56,47 +56,50 @@ fn policy_command_named(word: &str) -> Option<PolicyCommand>
     }
 }
 
-fn policy_command_of(value: &Json) -> Option<PolicyCommand>
-    ensures { result ≡ policy_command_of (view value.now) }
+fn policy_command_of(value: &Json<'_>) -> Option<PolicyCommand>
+    ensures { result ≡ policy_command_of (value_data value.now) }
 {
-    match value.as_str() {
+    match text_of(value) {
         None => None,
         Some(word) => policy_command_named(word),
     }
 }
 
 /// What a policy is for, all where it does not say it.
-fn command_at(value: &Json) -> Option<PolicyCommand>
-    ensures { result ≡ policy_command_at (view value.now) }
+fn command_at(value: &Json<'_>) -> Option<PolicyCommand>
+    ensures { result ≡ policy_command_at (value_data value.now) }
 {
-    match value.get("command") {
+    match get(value, "command") {
         None => Some(PolicyCommand::All),
         Some(command) => policy_command_of(command),
     }
 }
 
 /// Whether a policy is restrictive, which it is not where it does not say it.
-fn restrictive_at(value: &Json) -> Option<bool>
-    ensures { result ≡ restrictive_at (view value.now) }
+fn restrictive_at(value: &Json<'_>) -> Option<bool>
+    ensures { result ≡ restrictive_at (value_data value.now) }
 {
-    match value.get("restrictive") {
+    match get(value, "restrictive") {
         None => Some(false),
-        Some(restrictive) => restrictive.as_bool(),
+        Some(restrictive) => bool_of(restrictive),
     }
 }
 
-fn grantee_of(alloc: Global, value: &Json) -> Result<Option<Option<String>>, AllocError>
-    ensures { IfOk result (λ found. option_map (λ to. option_map string_bytes to) found ≡ grantee_of (view value.now)) }
+fn grantee_of(alloc: Global, value: &Json<'_>) -> Result<Option<Option<String>>, AllocError>
+    ensures { IfOk result (λ found. option_map (λ to. option_map string_bytes to) found ≡ grantee_of (value_data value.now)) }
 {
-    match value.as_str() {
+    match text_of(value) {
         None => Ok(None),
         Some(word) => grantee_named(alloc, word),
     }
 }
 
 /// The grantees that a list is, however many.
-fn each_grantee(alloc: Global, items: &[Json]) -> Result<Option<Vec<Option<String>>>, AllocError>
-    ensures { IfOk result (λ found. option_map names_of found ≡ each grantee_of (items_view items.now)) }
+fn each_grantee(
+    alloc: Global,
+    items: &[Json<'_>],
+) -> Result<Option<Vec<Option<String>>>, AllocError>
+    ensures { IfOk result (λ found. option_map names_of found ≡ each grantee_of (items_data items.now)) }
 {
     let mut grantees = Vec::new(alloc);
     for item in items {
@@ -109,10 +112,10 @@ fn each_grantee(alloc: Global, items: &[Json]) -> Result<Option<Vec<Option<Strin
 }
 
 /// The 1 to 16 grantees that a JSON value is.
-fn grantees_of(alloc: Global, value: &Json) -> Result<Option<Vec<Option<String>>>, AllocError>
-    ensures { IfOk result (λ found. option_map names_of found ≡ grantees_of (view value.now)) }
+fn grantees_of(alloc: Global, value: &Json<'_>) -> Result<Option<Vec<Option<String>>>, AllocError>
+    ensures { IfOk result (λ found. option_map names_of found ≡ grantees_of (value_data value.now)) }
 {
-    match value.as_array() {
+    match items_of(value) {
         None => Ok(None),
         Some(items) => match each_grantee(alloc, items)? {
             None => Ok(None),
@@ -137,10 +140,10 @@ fn everyone(alloc: Global) -> Result<Vec<Option<String>>, AllocError>
 }
 
 /// To whom a policy goes, to PUBLIC where it does not say it.
-fn grantees_at(alloc: Global, value: &Json) -> Result<Option<Vec<Option<String>>>, AllocError>
-    ensures { IfOk result (λ found. option_map names_of found ≡ grantees_at (view value.now)) }
+fn grantees_at(alloc: Global, value: &Json<'_>) -> Result<Option<Vec<Option<String>>>, AllocError>
+    ensures { IfOk result (λ found. option_map names_of found ≡ grantees_at (value_data value.now)) }
 {
-    match value.get("to") {
+    match get(value, "to") {
         None => Ok(Some(everyone(alloc)?)),
         Some(grantees) => grantees_of(alloc, grantees),
     }
@@ -163,8 +166,8 @@ impl Model for Scope {
     ghost view = { λ s. record { restrictive = s.restrictive; command = s.command; to = map (option_map string_bytes) s.grantee.items } };
 }
 
-fn scope_at(alloc: Global, value: &Json) -> Result<Option<Scope>, AllocError>
-    ensures { IfOk result (λ found. found ≡ scope_at (view value.now)) }
+fn scope_at(alloc: Global, value: &Json<'_>) -> Result<Option<Scope>, AllocError>
+    ensures { IfOk result (λ found. found ≡ scope_at (value_data value.now)) }
 {
     let Some(restrictive) = restrictive_at(value) else {
         return Ok(None);
@@ -183,12 +186,16 @@ fn scope_at(alloc: Global, value: &Json) -> Result<Option<Scope>, AllocError>
 }
 
 /// The text at a key, none where the key is not there.
-fn text_if_at(alloc: Global, value: &Json, key: &str) -> Result<Option<Option<String>>, AllocError>
-    ensures { IfOk result (λ found. option_map (λ text. option_map string_bytes text) found ≡ text_if_at key.now (view value.now)) }
+fn text_if_at(
+    alloc: Global,
+    value: &Json<'_>,
+    key: &str,
+) -> Result<Option<Option<String>>, AllocError>
+    ensures { IfOk result (λ found. option_map (λ text. option_map string_bytes text) found ≡ text_if_at key.now (value_data value.now)) }
 {
-    match value.get(key) {
+    match get(value, key) {
         None => Ok(Some(None)),
-        Some(found) => match found.as_str() {
+        Some(found) => match text_of(found) {
             None => Ok(None),
             Some(text) => Ok(Some(Some(String::from_str(alloc, text)?))),
         },
@@ -196,8 +203,12 @@ fn text_if_at(alloc: Global, value: &Json, key: &str) -> Result<Option<Option<St
 }
 
 /// The policy of this scope that a JSON value is, whichever texts it has.
-fn policy_at(alloc: Global, scope: Scope, value: &Json) -> Result<Option<PolicyText>, AllocError>
-    ensures { IfOk result (λ found. found ≡ policy_at scope (view value.now)) }
+fn policy_at(
+    alloc: Global,
+    scope: Scope,
+    value: &Json<'_>,
+) -> Result<Option<PolicyText>, AllocError>
+    ensures { IfOk result (λ found. found ≡ policy_at scope (value_data value.now)) }
 {
     let Some(rel) = string_at(alloc, value, "on")? else {
         return Ok(None);
@@ -228,10 +239,10 @@ fn policy_at(alloc: Global, scope: Scope, value: &Json) -> Result<Option<PolicyT
 }
 
 /// The policy that a JSON value is, whichever texts it has.
-fn policy_of(alloc: Global, value: &Json) -> Result<Option<PolicyText>, AllocError>
-    ensures { IfOk result (λ found. found ≡ policy_of (view value.now)) }
+fn policy_of(alloc: Global, value: &Json<'_>) -> Result<Option<PolicyText>, AllocError>
+    ensures { IfOk result (λ found. found ≡ policy_of (value_data value.now)) }
 {
-    if size(value) != 4 + present(value, &POLICY_KEYS) {
+    if !has_size(value, 4 + present(value, &POLICY_KEYS)) {
         return Ok(None);
     }
     match scope_at(alloc, value)? {
@@ -241,8 +252,8 @@ fn policy_of(alloc: Global, value: &Json) -> Result<Option<PolicyText>, AllocErr
 }
 
 /// The request that adds a policy.
-pub fn create_policy_of(alloc: Global, value: &Json) -> Result<Option<Act>, AllocError>
-    ensures { IfOk result (λ act. option_map act_of act ≡ create_policy_of (view value.now)) }
+pub fn create_policy_of(alloc: Global, value: &Json<'_>) -> Result<Option<Act>, AllocError>
+    ensures { IfOk result (λ act. option_map act_of act ≡ create_policy_of (value_data value.now)) }
 {
     match policy_of(alloc, value)? {
         None => Ok(None),
@@ -257,10 +268,10 @@ pub fn create_policy_of(alloc: Global, value: &Json) -> Result<Option<Act>, Allo
 }
 
 /// The request that takes a policy away.
-pub fn drop_policy_of(alloc: Global, value: &Json) -> Result<Option<Act>, AllocError>
-    ensures { IfOk result (λ act. option_map act_of act ≡ drop_policy_of (view value.now)) }
+pub fn drop_policy_of(alloc: Global, value: &Json<'_>) -> Result<Option<Act>, AllocError>
+    ensures { IfOk result (λ act. option_map act_of act ≡ drop_policy_of (value_data value.now)) }
 {
-    if size(value) != 4 {
+    if !has_size(value, 4) {
         return Ok(None);
     }
     let Some(rel) = string_at(alloc, value, "on")? else {

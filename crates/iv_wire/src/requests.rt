@@ -1,18 +1,19 @@
 //! A line as a command: the shape rules.
 ghost use Rattle.std.specs.Prelude.{◌≡◌, IfOk, IsErrOf, bytes_eq, codes, false, option_map, true};
-ghost use Rattle.serde_json.specs.View.{view};
 ghost use Rattle.iv_machine.specs.Well.{is_well_command};
 ghost use Rattle.iv_engine.specs.Views.{act_of, command_of};
 ghost use Rattle.iv_wire.specs.Request.{session_of, begin_of, finish_of, create_role_of, create_table_of, create_view_of, write_of, subscribe_of, unsubscribe_of, act_for, asked_act, request};
+ghost use Rattle.iv_wire.specs.Documents.{value_data};
 ghost use Rattle.iv_wire.specs.Answer.{bad_json, bad_request, asked, reading_of, value_of};
 
 use crate::columns::columns_at;
+use crate::documents::read;
 use crate::entries::entries_at;
 use crate::grants::{Granting, granting_of};
-use crate::parts::{positive_of, size, string_at, text_at};
+use crate::parts::{get, has_size, positive_of, string_at, text_at, u64_of};
 use crate::policies::{create_policy_of, drop_policy_of, row_security_of};
 use iv_engine::{Act, Command};
-use serde_json::Value;
+use json::{Scratch, Value as Json};
 use std::alloc::{AllocError, Global};
 
 /// Why a line is no command.
@@ -37,10 +38,10 @@ impl From<AllocError> for WireFault {
 }
 
 /// The session's number.
-fn session_of(value: &Value) -> Option<u32>
-    ensures { result ≡ session_of (view value.now) }
+fn session_of(value: &Json<'_>) -> Option<u32>
+    ensures { result ≡ session_of (value_data value.now) }
 {
-    match value.get("session").and_then(Value::as_u64) {
+    match get(value, "session").and_then(u64_of) {
         None => None,
         Some(n) => {
             if 1 <= n && n < 4294967296 {
@@ -52,10 +53,10 @@ fn session_of(value: &Value) -> Option<u32>
     }
 }
 
-fn begin_of(alloc: Global, value: &Value) -> Result<Option<Act>, AllocError>
-    ensures { IfOk result (λ act. option_map act_of act ≡ begin_of (view value.now)) }
+fn begin_of(alloc: Global, value: &Json<'_>) -> Result<Option<Act>, AllocError>
+    ensures { IfOk result (λ act. option_map act_of act ≡ begin_of (value_data value.now)) }
 {
-    if size(value) != 3 {
+    if !has_size(value, 3) {
         return Ok(None);
     }
     match string_at(alloc, value, "role")? {
@@ -64,20 +65,20 @@ fn begin_of(alloc: Global, value: &Value) -> Result<Option<Act>, AllocError>
     }
 }
 
-fn finish_of(value: &Value) -> Option<Act>
-    ensures { option_map act_of result ≡ finish_of (view value.now) }
+fn finish_of(value: &Json<'_>) -> Option<Act>
+    ensures { option_map act_of result ≡ finish_of (value_data value.now) }
 {
-    if size(value) == 2 {
+    if has_size(value, 2) {
         Some(Act::Finish)
     } else {
         None
     }
 }
 
-fn create_role_of(alloc: Global, value: &Value) -> Result<Option<Act>, AllocError>
-    ensures { IfOk result (λ act. option_map act_of act ≡ create_role_of (view value.now)) }
+fn create_role_of(alloc: Global, value: &Json<'_>) -> Result<Option<Act>, AllocError>
+    ensures { IfOk result (λ act. option_map act_of act ≡ create_role_of (value_data value.now)) }
 {
-    if size(value) != 3 {
+    if !has_size(value, 3) {
         return Ok(None);
     }
     match string_at(alloc, value, "name")? {
@@ -86,10 +87,10 @@ fn create_role_of(alloc: Global, value: &Value) -> Result<Option<Act>, AllocErro
     }
 }
 
-fn create_table_of(alloc: Global, value: &Value) -> Result<Option<Act>, AllocError>
-    ensures { IfOk result (λ act. option_map act_of act ≡ create_table_of (view value.now)) }
+fn create_table_of(alloc: Global, value: &Json<'_>) -> Result<Option<Act>, AllocError>
+    ensures { IfOk result (λ act. option_map act_of act ≡ create_table_of (value_data value.now)) }
 {
-    if size(value) != 5 {
+    if !has_size(value, 5) {
         return Ok(None);
     }
     match string_at(alloc, value, "name")? {
@@ -108,10 +109,10 @@ fn create_table_of(alloc: Global, value: &Value) -> Result<Option<Act>, AllocErr
     }
 }
 
-fn create_view_of(alloc: Global, value: &Value) -> Result<Option<Act>, AllocError>
-    ensures { IfOk result (λ act. option_map act_of act ≡ create_view_of (view value.now)) }
+fn create_view_of(alloc: Global, value: &Json<'_>) -> Result<Option<Act>, AllocError>
+    ensures { IfOk result (λ act. option_map act_of act ≡ create_view_of (value_data value.now)) }
 {
-    if size(value) != 5 {
+    if !has_size(value, 5) {
         return Ok(None);
     }
     let Some(name) = string_at(alloc, value, "name")? else {
@@ -130,10 +131,10 @@ fn create_view_of(alloc: Global, value: &Value) -> Result<Option<Act>, AllocErro
     }
 }
 
-fn write_of(alloc: Global, value: Value) -> Result<Option<Act>, AllocError>
-    ensures { IfOk result (λ act. option_map act_of act ≡ write_of (view value)) }
+fn write_of(alloc: Global, value: &Json<'_>) -> Result<Option<Act>, AllocError>
+    ensures { IfOk result (λ act. option_map act_of act ≡ write_of (value_data value.now)) }
 {
-    if size(&value) != 3 {
+    if !has_size(value, 3) {
         return Ok(None);
     }
     match entries_at(alloc, value)? {
@@ -142,10 +143,10 @@ fn write_of(alloc: Global, value: Value) -> Result<Option<Act>, AllocError>
     }
 }
 
-fn subscribe_of(alloc: Global, value: &Value) -> Result<Option<Act>, AllocError>
-    ensures { IfOk result (λ act. option_map act_of act ≡ subscribe_of (view value.now)) }
+fn subscribe_of(alloc: Global, value: &Json<'_>) -> Result<Option<Act>, AllocError>
+    ensures { IfOk result (λ act. option_map act_of act ≡ subscribe_of (value_data value.now)) }
 {
-    if size(value) != 3 {
+    if !has_size(value, 3) {
         return Ok(None);
     }
     match string_at(alloc, value, "on")? {
@@ -154,22 +155,22 @@ fn subscribe_of(alloc: Global, value: &Value) -> Result<Option<Act>, AllocError>
     }
 }
 
-fn unsubscribe_of(value: &Value) -> Option<Act>
-    ensures { option_map act_of result ≡ unsubscribe_of (view value.now) }
+fn unsubscribe_of(value: &Json<'_>) -> Option<Act>
+    ensures { option_map act_of result ≡ unsubscribe_of (value_data value.now) }
 {
-    if size(value) != 3 {
+    if !has_size(value, 3) {
         return None;
     }
-    match value.get("sub").and_then(positive_of) {
+    match get(value, "sub").and_then(positive_of) {
         None => None,
         Some(sub) => Some(Act::Unsubscribe { sub }),
     }
 }
 
 /// What a word other than `write` asks.
-fn act_for(alloc: Global, word: &str, value: &Value) -> Result<Option<Act>, AllocError>
+fn act_for(alloc: Global, word: &str, value: &Json<'_>) -> Result<Option<Act>, AllocError>
     requires { bytes_eq word.now (codes "write") ≡ false }
-    ensures { IfOk result (λ act. option_map act_of act ≡ act_for word.now (view value.now)) }
+    ensures { IfOk result (λ act. option_map act_of act ≡ act_for word.now (value_data value.now)) }
 {
     if word == "begin" {
         begin_of(alloc, value)
@@ -201,26 +202,26 @@ fn act_for(alloc: Global, word: &str, value: &Value) -> Result<Option<Act>, Allo
 }
 
 /// What a request asks.
-fn asked_act(alloc: Global, value: Value) -> Result<Option<Act>, AllocError>
-    ensures { IfOk result (λ act. option_map act_of act ≡ asked_act (view value)) }
+fn asked_act(alloc: Global, value: &Json<'_>) -> Result<Option<Act>, AllocError>
+    ensures { IfOk result (λ act. option_map act_of act ≡ asked_act (value_data value.now)) }
 {
-    match text_at(&value, "do") {
+    match text_at(value, "do") {
         None => Ok(None),
         Some(word) => {
             if word == "write" {
                 write_of(alloc, value)
             } else {
-                act_for(alloc, word, &value)
+                act_for(alloc, word, value)
             }
         }
     }
 }
 
 /// The command that a value is.
-fn request_of(alloc: Global, value: Value) -> Result<Option<Command>, AllocError>
-    ensures { IfOk result (λ found. option_map command_of found ≡ request (view value)) }
+fn request_of(alloc: Global, value: &Json<'_>) -> Result<Option<Command>, AllocError>
+    ensures { IfOk result (λ found. option_map command_of found ≡ request (value_data value.now)) }
 {
-    match session_of(&value) {
+    match session_of(value) {
         None => Ok(None),
         Some(session) => match asked_act(alloc, value)? {
             None => Ok(None),
@@ -229,20 +230,36 @@ fn request_of(alloc: Global, value: Value) -> Result<Option<Command>, AllocError
     }
 }
 
-/// The JSON value that a line is. A line that is no UTF-8 is none.
-fn read_value(alloc: Global, line: &[u8]) -> Result<Option<Value>, AllocError>
-    ensures { IfOk result (λ found. option_map view found ≡ value_of line.now) }
+/// The JSON value that a line is, its texts borrowed. A line that is no UTF-8 is none.
+fn read_value<'a>(
+    alloc: Global,
+    line: &'a [u8],
+    scratch: &'a mut Scratch,
+) -> Result<Option<Json<'a>>, AllocError>
+    ensures { IfOk result (λ found. option_map value_data found ≡ value_of line.now) }
 {
     match str::from_utf8(line) {
         Err(_) => Ok(None),
-        Ok(text) => match Value::from_str(alloc, text) {
-            Ok(value) => Ok(Some(value)),
-            Err(e) => {
-                if e.is_memory() {
-                    return Err(AllocError);
-                }
-                Ok(None)
-            }
+        Ok(text) => read(alloc, text, scratch),
+    }
+}
+
+/// The command that a line asks for, read by means of room that is kept from line to line.
+pub(crate) fn command_in(
+    alloc: Global,
+    line: &[u8],
+    scratch: &mut Scratch,
+) -> Result<Command, WireFault>
+    ensures command { IfOk result (λ command. reading_of line.now ≡ asked (command_of command)) }
+    ensures well { IfOk result (λ command. is_well_command (command_of command) ≡ true) }
+    ensures bad_json { IsErrOf result WireFault.BadJson → reading_of line.now ≡ bad_json }
+    ensures bad_request { IsErrOf result WireFault.BadRequest → reading_of line.now ≡ bad_request }
+{
+    match read_value(alloc, line, scratch)? {
+        None => Err(WireFault::BadJson),
+        Some(value) => match request_of(alloc, &value)? {
+            None => Err(WireFault::BadRequest),
+            Some(command) => Ok(command),
         },
     }
 }
@@ -260,11 +277,5 @@ pub fn read_line(alloc: Global, line: &[u8]) -> Result<Command, WireFault>
     ensures bad_json { IsErrOf result WireFault.BadJson → reading_of line.now ≡ bad_json }
     ensures bad_request { IsErrOf result WireFault.BadRequest → reading_of line.now ≡ bad_request }
 {
-    match read_value(alloc, line)? {
-        None => Err(WireFault::BadJson),
-        Some(value) => match request_of(alloc, value)? {
-            None => Err(WireFault::BadRequest),
-            Some(command) => Ok(command),
-        },
-    }
+    command_in(alloc, line, &mut Scratch::new(alloc))
 }

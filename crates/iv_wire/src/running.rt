@@ -17,10 +17,11 @@ ghost use Rattle.iv_wire.specs.Sums.{HasWritten};
 use crate::answers::write_lines;
 use crate::ends::{Sink, Source, write_all};
 use crate::lines::{End, Next, RunFault, is_blank_line, next_line};
-use crate::requests::{WireFault, read_line};
+use crate::requests::{WireFault, command_in};
 use crate::room::Room;
 use crate::texts::write_fault;
 use iv_engine::{Command, Engine};
+use json::Scratch;
 use std::alloc::{AllocError, Global};
 
 /// The text of the lines that answer a command.
@@ -41,7 +42,12 @@ fn answer_command(
 }
 
 /// Answers one line.
-fn answer_line(alloc: Global, engine: &mut Engine, line: &[u8]) -> Result<Vec<u8>, AllocError>
+fn answer_line(
+    alloc: Global,
+    engine: &mut Engine,
+    line: &[u8],
+    scratch: &mut Scratch,
+) -> Result<Vec<u8>, AllocError>
     ensures text { IfOk result (λ text. (s : State) → IsBehind s engine.old → text.items ≡ (told s (readings_of line.now)).text) }
     ensures state { OnOk result ((s : State) → IsBehind s engine.old → IsBehind (told s (readings_of line.now)).state engine.new) }
     ensures failed { OnOk result (engine.old.failed ≡ false → engine.new.failed ≡ false) }
@@ -49,7 +55,7 @@ fn answer_line(alloc: Global, engine: &mut Engine, line: &[u8]) -> Result<Vec<u8
     if is_blank_line(line) {
         return Ok(Vec::new(alloc));
     }
-    match read_line(alloc, line) {
+    match command_in(alloc, line, scratch) {
         Err(WireFault::Memory) => Err(AllocError),
         Err(WireFault::BadJson) => write_fault(alloc, 1),
         Err(WireFault::BadRequest) => write_fault(alloc, 2),
@@ -99,6 +105,7 @@ fn run_lines<R: Source, W: Sink>(
     ensures reads { R.reads reader.new ≤ R.reads reader.old + (lines * line_room) }
 {
     let mut room = Room::new();
+    let mut scratch = Scratch::new(alloc);
     let mut answered = Vec::new(alloc);
     for _ in 0..lines {
         match next_line(answered, &mut room, reader)? {
@@ -109,7 +116,7 @@ fn run_lines<R: Source, W: Sink>(
                 return Ok(End::TooLong);
             }
             Next::Line(line) => {
-                let text = answer_line(alloc, engine, &line)?;
+                let text = answer_line(alloc, engine, &line, &mut scratch)?;
                 send_answer(writer, &text)?;
                 answered = line;
             }

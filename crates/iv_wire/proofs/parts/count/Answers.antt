@@ -1,6 +1,10 @@
-use Rattle.iv_wire.proofs.Members.{count_by}
-use Rattle.serde_json.specs.View.{view}
+use Rattle.std.proofs.Common.{◌∙◌, sym, ap}
+use Rattle.json.specs.Value.{value_view}
+use Rattle.json.proofs.Trees.{view-Array}
+use Rattle.iv_wire.specs.Documents.{data_of}
+use Rattle.iv_wire.specs.Request.{count}
+use Rattle.iv_wire.proofs.Looking.{counted}
 use Rattle.iv_wire.proofs.parts.count.Goals as goal
 
-pub returns-in-Some : goal.returns-in-Some
-returns-in-Some c = count_by (view c.args.value.now) c.len.result c.in-Some.items.now c.in-Some.ensures c.len.ensures
+pub returns-in-Array : goal.returns-in-Array
+returns-in-Array c = counted c.in-Array.items c.len.result c.len.ensures ∙ ap (λ j. count (data_of j)) (sym (ap value_view c.in-Array.is ∙ view-Array c.in-Array.items))
