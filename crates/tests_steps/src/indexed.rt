@@ -130,6 +130,30 @@ fn move_rows(alloc: Global, a: &mut KeyIndex, da: &mut ZSet, db: &mut ZSet, rows
     true
 }
 
+/// Moves so many rows of one key over empty inputs, and takes the step.
+fn step_moving(
+    alloc: Global,
+    join: &Join,
+    a: &mut KeyIndex,
+    b: &KeyIndex,
+    out: &ZSet,
+    da: &mut ZSet,
+    db: &mut ZSet,
+    rows: i64,
+) -> Result<ZSet, DeltaFault>
+    requires join { (join.now.left ≡ 2) × (join.now.pairs.items ≡ (0, 0) ∷ []) }
+    requires left { a.old ≡ (0 ∷ [], []) }
+    requires right { b.now ≡ (0 ∷ [], []) }
+    requires out { out.now ≡ [] }
+    requires left_change { da.old ≡ [] }
+{
+    if move_rows(alloc, a, da, db, rows) {
+        step_join(alloc, join, a, b, out, da, db, CAP, &mut Meter::new())
+    } else {
+        Err(DeltaFault::Memory)
+    }
+}
+
 /// The step that moves so many rows of one key, over empty indexes.
 fn step_moved(
     alloc: Global,
@@ -145,11 +169,7 @@ fn step_moved(
     let mut da = ZSet::new(alloc);
     let mut db = ZSet::new(alloc);
     let out = ZSet::new(alloc);
-    if move_rows(alloc, &mut a, &mut da, &mut db, rows) {
-        step_join(alloc, join, &a, b, &out, &da, &db, CAP, &mut Meter::new())
-    } else {
-        Err(DeltaFault::Memory)
-    }
+    step_moving(alloc, join, &mut a, b, &out, &mut da, &mut db, rows)
 }
 
 /// What is seen of the answer to a batch that takes so many rows of one key from the left, and brings as many of it on the
@@ -162,6 +182,43 @@ pub(crate) fn moved(alloc: Global, rows: i64) -> Result<Seen, DeltaFault> {
     let b = KeyIndex::new(alloc, right);
     let answer = step_moved(alloc, &join, a, &b, rows);
     seen_of(alloc, answer, false, &[1, 1, 1, 1], &[1, 2, 1, 1])
+}
+
+/// Fills empty inputs, and takes the step.
+fn step_filled(
+    alloc: Global,
+    join: &Join,
+    a: &mut KeyIndex,
+    b: &mut KeyIndex,
+    out: &mut ZSet,
+    da: &mut ZSet,
+    db: &mut ZSet,
+    x: i64,
+    dx: i64,
+    y: i64,
+    dy: i64,
+    weight: i64,
+) -> Result<ZSet, DeltaFault>
+    requires join { (join.now.left ≡ 2) × (join.now.pairs.items ≡ (0, 0) ∷ []) }
+    requires left { a.old ≡ (0 ∷ [], []) }
+    requires right { b.old ≡ (0 ∷ [], []) }
+    requires out { out.old ≡ [] }
+    requires left_change { da.old ≡ [] }
+    requires right_change { db.old ≡ [] }
+    requires old { weight ≡ y *ℤ x }
+    requires bag { pos 0 ≤ℤ weight }
+    requires new_left { InRange (dx +ℤ x) }
+{
+    if fill_index(alloc, a, &[1, 2], x)
+        && fill_index(alloc, b, &[1, 7], y)
+        && fill(alloc, out, false, &[1, 2, 1, 7], weight)
+        && fill(alloc, da, false, &[1, 2], dx)
+        && fill(alloc, db, false, &[1, 7], dy)
+    {
+        step_join(alloc, join, a, b, out, da, db, CAP, &mut Meter::new())
+    } else {
+        Err(DeltaFault::Memory)
+    }
 }
 
 /// The step where the left row and the right row have a weight and change by another, and the old output has their pair.
@@ -186,16 +243,9 @@ fn step_keyed(
     let mut out = ZSet::new(alloc);
     let mut da = ZSet::new(alloc);
     let mut db = ZSet::new(alloc);
-    if fill_index(alloc, &mut a, &[1, 2], x)
-        && fill_index(alloc, &mut b, &[1, 7], y)
-        && fill(alloc, &mut out, false, &[1, 2, 1, 7], weight)
-        && fill(alloc, &mut da, false, &[1, 2], dx)
-        && fill(alloc, &mut db, false, &[1, 7], dy)
-    {
-        step_join(alloc, join, &a, &b, &out, &da, &db, CAP, &mut Meter::new())
-    } else {
-        Err(DeltaFault::Memory)
-    }
+    step_filled(
+        alloc, join, &mut a, &mut b, &mut out, &mut da, &mut db, x, dx, y, dy, weight,
+    )
 }
 
 /// What is seen of its answer.

@@ -21,6 +21,56 @@ struct Rows<'a> {
     both: &'a [i64],
 }
 
+/// Fills empty inputs, and takes the step.
+fn step_filled_pair<B: Bilinear>(
+    alloc: Global,
+    bilinear: &B,
+    rows: Rows<'_>,
+    left: &mut ZSet,
+    right: &mut ZSet,
+    out: &mut ZSet,
+    left_change: &mut ZSet,
+    right_change: &mut ZSet,
+    a: i64,
+    da: i64,
+    b: i64,
+    db: i64,
+    weight: i64,
+) -> Result<ZSet, DeltaFault>
+    requires empty_left { left.old ≡ [] }
+    requires empty_right { right.old ≡ [] }
+    requires empty_out { out.old ≡ [] }
+    requires empty_left_change { left_change.old ≡ [] }
+    requires empty_right_change { right_change.old ≡ [] }
+    requires left { B.takes_left bilinear.now (map num rows.left.now) }
+    requires right { B.takes_right bilinear.now (map num rows.right.now) }
+    requires pair { MakesPair (B.image bilinear.now) rows.left.now rows.right.now rows.both.now }
+    requires old { weight ≡ b *ℤ a }
+    requires bag { pos 0 ≤ℤ weight }
+    requires new_left { InRange (da +ℤ a) }
+{
+    if fill(alloc, left, false, rows.left, a)
+        && fill(alloc, right, false, rows.right, b)
+        && fill(alloc, out, false, rows.both, weight)
+        && fill(alloc, left_change, false, rows.left, da)
+        && fill(alloc, right_change, false, rows.right, db)
+    {
+        step_bilinear(
+            alloc,
+            bilinear,
+            left,
+            right,
+            out,
+            left_change,
+            right_change,
+            CAP,
+            &mut Meter::new(),
+        )
+    } else {
+        Err(DeltaFault::Memory)
+    }
+}
+
 /// The step where the left row and the right row have a weight and change by another, and the old output has their pair.
 fn step_pair<B: Bilinear>(
     alloc: Global,
@@ -44,26 +94,21 @@ fn step_pair<B: Bilinear>(
     let mut out = ZSet::new(alloc);
     let mut left_change = ZSet::new(alloc);
     let mut right_change = ZSet::new(alloc);
-    if fill(alloc, &mut left, false, rows.left, a)
-        && fill(alloc, &mut right, false, rows.right, b)
-        && fill(alloc, &mut out, false, rows.both, weight)
-        && fill(alloc, &mut left_change, false, rows.left, da)
-        && fill(alloc, &mut right_change, false, rows.right, db)
-    {
-        step_bilinear(
-            alloc,
-            bilinear,
-            &left,
-            &right,
-            &out,
-            &left_change,
-            &right_change,
-            CAP,
-            &mut Meter::new(),
-        )
-    } else {
-        Err(DeltaFault::Memory)
-    }
+    step_filled_pair(
+        alloc,
+        bilinear,
+        rows,
+        &mut left,
+        &mut right,
+        &mut out,
+        &mut left_change,
+        &mut right_change,
+        a,
+        da,
+        b,
+        db,
+        weight,
+    )
 }
 
 pub(crate) fn on_first_columns(alloc: Global) -> Result<Join, AllocError>
@@ -121,6 +166,38 @@ pub(crate) fn multiplied(
     seen_of(alloc, answer, false, rows.both, rows.both)
 }
 
+/// Fills empty inputs, and takes the step.
+fn step_filled_groups(
+    alloc: Global,
+    aggs: &[Agg],
+    a: &mut ZSet,
+    d: &mut ZSet,
+    out: &mut ZSet,
+    gone: &[i64],
+    x: i64,
+    dx: i64,
+    come: &[i64],
+    y: i64,
+    before: &[i64],
+) -> Result<ZSet, DeltaFault>
+    requires empty { a.old ≡ [] }
+    requires empty_change { d.old ≡ [] }
+    requires empty_out { out.old ≡ [] }
+    requires gone { dx +ℤ x ≡ pos 0 }
+    requires come { InRange y }
+    requires bag { pos 0 ≤ℤ y }
+{
+    if fill(alloc, a, true, gone, x)
+        && fill(alloc, d, true, gone, dx)
+        && fill(alloc, d, true, come, y)
+        && fill(alloc, out, true, before, 1)
+    {
+        step_group(alloc, &[0], aggs, a, out, d, CAP, &mut Meter::new())
+    } else {
+        Err(DeltaFault::Memory)
+    }
+}
+
 /// The step of the groups by the first column, where the copies of one row go and those of another come.
 fn step_groups(
     alloc: Global,
@@ -139,15 +216,9 @@ fn step_groups(
     let mut a = ZSet::new(alloc);
     let mut d = ZSet::new(alloc);
     let mut out = ZSet::new(alloc);
-    if fill(alloc, &mut a, true, gone, x)
-        && fill(alloc, &mut d, true, gone, dx)
-        && fill(alloc, &mut d, true, come, y)
-        && fill(alloc, &mut out, true, before, 1)
-    {
-        step_group(alloc, &[0], aggs, &a, &out, &d, CAP, &mut Meter::new())
-    } else {
-        Err(DeltaFault::Memory)
-    }
+    step_filled_groups(
+        alloc, aggs, &mut a, &mut d, &mut out, gone, x, dx, come, y, before,
+    )
 }
 
 /// The sum of the second column by the first, where two copies of a row go and one of another comes.
