@@ -1,7 +1,7 @@
 use Rattle.iv_machine.specs.State.{start}
 use Rattle.iv_wire.specs.declared.lines.RunFault.TheVariants as run
-use Rattle.viewd.proofs.Endings.{ended, nothing_answered}
-use Rattle.viewd.proofs.replaying.replay.Goals as goal
+use Rattle.iv_program.proofs.Endings.{ended, nothing_answered}
+use Rattle.iv_program.proofs.replaying.replay.Goals as goal
 
 pub returns-in-Ok-run-clause-answers : goal.returns-in-Ok-run-clause-answers
 returns-in-Ok-run-clause-answers g c = (c.run.new.engine, (_, c.in-Ok-run.ensures.answered (start 65536) c.in-Ok.ensures.start))

@@ -1,7 +1,7 @@
 -- The exit statuses of the program's faults.
 use Rattle.std.specs.Prelude.{ℕ}
-use Rattle.viewd.specs.declared.fault.Fault.{Fault}
-use Rattle.viewd.specs.declared.fault.Fault.TheVariants.{Read, Write, Network, Memory}
+use Rattle.iv_program.specs.declared.fault.Fault.{Fault}
+use Rattle.iv_program.specs.declared.fault.Fault.TheVariants.{Read, Write, Network, Memory}
 
 -- 2 where standard input, standard output or the network failed, 3 where memory ran out
 abbrev pub status_of : Fault → ℕ

@@ -4,9 +4,9 @@ ghost use Rattle.std.specs.Prelude.{◌≡◌, ◌≤◌, ◌||◌, ◌↔◌, t
 ghost use Rattle.iv_machine.specs.Reached.{IsReached};
 ghost use Rattle.iv_machine.specs.State.{State};
 ghost use Rattle.iv_engine.specs.Seen.{IsBehind};
-ghost use Rattle.viewd.specs.Does.{Listens};
-ghost use Rattle.viewd.specs.Replays.{is_write};
-ghost use Rattle.viewd.specs.Serves.{HasServed, IsClosed, Serves, is_memory};
+ghost use Rattle.iv_program.specs.Does.{Listens};
+ghost use Rattle.iv_program.specs.Replays.{is_write};
+ghost use Rattle.iv_program.specs.Serves.{HasServed, IsClosed, Serves, is_memory};
 
 use crate::fault::Fault;
 use iv_engine::Engine;

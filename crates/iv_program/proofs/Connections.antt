@@ -9,7 +9,7 @@ use Rattle.iv_machine.specs.Reached.{AreGiven, AreUnique, IsReached}
 use Rattle.iv_machine.specs.State.{Frame, State}
 use Rattle.iv_engine.specs.Seen.{Seen, IsBehind}
 use Rattle.iv_wire.specs.Ran.{HasRun}
-use Rattle.viewd.specs.Serves.{HasServed, IsClosed, served}
+use Rattle.iv_program.specs.Serves.{HasServed, IsClosed, served}
 
 served_behind : (s : State) (css dss : List (List Command)) → served (served s css) dss ≡ served s (css ++ dss)
 served_behind s [] dss = refl

@@ -1,7 +1,7 @@
 //! Why the program gives up once its arguments are read.
 
 ghost use Rattle.std.specs.Prelude.{◌≡◌};
-ghost use Rattle.viewd.specs.Statuses.{status_of};
+ghost use Rattle.iv_program.specs.Statuses.{status_of};
 
 use thiserror::Error;
 

@@ -1,9 +1,8 @@
 //! Tests of serving over loopback: each client connects, sends all its bytes and shuts its writing side before the server
 //! accepts, and reads its answers behind it. The system keeps the bytes.
 
-use crate::fault::Fault;
-use crate::serving::{ServeFault, serve, serve_on};
 use iv_engine::Engine;
+use iv_program::{Fault, ServeFault, serve, serve_on};
 use iv_wire::FromWrite;
 use std::alloc::Global;
 use std::io::{Read, Write};

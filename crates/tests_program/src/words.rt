@@ -1,7 +1,7 @@
-use crate::arguments::settings;
-use crate::asked::Settings;
-use crate::fault::Fault;
+//! Tests of the words after the program's name, and of what is told of a fault.
+
 use clap::error::ErrorKind;
+use iv_program::{Fault, Settings, settings};
 use std::test::Fail;
 
 #[test]

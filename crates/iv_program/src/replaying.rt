@@ -5,9 +5,9 @@ ghost use Rattle.iv_machine.specs.State.{start};
 ghost use Rattle.iv_engine.specs.Seen.{Seen};
 ghost use Rattle.iv_wire.specs.Cut.{line_room};
 ghost use Rattle.iv_wire.specs.Sums.{HasWritten};
-ghost use Rattle.viewd.specs.Arguments.{InRange, lines_of};
-ghost use Rattle.viewd.specs.Does.{AddsUp, Does};
-ghost use Rattle.viewd.specs.Replays.{Replays, is_read, is_write};
+ghost use Rattle.iv_program.specs.Arguments.{InRange, lines_of};
+ghost use Rattle.iv_program.specs.Does.{AddsUp, Does};
+ghost use Rattle.iv_program.specs.Replays.{Replays, is_read, is_write};
 
 use crate::asked::Settings;
 use crate::fault::Fault;

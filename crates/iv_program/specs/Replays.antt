@@ -4,8 +4,8 @@ use Rattle.iv_machine.specs.State.{start}
 use Rattle.iv_wire.specs.Endings.{Run, IsAnswered}
 use Rattle.iv_wire.specs.declared.lines.End.{End}
 use Rattle.iv_wire.specs.declared.lines.RunFault.TheVariants as run
-use Rattle.viewd.specs.declared.fault.Fault.{Fault}
-use Rattle.viewd.specs.declared.fault.Fault.TheVariants.{Read, Write, Network, Memory}
+use Rattle.iv_program.specs.declared.fault.Fault.{Fault}
+use Rattle.iv_program.specs.declared.fault.Fault.TheVariants.{Read, Write, Network, Memory}
 
 -- the ending of a run from the machine's start, with the same fault
 abbrev pub Replays : Run → Result (Unit {0}) Fault → Type 0

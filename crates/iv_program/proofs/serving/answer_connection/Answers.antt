@@ -1,6 +1,6 @@
 use Rattle.std.proofs.Common.{sym}
-use Rattle.viewd.proofs.Connections.{not_second, one_served}
-use Rattle.viewd.proofs.serving.answer_connection.Goals as goal
+use Rattle.iv_program.proofs.Connections.{not_second, one_served}
+use Rattle.iv_program.proofs.serving.answer_connection.Goals as goal
 
 pub returns-clause-served : goal.returns-clause-served
 returns-clause-served c = λ s b. one_served c.args.lines s c.run.new.engine _

@@ -1,12 +1,13 @@
 //! The words after the program's name.
 
 ghost use Rattle.std.specs.Prelude.{◌≤◌, IfOk, IfSome};
-ghost use Rattle.viewd.specs.Arguments.{InRange};
+ghost use Rattle.iv_program.specs.Arguments.{InRange};
 
 use crate::asked::Settings;
 use clap::error::ErrorKind;
 use clap::{Arg, ArgMatches, Command, Error, value_parser};
 use std::alloc::{AllocError, Global};
+use std::process::ExitCode;
 use std::{env, io};
 
 /// The program's version.
@@ -103,7 +104,7 @@ pub fn settings<'a>(alloc: Global, words: &'a [&'a str]) -> Result<Settings, Err
 
 /// All words of the command line, the program's name first. A word that is not text is an error of
 /// the kind `InvalidValue`, want of memory one of the kind `OutOfMemory`.
-pub fn read_words(rt: &HostRuntime) -> Result<Vec<String>, Error> {
+fn read_words(rt: &HostRuntime) -> Result<Vec<String>, Error> {
     let alloc = rt.alloc();
     match env::args(rt) {
         Ok(all) => Ok(all.collect(alloc)?),
@@ -115,4 +116,30 @@ pub fn read_words(rt: &HostRuntime) -> Result<Vec<String>, Error> {
             Err(command.error(ErrorKind::InvalidValue, "an argument is not text")?)
         }
     }
+}
+
+/// What the words of the command line ask for, or the status to exit with once the text of the error is printed.
+pub fn asked_for(rt: &HostRuntime) -> Result<Settings, ExitCode>
+    ensures { IfOk result InRange }
+{
+    let alloc = rt.alloc();
+    let error = match read_words(rt) {
+        Ok(all) => match all.iter().skip(1).map(|word| word.as_str()).collect(alloc) {
+            Ok(words) => {
+                let words: Vec<&str> = words;
+                match settings(alloc, words.as_slice()) {
+                    Ok(settings) => return Ok(settings),
+                    Err(error) => error,
+                }
+            }
+            Err(AllocError) => Error::from(AllocError),
+        },
+        Err(error) => error,
+    };
+    let _ = error.print(rt);
+    Err(if error.use_stderr() {
+        ExitCode::FAILURE
+    } else {
+        ExitCode::SUCCESS
+    })
 }

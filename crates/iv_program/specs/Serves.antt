@@ -5,8 +5,8 @@ use Rattle.iv_machine.specs.Act.{Command}
 use Rattle.iv_machine.specs.Machine.{hung, run}
 use Rattle.iv_machine.specs.State.{Frame, State}
 use Rattle.iv_engine.specs.Seen.{Seen, IsBehind}
-use Rattle.viewd.specs.declared.serving.ServeFault.{ServeFault}
-use Rattle.viewd.specs.declared.serving.ServeFault.TheVariants.{Network, Memory, Failed}
+use Rattle.iv_program.specs.declared.serving.ServeFault.{ServeFault}
+use Rattle.iv_program.specs.declared.serving.ServeFault.TheVariants.{Network, Memory, Failed}
 
 -- the commands of one connection after another; behind each connection all sessions and subscriptions are closed
 abbrev pub served : State → List (List Command) → State

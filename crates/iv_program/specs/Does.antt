@@ -5,11 +5,11 @@ use Rattle.iv_machine.specs.State.{start}
 use Rattle.iv_engine.specs.Seen.{Seen}
 use Rattle.iv_wire.specs.Endings.{Run}
 use Rattle.iv_wire.specs.Sums.{HasWritten}
-use Rattle.viewd.specs.Replays.{Replays}
-use Rattle.viewd.specs.declared.asked.Settings.{Settings}
-use Rattle.viewd.specs.declared.asked.Settings.TheVariants.{Replay, Serve}
-use Rattle.viewd.specs.declared.fault.Fault.{Fault}
-use Rattle.viewd.specs.declared.fault.Fault.TheVariants.{Read}
+use Rattle.iv_program.specs.Replays.{Replays}
+use Rattle.iv_program.specs.declared.asked.Settings.{Settings}
+use Rattle.iv_program.specs.declared.asked.Settings.TheVariants.{Replay, Serve}
+use Rattle.iv_program.specs.declared.fault.Fault.{Fault}
+use Rattle.iv_program.specs.declared.fault.Fault.TheVariants.{Read}
 
 -- the line that says where the program listens
 abbrev pub listening : ℕ → List ℕ

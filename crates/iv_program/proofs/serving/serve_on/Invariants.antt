@@ -2,8 +2,8 @@ use Rattle.std.proofs.Common.{◌≡◌, ◌<◌, false}
 use Rattle.iv_machine.specs.Reached.{IsReached}
 use Rattle.iv_machine.specs.State.{State}
 use Rattle.iv_engine.specs.Seen.{IsBehind}
-use Rattle.viewd.specs.Serves.{HasServed, IsClosed}
-use Rattle.viewd.proofs.serving.serve_on.Given as goal
+use Rattle.iv_program.specs.Serves.{HasServed, IsClosed}
+use Rattle.iv_program.proofs.serving.serve_on.Given as goal
 
 abbrev pub invariant-loop : goal.invariant-loop
 invariant-loop l = record {

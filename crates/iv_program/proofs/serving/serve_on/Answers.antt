@@ -1,5 +1,5 @@
-use Rattle.viewd.proofs.Connections.{closed_reached, more_served}
-use Rattle.viewd.proofs.serving.serve_on.Goals as goal
+use Rattle.iv_program.proofs.Connections.{closed_reached, more_served}
+use Rattle.iv_program.proofs.serving.serve_on.Goals as goal
 
 pub loop-preserved : goal.loop-preserved
 loop-preserved c = let one = c.in-Ok-answer_connection.ensures in record {

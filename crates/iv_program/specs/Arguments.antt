@@ -1,7 +1,7 @@
 -- What holds of the settings that the words on the command line give.
 use Rattle.std.specs.Prelude.{ℕ, ◌≤◌, ◌<◌, ◌^◌}
-use Rattle.viewd.specs.declared.asked.Settings.{Settings}
-use Rattle.viewd.specs.declared.asked.Settings.TheVariants.{Replay, Serve}
+use Rattle.iv_program.specs.declared.asked.Settings.{Settings}
+use Rattle.iv_program.specs.declared.asked.Settings.TheVariants.{Replay, Serve}
 
 -- each number lies in the range that the command line allows
 abbrev pub InRange : Settings → Type 0

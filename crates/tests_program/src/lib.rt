@@ -1,0 +1,7 @@
+//! Tests of what the program does: words, faults, connections over loopback.
+#![tactic(auto)]
+
+#[cfg(test)]
+mod served;
+#[cfg(test)]
+mod words;
