@@ -1,0 +1,105 @@
+#!/usr/bin/python3
+"""Writes a journal anew, while no gateway writes it: the requests that make its roles, relations, rights and policies,
+and then the rows as they are now.
+
+    frontend/compact.py JOURNAL [VIEWD]
+
+viewd has no dump, so it is told the journal and the administrator subscribes to each table. What was written is read
+back by another viewd before it takes the journal's place. Where anything differs, the journal stays as it was.
+"""
+import json
+import pathlib
+import subprocess
+import sys
+from collections.abc import Iterator
+
+from journal import BODY, Damaged, Journal, Shape, by_role, replace, to_text
+
+ENTRIES = 1000  # of a write
+
+Rows = dict[str, list]  # of each table: pairs of copies and row
+
+
+class Viewd:
+    """A viewd that is asked one thing after another."""
+
+    def __init__(self, program: pathlib.Path):
+        self.process = subprocess.Popen([program, "replay", "--lines", "4294967295"], stdin=subprocess.PIPE, stdout=subprocess.PIPE)
+        self.sessions: dict[str, int] = {}
+
+    def ask(self, role: str, request: dict) -> tuple[dict, list]:
+        """The reply, and the changes that came before it. Raises Damaged where it is no acceptance."""
+        if role not in self.sessions and request["do"] != "begin":
+            self.ask(role, {"do": "begin", "role": role})
+        session = self.sessions.setdefault(role, len(self.sessions) + 1)
+        self.process.stdin.write(to_text(request | {"session": session}) + b"\n")
+        self.process.stdin.flush()
+        changes = []
+        while "changes" in (line := json.loads(self.process.stdout.readline() or "{}")):
+            changes += line["changes"]
+        if "ok" not in line:
+            raise Damaged(f"viewd answers {line} to {request} of {role}")
+        return line, changes
+
+    def state(self, entries: Iterator[tuple[str, dict]]) -> tuple[Shape, Rows]:
+        """Where the entries lead."""
+        shape = Shape()
+        for role, request in entries:
+            self.ask(role, request)
+            shape.apply(request)
+        rows = {}
+        for table in [name for name, made in shape.relations.items() if made["do"] == "create_table"]:
+            sub = self.ask("admin", {"do": "subscribe", "on": table})[0]["sub"]
+            # No line follows where the table is empty: the reply to the next request ends the wait.
+            rows[table] = self.ask("admin", {"do": "unsubscribe", "sub": sub})[1]
+        self.process.stdin.close()
+        self.process.wait()
+        return shape, rows
+
+
+def lines(shape: Shape, rows: Rows) -> Iterator[bytes]:
+    """The journal that leads to a state."""
+    for request in shape.requests():
+        yield by_role("admin", to_text(request)[1:-1])
+    inserts: list[bytes] = []
+    room = 0
+    for table, pairs in rows.items():
+        for copies, row in pairs:
+            insert = to_text({"on": table, "insert": row} | ({"copies": copies} if copies > 1 else {}))
+            if len(inserts) == ENTRIES or len(insert) + 1 > room:
+                yield from write(inserts)
+                inserts, room = [], BODY - len('"do":"write","entries":[]')
+            inserts.append(insert)
+            room -= len(insert) + 1
+    yield from write(inserts)
+
+
+def write(inserts: list[bytes]) -> Iterator[bytes]:
+    if inserts:
+        yield by_role("admin", b'"do":"write","entries":[%s]' % b",".join(inserts))
+
+
+def main(path: pathlib.Path, program: pathlib.Path) -> str:
+    journal = Journal(path)
+    before = Viewd(program).state(journal.entries())
+    was, size = journal.lines, journal.end
+
+    def check(fresh: pathlib.Path) -> None:
+        if Viewd(program).state(Journal(fresh, follow=True).entries()) != before:
+            raise Damaged(f"{fresh} leads to another state, so {path} stays")
+
+    replace(path, lines(*before), check)
+    now = Journal(path, follow=True)
+    return f"{path}: {sum(1 for _ in now.entries())} lines of {now.end} bytes instead of {was} of {size}"
+
+
+if __name__ == "__main__":
+    if not 2 <= len(sys.argv) <= 3:
+        sys.exit(__doc__)
+    here = pathlib.Path(__file__).resolve().parent
+    try:
+        print(main(pathlib.Path(sys.argv[1]), pathlib.Path(sys.argv[2] if len(sys.argv) > 2 else here.parent / "viewd")))
+    except BlockingIOError:
+        sys.exit("compact: another process writes this journal")
+    except (Damaged, OSError) as why:
+        sys.exit(f"compact: {why}")

@@ -1,0 +1,126 @@
+#!/usr/bin/python3
+"""The front end of a viewd: browsers by WebSocket on one side, one `viewd replay` over pipes on the other.
+
+A browser sends its token, and then one request a message, without `session`: each client has a session of viewd in the
+role of its token, which the gateway numbers, begins and finishes. viewd begins empty and is told the journal: when
+either process dies, nothing that was acknowledged is lost.
+"""
+import argparse
+import asyncio
+import hashlib
+import logging
+import os
+import pathlib
+import re
+import sys
+import tomllib
+
+from aiohttp import WSMsgType, web
+
+from engine import Client, Engine
+from journal import LINE, Damaged, Journal, replace
+
+HELLO = 5.0  # seconds to send a token
+
+log = logging.getLogger("gateway")
+
+
+class Desk:
+    """What browsers meet."""
+
+    def __init__(self, engine: Engine, tokens: pathlib.Path, folder: pathlib.Path):
+        self.engine, self.tokens, self.folder = engine, tokens, folder
+
+    def roles(self) -> dict[str, str]:
+        """Roles by the SHA-256 of their tokens. The file is read at each entry, so a token can be added or taken away."""
+        roles = tomllib.loads(self.tokens.read_text())["tokens"]
+        if wrong := [key for key in roles if not re.fullmatch("[0-9a-f]{64}", key)]:
+            raise ValueError(f"{self.tokens}: {len(wrong)} keys are no SHA-256 in hexadecimal digits")
+        return roles
+
+    def role(self, token: str) -> str | None:
+        return self.roles().get(hashlib.sha256(token.encode(errors="replace")).hexdigest())
+
+    async def live(self, request: web.Request) -> web.WebSocketResponse:
+        # A little more than a line, so that one that is too long is refused and not cut off.
+        ws = web.WebSocketResponse(heartbeat=20, max_msg_size=2 * LINE, compress=False)
+        await ws.prepare(request)
+        try:
+            role = self.role(await ws.receive_str(timeout=HELLO))
+        except (asyncio.TimeoutError, TypeError):
+            role = None
+        if role is None:
+            await ws.close(code=4401, message=b"This token is not known.")
+            return ws
+        client = Client(role, request.transport)
+        try:
+            if not await self.engine.enter(client):
+                await ws.close(code=1013, message=b"No session is free, or the role is not there.")
+                return ws
+            async for message in ws:
+                if message.type is not WSMsgType.TEXT:
+                    break
+                await self.engine.forward(client, message.data)
+        except ConnectionError:  # viewd went in the middle of a line
+            pass
+        finally:
+            self.engine.leave(client)
+        return ws
+
+    async def state(self, request: web.Request) -> web.Response:
+        """How it goes, for administrators. Gateways of one journal agree where they tell the same digest of as many lines."""
+        if self.role(request.headers.get("Authorization", "").removeprefix("Bearer ")) != "admin":
+            raise web.HTTPForbidden()
+        engine, journal = self.engine, self.engine.journal
+        return web.json_response({
+            "ready": engine.ready.is_set(), "viewd": engine.child and engine.child.pid, "sessions": len(engine.clients),
+            "dropped": engine.dropped, "journal": journal.lines, "bytes": journal.end, "digest": journal.digest.hexdigest()})
+
+    async def page(self, request: web.Request) -> web.FileResponse:
+        return web.FileResponse(self.folder / (request.path.strip("/") or "index.html"), headers={
+            "Cache-Control": "no-cache", "Referrer-Policy": "no-referrer", "X-Content-Type-Options": "nosniff",
+            "Content-Security-Policy": "default-src 'none'; script-src 'self'; style-src 'self'; connect-src 'self'; img-src data:;"
+                                       " base-uri 'none'; form-action 'none'; frame-ancestors 'none'"})
+
+    async def listen(self, port: int) -> None:
+        app = web.Application()
+        app.add_routes([web.get("/live", self.live), web.get("/state", self.state), web.get("/", self.page)])
+        app.add_routes([web.get(f"/{file.name}", self.page) for file in self.folder.iterdir()])
+        runner = web.AppRunner(app, access_log=None)
+        await runner.setup()
+        await web.TCPSite(runner, "127.0.0.1", port).start()
+        log.info("http://127.0.0.1:%d", port)
+
+
+async def main(given: argparse.Namespace) -> None:
+    os.umask(0o077)
+    if given.seed and not given.follow and not given.journal.exists():
+        replace(given.journal, [given.seed.read_bytes()])
+    engine = Engine(given.viewd, Journal(given.journal, given.follow))
+    desk = Desk(engine, given.tokens, given.web)
+    desk.roles()
+    await desk.listen(given.port)
+    while True:
+        await engine.run()
+        await asyncio.sleep(0.2)
+
+
+if __name__ == "__main__":
+    here = pathlib.Path(__file__).resolve().parent
+    words = argparse.ArgumentParser(description="The front end of a viewd.")
+    words.add_argument("--viewd", default=here.parent / "viewd", type=pathlib.Path, help="the program")
+    words.add_argument("--journal", required=True, type=pathlib.Path, help="made where it is missing")
+    words.add_argument("--seed", type=pathlib.Path, help="what a journal begins with that is missing")
+    words.add_argument("--follow", action="store_true", help="another gateway writes this journal: serve readers alone")
+    words.add_argument("--tokens", required=True, type=pathlib.Path, help="TOML, a table [tokens]: SHA-256 of a token = role")
+    words.add_argument("--web", default=here / "web", type=pathlib.Path, help="a folder of pages")
+    words.add_argument("--port", type=int, default=8080, help="on 127.0.0.1")
+    logging.basicConfig(level=logging.INFO, format="%(asctime)s %(message)s")
+    try:
+        asyncio.run(main(words.parse_args()))
+    except KeyboardInterrupt:
+        pass
+    except BlockingIOError:
+        sys.exit("gateway: another process writes this journal")
+    except (Damaged, OSError, ValueError, KeyError) as why:
+        sys.exit(f"gateway: {type(why).__name__}: {why}")

@@ -1,0 +1,185 @@
+"""The journal: the accepted requests that changed what is shared, one a line, in viewd's order.
+
+A line is the request without its session and with the role that made it: `{"role":"mia","do":"write","entries":[..]}`.
+A viewd that begins empty and is told these lines is in the state that they lead to, and refuses none of them.
+"""
+import contextlib
+import dataclasses
+import fcntl
+import hashlib
+import json
+import logging
+import os
+import pathlib
+from collections.abc import Callable, Iterable, Iterator
+
+LINE = 65_536  # bytes of a line without its newline: viewd ends behind a longer one
+# What is left of a line for a request, whoever tells it: by the longest number of a session, or the longest role.
+BODY = LINE - max(len('{"session":4294967295,}'), len('{"role":"",}') + 63)
+PRIVILEGES = ("select", "insert", "update", "delete")
+SHARED = frozenset(("create_role", "create_table", "create_view", "grant", "revoke", "row_security", "create_policy",
+                    "drop_policy", "write"))
+
+log = logging.getLogger("journal")
+
+
+class Damaged(Exception):
+    """The journal does not lead to a state. To go on would lose what was acknowledged."""
+
+
+def to_text(value: object) -> bytes:
+    """Raises UnicodeEncodeError where half of a surrogate pair stands in a text."""
+    return json.dumps(value, ensure_ascii=False, separators=(",", ":")).encode()
+
+
+def by_session(session: int, body: bytes) -> bytes:
+    """A request for viewd. Its body is its text without the braces."""
+    return b'{"session":%d,%s}\n' % (session, body)
+
+
+def by_role(role: str, body: bytes) -> bytes:
+    """The same request as a line of the journal."""
+    return b'{"role":"%s",%s}\n' % (role.encode(), body)
+
+
+@dataclasses.dataclass
+class Shape:
+    """Roles, relations, rights and policies: what viewd knows and does not tell, folded from what it accepted."""
+
+    roles: list[str] = dataclasses.field(default_factory=lambda: ["admin"])
+    relations: dict[str, dict] = dataclasses.field(default_factory=dict)  # as they were created, in that order
+    grants: dict[str, dict[str, list[str]]] = dataclasses.field(default_factory=dict)  # relation, role, privileges
+    row_security: dict[str, dict[str, bool]] = dataclasses.field(default_factory=dict)
+    policies: list[dict] = dataclasses.field(default_factory=list)
+
+    def apply(self, request: dict) -> None:
+        match request:
+            case {"do": "create_role", "name": name}:
+                self.roles.append(name)
+            case {"do": "create_table" | "create_view", "name": name, "owner": owner}:
+                self.relations[name] = request
+                self.grants[name] = {owner: list(PRIVILEGES)}
+            case {"do": "grant", "on": on, "to": to, "privileges": named}:
+                self._hold(on, to, {*self.grants[on].get(to, ()), *named})
+            case {"do": "revoke", "on": on, "to": to, "privileges": named}:
+                self._hold(on, to, set(self.grants[on].get(to, ())) - set(named))
+            case {"do": "row_security", "on": on, "enable": enable, "force": force}:
+                self.row_security[on] = {"enable": enable, "force": force}
+            case {"do": "create_policy"}:
+                self.policies.append(request)
+            case {"do": "drop_policy", "on": on, "name": name}:
+                self.policies = [p for p in self.policies if (p["on"], p["name"]) != (on, name)]
+
+    def _hold(self, on: str, role: str, held: set[str]) -> None:
+        self.grants[on][role] = [privilege for privilege in PRIVILEGES if privilege in held]
+        if not held and role != self.relations[on]["owner"]:
+            del self.grants[on][role]
+
+    def requests(self) -> Iterator[dict]:
+        """Requests of the administrator that bring an empty viewd to this shape."""
+        yield from ({"do": "create_role", "name": name} for name in self.roles[1:])
+        for name, made in self.relations.items():
+            yield made
+            for role, held in self.grants[name].items():
+                had = PRIVILEGES if role == made["owner"] else ()
+                if lost := [p for p in had if p not in held]:
+                    yield {"do": "revoke", "on": name, "privileges": lost, "to": role}
+                if new := [p for p in held if p not in had]:
+                    yield {"do": "grant", "on": name, "privileges": new, "to": role}
+        yield from ({"do": "row_security", "on": on} | both for on, both in self.row_security.items())
+        yield from self.policies
+
+
+class Journal:
+    """A file of accepted requests. One process at a time writes it; others may follow."""
+
+    def __init__(self, path: pathlib.Path, follow: bool = False):
+        """Raises BlockingIOError where another process writes this journal."""
+        self.path, self.follow = path, follow
+        if not follow:
+            # The lock is a file of its own, as a compaction puts another file in the journal's place.
+            self.lock = path.with_name(path.name + ".lock").open("w")
+            fcntl.flock(self.lock, fcntl.LOCK_EX | fcntl.LOCK_NB)
+            self.file = os.open(path, os.O_WRONLY | os.O_APPEND | os.O_CREAT, 0o600)
+            self._cut()
+            sync_folder(path)
+        self.rewind()
+
+    def rewind(self) -> None:
+        self.lines, self.end, self.digest, self.inode = 0, 0, hashlib.sha256(), self.path.stat().st_ino
+
+    def _cut(self) -> None:
+        """Takes off what stands behind the last newline: it was not all on disk, so nobody was told."""
+        with self.path.open("rb") as file:
+            size = end = file.seek(0, os.SEEK_END)
+            while end:
+                start = max(0, end - LINE)
+                file.seek(start)
+                if newline := file.read(end - start).rfind(b"\n") + 1:
+                    end = start + newline
+                    break
+                end = start
+        if end < size:
+            log.warning("cut %d bytes off %s, of a line that was never acknowledged", size - end, self.path)
+            os.ftruncate(self.file, end)
+
+    def _note(self, line: bytes) -> None:
+        self.lines, self.end = self.lines + 1, self.end + len(line)
+        self.digest.update(line)
+
+    def entries(self) -> Iterator[tuple[str, dict]]:
+        """Role and request of each whole line behind those that were read. Raises Damaged."""
+        with self.path.open("rb") as file:
+            file.seek(self.end)
+            for line in file:
+                if not line.endswith(b"\n"):
+                    return  # it is being written
+                try:
+                    request = json.loads(line)
+                    role = request.pop("role")
+                    if request["do"] not in SHARED or len(line) > LINE + 1:
+                        raise ValueError
+                except (ValueError, KeyError, TypeError, AttributeError):
+                    raise Damaged(f"{self.path}: line {self.lines + 1} is no accepted request") from None
+                self._note(line)
+                yield role, request
+
+    def replaced(self) -> bool:
+        """Whether another file, or a shorter one, stands where this one was read."""
+        now = self.path.stat()
+        return now.st_ino != self.inode or now.st_size < self.end
+
+    def commit(self, lines: list[bytes]) -> None:
+        """Returns when the lines are on disk. Raises OSError, and then none of them stands in the file."""
+        data = memoryview(b"".join(lines))
+        try:
+            while data:
+                data = data[os.write(self.file, data):]
+            os.fdatasync(self.file)
+        except OSError:
+            with contextlib.suppress(OSError):
+                os.ftruncate(self.file, self.end)
+            raise
+        for line in lines:
+            self._note(line)
+
+
+def replace(path: pathlib.Path, lines: Iterable[bytes], check: Callable[[pathlib.Path], None] = lambda fresh: None) -> None:
+    """Puts a file of these lines where `path` is, whole or not at all: not where `check` raises."""
+    fresh = path.with_name(path.name + ".new")
+    with fresh.open("wb") as file:
+        os.fchmod(file.fileno(), 0o600)
+        file.writelines(lines)
+        file.flush()
+        os.fsync(file.fileno())
+    check(fresh)
+    fresh.rename(path)
+    sync_folder(path)
+
+
+def sync_folder(path: pathlib.Path) -> None:
+    folder = os.open(path.parent, os.O_RDONLY)
+    try:
+        os.fsync(folder)
+    finally:
+        os.close(folder)

@@ -1,0 +1,179 @@
+"""What the tests share: a gateway of their own on a free port, and clients without a browser."""
+import asyncio
+import hashlib
+import json
+import os
+import pathlib
+import signal
+import socket
+import subprocess
+import sys
+import tempfile
+import time
+import urllib.error
+import urllib.request
+from collections.abc import Callable
+
+import aiohttp
+
+TOP = pathlib.Path(__file__).resolve().parent.parent
+VIEWD = pathlib.Path(os.environ.get("VIEWD", TOP.parent / "crates/viewd/out/viewd")).resolve()
+ROLES = ("admin", "lena", "mia", "noah", "olga")
+PATIENCE = float(os.environ.get("PATIENCE", 60))  # seconds for anything that has to come: a slow machine fails no test
+
+sys.path.insert(0, str(TOP))
+
+
+def eventually(test: Callable, seconds: float = PATIENCE):
+    """The first true answer of a test that is made again and again."""
+    end = time.monotonic() + seconds
+    while not (found := test()):
+        assert time.monotonic() < end, "it did not come"
+        time.sleep(0.02)
+    return found
+
+
+async def soon(test: Callable, seconds: float = PATIENCE):
+    """The same beside other tasks."""
+    end = time.monotonic() + seconds
+    while not (found := test()):
+        assert time.monotonic() < end, "it did not come"
+        await asyncio.sleep(0.005)
+    return found
+
+
+def tokens(roles: tuple[str, ...] = ROLES) -> str:
+    """A file of tokens, by which each role enters with its name and `-demo`."""
+    return "[tokens]\n" + "".join(f'{hashlib.sha256(f"{role}-demo".encode()).hexdigest()} = "{role}"\n' for role in roles)
+
+
+class Gate:
+    """A gateway with a journal in a folder of its own. It begins as the support desk, or with `lines`."""
+
+    def __init__(self, lines: bytes | None = None, journal: pathlib.Path | None = None, words: tuple[str, ...] = (), start: bool = True):
+        self.folder = tempfile.TemporaryDirectory(prefix="desk.")
+        here = pathlib.Path(self.folder.name)
+        self.journal, self.tokens = journal or here / "journal.jsonl", here / "tokens.toml"
+        self.tokens.write_text(tokens())
+        if journal is None:
+            self.journal.write_bytes((TOP / "desk.jsonl").read_bytes() if lines is None else lines)
+        with socket.socket() as probe:
+            probe.bind(("127.0.0.1", 0))
+            self.port = probe.getsockname()[1]
+        self.url = f"http://127.0.0.1:{self.port}/"
+        self.words = ["--viewd", VIEWD, "--journal", self.journal, "--tokens", self.tokens, "--port", str(self.port), *words]
+        self.log = (here / "log").open("ab+")
+        self.process: subprocess.Popen | None = None
+        if start:
+            self.start()
+
+    def launch(self) -> None:
+        self.process = subprocess.Popen(["/usr/bin/python3", TOP / "gateway.py", *self.words], stderr=self.log)
+
+    def start(self) -> None:
+        self.launch()
+        eventually(lambda: self.state()["ready"])
+
+    def state(self, token: str = "admin-demo") -> dict:
+        ask = urllib.request.Request(self.url + "state", headers={"Authorization": f"Bearer {token}"})
+        try:
+            return json.load(urllib.request.urlopen(ask, timeout=PATIENCE))
+        except urllib.error.HTTPError:
+            raise
+        except OSError:
+            assert self.process.poll() is None, self.said()
+            return {"ready": False, "viewd": None}
+
+    def said(self) -> str:
+        self.log.seek(0)
+        return self.log.read().decode()
+
+    def kill_viewd(self) -> None:
+        before = self.state()["viewd"]
+        os.kill(before, signal.SIGKILL)
+
+        def another() -> bool:
+            now = self.state()
+            return now["viewd"] != before and now["ready"]
+        eventually(another)
+
+    def kill_gateway(self) -> None:
+        self.process.kill()
+        self.process.wait()
+
+    def ended(self) -> tuple[int, str]:
+        """Status and words of a gateway that has to end by itself."""
+        return self.process.wait(PATIENCE), self.said()
+
+    def end(self) -> None:
+        if self.process and self.process.poll() is None:
+            self.kill_gateway()
+        self.log.close()
+        self.folder.cleanup()
+
+
+class Peer:
+    """A client: `ask` gives the reply to a request, `rows` adds up what came for each subscription."""
+
+    @classmethod
+    async def enter(cls, http: aiohttp.ClientSession, url: str, token: str) -> "Peer":
+        self = cls()
+        self.ws = await http.ws_connect(url + "live", max_msg_size=0)
+        await self.ws.send_str(token)
+        self.lines: list[dict] = []  # all that came
+        self.asked: list[asyncio.Future[dict]] = []
+        self.rows: dict[int, dict[tuple, int]] = {}
+        self.role: str | None = None
+        self.task = asyncio.create_task(self.take())
+        await soon(lambda: self.role or self.task.done())
+        return self
+
+    async def take(self) -> None:
+        async for message in self.ws:
+            for line in map(json.loads, message.data.split("\n")):
+                self.lines.append(line)
+                if "changes" in line:
+                    rows = self.rows.setdefault(line["sub"], {})
+                    for copies, row in line["changes"]:
+                        rows[tuple(row)] = rows.get(tuple(row), 0) + copies
+                        if not rows[tuple(row)]:
+                            del rows[tuple(row)]
+                elif "ok" in line or "error" in line:
+                    self.asked.pop(0).set_result(line)
+                elif "role" in line:
+                    self.role = line["role"]
+        for lost in self.asked:
+            lost.set_result({"error": "lost"})
+
+    def told(self, key: str) -> list:
+        """The values of a key in all lines that came."""
+        return [line[key] for line in self.lines if key in line]
+
+    async def raw(self, text: str) -> dict:
+        if self.task.done():
+            return {"error": "lost"}
+        reply = asyncio.get_running_loop().create_future()
+        self.asked.append(reply)
+        try:
+            await self.ws.send_str(text)
+        except (ConnectionError, RuntimeError):
+            return {"error": "lost"}
+        return await reply
+
+    async def ask(self, **request) -> dict:
+        return await self.raw(json.dumps(request, ensure_ascii=False))
+
+    async def insert(self, number: int, agent: str, subject: str = "x") -> dict:
+        return await self.ask(do="write", entries=[{"on": "tickets", "insert": [number, agent, subject, True]}])
+
+    async def see(self, on: str) -> dict:
+        """The rows of a relation now, or the refusal."""
+        reply = await self.ask(do="subscribe", on=on)
+        if "error" in reply:
+            return reply
+        await self.ask(do="unsubscribe", sub=reply["sub"])
+        return self.rows.get(reply["sub"], {})
+
+    async def leave(self) -> None:
+        await self.ws.close()
+        await self.task

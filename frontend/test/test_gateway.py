@@ -1,0 +1,551 @@
+#!/usr/bin/python3
+"""The gateway without a browser: nobody acts for another, nothing acknowledged is lost, the slow stall nobody.
+
+    frontend/test/test_gateway.py [TEST ..]
+"""
+import asyncio
+import base64
+import json
+import os
+import random
+import resource
+import socket
+import subprocess
+import sys
+import threading
+import time
+import urllib.error
+
+import aiohttp
+import yarl
+
+from gate import PATIENCE, ROLES, TOP, VIEWD, Gate, Peer, eventually, soon, tokens
+
+import engine
+import gateway
+import journal
+
+TESTS = []
+
+
+def test(check):
+    TESTS.append(check)
+    return check
+
+
+async def enter(http: aiohttp.ClientSession, gate: Gate, *roles: str) -> list[Peer]:
+    return [await Peer.enter(http, gate.url, f"{role}-demo") for role in roles]
+
+
+async def leave(*peers: Peer) -> None:
+    for peer in peers:
+        await peer.leave()
+
+
+async def quiet(peer: Peer) -> None:
+    """Returns when all lines of earlier requests are there: replies come in order."""
+    await peer.ask(do="unsubscribe", sub=1 << 60)
+
+
+async def settled(peer: Peer) -> None:
+    """Forgets the lines that came, once all of them did: behind a message of the gateway's first, and behind each reply."""
+    await soon(lambda: len(peer.told("settled")) == 1 + len(peer.told("ok")) + len(peer.told("error")))
+    peer.lines.clear()
+
+
+@test
+async def tokens_give_the_role(gate: Gate, http: aiohttp.ClientSession):
+    assert "demo" not in gate.tokens.read_text()
+    for token in ("nobody", "", "mia", gate.tokens.read_text().split()[1]):
+        stranger = await Peer.enter(http, gate.url, token)
+        assert (stranger.role, stranger.ws.close_code) == (None, 4401), token
+    gate.tokens.write_text(tokens((*ROLES, "olga2")).replace('"olga2"', '"olga"'))
+    [olga] = await enter(http, gate, "olga2")  # a token that was added is known at once
+    assert olga.role == "olga"
+    gate.tokens.write_text(tokens((*ROLES, "eve", "Eve")))
+    for name in ("eve", "Eve"):  # no such role, and no name of a role
+        stranger = await Peer.enter(http, gate.url, f"{name}-demo")
+        assert (stranger.role, stranger.ws.close_code) == (None, 1013), name
+    for token in ("mia-demo", "", "\u00e4"):
+        try:
+            assert not gate.state(token)
+        except (urllib.error.HTTPError, UnicodeEncodeError) as refused:
+            assert getattr(refused, "code", 403) == 403
+    for path in ("gateway.py", "%2e%2e/gateway.py", "%2e%2e%2fgateway.py", "journal.jsonl", "test/gate.py"):
+        async with http.get(yarl.URL(gate.url + path, encoded=True)) as answer:
+            assert answer.status == 404, path
+    await olga.leave()
+    eventually(lambda: gate.state()["sessions"] == 0)  # those who were turned away hold none
+    gate.kill_gateway()
+    gate.tokens.write_text('[tokens]\nmia-demo = "mia"\n')
+    gate.launch()
+    status, said = gate.ended()
+    assert status == 1 and "no SHA-256" in said, said
+
+
+@test
+async def nobody_acts_for_another(gate: Gate, http: aiohttp.ClientSession):
+    admin, mia, noah = await enter(http, gate, "admin", "mia", "noah")
+    for peer in (admin, mia, noah):
+        assert await peer.ask(do="subscribe", on="tickets") == {"ok": True, "sub": 1}  # each counts its own
+    ticket = {"on": "tickets", "insert": [1, "noah", "x", True]}
+    for forged in (*range(0, 6), 257, "1", None, [1]):
+        got = await mia.ask(do="grant", on="tickets", privileges=["delete"], to="mia", session=forged)
+        assert got == {"error": 12, "on": "tickets"}, got
+        got = await mia.ask(do="write", session=forged, entries=[ticket])
+        assert got == {"check": "insert", "entry": 1, "error": 14, "on": "tickets"}, got
+    for key in ("session", "sess\\u0069on"):  # twice, and by its escapes
+        got = await mia.raw('{"%s":1,"do":"create_role","name":"x","%s":1}' % (key, key))
+        assert got == {"error": 11}, got
+    assert await mia.ask(do="unsubscribe", sub=2) == {"error": 19}  # noah's, as viewd counts
+    for request in ({"do": "finish"}, {"do": "begin", "role": "admin"}, {"do": "begin", "role": "admin", "session": 99},
+                    {"do": "write", "role": "admin", "entries": [ticket]}, {"do": "serve"}, {"do": None}, {"do": ["write"]}, {},
+                    {"do": "unsubscribe", "sub": True}, {"do": "unsubscribe", "sub": 1.0}, {"do": "unsubscribe", "sub": 0},
+                    {"do": "unsubscribe", "sub": 1 << 63}, {"do": "unsubscribe"}):
+        assert await mia.ask(**request) == {"error": 2}, request
+    for text, error in (("", 1), ("nonsense", 1), ("[1]", 2), ('"do"', 2), ("1" * 5000, 1), ("[" * 60_000, 1), ("null", 2),
+                        ('{"do":"subscribe","on":"\\ud800"}', 1), ('{"do":"subscribe","on":NaN}', 1), ("-\n-", 1),
+                        ('{"do":"finish"}\n{"do":"finish"}', 1), ('{"do":"subscribe",\n"on":"nothing"}', 7)):
+        assert await mia.raw(text) == {"error": error}, text[:40]
+    assert (await mia.insert(7, "mia"))["ok"]
+    await asyncio.gather(*map(quiet, (admin, noah)))
+    row = (7, "mia", "x", True)
+    assert row in admin.rows[1] and row in mia.rows[1] and len(noah.rows[1]) == 4
+    for text in ('"session":3}', '","session":3,"sub":1}', '\\","session":3,"sub":3}', '"session":3}\n{"ok":true,"session":3}', "\u2028\u0001{\"changes\":3"):
+        assert await mia.insert(8, "mia", text) == {"ok": True}
+        await asyncio.gather(*map(quiet, (admin, noah)))
+        row = (8, "mia", text, True)
+        assert row in admin.rows[1] and row in mia.rows[1] and len(noah.rows[1]) == 4, row
+    await leave(admin, mia, noah)
+
+
+@test
+async def no_line_is_too_long(gate: Gate, http: aiohttp.ClientSession):
+    """What passes fits a line in any session and with any role; viewd, which ends behind a longer line, never sees one."""
+    role = "r" * 63
+    gate.tokens.write_text(tokens((*ROLES, role)))
+    admin, = await enter(http, gate, "admin")
+    await admin.ask(do="create_role", name=role)
+    await admin.ask(do="create_table", name="wide", owner=role, columns=[["t", "text"]])
+    peer, = await enter(http, gate, role)
+    viewd = gate.state()["viewd"]
+    for letter in ("a", "ä"):  # one byte, and two
+        entries = [{"on": "wide", "insert": [""]} for _ in range(300)]
+        room = journal.BODY - len(journal.to_text({"do": "write", "entries": entries}).decode()) + 2
+        for entry in entries:
+            took = min(room // len(letter.encode()), 500)
+            entry["insert"][0] = letter * took
+            room -= took * len(letter.encode())
+        entries[-1]["insert"][0] += "a" * room
+        assert len(journal.to_text({"do": "write", "entries": entries})) - 2 == journal.BODY
+        got = await peer.ask(do="write", entries=entries)
+        assert got == {"ok": True}, got
+        line = gate.journal.read_bytes().splitlines()[-1]
+        assert line.startswith(b'{"role":"rrr') and len(line) == 65_536, len(line)
+        entries[-1]["insert"][0] += "a"
+        assert await peer.ask(do="write", entries=entries, id=5) == {"error": 22, "id": 5}
+    assert gate.state()["viewd"] == viewd
+    gate.kill_viewd()
+    admin, = await enter(http, gate, "admin")
+    assert sum((await admin.see("wide")).values()) == 600
+    await admin.leave()
+
+
+@test
+async def lines_have_marks(gate: Gate, http: aiohttp.ClientSession):
+    """`id` is given back, `settled` stands behind the last line of a request, and an end tells its relation."""
+    admin, lena, mia = await enter(http, gate, "admin", "lena", "mia")
+    for name in (1, "a\"ä", -5, 1 << 70):
+        assert await mia.ask(do="subscribe", on="nothing", id=name) == {"error": 7, "id": name}
+        assert await mia.ask(do="finish", id=name) == {"error": 2, "id": name}
+    for name in (None, 1.5, [1], {"a": 1}, True):
+        assert await mia.ask(do="subscribe", on="tickets", id=name) == {"error": 2}
+    assert (await mia.raw('{"do":"subscribe","on":"tickets","id":"\\ud800"}')) == {"error": 1}
+    await settled(mia)
+    assert await mia.ask(do="subscribe", on="workload", id=1) == {"id": 1, "ok": True, "sub": 1}
+    assert await mia.ask(do="subscribe", on="tickets", id=2) == {"id": 2, "ok": True, "sub": 2}
+    await soon(lambda: len(mia.told("settled")) == 2)
+    keys = [" ".join(sorted(line)) for line in mia.lines]
+    assert keys == ["id ok sub", "changes sub", "settled"] * 2, keys
+    mia.lines.clear()
+    lena.lines.clear()
+    await lena.insert(50, "mia")
+    await soon(lambda: mia.told("settled"))
+    assert [line.get("sub") for line in mia.lines] == [1, 2, None] and mia.lines[-1] == {"settled": True}, mia.lines
+    await soon(lambda: lena.told("settled"))
+    assert lena.lines == [{"ok": True}, {"settled": True}]
+    mia.lines.clear()
+    await lena.ask(do="revoke", on="tickets", privileges=["select"], to="mia")
+    await soon(lambda: mia.told("settled"))
+    assert [(line.get("ended"), line.get("on"), line.get("sub")) for line in mia.lines] == [
+        ("privilege", "workload", 1), ("privilege", "tickets", 2), (None, None, None)], mia.lines
+    assert mia.rows == {1: {}, 2: {}}
+    assert await mia.ask(do="unsubscribe", sub=2) == {"error": 19}
+    assert await mia.ask(do="subscribe", on="tickets") == {"error": 13, "on": "tickets", "privilege": "select"}
+    mia.lines.clear()
+    await lena.ask(do="grant", on="tickets", privileges=["select"], to="mia")
+    await soon(lambda: mia.told("settled"))
+    assert mia.lines == [{"granted": "tickets"}, {"settled": True}] and not admin.told("granted"), mia.lines
+    assert await mia.ask(do="subscribe", on="tickets") == {"ok": True, "sub": 3}
+    assert await mia.ask(do="unsubscribe", sub=3) == {"ok": True}
+    assert await mia.ask(do="unsubscribe", sub=3) == {"error": 19}
+    await admin.ask(do="create_table", name="notes", owner="mia", columns=[["a", "int"]])
+    await lena.ask(do="grant", on="teams", privileges=["select"], to="public")
+    await soon(lambda: "teams" in admin.told("granted"))
+    assert mia.told("granted") == ["tickets", "notes", "teams"]
+    await leave(admin, lena, mia)
+
+
+@test
+async def administrators_see_the_shape(gate: Gate, http: aiohttp.ClientSession):
+    admin, other, lena, mia = await enter(http, gate, "admin", "admin", "lena", "mia")
+    shape = admin.told("shape")[0]
+    assert shape["roles"] == list(ROLES) and list(shape["relations"]) == ["teams", "agents", "tickets", "workload"]
+    assert shape["relations"]["tickets"]["columns"][2] == ["subject", "text"] and "query" in shape["relations"]["workload"]
+    assert shape["grants"]["tickets"] == {"lena": ["select", "insert", "update", "delete"], "mia": ["select", "insert", "update"],
+                                          "noah": ["select", "insert", "update"]}
+    assert shape["row_security"] == {"tickets": {"enable": True, "force": False}} and [p["name"] for p in shape["policies"]] == ["own"]
+    told = len(other.told("shape"))
+    for request in ({"do": "revoke", "on": "tickets", "privileges": ["insert", "delete"], "to": "mia"},
+                    {"do": "revoke", "on": "tickets", "privileges": ["select", "insert", "update"], "to": "noah"},
+                    {"do": "revoke", "on": "tickets", "privileges": ["select", "insert", "update", "delete"], "to": "lena"},
+                    {"do": "grant", "on": "tickets", "privileges": ["update", "insert"], "to": "public"},
+                    {"do": "row_security", "on": "tickets", "enable": False, "force": True},
+                    {"do": "create_policy", "on": "tickets", "name": "second", "using": "true", "to": ["mia"]},
+                    {"do": "drop_policy", "on": "tickets", "name": "own"}):
+        assert await lena.ask(**request) == {"ok": True}
+        told += 1
+        await soon(lambda: len(other.told("shape")) == told)
+    assert (await lena.ask(do="drop_policy", on="tickets", name="own"))["error"] == 18
+    assert (await lena.insert(1, "mia"))["ok"]  # by the grant to all: a write is not of the shape
+    await asyncio.gather(*map(quiet, (admin, other)))
+    assert len(other.told("shape")) == told
+    shape = other.told("shape")[-1]
+    assert shape["grants"]["tickets"] == {"lena": [], "mia": ["select", "update"], "public": ["insert", "update"]}, shape["grants"]
+    assert shape["row_security"]["tickets"] == {"enable": False, "force": True} and [p["name"] for p in shape["policies"]] == ["second"]
+    assert not mia.told("shape") and not lena.told("shape")
+    gate.kill_viewd()
+    admin, = await enter(http, gate, "admin")
+    assert admin.told("shape") == [shape]
+    await admin.leave()
+
+
+@test
+async def places_are_given_back(gate: Gate, http: aiohttp.ClientSession):
+    """256 at once, the next is turned away, and a place that is left is taken again, with nothing of who had it."""
+    peers = await asyncio.gather(*[Peer.enter(http, gate.url, "mia-demo") for _ in range(256)])
+    assert all(peer.role == "mia" for peer in peers)
+    late, = await enter(http, gate, "mia")
+    assert (late.role, late.ws.close_code) == (None, 1013)
+    assert (await peers[17].ask(do="subscribe", on="tickets"))["ok"]
+    await peers[17].leave()
+    await asyncio.to_thread(eventually, lambda: gate.state()["sessions"] == 255)
+    again, = await enter(http, gate, "noah")
+    assert again.role == "noah" and (await peers[0].insert(3, "mia"))["ok"]
+    await quiet(again)
+    assert not again.told("changes") and len(await again.see("tickets")) == 4
+    await asyncio.gather(*[peer.leave() for peer in (*peers[:17], *peers[18:], again)])
+    await asyncio.to_thread(eventually, lambda: gate.state()["sessions"] == 0)
+
+
+@test
+async def on_disk_before_it_is_told(gate: None, http: aiohttp.ClientSession):
+    """In this process, with a sync that takes its time: nothing goes out between viewd's answer and the end of the sync."""
+    gate, order, held = Gate(start=False), [], threading.Event()
+    sync, send = os.fdatasync, engine.Client.send
+
+    def slow_sync(file):
+        order.append("sync")
+        held.wait(0.3)
+        sync(file)
+        order.append("synced")
+
+    def noted_send(client, message):
+        order.extend(key for key in ("ok", "changes") if f'"{key}":'.encode() in message)
+        return send(client, message)
+    os.fdatasync, engine.Client.send = slow_sync, noted_send
+    try:
+        runs = engine.Engine(VIEWD, journal.Journal(gate.journal))
+        desk = asyncio.create_task(gateway.Desk(runs, gate.tokens, TOP / "web").listen(gate.port))
+        work = asyncio.create_task(runs.run())
+        await desk
+        lena, mia = await enter(http, gate, "lena", "mia")
+        await mia.ask(do="subscribe", on="tickets")
+        await soon(lambda: mia.told("changes"))
+        for number in range(5):
+            order.clear()
+            assert (await lena.insert(number, "mia"))["ok"]
+            await soon(lambda: order.count("changes") == 1)
+            assert order[:2] == ["sync", "synced"] and sorted(order[2:]) == ["changes", "ok"], order
+            order.clear()
+            assert "error" in await mia.insert(number, "noah")
+            assert not order, order  # what was refused is not waited for
+        await leave(lena, mia)
+        work.cancel()
+        await asyncio.wait([work])
+    finally:
+        os.fdatasync, engine.Client.send = sync, send
+        gate.end()
+
+
+@test
+async def nothing_is_lost(gate: Gate, http: aiohttp.ClientSession):
+    """viewd and the gateway are killed in turn while clients write: each number that was acknowledged is there afterwards."""
+    done: set[int] = set()
+    sent, stop = iter(range(10_000, 10_000_000)), False
+
+    async def writer():
+        while not stop:
+            try:
+                peer, = await enter(http, gate, "lena")
+                reply = {"ok": True}
+                while not stop and "ok" in reply:
+                    number = next(sent)
+                    entries = [{"on": "tickets", "insert": [number, agent, "kept", True]} for agent in ("mia", "noah")]
+                    reply = await peer.ask(do="write", entries=entries)
+                    if "ok" in reply:
+                        done.add(number)
+                await peer.leave()
+            except (aiohttp.ClientError, ConnectionError):
+                await asyncio.sleep(0.02)
+
+    writers = [asyncio.create_task(writer()) for _ in range(10)]
+    for turn in range(8):
+        goal = len(done) + random.randrange(1, 120)
+        await soon(lambda: len(done) >= goal)
+        if turn % 2:
+            await asyncio.to_thread(gate.kill_viewd)
+        else:
+            gate.kill_gateway()
+            if turn == 4:
+                with gate.journal.open("ab") as torn:
+                    torn.write(b'{"role":"lena","do":"wri')
+            await asyncio.to_thread(gate.start)
+    stop = True
+    await asyncio.wait(writers, timeout=PATIENCE)
+    admin, = await enter(http, gate, "admin")
+    there: dict[int, list] = {}
+    for row, copies in (await admin.see("tickets")).items():
+        there.setdefault(row[0], []).append((row[1], copies))
+    lost = [number for number in done if sorted(there.get(number, [])) != [("mia", 1), ("noah", 1)]]
+    half = [number for number, rows in there.items() if number >= 10_000 and len(rows) != 2]
+    assert not lost and not half and "that was never acknowledged" in gate.said(), (len(lost), half)
+    print(f"    {len(done)} writes acknowledged across 4 kills of viewd and 4 of the gateway, 0 lost;"
+          f" {sum(n >= 10_000 for n in there) - len(done)} there without having been acknowledged")
+    await admin.leave()
+
+
+@test
+async def damaged_journals_are_refused(gate: None, http: aiohttp.ClientSession):
+    whole = (TOP / "desk.jsonl").read_bytes()
+    lines = whole.splitlines(keepends=True)
+
+    def refused(data: bytes) -> str:
+        gate = Gate(data, start=False)
+        gate.launch()
+        status, said = gate.ended()
+        assert status == 1 and "gateway: Damaged" in said and "Traceback" not in said, said
+        assert gate.journal.read_bytes() == data  # left as it is, for whoever mends it
+        gate.end()
+        return said.strip().splitlines()[-1]
+    for middle in (b"garbage\n", b"\0" * 100 + b"\n", b"[]\n", b"{}\n", lines[3][:30] + b"\n", b'{"role":"lena","do":"subscribe","on":"teams"}\n',
+                   b'{"role":1}\n', b'{"role":"admin","do":"create_role","name":"' + b"x" * 70_000 + b'"}\n', b"\n"):
+        said = refused(b"".join(lines[:5]) + middle + b"".join(lines[5:]))
+        assert "line 6 is no accepted request" in said, (middle[:40], said)
+    assert "leads to no state: viewd answers" in refused(b"".join(lines[:5] + lines[6:]))  # one line is gone
+    assert "leads to no state: viewd answers" in refused(b"".join(lines[4:]))  # the roles are
+    assert "leads to no state" in refused(b'{"role":"eve","do":"create_role","name":"ann"}\n')
+    for cut in (1, len(lines[-1]) - 1):
+        gate = Gate(whole[:-cut])
+        assert gate.journal.read_bytes() == b"".join(lines[:-1]) and gate.state()["journal"] == len(lines) - 1
+        second = Gate(journal=gate.journal, start=False)
+        second.launch()
+        assert second.ended()[0] == 1 and "another process writes this journal" in second.said()
+        second.end()
+        gate.end()
+    gate = Gate(b"")
+    assert gate.state()["journal"] == 0
+    gate.end()
+
+
+@test
+async def a_full_disk_ends_it(gate: Gate, http: aiohttp.ClientSession):
+    """The write that does not fit is told to nobody, and no part of it stays; all that was acknowledged does."""
+    lena, admin = await enter(http, gate, "lena", "admin")
+    await admin.ask(do="subscribe", on="tickets")
+    resource.prlimit(gate.process.pid, resource.RLIMIT_FSIZE, (gate.journal.stat().st_size + 2000,) * 2)
+    kept = []
+    for number in range(1000, 2000):
+        if "ok" not in await lena.insert(number, "mia", "y" * 100):
+            break
+        kept.append(number)
+    status, said = await asyncio.to_thread(gate.ended)
+    assert status == 1 and "File too large" in said and 5 < len(kept) < 20, (status, len(kept), said)
+    assert gate.journal.read_bytes().endswith(b"\n")
+    await admin.task
+    seen = [row[0] for row in admin.rows[1] if row[0] >= 1000]
+    await asyncio.to_thread(gate.start)
+    admin, = await enter(http, gate, "admin")
+    there = [row[0] for row in await admin.see("tickets") if row[0] >= 1000]
+    assert sorted(there) == sorted(seen) == kept, (kept, seen, there)
+    await admin.leave()
+
+
+@test
+async def compaction_keeps_the_state(gate: Gate, http: aiohttp.ClientSession):
+    """A journal that was written anew leads to what each role saw, by fewer lines."""
+    async def seen():
+        peers = await enter(http, gate, *ROLES)
+        got = [await peer.see(on) for peer in peers for on in ("tickets", "agents", "teams", "workload", "empty")]
+        got.append(peers[0].told("shape")[0])
+        await leave(*peers)
+        return got
+    admin, lena = await enter(http, gate, "admin", "lena")
+    await admin.ask(do="create_table", name="empty", owner="mia", columns=[["n", "int"]])
+    text = "\"\\ü\u0001" * 90
+    for number in range(300):
+        row = [number - 150, ["mia", "noah", "nobody"][number % 3], text, number % 2 == 0]
+        await lena.ask(do="write", entries=[{"on": "tickets", "insert": row, "copies": 1 + number % 5}])
+        if number % 3:
+            await lena.ask(do="write", entries=[{"on": "tickets", "delete": row}])
+    for request in ({"do": "revoke", "on": "agents", "privileges": ["select"], "to": "public"},
+                    {"do": "grant", "on": "agents", "privileges": ["select"], "to": "mia"},
+                    {"do": "revoke", "on": "teams", "privileges": ["delete", "select"], "to": "lena"},
+                    {"do": "create_policy", "on": "tickets", "name": "cover", "command": "select", "to": ["mia"], "using": "open = true"},
+                    {"do": "create_policy", "on": "tickets", "name": "gone", "using": "true"},
+                    {"do": "drop_policy", "on": "tickets", "name": "gone"}):
+        assert await lena.ask(**request) == {"ok": True}
+    await leave(admin, lena)
+    before = await seen()
+    words = ["/usr/bin/python3", TOP / "compact.py", gate.journal, VIEWD]
+    busy = subprocess.run(words, capture_output=True, text=True)
+    assert busy.returncode == 1 and "another process" in busy.stderr, busy
+    gate.kill_gateway()
+    was = gate.journal.read_bytes()
+    done = subprocess.run(words, capture_output=True, text=True)
+    assert done.returncode == 0, done.stderr
+    print("   ", done.stdout.split(": ")[1].strip())
+    assert len(gate.journal.read_bytes().splitlines()) < 40 < len(was.splitlines()) and gate.journal.stat().st_mode & 0o777 == 0o600
+    await asyncio.to_thread(gate.start)
+    assert await seen() == before
+    gate.kill_gateway()
+    again = gate.journal.read_bytes()
+    assert subprocess.run(words, capture_output=True).returncode == 0 and gate.journal.read_bytes() == again
+    gate.journal.write_bytes(was[:500] + b"\n" + was[500:])
+    damaged = subprocess.run(words, capture_output=True, text=True)
+    assert damaged.returncode == 1 and "no accepted request" in damaged.stderr and gate.journal.read_bytes() != again, damaged
+
+
+@test
+async def a_second_viewd_follows(gate: Gate, http: aiohttp.ClientSession):
+    """A gateway that follows the journal of another serves readers, and tells the same digest of as many lines."""
+    second = Gate(journal=gate.journal, words=("--follow",))
+    try:
+        lena, = await enter(http, gate, "lena")
+        mia, = await enter(http, second, "mia")
+        await mia.ask(do="subscribe", on="tickets")
+        await lena.ask(do="revoke", on="tickets", privileges=["insert"], to="mia")
+        assert (await lena.insert(900, "mia"))["ok"] and (await lena.insert(901, "noah"))["ok"]
+        await soon(lambda: (900, "mia", "x", True) in mia.rows[1])
+        assert await mia.insert(902, "mia") == {"error": 100}
+        await lena.ask(do="revoke", on="tickets", privileges=["select"], to="mia")
+        await soon(lambda: mia.told("ended"))
+        await lena.ask(do="grant", on="tickets", privileges=["select"], to="mia")
+        await soon(lambda: mia.told("granted"))
+        keys = ("journal", "bytes", "digest")
+        await asyncio.to_thread(eventually, lambda: [gate.state()[key] for key in keys] == [second.state()[key] for key in keys])
+        here, there = [await Peer.enter(http, it.url, "noah-demo") for it in (gate, second)]
+        assert await here.see("workload") == await there.see("workload")
+        await leave(lena, here, there)
+        gate.kill_gateway()
+        assert subprocess.run(["/usr/bin/python3", TOP / "compact.py", gate.journal, VIEWD], capture_output=True).returncode == 0
+        await mia.task  # the journal was replaced: the follower begins anew
+        await asyncio.to_thread(gate.start)
+        await asyncio.to_thread(eventually, lambda: second.state()["digest"] == gate.state()["digest"])
+        [mia] = await enter(http, second, "mia")
+        assert (900, "mia", "x", True) in await mia.see("tickets")
+        await mia.leave()
+    finally:
+        second.end()
+
+
+@test
+async def who_does_not_read_is_dropped(gate: Gate, http: aiohttp.ClientSession):
+    """A browser that does not read is dropped at a stated number of bytes; the others get their lines meanwhile."""
+    slow = socket.socket()
+    slow.setsockopt(socket.SOL_SOCKET, socket.SO_RCVBUF, 4096)
+    slow.connect(("127.0.0.1", gate.port))
+    key = base64.b64encode(os.urandom(16)).decode()
+    slow.sendall(f"GET /live HTTP/1.1\r\nHost: x\r\nUpgrade: websocket\r\nConnection: Upgrade\r\nSec-WebSocket-Version: 13\r\nSec-WebSocket-Key: {key}\r\n\r\n".encode())
+
+    def message(text: str) -> None:
+        data, mask = text.encode(), os.urandom(4)
+        slow.sendall(bytes([0x81, 0x80 | len(data)]) + mask + bytes(b ^ mask[i % 4] for i, b in enumerate(data)))
+    message("admin-demo")
+    message('{"do":"subscribe","on":"tickets"}')
+    admin, lena = await enter(http, gate, "admin", "lena")
+    await admin.ask(do="subscribe", on="tickets")
+    sent, written, began = 0, 0, time.monotonic()
+    while not gate.state()["dropped"]:
+        assert written < 4 * engine.BACKLOG, "never dropped"
+        sent += 1
+        entries = [{"on": "tickets", "insert": [500_000 + i, "noah", "s" * 1000, True]} for i in range(60)]
+        for turn in ("insert", "delete"):
+            for entry in entries:
+                entry[turn] = entry.pop("insert")
+            assert (await lena.ask(do="write" , entries=entries))["ok"] if turn == "insert" else True
+        await soon(lambda: (500_000, "noah", "s" * 1000, True) in admin.rows[1])
+        gone = [{"on": "tickets", "delete": [500_000 + i, "noah", "s" * 1000, True]} for i in range(60)]
+        assert (await admin.ask(do="write", entries=gone))["ok"]
+        written += 2 * 61_000
+    assert written > engine.BACKLOG and f"does not read: dropped at {engine.BACKLOG // 1_000_000}" in gate.said(), gate.said()
+    print(f"    dropped after {written / 1e6:.1f} MB, {time.monotonic() - began:.1f} s; the other reader had every line")
+    slow.close()
+    await leave(admin, lena)
+
+
+@test
+async def a_long_answer_drops_nobody(gate: Gate, http: aiohttp.ClientSession):
+    """What a browser asked for may be longer than the backlog: it is sent, and lines behind it are."""
+    lena, = await enter(http, gate, "lena")
+    rows = [[i, "noah", "s" * 1000, True] for i in range(60 * 110)]
+    for at in range(0, len(rows), 60):
+        await lena.ask(do="write", entries=[{"on": "tickets", "insert": row} for row in rows[at:at + 60]])
+    reader = await http.ws_connect(gate.url + "live", max_msg_size=0)
+    await reader.send_str("noah-demo")
+    await reader.send_str('{"do":"subscribe","on":"tickets"}')
+    # aiohttp's client reads ahead a little and then waits for us: the answer of 6.7 MB stands in the gateway
+    await asyncio.to_thread(eventually, lambda: gate.state()["sessions"] == 2)
+    for number in range(20):
+        await lena.insert(900_000 + number, "noah")
+    assert gate.state()["dropped"] == 0
+    seen = 0
+    while seen < len(rows) + 20 + 4:
+        for line in map(json.loads, (await reader.receive_str(timeout=PATIENCE)).split("\n")):
+            seen += len(line.get("changes", ()))
+    await reader.close()
+    await lena.leave()
+
+
+async def run(check) -> None:
+    gate = None if check.__annotations__["gate"] is None else Gate()
+    try:
+        async with aiohttp.ClientSession(connector=aiohttp.TCPConnector(limit=0)) as http:
+            await asyncio.wait_for(check(gate, http), 3 * PATIENCE)
+    except BaseException:
+        print(f"FAILED  {check.__name__}", gate.said()[-4000:] if gate else "", sep="\n")
+        raise
+    finally:
+        if gate:
+            gate.end()
+
+
+def main(names: list[str]) -> None:
+    for check in [it for it in TESTS if not names or it.__name__ in names]:
+        began = time.monotonic()
+        asyncio.run(run(check))
+        print(f"ok  {check.__name__}  {time.monotonic() - began:.1f} s", flush=True)
+
+
+if __name__ == "__main__":
+    main(sys.argv[1:])
