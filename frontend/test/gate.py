@@ -143,7 +143,8 @@ class Peer:
                 elif "role" in line:
                     self.role = line["role"]
         for lost in self.asked:
-            lost.set_result({"error": "lost"})
+            if not lost.done():
+                lost.set_result({"error": "lost"})
 
     def told(self, key: str) -> list:
         """The values of a key in all lines that came."""

@@ -485,19 +485,14 @@ async def who_does_not_read_is_dropped(gate: Gate, http: aiohttp.ClientSession):
     message('{"do":"subscribe","on":"tickets"}')
     admin, lena = await enter(http, gate, "admin", "lena")
     await admin.ask(do="subscribe", on="tickets")
-    sent, written, began = 0, 0, time.monotonic()
-    while not gate.state()["dropped"]:
+    rows = [[500_000 + number, "noah", "s" * 1000, True] for number in range(60)]
+    written, began = 0, time.monotonic()
+    while not (await asyncio.to_thread(gate.state))["dropped"]:
         assert written < 4 * engine.BACKLOG, "never dropped"
-        sent += 1
-        entries = [{"on": "tickets", "insert": [500_000 + i, "noah", "s" * 1000, True]} for i in range(60)]
-        for turn in ("insert", "delete"):
-            for entry in entries:
-                entry[turn] = entry.pop("insert")
-            assert (await lena.ask(do="write" , entries=entries))["ok"] if turn == "insert" else True
-        await soon(lambda: (500_000, "noah", "s" * 1000, True) in admin.rows[1])
-        gone = [{"on": "tickets", "delete": [500_000 + i, "noah", "s" * 1000, True]} for i in range(60)]
-        assert (await admin.ask(do="write", entries=gone))["ok"]
-        written += 2 * 61_000
+        for peer, turn in ((lena, "insert"), (admin, "delete")):
+            assert (await peer.ask(do="write", entries=[{"on": "tickets", turn: row} for row in rows]))["ok"]
+            await soon(lambda: (tuple(rows[0]) in admin.rows[1]) == (turn == "insert"))
+            written += 60 * 1000
     assert written > engine.BACKLOG and f"does not read: dropped at {engine.BACKLOG // 1_000_000}" in gate.said(), gate.said()
     print(f"    dropped after {written / 1e6:.1f} MB, {time.monotonic() - began:.1f} s; the other reader had every line")
     slow.close()
