@@ -32,15 +32,17 @@ export class Lost extends Error {}
 // Where a browser cannot tell the digits of a number (JSON.parse with source), they are put between quotes first; texts are
 // passed over whole.
 const LONG = /"(?:[^"\\]|\\.)*"|-?\d{16,}/g;
-const MARK = "\u0000"; // no text of viewd's has it
+const NUL = "\u0000"; // no text of viewd's has it
+const MARK = `${NUL}${Math.random()} `; // and what a person may have typed is not this
+const WRITTEN = new RegExp(`"\\\\u0000${MARK.slice(1).replace(".", "\\.")}(-?\\d+)"`, "g");
 export function parse(line) {
   if (!/\d{16}/.test(line)) return JSON.parse(line);
   const marked = line.replace(LONG, (found) => found[0] === '"' || Number.isSafeInteger(Number(found)) ? found : `"\\u0000${found}"`);
-  return JSON.parse(marked, (_, value) => typeof value === "string" && value.startsWith(MARK) ? BigInt(value.slice(1)) : value);
+  return JSON.parse(marked, (_, value) => typeof value === "string" && value.startsWith(NUL) ? BigInt(value.slice(1)) : value);
 }
 export function text(value) {
   const marked = JSON.stringify(value, (_, it) => typeof it === "bigint" ? MARK + it : it);
-  return marked.replace(/"\\u0000(-?\d+)"/g, "$1");
+  return marked.replaceAll(WRITTEN, "$1");
 }
 
 class Live {
@@ -125,7 +127,7 @@ export class Viewd {
     this.role = null;
     this.#bySub.clear();
     this.#changed.clear();
-    this.#replied = [];
+    for (const act of this.#replied.splice(0)) act();
     for (const {reject} of this.#asked.splice(0)) reject(new Lost("the connection went, so it may or may not have been done"));
     for (const live of this.#lives) Object.assign(live, {state: "waiting", sub: null});
     if (code === 4401) return this.#on.state("refused", reason);
@@ -204,10 +206,9 @@ export class Viewd {
   }
 
   #settle() {
-    const changed = [...this.#changed], replied = this.#replied;
+    const changed = [...this.#changed];
     this.#changed.clear();
-    this.#replied = [];
     for (const live of changed) live.show();
-    for (const act of replied) act();
+    for (const act of this.#replied.splice(0)) act();
   }
 }
