@@ -151,7 +151,7 @@ class Engine:
         while self.journal.follow:
             await asyncio.sleep(FOLLOW)
             if self.journal.replaced():
-                raise EOFError
+                return self.child.kill()  # the next one is told the journal anew
             await self.tell_journal()
 
     async def tell_journal(self) -> None:

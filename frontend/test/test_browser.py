@@ -1,0 +1,264 @@
+#!/usr/bin/python3
+"""The desk in a real browser: an administrator and two agents, each in a window of one Chromium.
+
+    frontend/test/test_browser.py [FOLDER FOR PICTURES]
+"""
+import pathlib
+import sys
+import tempfile
+import time
+
+from selenium import webdriver
+from selenium.webdriver.common.by import By
+from selenium.webdriver.common.keys import Keys
+from selenium.webdriver.support.ui import Select
+
+from gate import Gate, eventually
+
+GREATEST = (1 << 63) - 1
+
+
+class Desk:
+    """A window, signed in."""
+
+    def __init__(self, driver: webdriver.Chrome, url: str, token: str, size: tuple[int, int] = (1180, 900)):
+        driver.switch_to.new_window("window")
+        driver.set_window_size(*size)
+        self.driver, self.handle = driver, driver.current_window_handle
+        driver.get(f"{url}#token={token}" if token else url)
+
+    def __getattr__(self, name: str):
+        """What the driver can do, in this window."""
+        self.driver.switch_to.window(self.handle)
+        return getattr(self.driver, name)
+
+    def css(self, selector: str):
+        return self.find_element(By.CSS_SELECTOR, selector)
+
+    def click(self, selector: str) -> None:
+        """As a keyboard does: no scrolling, no other element in the way."""
+        self.css(selector).send_keys(Keys.SPACE)
+
+    def tickets(self) -> dict[int, tuple]:
+        """What stands in the table on the page: number to agent, subject and state."""
+        rows = self.execute_script("""return [...document.querySelectorAll('#tickets tbody tr:not(.gone)')].map(
+            (tr) => [...tr.cells].slice(0, 4).map((td) => td.textContent))""")
+        return {int(number): tuple(rest) for number, *rest in rows}
+
+    def numbers(self) -> list[int]:
+        return sorted(self.tickets())
+
+    def bars(self) -> dict[str, int]:
+        bars = self.execute_script("""return [...document.querySelectorAll('#chart g')].map(
+            (g) => [g.children[0].textContent, g.children[2].textContent, parseFloat(g.children[1].style.width)])""")
+        return {name: int(count) for name, count, width in bars if width > 0}
+
+    def state(self) -> str:
+        return self.css("#state").text
+
+    def toast(self) -> str:
+        return self.execute_script("return document.getElementById('toast').textContent")
+
+    def choose(self, selector: str, word: str) -> None:
+        Select(self.css(selector)).select_by_visible_text(word)
+
+    def type(self, selector: str, words: str) -> None:
+        field = self.css(selector)
+        field.clear()
+        field.send_keys(words)
+
+    def add(self, agent: str, subject: str) -> None:
+        self.choose("#new [name=agent]", agent)
+        self.type("#new [name=subject]", subject)
+        self.click("#new button")
+
+    def rights(self, what: str, on: str, to: str, *privileges: str) -> None:
+        for name in ("select", "insert", "update", "delete"):
+            if self.css(f"#rights [name={name}]").is_selected() != (name in privileges):
+                self.click(f"#rights [name={name}]")
+        self.choose("#rights [name=on]", on)
+        self.choose("#rights [name=to]", to)
+        self.click(f"#rights [value={what}]")
+
+    def policy(self, on: str, name: str, command: str, to: str, using: str) -> None:
+        for field, word in (("on", on), ("command", command), ("to", to)):
+            self.choose(f"#policy [name={field}]", word)
+        self.type("#policy [name=name]", name)
+        self.type("#policy [name=using]", using)
+        self.click("#policy button")
+
+    def say(self, request: dict) -> dict:
+        """What the connection of the page answers to a request that the page itself would not make."""
+        return self.execute_async_script("""const done = arguments[1];
+            window.viewd.db.request(arguments[0]).then(done, (why) => done(why.reply ?? {lost: why.message}))""", request)
+
+    def picture(self, file: pathlib.Path) -> None:
+        self.save_screenshot(str(file))
+
+
+class Test:
+    """The steps, in their order: each goes on where the one before it ended."""
+
+    def __init__(self, driver: webdriver.Chrome, gate: Gate, pictures: pathlib.Path):
+        self.driver, self.gate, self.pictures = driver, gate, pictures
+
+    def tokens(self) -> None:
+        door = Desk(self.driver, self.gate.url, "guessed", (600, 500))
+        eventually(lambda: "not known" in door.css("#turned").text)
+        door.type("#door input", "mia-demo" + Keys.ENTER)
+        eventually(lambda: door.state() == "live" and door.css("#role").text == "mia")
+        door.css("#out").send_keys(Keys.ENTER)
+        eventually(lambda: door.css("#door").is_displayed())
+
+    def three_roles(self) -> None:
+        self.admin = Desk(self.driver, self.gate.url, "admin-demo", (1280, 1240))
+        self.mia, self.noah = Desk(self.driver, self.gate.url, "mia-demo"), Desk(self.driver, self.gate.url, "noah-demo")
+        eventually(lambda: len(self.admin.numbers()) == 12 and self.mia.numbers() == [101, 102, 109])
+        eventually(lambda: self.noah.numbers() == [103, 104, 107, 112] and self.noah.bars() == {"noah": 4})
+        eventually(lambda: self.admin.bars() == {"noah": 4, "mia": 2, "olga": 2, "jun": 1, "ravi": 1} and self.mia.bars() == {"mia": 2})
+        assert "token" not in self.mia.current_url and self.admin.css("#admin").is_displayed() and not self.mia.css("#admin").is_displayed()
+
+    def writes(self) -> None:
+        subject = "Wrong <b>currency</b> & \"quotes\" \\ 12345678901234567890"
+        self.mia.add("mia", subject)
+        eventually(lambda: len(self.mia.numbers()) == 4 and len(self.admin.numbers()) == 13)
+        added = (set(self.mia.numbers()) - {101, 102, 109}).pop()
+        assert self.mia.tickets()[added] == self.admin.tickets()[added] == ("mia", subject, "open") and len(self.noah.numbers()) == 4
+        self.admin.add("noah", "Monitor stays black")
+        eventually(lambda: len(self.noah.numbers()) == 5 and self.noah.bars() == {"noah": 5} and len(self.mia.numbers()) == 4)
+        self.mia.add("noah", "for another")
+        eventually(lambda: "no permissive policy (14)" in self.mia.toast())
+
+    def keyboard(self) -> None:
+        """A ticket is closed and opened by keys alone: the row is another one, and the keyboard stays on it."""
+        button = self.mia.css("[aria-label='Close ticket 101']")
+        button.send_keys(Keys.ENTER)
+        eventually(lambda: self.mia.tickets()[101][2] == self.admin.tickets()[101][2] == "closed" and self.admin.bars()["mia"] == 2)
+        focused = lambda: self.mia.execute_script("return document.activeElement.getAttribute('aria-label')")
+        eventually(lambda: focused() == "Reopen ticket 101")
+        self.mia.switch_to.active_element.send_keys(Keys.SPACE)
+        eventually(lambda: self.mia.tickets()[101][2] == "open" and focused() == "Close ticket 101")
+
+    def policies(self) -> None:
+        mine = self.mia.numbers()
+        self.admin.policy("tickets", "cover", "select", "mia", "open = true")
+        openly = [number for number, row in self.admin.tickets().items() if row[2] == "open"]
+        eventually(lambda: self.mia.numbers() == sorted({*mine, *openly}) and self.mia.bars() == self.admin.bars())
+        eventually(lambda: "cover" in self.admin.css("#policies").text)
+        assert len(self.noah.numbers()) == 5
+        self.calm(self.mia, self.admin)
+        self.mia.picture(self.pictures / "desk_agent.png")
+        self.admin.picture(self.pictures / "desk_admin.png")
+        self.admin.click("[name=drop_cover]")
+        eventually(lambda: self.mia.numbers() == mine and self.mia.bars() == {"mia": 3})
+        self.admin.policy("tickets", "bad", "select", "mia", "opened = true")
+        eventually(lambda: "bad query (10), why unknown column, place 0" in self.admin.toast())
+        self.admin.click("[name=tickets_enable]")
+        eventually(lambda: len(self.mia.numbers()) == len(self.noah.numbers()) == len(self.admin.numbers()) == 14)
+        self.admin.click("[name=tickets_enable]")
+        eventually(lambda: self.mia.numbers() == mine and len(self.noah.numbers()) == 5)
+
+    def revokes(self) -> None:
+        mine = self.mia.numbers()
+        self.admin.rights("revoke", "tickets", "noah", "select")
+        eventually(lambda: self.noah.numbers() == [] and self.noah.bars() == {} and self.mia.numbers() == mine)
+        assert "was taken back" in self.noah.css("#none").text
+        self.admin.rights("grant", "tickets", "noah", "select")
+        eventually(lambda: len(self.noah.numbers()) == 5 and self.noah.bars() == {"noah": 5} and not self.noah.css("#none").is_displayed())
+
+    def forged(self) -> None:
+        for session in range(1, 8):
+            got = self.mia.say({"do": "grant", "on": "tickets", "privileges": ["delete"], "to": "mia", "session": session})
+            assert got == {"error": 12, "on": "tickets"}, got
+        assert self.mia.say({"do": "begin", "role": "admin"}) == self.mia.say({"do": "finish"}) == {"error": 2}
+
+    def long_numbers(self) -> None:
+        self.admin.execute_script("""window.viewd.db.request({do: 'write', entries: [9223372036854775807n, -9223372036854775808n].map(
+            (id) => ({on: 'tickets', insert: [id, 'mia', 'a long number', true], copies: 9007199254740993n}))})""")
+        eventually(lambda: {GREATEST, -GREATEST - 1} <= set(self.mia.numbers()))
+        assert self.mia.tickets()[GREATEST][1] == "a long number (×9007199254740993)"
+        self.admin.say({"do": "write", "entries": [{"on": "tickets", "insert": [77, "mia", "\u00001", True]}]})  # no text of viewd's, and no number
+        self.mia.css(f"[aria-label='Close ticket {GREATEST}']").send_keys(Keys.ENTER)
+        eventually(lambda: self.admin.tickets().get(GREATEST, "")[2] == "closed")
+        assert 77 not in self.admin.tickets()
+
+    def kills(self) -> None:
+        before = {desk: desk.tickets() for desk in (self.admin, self.mia, self.noah)}
+        self.gate.kill_viewd()
+        eventually(lambda: all(desk.state() == "live" and desk.tickets() == rows for desk, rows in before.items()))
+        self.gate.kill_gateway()
+        eventually(lambda: all("not connected" in desk.state() or desk.state() == "connecting" for desk in before))
+        eventually(lambda: "not connected" in self.mia.state())
+        assert "stale" in self.mia.css("main").get_attribute("class") and self.mia.tickets() == before[self.mia]
+        assert "not sent" in self.mia.say({"do": "subscribe", "on": "tickets"})["lost"]
+        self.gate.start()
+        eventually(lambda: all(desk.state() == "live" and desk.tickets() == rows for desk, rows in before.items()))
+        self.admin.add("mia", "After the crash")
+        eventually(lambda: "After the crash" in [row[1] for row in self.mia.tickets().values()])
+
+    def dark_and_narrow(self) -> None:
+        """On a phone at night: no text on its own color, nothing wider than the window."""
+        self.mia.set_window_size(390, 844)
+        device = {"width": 390, "height": 844, "deviceScaleFactor": 1, "mobile": True}
+        self.mia.execute_cdp_cmd("Emulation.setDeviceMetricsOverride", device)
+        self.mia.execute_cdp_cmd("Emulation.setEmulatedMedia", {"features": [{"name": "prefers-color-scheme", "value": "dark"}]})
+        assert self.mia.execute_script("return document.documentElement.scrollWidth <= window.innerWidth"), "wider than the window"
+        colors = self.mia.execute_script("""return ['body', 'section', 'button', 'button.main', 'input.long', 'select', '.pill', '.pill.open', '.state'].map((at) => {
+            const node = document.querySelector('#desk ' + at) ?? document.querySelector(at), style = getComputedStyle(node);
+            let under = node;
+            while (getComputedStyle(under).backgroundColor === 'rgba(0, 0, 0, 0)') under = under.parentElement;
+            return [at, style.color, getComputedStyle(under).backgroundColor]})""")
+        for at, ink, back in colors:
+            assert contrast(ink, back) > 4.5, (at, ink, back)
+        self.calm(self.mia)
+        self.mia.picture(self.pictures / "desk_phone.png")
+
+    def no_errors(self) -> None:
+        wrong = [it for it in self.driver.get_log("browser") if it["level"] == "SEVERE" and "WebSocket" not in it["message"]]
+        assert not wrong, wrong
+
+    def calm(self, *desks: Desk) -> None:
+        """Waits for the ends of the animations, and takes the last words away, for a picture."""
+        for desk in desks:
+            eventually(lambda: desk.execute_script("return document.getAnimations().every((it) => it.playState === 'finished')"))
+            desk.execute_script("document.getElementById('toast').className = ''; document.activeElement.blur()")
+
+
+def contrast(one: str, two: str) -> float:
+    """As WCAG 2 counts it, of two colors `rgb(r, g, b)`."""
+    def light(color: str) -> float:
+        parts = [int(part) / 255 for part in color[color.index("(") + 1:-1].split(",")[:3]]
+        red, green, blue = (part / 12.92 if part <= 0.04045 else ((part + 0.055) / 1.055) ** 2.4 for part in parts)
+        return 0.2126 * red + 0.7152 * green + 0.0722 * blue
+    high, low = sorted((light(one), light(two)), reverse=True)
+    return (high + 0.05) / (low + 0.05)
+
+
+def main(pictures: pathlib.Path) -> None:
+    options = webdriver.ChromeOptions()
+    for word in ("--headless=new", "--no-sandbox", "--disable-gpu", "--disable-dev-shm-usage"):
+        options.add_argument(word)
+    gate, driver = Gate(), webdriver.Chrome(options=options)
+    try:
+        driver.set_script_timeout(60)
+        test = Test(driver, gate, pictures)
+        for step in (test.tokens, test.three_roles, test.writes, test.keyboard, test.policies, test.revokes, test.forged, test.long_numbers,
+                     test.kills, test.dark_and_narrow, test.no_errors):
+            began = time.monotonic()
+            step()
+            print(f"ok  in Chromium: {step.__name__}  {time.monotonic() - began:.1f} s", flush=True)
+    except BaseException:
+        print(f"FAILED  {step.__name__}", gate.said()[-2000:], sep="\n")
+        print(driver.get_log("browser"))
+        raise
+    finally:
+        driver.quit()
+        gate.end()
+
+
+if __name__ == "__main__":
+    if len(sys.argv) > 1:
+        main(pathlib.Path(sys.argv[1]))
+    else:
+        with tempfile.TemporaryDirectory() as folder:
+            main(pathlib.Path(folder))
