@@ -48,8 +48,8 @@ async def quiet(peer: Peer) -> None:
 
 
 async def settled(peer: Peer) -> None:
-    """Forgets the lines that came, once all of them did: behind a message of the gateway's first, and behind each reply."""
-    await soon(lambda: len(peer.told("settled")) == 1 + len(peer.told("ok")) + len(peer.told("error")))
+    """Forgets the lines that came, once the mark behind the last reply is there."""
+    await soon(lambda: not peer.lines or "settled" in peer.lines[-1])
     peer.lines.clear()
 
 
@@ -167,14 +167,14 @@ async def lines_have_marks(gate: Gate, http: aiohttp.ClientSession):
     await soon(lambda: len(mia.told("settled")) == 2)
     keys = [" ".join(sorted(line)) for line in mia.lines]
     assert keys == ["id ok sub", "changes sub", "settled"] * 2, keys
-    mia.lines.clear()
-    lena.lines.clear()
+    await settled(mia)
+    await settled(lena)
     await lena.insert(50, "mia")
     await soon(lambda: mia.told("settled"))
     assert [line.get("sub") for line in mia.lines] == [1, 2, None] and mia.lines[-1] == {"settled": True}, mia.lines
     await soon(lambda: lena.told("settled"))
     assert lena.lines == [{"ok": True}, {"settled": True}]
-    mia.lines.clear()
+    await settled(mia)
     await lena.ask(do="revoke", on="tickets", privileges=["select"], to="mia")
     await soon(lambda: mia.told("settled"))
     assert [(line.get("ended"), line.get("on"), line.get("sub")) for line in mia.lines] == [
@@ -182,7 +182,7 @@ async def lines_have_marks(gate: Gate, http: aiohttp.ClientSession):
     assert mia.rows == {1: {}, 2: {}}
     assert await mia.ask(do="unsubscribe", sub=2) == {"error": 19}
     assert await mia.ask(do="subscribe", on="tickets") == {"error": 13, "on": "tickets", "privilege": "select"}
-    mia.lines.clear()
+    await settled(mia)
     await lena.ask(do="grant", on="tickets", privileges=["select"], to="mia")
     await soon(lambda: mia.told("settled"))
     assert mia.lines == [{"granted": "tickets"}, {"settled": True}] and not admin.told("granted"), mia.lines

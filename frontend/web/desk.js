@@ -206,7 +206,7 @@ $("policy").onsubmit = (event) => {
 $("new").onsubmit = async (event) => {
   event.preventDefault();
   const form = event.target.elements;
-  const id = 1000 + Math.floor(Math.random() * 9_000_000); // viewd has no keys: a number that hidden rows lack can only be guessed
+  const id = 1000 + Math.floor(Math.random() * 99_000); // viewd has no keys: a number that hidden rows lack can only be guessed
   if (await write({insert: [id, form.agent.value, form.subject.value, true]})) form.subject.value = "";
 };
 
