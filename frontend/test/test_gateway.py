@@ -477,6 +477,9 @@ async def who_does_not_read_is_dropped(gate: Gate, http: aiohttp.ClientSession):
     slow.connect(("127.0.0.1", gate.port))
     key = base64.b64encode(os.urandom(16)).decode()
     slow.sendall(f"GET /live HTTP/1.1\r\nHost: x\r\nUpgrade: websocket\r\nConnection: Upgrade\r\nSec-WebSocket-Version: 13\r\nSec-WebSocket-Key: {key}\r\n\r\n".encode())
+    answer = b""
+    while b"\r\n\r\n" not in answer:
+        answer += await asyncio.to_thread(slow.recv, 4096)
 
     def message(text: str) -> None:
         data, mask = text.encode(), os.urandom(4)
@@ -485,6 +488,7 @@ async def who_does_not_read_is_dropped(gate: Gate, http: aiohttp.ClientSession):
     message('{"do":"subscribe","on":"tickets"}')
     admin, lena = await enter(http, gate, "admin", "lena")
     await admin.ask(do="subscribe", on="tickets")
+    await asyncio.to_thread(eventually, lambda: gate.state()["sessions"] == 3)
     rows = [[500_000 + number, "noah", "s" * 1000, True] for number in range(60)]
     written, began = 0, time.monotonic()
     while not (await asyncio.to_thread(gate.state))["dropped"]:

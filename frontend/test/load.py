@@ -1,0 +1,199 @@
+#!/usr/bin/python3
+"""How many readers and writes a second the gateway carries, and what of it is viewd's. The figures of docs/OPERATING.md.
+
+    frontend/test/load.py                                        the table of OPERATING: 1, 50 and 200 readers
+    frontend/test/load.py --readers 200 --rate 300 --seconds 10  one line of it; rate 0: as fast as they are answered
+
+Each write adds a ticket and takes an old one away. The time is that from when a write was due to its reply, and to the
+last reader's line of it. Readers stand in processes of their own, on this machine. Then the journal: how long a start
+takes by its length, and what a compaction makes of it.
+"""
+import argparse
+import asyncio
+import json
+import multiprocessing
+import os
+import pathlib
+import re
+import subprocess
+import tempfile
+import time
+
+import aiohttp
+
+from gate import TOP, VIEWD, Gate, Peer
+
+CAME = re.compile(r"\[1,\[(\d+),")
+FIRST, KEPT = 100_000, 500  # the number of the first ticket, and how many are there at a time
+WINDOW = 32  # writes without a reply
+TICK = os.sysconf("SC_CLK_TCK")
+JOURNAL = 100_000  # writes in the journal whose start is timed
+
+
+def readers(url: str, tokens: list[str], pipe) -> None:
+    """One process: tells when all are subscribed, and at the end when each ticket came last, and to how many."""
+    async def read(ws: aiohttp.ClientWebSocketResponse, last: dict, count: dict, ready: asyncio.Event) -> None:
+        marks = 0
+        async for message in ws:
+            now = time.monotonic()
+            for number in map(int, CAME.findall(message.data)):
+                last[number] = now
+                count[number] = count.get(number, 0) + 1
+            marks += message.data.count('"settled"')
+            if marks > 1:  # behind the role, and behind the subscription's first rows
+                ready.set()
+
+    async def run() -> None:
+        last: dict[int, float] = {}
+        count: dict[int, int] = {}
+        async with aiohttp.ClientSession(connector=aiohttp.TCPConnector(limit=0)) as http:
+            tasks = []
+            for token in tokens:
+                ws, ready = await http.ws_connect(url + "live", max_msg_size=0), asyncio.Event()
+                await ws.send_str(token)
+                await ws.send_str('{"do":"subscribe","on":"tickets"}')
+                tasks.append(asyncio.create_task(read(ws, last, count, ready)))
+                await ready.wait()
+            last.clear()
+            count.clear()
+            pipe.send("ready")
+            await asyncio.to_thread(pipe.recv)
+            for task in tasks:
+                task.cancel()
+        pipe.send((last, count))
+    asyncio.run(run())
+
+
+def processor(pid: int) -> float:
+    """Seconds of processor that a process has taken."""
+    fields = pathlib.Path(f"/proc/{pid}/stat").read_text().rsplit(")", 1)[1].split()
+    return (int(fields[11]) + int(fields[12])) / TICK
+
+
+def ticket(number: int) -> list:
+    return [number, "mia", "The quick brown fox", True]
+
+
+def change(number: int) -> list[dict]:
+    return [{"on": "tickets", "insert": ticket(number)}, {"on": "tickets", "delete": ticket(number - KEPT)}]
+
+
+class Crew:
+    """The readers: half of them see the table by a policy, half as its owner."""
+
+    def __init__(self, url: str, size: int, processes: int = 2):
+        tokens = [("mia-demo", "lena-demo")[number % 2] for number in range(size)]
+        self.members = []
+        for number in range(min(size, processes)):
+            ours, theirs = multiprocessing.Pipe()
+            process = multiprocessing.Process(target=readers, args=(url, tokens[number::processes], theirs), daemon=True)
+            process.start()
+            self.members.append((ours, process))
+
+    async def ready(self) -> None:
+        for ours, _ in self.members:
+            assert await asyncio.to_thread(ours.recv) == "ready"
+
+    async def end(self) -> tuple[dict[int, float], dict[int, int]]:
+        last: dict[int, float] = {}
+        count: dict[int, int] = {}
+        for ours, process in self.members:
+            ours.send("end")
+            one, many = await asyncio.to_thread(ours.recv)
+            for number, at in one.items():
+                last[number] = max(last.get(number, 0), at)
+                count[number] = count.get(number, 0) + many[number]
+            process.join()
+        return last, count
+
+
+async def write_all(lena: Peer, rate: float, seconds: float) -> tuple[dict[int, float], dict[int, float], float]:
+    """When each ticket was due, when its write was answered, and how long all took."""
+    due: dict[int, float] = {}
+    replied: dict[int, float] = {}
+    room, tasks, began = asyncio.Semaphore(WINDOW), [], time.monotonic()
+
+    async def write(number: int) -> None:
+        reply = await lena.ask(do="write", entries=change(number))
+        assert reply.get("ok"), reply
+        replied[number] = time.monotonic()
+        room.release()
+
+    while time.monotonic() < began + seconds:
+        number = FIRST + KEPT + len(due)
+        if rate:
+            await asyncio.sleep(max(0.0, began + len(due) / rate - time.monotonic()))
+        await room.acquire()
+        due[number] = began + len(due) / rate if rate else time.monotonic()
+        tasks.append(asyncio.create_task(write(number)))
+    await asyncio.gather(*tasks)
+    return due, replied, time.monotonic() - began
+
+
+async def measure(size: int, rate: float, seconds: float) -> dict:
+    gate = Gate()
+    try:
+        async with aiohttp.ClientSession() as http:
+            lena = await Peer.enter(http, gate.url, "lena-demo")
+            for at in range(0, KEPT, 100):
+                await lena.ask(do="write", entries=[{"on": "tickets", "insert": ticket(FIRST + at + number)} for number in range(100)])
+            crew = Crew(gate.url, size)
+            await crew.ready()
+            pids = {"gateway": gate.process.pid, "viewd": gate.state()["viewd"]}
+            before = {name: processor(pid) for name, pid in pids.items()}
+            due, replied, wall = await write_all(lena, rate, seconds)
+            used = {name: processor(pid) - before[name] for name, pid in pids.items()}
+            await asyncio.sleep(2)
+            last, count = await crew.end()
+            await lena.leave()
+    finally:
+        gate.end()
+    short = [number for number in due if count.get(number, 0) != size]
+    assert not short, f"{len(short)} of {len(due)} writes did not reach all"
+    to_reply = sorted((replied[number] - due[number]) * 1000 for number in due)
+    to_last = sorted((last.get(number, replied[number]) - due[number]) * 1000 for number in due)
+
+    def at(times: list[float], *parts: float) -> list[float]:
+        return [round(times[min(len(times) - 1, int(len(times) * part))], 1) for part in parts]
+    return {"readers": size, "rate": rate or "most", "writes/s": round(len(due) / wall), "lines/s": round(len(due) * size / wall),
+            "reply ms p50 p95": at(to_reply, 0.5, 0.95), "last line ms p50 p95 p99": at(to_last, 0.5, 0.95, 0.99),
+            "processor %": {name: round(value / wall * 100) for name, value in used.items()}, "load": round(os.getloadavg()[0], 1)}
+
+
+def starts() -> None:
+    """Times a start by a long journal, and by the same one after a compaction."""
+    with tempfile.NamedTemporaryFile("w+b") as long:
+        long.write((TOP / "desk.jsonl").read_bytes())
+        for number in range(FIRST, FIRST + JOURNAL):
+            entries = change(number) if number >= FIRST + KEPT else change(number)[:1]
+            long.write(json.dumps({"role": "lena", "do": "write", "entries": entries}, separators=(",", ":")).encode() + b"\n")
+        long.seek(0)
+        gate = Gate(long.read(), start=False)
+    for turn in ("as it grew", "compacted"):
+        began = time.monotonic()
+        gate.start()
+        took = time.monotonic() - began
+        state = gate.state()
+        print(f"journal {turn}: {state['journal']} lines, {state['bytes'] / 1e6:.1f} MB, ready after {took:.1f} s", flush=True)
+        gate.kill_gateway()
+        if turn == "as it grew":
+            began = time.monotonic()
+            subprocess.run([TOP / "compact.py", gate.journal, VIEWD], check=True, stdout=subprocess.DEVNULL)
+            print(f"compaction: {time.monotonic() - began:.1f} s", flush=True)
+    gate.end()
+
+
+def main(given: argparse.Namespace) -> None:
+    rates = {None: [(1, 100), (1, 0), (50, 100), (50, 0), (200, 20), (200, 100), (200, 300), (200, 0)]}.get(given.readers, [(given.readers, given.rate)])
+    for size, rate in rates:
+        print(json.dumps(asyncio.run(measure(size, rate, given.seconds))), flush=True)
+    if given.readers is None:
+        starts()
+
+
+if __name__ == "__main__":
+    words = argparse.ArgumentParser(description=__doc__.splitlines()[0])
+    words.add_argument("--readers", type=int)
+    words.add_argument("--rate", type=float, default=100, help="writes a second; 0: as fast as they are answered")
+    words.add_argument("--seconds", type=float, default=10)
+    main(words.parse_args())
