@@ -67,6 +67,7 @@ class Client:
         if not waiting:
             self.allowance = BACKLOG
         if waiting > self.allowance:
+            log.warning("session %d of %s does not read: dropped at %d bytes", self.session, self.role, waiting)
             self.drop()
             return False
         self.allowance += self.asked_bytes
@@ -185,7 +186,7 @@ class Engine:
             del rest[:end + 1]
             if self.news:
                 news, self.news = self.news, []
-                await asyncio.get_running_loop().run_in_executor(None, self.journal.commit, news)
+                await self.journal.commit(news)
             self.release()
         raise EOFError
 
@@ -292,9 +293,7 @@ class Engine:
                 continue
             if lines not in frames:
                 frames[lines] = frame(b"\n".join(lines))
-            if not client.send(frames[lines]):
-                log.warning("session %d of %s does not read: dropped at %d bytes", client.session, client.role, client.behind())
-                self.dropped += 1
+            self.dropped += not client.send(frames[lines])
         self.pending.clear()
         self.made.clear()
 
@@ -306,11 +305,7 @@ class Engine:
             return False
         client.session = self.free.pop()
         self.clients[client.session] = client
-        if await self.call(client.session, {"do": "begin", "role": client.role}, client):
-            return True
-        del self.clients[client.session]
-        self.free.append(client.session)
-        return False
+        return await self.call(client.session, {"do": "begin", "role": client.role}, client)
 
     def leave(self, client: Client) -> None:
         client.gone = True

@@ -18,7 +18,7 @@ import tomllib
 from aiohttp import WSMsgType, web
 
 from engine import Client, Engine
-from journal import LINE, Damaged, Journal, replace
+from journal import LINE, Damaged, Journal
 
 HELLO = 5.0  # seconds to send a token
 
@@ -35,7 +35,7 @@ class Desk:
         """Roles by the SHA-256 of their tokens. The file is read at each entry, so a token can be added or taken away."""
         roles = tomllib.loads(self.tokens.read_text())["tokens"]
         if wrong := [key for key in roles if not re.fullmatch("[0-9a-f]{64}", key)]:
-            raise ValueError(f"{self.tokens}: {len(wrong)} keys are no SHA-256 in hexadecimal digits")
+            raise ValueError(f"{len(wrong)} keys are no SHA-256 in hexadecimal digits")
         return roles
 
     def role(self, token: str) -> str | None:
@@ -94,11 +94,12 @@ class Desk:
 
 async def main(given: argparse.Namespace) -> None:
     os.umask(0o077)
-    if given.seed and not given.follow and not given.journal.exists():
-        replace(given.journal, [given.seed.read_bytes()])
-    engine = Engine(given.viewd, Journal(given.journal, given.follow))
+    engine = Engine(given.viewd, Journal(given.journal, given.follow, given.seed))
     desk = Desk(engine, given.tokens, given.web)
-    desk.roles()
+    try:
+        desk.roles()
+    except (KeyError, ValueError) as why:
+        sys.exit(f"gateway: {given.tokens}: {why}")
     await desk.listen(given.port)
     while True:
         await engine.run()
@@ -122,5 +123,7 @@ if __name__ == "__main__":
         pass
     except BlockingIOError:
         sys.exit("gateway: another process writes this journal")
-    except (Damaged, OSError, ValueError, KeyError) as why:
-        sys.exit(f"gateway: {type(why).__name__}: {why}")
+    except Damaged as why:
+        sys.exit(f"gateway: damaged: {why}")
+    except OSError as why:
+        sys.exit(f"gateway: {why}")

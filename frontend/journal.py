@@ -3,6 +3,7 @@
 A line is the request without its session and with the role that made it: `{"role":"mia","do":"write","entries":[..]}`.
 A viewd that begins empty and is told these lines is in the state that they lead to, and refuses none of them.
 """
+import asyncio
 import contextlib
 import dataclasses
 import fcntl
@@ -93,13 +94,15 @@ class Shape:
 class Journal:
     """A file of accepted requests. One process at a time writes it; others may follow."""
 
-    def __init__(self, path: pathlib.Path, follow: bool = False):
-        """Raises BlockingIOError where another process writes this journal."""
+    def __init__(self, path: pathlib.Path, follow: bool = False, seed: pathlib.Path | None = None):
+        """Raises BlockingIOError where another process writes this journal. A missing one begins with the seed."""
         self.path, self.follow = path, follow
         if not follow:
             # The lock is a file of its own, as a compaction puts another file in the journal's place.
             self.lock = path.with_name(path.name + ".lock").open("w")
             fcntl.flock(self.lock, fcntl.LOCK_EX | fcntl.LOCK_NB)
+            if seed and not path.exists():
+                replace(path, [seed.read_bytes()])
             self.file = os.open(path, os.O_WRONLY | os.O_APPEND | os.O_CREAT, 0o600)
             self._cut()
             sync_folder(path)
@@ -149,19 +152,22 @@ class Journal:
         now = self.path.stat()
         return now.st_ino != self.inode or now.st_size < self.end
 
-    def commit(self, lines: list[bytes]) -> None:
+    async def commit(self, lines: list[bytes]) -> None:
         """Returns when the lines are on disk. Raises OSError, and then none of them stands in the file."""
-        data = memoryview(b"".join(lines))
+        await asyncio.get_running_loop().run_in_executor(None, self._write, b"".join(lines))
+        for line in lines:
+            self._note(line)
+
+    def _write(self, data: bytes) -> None:
+        rest = memoryview(data)
         try:
-            while data:
-                data = data[os.write(self.file, data):]
+            while rest:
+                rest = rest[os.write(self.file, rest):]
             os.fdatasync(self.file)
         except OSError:
             with contextlib.suppress(OSError):
                 os.ftruncate(self.file, self.end)
             raise
-        for line in lines:
-            self._note(line)
 
 
 def replace(path: pathlib.Path, lines: Iterable[bytes], check: Callable[[pathlib.Path], None] = lambda fresh: None) -> None:
