@@ -17,6 +17,7 @@ from journal import BODY, SHARED, Damaged, Journal, Shape, by_role, by_session, 
 SESSIONS = 256  # viewd has no more
 SPARE = 16  # by which the journal is told; clients have them, where it is told before they come
 BACKLOG = 4 << 20  # bytes that may wait for one browser beyond what it asked for; who lets more wait is dropped
+MESSAGES = 20_000  # a second, at most: 200 browsers are sent one each 10 ms, with all lines that came meanwhile
 IN_FLIGHT = 32  # requests of one browser without a reply; its next ones stay in its socket
 FOLLOW = 0.05  # seconds between two looks at a journal that another gateway writes
 MOST = (1 << 63) - 1  # the greatest number of a subscription: viewd never comes to it
@@ -187,7 +188,7 @@ class Engine:
             if self.news:
                 news, self.news = self.news, []
                 await self.journal.commit(news)
-            self.release()
+            await asyncio.sleep(self.release() / MESSAGES)  # while lines gather for the next ones
         raise EOFError
 
     def take(self, line: bytes) -> None:
@@ -284,9 +285,10 @@ class Engine:
             for client in clients:
                 self.put(client, text)
 
-    def release(self) -> None:
-        """One message to each client that has lines. Who has the same lines is sent the same bytes."""
+    def release(self) -> int:
+        """Sends one message to each client that has lines, and counts them. Who has the same lines is sent the same bytes."""
         frames: dict[tuple[bytes, ...], bytes] = {}
+        sent = 0
         for client in self.pending | self.touched:
             lines, client.lines = tuple(client.lines), []
             if client.gone or not lines:
@@ -294,8 +296,10 @@ class Engine:
             if lines not in frames:
                 frames[lines] = frame(b"\n".join(lines))
             self.dropped += not client.send(frames[lines])
+            sent += 1
         self.pending.clear()
         self.made.clear()
+        return sent
 
     async def enter(self, client: Client) -> bool:
         """Begins a session. False where none is free, or the role is not there."""
