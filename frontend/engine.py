@@ -67,7 +67,7 @@ class Client:
         waiting = self.behind()
         if not waiting:
             self.allowance = BACKLOG
-        if waiting > self.allowance:
+        if waiting > self.allowance or self.transport.is_closing():  # a ping was not answered, and bytes still wait
             log.warning("session %d of %s does not read: dropped at %d bytes", self.session, self.role, waiting)
             self.drop()
             return False

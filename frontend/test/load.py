@@ -6,7 +6,7 @@
 
 Each write adds a ticket and takes an old one away. The time is that from when a write was due to its reply, and to the
 last reader's line of it. Readers stand in processes of their own, on this machine. Then the journal: how long a start
-takes by its length, and what a compaction makes of it.
+takes by its length, and what a compaction makes of it; and what viewd takes of memory.
 """
 import argparse
 import asyncio
@@ -183,12 +183,49 @@ def starts() -> None:
     gate.end()
 
 
+def memory() -> None:
+    """What viewd takes for sessions and subscriptions of one role, to a table of 500 rows."""
+    viewd = subprocess.Popen([VIEWD, "replay"], stdin=subprocess.PIPE, stdout=subprocess.PIPE)
+
+    def tell(**request) -> None:
+        viewd.stdin.write(json.dumps(request).encode() + b"\n-\n")
+        viewd.stdin.flush()
+        while viewd.stdout.readline() != b'{"error":1}\n':
+            pass
+
+    def kilobytes() -> int:
+        return int(re.search(r"VmRSS:\s+(\d+)", pathlib.Path(f"/proc/{viewd.pid}/status").read_text())[1])
+
+    sessions = {"admin": 1}
+    tell(do="begin", role="admin", session=1)
+    for entry in map(json.loads, (TOP / "desk.jsonl").read_text().splitlines()):
+        if (role := entry.pop("role")) not in sessions:
+            sessions[role] = 2
+            tell(do="begin", role=role, session=2)
+        tell(**entry, session=sessions[role])
+    tell(do="write", session=2, entries=[{"on": "tickets", "insert": ticket(FIRST + number)} for number in range(KEPT)])
+    seen = [kilobytes()]
+    for session in range(3, 253):
+        tell(do="begin", role="mia", session=session)
+    seen.append(kilobytes())
+    tell(do="subscribe", on="tickets", session=3)
+    seen.append(kilobytes())
+    for session in range(4, 253):
+        for _ in range(16):
+            tell(do="subscribe", on="tickets", session=session)
+    seen.append(kilobytes())
+    viewd.kill()
+    print(f"memory of viewd: {seen[0]} kB with {KEPT} rows; {(seen[1] - seen[0]) / 250:.1f} kB a session, {seen[2] - seen[1]} kB for a first"
+          f" subscription, {(seen[3] - seen[2]) / 249 / 16:.2f} kB for each further one of its role", flush=True)
+
+
 def main(given: argparse.Namespace) -> None:
     rates = {None: [(1, 100), (1, 0), (50, 100), (50, 0), (200, 20), (200, 100), (200, 300), (200, 0)]}.get(given.readers, [(given.readers, given.rate)])
     for size, rate in rates:
         print(json.dumps(asyncio.run(measure(size, rate, given.seconds))), flush=True)
     if given.readers is None:
         starts()
+        memory()
 
 
 if __name__ == "__main__":
