@@ -50,6 +50,8 @@ def tokens(roles: tuple[str, ...] = ROLES) -> str:
 class Gate:
     """A gateway with a journal in a folder of its own. It begins as the support desk, or with `lines`."""
 
+    running: list["Gate"] = []
+
     def __init__(self, lines: bytes | None = None, journal: pathlib.Path | None = None, words: tuple[str, ...] = (), start: bool = True):
         self.folder = tempfile.TemporaryDirectory(prefix="desk.")
         here = pathlib.Path(self.folder.name)
@@ -64,6 +66,7 @@ class Gate:
         self.words = ["--viewd", VIEWD, "--journal", self.journal, "--tokens", self.tokens, "--port", str(self.port), *words]
         self.log = (here / "log").open("ab+")
         self.process: subprocess.Popen | None = None
+        self.running.append(self)
         if start:
             self.start()
 
@@ -106,6 +109,7 @@ class Gate:
         return self.process.wait(PATIENCE), self.said()
 
     def end(self) -> None:
+        self.running.remove(self)
         if self.process and self.process.poll() is None:
             self.kill_gateway()
         self.log.close()

@@ -559,7 +559,7 @@ async def run(check) -> None:
         print(f"FAILED  {check.__name__}", gate.said()[-4000:] if gate else "", sep="\n")
         raise
     finally:
-        if gate:
+        for gate in list(Gate.running):
             gate.end()
 
 
