@@ -11,6 +11,7 @@ import json
 import logging
 import pathlib
 import struct
+from typing import NoReturn
 
 from journal import BODY, SHARED, Damaged, Journal, Shape, by_role, by_session, to_text
 
@@ -234,7 +235,7 @@ class Engine:
             ask.done.set_result(ok)
         if client is None:
             if not ok:
-                raise Damaged(f"{self.journal.path} leads to no state: viewd answers {line.decode()} to {ask.request}")
+                self.refused(ask, line)
         elif do == "begin":
             if ok:
                 self.put(client, to_text({"role": client.role}))
@@ -249,6 +250,14 @@ class Engine:
             self.answer(client, ask, line, ok)
         if ok and do in SHARED:
             self.changed(ask.request)
+
+    def refused(self, ask: Ask, line: bytes) -> NoReturn:
+        """What another viewd accepted is refused here alone for the limits of a view that is read here alone."""
+        if not (self.journal.follow and self.clients and line.startswith(b'{"error":17')):
+            raise Damaged(f"{self.journal.path} leads to no state: viewd answers {line.decode()} to {ask.request}")
+        log.warning("line %d of the journal is beyond the limits of what a client reads: all begin anew", self.journal.lines)
+        self.child.kill()
+        raise EOFError
 
     def answer(self, client: Client, ask: Ask, line: bytes, ok: bool) -> None:
         """Gives the reply to a client, in its own numbers."""

@@ -20,7 +20,7 @@ from aiohttp import WSMsgType, web
 from engine import Client, Engine
 from journal import LINE, Damaged, Journal
 
-HELLO = 5.0  # seconds to send a token
+HELLO = 10.0  # seconds to send a token
 
 log = logging.getLogger("gateway")
 

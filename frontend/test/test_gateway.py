@@ -471,6 +471,24 @@ async def a_second_viewd_follows(gate: Gate, http: aiohttp.ClientSession):
 
 
 @test
+async def a_follower_has_readers_of_its_own(gate: Gate, http: aiohttp.ClientSession):
+    """A write that passes where nobody reads a view of pairs, and not where somebody does: the follower takes it all the same."""
+    second = Gate(journal=gate.journal, words=("--follow",))
+    admin, = await enter(http, gate, "admin")
+    await admin.ask(do="create_table", name="ones", owner="admin", columns=[["k", "int"], ["x", "int"]])
+    await admin.ask(do="create_view", name="pairs", owner="admin", query="select a.x, b.x as y from ones a join ones b on a.k = b.k")
+    reader, = await enter(http, second, "admin")
+    await soon(lambda: any("pairs" in shape["relations"] for shape in reader.told("shape")))
+    assert (await reader.ask(do="subscribe", on="pairs"))["ok"]
+    assert await admin.ask(do="write", entries=[{"on": "ones", "insert": [1, x]} for x in range(257)]) == {"ok": True}
+    await reader.task  # 257 * 257 pairs are beyond the limits
+    reader, = await enter(http, second, "admin")
+    assert len(await reader.see("ones")) == 257 and await reader.see("pairs") == {"error": 17}
+    assert gate.state()["digest"] == second.state()["digest"]
+    await leave(admin, reader)
+
+
+@test
 async def who_does_not_read_is_dropped(gate: Gate, http: aiohttp.ClientSession):
     """A browser that does not read is dropped at a stated number of bytes; the others get their lines meanwhile."""
     slow = socket.socket()
