@@ -5,7 +5,7 @@ ghost use Rattle.iv_delta.specs.Sizes.{OfRows};
 ghost use Rattle.tests_steps.specs.Lines.{cells};
 
 use crate::pairs::on_first_columns;
-use crate::sets::{Seen, fill, row, seen_of};
+use crate::sets::{Seen, are_few, fill, row, seen_of};
 use iv_algebra::Agg;
 use iv_delta::{DeltaFault, GroupIndex, Join, KeyIndex, step_join};
 use iv_zset::{Meter, ZSet};
@@ -147,7 +147,7 @@ fn step_moving(
     requires out { out.now ≡ [] }
     requires left_change { da.old ≡ [] }
 {
-    if move_rows(alloc, a, da, db, rows) {
+    if move_rows(alloc, a, da, db, rows) && are_few(da) && are_few(db) {
         step_join(alloc, join, a, b, out, da, db, CAP, &mut Meter::new())
     } else {
         Err(DeltaFault::Memory)
@@ -214,6 +214,8 @@ fn step_filled(
         && fill(alloc, out, false, &[1, 2, 1, 7], weight)
         && fill(alloc, da, false, &[1, 2], dx)
         && fill(alloc, db, false, &[1, 7], dy)
+        && are_few(da)
+        && are_few(db)
     {
         step_join(alloc, join, a, b, out, da, db, CAP, &mut Meter::new())
     } else {
