@@ -117,8 +117,10 @@ fn are_alike(a: &[Column], b: &[Column]) -> bool
 fn combined_plan(alloc: Global, op: SetOp, left: Plan, right: Plan) -> Result<Plan, AllocError>
     ensures { IfOk result (λ p. shape_of p ≡ combined_plan op (shape_of left) (shape_of right)) }
 {
-    let left = Box::new(alloc, left)?;
-    let right = Box::new(alloc, right)?;
+    let left = Box::new(alloc, left);
+    let right = Box::new(alloc, right);
+    let left = left?;
+    let right = right?;
     match op {
         SetOp::UnionAll => Ok(Plan::Union(left, right)),
         SetOp::Union => Ok(Plan::Distinct(Box::new(alloc, Plan::Union(left, right))?)),

@@ -169,6 +169,8 @@ fn pairs(
 fn joined(alloc: Global, left: From, right: From, on: &[Pair]) -> Result<From, BindFault>
     ensures { Gives from_of result (joined_at (from_of left) (from_of right) (map pair_tree on.now)) }
 {
+    let a = Box::new(alloc, left.plan);
+    let b = Box::new(alloc, right.plan);
     let n = left.scope.len();
     let mut scope = left.scope;
     let mut more = right.scope;
@@ -177,8 +179,8 @@ fn joined(alloc: Global, left: From, right: From, on: &[Pair]) -> Result<From, B
     let mut reached = left.reached;
     let mut more = right.reached;
     reached.append(&mut more)?;
-    let left = Box::new(alloc, left.plan)?;
-    let right = Box::new(alloc, right.plan)?;
+    let left = a?;
+    let right = b?;
     let plan = Plan::Join { left, right, pairs };
     Ok(From {
         plan,
