@@ -130,11 +130,13 @@ class Engine:
             self.ready.clear()
             for task in tasks:
                 task.cancel()
-            if self.child.returncode is None:
-                self.child.kill()
             clients, self.clients = self.clients, {}
             for client in clients.values():
                 client.drop()
+            if self.child.returncode is None:
+                self.child.kill()
+            self.child.stdin.close()
+            await self.child.wait()
 
     def tell(self, line: bytes, ask: Ask) -> None:
         self.asked.append(ask)

@@ -312,7 +312,7 @@ async def nothing_is_lost(gate: Gate, http: aiohttp.ClientSession):
 
     writers = [asyncio.create_task(writer()) for _ in range(10)]
     for turn in range(8):
-        goal = len(done) + random.randrange(1, 120)
+        goal = len(done) + random.randrange(1, 400)
         await soon(lambda: len(done) >= goal)
         if turn % 2:
             await asyncio.to_thread(gate.kill_viewd)
