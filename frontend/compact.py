@@ -1,19 +1,22 @@
 #!/usr/bin/python3
-"""Writes a journal anew, while no gateway writes it: the requests that make its roles, relations, rights and policies,
-and then the rows as they are now.
+"""Writes a journal anew: the requests that make its roles, relations, rights and policies, and then the rows as they are now.
 
     frontend/compact.py JOURNAL [VIEWD]
 
 viewd has no dump, so it is told the journal and the administrator subscribes to each table. What was written is read
 back by another viewd before it takes the journal's place. Where anything differs, the journal stays as it was.
+
+A file is written anew while no gateway writes it. Of a stream, redis://HOST:PORT/NAME, the lines are kept as a snapshot of the
+place to which it was read, gateways that start begin there, and what stands further behind goes; gateways run meanwhile.
 """
+import asyncio
 import json
 import pathlib
 import subprocess
 import sys
-from collections.abc import Iterator
+from collections.abc import Iterable, Iterator
 
-from journal import BODY, Damaged, Journal, Shape, by_role, replace, to_text
+from journal import BODY, Anew, Damaged, Journal, Shape, by_role, entry_of, replace, to_text
 
 ENTRIES = 1000  # of a write
 
@@ -41,7 +44,7 @@ class Viewd:
             raise Damaged(f"viewd answers {line} to {request} of {role}")
         return line, changes
 
-    def state(self, entries: Iterator[tuple[str, dict]]) -> tuple[Shape, Rows]:
+    def state(self, entries: Iterable[tuple[str, dict]]) -> tuple[Shape, Rows]:
         """Where the entries lead."""
         shape = Shape()
         for role, request in entries:
@@ -93,12 +96,40 @@ def main(path: pathlib.Path, program: pathlib.Path) -> str:
     return f"{path}: {sum(1 for _ in now.entries())} lines of {now.end} bytes instead of {was} of {size}"
 
 
+async def snapshot(url: str, program: pathlib.Path) -> str:
+    """Reads to the end that the stream has now."""
+    from stream import Stream
+    stream = Stream(url)
+    entries: list[tuple[str, dict]] = []
+    end = await stream.last()
+    while stream.lines < end:
+        entries += [(it.role, it.request) for it in await stream.read() if it.request is not None]
+    if not entries:
+        raise Damaged(f"{stream.where} is empty")
+    before = Viewd(program).state(entries)
+    made = [line.rstrip(b"\n") for line in lines(*before)]
+    if Viewd(program).state([entry_of(line, "a line of the snapshot") for line in made]) != before:
+        raise Damaged(f"the snapshot leads to another state, so {stream.where} stays")
+    done = await stream.put_snapshot(made)
+    await stream.close()
+    return f"{stream.where}: " + (f"{len(made)} lines lead to the state of {stream.lines}" if done else f"there is a snapshot at {stream.lines} or later")
+
+
+def run(journal: str, program: pathlib.Path) -> str:
+    if "://" not in journal:
+        return main(pathlib.Path(journal), program)
+    try:
+        return asyncio.run(snapshot(journal, program))
+    except Anew as why:
+        raise Damaged(f"{why}: try again") from None
+
+
 if __name__ == "__main__":
     if not 2 <= len(sys.argv) <= 3:
         sys.exit(__doc__)
     here = pathlib.Path(__file__).resolve().parent
     try:
-        print(main(pathlib.Path(sys.argv[1]), pathlib.Path(sys.argv[2] if len(sys.argv) > 2 else here.parent / "viewd")))
+        print(run(sys.argv[1], pathlib.Path(sys.argv[2] if len(sys.argv) > 2 else here.parent / "viewd")))
     except BlockingIOError:
         sys.exit("compact: another process writes this journal")
     except (Damaged, OSError) as why:

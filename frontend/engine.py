@@ -3,108 +3,59 @@
 A request becomes one line to viewd, whatever it is, and one reply. Behind each line stands a fence, a line that viewd
 refuses by 1: so the answers come in blocks of a reply, the changes that the request brought, and the refusal that ends
 them. What changes shared state is in the journal, on disk, before a line that shows it goes to anyone.
+
+Behind a journal that gateways share, one engine decides. The others take in what it accepted, in its order, and a request
+of their clients that changes something goes to it by a name: it stands in the journal once, however often it was sent.
 """
 import asyncio
 import collections
 import dataclasses
+import hashlib
+import itertools
 import json
 import logging
 import pathlib
-import struct
-from typing import NoReturn
+import re
+import time
 
-from journal import BODY, SHARED, Damaged, Journal, Shape, by_role, by_session, to_text
+from client import BACKLOG, Ask, Client, Subscription, frame
+from journal import BODY, SHARED, Anew, Damaged, Entry, Log, Shape, by_role, by_session, to_text
 
 SESSIONS = 256  # viewd has no more
 SPARE = 16  # by which the journal is told; clients have them, where it is told before they come
-BACKLOG = 4 << 20  # bytes that may wait for one browser beyond what it asked for; who lets more wait is dropped
+PROBE, LOOK = SESSIONS + SPARE - 1, SESSIONS + SPARE  # two of them, for questions of the gateway's own
+SUBSCRIPTIONS = 16  # of a session
 MESSAGES = 20_000  # a second, at most: 200 browsers are sent one each 10 ms, with all lines that came meanwhile
-IN_FLIGHT = 32  # requests of one browser without a reply; its next ones stay in its socket
-FOLLOW = 0.05  # seconds between two looks at a journal that another gateway writes
+GATHERED = 4 << 20  # bytes that may wait to be sent, before viewd's next answers are read
+RETRY = 1.0  # seconds after which a request is sent to the writer again
+NOBODY = 0.2  # the same where nobody heard it
+GIVE_UP = 30.0  # seconds without an answer of a writer, after which a client is told nothing more, and dropped
+KNOWN = 10_000  # names of requests that are known when they come again, at least; as many as a snapshot leaves in a stream
 MOST = (1 << 63) - 1  # the greatest number of a subscription: viewd never comes to it
 ALLOWED = SHARED | {"subscribe", "unsubscribe"}  # `begin` and `finish` are the gateway's: by `begin` one chooses a role
 BAD_JSON, BAD_REQUEST, TOO_LONG = 1, 2, 22  # refusals of viewd, which the gateway gives for what viewd must not see
+LIMIT = b'{"error":17'
 READ_ONLY = 100  # and one of its own: this gateway follows the journal of another
+NAME = re.compile("[A-Za-z0-9_-]{1,64}")  # that a client gives to a request which it may send again
 FENCE = b"-\n"
 SETTLED = b'{"settled":true}'
+OK = b'{"ok":true}'
 
 log = logging.getLogger("engine")
-
-
-def frame(text: bytes) -> bytes:
-    """A whole message of a server (RFC 6455, 5.2). It is the same for each client, so one is made for many."""
-    size = len(text)
-    if size < 126:
-        return struct.pack("!BB", 0x81, size) + text
-    if size < 1 << 16:
-        return struct.pack("!BBH", 0x81, 126, size) + text
-    return struct.pack("!BBQ", 0x81, 127, size) + text
-
-
-@dataclasses.dataclass
-class Subscription:
-    number: int  # as its client counts: the numbers of viewd run through all sessions, and would tell of others
-    on: str
-
-
-class Client:
-    """A browser."""
-
-    def __init__(self, role: str, transport: asyncio.Transport):
-        self.role, self.transport, self.session, self.gone = role, transport, 0, False
-        self.subscriptions: dict[int, Subscription] = {}  # by the number that viewd gave
-        self.subscribed = 0
-        self.lines: list[bytes] = []  # what the next message will have
-        self.asked_bytes, self.allowance = 0, BACKLOG
-        self.flight = asyncio.Semaphore(IN_FLIGHT)
-        self.task = asyncio.current_task()
-
-    def behind(self) -> int:
-        """The bytes that wait for this browser to read."""
-        return self.transport.get_write_buffer_size()
-
-    def send(self, message: bytes) -> bool:
-        """Whether the browser could be kept. What it asked for itself may wait beside the backlog."""
-        waiting = self.behind()
-        if not waiting:
-            self.allowance = BACKLOG
-        if waiting > self.allowance or self.transport.is_closing():  # a ping was not answered, and bytes still wait
-            log.warning("session %d of %s does not read: dropped at %d bytes", self.session, self.role, waiting)
-            self.drop()
-            return False
-        self.allowance += self.asked_bytes
-        self.asked_bytes = 0
-        self.transport.write(message)
-        return True
-
-    def drop(self) -> None:
-        """Without a farewell, which would stand behind the backlog: the page connects and subscribes anew."""
-        self.gone = True
-        self.transport.abort()
-        self.task.cancel()
-
-
-@dataclasses.dataclass
-class Ask:
-    """A line that viewd was given and has not answered to its end."""
-
-    client: Client | None  # whose reply it is; none of the journal's lines, which have to be accepted
-    request: dict = dataclasses.field(default_factory=dict)
-    body: bytes = b""
-    name: bytes | None = None  # the client's `id`
-    refusal: int = 0  # what to reply, where the gateway has refused and viewd sees another fence
-    done: asyncio.Future[bool] | None = None
 
 
 class Engine:
     """The child: its sessions, the lines that it has to answer, and where each answer goes."""
 
-    def __init__(self, program: pathlib.Path, journal: Journal):
+    def __init__(self, program: pathlib.Path, journal: Log):
         self.program, self.journal = program, journal
         self.ready = asyncio.Event()
         self.clients: dict[int, Client] = {}
         self.child: asyncio.subprocess.Process | None = None
         self.dropped = 0
+        self.count = itertools.count(1)  # of what this gateway asks others
+        self.waiting: dict[str, Ask] = {}  # what another gateway decides for a client of this one, by its name
+        self.looking, self.writing = asyncio.Lock(), asyncio.Lock()
 
     async def run(self) -> None:
         """From the start of a viewd to its end. Raises Damaged, and OSError where the journal cannot be written."""
@@ -117,26 +68,54 @@ class Engine:
         self.pending: set[Client] = set()  # to whom lines of those before it go
         self.made: dict[tuple[bytes, int, str], bytes] = {}  # lines of changes, for all who are sent the same
         self.news: list[bytes] = []  # lines for the journal
-        self.free = list(range(SESSIONS - (SPARE if self.journal.follow else 0), 0, -1))
+        self.names: list[str] = []  # and their names
+        self.refusals: list[tuple[str, dict, bytes]] = []  # for other gateways
+        self.more, self.room, self.gathered = asyncio.Event(), asyncio.Event(), 0
+        self.open = asyncio.Event()  # clear while no client's request is taken: room is made for an entry, or gateways are compared
+        self.open.set()
+        self.taken, self.place, self.digest = 0, 0, ""  # accepted requests that viewd carried out, and those that others may know of
+        self.known: dict[str, None] = {}  # names of the last of them, the oldest first
+        self.deciding: set[str] = set()  # names of those that are not in the journal yet
+        self.turned: dict[tuple[str, str], int] = {}  # by asker and name, what was refused, with the asker's count
+        self.views = 0  # subscriptions to views, asked for or open
+        self.roles: dict[str, int] = {}  # sessions by which entries are told, the one that was used last at the end
+        self.overheard: list[bytes] = []  # changes of the gateway's own sessions
+        spare = SPARE if self.journal.follow or self.journal.shared else 0
+        self.free = list(range(SESSIONS - spare, 0, -1))
         self.child = await asyncio.create_subprocess_exec(
             self.program, "replay", "--lines", "4294967295",
             stdin=asyncio.subprocess.PIPE, stdout=asyncio.subprocess.PIPE, limit=1 << 20)
-        tasks = [asyncio.create_task(work) for work in (self.answers(), self.restore())]
+        work = [self.answers(), self.sends(), self.restore()]
+        if self.journal.shared:
+            work.append(self.hears())
+            if self.journal.may_write:
+                work.append(self.decides())
+        tasks = [asyncio.create_task(it) for it in work]
         try:
             await asyncio.gather(*tasks)
         except (EOFError, ConnectionError):
             log.warning("viewd %d ended with status %s", self.child.pid, await self.child.wait())
+        except Anew as why:
+            log.warning("viewd %d gives way to another: %s", self.child.pid, why)
         finally:
             self.ready.clear()
+            if not self.journal.shared:
+                await self.writing.acquire()  # so that a write that is under way stands in the file, before it is read again
+                self.writing.release()
             for task in tasks:
                 task.cancel()
             clients, self.clients = self.clients, {}
             for client in clients.values():
                 client.drop()
+            for ask in self.asked:  # somebody may wait for it who is no client
+                if ask.done:
+                    ask.done.cancel()
             if self.child.returncode is None:
                 self.child.kill()
             self.child.stdin.close()
             await self.child.wait()
+            await asyncio.gather(*tasks, return_exceptions=True)
+            await self.journal.release()
 
     def tell(self, line: bytes, ask: Ask) -> None:
         self.asked.append(ask)
@@ -149,36 +128,153 @@ class Engine:
         return await ask.done
 
     async def restore(self) -> None:
-        """Brings a fresh viewd to the state of the journal, each request by its role; then follows it, where it does."""
+        """Brings a fresh viewd to the state of the journal, each request by its role; then follows it, where another writes."""
         await self.tell_journal()
         self.ready.set()
         log.info("viewd %d is where the %d lines of the journal lead", self.child.pid, self.journal.lines)
         while self.journal.follow:
-            await asyncio.sleep(FOLLOW)
-            if self.journal.replaced():
-                return self.child.kill()  # the next one is told the journal anew
-            await self.tell_journal()
+            for entry in await self.journal.wait():
+                await self.take_in(entry)
+            if self.journal.lease:
+                await self.journal.sow()
+                await self.tell_journal()  # to its end: nobody else appends any more
+                self.journal.follow = False
+                log.info("this gateway writes, behind entry %d: lease %s", self.journal.lines, self.journal.lease.decode())
+        await self.journal.keep()
 
     async def tell_journal(self) -> None:
-        sessions: dict[str, int] = {}
+        """Returns when viewd has answered all lines of the journal that are there."""
+        while entries := await self.journal.read():
+            for entry in entries:
+                await self.take_in(entry)
+        if not (self.journal.follow or self.journal.shared):  # its clients will have these sessions
+            while self.roles:
+                self.tell(by_session(self.roles.popitem()[1], b'"do":"finish"'), Ask(None, {"do": "finish"}))
+        quiet = Ask(None, heard=lambda ok: None, done=asyncio.get_running_loop().create_future())
+        self.tell(FENCE, quiet)
+        await quiet.done
 
-        async def finish_all() -> None:
-            for session in sessions.values():
-                await self.call(session, {"do": "finish"})
-            sessions.clear()
+    def session_of(self, role: str) -> int:
+        """A session of the gateway's own in a role. The one that was not used for longest gives way to another."""
+        if role in self.roles:
+            session = self.roles.pop(role)
+        else:
+            session = SESSIONS + 1 + len(self.roles)
+            if session == PROBE:
+                session = self.roles.pop(next(iter(self.roles)))
+                self.tell(by_session(session, b'"do":"finish"'), Ask(None, {"do": "finish"}))
+            self.tell(by_session(session, to_text({"do": "begin", "role": role})[1:-1]), Ask(None))
+        self.roles[role] = session
+        return session
 
-        for role, request in self.journal.entries():
-            if role not in sessions:
-                if len(sessions) == SPARE:
-                    await finish_all()
-                sessions[role] = SESSIONS + 1 + len(sessions)
-                self.tell(by_session(sessions[role], to_text({"do": "begin", "role": role})[1:-1]), Ask(None))
-            self.tell(by_session(sessions[role], to_text(request)[1:-1]), Ask(None, request))
+    async def take_in(self, entry: Entry) -> None:
+        """Tells viewd what was accepted, in the session of the client that asked for it, where it is one of this gateway's."""
+        if entry.request is not None:
+            own = self.waiting.pop(entry.name, None) if entry.name else None
+            while not await self.told(entry, own):
+                self.open.clear()
+                await self.end_largest(entry)
+            self.open.set()
             await self.child.stdin.drain()
-        await finish_all()
+        self.know(entry.name)
+
+    async def told(self, entry: Entry, own: Ask | None) -> bool:
+        """Whether viewd took it in. It is waited for where somebody reads a view, which alone can outgrow the limits."""
+        body = to_text(entry.request)[1:-1]
+        ask = Ask(None, entry.request, body, entry=entry)
+        if own and not own.client.gone:
+            ask.client, ask.name = own.client, own.name
+        session = ask.client.session if ask.client else self.session_of(entry.role)
+        if self.views and self.journal.shared:
+            ask.done = asyncio.get_running_loop().create_future()
+        self.tell(by_session(session, body), ask)
+        if own and not own.outcome.done():
+            own.outcome.set_result(None)
+        return ask.done is None or await ask.done
+
+    def know(self, name: str) -> None:
+        self.deciding.discard(name)
+        if name:
+            self.known[name] = None
+            if len(self.known) > 2 * KNOWN:
+                self.known = dict.fromkeys(list(self.known)[-KNOWN:])
+
+    async def end_largest(self, entry: Entry) -> None:
+        """Ends all subscriptions of a role to the view that shows it the most rows, and tells their readers so."""
+        async with self.looking:
+            shown = await self.shown()
+        if not shown:
+            raise Damaged(f"{self.journal.where}: entry {entry.place} is beyond the limits, and nobody reads a view here")
+        size, role, on, rows = max(shown)
+        log.warning("entry %s is beyond the limits of a view that is read here: %s ends for %s, at %d rows", entry.place, on, role, size)
+        gone = to_text({"changes": [[-copies, row] for copies, row in rows]})[:-1]
+        for client in [it for it in self.clients.values() if it.role == role and not it.gone]:
+            for sub in [sub for sub, it in client.subscriptions.items() if it.view and it.on == on]:
+                number = self.unsubscribed(client, sub)
+                self.put(client, b'%s,"ended":"limit","on":"%s","sub":%d}' % (gone, on.encode(), number))
+                self.tell(by_session(client.session, b'"do":"unsubscribe","sub":%d' % sub), Ask(None, {"do": "unsubscribe"}))
+
+    async def shown(self) -> list[tuple[int, str, str, list]]:
+        """Of each view that is read here, by role: how many rows it shows, and which."""
+        shown = []
+        for role, on in {(client.role, it.on) for client in self.clients.values() if not client.gone
+                         for it in client.subscriptions.values() if it.view}:
+            self.overheard = []
+            session = await self.call(PROBE, {"do": "begin", "role": role}) and await self.call(PROBE, {"do": "subscribe", "on": on})
+            await self.call(PROBE, {"do": "finish"})
+            if session:
+                rows = [pair for line in self.overheard for pair in json.loads(line + b"}")["changes"]]
+                shown.append((len(rows), role, on, rows))
+        return shown
+
+    def unsubscribed(self, client: Client, sub: int) -> int:
+        """Forgets a subscription, and tells the number that its client knows."""
+        subscription = client.subscriptions.pop(sub)
+        self.views -= subscription.view
+        return subscription.number
+
+    def hold(self, seconds: float) -> None:
+        """Decides nothing for so long, where this gateway writes a stream: so that all who read it come to one place."""
+        if self.journal.shared and not self.journal.follow:
+            self.open.clear()
+            asyncio.get_running_loop().call_later(seconds, self.open.set)
+
+    async def tables(self) -> dict | None:
+        """A digest of tables, roles, grants and policies as they are at a place; the rows as viewd tells them to an
+        administrator. All questions are written at once, so nothing comes between. None where no session is free."""
+        async with self.looking:
+            child = self.child
+            while True:
+                seen: dict = {}
+
+                def note(ok: bool) -> None:
+                    seen.update(ok=ok, place=self.taken, names=self.shape.tables(), shape=json.dumps(dataclasses.asdict(self.shape), sort_keys=True))
+                names, self.overheard = self.shape.tables(), []
+                done = asyncio.get_running_loop().create_future()
+                for at in range(0, len(names) or 1, SUBSCRIPTIONS):
+                    self.tell(by_session(LOOK, b'"do":"begin","role":"admin"'), Ask(None, heard=note if at == 0 else lambda ok: None))
+                    for name in names[at:at + SUBSCRIPTIONS]:
+                        mark = b"\n" + name.encode()
+                        self.tell(by_session(LOOK, to_text({"do": "subscribe", "on": name})[1:-1]), Ask(None, heard=lambda ok, mark=mark: self.overheard.append(mark)))
+                    self.tell(by_session(LOOK, b'"do":"finish"'), Ask(None, heard=lambda ok: None))
+                self.tell(FENCE, Ask(None, heard=lambda ok: None, done=done))
+                await done
+                if not seen["ok"]:
+                    return None
+                if seen["names"] == names:
+                    break
+            while self.journal.shared and self.place < seen["place"]:  # what is not in the stream may yet be given up
+                await asyncio.sleep(0.01)
+                if self.child is not child:
+                    return None
+            return {"place": seen["place"], "digest": hashlib.sha256(seen["shape"].encode() + b"".join(self.overheard)).hexdigest()}
+
+    def state(self) -> dict:
+        """What administrators are told: of a journal that gateways share, the place that viewd has taken in."""
+        return self.journal.state() | ({"journal": self.place, "digest": self.digest} if self.journal.shared else {})
 
     async def answers(self) -> None:
-        """Sends lines out, after what they show is on disk: one sync for all that viewd has answered by then."""
+        """Takes what viewd answers, as long as not too much of it waits to be sent."""
         rest = bytearray()
         while chunk := await self.child.stdout.read(1 << 20):
             rest += chunk
@@ -188,11 +284,55 @@ class Engine:
             for line in bytes(rest[:end]).split(b"\n"):
                 self.take(line)
             del rest[:end + 1]
+            self.more.set()
+            if self.gathered > GATHERED:
+                self.room.clear()
+                await self.room.wait()
+        raise EOFError
+
+    async def sends(self) -> None:
+        """Sends lines out, after what they show is on disk: one sync for all that viewd has answered by then."""
+        while True:
+            await self.more.wait()
+            self.more.clear()
+            frames = self.frames()
+            refusals, self.refusals = self.refusals, []
             if self.news:
                 news, self.news = self.news, []
-                await self.journal.commit(news)
-            await asyncio.sleep(self.release() / MESSAGES)  # while lines gather for the next ones
-        raise EOFError
+                names, self.names = self.names, []
+                async with self.writing:
+                    await self.journal.commit(news, names)
+                for name in names:
+                    self.know(name)
+                self.place, self.digest = self.journal.lines, self.journal.digest
+            if refusals:
+                await self.journal.answer(refusals)
+            sent = self.release(frames)
+            self.room.set()
+            await asyncio.sleep(sent / MESSAGES)  # while lines gather for the next ones
+
+    async def hears(self) -> None:
+        """Takes what the writer refused of the requests of this gateway's clients: only the last time that it was asked counts."""
+        async for message in self.journal.answers():
+            head, text = message
+            ask = self.waiting.get(head["name"])
+            if ask and ask.asker == (self.journal.me, head["count"]) and not ask.outcome.done():
+                ask.outcome.set_result((head["place"], text))
+
+    async def decides(self) -> None:
+        """Tells viewd the requests of other gateways' clients, while this one has the lease that stood when they were sent."""
+        async for message in self.journal.asks():
+            head, body = message
+            await self.open.wait()
+            if self.journal.follow or head["lease"].encode() != self.journal.lease:
+                continue
+            name, role, asker = head["name"], head["role"], (head["from"], head["count"])
+            if name in self.known or name in self.deciding or self.turned.get((head["from"], name), 0) >= head["count"]:
+                continue  # it stands in the stream, will be decided, or was refused when it was asked again
+            if role in self.shape.roles and len(body) <= BODY and b"\n" not in body:  # as all that gateways send
+                self.deciding.add(name)
+                self.tell(by_session(self.session_of(role), body), Ask(None, json.loads(b"{%s}" % body), body, known_by=name, role=role, asker=asker))
+                await self.child.stdin.drain()
 
     def take(self, line: bytes) -> None:
         if self.answered is None:
@@ -211,6 +351,7 @@ class Engine:
 
     def put(self, client: Client, text: bytes) -> None:
         client.lines.append(text)
+        self.gathered += len(text)
         self.touched.add(client)
         if self.answered and self.answered.client is client:
             client.asked_bytes += len(text)
@@ -220,11 +361,13 @@ class Engine:
         head, _, tail = line.rpartition(b',"session":')
         session, _, sub = tail[:-1].partition(b',"sub":')
         if (client := self.clients.get(int(session))) is None:
+            if int(session) in (PROBE, LOOK):
+                self.overheard.append(head)
             return
         subscription, ended = client.subscriptions[int(sub)], ""
         if not head.endswith(b"]"):
             ended = subscription.on
-            del client.subscriptions[int(sub)]
+            self.unsubscribed(client, int(sub))
         made = (head, subscription.number, ended)
         if (text := self.made.get(made)) is None:
             more = b',"on":"%s"' % ended.encode() if ended else b""
@@ -235,9 +378,15 @@ class Engine:
         ok, client, do = line.startswith(b'{"ok":true'), ask.client, ask.request.get("do")
         if ask.done and not ask.done.done():
             ask.done.set_result(ok)
-        if client is None:
+        if ask.heard:
+            return ask.heard(ok)
+        if ask.asker and client is None:
+            self.decided(ask, line, ok)
+        elif client is None or ask.entry:
             if not ok:
-                self.refused(ask, line)
+                return self.refused(ask, line)
+            if client:
+                self.answer(client, ask, line, ok)
         elif do == "begin":
             if ok:
                 self.put(client, to_text({"role": client.role}))
@@ -247,35 +396,66 @@ class Engine:
         elif do == "finish":
             del self.clients[client.session]  # no line for it can follow, so its number may be taken again
             self.free.append(client.session)
+            self.views -= sum(it.view for it in client.subscriptions.values())
             return
         else:
             self.answer(client, ask, line, ok)
         if ok and do in SHARED:
-            self.changed(ask.request)
+            self.carried_out(ask)
 
-    def refused(self, ask: Ask, line: bytes) -> NoReturn:
+    def refused(self, ask: Ask, line: bytes) -> None:
         """What another viewd accepted is refused here alone for the limits of a view that is read here alone."""
-        if not (self.journal.follow and self.clients and line.startswith(b'{"error":17')):
-            raise Damaged(f"{self.journal.path} leads to no state: viewd answers {line.decode()} to {ask.request}")
+        if ask.entry and ask.done and line.startswith(LIMIT):
+            return  # who told it makes room
+        if not (self.journal.follow and self.clients and line.startswith(LIMIT)):
+            raise Damaged(f"{self.journal.where} leads to no state: viewd answers {line.decode()} to {ask.request}")
         log.warning("line %d of the journal is beyond the limits of what a client reads: all begin anew", self.journal.lines)
         self.child.kill()
         raise EOFError
 
+    def decided(self, ask: Ask, line: bytes, ok: bool) -> None:
+        """Keeps what another gateway's client asked for, which its gateway will read; or has it told that it is refused."""
+        if ok:
+            return self.accept(ask.role, ask)
+        self.deciding.discard(ask.known_by)
+        gateway, count = ask.asker
+        self.turned[gateway, ask.known_by] = count
+        if len(self.turned) > KNOWN:
+            del self.turned[next(iter(self.turned))]
+        self.refusals.append((gateway, {"name": ask.known_by, "count": count, "place": self.taken}, line))
+
+    def accept(self, role: str, ask: Ask) -> None:
+        self.news.append(by_role(role, ask.body))
+        self.names.append(ask.known_by)
+
     def answer(self, client: Client, ask: Ask, line: bytes, ok: bool) -> None:
         """Gives the reply to a client, in its own numbers."""
         client.flight.release()
-        reply = {"error": ask.refusal} if ask.refusal else json.loads(line)
+        reply = {"error": ask.refusal} if ask.refusal else json.loads(ask.given or line)
         reply.pop("session", None)
         if ok and ask.request["do"] == "subscribe":
             client.subscribed += 1
-            client.subscriptions[reply["sub"]] = Subscription(client.subscribed, ask.request["on"])
+            client.subscriptions[reply["sub"]] = Subscription(client.subscribed, ask.request["on"], ask.view)
             reply["sub"] = client.subscribed
         elif ok and ask.request["do"] == "unsubscribe":
-            del client.subscriptions[ask.request["sub"]]
-        elif ok:
-            self.news.append(by_role(client.role, ask.body))
+            self.unsubscribed(client, ask.request["sub"])
+        elif ok and not ask.entry:
+            self.accept(client.role, ask)
+        elif not ok:
+            self.views -= ask.view
+            self.deciding.discard(ask.known_by)
         text = to_text(reply)
         self.put(client, text if ask.name is None else b'%s,"id":%s}' % (text[:-1], ask.name))
+
+    def carried_out(self, ask: Ask) -> None:
+        """Counts what viewd has taken in. What is in the journal already may be told of."""
+        self.taken += 1
+        if ask.entry and ask.entry.place:
+            if self.place and ask.entry.place != self.place + 1:
+                raise Damaged(f"{self.journal.where}: entry {ask.entry.place} was told to viewd behind entry {self.place}")
+            self.taken = self.place = ask.entry.place
+            self.digest = ask.entry.digest
+        self.changed(ask.request)
 
     def changed(self, request: dict) -> None:
         """Takes in what was accepted, and tells a role of a relation that it may try again: viewd tells nobody."""
@@ -286,7 +466,11 @@ class Engine:
         match request:
             case {"do": "grant", "on": on, "to": to} | {"do": "create_table" | "create_view", "name": on, "owner": to}:
                 for client in self.clients.values():
-                    if to in ("public", client.role):
+                    if to in ("public", client.role) or self.shape.members:
+                        self.put(client, to_text({"granted": on}))
+            case {"do": "grant_role"}:
+                for client in self.clients.values():
+                    for on in self.shape.relations:
                         self.put(client, to_text({"granted": on}))
 
     def tell_shape(self, clients: list[Client]) -> None:
@@ -296,21 +480,28 @@ class Engine:
             for client in clients:
                 self.put(client, text)
 
-    def release(self) -> int:
-        """Sends one message to each client that has lines, and counts them. Who has the same lines is sent the same bytes."""
-        frames: dict[tuple[bytes, ...], bytes] = {}
-        sent = 0
+    def frames(self) -> list[tuple[Client, bytes]]:
+        """A message for each client that has lines. Who has the same lines is sent the same bytes."""
+        made: dict[tuple[bytes, ...], bytes] = {}
+        frames = []
         for client in self.pending | self.touched:
             lines, client.lines = tuple(client.lines), []
             if client.gone or not lines:
                 continue
-            if lines not in frames:
-                frames[lines] = frame(b"\n".join(lines))
-            self.dropped += not client.send(frames[lines])
-            sent += 1
+            if lines not in made:
+                made[lines] = frame(b"\n".join(lines))
+            frames.append((client, made[lines]))
         self.pending.clear()
         self.made.clear()
-        return sent
+        self.gathered = 0
+        return frames
+
+    def release(self, frames: list[tuple[Client, bytes]]) -> int:
+        """Sends messages, and counts them."""
+        for client, message in frames:
+            if not client.gone:
+                self.dropped += not client.send(message)
+        return len(frames)
 
     async def enter(self, client: Client) -> bool:
         """Begins a session. False where none is free, or the role is not there."""
@@ -340,6 +531,8 @@ class Engine:
             name = to_text(request.pop("id")) if "id" in request else None
             if not isinstance(do := request.get("do"), str) or do not in ALLOWED:
                 return Ask(client, name=name, refusal=BAD_REQUEST)
+            shared = self.journal.shared and do in SHARED
+            once = request.pop("once", None) if shared else None
             if do == "unsubscribe" and type(own := request.get("sub")) is int and 0 < own <= MOST:
                 request["sub"] = next((sub for sub, it in client.subscriptions.items() if it.number == own), MOST)
             body = to_text(request)[1:-1]
@@ -347,15 +540,59 @@ class Engine:
             return Ask(client, refusal=BAD_JSON)
         if len(body) > BODY:
             return Ask(client, name=name, refusal=TOO_LONG)
-        if self.journal.follow and do in SHARED:
+        if self.journal.follow and do in SHARED and not shared:
             return Ask(client, name=name, refusal=READ_ONLY)
-        return Ask(client, request, body, name)
+        if once is not None and not (isinstance(once, str) and NAME.fullmatch(once)):
+            return Ask(client, refusal=BAD_REQUEST, name=name)
+        ask = Ask(client, request, body, name)
+        if shared:
+            ask.known_by = f"{client.role}/{once}" if once else f"{self.journal.me}:{next(self.count)}"
+        if do == "subscribe":
+            ask.view = request.get("on") not in self.shape.tables()  # or is not known here yet
+            self.views += ask.view
+        return ask
 
     async def forward(self, client: Client, text: str) -> None:
         """One line to viewd whatever the text is, so that replies keep their places."""
         while client.behind() > BACKLOG:  # so that one who does not read cannot ask for more and more
             await asyncio.sleep(0.1)
         await client.flight.acquire()
+        await self.open.wait()
         ask = self.read(client, text)
-        self.tell(FENCE if ask.refusal else by_session(client.session, ask.body), ask)
+        if ask.known_by and not await self.decide(ask):
+            return
+        self.tell(FENCE if ask.refusal or ask.given else by_session(client.session, ask.body), ask)
         await self.child.stdin.drain()
+
+    async def decide(self, ask: Ask) -> bool:
+        """Whether viewd is to be told a request that changes something shared: here, where this gateway writes; and where it
+        was answered without viewd. Not where the journal has brought it."""
+        while ask.known_by in self.deciding or ask.known_by in self.waiting:  # another client has sent the same
+            await asyncio.sleep(0.01)
+        ask.outcome = asyncio.get_running_loop().create_future()
+        end = time.monotonic() + GIVE_UP
+        try:
+            while self.journal.follow and ask.known_by not in self.known and not ask.outcome.done():
+                if time.monotonic() > end:
+                    log.warning("nobody decides for session %d of %s: dropped", ask.client.session, ask.client.role)
+                    ask.client.drop()
+                    return False
+                self.waiting[ask.known_by] = ask
+                ask.asker = self.journal.me, next(self.count)
+                head = {"from": self.journal.me, "count": ask.asker[1], "name": ask.known_by, "role": ask.client.role}
+                heard = await self.journal.ask(head, ask.body)
+                await asyncio.wait([ask.outcome], timeout=RETRY if heard else NOBODY)
+        finally:
+            if self.waiting.get(ask.known_by) is ask:
+                del self.waiting[ask.known_by]
+        if ask.outcome.done():
+            if (refused := ask.outcome.result()) is None:
+                return False
+            place, ask.given = refused
+            while self.taken < place:  # so that the client sees what its request was refused for
+                await asyncio.sleep(0.005)
+        elif ask.known_by in self.known:
+            ask.given = OK
+        else:
+            self.deciding.add(ask.known_by)
+        return True

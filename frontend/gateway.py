@@ -12,15 +12,17 @@ import logging
 import os
 import pathlib
 import re
+import signal
 import sys
 import tomllib
 
 from aiohttp import WSMsgType, web
 
 from engine import Client, Engine
-from journal import LINE, Damaged, Journal
+from journal import LINE, Damaged, Journal, Log
 
 HELLO = 10.0  # seconds to send a token
+HOLD = 0.5  # seconds for which nothing is decided, while gateways are compared
 
 log = logging.getLogger("gateway")
 
@@ -68,13 +70,20 @@ class Desk:
         return ws
 
     async def state(self, request: web.Request) -> web.Response:
-        """How it goes, for administrators. Gateways of one journal agree where they tell the same digest of as many lines."""
+        """How it goes, for administrators. Gateways of one journal agree where they tell the same digest of as many lines.
+        With `?tables` there is a digest of what viewd holds, too, and the place at which it was taken. With `?hold` one that
+        writes a stream pauses, so that all can be asked at one place."""
         if self.role(request.headers.get("Authorization", "").removeprefix("Bearer ")) != "admin":
             raise web.HTTPForbidden()
-        engine, journal = self.engine, self.engine.journal
-        return web.json_response({
-            "ready": engine.ready.is_set(), "viewd": engine.child and engine.child.pid, "sessions": len(engine.clients),
-            "dropped": engine.dropped, "journal": journal.lines, "bytes": journal.end, "digest": journal.digest.hexdigest()})
+        engine = self.engine
+        state = {"ready": engine.ready.is_set(), "viewd": engine.child and engine.child.pid, "sessions": len(engine.clients),
+                 "dropped": engine.dropped}
+        if "hold" in request.query:
+            engine.hold(HOLD)
+        if "tables" in request.query:
+            await engine.ready.wait()
+            state["tables"] = await engine.tables()
+        return web.json_response(state | engine.state())
 
     async def page(self, request: web.Request) -> web.FileResponse:
         return web.FileResponse(self.folder / (request.path.strip("/") or "index.html"), headers={
@@ -92,27 +101,50 @@ class Desk:
         log.info("http://127.0.0.1:%d", port)
 
 
+def journal(given: argparse.Namespace) -> Log:
+    if "://" not in given.journal:
+        return Journal(pathlib.Path(given.journal), given.follow, given.seed)
+    try:
+        from stream import Stream
+    except ModuleNotFoundError as why:
+        raise OSError(f"{why}: apt-get install -y python3-redis") from None
+    return Stream(given.journal, not given.follow, given.lease, given.seed)
+
+
+def unexpected(loop: asyncio.AbstractEventLoop, context: dict) -> None:
+    """Says what went wrong beside all that is waited for; not that aiohttp pings a browser which is gone."""
+    if not isinstance(context.get("exception"), ConnectionError):
+        loop.default_exception_handler(context)
+
+
 async def main(given: argparse.Namespace) -> None:
     os.umask(0o077)
-    engine = Engine(given.viewd, Journal(given.journal, given.follow, given.seed))
+    engine = Engine(given.viewd, journal(given))
     desk = Desk(engine, given.tokens, given.web)
     try:
         desk.roles()
     except (KeyError, ValueError) as why:
         sys.exit(f"gateway: {given.tokens}: {why}")
     await desk.listen(given.port)
-    while True:
-        await engine.run()
-        await asyncio.sleep(0.2)
+    asyncio.get_running_loop().set_exception_handler(unexpected)
+    if engine.journal.shared:  # on its way out it gives the lease to another
+        asyncio.get_running_loop().add_signal_handler(signal.SIGTERM, asyncio.current_task().cancel)
+    try:
+        while True:
+            await engine.run()
+            await asyncio.sleep(0.2)
+    finally:
+        await engine.journal.close()
 
 
 if __name__ == "__main__":
     here = pathlib.Path(__file__).resolve().parent
     words = argparse.ArgumentParser(description="The front end of a viewd.")
     words.add_argument("--viewd", default=here.parent / "viewd", type=pathlib.Path, help="the program")
-    words.add_argument("--journal", required=True, type=pathlib.Path, help="made where it is missing")
+    words.add_argument("--journal", required=True, help="a file, made where it is missing; or redis://[:PASSWORD@]HOST:PORT/NAME")
     words.add_argument("--seed", type=pathlib.Path, help="what a journal begins with that is missing")
-    words.add_argument("--follow", action="store_true", help="another gateway writes this journal: serve readers alone")
+    words.add_argument("--follow", action="store_true", help="only another gateway writes this journal: serve readers alone")
+    words.add_argument("--lease", type=float, default=5.0, help="seconds without a sign of the writer, after which another gateway of a stream writes")
     words.add_argument("--tokens", required=True, type=pathlib.Path, help="TOML, a table [tokens]: SHA-256 of a token = role")
     words.add_argument("--web", default=here / "web", type=pathlib.Path, help="a folder of pages")
     words.add_argument("--port", type=int, default=8080, help="on 127.0.0.1")
@@ -121,6 +153,8 @@ if __name__ == "__main__":
         asyncio.run(main(words.parse_args()))
     except KeyboardInterrupt:
         pass
+    except asyncio.CancelledError:
+        sys.exit(143)
     except BlockingIOError:
         sys.exit("gateway: another process writes this journal")
     except Damaged as why:

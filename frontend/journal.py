@@ -2,24 +2,31 @@
 
 A line is the request without its session and with the role that made it: `{"role":"mia","do":"write","entries":[..]}`.
 A viewd that begins empty and is told these lines is in the state that they lead to, and refuses none of them.
+
+What the engine asks of a journal is `Log`. Here is the file, for one machine; stream.py has one for several.
 """
+import abc
 import asyncio
 import contextlib
 import dataclasses
 import fcntl
 import hashlib
+import itertools
 import json
 import logging
 import os
 import pathlib
 from collections.abc import Callable, Iterable, Iterator
+from typing import NamedTuple
 
 LINE = 65_536  # bytes of a line without its newline: viewd ends behind a longer one
 # What is left of a line for a request, whoever tells it: by the longest number of a session, or the longest role.
 BODY = LINE - max(len('{"session":4294967295,}'), len('{"role":"",}') + 63)
+FOLLOW = 0.05  # seconds between two looks at a file that another gateway writes
+PIECE = 1000  # entries that are read at a time
 PRIVILEGES = ("select", "insert", "update", "delete")
-SHARED = frozenset(("create_role", "create_table", "create_view", "grant", "revoke", "row_security", "create_policy",
-                    "drop_policy", "write"))
+SHARED = frozenset(("create_role", "create_table", "create_view", "grant", "revoke", "grant_role", "revoke_role", "row_security",
+                    "create_policy", "drop_policy", "write"))
 
 log = logging.getLogger("journal")
 
@@ -48,6 +55,7 @@ class Shape:
     """Roles, relations, rights and policies: what viewd knows and does not tell, folded from what it accepted."""
 
     roles: list[str] = dataclasses.field(default_factory=lambda: ["admin"])
+    members: list[list[str]] = dataclasses.field(default_factory=list)  # a role and its direct member, as they were granted
     relations: dict[str, dict] = dataclasses.field(default_factory=dict)  # as they were created, in that order
     grants: dict[str, dict[str, list[str]]] = dataclasses.field(default_factory=dict)  # relation, role, privileges
     row_security: dict[str, dict[str, bool]] = dataclasses.field(default_factory=dict)
@@ -57,6 +65,10 @@ class Shape:
         match request:
             case {"do": "create_role", "name": name}:
                 self.roles.append(name)
+            case {"do": "grant_role", "role": role, "to": to}:
+                self.members += [[role, to]] if [role, to] not in self.members else []
+            case {"do": "revoke_role", "role": role, "to": to}:
+                self.members = [pair for pair in self.members if pair != [role, to]]
             case {"do": "create_table" | "create_view", "name": name, "owner": owner}:
                 self.relations[name] = request
                 self.grants[name] = {owner: list(PRIVILEGES)}
@@ -76,9 +88,13 @@ class Shape:
         if not held and role != self.relations[on]["owner"]:
             del self.grants[on][role]
 
+    def tables(self) -> list[str]:
+        return [name for name, made in self.relations.items() if made["do"] == "create_table"]
+
     def requests(self) -> Iterator[dict]:
         """Requests of the administrator that bring an empty viewd to this shape."""
         yield from ({"do": "create_role", "name": name} for name in self.roles[1:])
+        yield from ({"do": "grant_role", "role": role, "to": to} for role, to in self.members)
         for name, made in self.relations.items():
             yield made
             for role, held in self.grants[name].items():
@@ -91,12 +107,79 @@ class Shape:
         yield from self.policies
 
 
-class Journal:
+class Entry(NamedTuple):
+    """An accepted request, as it is read. One without a request is a name alone, of a request that a snapshot has."""
+
+    role: str
+    request: dict | None
+    place: int | None = None  # how many there are with it, since the beginning; none within a snapshot
+    digest: str = ""  # of all lines up to this one
+    name: str = ""  # by which the same request is known when it is sent again
+
+
+class Anew(Exception):
+    """What viewd has taken in is not what the journal has from here on: another viewd is to be told it from its beginning."""
+
+
+class Log(abc.ABC):
+    """Accepted requests in an order that all who read them see. `lines` is a place in it: how many were read or written."""
+
+    where: str
+    follow: bool  # another gateway writes
+    shared = False  # gateways on several machines take turns in writing it, and send the writer what their clients ask for
+    lease: bytes | None = None  # by which this one may write what is shared
+    lines: int
+    end: int  # bytes
+
+    @abc.abstractmethod
+    def rewind(self) -> None:
+        """Goes back to the beginning."""
+
+    @abc.abstractmethod
+    async def read(self) -> list[Entry]:
+        """The entries that come next. None at the end. Raises Damaged, and Anew."""
+
+    @abc.abstractmethod
+    async def wait(self) -> list[Entry]:
+        """Of one that another gateway writes: the entries that come next, once there are any. None now and then."""
+
+    @abc.abstractmethod
+    async def commit(self, lines: list[bytes], names: list[str]) -> None:
+        """Appends lines behind the place where this one is, and returns when they last. Raises OSError and Anew, and then
+        nobody may be told of them."""
+
+    @abc.abstractmethod
+    def state(self) -> dict:
+        """What administrators are told."""
+
+    async def keep(self) -> None:
+        """Keeps the right to write, as long as it can be. Raises Anew then."""
+
+    async def release(self) -> None:
+        """Gives it to another."""
+
+    async def close(self) -> None:
+        """Ends what it has open."""
+
+
+def entry_of(line: bytes, where: str) -> tuple[str, dict]:
+    """Role and request of a line. Raises Damaged."""
+    try:
+        request = json.loads(line)
+        role = request.pop("role")
+        if request["do"] not in SHARED or len(line) > LINE:
+            raise ValueError
+    except (ValueError, KeyError, TypeError, AttributeError):
+        raise Damaged(f"{where} is no accepted request") from None
+    return role, request
+
+
+class Journal(Log):
     """A file of accepted requests. One process at a time writes it; others may follow."""
 
     def __init__(self, path: pathlib.Path, follow: bool = False, seed: pathlib.Path | None = None):
         """Raises BlockingIOError where another process writes this journal. A missing one begins with the seed."""
-        self.path, self.follow = path, follow
+        self.path, self.where, self.follow = path, str(path), follow
         if not follow:
             # The lock is a file of its own, as a compaction puts another file in the journal's place.
             self.lock = path.with_name(path.name + ".lock").open("w")
@@ -137,26 +220,32 @@ class Journal:
             for line in file:
                 if not line.endswith(b"\n"):
                     return  # it is being written
-                try:
-                    request = json.loads(line)
-                    role = request.pop("role")
-                    if request["do"] not in SHARED or len(line) > LINE + 1:
-                        raise ValueError
-                except (ValueError, KeyError, TypeError, AttributeError):
-                    raise Damaged(f"{self.path}: line {self.lines + 1} is no accepted request") from None
+                entry = entry_of(line[:-1], f"{self.path}: line {self.lines + 1}")
                 self._note(line)
-                yield role, request
+                yield entry
+
+    async def read(self) -> list[Entry]:
+        return [Entry(*entry) for entry in itertools.islice(self.entries(), PIECE)]
+
+    async def wait(self) -> list[Entry]:
+        await asyncio.sleep(FOLLOW)
+        if self.replaced():
+            raise Anew(f"another file stands at {self.path}")
+        return await self.read()
 
     def replaced(self) -> bool:
         """Whether another file, or a shorter one, stands where this one was read."""
         now = self.path.stat()
         return now.st_ino != self.inode or now.st_size < self.end
 
-    async def commit(self, lines: list[bytes]) -> None:
-        """Returns when the lines are on disk. Raises OSError, and then none of them stands in the file."""
+    async def commit(self, lines: list[bytes], names: list[str]) -> None:
+        """Returns when the lines are on disk. Raises OSError, and then none of them stands in the file: names are not kept."""
         await asyncio.get_running_loop().run_in_executor(None, self._write, b"".join(lines))
         for line in lines:
             self._note(line)
+
+    def state(self) -> dict:
+        return {"journal": self.lines, "bytes": self.end, "digest": self.digest.hexdigest()}
 
     def _write(self, data: bytes) -> None:
         rest = memoryview(data)

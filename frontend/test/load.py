@@ -3,6 +3,7 @@
 
     frontend/test/load.py                                        the table of OPERATING: 1, 50 and 200 readers
     frontend/test/load.py --readers 200 --rate 300 --seconds 10  one line of it; rate 0: as fast as they are answered
+    frontend/test/load.py --stream                               the tables of several gateways behind a stream of Redis
 
 Each write adds a ticket and takes an old one away. The time is that from when a write was due to its reply, and to the
 last reader's line of it. Readers stand in processes of their own, on this machine. Then the journal: how long a start
@@ -21,7 +22,7 @@ import time
 
 import aiohttp
 
-from gate import TOP, VIEWD, Gate, Peer
+from gate import TOP, VIEWD, Gate, Peer, eventually
 
 CAME = re.compile(r"\[1,\[(\d+),")
 FIRST, KEPT = 100_000, 500  # the number of the first ticket, and how many are there at a time
@@ -30,7 +31,7 @@ TICK = os.sysconf("SC_CLK_TCK")
 JOURNAL = 100_000  # writes in the journal whose start is timed
 
 
-def readers(url: str, tokens: list[str], pipe) -> None:
+def readers(seats: list[tuple[str, str]], pipe) -> None:
     """One process: tells when all are subscribed, and at the end when each ticket came last, and to how many."""
     async def read(ws: aiohttp.ClientWebSocketResponse, last: dict, count: dict, ready: asyncio.Event) -> None:
         marks = 0
@@ -48,7 +49,7 @@ def readers(url: str, tokens: list[str], pipe) -> None:
         count: dict[int, int] = {}
         async with aiohttp.ClientSession(connector=aiohttp.TCPConnector(limit=0)) as http:
             tasks = []
-            for token in tokens:
+            for url, token in seats:
                 ws, ready = await http.ws_connect(url + "live", max_msg_size=0), asyncio.Event()
                 await ws.send_str(token)
                 await ws.send_str('{"do":"subscribe","on":"tickets"}')
@@ -81,12 +82,12 @@ def change(number: int) -> list[dict]:
 class Crew:
     """The readers: half of them see the table by a policy, half as its owner."""
 
-    def __init__(self, url: str, size: int, processes: int = 2):
-        tokens = [("mia-demo", "lena-demo")[number % 2] for number in range(size)]
+    def __init__(self, urls: list[str], size: int, processes: int = 2):
+        seats = [(urls[number // 2 % len(urls)], ("mia-demo", "lena-demo")[number % 2]) for number in range(size)]
         self.members = []
         for number in range(min(size, processes)):
             ours, theirs = multiprocessing.Pipe()
-            process = multiprocessing.Process(target=readers, args=(url, tokens[number::processes], theirs), daemon=True)
+            process = multiprocessing.Process(target=readers, args=(seats[number::processes], theirs), daemon=True)
             process.start()
             self.members.append((ours, process))
 
@@ -107,14 +108,18 @@ class Crew:
         return last, count
 
 
-async def write_all(lena: Peer, rate: float, seconds: float) -> tuple[dict[int, float], dict[int, float], float]:
-    """When each ticket was due, when its write was answered, and how long all took."""
+async def write_all(writers: list[Peer], rate: float, seconds: float) -> tuple[dict[int, float], dict[int, float], float]:
+    """When each ticket was due, when its write was answered, and how long all took. One writer has many writes without a
+    reply, of several each has one."""
     due: dict[int, float] = {}
     replied: dict[int, float] = {}
+    idle = (writers * WINDOW)[:WINDOW]
     room, tasks, began = asyncio.Semaphore(WINDOW), [], time.monotonic()
 
     async def write(number: int) -> None:
-        reply = await lena.ask(do="write", entries=change(number))
+        writer = idle.pop(0)
+        reply = await writer.ask(do="write", entries=change(number))
+        idle.append(writer)
         assert reply.get("ok"), reply
         replied[number] = time.monotonic()
         room.release()
@@ -130,34 +135,116 @@ async def write_all(lena: Peer, rate: float, seconds: float) -> tuple[dict[int, 
     return due, replied, time.monotonic() - began
 
 
-async def measure(size: int, rate: float, seconds: float) -> dict:
-    gate = Gate()
+class Stream:
+    """A Redis, a gateway that writes to its stream, and others that serve readers."""
+
+    def __init__(self, gateways: int):
+        from store import Store
+        self.store = Store()
+        self.writer = Gate(journal=self.store.url, words=("--seed", TOP / "desk.jsonl"))
+        eventually(lambda: self.writer.state()["writes"])
+        self.readers = [Gate(journal=self.store.url, words=("--follow",)) for _ in range(gateways)]
+
+    def end(self) -> None:
+        for gate in [self.writer, *self.readers]:
+            gate.end()
+        self.store.end()
+
+
+async def fill(lena: Peer) -> None:
+    for at in range(0, KEPT, 100):
+        await lena.ask(do="write", entries=[{"on": "tickets", "insert": ticket(FIRST + at + number)} for number in range(100)])
+
+
+def parts(times: list[float], *parts: float) -> list[float]:
+    """Of times in milliseconds, those that so many parts do not exceed."""
+    return [round(sorted(times)[min(len(times) - 1, int(len(times) * part))], 1) for part in parts]
+
+
+async def measure(size: int, rate: float, seconds: float, gateways: int = 0) -> dict:
+    """Of one gateway with a file; or of so many that serve readers of a stream, beside the one that writes."""
+    stream = Stream(gateways) if gateways else None
+    gates = stream.readers if stream else [Gate()]
+    writer = stream.writer if stream else gates[0]
     try:
         async with aiohttp.ClientSession() as http:
-            lena = await Peer.enter(http, gate.url, "lena-demo")
-            for at in range(0, KEPT, 100):
-                await lena.ask(do="write", entries=[{"on": "tickets", "insert": ticket(FIRST + at + number)} for number in range(100)])
-            crew = Crew(gate.url, size)
+            lena = await Peer.enter(http, writer.url, "lena-demo")
+            await fill(lena)
+            writers = [await Peer.enter(http, gates[number % gateways].url, "lena-demo") for number in range(WINDOW)] if stream else [lena]
+            crew = Crew([gate.url for gate in gates], size)
             await crew.ready()
-            pids = {"gateway": gate.process.pid, "viewd": gate.state()["viewd"]}
-            before = {name: processor(pid) for name, pid in pids.items()}
-            due, replied, wall = await write_all(lena, rate, seconds)
-            used = {name: processor(pid) - before[name] for name, pid in pids.items()}
+            pids = {"gateway": [gate.process.pid for gate in gates], "viewd": [gate.state()["viewd"] for gate in gates]}
+            if stream:
+                pids |= {"writer": [writer.process.pid, writer.state()["viewd"]], "redis": [stream.store.process.pid]}
+            before = {name: sum(map(processor, those)) for name, those in pids.items()}
+            due, replied, wall = await write_all(writers, rate, seconds)
+            used = {name: sum(map(processor, those)) - before[name] for name, those in pids.items()}
             await asyncio.sleep(2)
             last, count = await crew.end()
             await lena.leave()
     finally:
-        gate.end()
+        stream.end() if stream else gates[0].end()
     short = [number for number in due if count.get(number, 0) != size]
     assert not short, f"{len(short)} of {len(due)} writes did not reach all"
-    to_reply = sorted((replied[number] - due[number]) * 1000 for number in due)
-    to_last = sorted((last.get(number, replied[number]) - due[number]) * 1000 for number in due)
+    to_reply = [(replied[number] - due[number]) * 1000 for number in due]
+    to_last = [(last.get(number, replied[number]) - due[number]) * 1000 for number in due]
+    return ({"gateways": gateways} if gateways else {}) | {
+        "readers": size, "rate": rate or "most", "writes/s": round(len(due) / wall), "lines/s": round(len(due) * size / wall),
+        "reply ms p50 p95": parts(to_reply, 0.5, 0.95), "last line ms p50 p95 p99": parts(to_last, 0.5, 0.95, 0.99),
+        "processor %": {name: round(value / wall * 100) for name, value in used.items()}, "load": round(os.getloadavg()[0], 1)}
 
-    def at(times: list[float], *parts: float) -> list[float]:
-        return [round(times[min(len(times) - 1, int(len(times) * part))], 1) for part in parts]
-    return {"readers": size, "rate": rate or "most", "writes/s": round(len(due) / wall), "lines/s": round(len(due) * size / wall),
-            "reply ms p50 p95": at(to_reply, 0.5, 0.95), "last line ms p50 p95 p99": at(to_last, 0.5, 0.95, 0.99),
-            "processor %": {name: round(value / wall * 100) for name, value in used.items()}, "load": round(os.getloadavg()[0], 1)}
+
+async def delay(size: int, rate: float, seconds: float) -> dict:
+    """From the acknowledgement of a write, to a client of one reader, to its line at a client of another."""
+    stream = Stream(2)
+    seen: dict[int, float] = {}
+    try:
+        async with aiohttp.ClientSession() as http:
+            here, there = stream.readers
+            await fill(lena := await Peer.enter(http, stream.writer.url, "lena-demo"))
+            crew = Crew([here.url, there.url], size)
+            await crew.ready()
+            writers = [await Peer.enter(http, here.url, "lena-demo") for _ in range(8)]
+            watch = await http.ws_connect(there.url + "live", max_msg_size=0)
+            await watch.send_str("lena-demo")
+            await watch.send_str('{"do":"subscribe","on":"tickets"}')
+
+            async def look() -> None:
+                async for message in watch:
+                    now = time.monotonic()
+                    for number in map(int, CAME.findall(message.data)):
+                        seen.setdefault(number, now)
+            task = asyncio.create_task(look())
+            asked: dict[int, float] = {}
+            acknowledged: dict[int, float] = {}
+
+            async def write(number: int) -> None:
+                asked[number] = time.monotonic()
+                assert (await writers[number % len(writers)].ask(do="write", entries=change(number))).get("ok")
+                acknowledged[number] = time.monotonic()
+            began, tasks = time.monotonic(), []
+            while time.monotonic() < began + seconds:
+                await asyncio.sleep(max(0.0, began + len(tasks) / rate - time.monotonic()))
+                tasks.append(asyncio.create_task(write(FIRST + KEPT + len(tasks))))
+            await asyncio.gather(*tasks)
+            await asyncio.sleep(1)
+            task.cancel()
+            await crew.end()
+            await lena.leave()
+    finally:
+        stream.end()
+    assert seen.keys() >= acknowledged.keys()
+    return {"readers": size, "writes/s": rate, "write to acknowledgement ms p50 p95": parts([(acknowledged[it] - asked[it]) * 1000 for it in asked], 0.5, 0.95),
+            "acknowledgement to line at another gateway ms p50 p95": parts([(seen[it] - acknowledged[it]) * 1000 for it in asked], 0.5, 0.95),
+            "load": round(os.getloadavg()[0], 1)}
+
+
+async def many(seconds: float) -> None:
+    for size, gateways in ((200, 0), (200, 1), (400, 2), (800, 4)):
+        for rate in (50, 0):
+            print(json.dumps(await measure(size, rate, seconds, gateways)), flush=True)
+    for size, rate in ((2, 20), (100, 20), (100, 100)):
+        print(json.dumps(await delay(size, rate, seconds)), flush=True)
 
 
 def starts() -> None:
@@ -220,6 +307,8 @@ def memory() -> None:
 
 
 def main(given: argparse.Namespace) -> None:
+    if given.stream:
+        return asyncio.run(many(given.seconds))
     rates = {None: [(1, 100), (1, 0), (50, 100), (50, 0), (200, 20), (200, 100), (200, 300), (200, 0)]}.get(given.readers, [(given.readers, given.rate)])
     for size, rate in rates:
         print(json.dumps(asyncio.run(measure(size, rate, given.seconds))), flush=True)
@@ -231,6 +320,7 @@ def main(given: argparse.Namespace) -> None:
 if __name__ == "__main__":
     words = argparse.ArgumentParser(description=__doc__.splitlines()[0])
     words.add_argument("--readers", type=int)
+    words.add_argument("--stream", action="store_true", help="one, two and four gateways behind a stream, beside one with a file")
     words.add_argument("--rate", type=float, default=100, help="writes a second; 0: as fast as they are answered")
     words.add_argument("--seconds", type=float, default=10)
     main(words.parse_args())
