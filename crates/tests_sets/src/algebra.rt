@@ -86,22 +86,38 @@ fn has(alloc: Global, tables: &Tables, want: &[(&str, i64, i64)]) -> Result<bool
 }
 
 /// What the plan gives.
-fn evaluated(alloc: Global, plan: Plan, tables: Tables) -> Result<Result<ZSet, AlgFault>, Fail> {
-    if !plan.fits(&tables) {
+fn evaluated(alloc: Global, plan: &Plan, tables: &Tables) -> Result<Result<ZSet, AlgFault>, Fail> {
+    if !plan.fits(tables) {
         return Err(Fail::new("the plan does not fit"));
     }
-    Ok(eval(alloc, &plan, &tables, &mut Meter::new()))
+    Ok(eval(alloc, plan, tables, &mut Meter::new()))
+}
+
+/// Whether the plan breaks a limit over these tables.
+fn is_limit_over(alloc: Global, plan: &Plan, tables: &Tables) -> Result<bool, Fail> {
+    Ok(matches!(evaluated(alloc, plan, tables)?, Err(AlgFault::Limit)))
 }
 
 /// Whether the plan breaks a limit over these notes.
 fn is_limit(alloc: Global, plan: Plan, notes: &[(&str, i64, i64)]) -> Result<bool, Fail> {
     let tables = tables(alloc, notes)?;
-    Ok(matches!(evaluated(alloc, plan, tables)?, Err(AlgFault::Limit)))
+    is_limit_over(alloc, &plan, &tables)
 }
 
 /// Whether the plan gives these rows over three notes.
 fn gives(alloc: Global, plan: Plan, want: &[(&str, i64, i64)]) -> Result<bool, Fail> {
     gives_over(alloc, plan, &three(), want)
+}
+
+/// Whether the plan gives these rows over these tables.
+fn gives_rows(
+    alloc: Global,
+    plan: &Plan,
+    tables: &Tables,
+    want: &[(&str, i64, i64)],
+) -> Result<bool, Fail> {
+    let rows = evaluated(alloc, plan, tables)??;
+    are(alloc, &rows, want)
 }
 
 /// Whether the plan gives these rows over these notes.
@@ -112,8 +128,7 @@ fn gives_over(
     want: &[(&str, i64, i64)],
 ) -> Result<bool, Fail> {
     let tables = tables(alloc, notes)?;
-    let rows = evaluated(alloc, plan, tables)??;
-    are(alloc, &rows, want)
+    gives_rows(alloc, &plan, &tables, want)
 }
 
 /// All notes.

@@ -65,6 +65,21 @@ pub(crate) fn signs(alloc: Global) -> Result<Seen, DeltaFault> {
     seen_of(alloc, answer, false, &[1], &[0])
 }
 
+/// The union where rows 1 and 7 change by these weights on the right, too.
+fn step_other(
+    alloc: Global,
+    out: &ZSet,
+    da: &ZSet,
+    right: (i64, i64),
+    cap: usize,
+) -> Result<ZSet, DeltaFault>
+    requires bag { IsBag out.now }
+    requires few { IsFew da.now }
+{
+    let db = two(alloc, &[1], right.0, &[7], right.1)?;
+    step_union(alloc, out, da, &db, cap, &mut Meter::new())
+}
+
 fn step_both(
     alloc: Global,
     out: &ZSet,
@@ -75,8 +90,7 @@ fn step_both(
     requires { IsBag out.now }
 {
     let da = two(alloc, &[1], left.0, &[7], left.1)?;
-    let db = two(alloc, &[1], right.0, &[7], right.1)?;
-    step_union(alloc, out, &da, &db, cap, &mut Meter::new())
+    step_other(alloc, out, &da, right, cap)
 }
 
 /// The union where rows 1 and 7 change by these weights on each side, and the old output has row 1.
@@ -108,6 +122,20 @@ pub(crate) fn once(alloc: Global, old: i64, change: i64) -> Result<Seen, DeltaFa
     seen_of(alloc, answer, false, &[1], &[1])
 }
 
+/// The rows on the left alone, where row 1 changes by this weight on the right, too.
+fn step_right_side(
+    alloc: Global,
+    a: &ZSet,
+    b: &ZSet,
+    da: &ZSet,
+    right: i64,
+) -> Result<ZSet, DeltaFault>
+    requires { IsFew da.now }
+{
+    let db = two(alloc, &[1], right, &[1], 0)?;
+    step_except(alloc, a, b, da, &db, &mut Meter::new())
+}
+
 fn step_sides(
     alloc: Global,
     a: &ZSet,
@@ -116,8 +144,7 @@ fn step_sides(
     right: i64,
 ) -> Result<ZSet, DeltaFault> {
     let da = two(alloc, &[1], left, &[1], 0)?;
-    let db = two(alloc, &[1], right, &[1], 0)?;
-    step_except(alloc, a, b, &da, &db, &mut Meter::new())
+    step_right_side(alloc, a, b, &da, right)
 }
 
 /// The rows on the left alone, where row 1 has a weight and changes by another on each side.
