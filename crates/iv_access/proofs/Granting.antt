@@ -1,11 +1,17 @@
 -- Grants as a set that keeps the order in which they came.
-use Rattle.std.proofs.Common.{◌≡◌, ℕ, ◌==◌, List, [], ◌∷◌, Bool, true, false, cond, not, ◌&&◌, ◌||◌, refl, sym, ap, ◌∙◌}
+use Rattle.std.proofs.Common.{◌≡◌, inl, inr, ℕ, ◌==◌, List, [], ◌∷◌, Bool, true, false, cond, not, ◌&&◌, ◌||◌, refl, sym, ap, subst}
+use Rattle.std.specs.Cmp.{unsigned_Decides}
 use Rattle.std.specs.List.{list_any, filter}
 use Rattle.indexmap.specs.IndexSet.{remove_key}
 use Rattle.iv_access.specs.declared.privilege.Privilege.{Privilege}
 use Rattle.iv_access.specs.Rights.{Grantee, Public, Role, Grant, Rights}
-use Rattle.iv_access.specs.Privileges.{privilege_eq, is_for}
+use Rattle.iv_access.specs.declared.privilege.Privilege.TheVariants.{Select, Insert, Update, Delete}
+use Rattle.iv_access.specs.Given.{HasBy, as_admin, by_all, by_role, IsInherited, IsNotInherited, grant_to, is_among}
+use Rattle.iv_access.specs.Grants.{grant_eq_decides, grant_eq_equiv}
+use Rattle.iv_access.specs.Memberships.{reaches}
+use Rattle.iv_access.specs.Privileges.{has, is_admin, privilege_eq, is_for}
 use Rattle.iv_access.specs.Changing.{grant_eq, grantee_eq}
+use Rattle.iv_access.proofs.Chains.{never, one_of, each_of, by_left, by_right, by_both, two_ways, follows, reaches_itself, reaches_on}
 use Rattle.iv_access.proofs.Lists.{or_right}
 
 -- ---- what is taken out
@@ -29,27 +35,108 @@ all_taken test (x ∷ xs) e =
 
 -- ---- who has what
 
-for_either : (a b : Bool) (r : Rights) (role : ℕ) (to : Grantee) → ((a && (b && grantee_eq Public to)) || (a && (b && grantee_eq (Role role) to))) ≡ (a && (b && is_for r role to))
-for_either false b r role to = refl
-for_either true false r role to = refl
-for_either true true r role Public = refl
-for_either true true r role (Role other) = refl
+privilege_itself : (p : Privilege) → privilege_eq p p ≡ true
+privilege_itself Select = refl
+privilege_itself Insert = refl
+privilege_itself Update = refl
+privilege_itself Delete = refl
 
-either_first : (a b c d e f : Bool) → (a || b) ≡ e → (c || d) ≡ f → ((a || c) || (b || d)) ≡ (e || f)
-either_first true b c d e f p q = ap (λ x. x || f) p
-either_first false true c d e f p q = turned c d ∙ ap (λ x. x || f) p where
-  turned : (c d : Bool) → (c || true) ≡ true
-  turned true d = refl
-  turned false d = refl
-either_first false false c d e f p q = q ∙ ap (λ x. x || f) p
+number_itself : (n : ℕ) → (n == n) ≡ true
+number_itself n = (unsigned_Decides n n).1 refl
 
-pub held : (r : Rights) (role : ℕ) (p : Privilege) (rel : ℕ) (gs : List Grant)
-    → (list_any (grant_eq (record { grantee = Public; privilege = p; rel = rel })) gs || list_any (grant_eq (record { grantee = Role role; privilege = p; rel = rel })) gs)
-    ≡ list_any (λ g. rel == g.rel && (privilege_eq p g.privilege && is_for r role g.grantee)) gs
-held r role p rel [] = refl
-held r role p rel (g ∷ gs) =
-    either_first (rel == g.rel && (privilege_eq p g.privilege && grantee_eq Public g.grantee)) (rel == g.rel && (privilege_eq p g.privilege && grantee_eq (Role role) g.grantee))
-    (list_any (grant_eq (record { grantee = Public; privilege = p; rel = rel })) gs) (list_any (grant_eq (record { grantee = Role role; privilege = p; rel = rel })) gs)
-    (rel == g.rel && (privilege_eq p g.privilege && is_for r role g.grantee))
-    (list_any (λ h. rel == h.rel && (privilege_eq p h.privilege && is_for r role h.grantee)) gs)
-    (for_either (rel == g.rel) (privilege_eq p g.privilege) r role g.grantee) (held r role p rel gs)
+module _ (r : Rights) (role : ℕ) (p : Privilege) (rel : ℕ) where
+  -- the grant gives the role the privilege
+  abbrev pub gives : Grant → Bool
+  gives g = rel == g.rel && (privilege_eq p g.privilege && is_for r role g.grantee)
+
+  pub given : (to : Grantee) (gs : List Grant) → is_for r role to ≡ true → is_among gs (grant_to to p rel) ≡ true → list_any gives gs ≡ true
+  given to [] f e = e
+  given to (g ∷ gs) f e =
+      elim (one_of (grant_eq (grant_to to p rel) g) (is_among gs (grant_to to p rel)) e) [
+        | inl x ↦
+            let own : gives (grant_to to p rel) ≡ true = by_both (rel == rel) (privilege_eq p p && is_for r role to) (number_itself rel) (by_both (privilege_eq p p) (is_for r role to) (privilege_itself p) f) in
+            by_left (gives g) (list_any gives gs) (subst (λ h. gives h ≡ true) ((grant_eq_decides (grant_to to p rel) g).0 x) own)
+        | inr x ↦ by_right (gives g) (list_any gives gs) (given to gs f x)
+      ]
+
+  pub giver : (gs : List Grant) → list_any gives gs ≡ true → (to : Grantee) × (is_for r role to ≡ true) × (is_among gs (grant_to to p rel) ≡ true)
+  giver [] e = cc
+  giver (g ∷ gs) e =
+      elim (one_of (gives g) (list_any gives gs) e) [
+        | inl x ↦
+            let same = each_of (rel == g.rel) (privilege_eq p g.privilege && is_for r role g.grantee) x in
+            let rest = each_of (privilege_eq p g.privilege) (is_for r role g.grantee) same.1 in
+            let whole = each_of (g.rel == g.rel) (privilege_eq g.privilege g.privilege && grantee_eq g.grantee g.grantee) (grant_eq_equiv.refl g) in
+            let to = (each_of (privilege_eq g.privilege g.privilege) (grantee_eq g.grantee g.grantee) whole.1).1 in (
+              g.grantee,
+              rest.1,
+              by_left (grant_eq (grant_to g.grantee p rel) g) (is_among gs (grant_to g.grantee p rel))
+                  (by_both (rel == g.rel) (privilege_eq p g.privilege && grantee_eq g.grantee g.grantee) same.0 (by_both (privilege_eq p g.privilege) (grantee_eq g.grantee g.grantee) rest.0 to)),
+            )
+        | inr x ↦
+            let found = giver gs x in
+            (found.0, found.1, by_right (grant_eq (grant_to found.0 p rel) g) (is_among gs (grant_to found.0 p rel)) found.2)
+      ]
+
+  by_grantee : (to : Grantee) → is_for r role to ≡ true → is_among r.grants (grant_to to p rel) ≡ true → HasBy r role p rel
+  by_grantee Public f e = by_all r role p rel e
+  by_grantee (Role other) f e = by_role r role other p rel ((follows r.members role other).0 f) e
+
+  pub has_by : has r role p rel ≡ true → HasBy r role p rel
+  has_by e =
+      elim (one_of (is_admin role) (list_any gives r.grants) e) [
+        | inl x ↦ as_admin r role p rel x
+        | inr x ↦ let found = giver r.grants x in by_grantee found.0 found.1 found.2
+      ]
+
+  abbrev pub own_or_all : Bool
+  own_or_all = is_among r.grants (grant_to Public p rel) || is_among r.grants (grant_to (Role role) p rel)
+
+  pub by_own : own_or_all ≡ true → list_any gives r.grants ≡ true
+  by_own e =
+      elim (one_of (is_among r.grants (grant_to Public p rel)) (is_among r.grants (grant_to (Role role) p rel)) e) [
+        | inl y ↦ given Public r.grants refl y
+        | inr y ↦ given (Role role) r.grants (reaches_itself r.members role) y
+      ]
+
+  told_to : (t : Bool) → (t ≡ false → IsNotInherited r role p rel) → (to : Grantee) → is_for r role to ≡ true → is_among r.grants (grant_to to p rel) ≡ true → (own_or_all || t) ≡ true
+  told_to t lacks Public f e = by_left own_or_all t (by_left (is_among r.grants (grant_to Public p rel)) (is_among r.grants (grant_to (Role role) p rel)) e)
+  told_to t lacks (Role other) f e =
+      elim (role == other) as (λ b. (role == other) ≡ b → (own_or_all || t) ≡ true) [
+        | true ↦ λ s.
+            by_left own_or_all t (by_right (is_among r.grants (grant_to Public p rel)) (is_among r.grants (grant_to (Role role) p rel))
+            (subst (λ o. is_among r.grants (grant_to (Role o) p rel) ≡ true) (sym ((unsigned_Decides role other).0 s)) e))
+        | false ↦ λ s.
+            by_right own_or_all t (elim t as (λ b. t ≡ b → b ≡ true) [
+              | true ↦ λ _. refl
+              | false ↦ λ h. never (is_among r.grants (grant_to (Role other) p rel)) e (lacks h other s f)
+            ] refl)
+      ] refl
+
+  -- what was granted to all roles, to the role, or to another that it reaches, is what it has
+  pub told : (t : Bool) → (t ≡ true → IsInherited r role p rel) → (t ≡ false → IsNotInherited r role p rel) → (own_or_all || t) ≡ list_any gives r.grants
+  told t heir lacks =
+      two_ways (own_or_all || t) (list_any gives r.grants)
+      (λ e. elim (one_of own_or_all t e) [
+        | inl x ↦ by_own x
+        | inr x ↦ given (Role (heir x).other) r.grants (heir x).reached (heir x).granted
+      ])
+      (λ e. let found = giver r.grants e in told_to t lacks found.0 found.1 found.2)
+
+pub by_has : {r : Rights} {role : ℕ} {p : Privilege} {rel : ℕ} → HasBy r role p rel → has r role p rel ≡ true
+by_has (as_admin r role p rel e) = by_left (is_admin role) (list_any (gives r role p rel) r.grants) e
+by_has (by_all r role p rel e) = by_right (is_admin role) (list_any (gives r role p rel) r.grants) (given r role p rel Public r.grants refl e)
+by_has (by_role r role other p rel h e) = by_right (is_admin role) (list_any (gives r role p rel) r.grants) (given r role p rel (Role other) r.grants ((follows r.members role other).1 h) e)
+
+for_member : (r : Rights) (role other : ℕ) → reaches r.members role other ≡ true → (to : Grantee) → is_for r other to ≡ true → is_for r role to ≡ true
+for_member r role other e Public f = refl
+for_member r role other e (Role last) f = reaches_on r.members role other last e f
+
+pub members_hold : (r : Rights) (role other : ℕ) (p : Privilege) (rel : ℕ) → reaches r.members role other ≡ true → is_admin other ≡ false → has r other p rel ≡ true → has r role p rel ≡ true
+members_hold r role other p rel e lacks h =
+    elim (one_of (is_admin other) (list_any (gives r other p rel) r.grants) h) [
+      | inl x ↦ never (is_admin other) x lacks
+      | inr x ↦
+          let found = giver r other p rel r.grants x in
+          by_right (is_admin role) (list_any (gives r role p rel) r.grants) (given r role p rel found.0 r.grants (for_member r role other e found.0 found.1) found.2)
+    ]

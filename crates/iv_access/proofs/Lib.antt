@@ -1,8 +1,13 @@
 pub mod Lists
+pub mod Chains
+pub mod Flags
 pub mod Granting
 pub mod Counting
 pub mod Entering
 pub mod Policies
 pub mod Naming
 pub mod Rising
+pub mod Looping
+pub mod Long
+pub mod Alike
 pub mod Further

@@ -21,7 +21,7 @@ use Rattle.iv_access.specs.Asked.{policy_from}
 use Rattle.iv_access.specs.Changing.{changed_at, insert_policy, remove_policy}
 use Rattle.iv_access.specs.Faults.{first}
 use Rattle.iv_access.specs.Policies.{failed_at, is_named, policies_of, policy_of}
-use Rattle.iv_access.specs.Reached.{IsReached, at_start, role_created, relation_added, privileges_granted, privileges_revoked, security_switched, policy_created, policy_dropped, ComesBefore, Rise, IsFirstByName}
+use Rattle.iv_access.specs.Reached.{IsReached, at_start, role_created, role_granted, role_revoked, relation_added, privileges_granted, privileges_revoked, security_switched, policy_created, policy_dropped, ComesBefore, Rise, IsFirstByName}
 use Rattle.iv_access.proofs.Lists.{absent, or_left, or_right}
 
 -- ---- names
@@ -101,6 +101,8 @@ nothing_rises i j d lt within = absurd (omega arith)
 pub reached_rise : {r : Rights} → IsReached r → (table : ℕ) → Rise (policies_of (slice_get r.guards table))
 reached_rise at_start table = nothing_rises
 reached_rise (role_created r name h) table = reached_rise h table
+reached_rise (role_granted r acting role to free h) table = reached_rise h table
+reached_rise (role_revoked r role member h) table = reached_rise h table
 reached_rise (relation_added r owner h) table =
     rise_pushed r.guards (record { owner = owner; enabled = false; forced = false; policies = [] }) nothing_rises (reached_rise h) table
 reached_rise (privileges_granted r rel ps to h) table = reached_rise h table

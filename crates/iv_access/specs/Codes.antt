@@ -10,7 +10,7 @@ use Rattle.iv_access.specs.declared.privilege.Privilege.{Privilege}
 use Rattle.iv_access.specs.declared.privilege.Privilege.TheVariants.{Select, Insert, Update, Delete}
 use Rattle.iv_access.specs.declared.policy.PolicyCommand.{PolicyCommand}
 use Rattle.iv_access.specs.declared.policy.PolicyCommand.TheVariants as command
-use Rattle.iv_access.specs.Rights.{Name, Grantee, Public, Role, Grant, Guard, Policy, Rights}
+use Rattle.iv_access.specs.Rights.{Name, Membership, Grantee, Public, Role, Grant, Guard, Policy, Rights}
 use Rattle.iv_access.specs.Known.{Relation, Known}
 use Rattle.iv_access.specs.Asked.{Asked}
 use Rattle.iv_access.specs.Filters.{Filter}
@@ -111,10 +111,14 @@ guard_code =
     code_by ((ℕ × Bool) × (Bool × List Policy)) (coded× (coded× coded_ℕ coded_bool) (coded× coded_bool (coded_list policy_code)))
     (λ g. ((g.owner, g.enabled), (g.forced, g.policies))) (λ c. record { owner = c.0.0; enabled = c.0.1; forced = c.1.0; policies = c.1.1 }) (λ _. refl)
 
+abbrev pub membership_code : Coded Membership
+membership_code = code_by (ℕ × ℕ) (coded× coded_ℕ coded_ℕ) (λ m. (m.role, m.member)) (λ c. record { role = c.0; member = c.1 }) (λ _. refl)
+
 abbrev pub rights_code : Coded Rights
 rights_code =
-    code_by (List Name × (List Guard × List Grant)) (coded× (coded_list name_code) (coded× (coded_list guard_code) (coded_list grant_code)))
-    (λ r. (r.roles, (r.guards, r.grants))) (λ c. record { roles = c.0; guards = c.1.0; grants = c.1.1 }) (λ _. refl)
+    code_by ((List Name × List Membership) × (List Guard × List Grant))
+    (coded× (coded× (coded_list name_code) (coded_list membership_code)) (coded× (coded_list guard_code) (coded_list grant_code)))
+    (λ r. ((r.roles, r.members), (r.guards, r.grants))) (λ c. record { roles = c.0.0; members = c.0.1; guards = c.1.0; grants = c.1.1 }) (λ _. refl)
 
 -- ---- relations
 

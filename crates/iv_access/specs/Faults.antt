@@ -5,9 +5,9 @@ use Rattle.std.specs.List.{list_all}
 use Rattle.iv_access.specs.declared.fault.AccessFault.{AccessFault}
 use Rattle.iv_access.specs.declared.fault.AccessFault.TheVariants as fault
 use Rattle.iv_access.specs.Rights.{Name, Rights}
-use Rattle.iv_access.specs.Privileges.{role_of, is_admin, owns}
+use Rattle.iv_access.specs.Privileges.{role_of, acts_as, is_admin, owns}
 use Rattle.iv_access.specs.Policies.{policies_of, policy_of}
-use Rattle.iv_access.specs.Known.{Known, Relation, relation_of}
+use Rattle.iv_access.specs.Known.{Known, Relation, relation_of, role_number}
 
 -- the first fault whose test is true
 abbrev pub first : List (Bool × AccessFault) → Option AccessFault
@@ -28,6 +28,20 @@ is_grantee r (Some name) = is_role r name
 abbrev pub create_role_fault : Rights → ℕ → Name → Option AccessFault
 create_role_fault r acting name =
     first ((not (is_admin acting), fault.NotAdmin) ∷ (is_role r name, fault.Taken) ∷ (nat_le 256 (length r.roles), fault.TooMany) ∷ [])
+
+-- `to` would become a member of `role`, and may not reach itself so
+abbrev pub grant_role_fault : Rights → ℕ → Name → Name → Option AccessFault
+grant_role_fault r acting role to =
+    first (
+    (not (is_admin acting), fault.NotAdmin)
+    ∷ (not (is_role r role), fault.Role)
+    ∷ (not (is_role r to), fault.Role)
+    ∷ (acts_as r (role_number r role) (role_number r to), fault.Loop)
+    ∷ [])
+
+abbrev pub revoke_role_fault : Rights → ℕ → Name → Name → Option AccessFault
+revoke_role_fault r acting role to =
+    first ((not (is_admin acting), fault.NotAdmin) ∷ (not (is_role r role), fault.Role) ∷ (not (is_role r to), fault.Role) ∷ [])
 
 -- how many tables there are, or how many views
 abbrev pub count_like : Bool → List Relation → ℕ

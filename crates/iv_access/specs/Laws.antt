@@ -1,16 +1,18 @@
 -- Laws of rights.
-use Rattle.std.specs.Prelude.{◌≡◌, ◌≢◌, ℕ, ◌&&◌, ◌||◌, not, true, false, List, length, slice_get}
+use Rattle.std.specs.Prelude.{◌≡◌, ◌≢◌, ℕ, ◌≤◌, ◌&&◌, ◌||◌, not, true, false, List, length, nat_le, slice_get}
+use Rattle.std.specs.Bool.{Decides}
 use Rattle.std.specs.List.{AllPass, list_any}
 use Rattle.iv_algebra.specs.Rows.{Cells}
 use Rattle.iv_access.specs.declared.policy.Check.{Check}
 use Rattle.iv_access.specs.declared.policy.Verdict.TheVariants.{NoPermissive, Restrictive}
 use Rattle.iv_access.specs.declared.privilege.Privilege.{Privilege}
-use Rattle.iv_access.specs.Rights.{Grant, Grantee, Public, Role, Policy, Rights}
+use Rattle.iv_access.specs.Rights.{Membership, Grant, Grantee, Policy, Rights}
 use Rattle.iv_access.specs.Privileges.{has, is_admin}
 use Rattle.iv_access.specs.Policies.{forbids, policies_of, is_exempt, is_pass, verdict}
 use Rattle.iv_access.specs.Changing.{with_grants, without_grants, with_relation, with_policy}
 use Rattle.iv_access.specs.Reached.{IsReached, Rise, IsFirstByName}
-use Rattle.iv_access.specs.Given.{grant_to, is_among, is_named_by, is_let_through, may_permit}
+use Rattle.iv_access.specs.Memberships.{Reaches, chain_of, reaches}
+use Rattle.iv_access.specs.Given.{HasBy, grant_to, is_among, is_named_by, is_let_through, may_permit}
 
 -- ---- grants
 
@@ -30,14 +32,47 @@ abbrev pub HeldGrantsChangeNothing : Type 0
 HeldGrantsChangeNothing =
     (r : Rights) (rel : ℕ) (ps : List Privilege) (to : Grantee) → AllPass (λ p. is_among r.grants (grant_to to p rel)) ps → with_grants rel ps to r ≡ r
 
--- as `admin`, by a grant to all roles, or by one of its own
+-- as `admin`, by a grant to all roles, or by one to a role that it reaches, as itself
 abbrev pub RolesHaveTheirOwn : Type 0
-RolesHaveTheirOwn =
-    (r : Rights) (role : ℕ) (p : Privilege) (rel : ℕ)
-    → has r role p rel ≡ (is_admin role || (is_among r.grants (grant_to Public p rel) || is_among r.grants (grant_to (Role role) p rel)))
+RolesHaveTheirOwn = (r : Rights) (role : ℕ) (p : Privilege) (rel : ℕ) → Decides (has r role p rel) (HasBy r role p rel)
 
 abbrev pub OwnersHaveAll : Type 0
 OwnersHaveAll = (r : Rights) (owner : ℕ) (p : Privilege) → has (with_relation owner r) owner p (length r.guards) ≡ true
+
+-- ---- memberships
+
+abbrev pub FollowsChains : Type 0
+FollowsChains = (ms : List Membership) (role other : ℕ) → Decides (reaches ms role other) (Reaches ms role other)
+
+-- along a chain each role reaches those before it, however many they are, and none behind it
+abbrev pub ReachAlongChains : Type 0
+ReachAlongChains = (n role other : ℕ) → role ≤ n → reaches (chain_of n) role other ≡ nat_le other role
+
+-- what a role holds its members hold
+abbrev pub MembersHold : Type 0
+MembersHold =
+    (r : Rights) (role other : ℕ) (p : Privilege) (rel : ℕ) → Reaches r.members role other → is_admin other ≡ false → has r other p rel ≡ true → has r role p rel ≡ true
+
+-- no two roles reach each other
+abbrev pub NoLoops : Type 0
+NoLoops = (r : Rights) → IsReached r → (role other : ℕ) → Reaches r.members role other → Reaches r.members other role → role ≡ other
+
+-- the roles that it reaches are the same where it reaches `role` as it did before
+abbrev pub StaysUnless : List Membership → List Membership → ℕ → Type 0
+StaysUnless before after role = (a : ℕ) → reaches after a role ≡ reaches before a role → (b : ℕ) → reaches after a b ≡ reaches before a b
+
+-- the role reaches by the memberships what it reaches in the rights
+abbrev pub ReachesAlike : Rights → List Membership → ℕ → Type 0
+ReachesAlike r ms role = (other : ℕ) → reaches ms role other ≡ reaches r.members role other
+
+-- memberships change nothing for a role that reaches what it reached
+abbrev pub HasByReach : Type 0
+HasByReach = (r : Rights) (ms : List Membership) (role : ℕ) → ReachesAlike r ms role → (p : Privilege) (rel : ℕ) → has (record r { members = ms }) role p rel ≡ has r role p rel
+
+abbrev pub SeesByReach : Type 0
+SeesByReach =
+    (r : Rights) (ms : List Membership) (role : ℕ) → ReachesAlike r ms role
+    → (table : ℕ) (test : Check) (row : Cells) → verdict (record r { members = ms }) role table test row ≡ verdict r role table test row
 
 -- ---- policies
 

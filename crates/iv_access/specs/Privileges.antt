@@ -5,6 +5,7 @@ use Rattle.std.specs.List.{list_any}
 use Rattle.iv_access.specs.declared.privilege.Privilege.{Privilege}
 use Rattle.iv_access.specs.declared.privilege.Privilege.TheVariants.{Select, Insert, Update, Delete}
 use Rattle.iv_access.specs.Rights.{Name, Grantee, Public, Role, Guard, Rights}
+use Rattle.iv_access.specs.Memberships.{reaches}
 
 -- the number of the role of a name
 abbrev pub role_of : Rights → Name → Option ℕ
@@ -17,9 +18,9 @@ role_name r role = unwrap_or (slice_get r.roles role) []
 abbrev pub is_admin : ℕ → Bool
 is_admin role = role == 0
 
--- the role has what the other has: it is the other; no role is a member of another
+-- the role has what the other has: it is the other, or a member of it, directly or through others
 abbrev pub acts_as : Rights → ℕ → ℕ → Bool
-acts_as r role other = role == other
+acts_as r role other = reaches r.members role other
 
 -- what goes to the grantee goes to the role
 abbrev pub is_for : Rights → ℕ → Grantee → Bool
@@ -33,7 +34,7 @@ privilege_eq Update Update = true
 privilege_eq Delete Delete = true
 privilege_eq _ _ = false
 
--- the role is `admin`, or the privilege was granted to it or to all
+-- the role is `admin`, or the privilege was granted to all, to it, or to a role that it is a member of
 abbrev pub has : Rights → ℕ → Privilege → ℕ → Bool
 has r role p rel = is_admin role || list_any (λ g. rel == g.rel && (privilege_eq p g.privilege && is_for r role g.grantee)) r.grants
 
@@ -46,6 +47,6 @@ abbrev pub is_owner : Rights → ℕ → Option Guard → Bool
 is_owner r role None = false
 is_owner r role (Some g) = acts_as r role g.owner
 
--- the right to grant, and to switch row security: the owner and `admin`
+-- the right to grant, and to switch row security: the owner, its members and `admin`
 abbrev pub owns : Rights → ℕ → ℕ → Bool
 owns r role rel = is_admin role || is_owner r role (slice_get r.guards rel)

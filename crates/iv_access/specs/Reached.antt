@@ -6,13 +6,17 @@ use Rattle.std.specs.Cmp.Lexicographic.{slice_cmp}
 use Rattle.iv_access.specs.declared.privilege.Privilege.{Privilege}
 use Rattle.iv_access.specs.Rights.{Name, Grantee, Policy, Rights, start}
 use Rattle.iv_access.specs.Asked.{Asked, policy_from}
-use Rattle.iv_access.specs.Changing.{with_role, with_relation, with_grants, without_grants, with_security, with_policy, without_policy}
-use Rattle.iv_access.specs.Faults.{create_policy_fault}
+use Rattle.iv_access.specs.Changing.{with_role, with_relation, with_grants, without_grants, with_member, without_member, with_security, with_policy, without_policy}
+use Rattle.iv_access.specs.Known.{role_number}
+use Rattle.iv_access.specs.Faults.{create_policy_fault, grant_role_fault}
 
--- those at the start, and those after a change of such; a policy comes where it is not refused
+-- those at the start, and those after a change of such; a policy and a membership come where they are not refused
 pub data IsReached : Rights → Type 0 where
   at_start : IsReached start
   role_created : (r : Rights) (name : Name) → IsReached r → IsReached (with_role name r)
+  role_granted : (r : Rights) (acting : ℕ) (role to : Name) → grant_role_fault r acting role to ≡ None
+      → IsReached r → IsReached (with_member (role_number r role) (role_number r to) r)
+  role_revoked : (r : Rights) (role member : ℕ) → IsReached r → IsReached (without_member role member r)
   relation_added : (r : Rights) (owner : ℕ) → IsReached r → IsReached (with_relation owner r)
   privileges_granted : (r : Rights) (rel : ℕ) (ps : List Privilege) (to : Grantee) → IsReached r → IsReached (with_grants rel ps to r)
   privileges_revoked : (r : Rights) (rel : ℕ) (ps : List Privilege) (to : Grantee) → IsReached r → IsReached (without_grants rel ps to r)

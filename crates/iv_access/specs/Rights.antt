@@ -13,6 +13,11 @@ pub data Grantee : Type 0 where
   Public : Grantee
   Role : ℕ → Grantee
 
+-- the member has what the role has (PostgreSQL 16, Role Membership)
+pub record Membership : Type 0 where
+  pub role : ℕ
+  pub member : ℕ
+
 -- PostgreSQL 16, Privileges
 pub record Grant : Type 0 where
   pub grantee : Grantee
@@ -36,13 +41,14 @@ pub record Guard : Type 0 where
   pub forced : Bool
   pub policies : List Policy
 
--- a role's number is its place in `roles`, and `guards` has one for each relation, at the place of its number; `grants`
--- are in the order of granting, each once
+-- a role's number is its place in `roles`, and `guards` has one for each relation, at the place of its number; `members` are
+-- the direct memberships, which with `grants` are in the order of granting, each once
 pub record Rights : Type 0 where
   pub roles : List Name
+  pub members : List Membership
   pub guards : List Guard
   pub grants : List Grant
 
 -- the one superuser is the first role
 abbrev pub start : Rights
-start = record { roles = codes "admin" ∷ []; guards = []; grants = [] }
+start = record { roles = codes "admin" ∷ []; members = []; guards = []; grants = [] }

@@ -1,10 +1,12 @@
 //! Who may do what.
-ghost use Rattle.std.specs.Prelude.{◌≡◌, ◌&&◌, IfOk, map, option_map};
+ghost use Rattle.std.specs.Prelude.{◌≡◌, ◌&&◌, true, false, IfOk, map, option_map};
+ghost use Rattle.iv_access.specs.Given.{IsInherited, IsNotInherited};
 ghost use Rattle.iv_access.specs.Known.{known_at_start, relation_of, relation_name};
 ghost use Rattle.iv_access.specs.Privileges.{acts_as, has, first_missing, owns, role_of};
 
-use crate::grant::{self, Grant};
+use crate::grant::{self, Grant, Grantee};
 use crate::guard::Guard;
+use crate::memberships::Memberships;
 use crate::privilege::{Missing, Privilege};
 use crate::relations::Relations;
 use crate::role::RoleId;
@@ -14,13 +16,14 @@ use iv_rows::RelId;
 use std::alloc::{AllocError, Global};
 use std::marker::Model;
 
-/// Roles, relations with their owners, and grants; row security and policies of tables. Roles and relations are numbered
+/// Roles and their members, relations with their owners, and grants; row security and policies of tables. Roles and relations are numbered
 /// as they come.
 ///
-/// Source: PostgreSQL 16, Privileges, and Row Security Policies.
+/// Source: PostgreSQL 16, Role Membership, Privileges, and Row Security Policies.
 #[derive(Drop)]
 pub struct Access {
     pub(crate) roles: Roles,
+    pub(crate) members: Memberships,
     pub(crate) relations: Relations,
     pub(crate) guards: Vec<Guard>,
     pub(crate) grants: IndexSet<Grant>,
@@ -34,7 +37,7 @@ impl Model for Access {
 
     ghost coded = { known_code };
 
-    ghost view = { λ a. record { relations = a.relations; rights = record { roles = a.roles; guards = a.guards.items; grants = a.grants.keys } } };
+    ghost view = { λ a. record { relations = a.relations; rights = record { roles = a.roles; members = a.members; guards = a.guards.items; grants = a.grants.keys } } };
 
     ghost use Rattle.std.specs.Prelude.{◌≡◌, length};
 
@@ -53,6 +56,7 @@ impl Access {
         roles.push("admin")?;
         Ok(Access {
             roles,
+            members: Memberships::new(alloc),
             relations: Relations::new(alloc),
             guards: Vec::new(alloc),
             grants: IndexSet::new(alloc),
@@ -80,14 +84,16 @@ impl Access {
         self.relations.name(rel)
     }
 
-    /// Whether the role has what the other has: it is the other.
-    pub(crate) fn acts_as(&self, role: RoleId, other: RoleId) -> bool
+    /// Whether the role has what the other has: it is the other, or a member of it, directly or through others. It takes
+    /// no memory.
+    pub fn reaches(&self, role: RoleId, other: RoleId) -> bool
         ensures { result ≡ acts_as self.now.rights role.0 other.0 }
     {
-        role == other
+        self.members.reaches(role, other)
     }
 
-    /// Whether the role is `admin`, or the owner of the relation. It takes no memory.
+    /// Whether the role is `admin`, or the owner of the relation, or a member of the owner, directly or through others. It
+    /// takes no memory.
     pub fn owns(&self, role: RoleId, rel: RelId) -> bool
         ensures { result ≡ owns self.now.rights role.0 rel.0 }
     {
@@ -95,17 +101,35 @@ impl Access {
             return true;
         }
         match self.guards.get(rel.0 as usize) {
-            Some(guard) => self.acts_as(role, guard.owner),
+            Some(guard) => self.reaches(role, guard.owner),
             None => false,
         }
     }
 
-    /// Whether the role is `admin`, or the privilege on the relation was granted to it or to all roles. It takes no
-    /// memory.
+    /// Whether the privilege on the relation was granted to a role of which the role is a member, directly or through
+    /// others.
+    fn is_inherited(&self, role: RoleId, privilege: Privilege, rel: RelId) -> bool
+        ensures yes { result ≡ true → IsInherited self.now.rights role.0 privilege rel.0 }
+        ensures no { result ≡ false → IsNotInherited self.now.rights role.0 privilege rel.0 }
+    {
+        let row = self.members.reached(role);
+        for (place, reached) in row.iter().enumerate() {
+            let other = Grantee::Role(RoleId(place as u32));
+            if *reached && grant::is_granted_to(&self.grants, other, privilege, rel) {
+                return true;
+            }
+        }
+        false
+    }
+
+    /// Whether the role is `admin`, or the privilege on the relation was granted to all roles, to it, or to a role of which
+    /// it is a member, directly or through others. It takes no memory.
     pub fn has(&self, role: RoleId, privilege: Privilege, rel: RelId) -> bool
         ensures { result ≡ has self.now.rights role.0 privilege rel.0 }
     {
-        role.is_admin() || grant::is_granted(&self.grants, role, privilege, rel)
+        role.is_admin()
+            || (grant::is_granted(&self.grants, role, privilege, rel)
+                || self.is_inherited(role, privilege, rel))
     }
 
     /// The first of the needs that the role has not. It takes no memory.

@@ -1,8 +1,8 @@
 //! How rights change.
 ghost use Rattle.std.specs.Prelude.{◌≡◌, ◌⊎◌, ◌<◌, ◌∷◌, [], ◌++◌, None, Some, IfOk, IfErr, OnOk, OnErr, is_some, length, option_map};
 ghost use Rattle.iv_access.specs.declared.fault.AccessFault.TheVariants.{Memory};
-ghost use Rattle.iv_access.specs.Changing.{with_role, with_relation, with_grants, without_grants};
-ghost use Rattle.iv_access.specs.Faults.{count_like, create_role_fault, add_relation_fault, grant_fault};
+ghost use Rattle.iv_access.specs.Changing.{with_role, with_member, without_member, with_relation, with_grants, without_grants};
+ghost use Rattle.iv_access.specs.Faults.{count_like, create_role_fault, grant_role_fault, revoke_role_fault, add_relation_fault, grant_fault};
 ghost use Rattle.iv_access.specs.Grants.{seen};
 ghost use Rattle.iv_access.specs.Known.{relation_of, relation_with, role_number, grantee_of, named};
 
@@ -38,6 +38,68 @@ impl Access {
             return Err(AccessFault::TooMany);
         }
         self.roles.push(name)?;
+        Ok(())
+    }
+
+    /// The role and the member of the names where the role may change memberships, or why it is refused.
+    fn named_roles(
+        &self,
+        acting: RoleId,
+        role: &str,
+        to: &str,
+    ) -> Result<(RoleId, RoleId), AccessFault>
+        ensures role { IfOk result (λ p. p.0.0 ≡ role_number self.now.rights role.now) }
+        ensures member { IfOk result (λ p. p.1.0 ≡ role_number self.now.rights to.now) }
+        ensures wide { IfOk result (λ p. (p.0.0 < 256) × (p.1.0 < 256)) }
+        ensures ok_when { OnOk result (revoke_role_fault self.now.rights acting.0 role.now to.now ≡ None) }
+        ensures err_when { IfErr result (λ e. revoke_role_fault self.now.rights acting.0 role.now to.now ≡ Some e) }
+    {
+        if !acting.is_admin() {
+            return Err(AccessFault::NotAdmin);
+        }
+        let Some(role) = self.roles.number(role) else {
+            return Err(AccessFault::Role);
+        };
+        let Some(member) = self.roles.number(to) else {
+            return Err(AccessFault::Role);
+        };
+        Ok((role, member))
+    }
+
+    /// Makes the role of the name `to` a member of the role of the name `role`: it has what that role has. After an error
+    /// nothing has changed.
+    ///
+    /// # Errors
+    /// In this order: `NotAdmin`, `Role` (the role, then the member), `Loop`; `Memory` where a growth was refused.
+    pub fn grant_role(&mut self, acting: RoleId, role: &str, to: &str) -> Result<(), AccessFault>
+        ensures ok { OnOk result (self.new.rights ≡ with_member (role_number self.old.rights role.now) (role_number self.old.rights to.now) self.old.rights) }
+        ensures relations { self.new.relations ≡ self.old.relations }
+        ensures ok_when { OnOk result (grant_role_fault self.old.rights acting.0 role.now to.now ≡ None) }
+        ensures err_when { IfErr result (λ e. (e ≡ Memory) ⊎ (grant_role_fault self.old.rights acting.0 role.now to.now ≡ Some e)) }
+        ensures unchanged { OnErr result (self.new ≡ self.old) }
+    {
+        let (role, member) = self.named_roles(acting, role, to)?;
+        if self.reaches(role, member) {
+            return Err(AccessFault::Loop);
+        }
+        self.members.add(role, member)?;
+        Ok(())
+    }
+
+    /// Takes the role of the name `to` out of the direct members of the role of the name `role`. It takes no memory. After an
+    /// error nothing has changed.
+    ///
+    /// # Errors
+    /// In this order: `NotAdmin`, `Role` (the role, then the member).
+    pub fn revoke_role(&mut self, acting: RoleId, role: &str, to: &str) -> Result<(), AccessFault>
+        ensures ok { OnOk result (self.new.rights ≡ without_member (role_number self.old.rights role.now) (role_number self.old.rights to.now) self.old.rights) }
+        ensures relations { self.new.relations ≡ self.old.relations }
+        ensures ok_when { OnOk result (revoke_role_fault self.old.rights acting.0 role.now to.now ≡ None) }
+        ensures err_when { IfErr result (λ e. revoke_role_fault self.old.rights acting.0 role.now to.now ≡ Some e) }
+        ensures unchanged { OnErr result (self.new ≡ self.old) }
+    {
+        let (role, member) = self.named_roles(acting, role, to)?;
+        self.members.remove(role, member);
         Ok(())
     }
 

@@ -46,7 +46,7 @@ impl Access {
     {
         match to {
             Grantee::Public => true,
-            Grantee::Role(other) => self.acts_as(role, other),
+            Grantee::Role(other) => self.reaches(role, other),
         }
     }
 
@@ -121,7 +121,7 @@ impl Access {
     pub(crate) fn is_exempt(&self, role: RoleId, guard: &Guard) -> bool
         ensures { result ≡ is_exempt self.now.rights role.0 (Some guard.now) }
     {
-        !guard.enabled || (role.is_admin() || (self.acts_as(role, guard.owner) && !guard.forced))
+        !guard.enabled || (role.is_admin() || (self.reaches(role, guard.owner) && !guard.forced))
     }
 
     /// The guard of a relation.

@@ -16,6 +16,8 @@ pub enum AccessFault {
     Policy,
     /// There are as many as there may be: 256 roles, 64 tables, 64 views, 32 policies on a table.
     TooMany,
+    /// The role is the member, or a member of it, directly or through others.
+    Loop,
     /// A growth of memory was refused.
     Memory,
 }

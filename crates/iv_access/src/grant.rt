@@ -72,6 +72,23 @@ impl Hash for Grant {
     }
 }
 
+/// Whether the privilege was granted to the grantee.
+pub(crate) fn is_granted_to(
+    grants: &IndexSet<Grant>,
+    grantee: Grantee,
+    privilege: Privilege,
+    rel: RelId,
+) -> bool
+    ensures { result ≡ is_among grants.now.keys (grant_to (seen grantee) privilege rel.0) }
+{
+    let grant = Grant {
+        grantee,
+        privilege,
+        rel,
+    };
+    grants.contains(&grant)
+}
+
 /// Whether the privilege was granted to all roles or to the role.
 pub(crate) fn is_granted(
     grants: &IndexSet<Grant>,
@@ -81,17 +98,8 @@ pub(crate) fn is_granted(
 ) -> bool
     ensures { result ≡ (is_among grants.now.keys (grant_to Public privilege rel.0) || is_among grants.now.keys (grant_to (Role role.0) privilege rel.0)) }
 {
-    let public = Grant {
-        grantee: Grantee::Public,
-        privilege,
-        rel,
-    };
-    let own = Grant {
-        grantee: Grantee::Role(role),
-        privilege,
-        rel,
-    };
-    grants.contains(&public) || grants.contains(&own)
+    is_granted_to(grants, Grantee::Public, privilege, rel)
+        || is_granted_to(grants, Grantee::Role(role), privilege, rel)
 }
 
 /// Grants each of the privileges, for which there is room.

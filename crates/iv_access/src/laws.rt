@@ -2,7 +2,11 @@
 //!
 //! That what policies say of a row is the same whatever rows the tables hold needs no law: `check` is given the rights, the
 //! role, the table's number, the test and the row, and no table. So it is with each look-up of a privilege.
+ghost use Rattle.std.specs.Prelude.{ℕ, List};
+ghost use Rattle.iv_access.specs.Rights.{Membership};
+ghost use Rattle.iv_access.specs.Memberships.{member_of, joined, parted};
 ghost use Rattle.iv_access.specs.Laws.{GrantsGive, RevokesTake, HeldGrantsChangeNothing, RolesHaveTheirOwn, OwnersHaveAll};
+ghost use Rattle.iv_access.specs.Laws.{FollowsChains, HasByReach, MembersHold, NoLoops, ReachAlongChains, SeesByReach, StaysUnless};
 ghost use Rattle.iv_access.specs.Laws.{RowsPassWherePermitted, NothingPassesWithoutPermissive, PoliciesRise, FirstByNameIsTold};
 ghost use Rattle.iv_access.specs.Laws.{RestrictiveNarrow, PermissiveWiden, OtherTablesStay};
 
@@ -21,9 +25,41 @@ pub fn held_grants_change_nothing()
     ensures { HeldGrantsChangeNothing }
 {}
 
-/// A role has a privilege as `admin`, by a grant to all roles, or by one of its own.
+/// A role has a privilege as `admin`, by a grant to all roles, or by one to a role that it reaches, as itself.
 pub fn roles_have_their_own_and_the_public()
     ensures { RolesHaveTheirOwn }
+{}
+
+/// The test whether a role reaches another follows each chain of direct memberships, and nothing else.
+pub fn chains_are_followed()
+    ensures { FollowsChains }
+{}
+
+/// Along a chain of any length each role reaches those before it and none behind it.
+pub fn chains_may_be_long()
+    ensures { ReachAlongChains }
+{}
+
+/// What a role holds each role holds that reaches it; what `admin` has as the superuser is not held.
+pub fn members_hold_what_roles_hold()
+    ensures { MembersHold }
+{}
+
+/// Whatever changes led to the rights, no two roles reach each other.
+pub fn memberships_do_not_loop()
+    ensures { NoLoops }
+{}
+
+/// A role reaches the same roles after a membership comes or goes, unless it comes to reach its role or ceases to.
+pub fn few_reach_others()
+    ensures come { (ms : List Membership) (role member : ℕ) → StaysUnless ms (joined (member_of role member) ms) role }
+    ensures gone { (ms : List Membership) (role member : ℕ) → StaysUnless ms (parted (member_of role member) ms) role }
+{}
+
+/// What a role has and what it sees stay as they are where it reaches the same roles.
+pub fn reach_decides()
+    ensures has { HasByReach }
+    ensures sees { SeesByReach }
 {}
 
 /// The owner of a new relation has each privilege on it.

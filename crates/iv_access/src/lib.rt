@@ -9,6 +9,7 @@ mod filter;
 mod grant;
 mod guard;
 pub mod laws;
+mod memberships;
 pub mod policy;
 pub mod privilege;
 mod relations;

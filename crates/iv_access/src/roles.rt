@@ -51,7 +51,8 @@ impl Roles {
 
     /// The role of a name.
     pub(crate) fn number(&self, name: &str) -> Option<RoleId>
-        ensures { option_map (λ r. r.0) result ≡ position (bytes_eq name.now) self.now }
+        ensures place { option_map (λ r. r.0) result ≡ position (bytes_eq name.now) self.now }
+        ensures within { IfSome result (λ r. r.0 < 256) }
     {
         match self.names.get_index_of(name) {
             Some(place) => Some(RoleId(place as u32)),

@@ -88,6 +88,7 @@ is_other fault.Taken = true
 is_other fault.NotAdmin = true
 is_other fault.NotOwner = true
 is_other fault.Policy = true
+is_other fault.Loop = true
 is_other fault.TooMany = false
 is_other fault.Memory = false
 

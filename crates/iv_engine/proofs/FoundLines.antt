@@ -1,5 +1,5 @@
 -- The line of a subscription, from what stands beside the circuit that it reads.
-use Rattle.std.proofs.Common.{◌≡◌, ℕ, ◌+◌, ◌<◌, Bool, true, false, cond, List, [], ◌∷◌, ◌++◌, length, map, get_or, Option, None, Some, refl, sym, ap, subst, ◌∙◌}
+use Rattle.std.proofs.Common.{◌≡◌, ℕ, ◌<◌, Bool, true, false, cond, List, [], ◌∷◌, ◌++◌, length, map, get_or, Option, None, Some, refl, sym, ap, subst, ◌∙◌}
 use Rattle.std.proofs.lemmas.List.{length-map}
 use Rattle.std.specs.Prelude.{ℤ, flat_map, is_some, not, position}
 use Rattle.std.specs.Global.{Global, Vec}
@@ -7,7 +7,6 @@ use Rattle.std.specs.List.{list_all}
 use Rattle.std.specs.declared.rc.Rc.{Rc}
 use Rattle.iv_rows.specs.Cell.{Cell}
 use Rattle.iv_zset.specs.Weights.{Weighed}
-use Rattle.iv_machine.specs.Act as machine
 use Rattle.iv_machine.specs.Machine.{line_of as machine_line}
 use Rattle.iv_machine.specs.State.{Subscription, actor}
 use Rattle.iv_engine.specs.Found.{beside}

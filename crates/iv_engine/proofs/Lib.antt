@@ -20,7 +20,12 @@ mod Viewing
 mod Differing
 mod Reaching
 mod Running
+mod Passing
+mod Flagging
+mod Righting
 mod Ending
+mod Joining
+mod Enrolling
 mod Seeing
 mod Listing
 mod Turned

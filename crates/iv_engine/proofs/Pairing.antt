@@ -1,6 +1,6 @@
 -- Lists walked one by one: what holds at a place, and a second list that grows beside the first.
 use Rattle.std.proofs.Common.{◌≡◌, ℕ, zero, suc, ◌+◌, ◌<◌, ◌≤◌, List, [], ◌∷◌, ◌++◌, length, map, take, get_or, sym, ap, subst, ◌∙◌, arith}
-use Rattle.std.proofs.lemmas.List.{take_all, take_more}
+use Rattle.std.proofs.lemmas.List.{map-append, take_all, take_more}
 use Rattle.std.specs.List.{AllByRecursion}
 use Rattle.iv_engine.specs.Each.{Each}
 
@@ -13,6 +13,15 @@ pub map_at : {X Y : Type 0} (f : X → Y) (xs : List X) (i : ℕ) (x : X) → i 
 map_at f [] i x l at = absurd (omega arith)
 map_at f (y ∷ ys) zero x l at = ap f at
 map_at f (y ∷ ys) (suc i) x l at = map_at f ys i x (omega arith) at
+
+-- a list that grows by what a function makes of each
+pub map_more : {X Y : Type 0} (f : X → Y) (xs : List X) (i : ℕ) (x : X) (y : Y) (ys new : List Y) → i < length xs → x ≡ get_or xs i x → ys ≡ map f (take i xs) → y ≡ f x → new ≡ ys ++ y ∷ [] → new ≡ map f (take (i + 1) xs)
+map_more f xs i x y ys new low at so_far one is =
+    is ∙ (λ j. so_far j ++ one j ∷ []) ∙ sym (map-append f (take i xs) (x ∷ []))
+    ∙ sym (ap (map f) (take_more xs i x low ∙ ap (λ z. take i xs ++ z ∷ []) (sym at)))
+
+pub map_whole : {X Y : Type 0} (f : X → Y) (xs : List X) (k : ℕ) (ys : List Y) → length xs ≤ k → ys ≡ map f (take k xs) → ys ≡ map f xs
+map_whole f xs k ys l h = h ∙ ap (map f) (take_all k xs l)
 
 module _ {X Y : Type 0} (P : X → Y → Type 0) where
   each_pushed : (xs : List X) (ys : List Y) (x : X) (y : Y) → Each P xs ys → P x y → Each P (xs ++ x ∷ []) (ys ++ y ∷ [])

@@ -1,5 +1,5 @@
 -- The rows that a reader sees: what they depend on, their limits, and the differences of them.
-use Rattle.std.proofs.Common.{◌≡◌, ℕ, zero, ◌+◌, ◌≤◌, ◌^◌, Bool, true, false, cond, not, ◌&&◌, List, [], ◌∷◌, length, ℤ, pos, Option, None, Some, refl, sym, ap, subst, ◌∙◌, arith}
+use Rattle.std.proofs.Common.{◌≡◌, ℕ, zero, ◌+◌, ◌≤◌, ◌^◌, Bool, true, false, cond, not, ◌&&◌, ◌||◌, List, [], ◌∷◌, length, ℤ, pos, Option, None, Some, refl, sym, ap, subst, ◌∙◌, arith}
 use Rattle.std.proofs.lemmas.Bool.Decides.{nat_tests}
 use Rattle.std.proofs.lemmas.Int.{ints}
 use Rattle.std.specs.Prelude.{◌+ℤ◌, ◌-ℤ◌, ◌≤ℤ◌, int_lt, slice_get, filter, nat_le, nat_lt, position}
@@ -18,21 +18,22 @@ use Rattle.iv_access.specs.declared.policy.Check.{Check}
 use Rattle.iv_access.specs.declared.policy.Check.TheVariants as check
 use Rattle.iv_access.specs.declared.policy.Verdict.TheVariants.{Pass, NoPermissive}
 use Rattle.iv_access.specs.Rights.{Grantee, Public, Role, Guard, Policy, Rights}
-use Rattle.iv_access.specs.Privileges.{is_for, role_name}
+use Rattle.iv_access.specs.Laws.{ReachesAlike}
+use Rattle.iv_access.specs.Privileges.{is_admin, is_for, role_name}
 use Rattle.iv_access.specs.Policies.{applies, by_policies, covers, failed_at, forbids, is_exempt, is_pass, may_see, passes, permits, policies_of}
 use Rattle.iv_machine.specs.Machine.{difference, weight}
 use Rattle.iv_machine.proofs.Alike.{alike}
 use Rattle.iv_machine.proofs.Rising.{AreRising, IsBelow, NoZero, difference_rises, difference_weighs}
 
--- ---- what a role sees depends on its name and on the guard alone
+-- ---- what a role sees depends on its name, on the roles that it reaches and on the guard alone
 
-pub for_same : (r q : Rights) (role : ℕ) (to : Grantee) → is_for r role to ≡ is_for q role to
-for_same r q role Public = refl
-for_same r q role (Role other) = refl
+pub for_same : (r q : Rights) (role : ℕ) → ReachesAlike q r.members role → (to : Grantee) → is_for r role to ≡ is_for q role to
+for_same r q role reach Public = refl
+for_same r q role reach (Role other) = reach other
 
-module _ (r q : Rights) (role : ℕ) (name : role_name r role ≡ role_name q role) (test : Check) (row : Cells) where
+module _ (r q : Rights) (role : ℕ) (reach : ReachesAlike q r.members role) (name : role_name r role ≡ role_name q role) (test : Check) (row : Cells) where
   applies_same : (p : Policy) → applies r role test p ≡ applies q role test p
-  applies_same p = λ i. covers p.command test && list_any (λ to. for_same r q role to i) p.to
+  applies_same p = λ i. covers p.command test && list_any (λ to. for_same r q role reach to i) p.to
 
   permits_same : (p : Policy) → permits r role test row p ≡ permits q role test row p
   permits_same p = λ i. not p.restrictive && (applies_same p i && passes (name i) test row p)
@@ -43,17 +44,17 @@ module _ (r q : Rights) (role : ℕ) (name : role_name r role ≡ role_name q ro
   policies_same : (ps : List Policy) → by_policies r role test row ps ≡ by_policies q role test row ps
   policies_same ps = λ i. cond (list_any (λ p. permits_same p i) ps) (failed_at (position (λ p. forbids_same p i) ps)) NoPermissive
 
-exempt_same : (r q : Rights) (role : ℕ) (g : Option Guard) → is_exempt r role g ≡ is_exempt q role g
-exempt_same r q role None = refl
-exempt_same r q role (Some g) = refl
+exempt_same : (r q : Rights) (role : ℕ) → ReachesAlike q r.members role → (g : Option Guard) → is_exempt r role g ≡ is_exempt q role g
+exempt_same r q role reach None = refl
+exempt_same r q role reach (Some g) = λ i. not g.enabled || (is_admin role || (reach g.owner i && not g.forced))
 
-pub sees_same : (r q : Rights) (role t : ℕ) → role_name r role ≡ role_name q role → slice_get r.guards t ≡ slice_get q.guards t → (row : Cells) → may_see r role t row ≡ may_see q role t row
-sees_same r q role t name guard row =
-    (λ i. is_pass (cond (exempt_same r q role (slice_get r.guards t) i) Pass (policies_same r q role name check.Select row (policies_of (slice_get r.guards t)) i)))
+pub sees_same : (r q : Rights) (role t : ℕ) → ReachesAlike q r.members role → role_name r role ≡ role_name q role → slice_get r.guards t ≡ slice_get q.guards t → (row : Cells) → may_see r role t row ≡ may_see q role t row
+sees_same r q role t reach name guard row =
+    (λ i. is_pass (cond (exempt_same r q role reach (slice_get r.guards t) i) Pass (policies_same r q role reach name check.Select row (policies_of (slice_get r.guards t)) i)))
     ∙ ap (λ g. is_pass (cond (is_exempt q role g) Pass (by_policies q role check.Select row (policies_of g)))) guard
 
-pub rows_same : (r q : Rights) (role t : ℕ) → role_name r role ≡ role_name q role → slice_get r.guards t ≡ slice_get q.guards t → (rows : List Cells) → filter (may_see r role t) rows ≡ filter (may_see q role t) rows
-rows_same r q role t name guard rows = λ i. filter (λ row. sees_same r q role t name guard row i) rows
+pub rows_same : (r q : Rights) (role t : ℕ) → ReachesAlike q r.members role → role_name r role ≡ role_name q role → slice_get r.guards t ≡ slice_get q.guards t → (rows : List Cells) → filter (may_see r role t) rows ≡ filter (may_see q role t) rows
+rows_same r q role t reach name guard rows = λ i. filter (λ row. sees_same r q role t reach name guard row i) rows
 
 -- ---- a filtered list is within the limits where the list is
 

@@ -15,6 +15,7 @@ use Rattle.iv_algebra.specs.Evaluation.{eval, plan_within}
 use Rattle.iv_algebra.specs.Contents.{rows_of}
 use Rattle.iv_bind.specs.Faults.{if_some}
 use Rattle.iv_access.specs.Rights.{Rights}
+use Rattle.iv_access.specs.Laws.{ReachesAlike}
 use Rattle.iv_access.specs.Privileges.{role_name}
 use Rattle.iv_access.specs.Policies.{allowed, may_see}
 use Rattle.iv_machine.specs.State.{Frame, Subscription, actor, plan_at, subscription_of, view_for, view_of, is_within, is_within_for, missing_for, shown}
@@ -56,15 +57,15 @@ module _ (e : Kept) (T : Lists) where
     pub view_fits : (role rel : ℕ) → IsATable e.catalog rel → is_within_for (at e T) role rel ≡ true
     view_fits role rel t = view_within role rel t (table_fits rel)
 
--- what a role sees depends on its name and on the guards alone
-pub view_same : (f : Frame) (q : Rights) (role rel : ℕ) (T : Lists) → role_name q role ≡ role_name f.rights role → ((t : ℕ) → slice_get q.guards t ≡ slice_get f.rights.guards t)
+-- what a role sees depends on its name, on the roles that it reaches and on the guards alone
+pub view_same : (f : Frame) (q : Rights) (role rel : ℕ) (T : Lists) → ReachesAlike f.rights q.members role → role_name q role ≡ role_name f.rights role → ((t : ℕ) → slice_get q.guards t ≡ slice_get f.rights.guards t)
     → view_for (record { frame = record f { rights = q }; rows = T }) role rel ≡ view_for (record { frame = f; rows = T }) role rel
-view_same f q role rel T name guards = λ i. eval (plan_at f.catalog rel) (λ t. rows_same q f.rights role t name (guards t) (T t) i)
+view_same f q role rel T reach name guards = λ i. eval (plan_at f.catalog rel) (λ t. rows_same q f.rights role t reach name (guards t) (T t) i)
 
 -- and so do the limits of it
-pub limits_same : (f : Frame) (q : Rights) (role rel : ℕ) (T : Lists) → role_name q role ≡ role_name f.rights role → ((t : ℕ) → slice_get q.guards t ≡ slice_get f.rights.guards t)
+pub limits_same : (f : Frame) (q : Rights) (role rel : ℕ) (T : Lists) → ReachesAlike f.rights q.members role → role_name q role ≡ role_name f.rights role → ((t : ℕ) → slice_get q.guards t ≡ slice_get f.rights.guards t)
     → is_within_for (record { frame = record f { rights = q }; rows = T }) role rel ≡ is_within_for (record { frame = f; rows = T }) role rel
-limits_same f q role rel T name guards = λ i. plan_within f.cap (plan_at f.catalog rel) (λ t. rows_same q f.rights role t name (guards t) (T t) i)
+limits_same f q role rel T reach name guards = λ i. plan_within f.cap (plan_at f.catalog rel) (λ t. rows_same q f.rights role t reach name (guards t) (T t) i)
 
 -- ---- lists behind the tables
 

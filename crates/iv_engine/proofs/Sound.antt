@@ -12,6 +12,7 @@ use Rattle.iv_algebra.specs.Contents.{rows_of}
 use Rattle.iv_bind.specs.BoundTexts.{FaultAt, TextFault, bound_query}
 use Rattle.iv_bind.specs.Catalogs.{Answer, Entry, Held, Table, View, plan_of, reached_by, schema_of, table_in}
 use Rattle.iv_bind.specs.Faults.{if_some}
+use Rattle.iv_access.specs.Laws.{ReachesAlike}
 use Rattle.iv_access.specs.declared.privilege.Privilege.{Privilege}
 use Rattle.iv_access.specs.declared.privilege.Privilege.TheVariants.{Select}
 use Rattle.iv_access.specs.Known.{Relation, known_at_start, role_number, grantee_of}
@@ -58,14 +59,14 @@ from_zero n = omega arith
 
 -- ---- more rights
 
-any_same : (r q : Rights) (role : ℕ) (p : Privilege) (rel : ℕ) (gs : List Grant)
+any_same : (r q : Rights) (role : ℕ) → ReachesAlike q r.members role → (p : Privilege) (rel : ℕ) (gs : List Grant)
     → list_any (λ g. rel == g.rel && (privilege_eq p g.privilege && is_for r role g.grantee)) gs ≡ list_any (λ g. rel == g.rel && (privilege_eq p g.privilege && is_for q role g.grantee)) gs
-any_same r q role p rel [] = refl
-any_same r q role p rel (g ∷ gs) = λ i. (rel == g.rel && (privilege_eq p g.privilege && for_same r q role g.grantee i)) || any_same r q role p rel gs i
+any_same r q role reach p rel [] = refl
+any_same r q role reach p rel (g ∷ gs) = λ i. (rel == g.rel && (privilege_eq p g.privilege && for_same r q role reach g.grantee i)) || any_same r q role reach p rel gs i
 
-pub has_same : (r q : Rights) (role : ℕ) (p : Privilege) (rel : ℕ) → r.grants ≡ q.grants → has r role p rel ≡ has q role p rel
-has_same r q role p rel h = ap (λ gs. is_admin role || list_any (λ g. rel == g.rel && (privilege_eq p g.privilege && is_for r role g.grantee)) gs) h
-    ∙ ap (λ b. is_admin role || b) (any_same r q role p rel q.grants)
+pub has_same : (r q : Rights) (role : ℕ) → ReachesAlike q r.members role → (p : Privilege) (rel : ℕ) → r.grants ≡ q.grants → has r role p rel ≡ has q role p rel
+has_same r q role reach p rel h = ap (λ gs. is_admin role || list_any (λ g. rel == g.rel && (privilege_eq p g.privilege && is_for r role g.grantee)) gs) h
+    ∙ ap (λ b. is_admin role || b) (any_same r q role reach p rel q.grants)
 
 or_more : (a b c : Bool) → (b ≡ true → c ≡ true) → (a || b) ≡ true → (a || c) ≡ true
 or_more true b c f h = refl
@@ -87,12 +88,12 @@ all_granted_more test rel [] to gs h = h
 all_granted_more test rel (p ∷ ps) to gs h = all_granted_more test rel ps to (granted (record { grantee = to; privilege = p; rel = rel }) gs) (granted_more test (record { grantee = to; privilege = p; rel = rel }) gs h)
 
 -- who has a privilege keeps it where others are granted
-pub has_more : (r q : Rights) (role : ℕ) (p : Privilege) (on rel : ℕ) (ps : List Privilege) (to : Grantee) → q.grants ≡ for_each granted rel ps to r.grants → has r role p on ≡ true → has q role p on ≡ true
-has_more r q role p on rel ps to e h = or_more (is_admin role)
+pub has_more : (r q : Rights) (role : ℕ) → ReachesAlike q r.members role → (p : Privilege) (on rel : ℕ) (ps : List Privilege) (to : Grantee) → q.grants ≡ for_each granted rel ps to r.grants → has r role p on ≡ true → has q role p on ≡ true
+has_more r q role reach p on rel ps to e h = or_more (is_admin role)
     (list_any (λ g. on == g.rel && (privilege_eq p g.privilege && is_for r role g.grantee)) r.grants)
     (list_any (λ g. on == g.rel && (privilege_eq p g.privilege && is_for q role g.grantee)) q.grants)
     (λ k. ap (list_any (λ g. on == g.rel && (privilege_eq p g.privilege && is_for q role g.grantee))) e
-    ∙ sym (any_same r q role p on (for_each granted rel ps to r.grants))
+    ∙ sym (any_same r q role reach p on (for_each granted rel ps to r.grants))
     ∙ all_granted_more (λ g. on == g.rel && (privilege_eq p g.privilege && is_for r role g.grantee)) rel ps to r.grants k) h
 
 -- ---- sessions
@@ -177,12 +178,12 @@ module _ (e : Kept) (h : IsSound e) (name owner : Name) (held : Held) where
       record {
         plan = ap (λ (y : Option Entry). if_some y (Scan s.rel) (λ z. plan_of z.rel z.held)) same;
         needs = ap (λ (y : Option Entry). if_some y [] (λ z. reached_by z.rel z.held)) same;
-        reads = λ rel k. has_more r q (actor (frame_of e) s.session) Select rel (length r.guards) all_privileges (Role (role_number e.known.rights owner)) refl k;
-        sees = λ T k. sees_before r q (actor (frame_of e) s.session) g e.tables T refl refl (λ t l. none_beyond e h.stored t (subst (λ m. m ≤ t) h.stored.guards l)) k;
+        reads = λ rel k. has_more r q (actor (frame_of e) s.session) (λ o. refl) Select rel (length r.guards) all_privileges (Role (role_number e.known.rights owner)) refl k;
+        sees = λ T k. sees_before r q (actor (frame_of e) s.session) g e.tables T (λ o. refl) refl refl (λ t l. none_beyond e h.stored t (subst (λ m. m ≤ t) h.stored.guards l)) k;
         acts = refl;
         grows = let l = length-append e.catalog (x ∷ []) in omega (arith, l);
         kinds = λ t l. ap (λ (y : Option Entry). option_map kinds_of (if_some y None (λ z. table_in z.held))) (still_numbered name (Some held) e.catalog t (known_at 0 e.catalog t h.stored.numbered (omega arith) (omega (arith, l))));
-        sight = λ t l. sight_before r q (actor (frame_of e) s.session) g refl refl t (subst (λ m. t < m) (sym h.stored.guards) l);
+        sight = λ t l. sight_before r q (actor (frame_of e) s.session) g (λ o. refl) refl refl t (subst (λ m. t < m) (sym h.stored.guards) l);
       }
 
   pub relation_unmoved : AllByRecursion (IsUnmoved e c) e.subscriptions
@@ -272,12 +273,12 @@ module _ (e : Kept) (n : ℕ) (h : IsSound e) where
         record {
           plan = refl;
           needs = refl;
-          reads = λ rel y. ap (λ role. has q role Select rel) a ∙ has_same q r k Select rel refl ∙ y;
-          sees = λ T y. ap (λ role. allowed q role T) a ∙ (λ i t. rows_same q r k t called refl (T t) i);
+          reads = λ rel y. ap (λ role. has q role Select rel) a ∙ has_same q r k (λ o. refl) Select rel refl ∙ y;
+          sees = λ T y. ap (λ role. allowed q role T) a ∙ (λ i t. rows_same q r k t (λ o. refl) called refl (T t) i);
           acts = a;
           grows = omega arith;
           kinds = λ t l. refl;
-          sight = λ t l row. ap (λ role. may_see q role t row) a ∙ sees_same q r k t called refl row;
+          sight = λ t l row. ap (λ role. may_see q role t row) a ∙ sees_same q r k t (λ o. refl) called refl row;
         }) h.stored.shows
 
     pub role_sound : frame_refusal (frame_of e) n (create_role name) ≡ None → IsSound named
@@ -314,12 +315,12 @@ module _ (e : Kept) (n : ℕ) (h : IsSound e) where
         record {
           plan = refl;
           needs = refl;
-          reads = λ on y. has_more r q k Select on (rel_of e.catalog rel) ps (grantee_of r to) refl y;
-          sees = λ T y. (λ i t. rows_same q r k t refl refl (T t) i);
+          reads = λ on y. has_more r q k (λ o. refl) Select on (rel_of e.catalog rel) ps (grantee_of r to) refl y;
+          sees = λ T y. (λ i t. rows_same q r k t (λ o. refl) refl refl (T t) i);
           acts = refl;
           grows = omega arith;
           kinds = λ t l. refl;
-          sight = λ t l row. sees_same q r k t refl refl row;
+          sight = λ t l row. sees_same q r k t (λ o. refl) refl refl row;
         }) h.stored.shows
 
     pub grant_sound : IsSound given

@@ -89,7 +89,7 @@ pub record KeepsRows (e : Kept) (n : ℕ) (act : Act) : Type 0 where
   pub reply : machine.done ≡ reply_to (frame_of e) act
   pub tables : (T : Lists) → Stands T e.tables → Stands T (kept_after e n act).tables
   pub sound : frame_refusal (frame_of e) n act ≡ None → IsSound e → IsSound (kept_after e n act)
-  pub counts : (old new : Seen) (rel k : ℕ) → TurnsRounds old new act rel k k
+  pub counts : (old new : Seen) (role rel k : ℕ) → TurnsRounds old new act role rel k k
 
 or_nothing : (o p : Option machine.Refusal) → p ≡ None → or_else o p ≡ o
 or_nothing None p h = h
@@ -137,27 +137,27 @@ quiet e n act k u = record { keeps = k; acts = λ p h. all_map (IsUnmoved e (kep
 
 pub begin_quiet : (e : Kept) (n : ℕ) (role : Name) → IsQuiet e n (begin role)
 begin_quiet e n role = quiet e n (begin role)
-    (record { rows = λ T. refl; after = λ T h. refl; ends = λ s. refl; reply = refl; tables = λ T s. s; sound = λ p h. begin_sound e n h role p; counts = λ old new rel k. refl })
+    (record { rows = λ T. refl; after = λ T h. refl; ends = λ s. refl; reply = refl; tables = λ T s. s; sound = λ p h. begin_sound e n h role p; counts = λ old new role rel k. refl })
     (λ p h. begin_unmoved e n h role)
 
 pub role_quiet : (e : Kept) (n : ℕ) (name : Name) → IsQuiet e n (create_role name)
 role_quiet e n name = quiet e n (create_role name)
-    (record { rows = λ T. refl; after = λ T h. refl; ends = λ s. refl; reply = refl; tables = λ T s. s; sound = λ p h. role_sound e n h name p; counts = λ old new rel k. refl })
+    (record { rows = λ T. refl; after = λ T h. refl; ends = λ s. refl; reply = refl; tables = λ T s. s; sound = λ p h. role_sound e n h name p; counts = λ old new role rel k. refl })
     (λ p h. role_unmoved e n h name)
 
 pub grant_quiet : (e : Kept) (n : ℕ) (rel : Name) (ps : List Privilege) (to : Option Name) → IsQuiet e n (grant rel ps to)
 grant_quiet e n rel ps to = quiet e n (grant rel ps to)
-    (record { rows = λ T. refl; after = λ T h. refl; ends = λ s. refl; reply = refl; tables = λ T s. s; sound = λ p h. grant_sound e n h rel ps to; counts = λ old new rel k. refl })
+    (record { rows = λ T. refl; after = λ T h. refl; ends = λ s. refl; reply = refl; tables = λ T s. s; sound = λ p h. grant_sound e n h rel ps to; counts = λ old new role rel k. refl })
     (λ p h. grant_unmoved e n h rel ps to)
 
 pub table_quiet : (e : Kept) (n : ℕ) (name owner : Name) (columns : List Column) → IsQuiet e n (create_table name owner columns)
 table_quiet e n name owner columns = quiet e n (create_table name owner columns)
-    (record { rows = λ T. refl; after = λ T h. refl; ends = λ s. refl; reply = refl; tables = λ T s t q. ap (λ z. weight_of z q) (rows_with (catalogs.Table columns) (length e.catalog) e.tables t) ∙ s t q; sound = λ p h. table_sound e n h name owner columns; counts = λ old new rel k. refl })
+    (record { rows = λ T. refl; after = λ T h. refl; ends = λ s. refl; reply = refl; tables = λ T s t q. ap (λ z. weight_of z q) (rows_with (catalogs.Table columns) (length e.catalog) e.tables t) ∙ s t q; sound = λ p h. table_sound e n h name owner columns; counts = λ old new role rel k. refl })
     (λ p h. table_unmoved e n h name owner columns)
 
 pub view_quiet : (e : Kept) (n : ℕ) (name owner query : Name) → IsQuiet e n (create_view name owner query)
 view_quiet e n name owner query = quiet e n (create_view name owner query)
-    (record { rows = λ T. refl; after = λ T h. refl; ends = λ s. refl; reply = refl; tables = λ T s. s; sound = λ p h. view_sound e n h name owner query p; counts = λ old new rel k. refl })
+    (record { rows = λ T. refl; after = λ T h. refl; ends = λ s. refl; reply = refl; tables = λ T s. s; sound = λ p h. view_sound e n h name owner query p; counts = λ old new role rel k. refl })
     (λ p h. view_unmoved e n h name owner query p)
 
 -- ---- the step
@@ -179,9 +179,10 @@ refused_step e new n act r sound h k = record {
 same_counted : (e : Kept) (n : ℕ) (act : Act) → KeepsRows e n act → IsSound e → frame_refusal (frame_of e) n act ≡ None → AreActors e (kept_after e n act) → AreCounted (seen e) act (seen (kept_after e n act))
 same_counted e n act q sound passed acts =
     let d = kept_after e n act in
-    those_counted e d (q.sound passed sound).stored (λ s was now. TurnsRounds (seen e) (seen d) act s.rel was now) (all_beside e sound.stored)
-    (all_map (λ s. actor (frame_of d) s.session ≡ actor (frame_of e) s.session) (λ s. TurnsRounds (seen e) (seen d) act s.rel (rounds_of e s) (rounds_of d s)) e.subscriptions
-    (λ s a. subst (TurnsRounds (seen e) (seen d) act s.rel (rounds_of e s)) (sym (same_rounds e d s refl a)) (q.counts (seen e) (seen d) s.rel (rounds_of e s))) acts)
+    let R : Subscription → ℕ → ℕ → Type 0 = λ s was now. TurnsRounds (seen e) (seen d) act (actor (frame_of d) s.session) s.rel was now in
+    those_counted e d (q.sound passed sound).stored R (all_beside e sound.stored)
+    (all_map (λ s. actor (frame_of d) s.session ≡ actor (frame_of e) s.session) (λ s. R s (rounds_of e s) (rounds_of d s)) e.subscriptions
+    (λ s a. subst (R s (rounds_of e s)) (sym (same_rounds e d s refl a)) (q.counts (seen e) (seen d) (actor (frame_of d) s.session) s.rel (rounds_of e s))) acts)
 
 -- an accepted one that tells each subscription what it shows now and did not show before
 pub changed_step : (e new : Kept) (n : ℕ) (act : Act) (reply : Reply) (lines : Vec Line) → KeepsRows e n act → AreActors e (kept_after e n act) → IsSound e → frame_refusal (frame_of e) n act ≡ None → new ≡ kept_after e n act → reply ≡ Ok

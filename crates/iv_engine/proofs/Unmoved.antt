@@ -8,6 +8,7 @@ use Rattle.iv_algebra.specs.Plans.{Lists}
 use Rattle.iv_algebra.specs.Contents.{rows_of}
 use Rattle.iv_algebra.specs.declared.tables.Table.{Table}
 use Rattle.iv_bind.specs.Catalogs.{Entry, Held, numbered}
+use Rattle.iv_access.specs.Laws.{ReachesAlike}
 use Rattle.iv_access.specs.declared.privilege.Privilege.TheVariants.{Select}
 use Rattle.iv_access.specs.Policies.{allowed, may_see}
 use Rattle.iv_algebra.specs.Fits.{or_nothing}
@@ -92,21 +93,21 @@ beyond : (m n : ℕ) → nat_lt m n ≡ false → n ≤ m
 beyond m n h = grind (arith, nat_tests)
 
 -- what is no relation has no row, and so a guard may come there
-pub sees_before : (r q : Rights) (role : ℕ) (g : Guard) (tables : List Table) (T : Lists) → role_name q role ≡ role_name r role → q.guards ≡ r.guards ++ g ∷ [] → ((t : ℕ) → length r.guards ≤ t → rows_of tables t ≡ []) → Stands T tables → allowed q role T ≡ allowed r role T
-sees_before r q role g tables T name guards beyond_none stands = λ i t. each t i
+pub sees_before : (r q : Rights) (role : ℕ) (g : Guard) (tables : List Table) (T : Lists) → ReachesAlike r q.members role → role_name q role ≡ role_name r role → q.guards ≡ r.guards ++ g ∷ [] → ((t : ℕ) → length r.guards ≤ t → rows_of tables t ≡ []) → Stands T tables → allowed q role T ≡ allowed r role T
+sees_before r q role g tables T reach name guards beyond_none stands = λ i t. each t i
   where
     none : (t : ℕ) → length r.guards ≤ t → T t ≡ []
     none t l = to_list None (rows_of tables t) (T t) (beyond_none t l) (stands t)
 
     by : (t : ℕ) (b : Bool) → nat_lt t (length r.guards) ≡ b → filter (may_see q role t) (T t) ≡ filter (may_see r role t) (T t)
-    by t true l = rows_same q r role t name (ap (λ gs. slice_get gs t) guards ∙ still_there r.guards g t (below t (length r.guards) l)) (T t)
+    by t true l = rows_same q r role t reach name (ap (λ gs. slice_get gs t) guards ∙ still_there r.guards g t (below t (length r.guards) l)) (T t)
     by t false l = let empty = none t (beyond t (length r.guards) l) in ap (filter (may_see q role t)) empty ∙ sym (ap (filter (may_see r role t)) empty)
 
     each : (t : ℕ) → filter (may_see q role t) (T t) ≡ filter (may_see r role t) (T t)
     each t = by t (nat_lt t (length r.guards)) refl
 
-pub sight_before : (r q : Rights) (role : ℕ) (g : Guard) → role_name q role ≡ role_name r role → q.guards ≡ r.guards ++ g ∷ [] → (t : ℕ) → t < length r.guards → (row : Cells) → may_see q role t row ≡ may_see r role t row
-sight_before r q role g name guards t l = sees_same q r role t name (ap (λ gs. slice_get gs t) guards ∙ still_there r.guards g t l)
+pub sight_before : (r q : Rights) (role : ℕ) (g : Guard) → ReachesAlike r q.members role → role_name q role ≡ role_name r role → q.guards ≡ r.guards ++ g ∷ [] → (t : ℕ) → t < length r.guards → (row : Cells) → may_see q role t row ≡ may_see r role t row
+sight_before r q role g reach name guards t l = sees_same q r role t reach name (ap (λ gs. slice_get gs t) guards ∙ still_there r.guards g t l)
 
 -- ---- other sessions
 

@@ -1,14 +1,13 @@
 -- What private functions promise of an answer: its lines, and what is kept afterwards.
-use Rattle.std.specs.Prelude.{◌≡◌, ℕ, cond, List, [], ◌∷◌, map, flat_map, Option, Some, None, false}
+use Rattle.std.specs.Prelude.{◌≡◌, ℕ, List, [], ◌∷◌, map, flat_map, Option, Some, None, false}
 use Rattle.iv_algebra.specs.Plans.{Lists}
 use Rattle.iv_machine.specs.Act as machine
 use Rattle.iv_machine.specs.State.{Subscription}
 use Rattle.iv_machine.specs.Refusing.{refusal}
 use Rattle.iv_machine.specs.Changing.{after}
 use Rattle.iv_machine.specs.Machine.{reply_to, changes, settled, line_of as machine_line, difference, step}
-use Rattle.iv_machine.specs.declared.Cause.TheVariants as cause
 use Rattle.iv_engine.specs.Counting.{AreCounted, AreCountedWhereAccepted}
-use Rattle.iv_engine.specs.Kept.{Kept, IsSound, frame_of, at, may_read, shown_rows}
+use Rattle.iv_engine.specs.Kept.{Kept, IsSound, frame_of, at, shown_rows}
 use Rattle.iv_engine.specs.Rounds.{rounds}
 use Rattle.iv_engine.specs.Seen.{Seen, IsBehind}
 use Rattle.iv_engine.specs.Stands.{Stands}
@@ -77,18 +76,6 @@ moved_line e T U s = change_line e e T U s
 -- the lines of subscriptions that were open before
 abbrev pub moved_lines : Kept → Lists → Lists → List Subscription → List machine.Line
 moved_lines e T U es = flat_map (moved_line e T U) es
-
--- the line that ends a subscription for want of a privilege, which takes back all that it shows
-abbrev pub last_line : Kept → Lists → Subscription → machine.Line
-last_line e T s = machine.ended s.session s.number cause.Privilege (difference (shown_rows e T s) [])
-
--- the last line of a subscription whose reader may not select any more
-abbrev pub ended_line : Kept → Lists → Subscription → List machine.Line
-ended_line e T s = cond (may_read e s) [] (last_line e T s ∷ [])
-
--- the last lines of those subscriptions whose readers may not select any more
-abbrev pub AreEnded : Kept → List Subscription → List machine.Line → Type 0
-AreEnded e es lines = (T : Lists) → Stands T e.tables → lines ≡ flat_map (ended_line e T) es
 
 -- the lines of a step of the machine, for all lists behind e
 abbrev pub IsSaid : Kept → machine.Command → List machine.Line → Type 0

@@ -6,8 +6,9 @@ use Rattle.iv_algebra.specs.Contents.{rows_of}
 use Rattle.iv_algebra.specs.Shapes.{scans}
 use Rattle.iv_algebra.specs.declared.tables.Table.{Table}
 use Rattle.iv_bind.specs.Catalogs.{Entry}
-use Rattle.iv_machine.specs.Act.{Act, Command, Line, Refusal, create_policy, drop_policy, refused, reply, row_security, write}
-use Rattle.iv_machine.specs.State.{plan_at, rel_of}
+use Rattle.iv_access.specs.Laws.{ReachesAlike}
+use Rattle.iv_machine.specs.Act.{Act, Command, Line, Refusal, refused, reply, begin, finish, create_role, create_table, create_view, grant, revoke, grant_role, revoke_role, row_security, create_policy, drop_policy, write, subscribe, unsubscribe}
+use Rattle.iv_machine.specs.State.{actor, plan_at, rel_of}
 use Rattle.iv_engine.specs.Rounds.{beside_number}
 use Rattle.iv_engine.specs.Seen.{Seen}
 
@@ -28,13 +29,28 @@ pub record IsCounted (old new : Seen) (rel was now : ℕ) : Type 0 where
 abbrev pub IsRebuilt : Seen → (name : List ℕ) → (rel was now : ℕ) → Type 0
 IsRebuilt old name rel was now = now ≡ cond (scans_at old.frame.catalog rel (rel_of old.frame.catalog name)) 0 was
 
--- what an accepted request makes of the rounds of a subscription to the relation
-abbrev pub TurnsRounds : (old new : Seen) → Act → (rel was now : ℕ) → Type 0
-TurnsRounds old new (write es) rel was now = IsCounted old new rel was now
-TurnsRounds old new (create_policy p) rel was now = IsRebuilt old p.rel rel was now
-TurnsRounds old new (drop_policy name policy) rel was now = IsRebuilt old name rel was now
-TurnsRounds old new (row_security name enable force) rel was now = IsRebuilt old name rel was now
-TurnsRounds old new act rel was now = now ≡ was
+-- none any more where the role reaches other roles than before, and as many where it reaches the same
+pub record IsRebuiltByReach (old new : Seen) (role was now : ℕ) : Type 0 where
+  pub changed : (ReachesAlike old.frame.rights new.frame.rights.members role → ⊥) → now ≡ 0
+  pub same : ReachesAlike old.frame.rights new.frame.rights.members role → now ≡ was
+
+-- what an accepted request makes of the rounds of a subscription of the role to the relation
+abbrev pub TurnsRounds : (old new : Seen) → Act → (role rel was now : ℕ) → Type 0
+TurnsRounds old new (begin name) role rel was now = now ≡ was
+TurnsRounds old new finish role rel was now = now ≡ was
+TurnsRounds old new (create_role name) role rel was now = now ≡ was
+TurnsRounds old new (create_table name owner columns) role rel was now = now ≡ was
+TurnsRounds old new (create_view name owner query) role rel was now = now ≡ was
+TurnsRounds old new (grant name privileges to) role rel was now = now ≡ was
+TurnsRounds old new (revoke name privileges to) role rel was now = now ≡ was
+TurnsRounds old new (grant_role group to) role rel was now = IsRebuiltByReach old new role was now
+TurnsRounds old new (revoke_role group to) role rel was now = IsRebuiltByReach old new role was now
+TurnsRounds old new (row_security name enable force) role rel was now = IsRebuilt old name rel was now
+TurnsRounds old new (create_policy p) role rel was now = IsRebuilt old p.rel rel was now
+TurnsRounds old new (drop_policy name policy) role rel was now = IsRebuilt old name rel was now
+TurnsRounds old new (write es) role rel was now = IsCounted old new rel was now
+TurnsRounds old new (subscribe name) role rel was now = now ≡ was
+TurnsRounds old new (unsubscribe number) role rel was now = now ≡ was
 
 -- how many changes the circuit of the subscription of this number has taken in
 abbrev pub rounds_at : Seen → (number : ℕ) → ℕ
@@ -42,7 +58,8 @@ rounds_at seen number = beside_number number seen.rounds
 
 -- that of each subscription that is open afterwards; a new one had none
 abbrev pub AreCounted : Seen → Act → Seen → Type 0
-AreCounted old act new = AllByRecursion (λ s. TurnsRounds old new act s.rel (rounds_at old s.number) (rounds_at new s.number)) new.frame.subscriptions
+AreCounted old act new =
+    AllByRecursion (λ s. TurnsRounds old new act (actor new.frame s.session) s.rel (rounds_at old s.number) (rounds_at new s.number)) new.frame.subscriptions
 
 -- where the one line is no refusal
 abbrev pub AreCountedWhereAccepted : Seen → Command → List Line → Seen → Type 0

@@ -76,9 +76,13 @@ pub record IsOpen (e : Kept) (s : Subscription) : Type 0 where
   pub session : is_open (frame_of e) s.session ≡ true
   pub known : s.rel < length e.catalog
 
+-- the role may select from the relation, and from each that it reaches
+abbrev pub role_reads : Kept → (role rel : ℕ) → Bool
+role_reads e role rel = not (is_some (missing_for (frame_of e) role rel))
+
 -- its reader may select from each relation that it needs
 abbrev pub may_read : Kept → Subscription → Bool
-may_read e s = not (is_some (missing_for (frame_of e) (actor (frame_of e) s.session) s.rel))
+may_read e s = role_reads e (actor (frame_of e) s.session) s.rel
 
 -- the limits hold at each node of what the relation shows to the role
 abbrev pub IsWithinFor : Kept → (role rel : ℕ) → Type 0

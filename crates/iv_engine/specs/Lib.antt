@@ -20,6 +20,7 @@ pub mod Built
 pub mod Moved
 pub mod Resolving
 pub mod Turned
+pub mod Concerned
 pub mod Owned
 pub mod Finished
 pub mod Defined

@@ -6,7 +6,7 @@ use Rattle.iv_access.specs.Faults.{add_relation_fault}
 use Rattle.iv_access.specs.Rights.{Name}
 use Rattle.iv_access.specs.declared.fault.AccessFault.{AccessFault}
 use Rattle.iv_access.specs.declared.fault.AccessFault.TheVariants as fault
-use Rattle.iv_machine.specs.Act.{Refusal, unknown_role, name_taken, not_administrator, not_owner, unknown_policy, too_many}
+use Rattle.iv_machine.specs.Act.{Refusal, unknown_role, name_taken, not_administrator, not_owner, unknown_policy, too_many, membership_loop}
 use Rattle.iv_engine.specs.Kept.{Kept}
 use Rattle.iv_engine.specs.Next.{with_relation_of}
 
@@ -18,6 +18,7 @@ told fault.NotAdmin rel = Some not_administrator
 told fault.NotOwner rel = Some (not_owner rel)
 told fault.TooMany rel = Some too_many
 told fault.Policy rel = Some unknown_policy
+told fault.Loop rel = Some membership_loop
 told fault.Memory rel = None
 
 -- the answer to a request that names the relation, where the change of rights has the result

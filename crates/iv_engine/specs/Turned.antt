@@ -1,20 +1,21 @@
--- What readers see more and less where the policies of a table change, and which subscriptions end.
-use Rattle.std.specs.Prelude.{◌≡◌, ℕ, ◌<◌, ◌==◌, Bool, cond, true, false, List, [], ◌∷◌, ◌++◌, filter, flat_map, length, map, None, IfSome, is_some}
-use Rattle.std.specs.List.{AllByRecursion, list_any}
+-- What readers see more and less where rights change, and which subscriptions end.
+use Rattle.std.specs.Prelude.{◌≡◌, ◌<◌, Bool, cond, true, false, not, List, [], ◌++◌, filter, flat_map, length, map, Option, None, Some, IfSome, is_some}
+use Rattle.std.specs.List.{AllByRecursion}
 use Rattle.iv_zset.specs.Limits.{Counts}
 use Rattle.iv_zset.specs.Weights.{IsBag, Weighed}
 use Rattle.iv_algebra.specs.Rows.{Cells}
 use Rattle.iv_algebra.specs.Plans.{Lists}
 use Rattle.iv_circuit.specs.Circuits.{Running}
-use Rattle.iv_circuit.specs.Nodes.{plan_of, scans_of, total_of}
+use Rattle.iv_circuit.specs.Nodes.{plan_of, total_of}
 use Rattle.iv_machine.specs.Act as machine
-use Rattle.iv_machine.specs.Machine.{difference, line_of as machine_line}
-use Rattle.iv_machine.specs.State.{Subscription, is_within, plan_at}
+use Rattle.iv_machine.specs.Machine.{difference, ending, line_of as machine_line}
+use Rattle.iv_machine.specs.State.{Subscription, plan_at}
+use Rattle.iv_machine.specs.declared.Cause.{Cause}
 use Rattle.iv_machine.specs.declared.Cause.TheVariants as cause
 use Rattle.iv_engine.specs.Built.{IsBeyond, IsNew}
-use Rattle.iv_engine.specs.Counting.{scans_at}
+use Rattle.iv_engine.specs.Each.{Each}
 use Rattle.iv_engine.specs.Found.{beside_of, total_at}
-use Rattle.iv_engine.specs.Kept.{IsCircuitFor, IsRoleCircuit, Kept, RoleCircuit, WereOpened, at, frame_of, is_read, place_of, replaced_by, shown_rows}
+use Rattle.iv_engine.specs.Kept.{IsCircuitFor, IsRoleCircuit, IsStored, Kept, RoleCircuit, WereOpened, at, frame_of, is_read, place_of, replaced_by, role_reads, shown_rows}
 use Rattle.iv_engine.specs.Moved.{IsBagDifference, shared_rows}
 use Rattle.iv_engine.specs.Rounds.{rounds_of}
 use Rattle.iv_engine.specs.Stands.{Stands}
@@ -25,50 +26,70 @@ use Rattle.iv_engine.specs.declared.command.Line.{Line}
 use Rattle.iv_engine.specs.declared.command.Reply.{Reply}
 use Rattle.iv_engine.specs.declared.command.Reply.TheVariants.{Ok}
 use Rattle.iv_engine.specs.declared.turning.Turn.{Turn}
-use Rattle.iv_engine.specs.declared.turning.Turn.TheVariants.{Same, Anew, Beyond}
+use Rattle.iv_engine.specs.declared.turning.Turn.TheVariants.{Same, Anew, Lost, Beyond}
 
 -- ---- circuits
 
--- the circuit scans the table
-abbrev pub scans_table : Running → ℕ → Bool
-scans_table c table = list_any (λ s. s.table == table) (scans_of c.node)
-
--- before the circuits that scan the table are built anew: it is that of the relation's plan and counts what was shown, and
--- one that does not scan the table is that of what is shown now
-pub record WasRead (e : Kept) (table : ℕ) (k : RoleCircuit) : Type 0 where
+-- it is that of the relation's plan, and counts what was shown before rights changed
+pub record WasRead (e : Kept) (k : RoleCircuit) : Type 0 where
   pub known : k.rel < length e.catalog
   pub plan : plan_of k.circuit.node ≡ plan_at e.catalog k.rel
   pub bag : IsBag (total_of k.circuit.node)
-  pub other : scans_table k.circuit table ≡ false → IsCircuitFor e k.role (plan_at e.catalog k.rel) k.circuit
   pub opened : WereOpened k
+
+-- it is that of what is shown now, and its role may still read that
+pub record IsStill (e : Kept) (k : RoleCircuit) : Type 0 where
+  pub is : IsCircuitFor e k.role (plan_at e.catalog k.rel) k.circuit
+  pub reads : role_reads e k.role k.rel ≡ true
+
+-- so it is with one that the change does not concern
+abbrev pub IsOther : Kept → RoleCircuit → (concerned : Bool) → Type 0
+IsOther e k concerned = concerned ≡ false → IsStill e k
+
+-- after a change of rights and before readers are told: each subscription has its circuit, which shows what it showed before
+pub record AreWaiting (e : Kept) (concerned : List Bool) : Type 0 where
+  pub stored : IsStored e
+  pub were : AllByRecursion (WasRead e) e.circuits
+  pub others : Each (IsOther e) e.circuits concerned
+  pub there : AllByRecursion (λ s. is_some (place_of e s) ≡ true) e.subscriptions
 
 -- the new circuit, and what it shows more and less than the bag has
 abbrev pub IsAnewBy : Weighed → Running → Turn → Type 0
 IsAnewBy before c Same = ⊥
 IsAnewBy before c (Anew new rows) = (new ≡ c) × IsBagDifference before (total_of c.node) (shared_rows rows)
+IsAnewBy before c Lost = ⊥
 IsAnewBy before c Beyond = ⊥
 
--- it scans the table; the circuit is a new one, and the rows are what that shows more and less
-pub record IsAnew (e : Kept) (table : ℕ) (k : RoleCircuit) (c : Running) (rows : Weighed) : Type 0 where
-  pub scans : scans_table k.circuit table ≡ true
+-- its role may read it; the circuit is a new one, and the rows are what that shows more and less
+pub record IsAnew (e : Kept) (k : RoleCircuit) (c : Running) (rows : Weighed) : Type 0 where
+  pub reads : role_reads e k.role k.rel ≡ true
   pub is : IsNew e k.role (plan_at e.catalog k.rel) c
   pub moves : IsBagDifference (total_of k.circuit.node) (total_of c.node) rows
 
--- it scans the table, and a new one would break the limits
-pub record IsPast (e : Kept) (table : ℕ) (k : RoleCircuit) : Type 0 where
-  pub scans : scans_table k.circuit table ≡ true
+-- its role may read it, and a new one would break the limits
+pub record IsPast (e : Kept) (k : RoleCircuit) : Type 0 where
+  pub reads : role_reads e k.role k.rel ≡ true
   pub beyond : IsBeyond e k.role (plan_at e.catalog k.rel)
 
--- what a change of the table's policies makes of it
-abbrev pub IsTurn : Kept → (table : ℕ) → RoleCircuit → Turn → Type 0
-IsTurn e table k Same = scans_table k.circuit table ≡ false
-IsTurn e table k (Anew c rows) = IsAnew e table k c (shared_rows rows)
-IsTurn e table k Beyond = IsPast e table k
+-- what a change of rights makes of it
+abbrev pub IsTurn : Kept → RoleCircuit → Turn → Type 0
+IsTurn e k Same = IsStill e k
+IsTurn e k (Anew c rows) = IsAnew e k c (shared_rows rows)
+IsTurn e k Lost = role_reads e k.role k.rel ≡ false
+IsTurn e k Beyond = IsPast e k
+
+-- it does not stay as it is
+abbrev pub is_other : Turn → Bool
+is_other Same = false
+is_other (Anew c rows) = true
+is_other Lost = true
+is_other Beyond = true
 
 -- the new circuit stands in the place of the one before
 abbrev pub renewed_by : Turn → RoleCircuit → RoleCircuit
 renewed_by Same k = k
 renewed_by (Anew c rows) k = replaced_by c k
+renewed_by Lost k = k
 renewed_by Beyond k = k
 
 abbrev pub IsRenewed : RoleCircuit → Turn → RoleCircuit → Type 0
@@ -76,17 +97,27 @@ IsRenewed k turn new = new ≡ renewed_by turn k
 
 -- ---- lines
 
--- whether the subscriptions that read it stay open
-abbrev pub leaves_open : Turn → Bool
-leaves_open Same = true
-leaves_open (Anew c rows) = true
-leaves_open Beyond = false
+-- why the subscriptions that read it end; none where they stay open
+abbrev pub cause_of : Turn → Option Cause
+cause_of Same = None
+cause_of (Anew c rows) = None
+cause_of Lost = Some cause.Privilege
+cause_of Beyond = Some cause.Limit
 
--- the line of a subscription that showed the rows
+abbrev pub leaves_open : Turn → Bool
+leaves_open turn = not (is_some (cause_of turn))
+
+-- the line of a subscription that showed the rows: what it shows more and less, or the last, which takes all back
 abbrev pub line_by_turn : Subscription → List Cells → Turn → List machine.Line
 line_by_turn s showed Same = []
 line_by_turn s showed (Anew c rows) = machine_line None s (shared_rows rows)
-line_by_turn s showed Beyond = machine.ended s.session s.number cause.Limit (difference showed []) ∷ []
+line_by_turn s showed Lost = machine_line (Some cause.Privilege) s (difference showed [])
+line_by_turn s showed Beyond = machine_line (Some cause.Limit) s (difference showed [])
+
+-- the last line of the subscription, which showed what the Z-set counts, behind those before
+abbrev pub IsEndedBy : Subscription → Weighed → Cause → (old new : List Line) → Type 0
+IsEndedBy s showed why old new =
+    (rows : List Cells) → Counts showed rows → map line_of new ≡ map line_of old ++ machine_line (Some why) s (difference rows [])
 
 -- whether the subscription, which showed what the Z-set counts, stays open, and its line, behind those before
 pub record IsToldTurn (s : Subscription) (showed : Weighed) (turn : Turn) (stays : Bool) (old new : List Line) : Type 0 where
@@ -105,28 +136,32 @@ pub record AreSettled (e : Kept) (turns : List Turn) (kept : List Subscription) 
   pub told : (showed : Subscription → List Cells) → AreShowed e showed
       → map line_of lines ≡ flat_map (λ s. line_by_turn s (showed s) (beside_of Same e turns s)) e.subscriptions
 
--- the line of what it shows more and less; where the limits do not hold it ends, and all is taken back
-abbrev pub turned_by : Bool → Subscription → (old new : List Cells) → List machine.Line
-turned_by true s old new = machine_line None s (difference old new)
-turned_by false s old new = machine.ended s.session s.number cause.Limit (difference old []) ∷ []
+-- nothing ends it
+abbrev pub stays_open : Kept → Lists → Subscription → Bool
+stays_open e T s = not (is_some (ending (at e T) s))
+
+-- the line of what it shows more and less; where it ends, the last, which takes all back
+abbrev pub turned_by : Option Cause → Subscription → (old new : List Cells) → List machine.Line
+turned_by None s old new = machine_line None s (difference old new)
+turned_by (Some why) s old new = machine_line (Some why) s (difference old [])
 
 abbrev pub turned_line : Kept → Lists → Subscription → List Cells → List machine.Line
-turned_line e T s rows = turned_by (is_within (at e T) s) s rows (shown_rows e T s)
+turned_line e T s rows = turned_by (ending (at e T) s) s rows (shown_rows e T s)
 
--- the subscriptions within the limits are left, each has its line, and the circuits are those that they read; those of the
--- relations that scan the table have taken in no change yet
-pub record AreReaders (e : Kept) (table : ℕ) (reply : Reply) (lines : List Line) (new : Kept) : Type 0 where
+-- the subscriptions that nothing ends are left, each has its line, and the circuits are those that they read; those that the
+-- change concerns have taken in no change yet
+pub record AreReaders (e : Kept) (concerned : List Bool) (reply : Reply) (lines : List Line) (new : Kept) : Type 0 where
   pub done : reply ≡ Ok
-  pub left : (T : Lists) → Stands T e.tables → new.subscriptions ≡ filter (is_within (at e T)) e.subscriptions
+  pub left : (T : Lists) → Stands T e.tables → new.subscriptions ≡ filter (stays_open e T) e.subscriptions
   pub told : (T : Lists) → Stands T e.tables → (showed : Subscription → List Cells) → AreShowed e showed
       → map line_of lines ≡ flat_map (λ s. turned_line e T s (showed s)) e.subscriptions
   pub circuits : AllByRecursion (IsRoleCircuit e) new.circuits
   pub there : AllByRecursion (λ s. is_some (place_of new s) ≡ true) new.subscriptions
   pub read : AllByRecursion (λ k. is_read (frame_of new) k ≡ true) new.circuits
-  pub rounds : AllByRecursion (λ s. rounds_of new s ≡ cond (scans_at e.catalog s.rel table) 0 (rounds_of e s)) new.subscriptions
+  pub rounds : AllByRecursion (λ s. rounds_of new s ≡ cond (beside_of false e concerned s) 0 (rounds_of e s)) new.subscriptions
   pub state : new ≡ record e { subscriptions = new.subscriptions; circuits = new.circuits }
 
 -- the answer has the lines
-abbrev pub AreReadersTold : Kept → (table : ℕ) → Answer → Kept → Type 0
-AreReadersTold e table (Refused r) new = ⊥
-AreReadersTold e table (Accepted reply lines) new = AreReaders e table reply lines.items new
+abbrev pub AreReadersTold : Kept → (concerned : List Bool) → Answer → Kept → Type 0
+AreReadersTold e concerned (Refused r) new = ⊥
+AreReadersTold e concerned (Accepted reply lines) new = AreReaders e concerned reply lines.items new

@@ -4,11 +4,11 @@ use Rattle.iv_bind.specs.BoundTexts as texts
 use Rattle.iv_machine.specs.Act as machine
 use Rattle.iv_engine.specs.declared.command.Command.{Command}
 use Rattle.iv_engine.specs.declared.command.Act.{Act}
-use Rattle.iv_engine.specs.declared.command.Act.TheVariants.{Begin, Finish, CreateRole, CreateTable, CreateView, Grant, Revoke, RowSecurity, CreatePolicy, DropPolicy, Write, Subscribe, Unsubscribe}
+use Rattle.iv_engine.specs.declared.command.Act.TheVariants.{Begin, Finish, CreateRole, CreateTable, CreateView, Grant, Revoke, GrantRole, RevokeRole, RowSecurity, CreatePolicy, DropPolicy, Write, Subscribe, Unsubscribe}
 use Rattle.iv_engine.specs.declared.command.Reason.{Reason}
 use Rattle.iv_engine.specs.declared.command.Reason.TheVariants.{Reading, Binding}
 use Rattle.iv_engine.specs.declared.command.Refusal.{Refusal}
-use Rattle.iv_engine.specs.declared.command.Refusal.TheVariants.{NoSession, SessionInUse, UnknownRole, NameTaken, UnknownRelation, NotATable, BadRow, BadQuery, NotAdministrator, NotOwner, MissingPrivilege, NoPermissive, RestrictiveFailed, NoSuchRow, Limit, UnknownPolicy, UnknownSubscription, TooMany}
+use Rattle.iv_engine.specs.declared.command.Refusal.TheVariants.{NoSession, SessionInUse, UnknownRole, NameTaken, UnknownRelation, NotATable, BadRow, BadQuery, NotAdministrator, NotOwner, MissingPrivilege, NoPermissive, RestrictiveFailed, NoSuchRow, Limit, UnknownPolicy, UnknownSubscription, TooMany, MembershipLoop}
 use Rattle.iv_engine.specs.declared.command.Reply.{Reply}
 use Rattle.iv_engine.specs.declared.command.Reply.TheVariants as said
 use Rattle.iv_engine.specs.declared.command.Line.{Line}
@@ -26,6 +26,8 @@ act_of (CreateTable name owner columns) = machine.create_table (string_bytes nam
 act_of (CreateView name owner query) = machine.create_view (string_bytes name) (string_bytes owner) (string_bytes query)
 act_of (Grant rel privileges grantee) = machine.grant (string_bytes rel) privileges.items (option_map string_bytes grantee)
 act_of (Revoke rel privileges grantee) = machine.revoke (string_bytes rel) privileges.items (option_map string_bytes grantee)
+act_of (GrantRole role to) = machine.grant_role (string_bytes role) (string_bytes to)
+act_of (RevokeRole role to) = machine.revoke_role (string_bytes role) (string_bytes to)
 act_of (RowSecurity rel enable force) = machine.row_security (string_bytes rel) enable force
 act_of (CreatePolicy policy) = machine.create_policy (policy)
 act_of (DropPolicy rel name) = machine.drop_policy (string_bytes rel) (string_bytes name)
@@ -55,6 +57,7 @@ refusal_of Limit = machine.limit
 refusal_of UnknownPolicy = machine.unknown_policy
 refusal_of UnknownSubscription = machine.unknown_subscription
 refusal_of TooMany = machine.too_many
+refusal_of MembershipLoop = machine.membership_loop
 
 abbrev pub reply_of : Reply → machine.Reply
 reply_of said.Ok = machine.done

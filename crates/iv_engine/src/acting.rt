@@ -82,6 +82,8 @@ impl Store {
                 privileges,
                 grantee,
             } => self.revoke(session, rel, &privileges, text_of(&grantee)),
+            Act::GrantRole { role, to } => self.grant_role(session, role, to.as_str()),
+            Act::RevokeRole { role, to } => self.revoke_role(session, role, to.as_str()),
             Act::RowSecurity { rel, enable, force } => {
                 self.row_security(session, rel, enable, force)
             }

@@ -60,6 +60,16 @@ pub enum Act {
         privileges: Vec<Privilege>,
         grantee: Option<String>,
     },
+    /// Makes the role `to` a member of the role: it holds what the role holds. Only `admin` may.
+    GrantRole {
+        role: String,
+        to: String,
+    },
+    /// Takes the role `to` out of the direct members of the role. Only `admin` may.
+    RevokeRole {
+        role: String,
+        to: String,
+    },
     /// Puts the policies of a table into effect or out of it, and forces them on its owner or not. Only its owner and
     /// `admin` may.
     RowSecurity {
@@ -225,6 +235,8 @@ pub enum Refusal {
     UnknownSubscription,
     /// 20: there are as many of them as there may be.
     TooMany,
+    /// 23: a role would become a member of itself, directly or through others.
+    MembershipLoop,
 }
 
 /// What a request is answered.

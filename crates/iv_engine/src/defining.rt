@@ -76,6 +76,7 @@ impl Store {
             Err(AccessFault::Taken) => unreachable!(),
             Err(AccessFault::NotOwner) => unreachable!(),
             Err(AccessFault::Policy) => unreachable!(),
+            Err(AccessFault::Loop) => unreachable!(),
         };
         self.catalog.add_view(name, rel, bound)?;
         Ok(true)

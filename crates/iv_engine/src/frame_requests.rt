@@ -32,6 +32,7 @@ pub fn outcome(change: Result<(), AccessFault>, rel: String) -> Result<Option<Re
         Err(AccessFault::NotOwner) => Ok(Some(Refusal::NotOwner { rel })),
         Err(AccessFault::TooMany) => Ok(Some(Refusal::TooMany)),
         Err(AccessFault::Policy) => Ok(Some(Refusal::UnknownPolicy)),
+        Err(AccessFault::Loop) => Ok(Some(Refusal::MembershipLoop)),
         Err(AccessFault::Memory) => Err(AllocError),
     }
 }

@@ -171,8 +171,9 @@ impl Store {
             Err(Stop::Refused(refusal)) => return Ok(Answer::Refused(refusal)),
             Err(Stop::Memory) => return Err(AllocError),
         };
+        let concerned = self.scanning(owned.table)?;
         self.switch(owned, enable, force);
-        self.tell_readers(owned.table)
+        self.tell_readers(&concerned)
     }
 
     /// Adds a policy to a table, and tells readers of it and of views over it what they see more and less.
@@ -188,8 +189,9 @@ impl Store {
         if self.has_most_policies(owned.table) {
             return Ok(Answer::Refused(Refusal::TooMany));
         }
+        let concerned = self.scanning(owned.table)?;
         self.add(owned, asked(policy, predicates))?;
-        self.tell_readers(owned.table)
+        self.tell_readers(&concerned)
     }
 
     /// Takes a policy of a table away, and tells readers of it and of views over it what they see more and less.
@@ -210,7 +212,8 @@ impl Store {
         if self.access.policy(owned.table, name).is_none() {
             return Ok(Answer::Refused(Refusal::UnknownPolicy));
         }
+        let concerned = self.scanning(owned.table)?;
         self.remove(owned, name);
-        self.tell_readers(owned.table)
+        self.tell_readers(&concerned)
     }
 }

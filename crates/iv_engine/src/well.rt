@@ -3,7 +3,7 @@ ghost use Rattle.std.specs.Prelude.{◌≡◌, ◌&&◌, ◌^◌, map, nat_le, n
 ghost use Rattle.std.specs.List.{list_all};
 ghost use Rattle.iv_rows.specs.Texts.{is_well};
 ghost use Rattle.iv_machine.specs.Refusing.{rows_in};
-ghost use Rattle.iv_machine.specs.Well.{is_between, is_grantee, is_positive, is_well_act, is_well_command, is_well_entry, is_well_policy, has_texts};
+ghost use Rattle.iv_machine.specs.Well.{is_between, is_grantee, is_group, is_positive, is_well_act, is_well_command, is_well_entry, is_well_policy, has_texts};
 ghost use Rattle.iv_engine.specs.Entries.{copies_of, op_of};
 ghost use Rattle.iv_engine.specs.Views.{act_of, command_of};
 
@@ -60,6 +60,8 @@ fn is_well_act(act: &Act) -> bool
             privileges,
             grantee,
         } => name_ok(rel.as_str()) && (is_between(1, 4, privileges.len()) && is_grantee(grantee)),
+        Act::GrantRole { role, to } => is_group(role) && name_ok(to.as_str()),
+        Act::RevokeRole { role, to } => is_group(role) && name_ok(to.as_str()),
         Act::RowSecurity {
             rel,
             enable: _,
@@ -71,6 +73,13 @@ fn is_well_act(act: &Act) -> bool
         Act::Subscribe { rel } => name_ok(rel.as_str()),
         Act::Unsubscribe { sub } => is_number(*sub),
     }
+}
+
+/// Whether the name is one that a role with members may have: `admin` has none.
+fn is_group(role: &String) -> bool
+    ensures { result ≡ is_group (string_bytes role.now) }
+{
+    name_ok(role.as_str()) && role.as_str() != "admin"
 }
 
 /// Whether it is no name, which stands for PUBLIC, or a name.

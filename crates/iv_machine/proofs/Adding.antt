@@ -62,7 +62,7 @@ lines_held k q old new ends (e ∷ es) u = held-append k q (line_for old new end
 weight_itself : (rows : List (List Cell)) (q : List Cell) → weight rows rows q ≡ pos 0
 weight_itself rows q = minus_itself (pos (copies q rows))
 
-found_none : (k : ℕ) (es : List Subscription) → has_number k es ≡ false → find (λ e. k == e.number) es ≡ None
+pub found_none : (k : ℕ) (es : List Subscription) → has_number k es ≡ false → find (λ e. k == e.number) es ≡ None
 found_none k [] h = refl
 found_none k (e ∷ es) h = let a = neither (k == e.number) (has_number k es) h in ap (λ b. cond b (Some e) (find (λ f. k == f.number) es)) a.0 ∙ found_none k es a.1
 

@@ -39,7 +39,7 @@ equivalence same d = record {
 bytes_equiv : IsEquivalence bytes_eq
 bytes_equiv = equivalence bytes_eq bytes_eq-Decides
 
-numbers_decide : (m n : ℕ) → Decides (m == n) (m ≡ n)
+pub numbers_decide : (m n : ℕ) → Decides (m == n) (m ≡ n)
 numbers_decide m n = ((λ h. grind (arith, nat_tests)), eq-eqb m n)
 
 number_equiv : IsEquivalence (λ (m n : ℕ). m == n)

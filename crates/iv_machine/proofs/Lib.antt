@@ -14,6 +14,12 @@ pub mod Serving
 pub mod Sound
 pub mod Numbers
 pub mod Readers
+pub mod Learning
+pub mod Storing
+pub mod Knowing
+pub mod Needing
+pub mod Standing
+pub mod Telling
 pub mod Seeing
 pub mod Computing
 pub mod Typing

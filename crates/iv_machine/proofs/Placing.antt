@@ -35,7 +35,7 @@ module _ {X : Type 0} (p : X → Bool) where
   find_more xs ys h = ap is_some (find_kept xs ys h) ∙ h
 
 -- another session is found as before where session n is closed
-other_session : (m n : ℕ) (es : List Session) → (n == m) ≡ false → find (λ e. m == e.number) (filter (λ e. not (n == e.number)) es) ≡ find (λ e. m == e.number) es
+pub other_session : (m n : ℕ) (es : List Session) → (n == m) ≡ false → find (λ e. m == e.number) (filter (λ e. not (n == e.number)) es) ≡ find (λ e. m == e.number) es
 other_session m n [] d = refl
 other_session m n (e ∷ es) d = by (n == e.number) refl (other_session m n es d)
   where

@@ -32,7 +32,7 @@ pub record PolicyText : Type 0 where
   pub using_text : Option (List ℕ)
   pub check_text : Option (List ℕ)
 
--- a grant or revoke that names no role goes to PUBLIC
+-- a grant or revoke that names no role goes to PUBLIC; `to` becomes a member of a role, or ceases to be one
 pub data Act : Type 0 where
   begin : (role : Name) → Act
   finish : Act
@@ -41,6 +41,8 @@ pub data Act : Type 0 where
   create_view : (name owner : Name) → (query : List ℕ) → Act
   grant : (rel : Name) → (privileges : List Privilege) → (to : Option Name) → Act
   revoke : (rel : Name) → (privileges : List Privilege) → (to : Option Name) → Act
+  grant_role : (role to : Name) → Act
+  revoke_role : (role to : Name) → Act
   row_security : (rel : Name) → (enable force : Bool) → Act
   create_policy : PolicyText → Act
   drop_policy : (rel name : Name) → Act
@@ -74,6 +76,7 @@ pub data Refusal : Type 0 where
   unknown_policy : Refusal
   unknown_subscription : Refusal
   too_many : Refusal
+  membership_loop : Refusal
 
 pub data Reply : Type 0 where
   done : Reply

@@ -14,8 +14,12 @@ pub mod Sound
 pub mod Readers
 pub mod Typed
 pub mod Well
+pub mod Learned
+pub mod Stored
+pub mod Told
 pub mod Worked
 pub mod OfPolicies
+pub mod OfRoles
 pub mod OfGrants
 pub mod OfViews
 pub mod Counts

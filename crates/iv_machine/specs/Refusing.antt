@@ -15,9 +15,10 @@ use Rattle.iv_access.specs.declared.policy.Verdict.TheVariants.{Pass, NoPermissi
 use Rattle.iv_access.specs.declared.privilege.Privilege.{Privilege}
 use Rattle.iv_access.specs.declared.privilege.Privilege.TheVariants as privilege
 use Rattle.iv_access.specs.Policies.{policies_of, policy_name, policy_of, verdict}
-use Rattle.iv_access.specs.Privileges.{first_missing, is_admin, owns, role_of}
+use Rattle.iv_access.specs.Known.{role_number}
+use Rattle.iv_access.specs.Privileges.{acts_as, first_missing, is_admin, owns, role_of}
 use Rattle.iv_access.specs.Rights.{Name}
-use Rattle.iv_machine.specs.Act.{Act, begin, create_role, create_table, create_view, grant, revoke, row_security, create_policy, drop_policy, subscribe, unsubscribe, write, PolicyText, Op, insert, delete, update, Entry, Refusal, no_session, session_in_use, unknown_role, name_taken, unknown_relation, not_a_table, bad_row, bad_query, not_administrator, not_owner, missing_privilege, no_permissive, restrictive_failed, no_such_row, limit, unknown_policy, unknown_subscription, too_many}
+use Rattle.iv_machine.specs.Act.{Act, begin, finish, create_role, create_table, create_view, grant, revoke, grant_role, revoke_role, row_security, create_policy, drop_policy, subscribe, unsubscribe, write, PolicyText, Op, insert, delete, update, Entry, Refusal, no_session, session_in_use, unknown_role, name_taken, unknown_relation, not_a_table, bad_row, bad_query, not_administrator, not_owner, missing_privilege, no_permissive, restrictive_failed, no_such_row, limit, unknown_policy, unknown_subscription, too_many, membership_loop}
 use Rattle.iv_machine.specs.State.{State, Frame, rel_of, name_of, table_columns, columns_at, is_open, actor, is_within, is_within_for, missing_for}
 use Rattle.iv_machine.specs.Changing.{after_entry, after}
 
@@ -208,6 +209,17 @@ role_refusal f n role (revoke rel privileges to) = first (
     ∷ owner_alone f role rel
     ∷ known_grantee f to
     ∷ [])
+role_refusal f n role (grant_role group to) = first (
+    administrator role
+    ∷ known_role f group
+    ∷ known_role f to
+    ∷ test (acts_as f.rights (role_number f.rights group) (role_number f.rights to)) membership_loop
+    ∷ [])
+role_refusal f n role (revoke_role group to) = first (
+    administrator role
+    ∷ known_role f group
+    ∷ known_role f to
+    ∷ [])
 role_refusal f n role (row_security rel enable force) = first (
     known_relation f rel
     ∷ table_alone f rel
@@ -237,7 +249,8 @@ role_refusal f n role (write entries) = first (
     ∷ each_entry (entry_privileges f role) 1 entries
     ∷ each_entry (entry_policies f role) 1 entries
     ∷ [])
-role_refusal f n role _ = None
+role_refusal f n role (begin name) = None
+role_refusal f n role finish = None
 
 -- the tests that look at no row
 abbrev pub frame_refusal : Frame → ℕ → Act → Option Refusal
@@ -255,7 +268,19 @@ rows_refusal s n (write entries) = first (
     entries_present s.frame.catalog 1 entries s.rows
     ∷ test (not (all_within (after s n (write entries)))) limit
     ∷ [])
-rows_refusal s n _ = None
+rows_refusal s n (begin role) = None
+rows_refusal s n finish = None
+rows_refusal s n (create_role name) = None
+rows_refusal s n (create_table name owner columns) = None
+rows_refusal s n (create_view name owner query) = None
+rows_refusal s n (grant rel privileges to) = None
+rows_refusal s n (revoke rel privileges to) = None
+rows_refusal s n (grant_role role to) = None
+rows_refusal s n (revoke_role role to) = None
+rows_refusal s n (row_security rel enable force) = None
+rows_refusal s n (create_policy p) = None
+rows_refusal s n (drop_policy rel name) = None
+rows_refusal s n (unsubscribe k) = None
 
 -- in each request the tests that look at rows come last
 abbrev pub refusal : State → ℕ → Act → Option Refusal

@@ -5,7 +5,7 @@ use Rattle.iv_rows.specs.Cell.{Cell, text}
 use Rattle.iv_access.specs.declared.policy.PolicyCommand.TheVariants.{All, Select, Insert, Update, Delete}
 use Rattle.iv_access.specs.declared.privilege.Privilege.TheVariants as privilege
 use Rattle.iv_access.specs.Rights.{Name}
-use Rattle.iv_machine.specs.Act.{Act, begin, finish, create_role, create_table, create_view, grant, revoke, row_security, create_policy, drop_policy, subscribe, unsubscribe, write, insert, delete, update, Command}
+use Rattle.iv_machine.specs.Act.{Act, begin, finish, create_role, create_table, create_view, grant, revoke, grant_role, revoke_role, row_security, create_policy, drop_policy, subscribe, unsubscribe, write, insert, delete, update, Command}
 use Rattle.iv_machine.specs.OfPolicies.{for_command}
 use Rattle.iv_machine.specs.Worked.{admin, ann, notes, column, many, policy}
 
@@ -40,6 +40,8 @@ good =
     ∷ create_view notes ann []
     ∷ grant notes (privilege.Select ∷ privilege.Insert ∷ privilege.Update ∷ privilege.Delete ∷ []) (Some ann)
     ∷ revoke notes (privilege.Select ∷ privilege.Select ∷ []) None
+    ∷ grant_role ann admin
+    ∷ revoke_role notes ann
     ∷ row_security notes true false
     ∷ goes_to 1
     ∷ goes_to 16
@@ -79,6 +81,11 @@ bad =
     ∷ grant notes (repeat 5 (privilege.Select ∷ [])) None
     ∷ grant notes (privilege.Select ∷ []) (Some (codes "public"))
     ∷ revoke (codes "from") (privilege.Select ∷ []) (Some ann)
+    ∷ grant_role admin ann
+    ∷ grant_role (codes "public") ann
+    ∷ grant_role ann (codes "public")
+    ∷ revoke_role admin ann
+    ∷ revoke_role ann []
     ∷ row_security (codes "order") true true
     ∷ goes_to 0
     ∷ goes_to 17

@@ -1,5 +1,5 @@
 -- The commands that a line may give: what the front end promises of each part before the machine looks at it.
-use Rattle.std.specs.Prelude.{ℕ, ◌^◌, ◌&&◌, Bool, true, List, length, nat_le, nat_lt, Option, Some, None, is_some, is_none}
+use Rattle.std.specs.Prelude.{ℕ, ◌^◌, ◌&&◌, Bool, true, not, List, length, bytes_eq, codes, nat_le, nat_lt, Option, Some, None, is_some, is_none}
 use Rattle.std.specs.List.{list_all}
 use Rattle.iv_rows.specs.Columns.{has_columns, has_distinct_names}
 use Rattle.iv_rows.specs.Names.{is_name}
@@ -7,7 +7,7 @@ use Rattle.iv_rows.specs.Texts.{is_well}
 use Rattle.iv_access.specs.declared.policy.PolicyCommand.{PolicyCommand}
 use Rattle.iv_access.specs.declared.policy.PolicyCommand.TheVariants.{All, Select, Insert, Update, Delete}
 use Rattle.iv_access.specs.Rights.{Name}
-use Rattle.iv_machine.specs.Act.{Act, begin, finish, create_role, create_table, create_view, grant, revoke, row_security, create_policy, drop_policy, subscribe, unsubscribe, write, PolicyText, Entry, Command}
+use Rattle.iv_machine.specs.Act.{Act, begin, finish, create_role, create_table, create_view, grant, revoke, grant_role, revoke_role, row_security, create_policy, drop_policy, subscribe, unsubscribe, write, PolicyText, Entry, Command}
 use Rattle.iv_machine.specs.Refusing.{rows_in}
 
 abbrev pub is_between : ℕ → ℕ → ℕ → Bool
@@ -16,6 +16,10 @@ is_between low high n = nat_le low n && nat_le n high
 -- 1 to 2^63 - 1
 abbrev pub is_positive : ℕ → Bool
 is_positive n = nat_le 1 n && nat_lt n (2 ^ 63)
+
+-- the superuser has no members
+abbrev pub is_group : Name → Bool
+is_group role = is_name role && not (bytes_eq role (codes "admin"))
 
 -- PUBLIC, or a name
 abbrev pub is_grantee : Option Name → Bool
@@ -51,6 +55,8 @@ is_well_act (create_table name owner columns) = is_name name && (is_name owner &
 is_well_act (create_view name owner query) = is_name name && is_name owner
 is_well_act (grant rel privileges to) = is_name rel && (is_between 1 4 (length privileges) && is_grantee to)
 is_well_act (revoke rel privileges to) = is_name rel && (is_between 1 4 (length privileges) && is_grantee to)
+is_well_act (grant_role role to) = is_group role && is_name to
+is_well_act (revoke_role role to) = is_group role && is_name to
 is_well_act (row_security rel enable force) = is_name rel
 is_well_act (create_policy p) = is_well_policy p
 is_well_act (drop_policy rel name) = is_name rel && is_name name

@@ -10,6 +10,7 @@ ghost use Rattle.iv_machine.specs.Counts as counts;
 ghost use Rattle.iv_machine.specs.OfCopies as copies;
 ghost use Rattle.iv_machine.specs.OfGrants as grants;
 ghost use Rattle.iv_machine.specs.OfPolicies as policies;
+ghost use Rattle.iv_machine.specs.OfRoles as roles;
 ghost use Rattle.iv_machine.specs.OfViews as views;
 ghost use Rattle.iv_machine.specs.Refusing.{frame_refusal, refusal};
 ghost use Rattle.iv_machine.specs.Shapes as shapes;
@@ -36,6 +37,18 @@ pub fn grants_compute()
     ensures unsubscribe_twice { Computes first grants.unsubscribe_twice }
     ensures finished_sessions { Computes first grants.finished_sessions }
     ensures sixteen_subscriptions { Computes first grants.sixteen_subscriptions }
+{}
+
+/// Memberships: privileges, policies and ownership by chains of them.
+pub fn memberships_compute()
+    ensures membership_chain { Computes first roles.membership_chain }
+    ensures membership_and_policy { Computes first roles.membership_and_policy }
+    ensures membership_loop_and_owner { Computes first roles.membership_loop_and_owner }
+    ensures two_chains { Computes first roles.two_chains }
+    ensures policy_by_two_steps { Computes first roles.policy_by_two_steps }
+    ensures revoke_ends_and_takes { Computes first roles.revoke_ends_and_takes }
+    ensures members_keep_their_names { Computes first roles.members_keep_their_names }
+    ensures membership_refusals { Computes first roles.membership_refusals }
 {}
 
 /// Row security, policies and checked writes.

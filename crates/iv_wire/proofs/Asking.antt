@@ -12,9 +12,9 @@ use Rattle.iv_rows.specs.Names.{is_name}
 use Rattle.iv_rows.specs.Texts.{is_well, is_well_cell, is_well_text}
 use Rattle.iv_rows.specs.declared.value.Kind.{Kind}
 use Rattle.iv_rows.specs.declared.value.Kind.TheVariants.{Int, Text, Flag}
-use Rattle.iv_machine.specs.Act.{Act, begin, finish, create_role, create_table, create_view, grant, revoke, row_security, create_policy, drop_policy, subscribe, unsubscribe, write, Command, Entry, Op, insert, delete, update}
+use Rattle.iv_machine.specs.Act.{Act, begin, finish, create_role, create_table, create_view, grant, revoke, grant_role, revoke_role, row_security, create_policy, drop_policy, subscribe, unsubscribe, write, Command, Entry, Op, insert, delete, update}
 use Rattle.iv_machine.specs.Refusing.{rows_in}
-use Rattle.iv_machine.specs.Well.{has_texts, is_between, is_grantee, is_positive, is_well_entry, is_well_act, is_well_command}
+use Rattle.iv_machine.specs.Well.{has_texts, is_between, is_grantee, is_group, is_positive, is_well_entry, is_well_act, is_well_command}
 use Rattle.iv_access.specs.declared.policy.PolicyCommand.{PolicyCommand}
 use Rattle.iv_access.specs.declared.policy.PolicyCommand.TheVariants as policy_command
 use Rattle.iv_access.specs.declared.privilege.Privilege.{Privilege}
@@ -156,6 +156,8 @@ act_asked n (revoke rel privileges to) s h p =
     let r = right_true (is_name rel) _ h in
     let few = is_between 1 4 (length privileges) in
     rw (s, left_true (is_name rel) _ h, grantee_asked to (right_true few _ r), privileges_asked privileges, left_true few _ r) refl
+act_asked n (grant_role role to) s h p = rw (s, left_true (is_group role) _ h, right_true (is_group role) _ h) refl
+act_asked n (revoke_role role to) s h p = rw (s, left_true (is_group role) _ h, right_true (is_group role) _ h) refl
 act_asked n (write entries) s h p =
     let c = left_true (is_between 1 1000 (length entries)) _ h in
     rw (s, entries_asked entries (right_true (is_between 1 1000 (length entries)) _ h) p, c) refl

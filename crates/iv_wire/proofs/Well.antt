@@ -10,11 +10,11 @@ use Rattle.iv_rows.specs.Names.{is_name}
 use Rattle.iv_rows.specs.Texts.{is_well, is_well_cell}
 use Rattle.iv_machine.specs.Act as machine
 use Rattle.iv_machine.specs.Refusing.{rows_in}
-use Rattle.iv_machine.specs.Well.{is_grantee, is_positive, is_well_entry, is_well_act, is_well_command, is_between}
+use Rattle.iv_machine.specs.Well.{is_grantee, is_group, is_positive, is_well_entry, is_well_act, is_well_command, is_between}
 use Rattle.iv_access.specs.declared.privilege.Privilege.{Privilege}
 use Rattle.iv_access.specs.declared.policy.PolicyCommand.{PolicyCommand}
 use Rattle.iv_access.specs.declared.policy.PolicyCommand.TheVariants as policy_command
-use Rattle.iv_wire.specs.Request.{passing, each, list_at, name_at, text_at, is_schema, columns_at, column_of, privileges_at, privilege_of, cell_of, bool_at, given_or, found_or, has, list_of, row_of, update_of, op_at, positive_of, copies_at, entry, entry_of, row_security_of, policy_command_of, grantee_of, grantees_of, everyone, text_if_at, Scope, scope, scope_at, policy, policy_at, policy_of, has_its_texts, create_policy_of, drop_policy_of, entries_at, begin_of, finish_of, create_role_of, create_table_of, create_view_of, grantee_named, grantee_at, Granting, granting, granting_of, grant_by, revoke_by, write_of, subscribe_of, unsubscribe_of, act_for, asked_act, is_session, session_of, command, request}
+use Rattle.iv_wire.specs.Request.{passing, each, list_at, name_at, text_at, is_schema, columns_at, column_of, privileges_at, privilege_of, cell_of, bool_at, given_or, found_or, has, list_of, row_of, update_of, op_at, positive_of, copies_at, entry, entry_of, row_security_of, policy_command_of, grantee_of, grantees_of, everyone, text_if_at, Scope, scope, scope_at, policy, policy_at, policy_of, has_its_texts, create_policy_of, drop_policy_of, entries_at, begin_of, finish_of, create_role_of, create_table_of, create_view_of, grantee_named, grantee_at, Granting, granting, granting_of, grant_by, revoke_by, group_at, Membership, membership, membership_of, grant_role_by, revoke_role_by, write_of, subscribe_of, unsubscribe_of, rights_for, act_for, asked_act, is_session, session_of, command, request}
 
 both : (a b : Bool) → a ≡ true → b ≡ true → (a && b) ≡ true
 both a b p q = rw (p, q) refl
@@ -63,6 +63,9 @@ given_well P x f (Some d) p h = h d
 
 name_well : (key : List ℕ) (d : Data) → IfSome (name_at key d) (λ s. is_name s ≡ true)
 name_well key d = weaker (λ (s : List ℕ). (is_name s ≡ true) × Unit {0}) (λ (s : List ℕ). is_name s ≡ true) (name_at key d) (passes (λ (s : List ℕ). Unit {0}) is_name (text_at key d) (nothing_more (text_at key d))) (λ s h. h.0)
+
+group_well : (key : List ℕ) (d : Data) → IfSome (group_at key d) (λ s. is_group s ≡ true)
+group_well key d = weaker (λ (s : List ℕ). (is_group s ≡ true) × Unit {0}) (λ (s : List ℕ). is_group s ≡ true) (group_at key d) (passes (λ (s : List ℕ). Unit {0}) is_group (text_at key d) (nothing_more (text_at key d))) (λ s h. h.0)
 
 columns_well : (d : Data) → IfSome (columns_at d) (λ cs. is_schema cs ≡ true)
 columns_well d = weaker (λ (cs : List Column). (is_schema cs ≡ true) × Unit {0}) (λ (cs : List Column). is_schema cs ≡ true) (columns_at d) (passes (λ (cs : List Column). Unit {0}) is_schema (list_at column_of (codes "columns") d) (nothing_more (list_at column_of (codes "columns") d))) (λ cs h. h.0)
@@ -193,6 +196,23 @@ grant_well d = mapped IsWellGranting IsWellAct grant_by (granting_of d) (grantin
 revoke_well : (d : Data) → IfSome (option_map revoke_by (granting_of d)) IsWellAct
 revoke_well d = mapped IsWellGranting IsWellAct revoke_by (granting_of d) (granting_well d) (λ g h. h)
 
+-- what a grant and a revoke of a role keep
+abbrev IsWellMembership : Membership → Type 0
+IsWellMembership m = is_well_act (grant_role_by m) ≡ true
+
+membership_well : (d : Data) → IfSome (membership_of d) IsWellMembership
+membership_well d =
+    chosen IsWellMembership _ _ None
+    (bound (λ (s : List ℕ). is_group s ≡ true) IsWellMembership (λ role. option_map (membership role) (name_at (codes "to") d)) (group_at (codes "role") d) (group_well (codes "role") d)
+    (λ role p. mapped (λ (s : List ℕ). is_name s ≡ true) IsWellMembership (membership role) (name_at (codes "to") d) (name_well (codes "to") d) (λ to q. both (is_group role) (is_name to) p q)))
+    tt
+
+grant_role_well : (d : Data) → IfSome (option_map grant_role_by (membership_of d)) IsWellAct
+grant_role_well d = mapped IsWellMembership IsWellAct grant_role_by (membership_of d) (membership_well d) (λ m h. h)
+
+revoke_role_well : (d : Data) → IfSome (option_map revoke_role_by (membership_of d)) IsWellAct
+revoke_role_well d = mapped IsWellMembership IsWellAct revoke_role_by (membership_of d) (membership_well d) (λ m h. h)
+
 row_security_well : (d : Data) → IfSome (row_security_of d) IsWellAct
 row_security_well d =
     chosen IsWellAct _ _ None
@@ -271,18 +291,31 @@ unsubscribe_well d =
     (bound (λ (x : Data). Unit {0}) (λ (n : ℕ). is_positive n ≡ true) positive_of o (nothing_more o) (λ x _. positive_well x)) (λ n h. h))
     tt
 
+rights_well : (word : List ℕ) (d : Data) → IfSome (rights_for word d) IsWellAct
+rights_well word d =
+    let is : List ℕ → Bool = λ w. bytes_eq word w in
+    let from_drop_policy : Option machine.Act = cond (is (codes "drop_policy")) (drop_policy_of d) None in
+    let from_create_policy : Option machine.Act = cond (is (codes "create_policy")) (create_policy_of d) from_drop_policy in
+    let from_row_security : Option machine.Act = cond (is (codes "row_security")) (row_security_of d) from_create_policy in
+    let from_revoke_role : Option machine.Act = cond (is (codes "revoke_role")) (option_map revoke_role_by (membership_of d)) from_row_security in
+    let from_grant_role : Option machine.Act = cond (is (codes "grant_role")) (option_map grant_role_by (membership_of d)) from_revoke_role in
+    let from_revoke : Option machine.Act = cond (is (codes "revoke")) (option_map revoke_by (granting_of d)) from_grant_role in
+    chosen IsWellAct (is (codes "grant")) (option_map grant_by (granting_of d)) from_revoke (grant_well d)
+    (chosen IsWellAct (is (codes "revoke")) (option_map revoke_by (granting_of d)) from_grant_role (revoke_well d)
+    (chosen IsWellAct (is (codes "grant_role")) (option_map grant_role_by (membership_of d)) from_revoke_role (grant_role_well d)
+    (chosen IsWellAct (is (codes "revoke_role")) (option_map revoke_role_by (membership_of d)) from_row_security (revoke_role_well d)
+    (chosen IsWellAct (is (codes "row_security")) (row_security_of d) from_create_policy (row_security_well d)
+    (chosen IsWellAct (is (codes "create_policy")) (create_policy_of d) from_drop_policy (create_policy_well d)
+    (chosen IsWellAct (is (codes "drop_policy")) (drop_policy_of d) None (drop_policy_well d) tt))))))
+
 act_well : (word : List ℕ) (d : Data) → IfSome (act_for word d) IsWellAct
 act_well word d =
     let is : List ℕ → Bool = λ w. bytes_eq word w in
-    let from_unsubscribe : Option machine.Act = cond (is (codes "unsubscribe")) (unsubscribe_of d) None in
+    let rights : Option machine.Act = rights_for word d in
+    let from_unsubscribe : Option machine.Act = cond (is (codes "unsubscribe")) (unsubscribe_of d) rights in
     let from_subscribe : Option machine.Act = cond (is (codes "subscribe")) (subscribe_of d) from_unsubscribe in
     let from_write : Option machine.Act = cond (is (codes "write")) (write_of d) from_subscribe in
-    let from_drop_policy : Option machine.Act = cond (is (codes "drop_policy")) (drop_policy_of d) from_write in
-    let from_create_policy : Option machine.Act = cond (is (codes "create_policy")) (create_policy_of d) from_drop_policy in
-    let from_row_security : Option machine.Act = cond (is (codes "row_security")) (row_security_of d) from_create_policy in
-    let from_revoke : Option machine.Act = cond (is (codes "revoke")) (option_map revoke_by (granting_of d)) from_row_security in
-    let from_grant : Option machine.Act = cond (is (codes "grant")) (option_map grant_by (granting_of d)) from_revoke in
-    let from_create_view : Option machine.Act = cond (is (codes "create_view")) (create_view_of d) from_grant in
+    let from_create_view : Option machine.Act = cond (is (codes "create_view")) (create_view_of d) from_write in
     let from_create_table : Option machine.Act = cond (is (codes "create_table")) (create_table_of d) from_create_view in
     let from_create_role : Option machine.Act = cond (is (codes "create_role")) (create_role_of d) from_create_table in
     let from_finish : Option machine.Act = cond (is (codes "finish")) (finish_of d) from_create_role in
@@ -290,15 +323,10 @@ act_well word d =
     (chosen IsWellAct (is (codes "finish")) (finish_of d) from_create_role (finish_well d)
     (chosen IsWellAct (is (codes "create_role")) (create_role_of d) from_create_table (create_role_well d)
     (chosen IsWellAct (is (codes "create_table")) (create_table_of d) from_create_view (create_table_well d)
-    (chosen IsWellAct (is (codes "create_view")) (create_view_of d) from_grant (create_view_well d)
-    (chosen IsWellAct (is (codes "grant")) (option_map grant_by (granting_of d)) from_revoke (grant_well d)
-    (chosen IsWellAct (is (codes "revoke")) (option_map revoke_by (granting_of d)) from_row_security (revoke_well d)
-    (chosen IsWellAct (is (codes "row_security")) (row_security_of d) from_create_policy (row_security_well d)
-    (chosen IsWellAct (is (codes "create_policy")) (create_policy_of d) from_drop_policy (create_policy_well d)
-    (chosen IsWellAct (is (codes "drop_policy")) (drop_policy_of d) from_write (drop_policy_well d)
+    (chosen IsWellAct (is (codes "create_view")) (create_view_of d) from_write (create_view_well d)
     (chosen IsWellAct (is (codes "write")) (write_of d) from_subscribe (write_well d)
     (chosen IsWellAct (is (codes "subscribe")) (subscribe_of d) from_unsubscribe (subscribe_well d)
-    (chosen IsWellAct (is (codes "unsubscribe")) (unsubscribe_of d) None (unsubscribe_well d) tt))))))))))))
+    (chosen IsWellAct (is (codes "unsubscribe")) (unsubscribe_of d) rights (unsubscribe_well d) (rights_well word d))))))))
 
 asked_well : (d : Data) → IfSome (asked_act d) IsWellAct
 asked_well d = bound (λ _. Unit {0}) IsWellAct (λ word. act_for word d) (text_at (codes "do") d) (nothing_more (text_at (codes "do") d)) (λ word _. act_well word d)

@@ -111,3 +111,4 @@ plain_refused n machine.limit = refl
 plain_refused n machine.unknown_policy = refl
 plain_refused n machine.unknown_subscription = refl
 plain_refused n machine.too_many = refl
+plain_refused n machine.membership_loop = refl

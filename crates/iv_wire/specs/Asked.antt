@@ -5,7 +5,7 @@ use Rattle.iv_rows.specs.Cell.{Cell, num, text, flag}
 use Rattle.iv_rows.specs.Columns.{Column}
 use Rattle.iv_rows.specs.declared.value.Kind.{Kind}
 use Rattle.iv_rows.specs.declared.value.Kind.TheVariants.{Int, Text, Flag}
-use Rattle.iv_machine.specs.Act.{Act, begin, finish, create_role, create_table, create_view, grant, revoke, row_security, create_policy, drop_policy, subscribe, unsubscribe, write, Command, PolicyText, Entry, Op, insert, delete, update}
+use Rattle.iv_machine.specs.Act.{Act, begin, finish, create_role, create_table, create_view, grant, revoke, grant_role, revoke_role, row_security, create_policy, drop_policy, subscribe, unsubscribe, write, Command, PolicyText, Entry, Op, insert, delete, update}
 use Rattle.iv_machine.specs.Refusing.{rows_in}
 use Rattle.iv_access.specs.declared.policy.PolicyCommand.{PolicyCommand}
 use Rattle.iv_access.specs.declared.policy.PolicyCommand.TheVariants as command
@@ -84,6 +84,11 @@ policy_data p =
     (member (codes "to") (array (items_of (map grantee_data p.to)))
     (text_member (codes "using") p.using_text (text_member (codes "check") p.check_text no_members))))))
 
+abbrev pub membership_data : List ℕ → List ℕ → Members
+membership_data role to =
+    member (codes "role") (string role)
+    (member (codes "to") (string to) no_members)
+
 abbrev pub row_security_data : List ℕ → Bool → Bool → Members
 row_security_data rel enable force =
     member (codes "on") (string rel)
@@ -98,6 +103,8 @@ act_data n (create_table name owner columns) = asking (codes "create_table") n (
 act_data n (create_view name owner query) = asking (codes "create_view") n (view_data name owner query)
 act_data n (grant rel privileges to) = granting (codes "grant") n rel privileges to
 act_data n (revoke rel privileges to) = granting (codes "revoke") n rel privileges to
+act_data n (grant_role role to) = asking (codes "grant_role") n (membership_data role to)
+act_data n (revoke_role role to) = asking (codes "revoke_role") n (membership_data role to)
 act_data n (row_security rel enable force) = asking (codes "row_security") n (row_security_data rel enable force)
 act_data n (create_policy p) = asking (codes "create_policy") n (policy_data p)
 act_data n (drop_policy rel name) = asking (codes "drop_policy") n (member (codes "on") (string rel) (member (codes "name") (string name) no_members))
@@ -120,5 +127,18 @@ is_small_entry e = list_all (list_all is_small) (rows_in e.op)
 
 -- the whole numbers in the rows of a write are of 64 bits
 abbrev pub is_small_act : Act → Bool
+is_small_act (begin role) = true
+is_small_act finish = true
+is_small_act (create_role name) = true
+is_small_act (create_table name owner columns) = true
+is_small_act (create_view name owner query) = true
+is_small_act (grant rel privileges to) = true
+is_small_act (revoke rel privileges to) = true
+is_small_act (grant_role role to) = true
+is_small_act (revoke_role role to) = true
+is_small_act (row_security rel enable force) = true
+is_small_act (create_policy p) = true
+is_small_act (drop_policy rel name) = true
 is_small_act (write entries) = list_all is_small_entry entries
-is_small_act _ = true
+is_small_act (subscribe rel) = true
+is_small_act (unsubscribe number) = true

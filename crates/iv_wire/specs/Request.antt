@@ -7,7 +7,7 @@ use Rattle.iv_rows.specs.Texts.{is_well_cell}
 use Rattle.iv_rows.specs.declared.value.Kind.{Kind}
 use Rattle.iv_rows.specs.declared.value.Kind.TheVariants.{Int, Text, Flag}
 use Rattle.iv_machine.specs.Act as machine
-use Rattle.iv_machine.specs.Well.{is_between, is_positive, has_texts}
+use Rattle.iv_machine.specs.Well.{is_between, is_group, is_positive, has_texts}
 use Rattle.iv_access.specs.declared.privilege.Privilege.{Privilege}
 use Rattle.iv_access.specs.declared.privilege.Privilege.TheVariants.{Select, Insert, Update, Delete}
 use Rattle.iv_access.specs.declared.policy.PolicyCommand.{PolicyCommand}
@@ -223,6 +223,30 @@ grant_by g = machine.grant g.rel g.privileges g.to
 abbrev pub revoke_by : Granting → machine.Act
 revoke_by g = machine.revoke g.rel g.privileges g.to
 
+-- the name at a key of a role that may have members
+abbrev pub group_at : List ℕ → Data → Option (List ℕ)
+group_at key d = option_and_then (passing is_group) (text_at key d)
+
+-- what a grant and a revoke of a role name
+pub record Membership : Type 0 where
+  pub role : List ℕ
+  pub to : List ℕ
+
+abbrev pub membership : List ℕ → List ℕ → Membership
+membership role to = record { role = role; to = to }
+
+abbrev pub membership_of : Data → Option Membership
+membership_of d =
+    if size d == 4
+    then option_and_then (λ role. option_map (membership role) (name_at (codes "to") d)) (group_at (codes "role") d)
+    else None
+
+abbrev pub grant_role_by : Membership → machine.Act
+grant_role_by m = machine.grant_role m.role m.to
+
+abbrev pub revoke_role_by : Membership → machine.Act
+revoke_role_by m = machine.revoke_role m.role m.to
+
 abbrev pub row_security_of : Data → Option machine.Act
 row_security_of d =
     if size d == 5
@@ -338,6 +362,18 @@ subscribe_of d = if size d == 3 then option_map machine.subscribe (name_at (code
 abbrev pub unsubscribe_of : Data → Option machine.Act
 unsubscribe_of d = if size d == 3 then option_map machine.unsubscribe (option_and_then positive_of (get (codes "sub") d)) else None
 
+-- what the words for privileges, memberships and policies ask
+abbrev pub rights_for : List ℕ → Data → Option machine.Act
+rights_for word d =
+    if bytes_eq word (codes "grant") then option_map grant_by (granting_of d)
+    else if bytes_eq word (codes "revoke") then option_map revoke_by (granting_of d)
+    else if bytes_eq word (codes "grant_role") then option_map grant_role_by (membership_of d)
+    else if bytes_eq word (codes "revoke_role") then option_map revoke_role_by (membership_of d)
+    else if bytes_eq word (codes "row_security") then row_security_of d
+    else if bytes_eq word (codes "create_policy") then create_policy_of d
+    else if bytes_eq word (codes "drop_policy") then drop_policy_of d
+    else None
+
 abbrev pub act_for : List ℕ → Data → Option machine.Act
 act_for word d =
     if bytes_eq word (codes "begin") then begin_of d
@@ -345,15 +381,10 @@ act_for word d =
     else if bytes_eq word (codes "create_role") then create_role_of d
     else if bytes_eq word (codes "create_table") then create_table_of d
     else if bytes_eq word (codes "create_view") then create_view_of d
-    else if bytes_eq word (codes "grant") then option_map grant_by (granting_of d)
-    else if bytes_eq word (codes "revoke") then option_map revoke_by (granting_of d)
-    else if bytes_eq word (codes "row_security") then row_security_of d
-    else if bytes_eq word (codes "create_policy") then create_policy_of d
-    else if bytes_eq word (codes "drop_policy") then drop_policy_of d
     else if bytes_eq word (codes "write") then write_of d
     else if bytes_eq word (codes "subscribe") then subscribe_of d
     else if bytes_eq word (codes "unsubscribe") then unsubscribe_of d
-    else None
+    else rights_for word d
 
 -- 1 to 2^32 - 1
 abbrev pub is_session : ℕ → Bool

@@ -115,6 +115,7 @@ refused_data n machine.limit = plain_data 17 n
 refused_data n machine.unknown_policy = plain_data 18 n
 refused_data n machine.unknown_subscription = plain_data 19 n
 refused_data n machine.too_many = plain_data 20 n
+refused_data n machine.membership_loop = plain_data 23 n
 
 abbrev pub reply_data : ℕ → Reply → Data
 reply_data n done = object (member (codes "ok") (boolean true) (member (codes "session") (natural n) no_members))

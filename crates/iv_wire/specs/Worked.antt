@@ -24,6 +24,9 @@ IsNotAsked line = asked_by line ≡ None
 abbrev pub ann : List ℕ
 ann = codes "ann"
 
+abbrev pub team : List ℕ
+team = codes "team"
+
 abbrev pub notes : List ℕ
 notes = codes "notes"
 
@@ -44,6 +47,11 @@ revoke_line = codes "{\"do\":\"revoke\",\"on\":\"notes\",\"privileges\":[\"selec
 
 abbrev pub write_line : List ℕ
 write_line = codes "{\"do\":\"write\",\"entries\":[{\"on\":\"notes\",\"insert\":[1,\"ann\"]}],\"session\":1}"
+
+-- a request that names a role and a member
+abbrev pub membership_line : (word role to : List ℕ) → List ℕ
+membership_line word role to =
+    codes "{\"do\":\"" ++ (word ++ (codes "\",\"role\":\"" ++ (role ++ (codes "\",\"session\":1,\"to\":\"" ++ (to ++ codes "\"}")))))
 
 -- the text of a refusal
 abbrev pub refused_text : ℕ → Refusal → List ℕ

@@ -13,6 +13,7 @@ ghost use Rattle.iv_wire.specs.Request.{request};
 ghost use Rattle.iv_wire.specs.Sums.{IsTextOf};
 ghost use Rattle.iv_wire.specs.Texts.{fault_text, line_text};
 ghost use Rattle.iv_wire.specs.Worked.{IsAsked, IsNotAsked, ann, notes, notes_columns, first_row, table_line, grant_line, revoke_line, write_line, refused_text, unexpected_line, missing_line, permissive_line, restrictive_line};
+ghost use Rattle.iv_wire.specs.Worked.{membership_line, team};
 ghost use Rattle.iv_wire.specs.Worked.{row_security_line, own_line, own, few_line, few, give_line, give, entry_line, second_row, one_entry, policy_line, update_refused_line, bad_policy_line};
 ghost use Rattle.iv_wire.specs.Worked.{view_line, view_of, unsubscribe_line, limit_line};
 ghost use Rattle.iv_query.specs.declared.fault.Why.TheVariants as reading;
@@ -68,6 +69,17 @@ pub fn views_are_read()
     ensures finish { IsAsked (codes "{\"do\":\"finish\",\"session\":2}") 2 machine.finish }
 {}
 
+/// Requests that make a role a member of another, and that end it; `admin` may be a member, and has none.
+pub fn memberships_are_read()
+    ensures grant { IsAsked (membership_line (codes "grant_role") team ann) 1 (machine.grant_role team ann) }
+    ensures revoke { IsAsked (membership_line (codes "revoke_role") team ann) 1 (machine.revoke_role team ann) }
+    ensures superuser { IsAsked (membership_line (codes "grant_role") team (codes "admin")) 1 (machine.grant_role team (codes "admin")) }
+    ensures of_superuser { IsNotAsked (membership_line (codes "grant_role") (codes "admin") ann) }
+    ensures no_longer_of_superuser { IsNotAsked (membership_line (codes "revoke_role") (codes "admin") ann) }
+    ensures public { IsNotAsked (membership_line (codes "grant_role") team (codes "public")) }
+    ensures no_member { IsNotAsked (codes "{\"do\":\"grant_role\",\"role\":\"team\",\"session\":1}") }
+{}
+
 /// Values that are no request: a session of 0, a further key, a number of copies that is 0, two things that one entry
 /// does, an update of one row, a word that is never a name, policies that lack a text or have one that is not theirs or
 /// no grantee, a view whose query is no text, and subscriptions without a number of theirs.
@@ -107,6 +119,7 @@ pub fn lines_are_written()
     ensures unknown_policy { refused_text 1 machine.unknown_policy ≡ codes "{\"error\":18,\"session\":1}\n" }
     ensures unknown_subscription { refused_text 2 machine.unknown_subscription ≡ codes "{\"error\":19,\"session\":2}\n" }
     ensures bad_policy { refused_text 1 (machine.bad_query 0 (Binding binding.UnknownColumn)) ≡ bad_policy_line }
+    ensures membership_loop { refused_text 1 machine.membership_loop ≡ codes "{\"error\":23,\"session\":1}\n" }
     ensures fault { fault_text 22 ≡ codes "{\"error\":22}\n" }
 {}
 

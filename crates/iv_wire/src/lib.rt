@@ -11,6 +11,7 @@ mod entries;
 mod grants;
 pub mod laws;
 mod lines;
+mod memberships;
 mod parts;
 mod policies;
 mod requests;

@@ -2,7 +2,7 @@
 ghost use Rattle.std.specs.Prelude.{◌≡◌, IfOk, IsErrOf, bytes_eq, codes, false, option_map, true};
 ghost use Rattle.iv_machine.specs.Well.{is_well_command};
 ghost use Rattle.iv_engine.specs.Views.{act_of, command_of};
-ghost use Rattle.iv_wire.specs.Request.{session_of, begin_of, finish_of, create_role_of, create_table_of, create_view_of, write_of, subscribe_of, unsubscribe_of, act_for, asked_act, request};
+ghost use Rattle.iv_wire.specs.Request.{session_of, begin_of, finish_of, create_role_of, create_table_of, create_view_of, write_of, subscribe_of, unsubscribe_of, rights_for, act_for, asked_act, request};
 ghost use Rattle.iv_wire.specs.Documents.{value_data};
 ghost use Rattle.iv_wire.specs.Answer.{bad_json, bad_request, asked, reading_of, value_of};
 
@@ -10,6 +10,7 @@ use crate::columns::columns_at;
 use crate::documents::read;
 use crate::entries::entries_at;
 use crate::grants::{Granting, granting_of};
+use crate::memberships::{Membership, membership_of};
 use crate::parts::{get, has_size, positive_of, string_at, text_at, u64_of};
 use crate::policies::{create_policy_of, drop_policy_of, row_security_of};
 use iv_engine::{Act, Command};
@@ -167,6 +168,29 @@ fn unsubscribe_of(value: &Json<'_>) -> Option<Act>
     }
 }
 
+/// What a word for privileges, memberships and policies asks.
+fn rights_for(alloc: Global, word: &str, value: &Json<'_>) -> Result<Option<Act>, AllocError>
+    ensures { IfOk result (λ act. option_map act_of act ≡ rights_for word.now (value_data value.now)) }
+{
+    if word == "grant" {
+        Ok(granting_of(alloc, value)?.map(Granting::grant))
+    } else if word == "revoke" {
+        Ok(granting_of(alloc, value)?.map(Granting::revoke))
+    } else if word == "grant_role" {
+        Ok(membership_of(alloc, value)?.map(Membership::grant))
+    } else if word == "revoke_role" {
+        Ok(membership_of(alloc, value)?.map(Membership::revoke))
+    } else if word == "row_security" {
+        row_security_of(alloc, value)
+    } else if word == "create_policy" {
+        create_policy_of(alloc, value)
+    } else if word == "drop_policy" {
+        drop_policy_of(alloc, value)
+    } else {
+        Ok(None)
+    }
+}
+
 /// What a word other than `write` asks.
 fn act_for(alloc: Global, word: &str, value: &Json<'_>) -> Result<Option<Act>, AllocError>
     requires { bytes_eq word.now (codes "write") ≡ false }
@@ -182,22 +206,12 @@ fn act_for(alloc: Global, word: &str, value: &Json<'_>) -> Result<Option<Act>, A
         create_table_of(alloc, value)
     } else if word == "create_view" {
         create_view_of(alloc, value)
-    } else if word == "grant" {
-        Ok(granting_of(alloc, value)?.map(Granting::grant))
-    } else if word == "revoke" {
-        Ok(granting_of(alloc, value)?.map(Granting::revoke))
-    } else if word == "row_security" {
-        row_security_of(alloc, value)
-    } else if word == "create_policy" {
-        create_policy_of(alloc, value)
-    } else if word == "drop_policy" {
-        drop_policy_of(alloc, value)
     } else if word == "subscribe" {
         subscribe_of(alloc, value)
     } else if word == "unsubscribe" {
         Ok(unsubscribe_of(value))
     } else {
-        Ok(None)
+        rights_for(alloc, word, value)
     }
 }
 

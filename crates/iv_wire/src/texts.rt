@@ -179,6 +179,7 @@ fn refused_value(alloc: Global, session: u32, refusal: &Refusal) -> Result<Json,
         Refusal::UnknownPolicy => plain_value(alloc, session, 18),
         Refusal::UnknownSubscription => plain_value(alloc, session, 19),
         Refusal::TooMany => plain_value(alloc, session, 20),
+        Refusal::MembershipLoop => plain_value(alloc, session, 23),
     }
 }
 

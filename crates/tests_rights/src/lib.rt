@@ -4,4 +4,6 @@
 #[cfg(test)]
 mod grants;
 #[cfg(test)]
+mod memberships;
+#[cfg(test)]
 mod policies;

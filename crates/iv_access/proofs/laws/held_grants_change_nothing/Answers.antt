@@ -2,4 +2,4 @@ use Rattle.iv_access.proofs.Naming.{all_held}
 use Rattle.iv_access.proofs.laws.held_grants_change_nothing.Goals as goal
 
 pub returns : goal.returns
-returns c = λ r rel ps to h i. record { roles = r.roles; guards = r.guards; grants = all_held rel ps to r.grants h i }
+returns c = λ r rel ps to h i. record { roles = r.roles; members = r.members; guards = r.guards; grants = all_held rel ps to r.grants h i }

@@ -1,11 +1,13 @@
-use Rattle.std.proofs.Common.{◌≡◌, ap, sym, ◌∙◌, ◌==◌, ◌&&◌, ◌||◌, Bool, ℕ, true, false, refl, length}
+use Rattle.std.proofs.Common.{◌≡◌, ◌∙◌, ◌==◌, ◌&&◌, ◌||◌, Bool, ℕ, true, false, refl, length}
 use Rattle.std.specs.Cmp.{unsigned_Decides}
+use Rattle.std.specs.List.{list_any}
 use Rattle.iv_access.specs.declared.privilege.Privilege.{Privilege}
-use Rattle.iv_access.specs.Rights.{Public, Role, Grant, Rights}
+use Rattle.iv_access.specs.Rights.{Role, Grant, Rights}
 use Rattle.iv_access.specs.Privileges.{is_admin}
 use Rattle.iv_access.specs.Changing.{with_relation, all_privileges}
 use Rattle.iv_access.specs.Given.{is_among}
-use Rattle.iv_access.proofs.Granting.{held}
+use Rattle.iv_access.proofs.Chains.{by_right, reaches_itself}
+use Rattle.iv_access.proofs.Granting.{given, gives}
 use Rattle.iv_access.proofs.Naming.{among_given, privilege_among_all}
 use Rattle.iv_access.proofs.laws.owners_have_all.Goals as goal
 
@@ -25,8 +27,6 @@ own r owner p =
 
 pub returns : goal.returns
 returns c = λ r owner p.
-    ap (λ b. is_admin owner || b)
-    (sym (held (with_relation owner r) owner p (length r.guards) (with_relation owner r).grants)
-    ∙ ap (λ b. is_among (with_relation owner r).grants (record { grantee = Public; privilege = p; rel = length r.guards }) || b) (own r owner p)
-    ∙ or_true _)
-    ∙ or_true (is_admin owner)
+    let after = with_relation owner r in
+    by_right (is_admin owner) (list_any (gives after owner p (length r.guards)) after.grants)
+    (given after owner p (length r.guards) (Role owner) after.grants (reaches_itself r.members owner) (own r owner p))

@@ -74,3 +74,7 @@ returns-clause-not_a_table c = refl
 pub returns-clause-unknown_subscription : goal.returns-clause-unknown_subscription
 unfolding serde_json_on_literals digits
 returns-clause-unknown_subscription c = refl
+
+pub returns-clause-membership_loop : goal.returns-clause-membership_loop
+unfolding serde_json_on_literals digits
+returns-clause-membership_loop c = refl

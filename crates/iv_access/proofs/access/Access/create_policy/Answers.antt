@@ -16,4 +16,4 @@ returns-clause-ok c =
     ∙ changed_is n change gs c.index_mut-guard.result.now c.index_mut-guard.ensures.value
     ∙ ap (λ k. changed_at n change k.rights.guards) c.self.view_is
     ∙ ap (λ p. changed_at n (λ g. record g { policies = insert_policy p g.policies }) c.args.self.now.rights.guards) c.in_ok-stored.ensures in
-    λ i. record { roles = (c.self.view_is i).rights.roles; guards = after i; grants = (c.self.view_is i).rights.grants }
+    λ i. record { roles = (c.self.view_is i).rights.roles; members = (c.self.view_is i).rights.members; guards = after i; grants = (c.self.view_is i).rights.grants }

@@ -14,4 +14,4 @@ returns-clause-ok c =
     ap (slice_set gs n) c.switch.ensures
     ∙ changed_is n change gs c.index_mut-guard.result.now c.index_mut-guard.ensures.value
     ∙ ap (λ k. changed_at n change k.rights.guards) c.self.view_is in
-    λ i. record { roles = (c.self.view_is i).rights.roles; guards = after i; grants = (c.self.view_is i).rights.grants }
+    λ i. record { roles = (c.self.view_is i).rights.roles; members = (c.self.view_is i).rights.members; guards = after i; grants = (c.self.view_is i).rights.grants }

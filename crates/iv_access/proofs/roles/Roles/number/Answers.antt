@@ -3,14 +3,14 @@ use Rattle.std.specs.List.{position}
 use Rattle.iv_access.proofs.Lists.{position_map}
 use Rattle.iv_access.proofs.roles.Roles.number.Goals as goal
 
-pub returns-in-Some : goal.returns-in-Some
-returns-in-Some c =
+pub returns-in-Some-clause-place : goal.returns-in-Some-clause-place
+returns-in-Some-clause-place c =
     c.in-Some.ensures.index
     ∙ sym (position_map (bytes_eq c.args.name.now) string_bytes c.self.inside.names.keys)
     ∙ ap (position (bytes_eq c.args.name.now)) c.self.view_is
 
-pub returns-in-None : goal.returns-in-None
-returns-in-None c =
+pub returns-in-None-clause-place : goal.returns-in-None-clause-place
+returns-in-None-clause-place c =
     c.in-None.ensures.index
     ∙ sym (position_map (bytes_eq c.args.name.now) string_bytes c.self.inside.names.keys)
     ∙ ap (position (bytes_eq c.args.name.now)) c.self.view_is

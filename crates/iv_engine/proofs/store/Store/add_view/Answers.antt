@@ -1,6 +1,6 @@
 use Rattle.std.proofs.Common.{◌≡◌, ◌∙◌, ◌⊎◌, Some, ap, false, length, refl, subst}
 use Rattle.iv_access.specs.Faults.{add_relation_fault}
-use Rattle.iv_access.specs.declared.fault.AccessFault.TheVariants.{Memory, NotAdmin, NotOwner, Policy, Role, Taken}
+use Rattle.iv_access.specs.declared.fault.AccessFault.TheVariants.{Loop, Memory, NotAdmin, NotOwner, Policy, Role, Taken}
 use Rattle.iv_bind.specs.Catalogs.{numbered}
 use Rattle.iv_engine.specs.Kept.{Kept}
 use Rattle.iv_engine.proofs.Creating.{no_other, too_many}
@@ -59,3 +59,11 @@ unreachable-requires-in-Err-Policy c =
     let owner = c.args.owner.now in
     no_other c.args.self.now c.requires.stored c.args.acting.0 name owner c.requires.admin c.requires.owner c.requires.free x Policy c.in-Err-Policy.field-0-is refl
     (subst (λ (v : Kept). (x ≡ Memory) ⊎ (add_relation_fault v.known c.args.acting.0 name owner false ≡ Some x)) c.self.view_is c.in-Err-Policy.ensures.err_when)
+
+pub unreachable-requires-in-Err-Loop : goal.unreachable-requires-in-Err-Loop
+unreachable-requires-in-Err-Loop c =
+    let x = c.in-Err-Loop.field-0 in
+    let name = c.args.name.now in
+    let owner = c.args.owner.now in
+    no_other c.args.self.now c.requires.stored c.args.acting.0 name owner c.requires.admin c.requires.owner c.requires.free x Loop c.in-Err-Loop.field-0-is refl
+    (subst (λ (v : Kept). (x ≡ Memory) ⊎ (add_relation_fault v.known c.args.acting.0 name owner false ≡ Some x)) c.self.view_is c.in-Err-Loop.ensures.err_when)

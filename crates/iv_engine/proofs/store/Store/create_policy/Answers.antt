@@ -1,15 +1,15 @@
-use Rattle.std.proofs.Common.{◌≡◌, ◌∙◌, ap, not, refl, subst, sym, true}
-use Rattle.std.specs.Prelude.{is_some}
-use Rattle.std.specs.List.{AllByRecursion}
+use Rattle.std.proofs.Common.{◌≡◌, ◌∙◌, ap, not, refl, sym, true}
 use Rattle.iv_access.specs.Asked.{policy_from}
 use Rattle.iv_access.specs.Changing.{insert_policy}
+use Rattle.iv_access.specs.Rights.{Guard}
 use Rattle.iv_machine.specs.Act.{create_policy}
 use Rattle.iv_engine.specs.Answering.{IsStep}
-use Rattle.iv_engine.specs.Kept.{Kept, IsStored, place_of}
+use Rattle.iv_engine.specs.Concerned.{scanning}
 use Rattle.iv_engine.specs.Owned.{asked, has_room}
-use Rattle.iv_engine.specs.Turned.{AreReadersTold, WasRead}
+use Rattle.iv_engine.specs.Turned.{AreReadersTold}
 use Rattle.iv_engine.specs.declared.command.Refusal.TheVariants.{TooMany}
-use Rattle.iv_engine.proofs.Guarding.{by_told, guarded, guarded_stored, policy_step, were_read, were_there}
+use Rattle.iv_engine.proofs.Guarding.{guard_waiting, guarded, policy_step}
+use Rattle.iv_engine.proofs.Righting.{by_told, told_as, waiting_as, were_read_now}
 use Rattle.iv_engine.proofs.Owning.{is_full}
 use Rattle.iv_engine.proofs.Stepping.{refused_step}
 use Rattle.iv_engine.proofs.store.Store.create_policy.Goals as goal
@@ -24,31 +24,16 @@ returns-then-has_most_policies c =
 pub add-requires-clause-room : goal.add-requires-clause-room
 add-requires-clause-room c = ap not (sym c.has_most_policies.ensures ∙ c.if-has_most_policies.false)
 
-pub tell_readers-requires-clause-stored : goal.tell_readers-requires-clause-stored
-tell_readers-requires-clause-stored c =
-    let e = c.args.self.now in
-    let t = c.in-Ok.checked.0.table.0 in
-    let q = policy_from e.known.rights c.asked.result in
-    let was : c.add.new.self ≡ guarded t (λ g. record g { policies = insert_policy q g.policies }) e = c.in_ok-add.ensures in
-    subst IsStored (sym was) (guarded_stored e t (λ g. record g { policies = insert_policy q g.policies }) c.requires.stored)
+pub scanning-requires : goal.scanning-requires
+scanning-requires c = were_read_now c.args.self.now c.requires
 
-pub tell_readers-requires-clause-were : goal.tell_readers-requires-clause-were
-tell_readers-requires-clause-were c =
+pub tell_readers-requires : goal.tell_readers-requires
+tell_readers-requires c =
     let e = c.args.self.now in
     let t = c.in-Ok.checked.0.table.0 in
     let q = policy_from e.known.rights c.asked.result in
-    let was : c.add.new.self ≡ guarded t (λ g. record g { policies = insert_policy q g.policies }) e = c.in_ok-add.ensures in
-    subst (λ (v : Kept). AllByRecursion (WasRead v t) v.circuits) (sym was)
-    (were_read e t (λ g. record g { policies = insert_policy q g.policies }) c.requires)
-
-pub tell_readers-requires-clause-there : goal.tell_readers-requires-clause-there
-tell_readers-requires-clause-there c =
-    let e = c.args.self.now in
-    let t = c.in-Ok.checked.0.table.0 in
-    let q = policy_from e.known.rights c.asked.result in
-    let was : c.add.new.self ≡ guarded t (λ g. record g { policies = insert_policy q g.policies }) e = c.in_ok-add.ensures in
-    subst (λ (v : Kept). AllByRecursion (λ s. is_some (place_of v s) ≡ true) v.subscriptions) (sym was)
-    (were_there e t (λ g. record g { policies = insert_policy q g.policies }) c.requires)
+    let change : Guard → Guard = λ g. record g { policies = insert_policy q g.policies } in
+    waiting_as c.add.new.self (guarded t change e) _ (scanning e t) c.in_ok-add.ensures (c.deref.ensures.value ∙ c.in_ok-concerned.ensures) (guard_waiting e t change c.requires)
 
 pub returns : goal.returns
 returns c =
@@ -61,5 +46,6 @@ returns c =
     let room : has_room e.known.rights t ≡ true = ap not (sym c.has_most_policies.ensures ∙ c.if-has_most_policies.false) in
     let was : c.add.new.self ≡ guarded t (λ g. record g { policies = insert_policy (policy_from e.known.rights (asked p c.in-Ok.checked.1)) g.policies }) e =
     c.in_ok-add.ensures ∙ ap (λ a. guarded t (λ g. record g { policies = insert_policy (policy_from e.known.rights a) g.policies }) e) c.asked.ensures in
-    by_told (AreReadersTold c.add.new.self t) (IsStep e n (create_policy p)) new c.tell_readers.result
-    (λ a told. policy_step e n p owned c.in-Ok.checked.1 c.in-Ok.ensures new a c.requires room (subst (λ (v : Kept). AreReadersTold v t a new) was told)) c.tell_readers.ensures
+    by_told (AreReadersTold c.add.new.self c.deref.result.now) (IsStep e n (create_policy p)) new c.tell_readers.result
+    (λ a told. policy_step e n p owned c.in-Ok.checked.1 c.in-Ok.ensures new a c.requires room
+    (told_as c.add.new.self _ _ (scanning e t) a new was (c.deref.ensures.value ∙ c.in_ok-concerned.ensures) told)) c.tell_readers.ensures

@@ -1,0 +1,5 @@
+use Rattle.iv_access.proofs.Looping.{reached_apart}
+use Rattle.iv_access.proofs.laws.memberships_do_not_loop.Goals as goal
+
+pub returns : goal.returns
+returns c = λ r h role other x y. reached_apart h role other x y

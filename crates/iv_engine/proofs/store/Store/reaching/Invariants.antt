@@ -1,0 +1,6 @@
+use Rattle.std.proofs.Common.{◌≡◌, map, take}
+use Rattle.iv_engine.specs.Concerned.{reaches_some}
+use Rattle.iv_engine.proofs.store.Store.reaching.Given as goal
+
+abbrev pub invariant-loop-entry : goal.invariant-loop-entry
+invariant-loop-entry l = l.flags.items ≡ map (λ k. reaches_some l.self.known.rights k.role l.other) (take l.entry-index l.self.circuits)

@@ -1,0 +1,23 @@
+use Rattle.std.proofs.Common.{◌∙◌, Bool, List, ap, length, subst, sym}
+use Rattle.iv_engine.specs.Concerned.{differing, reaching}
+use Rattle.iv_engine.specs.Turned.{AreReadersTold, AreWaiting}
+use Rattle.iv_engine.proofs.Joining.{many_flags}
+use Rattle.iv_engine.proofs.Righting.{by_told}
+use Rattle.iv_engine.proofs.store.Store.tell_members.Goals as goal
+
+pub differing-requires : goal.differing-requires
+differing-requires c =
+    c.requires.long ∙ sym (many_flags c.args.self.now c.args.group) ∙ sym (ap (λ bs. length bs) (c.deref.ensures.value ∙ c.in_ok-after.ensures))
+
+pub tell_readers-requires : goal.tell_readers-requires
+tell_readers-requires c =
+    let flags = c.deref-2.ensures.value ∙ c.in_ok-concerned.ensures ∙ ap (differing c.args.before.now) (c.deref.ensures.value ∙ c.in_ok-after.ensures) in
+    subst (λ (bs : List Bool). AreWaiting c.args.self.now bs) (sym flags) c.requires.waiting
+
+pub returns : goal.returns
+returns c =
+    let e = c.args.self.now in
+    let new = c.tell_readers.new.self in
+    let flags = c.deref-2.ensures.value ∙ c.in_ok-concerned.ensures ∙ ap (differing c.args.before.now) (c.deref.ensures.value ∙ c.in_ok-after.ensures) in
+    by_told (AreReadersTold e c.deref-2.result.now) (AreReadersTold e (differing c.args.before.now (reaching e c.args.group))) new c.tell_readers.result
+    (λ a told. subst (λ (bs : List Bool). AreReadersTold e bs a new) flags told) c.tell_readers.ensures

@@ -1,0 +1,87 @@
+//! The requests `grant_role` and `revoke_role`.
+ghost use Rattle.std.specs.Prelude.{◌≡◌, IfOk, OnOk, length, string_bytes};
+ghost use Rattle.iv_machine.specs.Act as machine;
+ghost use Rattle.iv_engine.specs.Answering.{IsStep};
+ghost use Rattle.iv_engine.specs.Concerned.{differing, reaching};
+ghost use Rattle.iv_engine.specs.Kept.{IsSound};
+ghost use Rattle.iv_engine.specs.Next.{IsFirstRefusal, next};
+ghost use Rattle.iv_engine.specs.Turned.{AreReadersTold, AreWaiting};
+
+use crate::answer::Answer;
+use crate::command::Refusal;
+use crate::concerning::differing;
+use crate::frame_requests::outcome;
+use crate::store::Store;
+use iv_access::RoleId;
+use std::alloc::AllocError;
+
+impl Store {
+    /// Makes a role a member of another, or says which test fails first.
+    fn join(&mut self, session: u32, role: String, to: &str) -> Result<Option<Refusal>, AllocError>
+        ensures refused { IfOk result (IsFirstRefusal self.old session (machine.grant_role (string_bytes role) to.now)) }
+        ensures state { OnOk result (self.new ≡ next self.old session (machine.grant_role (string_bytes role) to.now)) }
+    {
+        let Some(acting) = self.actor(session) else {
+            return Ok(Some(Refusal::NoSession));
+        };
+        let change = self.access.grant_role(acting, role.as_str(), to);
+        outcome(change, role)
+    }
+
+    /// Takes a role out of the members of another, or says which test fails first.
+    fn part(&mut self, session: u32, role: String, to: &str) -> Result<Option<Refusal>, AllocError>
+        ensures refused { IfOk result (IsFirstRefusal self.old session (machine.revoke_role (string_bytes role) to.now)) }
+        ensures state { OnOk result (self.new ≡ next self.old session (machine.revoke_role (string_bytes role) to.now)) }
+    {
+        let Some(acting) = self.actor(session) else {
+            return Ok(Some(Refusal::NoSession));
+        };
+        let change = self.access.revoke_role(acting, role.as_str(), to);
+        outcome(change, role)
+    }
+
+    /// Tells readers what they see more and less whose role did not reach the group as it does now: `before` tells of each
+    /// circuit whether its role reached it.
+    fn tell_members(&mut self, group: Option<RoleId>, before: &[bool]) -> Result<Answer, AllocError>
+        requires long { length before.now ≡ length self.old.circuits }
+        requires waiting { AreWaiting self.old (differing before.now (reaching self.old group)) }
+        ensures { IfOk result (λ answer. AreReadersTold self.old (differing before.now (reaching self.old group)) answer self.new) }
+    {
+        let after = self.reaching(group)?;
+        let concerned = differing(self.alloc, before, &after)?;
+        self.tell_readers(&concerned)
+    }
+
+    /// Makes the role `to` a member of a role. Readers who reach other roles than before are told what they see more and
+    /// less.
+    pub fn grant_role(&mut self, session: u32, role: String, to: &str) -> Result<Answer, AllocError>
+        requires { IsSound self.old }
+        ensures { IfOk result (λ answer. IsStep self.old session (machine.grant_role (string_bytes role) to.now) answer self.new) }
+    {
+        let group = self.access.role(role.as_str());
+        let before = self.reaching(group)?;
+        if let Some(refusal) = self.join(session, role, to)? {
+            return Ok(Answer::Refused(refusal));
+        }
+        self.tell_members(group, &before)
+    }
+
+    /// Takes the role `to` out of the direct members of a role. Readers who reach other roles than before are told what they
+    /// see more and less, and subscriptions that may not be read any more end.
+    pub fn revoke_role(
+        &mut self,
+        session: u32,
+        role: String,
+        to: &str,
+    ) -> Result<Answer, AllocError>
+        requires { IsSound self.old }
+        ensures { IfOk result (λ answer. IsStep self.old session (machine.revoke_role (string_bytes role) to.now) answer self.new) }
+    {
+        let group = self.access.role(role.as_str());
+        let before = self.reaching(group)?;
+        if let Some(refusal) = self.part(session, role, to)? {
+            return Ok(Answer::Refused(refusal));
+        }
+        self.tell_members(group, &before)
+    }
+}

@@ -1,0 +1,209 @@
+use iv_access::{ADMIN, Access, AccessFault, Privilege, RoleId};
+use iv_rows::{Kind, RelId};
+use std::alloc::{AllocError, Global};
+use std::test::Fail;
+
+const ANN: RoleId = RoleId(1);
+
+const TEAM: RoleId = RoleId(2);
+
+const ORG: RoleId = RoleId(3);
+
+const CREW: RoleId = RoleId(4);
+
+const NOTES: RelId = RelId(0);
+
+/// The kinds of the table's columns.
+fn columns(alloc: Global) -> Result<Vec<Kind>, AllocError> {
+    Ok(Vec::from_array(alloc, [Kind::Int])?)
+}
+
+/// Adds four roles, and a table of org's.
+fn fill(access: &mut Access, alloc: Global) -> Result<(), AccessFault> {
+    access.create_role(ADMIN, "ann")?;
+    access.create_role(ADMIN, "team")?;
+    access.create_role(ADMIN, "org")?;
+    access.create_role(ADMIN, "crew")?;
+    let columns = columns(alloc)?;
+    access.add_relation(ADMIN, "notes", "org", Some(columns))?;
+    Ok(())
+}
+
+/// Makes ann a member of team and of crew, and these members of org.
+fn join(access: &mut Access) -> Result<(), AccessFault> {
+    access.grant_role(ADMIN, "team", "ann")?;
+    access.grant_role(ADMIN, "org", "team")?;
+    access.grant_role(ADMIN, "org", "crew")?;
+    access.grant_role(ADMIN, "crew", "ann")
+}
+
+/// Which of the four roles a role reaches.
+fn reached(access: &Access, role: RoleId) -> [bool; 4] {
+    [
+        access.reaches(role, ANN),
+        access.reaches(role, TEAM),
+        access.reaches(role, ORG),
+        access.reaches(role, CREW),
+    ]
+}
+
+/// Whether ann owns the table, and may read it.
+fn held(access: &Access) -> [bool; 2] {
+    [
+        access.owns(ANN, NOTES),
+        access.has(ANN, Privilege::Select, NOTES),
+    ]
+}
+
+#[test]
+fn chains_are_followed(rt: HostRuntime) -> Result<(), Fail> {
+    let alloc = rt.alloc();
+    let mut access = Access::new(alloc)?;
+    let filled = fill(&mut access, alloc);
+    let alone = [reached(&access, ANN), reached(&access, ORG)];
+    let before = held(&access);
+    let joined = join(&mut access);
+    let led = [reached(&access, ANN), reached(&access, TEAM)];
+    let upper = [reached(&access, ORG), reached(&access, ADMIN)];
+    let after = held(&access);
+    assert_eq!(rt; filled, Ok(()));
+    assert_eq!(rt;
+        alone,
+        [[true, false, false, false], [false, false, true, false]]
+    );
+    assert_eq!(rt; before, [false, false]);
+    assert_eq!(rt; joined, Ok(()));
+    assert_eq!(rt; led, [[true, true, true, true], [false, true, true, false]]);
+    assert_eq!(rt;
+        upper,
+        [[false, false, true, false], [false, false, false, false]]
+    );
+    assert_eq!(rt; after, [true, true]);
+    Ok(())
+}
+
+/// What ann has after team, and then crew too, ceases to be a member of org.
+fn parted(access: &mut Access) -> Result<[[bool; 2]; 2], AccessFault> {
+    access.revoke_role(ADMIN, "org", "team")?;
+    let one = held(access);
+    access.revoke_role(ADMIN, "org", "crew")?;
+    Ok([one, held(access)])
+}
+
+#[test]
+fn the_last_chain_counts(rt: HostRuntime) -> Result<(), Fail> {
+    let alloc = rt.alloc();
+    let mut access = Access::new(alloc)?;
+    let filled = fill(&mut access, alloc);
+    let joined = join(&mut access);
+    let parted = parted(&mut access);
+    let left = reached(&access, ANN);
+    let again = access.revoke_role(ADMIN, "org", "crew");
+    let held_twice = access.grant_role(ADMIN, "team", "ann");
+    let same = reached(&access, ANN);
+    assert_eq!(rt; filled, Ok(()));
+    assert_eq!(rt; joined, Ok(()));
+    assert_eq!(rt; parted, Ok([[true, true], [false, false]]));
+    assert_eq!(rt; left, [true, true, false, true]);
+    assert_eq!(rt; again, Ok(()));
+    assert_eq!(rt; held_twice, Ok(()));
+    assert_eq!(rt; same, left);
+    Ok(())
+}
+
+/// The faults of the two calls: eve is no role, and org would be a member of itself.
+fn faults(access: &mut Access) -> [Option<AccessFault>; 6] {
+    [
+        access.grant_role(ANN, "eve", "eve").err(),
+        access.grant_role(ADMIN, "org", "eve").err(),
+        access.grant_role(ADMIN, "ann", "org").err(),
+        access.grant_role(ADMIN, "org", "org").err(),
+        access.revoke_role(ANN, "eve", "eve").err(),
+        access.revoke_role(ADMIN, "eve", "ann").err(),
+    ]
+}
+
+#[test]
+fn memberships_are_refused_in_order(rt: HostRuntime) -> Result<(), Fail> {
+    let alloc = rt.alloc();
+    let mut access = Access::new(alloc)?;
+    let filled = fill(&mut access, alloc);
+    let joined = join(&mut access);
+    let faults = faults(&mut access);
+    let after = [reached(&access, ANN), reached(&access, ORG)];
+    assert_eq!(rt; filled, Ok(()));
+    assert_eq!(rt; joined, Ok(()));
+    assert_eq!(rt;
+        faults,
+        [
+            Some(AccessFault::NotAdmin),
+            Some(AccessFault::Role),
+            Some(AccessFault::Loop),
+            Some(AccessFault::Loop),
+            Some(AccessFault::NotAdmin),
+            Some(AccessFault::Role)
+        ]
+    );
+    assert_eq!(rt;
+        after,
+        [[true, true, true, true], [false, false, true, false]]
+    );
+    Ok(())
+}
+
+/// Adds 255 roles, r1 to r255.
+fn fill_chain(access: &mut Access, alloc: Global) -> Result<(), AccessFault> {
+    for n in 1..256u32 {
+        let name = format!(in alloc; "r{n}")?;
+        access.create_role(ADMIN, name.as_str())?;
+    }
+    Ok(())
+}
+
+/// Makes a role a member of the one before it, by their numbers.
+fn link(access: &mut Access, alloc: Global, before: u32, next: u32) -> Result<(), AccessFault> {
+    let role = format!(in alloc; "r{before}")?;
+    let to = format!(in alloc; "r{next}")?;
+    access.grant_role(ADMIN, role.as_str(), to.as_str())
+}
+
+/// Makes each of the 255 roles a member of the one before it: first those in even places, then those in odd ones.
+fn link_all(access: &mut Access, alloc: Global) -> Result<(), AccessFault> {
+    for half in 1..128u32 {
+        link(access, alloc, 2 * half, 2 * half + 1)?;
+    }
+    for half in 1..128u32 {
+        link(access, alloc, 2 * half - 1, 2 * half)?;
+    }
+    Ok(())
+}
+
+/// Whether r255 reaches r1, r1 reaches r255, r255 reaches r101 and r100 reaches r1.
+fn ends(access: &Access) -> [bool; 4] {
+    let (first, last) = (RoleId(1), RoleId(255));
+    [
+        access.reaches(last, first),
+        access.reaches(first, last),
+        access.reaches(last, RoleId(101)),
+        access.reaches(RoleId(100), first),
+    ]
+}
+
+#[test]
+fn chains_of_all_roles_are_followed(rt: HostRuntime) -> Result<(), Fail> {
+    let alloc = rt.alloc();
+    let mut access = Access::new(alloc)?;
+    let filled = fill_chain(&mut access, alloc);
+    let linked = link_all(&mut access, alloc);
+    let whole = ends(&access);
+    let looped = access.grant_role(ADMIN, "r255", "r1").err();
+    let parted = access.revoke_role(ADMIN, "r100", "r101");
+    let halves = ends(&access);
+    assert_eq!(rt; filled, Ok(()));
+    assert_eq!(rt; linked, Ok(()));
+    assert_eq!(rt; whole, [true, false, true, true]);
+    assert_eq!(rt; looped, Some(AccessFault::Loop));
+    assert_eq!(rt; parted, Ok(()));
+    assert_eq!(rt; halves, [false, false, true, true]);
+    Ok(())
+}
