@@ -1,5 +1,5 @@
 /* Put before a program by LD_PRELOAD: refuses the request for memory whose number REFUSE gives, none
-   where it is 0. At the end it writes the number of requests to the file descriptor REFUSE_TELL. */
+   where it is 0, and gives the random bytes. At the end it writes the number of requests to the file descriptor REFUSE_TELL. */
 typedef __SIZE_TYPE__ size_t;
 
 extern void *__libc_malloc(size_t);
@@ -26,6 +26,15 @@ void *malloc(size_t size) { return is_refused() ? 0 : __libc_malloc(size); }
 void *realloc(void *block, size_t size) { return is_refused() ? 0 : __libc_realloc(block, size); }
 
 void *calloc(size_t count, size_t size) { return is_refused() ? 0 : __libc_calloc(count, size); }
+
+/* The same bytes in each run, so that it asks for memory equally often; none where REFUSE_BYTES stands in the environment. */
+int getentropy(void *bytes, size_t size) {
+  if (getenv("REFUSE_BYTES"))
+    return -1;
+  for (size_t place = 0; place < size; place++)
+    ((unsigned char *)bytes)[place] = (unsigned char)place;
+  return 0;
+}
 
 __attribute__((destructor)) static void tell(void) {
   const char *descriptor = getenv("REFUSE_TELL");

@@ -11,6 +11,7 @@ ghost use Rattle.iv_engine.specs.Views.{command_of, line_of};
 
 use crate::command::{Command, EngineFault, Line};
 use crate::store::Store;
+use iv_zset::Seed;
 use std::alloc::{AllocError, Global};
 use std::marker::Model;
 
@@ -39,7 +40,8 @@ impl Model for Engine {
 }
 
 impl Engine {
-    /// An engine with the role `admin`, no table and no session.
+    /// An engine with the role `admin`, no table and no session. It hashes rows under the known seed: who writes rows can
+    /// choose them so that they fall together.
     ///
     /// # Errors
     /// `AllocError` where a growth of memory was refused.
@@ -47,8 +49,19 @@ impl Engine {
         ensures start { IfOk result (λ engine. IsBehind (start 65536) engine) }
         ensures failed { IfOk result (λ engine. engine.failed ≡ false) }
     {
+        Engine::with_seed(alloc, Seed::known())
+    }
+
+    /// The same engine, which hashes rows under a seed. The answers don't depend on it.
+    ///
+    /// # Errors
+    /// `AllocError` where a growth of memory was refused.
+    pub fn with_seed(alloc: Global, seed: Seed) -> Result<Engine, AllocError>
+        ensures start { IfOk result (λ engine. IsBehind (start 65536) engine) }
+        ensures failed { IfOk result (λ engine. engine.failed ≡ false) }
+    {
         Ok(Engine {
-            store: Store::new(alloc)?,
+            store: Store::new(alloc, seed)?,
             failed: false,
         })
     }

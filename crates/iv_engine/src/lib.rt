@@ -43,4 +43,5 @@ pub use iv_access::{Check, PolicyCommand, Privilege};
 pub use iv_bind::BindWhy;
 pub use iv_machine::Cause;
 pub use iv_query::Why;
+pub use iv_zset::Seed;
 pub use well::has_texts;

@@ -13,6 +13,7 @@ use iv_access::{Access, RoleId};
 use iv_algebra::Tables;
 use iv_bind::Catalog;
 use iv_rows::{RelId, Schema};
+use iv_zset::Seed;
 use std::alloc::{AllocError, Global};
 use std::marker::Model;
 
@@ -50,8 +51,8 @@ impl Model for Store {
 }
 
 impl Store {
-    /// One role, `admin`, and nothing else.
-    pub fn new(alloc: Global) -> Result<Store, AllocError>
+    /// One role, `admin`, and nothing else. Rows will be hashed under the seed.
+    pub fn new(alloc: Global, seed: Seed) -> Result<Store, AllocError>
         ensures start { IfOk result (λ store. IsBehind (start cap) (seen store)) }
         ensures sound { IfOk result (λ store. IsSound store) }
     {
@@ -62,7 +63,7 @@ impl Store {
             subscriptions: Vec::new(alloc),
             circuits: Vec::new(alloc),
             last: 0,
-            tables: Tables::new(alloc),
+            tables: Tables::with_seed(alloc, seed),
             alloc,
         })
     }

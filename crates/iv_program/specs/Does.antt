@@ -9,7 +9,7 @@ use Rattle.iv_program.specs.Replays.{Replays}
 use Rattle.iv_program.specs.declared.asked.Settings.{Settings}
 use Rattle.iv_program.specs.declared.asked.Settings.TheVariants.{Replay, Serve}
 use Rattle.iv_program.specs.declared.fault.Fault.{Fault}
-use Rattle.iv_program.specs.declared.fault.Fault.TheVariants.{Read}
+use Rattle.iv_program.specs.declared.fault.Fault.TheVariants.{Read, Random}
 
 -- the line that says where the program listens
 abbrev pub listening : ℕ → List ℕ
@@ -30,6 +30,7 @@ run_of lines e now = record { lines = lines; given = e.given; left = e.left; tak
 abbrev pub Listens : ℕ → (taken written : Option (List ℕ)) → Result (Unit {0}) Fault → Type 0
 Listens port taken written (Ok _) = Appends taken written (listening port)
 Listens port taken written (Err Read) = ⊥
+Listens port taken written (Err Random) = ⊥
 Listens port taken written (Err f) = (n : ℕ) × Appends taken written (take n (listening port))
 
 -- lines of the reader are answered on the writer, or those of connections are answered, and the writer tells the port

@@ -14,6 +14,9 @@ pub enum Fault {
     /// Standard output could not be written.
     #[error("viewd: write failed")]
     Write,
+    /// The system gave no random bytes.
+    #[error("viewd: no random bytes")]
+    Random,
     /// The port could not be listened on, or a connection not be accepted.
     #[error("viewd: network failed")]
     Network,
@@ -28,7 +31,7 @@ impl Fault {
         ensures { result ≡ status_of self }
     {
         match self {
-            Fault::Read | Fault::Write | Fault::Network => 2,
+            Fault::Read | Fault::Write | Fault::Random | Fault::Network => 2,
             Fault::Memory => 3,
         }
     }

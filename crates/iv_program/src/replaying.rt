@@ -12,17 +12,18 @@ ghost use Rattle.iv_program.specs.Replays.{Replays, is_read, is_write};
 use crate::asked::Settings;
 use crate::fault::Fault;
 use crate::serving::serve;
-use iv_engine::Engine;
+use iv_engine::{Engine, Seed};
 use iv_wire::{RunFault, Sink, Source, run};
 use std::alloc::Global;
 
-/// Answers at most `lines` lines of the reader on the writer, through a new engine.
+/// Answers at most `lines` lines of the reader on the writer, through a new engine, which hashes rows under the seed.
 ///
 /// # Errors
 /// `Read` and `Write` where the reader or the writer failed; `Memory` where a growth of memory was
 /// refused.
 fn replay<R: Source, W: Sink>(
     alloc: Global,
+    seed: Seed,
     reader: &mut R,
     writer: &mut W,
     lines: u32,
@@ -49,7 +50,7 @@ fn replay<R: Source, W: Sink>(
     ensures flushed { (is_write result ≡ false) → W.is_flushed writer.old ≡ true → W.is_flushed writer.new ≡ true }
     ensures reads { R.reads reader.new ≤ R.reads reader.old + lines * line_room }
 {
-    let Ok(mut engine) = Engine::new(alloc) else {
+    let Ok(mut engine) = Engine::with_seed(alloc, seed) else {
         return Err(Fault::Memory);
     };
     match run(alloc, &mut engine, reader, writer, lines) {
@@ -61,13 +62,14 @@ fn replay<R: Source, W: Sink>(
     }
 }
 
-/// Does what the settings ask, with these ends in place of standard input and output.
+/// Does what the settings ask, with these ends in place of standard input and output. Rows are hashed under the seed.
 ///
 /// # Errors
 /// `Read` and `Write` where the reader or the writer failed; `Network` where a port could not be
 /// listened on, or a connection not be accepted; `Memory` where a growth of memory was refused.
 pub fn work<R: Source, W: Sink>(
     rt: &HostRuntime,
+    seed: Seed,
     settings: Settings,
     reader: &mut R,
     writer: &mut W,
@@ -92,11 +94,11 @@ pub fn work<R: Source, W: Sink>(
     ensures reads { R.reads reader.new ≤ R.reads reader.old + (lines_of settings * line_room) }
 {
     match settings {
-        Settings::Replay { lines } => replay(rt.alloc(), reader, writer, lines),
+        Settings::Replay { lines } => replay(rt.alloc(), seed, reader, writer, lines),
         Settings::Serve {
             port,
             connections,
             lines,
-        } => serve(rt, writer, port, connections, lines),
+        } => serve(rt, seed, writer, port, connections, lines),
     }
 }

@@ -9,7 +9,7 @@ ghost use Rattle.iv_program.specs.Replays.{is_write};
 ghost use Rattle.iv_program.specs.Serves.{HasServed, IsClosed, Serves, is_memory};
 
 use crate::fault::Fault;
-use iv_engine::Engine;
+use iv_engine::{Engine, Seed};
 use iv_wire::{EndFault, FromRead, FromWrite, Sink, run, write_all};
 use std::alloc::{AllocError, Global};
 use std::net::{Ipv4Addr, SocketAddrV4, TcpListener, TcpStream};
@@ -109,13 +109,14 @@ fn tell_port<W: Sink>(alloc: Global, writer: &mut W, port: u16) -> Result<(), Fa
 }
 
 /// Listens on a port of 127.0.0.1, tells so on the writer, and serves so many connections through a new engine, with at
-/// most `lines` lines of each.
+/// most `lines` lines of each. Rows are hashed under the seed.
 ///
 /// # Errors
 /// `Network` where the port could not be listened on, or a connection not be accepted; `Write` where the writer failed;
 /// `Memory` where a growth of memory was refused.
 pub fn serve<W: Sink>(
     rt: &HostRuntime,
+    seed: Seed,
     writer: &mut W,
     port: u16,
     connections: u32,
@@ -126,7 +127,7 @@ pub fn serve<W: Sink>(
     ensures flushed { (is_write result ≡ false) → W.is_flushed writer.old ≡ true → W.is_flushed writer.new ≡ true }
 {
     let alloc = rt.alloc();
-    let Ok(mut engine) = Engine::new(alloc) else {
+    let Ok(mut engine) = Engine::with_seed(alloc, seed) else {
         return Err(Fault::Memory);
     };
     let Ok(listener) = TcpListener::bind(rt, SocketAddrV4::new(Ipv4Addr::LOCALHOST, port)) else {

@@ -4,10 +4,11 @@ ghost use Rattle.iv_algebra.specs.Shapes.{Join, Scan, shape_of};
 ghost use Rattle.iv_circuit.specs.Nodes.{plan_of};
 ghost use Rattle.tests_circuits.specs.Worlds.{IsReader};
 
-use crate::plans::joined;
+use crate::plans::{joined, plan_of};
 use iv_access::{ADMIN, Access};
 use iv_algebra::{Plan, Tables};
 use iv_circuit::Circuit;
+use iv_zset::Seed;
 use std::alloc::Global;
 
 /// The circuit of a plan under the rights, where the plan is for the tables.
@@ -40,4 +41,11 @@ pub(crate) fn opened(alloc: Global, tables: &Tables) -> Option<Circuit>
 {
     let plan = joined(alloc).ok()?;
     planned(alloc, &plan, tables)
+}
+
+/// What the rows of a plan's circuit are hashed with.
+pub(crate) fn total_seed(alloc: Global, number: u32, tables: &Tables) -> Option<Seed> {
+    let plan = plan_of(alloc, number).ok()?;
+    let circuit = planned(alloc, &plan, tables)?;
+    Some(circuit.total().seed())
 }

@@ -8,7 +8,7 @@ ghost use Rattle.tests_circuits.specs.Worlds.{AreSound, HasMore, LeadTo, SameHea
 use iv_algebra::Tables;
 use iv_circuit::Deltas;
 use iv_rows::{Column, Kind, RelId, Row, Schema, Value};
-use iv_zset::Meter;
+use iv_zset::{Meter, Seed};
 use std::alloc::{AllocError, Global};
 
 /// A row of a table, and how many copies of it come.
@@ -49,11 +49,11 @@ fn add_table(alloc: Global, tables: &mut Tables, table: RelId) -> bool
     }
 }
 
-/// Tables 0 and 1, without rows.
-pub(crate) fn two_tables(alloc: Global) -> Option<Tables>
+/// Tables 0 and 1, without rows, under a seed.
+pub(crate) fn two_tables(alloc: Global, seed: Seed) -> Option<Tables>
     ensures { IfSome result (λ tables. AreSound tables) }
 {
-    let mut tables = Tables::new(alloc);
+    let mut tables = Tables::with_seed(alloc, seed);
     if add_table(alloc, &mut tables, RelId(0)) && add_table(alloc, &mut tables, RelId(1)) {
         Some(tables)
     } else {
@@ -131,7 +131,7 @@ pub(crate) fn turn(alloc: Global, tables: &mut Tables, batch: &[Entry]) -> Optio
     ensures heads { SameHeads tables.old tables.new }
     ensures leads { IfSome result (λ deltas. LeadTo tables.old tables.new (change_in deltas)) }
 {
-    let mut deltas = Deltas::new(alloc);
+    let mut deltas = Deltas::with_seed(alloc, tables.seed());
     for entry in batch {
         if !enter(alloc, tables, &mut deltas, *entry) {
             return None;

@@ -1,7 +1,7 @@
 //! Tests of serving over loopback: each client connects, sends all its bytes and shuts its writing side before the server
 //! accepts, and reads its answers behind it. The system keeps the bytes.
 
-use iv_engine::Engine;
+use iv_engine::{Engine, Seed};
 use iv_program::{Fault, ServeFault, serve, serve_on};
 use iv_wire::FromWrite;
 use std::alloc::Global;
@@ -179,11 +179,25 @@ fn tells_the_port(rt: HostRuntime) -> Result<(), Fail> {
     let listener = TcpListener::bind(&rt, "127.0.0.1:0")?;
     let port = listener.local_addr()?.port();
     let mut told = Vec::new(alloc);
-    let ended = serve(&rt, &mut FromWrite::new(&mut told), port, 0, 1);
+    let ended = serve(
+        &rt,
+        Seed::known(),
+        &mut FromWrite::new(&mut told),
+        port,
+        0,
+        1,
+    );
     assert!(rt; ended == Err(Fault::Network));
     assert_eq!(rt; told.len(), 0);
     drop(listener);
-    let ended = serve(&rt, &mut FromWrite::new(&mut told), port, 0, 1);
+    let ended = serve(
+        &rt,
+        Seed::known(),
+        &mut FromWrite::new(&mut told),
+        port,
+        0,
+        1,
+    );
     assert!(rt; ended == Ok(()));
     let line = format!(in alloc; "listening on 127.0.0.1:{port}\n")?;
     assert_eq!(rt; told.as_slice(), line.as_bytes());

@@ -119,6 +119,7 @@ fn tells_faults(rt: HostRuntime) -> Result<(), Fail> {
     let told = [
         (Fault::Read, "viewd: read failed", 2),
         (Fault::Write, "viewd: write failed", 2),
+        (Fault::Random, "viewd: no random bytes", 2),
         (Fault::Network, "viewd: network failed", 2),
         (Fault::Memory, "viewd: out of memory", 3),
     ];

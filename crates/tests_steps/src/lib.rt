@@ -6,6 +6,8 @@ mod kept;
 mod pairs;
 mod positive;
 mod product;
+#[cfg(test)]
+mod seeds;
 mod sets;
 mod singles;
 #[cfg(test)]

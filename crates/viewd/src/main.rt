@@ -1,7 +1,7 @@
 //! The program: request lines in, answer lines out, through one engine.
 #![tactic(auto)]
 
-use iv_program::{asked_for, work};
+use iv_program::{asked_for, random_seed, work};
 use iv_wire::{FromRead, FromWrite};
 use std::process::ExitCode;
 
@@ -10,12 +10,17 @@ fn main(rt: HostRuntime) -> ExitCode {
         Ok(settings) => settings,
         Err(status) => return status,
     };
-    match work(
-        &rt,
-        settings,
-        &mut FromRead::new(rt.stdin()),
-        &mut FromWrite::new(rt.stdout()),
-    ) {
+    let done = match random_seed(&rt) {
+        Ok(seed) => work(
+            &rt,
+            seed,
+            settings,
+            &mut FromRead::new(rt.stdin()),
+            &mut FromWrite::new(rt.stdout()),
+        ),
+        Err(fault) => Err(fault),
+    };
+    match done {
         Ok(()) => ExitCode::SUCCESS,
         Err(fault) => {
             let _ = eprintln!(rt; "{fault}");
