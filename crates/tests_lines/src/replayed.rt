@@ -47,7 +47,7 @@ pub fn ended<R: Source, W: Sink>(
     writer: &mut W,
     lines: u32,
 ) -> Result<Ended, AllocError> {
-    let mut engine = Engine::new(alloc)?;
+    let mut engine = Engine::new(alloc, 1_024)?;
     let ended = run(alloc, &mut engine, reader, writer, lines);
     if engine.is_failed() {
         return Ok(Err(RunFault::Failed));
