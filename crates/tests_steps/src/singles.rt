@@ -118,7 +118,7 @@ pub(crate) fn united(
 pub(crate) fn once(alloc: Global, old: i64, change: i64) -> Result<Seen, DeltaFault> {
     let a = two(alloc, &[1], old, &[1], 0)?;
     let d = two(alloc, &[1], change, &[1], 0)?;
-    let answer = step_distinct(alloc, &a, &d, &mut Meter::new());
+    let answer = step_distinct(alloc, &a, &d, ROW_LIMIT, &mut Meter::new());
     seen_of(alloc, answer, false, &[1], &[1])
 }
 
@@ -133,7 +133,7 @@ fn step_right_side(
     requires { IsFew da.now }
 {
     let db = two(alloc, &[1], right, &[1], 0)?;
-    step_except(alloc, a, b, da, &db, &mut Meter::new())
+    step_except(alloc, a, b, da, &db, ROW_LIMIT, &mut Meter::new())
 }
 
 fn step_sides(
