@@ -1,4 +1,6 @@
 //! Trees of texts, by the rules of the grammar. Places are in bytes from 0; names are in lower case.
+//!
+//! A query is a select, or a query, an operation and a select: grouping from the right has no tree.
 
 use iv_rows::Value;
 
