@@ -6,7 +6,7 @@
 ghost use Rattle.std.specs.Prelude.{◌≡◌, ◌↔◌, [], IfOk, OnOk, OnErr, map, true, false};
 ghost use Rattle.std.specs.List.{list_all};
 ghost use Rattle.iv_machine.specs.Machine.{hung};
-ghost use Rattle.iv_machine.specs.Reached.{IsReached};
+ghost use Rattle.iv_machine.specs.Reached.{AreNumbersUnique};
 ghost use Rattle.iv_machine.specs.State.{State, start};
 ghost use Rattle.iv_machine.specs.Well.{is_well_command};
 ghost use Rattle.iv_engine.specs.Counting.{AreCountedWhereAccepted};
@@ -61,7 +61,7 @@ impl Engine {
     /// reaches.
     pub fn is_failed(&self) -> bool
         ensures failed { result ≡ self.now.failed }
-        ensures reached { result ≡ false → IsReached self.now.frame }
+        ensures numbers { result ≡ false → AreNumbersUnique self.now.frame }
     {
         self.failed
     }

@@ -10,7 +10,7 @@
 //! written by the same kind of end as answers: its text and its faults are in a contract.
 
 ghost use Rattle.std.specs.Prelude.{◌≡◌, ◌≤◌, ◌||◌, ◌↔◌, true, false, IsErrOf, OnOk, is_err};
-ghost use Rattle.iv_machine.specs.Reached.{IsReached};
+ghost use Rattle.iv_machine.specs.Reached.{AreNumbersUnique};
 ghost use Rattle.iv_machine.specs.State.{State};
 ghost use Rattle.iv_engine.specs.Seen.{IsBehind};
 ghost use Rattle.iv_program.specs.Does.{Listens};
@@ -79,7 +79,7 @@ pub fn serve_on(
 ) -> Result<(), ServeFault>
     ensures served { (s : State) → IsBehind s engine.old → Serves lines connections s engine.new result }
     ensures closed { OnOk result (1 ≤ connections → IsClosed engine.new.frame) }
-    ensures reached { engine.new.failed ≡ false → IsReached engine.new.frame }
+    ensures numbers { engine.new.failed ≡ false → AreNumbersUnique engine.new.frame }
     ensures failed { engine.new.failed ≡ (engine.old.failed || is_memory result) }
     ensures refused { IsErrOf result ServeFault.Failed ↔ (engine.old.failed ≡ true) }
     ensures untouched { engine.old.failed ≡ true → engine.new ≡ engine.old }
