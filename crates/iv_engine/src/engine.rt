@@ -5,6 +5,7 @@
 //! it says that it takes back all that was shown.
 ghost use Rattle.std.specs.Prelude.{◌≡◌, ◌↔◌, [], IfOk, OnOk, OnErr, map, true, false};
 ghost use Rattle.std.specs.List.{list_all};
+ghost use Rattle.iv_zset.specs.RowLimit.{IsRowLimit};
 ghost use Rattle.iv_machine.specs.Machine.{hung};
 ghost use Rattle.iv_machine.specs.Reached.{AreNumbersUnique};
 ghost use Rattle.iv_machine.specs.State.{State, start};
@@ -43,16 +44,18 @@ impl Model for Engine {
 }
 
 impl Engine {
-    /// An engine with the role `admin`, no table and no session.
+    /// An engine with the role `admin`, no table and no session. A table, and each node of a plan that is read, has at most
+    /// `cap` different rows; that stays so.
     ///
     /// # Errors
     /// `AllocError` where a growth of memory was refused.
-    pub fn new(alloc: Global) -> Result<Engine, AllocError>
-        ensures start { IfOk result (λ engine. IsBehind (start 65536) engine) }
+    pub fn new(alloc: Global, cap: u32) -> Result<Engine, AllocError>
+        requires { IsRowLimit cap }
+        ensures start { IfOk result (λ engine. IsBehind (start cap) engine) }
         ensures failed { IfOk result (λ engine. engine.failed ≡ false) }
     {
         Ok(Engine {
-            store: Store::new(alloc)?,
+            store: Store::new(alloc, cap as usize)?,
             failed: false,
         })
     }

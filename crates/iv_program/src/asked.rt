@@ -9,6 +9,8 @@ pub enum Settings {
     Replay {
         /// The number of lines to take at most, skipped ones counted.
         lines: u32,
+        /// The number of different rows at most of a table, and of each node of a plan that is read.
+        rows: u32,
     },
     /// Answer the lines of connections, one connection after another.
     Serve {
@@ -18,5 +20,7 @@ pub enum Settings {
         connections: u32,
         /// The number of lines to take at most of each connection, skipped ones counted.
         lines: u32,
+        /// The number of different rows at most of a table, and of each node of a plan that is read.
+        rows: u32,
     },
 }

@@ -59,7 +59,7 @@ impl Sink for Kept {
 #[test]
 fn first_change_holds(rt: HostRuntime) -> Result<(), Fail> {
     let alloc = rt.alloc();
-    let Ok(mut engine) = Engine::new(alloc) else {
+    let Ok(mut engine) = Engine::new(alloc, 1_024) else {
         println!(rt; "refused")?;
         return Ok(());
     };
