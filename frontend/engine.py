@@ -458,20 +458,24 @@ class Engine:
         self.changed(ask.request)
 
     def changed(self, request: dict) -> None:
-        """Takes in what was accepted, and tells a role of a relation that it may try again: viewd tells nobody."""
+        """Takes in what was accepted, and tells a role and its members of a relation that they may try again: viewd tells nobody."""
         if request["do"] == "write":
             return
         self.shape.apply(request)
         self.reshaped = True
         match request:
             case {"do": "grant", "on": on, "to": to} | {"do": "create_table" | "create_view", "name": on, "owner": to}:
-                for client in self.clients.values():
-                    if to in ("public", client.role) or self.shape.members:
-                        self.put(client, to_text({"granted": on}))
-            case {"do": "grant_role"}:
-                for client in self.clients.values():
-                    for on in self.shape.relations:
-                        self.put(client, to_text({"granted": on}))
+                self.tell_granted(to, [on])
+            case {"do": "grant_role", "role": role, "to": to}:
+                roles = self.shape.reached(role)
+                self.tell_granted(to, [on for on, held in self.shape.grants.items() if roles & held.keys()])
+
+    def tell_granted(self, to: str, names: list[str]) -> None:
+        roles = {role for role in {client.role for client in self.clients.values()} if to == "public" or to in self.shape.reached(role)}
+        for client in self.clients.values():
+            if client.role in roles:
+                for on in names:
+                    self.put(client, to_text({"granted": on}))
 
     def tell_shape(self, clients: list[Client]) -> None:
         self.reshaped = False

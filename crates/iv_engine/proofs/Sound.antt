@@ -198,7 +198,7 @@ module _ (e : Kept) (h : IsSound e) (name owner : Name) (held : Held) where
   relation_sound =
       record {
         stored = record {
-          reached = record { unique = h.stored.reached.unique; given = h.stored.reached.given };
+          numbers = record { unique = h.stored.numbers.unique; given = h.stored.numbers.given };
           roles = h.stored.roles;
           numbered = numbered_push 0 e.catalog x h.stored.numbered (from_zero (length e.catalog));
           relations = ap (λ (rs : List Relation). rs ++ record { name = name; kinds = option_map kinds_of (table_in held) } ∷ []) h.stored.relations ∙ sym (map-append relation_in e.catalog (x ∷ []));
@@ -243,7 +243,7 @@ module _ (e : Kept) (n : ℕ) (h : IsSound e) where
     pub begin_sound : frame_refusal (frame_of e) n (begin role) ≡ None → IsSound begun
     begin_sound passed = record {
       stored = record {
-        reached = record { unique = h.stored.reached.unique; given = h.stored.reached.given };
+        numbers = record { unique = h.stored.numbers.unique; given = h.stored.numbers.given };
         roles = roles_after (frame_of e) n (begin role) passed h.stored.roles;
         numbered = h.stored.numbered;
         relations = h.stored.relations;
@@ -289,7 +289,7 @@ module _ (e : Kept) (n : ℕ) (h : IsSound e) where
     pub role_sound : frame_refusal (frame_of e) n (create_role name) ≡ None → IsSound named
     role_sound passed = record {
       stored = record {
-        reached = record { unique = h.stored.reached.unique; given = h.stored.reached.given };
+        numbers = record { unique = h.stored.numbers.unique; given = h.stored.numbers.given };
         roles = roles_after (frame_of e) n (create_role name) passed h.stored.roles;
         numbered = h.stored.numbered;
         relations = h.stored.relations;
@@ -333,7 +333,7 @@ module _ (e : Kept) (n : ℕ) (h : IsSound e) where
     pub grant_sound : IsSound given
     grant_sound = record {
       stored = record {
-        reached = record { unique = h.stored.reached.unique; given = h.stored.reached.given };
+        numbers = record { unique = h.stored.numbers.unique; given = h.stored.numbers.given };
         roles = h.stored.roles;
         numbered = h.stored.numbered;
         relations = h.stored.relations;
@@ -395,7 +395,7 @@ kept_at_start cap = record { cap = cap; known = known_at_start; catalog = []; se
 pub start_sound : (cap : ℕ) → IsRowLimit cap → IsSound (kept_at_start cap)
 start_sound cap limit = record {
   stored = record {
-    reached = record { unique = tt; given = tt };
+    numbers = record { unique = tt; given = tt };
     roles = tt;
     numbered = tt;
     relations = refl;

@@ -20,7 +20,7 @@ use Rattle.iv_circuit.specs.Keeping.{StandsOn}
 use Rattle.iv_circuit.specs.Nodes.{plan_of, scans_of}
 use Rattle.iv_machine.specs.State.{Frame, State, Session, Subscription, actor, is_open, is_within_for, missing_for, plan_at, session_of, view_for}
 use Rattle.iv_machine.specs.Numbered.{AreNumbered}
-use Rattle.iv_machine.specs.Reached.{IsReached}
+use Rattle.iv_machine.specs.Reached.{AreNumbersUnique}
 use Rattle.iv_engine.specs.Stands.{Stands}
 
 -- the circuit of what a relation shows to a role, with the numbers of the subscriptions that were opened on it, the last
@@ -107,7 +107,7 @@ HoldsKinds (Some columns) rows = AreOf (kinds_of columns) rows
 -- the machine reaches the frame; sessions act for roles that are there; each relation has its place as its number,
 -- and a guard; each table has its kinds, and no more rows than there may be, of these kinds, none with a weight below 0
 pub record IsStored (e : Kept) : Type 0 where
-  pub reached : IsReached (frame_of e)
+  pub numbers : AreNumbersUnique (frame_of e)
   pub roles : AllByRecursion (λ s. s.role < length e.known.rights.roles) e.sessions
   pub numbered : AreNumbered 0 e.catalog
   pub relations : e.known.relations ≡ map relation_in e.catalog

@@ -1,9 +1,13 @@
 //! The engine.
+//!
+//! The clause `known_rows` of `apply` follows from `lines`. It is said all the same: a leak is the worst fault. Of a
+//! change it speaks where the subscription is to a table, since the rows of a view stand in no table; of a last line
+//! it says that it takes back all that was shown.
 ghost use Rattle.std.specs.Prelude.{◌≡◌, ◌↔◌, [], IfOk, OnOk, OnErr, map, true, false};
 ghost use Rattle.std.specs.List.{list_all};
 ghost use Rattle.iv_zset.specs.RowLimit.{IsRowLimit};
 ghost use Rattle.iv_machine.specs.Machine.{hung};
-ghost use Rattle.iv_machine.specs.Reached.{IsReached};
+ghost use Rattle.iv_machine.specs.Reached.{AreNumbersUnique};
 ghost use Rattle.iv_machine.specs.State.{State, start};
 ghost use Rattle.iv_machine.specs.Well.{is_well_command};
 ghost use Rattle.iv_engine.specs.Counting.{AreCountedWhereAccepted};
@@ -60,7 +64,7 @@ impl Engine {
     /// reaches.
     pub fn is_failed(&self) -> bool
         ensures failed { result ≡ self.now.failed }
-        ensures reached { result ≡ false → IsReached self.now.frame }
+        ensures numbers { result ≡ false → AreNumbersUnique self.now.frame }
     {
         self.failed
     }
