@@ -24,7 +24,7 @@ from journal import LINE, Damaged, Journal, Log
 
 HELLO = 10.0  # seconds to send a token
 PING, PONG = 20.0, 10.0  # seconds between an answer and the next ping, and for an answer
-HOLD = 0.5  # seconds for which nothing is decided, while gateways are compared
+HOLD = 8.0  # seconds, at most, for which nothing is decided while gateways are compared
 
 log = logging.getLogger("gateway")
 
@@ -96,15 +96,19 @@ class Desk:
 
     async def state(self, request: web.Request) -> web.Response:
         """How it goes, for administrators. Gateways of one journal agree where they tell the same digest of as many lines.
-        With `?tables` there is a digest of what viewd holds, too, and the place at which it was taken. With `?hold` one that
-        writes a stream pauses, so that all can be asked at one place."""
+        With `?tables` there is a digest of what viewd holds, too, and the place at which it was taken. With `?hold=0.5` one that
+        writes a stream pauses for so many seconds, so that all can be asked at one place."""
         if self.role(request.headers.get("Authorization", "").removeprefix("Bearer ")) != "admin":
             raise web.HTTPForbidden()
         engine = self.engine
         state = {"ready": engine.ready.is_set(), "viewd": engine.child and engine.child.pid, "sessions": len(engine.clients),
                  "dropped": engine.dropped}
         if "hold" in request.query:
-            engine.hold(HOLD)
+            try:
+                seconds = float(request.query["hold"])
+            except ValueError:
+                raise web.HTTPBadRequest() from None
+            engine.hold(seconds if 0 < seconds < HOLD else HOLD)
         if "tables" in request.query:
             await engine.ready.wait()
             state["tables"] = await engine.tables()

@@ -137,15 +137,18 @@ async def a_stream_is_read_in_its_order(store: Store, http: aiohttp.ClientSessio
     store.client.delete("desk")
     for identifier, fields in good:
         store.client.xadd("desk", fields, identifier)
-    assert len(await reader.read()) == 5
+    early = opened(store.url)
+    assert len(await reader.read()) == 5 == len(await early.read())
     store.client.xdel("desk", "5-0")
     store.client.client_kill_filter(_type="normal", skipme=True)
-    try:
-        for _ in range(3):
-            await reader.wait()
-        raise AssertionError("the end is gone, and nobody says so")
-    except journal.Damaged as why:
-        assert "ends at 4" in str(why)
+    for who, pause in ((early, 0), (reader, 0.2)):  # one finds that its connection is gone, for the other the library has made another
+        await asyncio.sleep(pause)
+        try:
+            for _ in range(3):
+                await who.wait()
+            raise AssertionError("the end is gone, and nobody says so")
+        except journal.Damaged as why:
+            assert "ends at 4" in str(why)
 
 
 @test
