@@ -41,7 +41,7 @@ class Client:
         self.subscribed = 0
         self.lines: list[bytes] = []  # what the next message will have
         self.asked_bytes, self.allowance = 0, BACKLOG
-        self.sent, self.heard, self.busy = 0, 0, False  # bytes, messages, and whether one of them is on its way to viewd
+        self.sent, self.heard, self.busy = 0, 0, True  # bytes, messages, and whether it waits for viewd to take one: its entry is the first
         self.flight = asyncio.Semaphore(IN_FLIGHT)
         self.task = asyncio.current_task()
 

@@ -62,6 +62,7 @@ class Desk:
             if not await self.engine.enter(client):
                 await ws.close(code=1013, message=b"No session is free, or the role is not there.")
                 return ws
+            client.busy = False
             async for message in ws:
                 client.heard += 1
                 if message.type is WSMsgType.TEXT:

@@ -95,14 +95,16 @@ class Gate:
         self.tokens.write_text(tokens())
         if journal is None:
             self.journal.write_bytes((TOP / "desk.jsonl").read_bytes() if lines is None else lines)
-        self.port = free_port()
-        self.url = f"http://127.0.0.1:{self.port}/"
+        self.move(free_port())
         self.words = ["--viewd", VIEWD, "--journal", self.journal, "--tokens", self.tokens, "--port", str(self.port), *words]
         self.log = (here / "log").open("ab+")
         self.process: subprocess.Popen | None = None
         self.running.append(self)
         if start:
             self.start()
+
+    def move(self, port: int) -> None:
+        self.port, self.url = port, f"http://127.0.0.1:{port}/"
 
     def launch(self) -> None:
         self.process = subprocess.Popen(["/usr/bin/python3", TOP / "gateway.py", *self.words], stderr=self.log)

@@ -21,7 +21,7 @@ import urllib.error
 import aiohttp
 import yarl
 
-from gate import PATIENCE, ROLES, TOP, VIEWD, Gate, Peer, enter, eventually, explain, leave, quiet, soon, tokens
+from gate import PATIENCE, ROLES, TOP, VIEWD, Gate, Peer, enter, eventually, explain, free_port, leave, quiet, soon, tokens
 
 import engine
 import gateway
@@ -686,11 +686,13 @@ async def one_command_opens_the_desk(gate: None, http: aiohttp.ClientSession):
     gate = Gate(start=False)
     folder = gate.journal.parent / "kept"
     for turn in range(2):
+        gate.move(free_port())  # it stays where it was, by other links
         desk = subprocess.Popen(["/usr/bin/python3", TOP / "desk", "--folder", folder, "--port", str(gate.port)], env=os.environ | {"VIEWD": str(VIEWD)},
                                 stdout=subprocess.PIPE, stderr=gate.log, text=True)
         links = dict(line.split() for line in [desk.stdout.readline() for _ in range(2 + len(ROLES))][2:])
         assert tuple(links) == ROLES, links
-        token = links["mia"].partition("#token=")[2]
+        address, _, token = links["mia"].partition("#token=")
+        assert address == gate.url
         assert len(token) > 40 and token not in (folder / "tokens.toml").read_text()
         gate.process = desk
         await asyncio.to_thread(eventually, lambda: gate.state(links["admin"].partition("#token=")[2])["ready"])
