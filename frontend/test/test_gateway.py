@@ -724,7 +724,8 @@ def main(names: list[str]) -> None:
         try:
             asyncio.run(run(check))
         except Exception as why:
-            sys.exit(f"FAILED  {check.__name__}  {time.monotonic() - began:.1f} s\n{explain(why)}")
+            print(f"FAILED  {check.__name__}  {time.monotonic() - began:.1f} s\n{explain(why)}", flush=True)
+            sys.exit(1)
         print(f"ok  {check.__name__}  {time.monotonic() - began:.1f} s", flush=True)
 
 
