@@ -73,6 +73,7 @@ class Engine:
         self.more, self.room, self.gathered = asyncio.Event(), asyncio.Event(), 0
         self.open = asyncio.Event()  # clear while no client's request is taken: room is made for an entry, or gateways are compared
         self.open.set()
+        self.held: asyncio.TimerHandle | None = None  # what opens it, where gateways are compared
         self.taken, self.place, self.digest = 0, 0, ""  # accepted requests that viewd carried out, and those that others may know of
         self.known: dict[str, None] = {}  # names of the last of them, the oldest first
         self.deciding: set[str] = set()  # names of those that are not in the journal yet
@@ -237,7 +238,9 @@ class Engine:
         """Decides nothing for so long, where this gateway writes a stream: so that all who read it come to one place."""
         if self.journal.shared and not self.journal.follow:
             self.open.clear()
-            asyncio.get_running_loop().call_later(seconds, self.open.set)
+            if self.held:
+                self.held.cancel()
+            self.held = asyncio.get_running_loop().call_later(seconds, self.open.set)
 
     async def tables(self) -> dict | None:
         """A digest of tables, roles, grants and policies as they are at a place; the rows as viewd tells them to an

@@ -66,20 +66,19 @@ def free_port() -> int:
 
 def explain(why: BaseException) -> str:
     """What went wrong, in few lines: where in the tests, the values there, and what was said. The end of an output is what is kept."""
+    said = f"{type(why).__name__}: {why}"
     while isinstance(why, (asyncio.TimeoutError, asyncio.CancelledError)) and (inner := why.__cause__ or why.__context__):
-        why = inner  # of a test that did not end: where it waited
-    lines, values = [], {}
-    for frame, number in traceback.walk_tb(why.__traceback__):
-        if pathlib.Path(frame.f_code.co_filename).is_relative_to(TOP):
-            [step] = traceback.StackSummary.extract([(frame, number)])
-            lines.append(f"  {pathlib.Path(step.filename).name}:{number} {step.name}: {step.line}")
-            values = {name: frame.f_locals[name] for name in re.findall(r"[A-Za-z_]\w*", step.line) if name in frame.f_locals}
-            values = {name: value for name, value in values.items() if not callable(value)}
-    lines += [f"    {name} = {shortened(repr(value))}" for name, value in values.items()]
-    return "\n".join([*lines[-16:], shortened(f"{type(why).__name__}: {why}", 1500)])
+        why, said = inner, "it waits there, and the test did not end in time"
+    lines = []
+    for frame, number in [it for it in traceback.walk_tb(why.__traceback__) if pathlib.Path(it[0].f_code.co_filename).is_relative_to(TOP)][-3:]:
+        [step] = traceback.StackSummary.extract([(frame, number)])
+        lines.append(f"  {pathlib.Path(step.filename).name}:{number} {step.name}: {step.line}")
+        values = {name: frame.f_locals[name] for name in re.findall(r"[A-Za-z_]\w*", step.line) if name in frame.f_locals}
+        lines += [f"    {name} = {shortened(repr(value), 400)}" for name, value in values.items() if not callable(value)]
+    return "\n".join([*lines, shortened(said, 1500)])
 
 
-def shortened(text: str, size: int = 600) -> str:
+def shortened(text: str, size: int) -> str:
     return text if len(text) <= size else f"{text[:size // 2]} .. {text[-size // 2:]}"
 
 
@@ -95,14 +94,16 @@ class Gate:
         self.tokens.write_text(tokens())
         if journal is None:
             self.journal.write_bytes((TOP / "desk.jsonl").read_bytes() if lines is None else lines)
-        self.port = free_port()
-        self.url = f"http://127.0.0.1:{self.port}/"
+        self.move(free_port())
         self.words = ["--viewd", VIEWD, "--journal", self.journal, "--tokens", self.tokens, "--port", str(self.port), *words]
         self.log = (here / "log").open("ab+")
         self.process: subprocess.Popen | None = None
         self.running.append(self)
         if start:
             self.start()
+
+    def move(self, port: int) -> None:
+        self.port, self.url = port, f"http://127.0.0.1:{port}/"
 
     def launch(self) -> None:
         self.process = subprocess.Popen(["/usr/bin/python3", TOP / "gateway.py", *self.words], stderr=self.log)

@@ -295,7 +295,8 @@ def main(pictures: pathlib.Path) -> None:
             print(f"ok  in Chromium: {step.__name__}  {time.monotonic() - began:.1f} s", flush=True)
     except Exception as why:
         print(f"--- {gate.url}\n{gate.said()[-1500:]}\n{driver.get_log('browser')}")
-        sys.exit(f"FAILED  in Chromium: {step.__name__}  {time.monotonic() - began:.1f} s\n{explain(why)}")
+        print(f"FAILED  in Chromium: {step.__name__}  {time.monotonic() - began:.1f} s\n{explain(why)}", flush=True)
+        sys.exit(1)
     finally:
         driver.quit()
         gate.end()

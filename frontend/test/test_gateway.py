@@ -21,7 +21,7 @@ import urllib.error
 import aiohttp
 import yarl
 
-from gate import PATIENCE, ROLES, TOP, VIEWD, Gate, Peer, enter, eventually, explain, leave, quiet, soon, tokens
+from gate import PATIENCE, ROLES, TOP, VIEWD, Gate, Peer, enter, eventually, explain, free_port, leave, quiet, soon, tokens
 
 import engine
 import gateway
@@ -40,6 +40,40 @@ async def forget(*peers: Peer) -> None:
     await quiet(*peers)
     for peer in peers:
         peer.lines.clear()
+
+
+@contextlib.asynccontextmanager
+async def inside(gate: Gate):
+    """The gateway in this process, for a test that looks into it."""
+    runs = engine.Engine(VIEWD, journal.Journal(gate.journal))
+    await gateway.Desk(runs, gate.tokens, TOP / "web").listen(gate.port)
+    work = asyncio.create_task(runs.run())
+    try:
+        yield runs
+    finally:
+        work.cancel()
+        await asyncio.wait([work])
+        gate.end()
+
+
+class Raw:
+    """A client that reads when it is told to, and answers no ping."""
+
+    def __init__(self, gate: Gate, token: str):
+        self.socket = socket.socket()
+        self.socket.setsockopt(socket.SOL_SOCKET, socket.SO_RCVBUF, 4096)
+        self.socket.connect(("127.0.0.1", gate.port))
+        key = base64.b64encode(os.urandom(16)).decode()
+        self.socket.sendall(f"GET /live HTTP/1.1\r\nHost: x\r\nUpgrade: websocket\r\nConnection: Upgrade\r\n"
+                            f"Sec-WebSocket-Version: 13\r\nSec-WebSocket-Key: {key}\r\n\r\n".encode())
+        answer = b""
+        while b"\r\n\r\n" not in answer:
+            answer += self.socket.recv(4096)
+        self.message(token)
+
+    def message(self, text: str, kind: int = 0x81) -> None:
+        data, mask = text.encode(), os.urandom(4)
+        self.socket.sendall(bytes([kind, 0x80 | len(data)]) + mask + bytes(b ^ mask[i % 4] for i, b in enumerate(data)))
 
 
 async def digest_of(http: aiohttp.ClientSession, gate: Gate) -> str:
@@ -261,26 +295,20 @@ async def on_disk_before_it_is_told(gate: None, http: aiohttp.ClientSession):
         return send(client, message)
     os.fdatasync, engine.Client.send = slow_sync, noted_send
     try:
-        runs = engine.Engine(VIEWD, journal.Journal(gate.journal))
-        desk = asyncio.create_task(gateway.Desk(runs, gate.tokens, TOP / "web").listen(gate.port))
-        work = asyncio.create_task(runs.run())
-        await desk
-        lena, mia = await enter(http, gate, "lena", "mia")
-        await mia.ask(do="subscribe", on="tickets")
-        for number in range(5):
-            order.clear()
-            assert (await lena.insert(number, "mia"))["ok"]
-            await soon(lambda: order.count("changes") == 1)
-            assert order[:2] == ["sync", "synced"] and sorted(order[2:]) == ["changes", "ok"], order
-            order.clear()
-            assert "error" in await mia.insert(number, "noah")
-            assert not order, order  # what was refused is not waited for
-        await leave(lena, mia)
-        work.cancel()
-        await asyncio.wait([work])
+        async with inside(gate):
+            lena, mia = await enter(http, gate, "lena", "mia")
+            await mia.ask(do="subscribe", on="tickets")
+            for number in range(5):
+                order.clear()
+                assert (await lena.insert(number, "mia"))["ok"]
+                await soon(lambda: order.count("changes") == 1)
+                assert order[:2] == ["sync", "synced"] and sorted(order[2:]) == ["changes", "ok"], order
+                order.clear()
+                assert "error" in await mia.insert(number, "noah")
+                assert not order, order  # what was refused is not waited for
+            await leave(lena, mia)
     finally:
         os.fdatasync, engine.Client.send = sync, send
-        gate.end()
 
 
 @test
@@ -571,21 +599,9 @@ async def a_follower_has_readers_of_its_own(gate: Gate, http: aiohttp.ClientSess
 @test
 async def who_does_not_read_is_dropped(gate: Gate, http: aiohttp.ClientSession):
     """A browser that does not read is dropped at a stated number of bytes; the others get their lines meanwhile."""
-    slow = socket.socket()
-    slow.setsockopt(socket.SOL_SOCKET, socket.SO_RCVBUF, 4096)
-    slow.connect(("127.0.0.1", gate.port))
-    key = base64.b64encode(os.urandom(16)).decode()
-    slow.sendall(f"GET /live HTTP/1.1\r\nHost: x\r\nUpgrade: websocket\r\nConnection: Upgrade\r\nSec-WebSocket-Version: 13\r\nSec-WebSocket-Key: {key}\r\n\r\n".encode())
-    answer = b""
-    while b"\r\n\r\n" not in answer:
-        answer += await asyncio.to_thread(slow.recv, 4096)
-
-    def message(text: str, kind: int = 0x81) -> None:
-        data, mask = text.encode(), os.urandom(4)
-        slow.sendall(bytes([kind, 0x80 | len(data)]) + mask + bytes(b ^ mask[i % 4] for i, b in enumerate(data)))
-    message("admin-demo")
+    slow = await asyncio.to_thread(Raw, gate, "admin-demo")
     for _ in range(16):  # so each line comes to it 16 times
-        message('{"do":"subscribe","on":"tickets"}')
+        slow.message('{"do":"subscribe","on":"tickets"}')
     admin, lena = await enter(http, gate, "admin", "lena")
     await admin.ask(do="subscribe", on="tickets")
     await asyncio.to_thread(eventually, lambda: gate.state()["sessions"] == 3)
@@ -598,12 +614,12 @@ async def who_does_not_read_is_dropped(gate: Gate, http: aiohttp.ClientSession):
             await quiet(admin)
             assert (tuple(rows[0]) in admin.rows[1]) == (turn == "insert")
             with contextlib.suppress(OSError):
-                message("", 0x8A)  # a pong: it lives, whether or not it reads
+                slow.message("", 0x8A)  # a pong: it lives, whether or not it reads
             written += 16 * 60 * 1000
     waited = int(re.search(r"does not read: dropped at (\d+) bytes", gate.said())[1])
     assert engine.BACKLOG < waited < engine.BACKLOG + 3_000_000 and written > waited, gate.said()
     print(f"    dropped after {written / 1e6:.1f} MB, {time.monotonic() - began:.1f} s; the other reader had every line")
-    slow.close()
+    slow.socket.close()
     await leave(admin, lena)
 
 
@@ -632,15 +648,51 @@ async def a_long_answer_drops_nobody(gate: Gate, http: aiohttp.ClientSession):
 
 
 @test
+async def a_slow_line_is_no_silence(gate: None, http: aiohttp.ClientSession):
+    """Who takes a long answer slowly stays, though pings stand behind it; who takes nothing and answers nothing does not."""
+    gate, times = Gate(start=False), (gateway.PING, gateway.PONG)
+    gateway.PING, gateway.PONG = 0.2, 1.5
+    try:
+        async with inside(gate) as runs:
+            lena, mia = await enter(http, gate, "lena", "mia")
+            for at in range(0, 2400, 60):
+                await lena.ask(do="write", entries=[{"on": "tickets", "insert": [at + number, "noah", "s" * 1000, True]} for number in range(60)])
+            assert runs.dropped == 0
+            silent = await asyncio.to_thread(Raw, gate, "noah-demo")
+            await soon(lambda: runs.dropped == 1)  # nothing waits for it, and it does not answer
+            slow = await asyncio.to_thread(Raw, gate, "noah-demo")
+            for _ in range(4):
+                slow.message('{"do":"subscribe","on":"tickets"}')
+            noah = await soon(lambda: next((client for client in runs.clients.values() if client.role == "noah" and not client.gone), None))
+            while noah.waits() < 8 << 20:  # until then it says something
+                slow.message("", 0x8A)
+                await asyncio.sleep(0.1)
+            began, took = time.monotonic(), 0
+            while time.monotonic() < began + 3 * gateway.PONG:
+                took += len(await asyncio.to_thread(slow.socket.recv, 4096))
+                await asyncio.sleep(0.02)
+            assert runs.dropped == 1 and noah.waits() > 4 << 20, (took, noah.waits())
+            await soon(lambda: runs.dropped == 2)
+            assert not lena.task.done() and not mia.task.done()  # who are sent nothing, and answer
+            for raw in (silent, slow):
+                raw.socket.close()
+            await leave(lena, mia)
+    finally:
+        gateway.PING, gateway.PONG = times
+
+
+@test
 async def one_command_opens_the_desk(gate: None, http: aiohttp.ClientSession):
     gate = Gate(start=False)
     folder = gate.journal.parent / "kept"
     for turn in range(2):
+        gate.move(free_port())  # it stays where it was, by other links
         desk = subprocess.Popen(["/usr/bin/python3", TOP / "desk", "--folder", folder, "--port", str(gate.port)], env=os.environ | {"VIEWD": str(VIEWD)},
                                 stdout=subprocess.PIPE, stderr=gate.log, text=True)
         links = dict(line.split() for line in [desk.stdout.readline() for _ in range(2 + len(ROLES))][2:])
         assert tuple(links) == ROLES, links
-        token = links["mia"].partition("#token=")[2]
+        address, _, token = links["mia"].partition("#token=")
+        assert address == gate.url
         assert len(token) > 40 and token not in (folder / "tokens.toml").read_text()
         gate.process = desk
         await asyncio.to_thread(eventually, lambda: gate.state(links["admin"].partition("#token=")[2])["ready"])
@@ -672,7 +724,8 @@ def main(names: list[str]) -> None:
         try:
             asyncio.run(run(check))
         except Exception as why:
-            sys.exit(f"FAILED  {check.__name__}  {time.monotonic() - began:.1f} s\n{explain(why)}")
+            print(f"FAILED  {check.__name__}  {time.monotonic() - began:.1f} s\n{explain(why)}", flush=True)
+            sys.exit(1)
         print(f"ok  {check.__name__}  {time.monotonic() - began:.1f} s", flush=True)
 
 

@@ -137,15 +137,18 @@ async def a_stream_is_read_in_its_order(store: Store, http: aiohttp.ClientSessio
     store.client.delete("desk")
     for identifier, fields in good:
         store.client.xadd("desk", fields, identifier)
-    assert len(await reader.read()) == 5
+    early = opened(store.url)
+    assert len(await reader.read()) == 5 == len(await early.read())
     store.client.xdel("desk", "5-0")
     store.client.client_kill_filter(_type="normal", skipme=True)
-    try:
-        for _ in range(3):
-            await reader.wait()
-        raise AssertionError("the end is gone, and nobody says so")
-    except journal.Damaged as why:
-        assert "ends at 4" in str(why)
+    for who, pause in ((early, 0), (reader, 0.2)):  # one finds that its connection is gone, for the other the library has made another
+        await asyncio.sleep(pause)
+        try:
+            for _ in range(3):
+                await who.wait()
+            raise AssertionError("the end is gone, and nobody says so")
+        except journal.Damaged as why:
+            assert "ends at 4" in str(why)
 
 
 @test
@@ -392,8 +395,42 @@ async def a_snapshot_is_where_readers_begin(store: Store, http: aiohttp.ClientSe
 
 
 @test
+async def memberships_go_to_all(store: Store, http: aiohttp.ClientSession):
+    """Given at one gateway, told and shown at all; kept by a snapshot; ended at all."""
+    party = await asyncio.to_thread(Party, store)
+    (writer,), (reader,) = party.candidates, party.readers
+    [admin, here], [lena, there] = await enter(http, reader, "admin", "olga"), await enter(http, writer, "lena", "olga")
+    assert await here.see("tickets") == await there.see("tickets") == {"error": 13, "on": "tickets", "privilege": "select"}
+    for role in ("team", "staff"):
+        assert await admin.ask(do="create_role", name=role) == {"ok": True}
+    assert await lena.ask(do="grant", on="tickets", privileges=["select"], to="staff") == {"ok": True}
+    for role, to in (("staff", "team"), ("team", "olga"), ("team", "noah"), ("staff", "noah")):
+        assert await admin.ask(do="grant_role", role=role, to=to) == {"ok": True}
+    assert await admin.ask(do="grant_role", role="olga", to="staff") == {"error": 23} == await admin.ask(do="grant_role", role="team", to="team")
+    assert await admin.ask(do="revoke_role", role="staff", to="noah") == {"ok": True}
+    for olga in (here, there):
+        await soon(lambda: olga.told("granted"))
+        assert olga.told("granted") == ["tickets"] and {row[0] for row in await olga.see("tickets")} == {105, 111}
+    print("   ", await asyncio.to_thread(party.agree))
+    done = await asyncio.to_thread(subprocess.run, ["/usr/bin/python3", TOP / "compact.py", store.url, VIEWD], capture_output=True, text=True)
+    assert done.returncode == 0, done
+    reader.kill_gateway()  # it begins with the snapshot, and the writer has not
+    await asyncio.to_thread(reader.start)
+    print("   ", await asyncio.to_thread(party.agree))
+    [admin, here] = await enter(http, reader, "admin", "olga")
+    for olga in (here, there):
+        olga.lines.clear()
+        assert (await olga.ask(do="subscribe", on="tickets"))["ok"]
+    assert await admin.ask(do="revoke_role", role="staff", to="team") == {"ok": True}
+    for olga in (here, there):
+        await soon(lambda: olga.told("ended") == ["privilege"])
+    await asyncio.to_thread(party.agree)
+    await leave(admin, here, lena, there)
+
+
+@test
 async def agree_sees_a_difference(store: Store, http: aiohttp.ClientSession):
-    """Two streams of as many entries: other rows, other grants. And what a viewd was told beside its stream."""
+    """Two streams of as many entries: other rows, other grants, other memberships. And while many write."""
     def gate(name: str, more: bytes) -> Gate:
         with tempfile.NamedTemporaryFile() as seed:
             seed.write((TOP / "desk.jsonl").read_bytes() + more)
@@ -403,13 +440,14 @@ async def agree_sees_a_difference(store: Store, http: aiohttp.ClientSession):
             eventually(lambda: gate.state().get("writes"))
             return gate
     grants = [b'{"role":"lena","do":"grant","on":"teams","privileges":["insert"],"to":"%s"}\n' % role for role in (b"mia", b"noah")]
+    members = [b'{"as":"admin","do":"grant_role","role":"mia","to":"%s"}\n' % role for role in (b"noah", b"olga")]
     gates = [await asyncio.to_thread(gate, name, more) for name, more in (
-        ("one", line(1)), ("two", line(1)), ("three", line(2)), ("four", b""), ("five", grants[0]), ("six", grants[1]))]
+        ("one", line(1)), ("two", line(1)), ("three", line(2)), ("four", b""), ("five", grants[0]), ("six", grants[1]), ("seven", members[0]), ("eight", members[1]))]
     same, rows = [await asyncio.to_thread(agree, gates[0], other) for other in gates[1:3]]
     short = await asyncio.to_thread(agree, gates[0], gates[3], seconds=1)
-    rights = await asyncio.to_thread(agree, *gates[4:])
+    rights, roles = [await asyncio.to_thread(agree, *gates[at:at + 2]) for at in (4, 6)]
     assert same.returncode == 0 and "2 gateways agree" in same.stdout, same
-    assert rows.returncode == rights.returncode == 1 and "DIFFERENT" in rows.stdout, (rows, rights)
+    assert rows.returncode == rights.returncode == roles.returncode == 1 and "DIFFERENT" in rows.stdout, (rows, rights, roles)
     assert short.returncode == 3 and "no common place" in short.stdout, short
     gates[1].kill_gateway()
     assert (await asyncio.to_thread(agree, *gates)).returncode == 2
@@ -537,7 +575,8 @@ def main(given: argparse.Namespace) -> None:
         try:
             asyncio.run(run(check, given.seconds))
         except Exception as why:
-            sys.exit(f"FAILED  {check.__name__}  {time.monotonic() - began:.1f} s\n{explain(why)}")
+            print(f"FAILED  {check.__name__}  {time.monotonic() - began:.1f} s\n{explain(why)}", flush=True)
+            sys.exit(1)
         print(f"ok  {check.__name__}  {time.monotonic() - began:.1f} s", flush=True)
 
 
