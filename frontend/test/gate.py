@@ -1,6 +1,7 @@
 """What the tests share: a gateway of their own on a free port, and clients without a browser."""
 import asyncio
 import collections
+import contextlib
 import hashlib
 import json
 import os
@@ -55,13 +56,9 @@ def free_port() -> int:
     """A port on which nobody listens. Not one of those that the system gives to clients: one of them could take it meanwhile."""
     low = int(pathlib.Path("/proc/sys/net/ipv4/ip_local_port_range").read_text().split()[0])
     while True:
-        with socket.socket() as probe:
-            port = random.randrange(low // 2, low)
-            try:
-                probe.bind(("127.0.0.1", port))
-                return port
-            except OSError:
-                continue
+        with socket.socket() as probe, contextlib.suppress(OSError):
+            probe.bind(("127.0.0.1", random.randrange(10_000, low) if low > 12_000 else 0))
+            return probe.getsockname()[1]
 
 
 def explain(why: BaseException) -> str:

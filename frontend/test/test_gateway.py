@@ -634,6 +634,12 @@ async def a_long_answer_drops_nobody(gate: Gate, http: aiohttp.ClientSession):
     await reader.send_str("noah-demo")
     for _ in range(4):
         await reader.send_str('{"do":"subscribe","on":"tickets"}')
+
+    async def live() -> None:  # it says so now and then, however long this takes
+        while True:
+            await reader.pong()
+            await asyncio.sleep(1)
+    lives = asyncio.create_task(live())
     # aiohttp's client reads ahead a little and then waits for us: of the answers of 27 MB more than 4 MiB wait in the gateway
     await asyncio.to_thread(eventually, lambda: gate.state()["sessions"] == 2)
     for number in range(20):
@@ -643,6 +649,7 @@ async def a_long_answer_drops_nobody(gate: Gate, http: aiohttp.ClientSession):
     while seen < 4 * (len(rows) + 20 + 4):
         for line in map(json.loads, (await reader.receive_str(timeout=PATIENCE)).split("\n")):
             seen += len(line.get("changes", ()))
+    lives.cancel()
     await reader.close()
     await lena.leave()
 
