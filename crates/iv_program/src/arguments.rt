@@ -31,7 +31,9 @@ fn rows<'a>(alloc: Global) -> Arg<'a> {
     Arg::new(alloc, "rows")
         .long("rows")
         .value_name("N")
-        .help("The number of different rows at most of a table, and of each step of a view that is read")
+        .help(
+            "The number of different rows at most of a table, and of each step of a view that is read",
+        )
         .value_parser(value_parser!(u32).range(1_024..=1_048_576))
         .default_value("65536")
 }
