@@ -80,9 +80,12 @@ fn count_of(matches: &ArgMatches<'_>, name: &str) -> Option<u32>
 fn rows_of(matches: &ArgMatches<'_>) -> Option<u32>
     ensures { IfSome result IsRowLimit }
 {
-    matches
-        .get_one::<u32>("rows")
-        .filter(|n| *n >= 1_024 && *n <= 1_048_576)
+    let rows = matches.get_one::<u32>("rows")?;
+    if rows >= 1_024 && rows <= 1_048_576 {
+        Some(rows)
+    } else {
+        None
+    }
 }
 
 fn port_of(matches: &ArgMatches<'_>) -> Option<u16>
