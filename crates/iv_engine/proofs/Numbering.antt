@@ -9,10 +9,10 @@ use Rattle.std.specs.Cmp.{nat_cmp_is}
 use Rattle.std.specs.declared.cmp.Ordering.{Ordering}
 use Rattle.std.specs.declared.cmp.Ordering.TheVariants.{Less}
 use Rattle.std.proofs.lemmas.Bool.Decides.{nat_tests}
-use Rattle.iv_machine.specs.Reached.{AreGiven, AreUnique, IsReached}
+use Rattle.iv_machine.specs.Reached.{AreGiven, AreNumbersUnique, AreUnique}
 use Rattle.iv_machine.specs.State.{Frame, State, Subscription, is_open_number, start}
 use Rattle.iv_engine.specs.Answering.{seen}
-use Rattle.iv_engine.specs.Kept.{Kept, cap, frame_of}
+use Rattle.iv_engine.specs.Kept.{Kept, frame_of}
 use Rattle.iv_engine.specs.Rounds.{by_number, of_number, rounds, rounds_of}
 use Rattle.iv_engine.specs.Seen.{HasRoundsOfOpen}
 use Rattle.iv_engine.proofs.Counted.{none_listed}
@@ -173,16 +173,16 @@ module _ (f : Subscription → ℕ) where
 
 -- ---- of an engine
 
-pub rounds_of_open : (e : Kept) → IsReached (frame_of e) → HasRoundsOfOpen (seen e)
+pub rounds_of_open : (e : Kept) → AreNumbersUnique (frame_of e) → HasRoundsOfOpen (seen e)
 rounds_of_open e h = record {
   rising = rising (rounds_of e) e.subscriptions h.unique 0 (suc e.last);
   those = λ n. those_open (rounds_of e) n e.last e.subscriptions h.given;
 }
 
 -- whether it has failed or not
-pub rounds_shown : (e : Kept) (failed : Bool) → IsReached (frame_of e) → HasRoundsOfOpen (shown_by e failed)
+pub rounds_shown : (e : Kept) (failed : Bool) → AreNumbersUnique (frame_of e) → HasRoundsOfOpen (shown_by e failed)
 rounds_shown e failed h = let x = rounds_of_open e h in record { rising = x.rising; those = x.those }
 
 -- none at the start
-pub none_at_start : (e : Kept) → (start cap).frame ≡ frame_of e → rounds e ≡ []
-none_at_start e h = ap (λ (f : Frame). by_number (rounds_of e) f.subscriptions 0 (suc e.last)) (sym h) ∙ none_listed (rounds_of e) 0 (suc e.last)
+pub none_at_start : (cap : ℕ) (e : Kept) → (start cap).frame ≡ frame_of e → rounds e ≡ []
+none_at_start cap e h = ap (λ (f : Frame). by_number (rounds_of e) f.subscriptions 0 (suc e.last)) (sym h) ∙ none_listed (rounds_of e) 0 (suc e.last)

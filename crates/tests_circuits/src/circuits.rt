@@ -19,7 +19,7 @@ fn built(alloc: Global, plan: &Plan, access: &Access, tables: &Tables) -> Option
     if !plan.fits(tables) {
         return None;
     }
-    match Circuit::build(alloc, plan, access, ADMIN, tables) {
+    match Circuit::build(alloc, plan, access, ADMIN, tables, 1_024) {
         Ok(circuit) => Some(circuit),
         Err(_) => None,
     }

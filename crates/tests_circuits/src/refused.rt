@@ -2,7 +2,6 @@
 //! `refused` where some request was, and `held` where none was.
 ghost use Rattle.std.specs.Prelude.{IfSome};
 ghost use Rattle.iv_circuit.specs.Changing.{IsDue, IsReady};
-ghost use Rattle.iv_circuit.specs.Circuits.{cap};
 ghost use Rattle.iv_circuit.specs.Deltas.{change_in};
 ghost use Rattle.tests_circuits.specs.Worlds.{AreSound, IsReader};
 
@@ -86,7 +85,7 @@ fn word_of(alloc: Global, rows: &ZSet, wanted: &[Weighed], before: Word, other: 
 
 /// What changes make of the circuit, where it is asked a second time if memory was refused.
 fn prepared(circuit: &Circuit, deltas: &Deltas, word: &mut Word) -> Option<Pending>
-    requires { IsReady cap circuit.now.node (change_in deltas.now) }
+    requires { IsReady circuit.now.cap circuit.now.node (change_in deltas.now) }
     ensures { IfSome result (IsDue circuit.now.node) }
 {
     match circuit.prepare(deltas, &mut Meter::new()) {
@@ -100,7 +99,7 @@ fn prepared(circuit: &Circuit, deltas: &Deltas, word: &mut Word) -> Option<Pendi
 
 /// What comes of the changes as they are prepared and taken in.
 fn taken_in(alloc: Global, circuit: &mut Circuit, deltas: &Deltas) -> Word
-    requires { IsReady cap circuit.old.node (change_in deltas.now) }
+    requires { IsReady circuit.old.cap circuit.old.node (change_in deltas.now) }
 {
     let mut word = HELD;
     let Some(pending) = prepared(circuit, deltas, &mut word) else {

@@ -165,7 +165,7 @@ fn run_through(alloc: Global, engine: &mut Engine, example: Example) -> Word {
 
 /// The same with a new engine.
 fn ran(alloc: Global, example: Example) -> Word {
-    match Engine::new(alloc) {
+    match Engine::new(alloc, 1_024) {
         Ok(mut engine) => run_through(alloc, &mut engine, example),
         Err(_) => REFUSED,
     }
@@ -248,7 +248,7 @@ fn listed(alloc: Global, engine: &mut Engine, commands: Vec<Command>, answers: [
 
 /// The same with a new engine.
 fn listed_by_new(alloc: Global, commands: Vec<Command>, answers: [&str; 2]) -> Word {
-    match Engine::new(alloc) {
+    match Engine::new(alloc, 1_024) {
         Ok(mut engine) => listed(alloc, &mut engine, commands, answers),
         Err(_) => REFUSED,
     }

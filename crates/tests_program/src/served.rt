@@ -16,7 +16,7 @@ pub fn served(
     connections: u32,
     lines: u32,
 ) -> Option<Result<(), ServeFault>> {
-    let Ok(mut engine) = Engine::new(alloc) else {
+    let Ok(mut engine) = Engine::new(alloc, 1_024) else {
         return None;
     };
     Some(serve_on(alloc, &mut engine, listener, connections, lines))
@@ -24,7 +24,7 @@ pub fn served(
 
 /// How serving through an engine that has failed ends.
 fn served_by_failed(alloc: Global, listener: &TcpListener) -> Option<Result<(), ServeFault>> {
-    let Ok(mut engine) = Engine::new(alloc) else {
+    let Ok(mut engine) = Engine::new(alloc, 1_024) else {
         return None;
     };
     engine.fail();

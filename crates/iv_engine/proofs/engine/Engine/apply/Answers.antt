@@ -1,7 +1,7 @@
 use Rattle.std.proofs.Common.{◌≡◌, ◌∙◌, false, map, sym, ap, subst}
 use Rattle.iv_machine.specs.Machine.{step}
 use Rattle.iv_machine.specs.State.{Frame}
-use Rattle.iv_machine.specs.Reached.{IsReached}
+use Rattle.iv_machine.specs.Reached.{AreNumbersUnique}
 use Rattle.iv_machine.specs.Readers.{ShowsKnownRows}
 use Rattle.iv_machine.proofs.Seeing.{step_shows}
 use Rattle.std.specs.List.{All}
@@ -31,8 +31,8 @@ returns-in-Ok-clause-known_rows c = λ s b.
     let frame : s.frame ≡ frame_of c.self.inside.store = b.frame ∙ ap (λ (v : Seen). v.frame) (sym c.self.view_is) in
     let rows = subst (λ (v : Seen). Stands s.rows v.tables) (sym c.self.view_is) b.rows in
     let lines = c.in-Ok.ensures.lines s.rows rows ∙ ap (λ (f : Frame). (step (record { frame = f; rows = s.rows }) (command_of c.args.command)).lines) (sym frame) in
-    let reached : IsReached s.frame = subst IsReached (sym b.frame) (c.is_failed.ensures.reached c.if-is_failed.false) in
-    subst (All (ShowsKnownRows s (step s (command_of c.args.command)).state)) (sym lines) (step_shows s (command_of c.args.command) reached)
+    let numbers : AreNumbersUnique s.frame = subst AreNumbersUnique (sym b.frame) (c.is_failed.ensures.numbers c.if-is_failed.false) in
+    subst (All (ShowsKnownRows s (step s (command_of c.args.command)).state)) (sym lines) (step_shows s (command_of c.args.command) numbers)
 
 pub returns-in-Ok-clause-refused : goal.returns-in-Ok-clause-refused
 returns-in-Ok-clause-refused c = λ n r is. ap (λ (e : Kept). shown_by e c.self.inside.failed) (c.in-Ok.ensures.refused n r is) ∙ c.self.view_is

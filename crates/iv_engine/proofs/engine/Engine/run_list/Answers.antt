@@ -5,7 +5,7 @@ use Rattle.std.specs.Vec.Iter.{into_iter_items}
 use Rattle.iv_machine.proofs.Adding.{adds_up}
 use Rattle.iv_machine.specs.Held.{held}
 use Rattle.iv_machine.specs.Machine.{run, step}
-use Rattle.iv_machine.specs.Reached.{IsReached}
+use Rattle.iv_machine.specs.Reached.{AreNumbersUnique}
 use Rattle.iv_machine.specs.State.{State}
 use Rattle.iv_machine.specs.Well.{is_well_command}
 use Rattle.iv_machine.specs.Act.{Line}
@@ -73,5 +73,5 @@ returns-clause-held c = λ s b k q kept.
     let x = c.loop-command.invariant.4 s b in
     let none : into_iter_items c.loop-command.command-iterator ≡ [] = no_items (into_iter_items c.loop-command.command-iterator) (let empty = c.in-None.ensures.steps.0 in let ok = c.loop-command.command-iterator.rest.ok in omega (arith, empty, ok)) in
     let lines : map line_of c.loop-command.lines.items ≡ (run s (map command_of c.args.commands.items)).lines = nothing_more (map line_of c.loop-command.lines.items) ∙ sym (ap (λ (cs : List Command). map line_of c.loop-command.lines.items ++ (run x.0 (map command_of cs)).lines) none) ∙ x.2 in
-    let reached : IsReached s.frame = subst IsReached (sym b.frame) (c.is_failed.ensures.reached c.if-is_failed.false) in
-    ap (held k q) lines ∙ adds_up s (map command_of c.args.commands.items) reached k q kept
+    let numbers : AreNumbersUnique s.frame = subst AreNumbersUnique (sym b.frame) (c.is_failed.ensures.numbers c.if-is_failed.false) in
+    ap (held k q) lines ∙ adds_up s (map command_of c.args.commands.items) numbers k q kept
