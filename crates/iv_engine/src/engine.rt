@@ -10,8 +10,9 @@ ghost use Rattle.iv_machine.specs.Machine.{hung};
 ghost use Rattle.iv_machine.specs.Reached.{AreNumbersUnique};
 ghost use Rattle.iv_machine.specs.State.{State, start};
 ghost use Rattle.iv_machine.specs.Well.{is_well_command};
+ghost use Rattle.iv_engine.specs.Applied.{AreApplied};
 ghost use Rattle.iv_engine.specs.Counting.{AreCountedWhereAccepted};
-ghost use Rattle.iv_engine.specs.Seen.{AreLinesOf, AreLinesOfAll, ChangesWhereAccepted, HasKnownRows, IsBehind, IsLeftBy, IsLeftByAll, LinesAddUpBehind, closed};
+ghost use Rattle.iv_engine.specs.Seen.{AreLinesOf, AreLinesOfAll, ChangesWhereAccepted, HasKnownRows, HasRoundsOfOpen, IsBehind, IsLeftBy, IsLeftByAll, LinesAddUpBehind, closed};
 ghost use Rattle.iv_engine.specs.Views.{command_of, line_of};
 
 use crate::command::{Command, EngineFault, Line};
@@ -52,19 +53,22 @@ impl Engine {
     pub fn new(alloc: Global, cap: u32) -> Result<Engine, AllocError>
         requires { IsRowLimit cap }
         ensures start { IfOk result (λ engine. IsBehind (start cap) engine) }
+        ensures rounds { IfOk result (λ engine. engine.rounds ≡ []) }
         ensures failed { IfOk result (λ engine. engine.failed ≡ false) }
     {
+        let store = Store::new(alloc, cap as usize)?;
         Ok(Engine {
-            store: Store::new(alloc, cap as usize)?,
+            store,
             failed: false,
         })
     }
 
     /// Whether the engine has failed: then no command is answered any more. Until then its frame is one that the machine
-    /// reaches.
+    /// reaches, and it tells the rounds of its open subscriptions and of no others.
     pub fn is_failed(&self) -> bool
         ensures failed { result ≡ self.now.failed }
         ensures numbers { result ≡ false → AreNumbersUnique self.now.frame }
+        ensures rounds { result ≡ false → HasRoundsOfOpen self.now }
     {
         self.failed
     }
@@ -130,6 +134,8 @@ impl Engine {
         requires { list_all is_well_command (map command_of commands.items) ≡ true }
         ensures lines { IfOk result (λ lines. AreLinesOfAll self.old (map command_of commands.items) (map line_of lines.items)) }
         ensures state { OnOk result (IsLeftByAll self.old (map command_of commands.items) self.new) }
+        // Each command is answered as `apply` answers it: known rows, nothing changed where it is refused, and rounds counted.
+        ensures each { IfOk result (λ lines. AreApplied self.old (map command_of commands.items) (map line_of lines.items) self.new) }
         // For each subscription that its reader did not close, what is sent adds up to what it shows more than before.
         ensures held { IfOk result (λ lines. LinesAddUpBehind self.old (map command_of commands.items) (map line_of lines.items)) }
         ensures went_on { OnOk result (self.new.failed ≡ false) }

@@ -5,7 +5,9 @@
 //! connection alone. An accept that fails ends the program, also where another try might do; std's accept tries again
 //! after a signal.
 //!
-//! Each answer is one write, so `TCP_NODELAY` is set; where it can't be, answers may come later and are the same. The
+//! Each answer is one write, so `TCP_NODELAY` is set; where it can't be, answers may come later and are the same. What is
+//! done with a connection can only lack memory, by its type, so a network fault comes from an accept. Tests show it
+//! (`.ci/socket`), with connections of which no option can be set, and with one that is reset before it is accepted. The
 //! engine is made before the port is taken, so want of memory there leaves no line `listening on ..`, which is
 //! written by the same kind of end as answers: its text and its faults are in a contract.
 

@@ -140,7 +140,7 @@ fn copies_have_a_limit(rt: HostRuntime) -> Result<(), Fail> {
 }
 
 /// Whether all commands keep the rules on shape.
-fn are_well(commands: &[Command]) -> bool
+pub fn are_well(commands: &[Command]) -> bool
     ensures { result ≡ list_all is_well_command (map command_of commands.now) }
 {
     for command in commands {
@@ -198,7 +198,7 @@ fn first_change_as_a_list(rt: HostRuntime) -> Result<(), Fail> {
 }
 
 /// What an engine answers to a command, where the command keeps the rules on shape.
-fn fault_of(engine: &mut Engine, command: Command) -> Option<EngineFault> {
+pub fn fault_of(engine: &mut Engine, command: Command) -> Option<EngineFault> {
     if !command.well() {
         return None;
     }
