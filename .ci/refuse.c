@@ -1,5 +1,6 @@
-/* Put before a program by LD_PRELOAD: refuses the request for memory whose number REFUSE gives, none
-   where it is 0, and gives the random bytes. At the end it writes the number of requests to the file descriptor REFUSE_TELL. */
+/* Put before a program by LD_PRELOAD: refuses the request for memory whose number REFUSE gives, and no other one; none
+   where it is 0. At the end it writes the number of requests to the file descriptor REFUSE_TELL. Where REFUSE_OPTIONS is
+   set it refuses each option of a TCP connection, and writes the number of those. It gives the random bytes too. */
 typedef __SIZE_TYPE__ size_t;
 
 extern void *__libc_malloc(size_t);
@@ -8,9 +9,14 @@ extern void *__libc_calloc(size_t, size_t);
 extern char *getenv(const char *);
 extern long strtol(const char *, char **, int);
 extern int dprintf(int, const char *, ...);
+extern long syscall(long, ...);
+extern int *__errno_location(void);
+
+enum { EINVAL = 22, IPPROTO_TCP = 6, SYS_setsockopt = 54 };
 
 static long asked;
 static long at = -1;
+static long options;
 
 static int is_refused(void) {
   if (at < 0) {
@@ -27,7 +33,15 @@ void *realloc(void *block, size_t size) { return is_refused() ? 0 : __libc_reall
 
 void *calloc(size_t count, size_t size) { return is_refused() ? 0 : __libc_calloc(count, size); }
 
-/* The same bytes in each run, so that it asks for memory equally often; none where REFUSE_BYTES stands in the environment. */
+int setsockopt(int socket, int level, int name, const void *value, unsigned length) {
+  if (level != IPPROTO_TCP || !getenv("REFUSE_OPTIONS"))
+    return (int)syscall(SYS_setsockopt, socket, level, name, value, length);
+  options++;
+  *__errno_location() = EINVAL;
+  return -1;
+}
+
+/* The same bytes in each run, so that it asks for memory equally often; none where REFUSE_BYTES is set. */
 int getentropy(void *bytes, size_t size) {
   if (getenv("REFUSE_BYTES"))
     return -1;
@@ -39,5 +53,5 @@ int getentropy(void *bytes, size_t size) {
 __attribute__((destructor)) static void tell(void) {
   const char *descriptor = getenv("REFUSE_TELL");
   if (descriptor)
-    dprintf((int)strtol(descriptor, 0, 10), "%ld\n", asked);
+    dprintf((int)strtol(descriptor, 0, 10), "%ld\n", getenv("REFUSE_OPTIONS") ? options : asked);
 }

@@ -1,6 +1,7 @@
 //! Request lines in, answer lines out, through a new engine.
 
 ghost use Rattle.std.specs.Prelude.{◌≡◌, ◌≤◌, ◌+◌, ◌*◌, ◌||◌, IfSome, OnOk, true, false};
+ghost use Rattle.iv_zset.specs.RowLimit.{IsRowLimit};
 ghost use Rattle.iv_machine.specs.State.{start};
 ghost use Rattle.iv_engine.specs.Seen.{Seen};
 ghost use Rattle.iv_wire.specs.Cut.{line_room};
@@ -16,7 +17,8 @@ use iv_engine::{Engine, Seed};
 use iv_wire::{RunFault, Sink, Source, run};
 use std::alloc::Global;
 
-/// Answers at most `lines` lines of the reader on the writer, through a new engine, which hashes rows under the seed.
+/// Answers at most `lines` lines of the reader on the writer, through a new engine with at most `rows` different rows in
+/// each table and node. Rows are hashed under the seed.
 ///
 /// # Errors
 /// `Read` and `Write` where the reader or the writer failed; `Memory` where a growth of memory was
@@ -27,9 +29,11 @@ fn replay<R: Source, W: Sink>(
     reader: &mut R,
     writer: &mut W,
     lines: u32,
+    rows: u32,
 ) -> Result<(), Fault>
-    requires { 1 ≤ lines }
-    ensures answers { (now : Seen) × Replays (record {
+    requires lines { 1 ≤ lines }
+    requires rows { IsRowLimit rows }
+    ensures answers { (now : Seen) × Replays rows (record {
       lines = lines;
       given = R.left reader.old;
       left = R.left reader.new;
@@ -37,7 +41,7 @@ fn replay<R: Source, W: Sink>(
       written = W.taken writer.new;
       now = now;
     }) result }
-    ensures adds_up { OnOk result ((now : Seen) × IfSome (R.left reader.old) (λ _. HasWritten (start 65536) (record {
+    ensures adds_up { OnOk result ((now : Seen) × IfSome (R.left reader.old) (λ _. HasWritten (start rows) (record {
       lines = lines;
       given = R.left reader.old;
       left = R.left reader.new;
@@ -50,7 +54,7 @@ fn replay<R: Source, W: Sink>(
     ensures flushed { (is_write result ≡ false) → W.is_flushed writer.old ≡ true → W.is_flushed writer.new ≡ true }
     ensures reads { R.reads reader.new ≤ R.reads reader.old + lines * line_room }
 {
-    let Ok(mut engine) = Engine::with_seed(alloc, seed) else {
+    let Ok(mut engine) = Engine::with_seed(alloc, seed, rows) else {
         return Err(Fault::Memory);
     };
     match run(alloc, &mut engine, reader, writer, lines) {
@@ -94,11 +98,12 @@ pub fn work<R: Source, W: Sink>(
     ensures reads { R.reads reader.new ≤ R.reads reader.old + (lines_of settings * line_room) }
 {
     match settings {
-        Settings::Replay { lines } => replay(rt.alloc(), seed, reader, writer, lines),
+        Settings::Replay { lines, rows } => replay(rt.alloc(), seed, reader, writer, lines, rows),
         Settings::Serve {
             port,
             connections,
             lines,
-        } => serve(rt, seed, writer, port, connections, lines),
+            rows,
+        } => serve(rt, seed, writer, port, connections, lines, rows),
     }
 }

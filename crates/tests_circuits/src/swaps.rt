@@ -12,7 +12,7 @@ use crate::worlds::{Entry, turn, two_tables};
 use iv_algebra::Tables;
 use iv_circuit::{Circuit, CircuitFault, Deltas, Pending, readers_follow_tables};
 use iv_rows::RelId;
-use iv_zset::{Meter, Seed, bags_have_lists};
+use iv_zset::{Meter, bags_have_lists};
 use std::alloc::Global;
 
 /// The change of a join whose left rows go while right rows come, 200 of each at most. No pairs match, so it is 16 times
@@ -22,7 +22,7 @@ fn swap_prepared(
     deltas: &Deltas,
     meter: &mut Meter,
 ) -> Result<Pending, CircuitFault>
-    requires { IsSwap 200 circuit.now.node (change_in deltas.now) }
+    requires { IsSwap 200 circuit.now (change_in deltas.now) }
     ensures { meter.new ≤ meter.old + 19200 }
 {
     circuit.prepare(deltas, meter)
@@ -78,7 +78,7 @@ fn swapped_over(alloc: Global, tables: &mut Tables, batch: &[Entry]) -> Option<u
 
 /// How many rows of the join change as the batch comes over tables of these rows.
 pub(crate) fn swapped(alloc: Global, rows: &[Entry], batch: &[Entry]) -> Option<usize> {
-    let mut tables = two_tables(alloc, Seed::known())?;
+    let mut tables = two_tables(alloc)?;
     turn(alloc, &mut tables, rows)?;
     swapped_over(alloc, &mut tables, batch)
 }

@@ -1,9 +1,6 @@
-use crate::circuits::total_seed;
 use crate::swaps::swapped;
-use crate::worlds::{Entry, two_tables};
-use iv_zset::Seed;
+use crate::worlds::Entry;
 use std::alloc::{AllocError, Global};
-use std::hash::BuildHasher;
 use std::test::Fail;
 
 /// Adds 200 rows of one k, so many copies of each.
@@ -34,22 +31,5 @@ fn all_of_a_key_go_as_many_come(rt: HostRuntime) -> Result<(), Fail> {
     let rows = rows(rt.alloc())?;
     let batch = batch(rt.alloc())?;
     assert!(rt; swapped(rt.alloc(), &rows, &batch) == Some(0));
-    Ok(())
-}
-
-/// The rows of each operator are hashed under the seed of the tables.
-#[test]
-fn circuits_keep_the_seed(rt: HostRuntime) -> Result<(), Fail> {
-    let alloc = rt.alloc();
-    let seed = Seed::random(&rt)?;
-    let Some(tables) = two_tables(alloc, seed) else {
-        return Err(Fail::new("no tables"));
-    };
-    for number in 0..7u32 {
-        let Some(kept) = total_seed(alloc, number, &tables) else {
-            return Err(Fail::new("no circuit"));
-        };
-        assert_eq!(rt; kept.hash_one(&1u64), seed.hash_one(&1u64), "{number}");
-    }
     Ok(())
 }

@@ -49,8 +49,15 @@ fn add_table(alloc: Global, tables: &mut Tables, table: RelId) -> bool
     }
 }
 
+/// Tables 0 and 1, without rows.
+pub(crate) fn two_tables(alloc: Global) -> Option<Tables>
+    ensures { IfSome result (λ tables. AreSound tables) }
+{
+    two_tables_under(alloc, Seed::known())
+}
+
 /// Tables 0 and 1, without rows, under a seed.
-pub(crate) fn two_tables(alloc: Global, seed: Seed) -> Option<Tables>
+pub(crate) fn two_tables_under(alloc: Global, seed: Seed) -> Option<Tables>
     ensures { IfSome result (λ tables. AreSound tables) }
 {
     let mut tables = Tables::with_seed(alloc, seed);
@@ -131,7 +138,7 @@ pub(crate) fn turn(alloc: Global, tables: &mut Tables, batch: &[Entry]) -> Optio
     ensures heads { SameHeads tables.old tables.new }
     ensures leads { IfSome result (λ deltas. LeadTo tables.old tables.new (change_in deltas)) }
 {
-    let mut deltas = Deltas::with_seed(alloc, tables.seed());
+    let mut deltas = Deltas::new(alloc);
     for entry in batch {
         if !enter(alloc, tables, &mut deltas, *entry) {
             return None;
