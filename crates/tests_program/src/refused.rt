@@ -50,10 +50,23 @@ fn is_of_whole_requests(written: &[u8]) -> bool {
 fn word_for(ended: Option<Result<(), ServeFault>>, client: &mut TcpStream) -> &'static str {
     match ended {
         None => "refused",
-        Some(Ok(())) if sent(client).bytes() == FIRST_ANSWERS => "held",
-        Some(Err(ServeFault::Memory)) if is_of_whole_requests(sent(client).bytes()) => "refused",
-        Some(Err(ServeFault::Memory)) => "the answers are not those of whole requests",
-        Some(_) => "other answers",
+        Some(Ok(())) => {
+            let sent = sent(client);
+            if sent.bytes() == FIRST_ANSWERS {
+                "held"
+            } else {
+                "other answers"
+            }
+        }
+        Some(Err(ServeFault::Memory)) => {
+            let sent = sent(client);
+            if is_of_whole_requests(sent.bytes()) {
+                "refused"
+            } else {
+                "the answers are not those of whole requests"
+            }
+        }
+        Some(Err(_)) => "another fault",
     }
 }
 
