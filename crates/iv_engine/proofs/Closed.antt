@@ -69,6 +69,7 @@ module _ (e : Kept) (h : IsSound e) (ss : List Session) (p : Subscription → Bo
       guards = h.stored.guards;
       tables = h.stored.tables;
       zsets = h.stored.zsets;
+      limit = h.stored.limit;
       small = h.stored.small;
       positive = h.stored.positive;
       kinds = h.stored.kinds;

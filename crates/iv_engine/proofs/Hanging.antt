@@ -32,6 +32,7 @@ all_closed e h = record {
     zsets = h.stored.zsets;
     positive = h.stored.positive;
     kinds = h.stored.kinds;
+    limit = h.stored.limit;
     small = h.stored.small;
     shows = tt;
   };

@@ -52,5 +52,7 @@ mod Pairing
 mod FoundLines
 mod Carried
 mod Counted
+mod Numbering
+mod Applying
 mod Opened
 mod Touched

@@ -197,6 +197,7 @@ module _ (e : Kept) (n k : ℕ) (name : Name) (h : IsSound e) (x : IsOpenable e 
       zsets = h.stored.zsets;
       positive = h.stored.positive;
       kinds = h.stored.kinds;
+      limit = h.stored.limit;
       small = h.stored.small;
       shows = all_inserted (IsOpen new) s e.subscriptions (record { session = x.opened; known = x.below }) (all_map (IsOpen e) (IsOpen new) e.subscriptions (λ y o. record { session = o.session; known = o.known }) h.stored.shows);
     };

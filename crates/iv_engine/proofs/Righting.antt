@@ -125,6 +125,7 @@ module _ (e : Kept) (ms : List Membership) (us : List Guard) (gs : List Grant) w
     zsets = h.zsets;
     positive = h.positive;
     kinds = h.kinds;
+    limit = h.limit;
     small = h.small;
     shows = all_map (IsOpen e) (IsOpen c) e.subscriptions (λ s o. record { session = o.session; known = o.known }) h.shows;
   }
@@ -141,6 +142,7 @@ module _ (e : Kept) (ms : List Membership) (us : List Guard) (gs : List Grant) w
     zsets = h.zsets;
     positive = h.positive;
     kinds = h.kinds;
+    limit = h.limit;
     small = h.small;
     shows = let new : Kept = record c { subscriptions = filter p e.subscriptions; circuits = cs } in
         all_kept (IsOpen new) p e.subscriptions (all_map (IsOpen c) (IsOpen new) e.subscriptions (λ s o. record { session = o.session; known = o.known }) h.shows);
