@@ -18,7 +18,7 @@ import pathlib
 import re
 import time
 
-from client import BACKLOG, Ask, Client, Subscription, frame
+from client import BACKLOG, Ask, Client, Subscription, ended, frames_of
 from journal import BODY, SHARED, Anew, Damaged, Entry, Log, Shape, by_role, by_session, to_text
 
 SESSIONS = 256  # viewd has no more
@@ -115,7 +115,7 @@ class Engine:
                 self.child.kill()
             self.child.stdin.close()
             await self.child.wait()
-            await asyncio.gather(*tasks, return_exceptions=True)
+            await ended(tasks)
             await self.journal.release()
 
     def tell(self, line: bytes, ask: Ask) -> None:
@@ -488,16 +488,8 @@ class Engine:
                 self.put(client, text)
 
     def frames(self) -> list[tuple[Client, bytes]]:
-        """A message for each client that has lines. Who has the same lines is sent the same bytes."""
-        made: dict[tuple[bytes, ...], bytes] = {}
-        frames = []
-        for client in self.pending | self.touched:
-            lines, client.lines = tuple(client.lines), []
-            if client.gone or not lines:
-                continue
-            if lines not in made:
-                made[lines] = frame(b"\n".join(lines))
-            frames.append((client, made[lines]))
+        """What is to be sent to each client that has lines."""
+        frames = frames_of(self.pending | self.touched)
         self.pending.clear()
         self.made.clear()
         self.gathered = 0
@@ -505,9 +497,7 @@ class Engine:
 
     def release(self, frames: list[tuple[Client, bytes]]) -> int:
         """Sends messages, and counts them."""
-        for client, message in frames:
-            if not client.gone:
-                self.dropped += not client.send(message)
+        self.dropped += sum(not client.send(message) for client, message in frames if not client.gone)
         return len(frames)
 
     async def enter(self, client: Client) -> bool:
@@ -580,6 +570,8 @@ class Engine:
         end = time.monotonic() + GIVE_UP
         try:
             while self.journal.follow and ask.known_by not in self.known and not ask.outcome.done():
+                if ask.client.gone:  # its session may be another's by now
+                    return False
                 if time.monotonic() > end:
                     log.warning("nobody decides for session %d of %s: dropped", ask.client.session, ask.client.role)
                     ask.client.drop()
@@ -598,6 +590,8 @@ class Engine:
             place, ask.given = refused
             while self.taken < place:  # so that the client sees what its request was refused for
                 await asyncio.sleep(0.005)
+        elif ask.client.gone:
+            return False
         elif ask.known_by in self.known:
             ask.given = OK
         else:

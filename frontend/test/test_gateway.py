@@ -23,6 +23,7 @@ import yarl
 
 from gate import PATIENCE, ROLES, TOP, VIEWD, Gate, Peer, enter, eventually, explain, free_port, leave, quiet, soon, tokens
 
+import client
 import engine
 import gateway
 import journal
@@ -309,6 +310,19 @@ async def on_disk_before_it_is_told(gate: None, http: aiohttp.ClientSession):
             await leave(lena, mia)
     finally:
         os.fdatasync, engine.Client.send = sync, send
+
+
+@test
+async def an_end_is_told_again(gate: None, http: aiohttp.ClientSession):
+    """A task that takes its end for something else is ended all the same: a gateway whose viewd died would wait for it for ever."""
+    async def deaf() -> None:
+        with contextlib.suppress(asyncio.CancelledError):
+            await asyncio.Event().wait()
+        await asyncio.Event().wait()
+    tasks = [asyncio.create_task(it()) for it in (deaf, asyncio.Event().wait)]
+    await asyncio.sleep(0)
+    await asyncio.wait_for(client.ended(tasks), PATIENCE)
+    assert all(task.cancelled() for task in tasks)
 
 
 @test

@@ -31,7 +31,9 @@ fn rows<'a>(alloc: Global) -> Arg<'a> {
     Arg::new(alloc, "rows")
         .long("rows")
         .value_name("N")
-        .help("The number of different rows at most of a table, and of each step of a view that is read")
+        .help(
+            "The number of different rows at most of a table, and of each step of a view that is read",
+        )
         .value_parser(value_parser!(u32).range(1_024..=1_048_576))
         .default_value("65536")
 }
@@ -78,9 +80,12 @@ fn count_of(matches: &ArgMatches<'_>, name: &str) -> Option<u32>
 fn rows_of(matches: &ArgMatches<'_>) -> Option<u32>
     ensures { IfSome result IsRowLimit }
 {
-    matches
-        .get_one::<u32>("rows")
-        .filter(|n| *n >= 1_024 && *n <= 1_048_576)
+    let rows = matches.get_one::<u32>("rows")?;
+    if rows >= 1_024 && rows <= 1_048_576 {
+        Some(rows)
+    } else {
+        None
+    }
 }
 
 fn port_of(matches: &ArgMatches<'_>) -> Option<u16>

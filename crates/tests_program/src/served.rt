@@ -179,11 +179,11 @@ fn tells_the_port(rt: HostRuntime) -> Result<(), Fail> {
     let listener = TcpListener::bind(&rt, "127.0.0.1:0")?;
     let port = listener.local_addr()?.port();
     let mut told = Vec::new(alloc);
-    let ended = serve(&rt, &mut FromWrite::new(&mut told), port, 0, 1);
+    let ended = serve(&rt, &mut FromWrite::new(&mut told), port, 0, 1, 1_024);
     assert!(rt; ended == Err(Fault::Network));
     assert_eq!(rt; told.len(), 0);
     drop(listener);
-    let ended = serve(&rt, &mut FromWrite::new(&mut told), port, 0, 1);
+    let ended = serve(&rt, &mut FromWrite::new(&mut told), port, 0, 1, 1_024);
     assert!(rt; ended == Ok(()));
     let line = format!(in alloc; "listening on 127.0.0.1:{port}\n")?;
     assert_eq!(rt; told.as_slice(), line.as_bytes());
