@@ -1,4 +1,8 @@
 //! The engine.
+//!
+//! The clause `known_rows` of `apply` follows from `lines`. It is said all the same: a leak is the worst fault. Of a
+//! change it speaks where the subscription is to a table, since the rows of a view stand in no table; of a last line
+//! it says that it takes back all that was shown.
 ghost use Rattle.std.specs.Prelude.{◌≡◌, ◌↔◌, [], IfOk, OnOk, OnErr, map, true, false};
 ghost use Rattle.std.specs.List.{list_all};
 ghost use Rattle.iv_machine.specs.Machine.{hung};

@@ -1,4 +1,9 @@
 //! All that the engine stores.
+//!
+//! `tables` has an entry for each table alone. A table's columns stand in the catalog and, copied once when it is
+//! created, with its rows. The invariant says that all tables are within the limits, that each session's role is one
+//! of the roles, that each open subscription may be read and is within the limits (so what it showed can always be
+//! taken back), and that the circuits are those of open subscriptions and no others.
 ghost use Rattle.std.specs.Prelude.{◌≡◌, ◌<◌, IfOk, IfSome, is_some, length, option_map, true, Some};
 ghost use Rattle.iv_bind.specs.Catalogs.{named, schema_of};
 ghost use Rattle.iv_machine.specs.State.{name_of, rel_of, session_of, start, table_columns};

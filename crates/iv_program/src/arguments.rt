@@ -1,4 +1,8 @@
 //! The words after the program's name.
+//!
+//! `settings` promises ranges alone, since clap's clauses say nothing of a subcommand's values: a body that answers
+//! another number of the range, or an error, meets its contract. Words and texts are shown by tests. A word that is
+//! not text is status 1, with a text of ours; `--help` is status 0 even where standard output is closed.
 
 ghost use Rattle.std.specs.Prelude.{◌≤◌, IfOk, IfSome};
 ghost use Rattle.iv_program.specs.Arguments.{InRange};

@@ -1,4 +1,6 @@
 //! What the program is asked to do.
+//!
+//! `Settings` and `settings` stand in two modules: names that differ only in case are refused in one.
 
 /// What the program is asked to do.
 #[derive(Clone, Copy, Debug, PartialEq, Eq)]

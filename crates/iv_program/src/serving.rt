@@ -1,4 +1,13 @@
 //! Connections, one after another, through one engine.
+//!
+//! A failed engine is answered before an accept, which a test shows: no contract of a listener tells its accepts.
+//! After a run it is the engine that is asked whether it failed: of a run's faults the read and the write end the
+//! connection alone. An accept that fails ends the program, also where another try might do; std's accept tries again
+//! after a signal.
+//!
+//! Each answer is one write, so `TCP_NODELAY` is set; where it can't be, answers may come later and are the same. The
+//! engine is made before the port is taken, so want of memory there leaves no line `listening on ..`, which is
+//! written by the same kind of end as answers: its text and its faults are in a contract.
 
 ghost use Rattle.std.specs.Prelude.{◌≡◌, ◌≤◌, ◌||◌, ◌↔◌, true, false, IsErrOf, OnOk, is_err};
 ghost use Rattle.iv_machine.specs.Reached.{IsReached};

@@ -1,4 +1,8 @@
 //! Ends of std, each call of which is counted.
+//!
+//! The bound on reads speaks of a source that counts its reads. std's clauses do not say how often a reader or a
+//! writer is called, so the three one-line calls here are the place where this is read and not proved. Everything
+//! above them is refused where it calls twice, swallows an error or leaves a flush out.
 ghost use Rattle.std.specs.Prelude.{◌≡◌, ◌≤◌, ◌+◌, ◌||◌, true, false, length, IfOk, OnOk, is_err};
 ghost use Rattle.std.specs.Io.KnownBytes.{Keeps, ReadConsumes, WriteAppends};
 ghost use Rattle.iv_wire.specs.Calls.{unused};
