@@ -19,7 +19,7 @@ import re
 import time
 
 from client import BACKLOG, Ask, Client, Subscription, ended, frames_of
-from journal import BODY, SHARED, Anew, Damaged, Entry, Log, Shape, by_role, by_session, to_text
+from journal import BODY, SHARED, Anew, Damaged, Entry, Log, Shape, by_role, by_session, replay, to_text
 
 SESSIONS = 256  # viewd has no more
 SPARE = 16  # by which the journal is told; clients have them, where it is told before they come
@@ -47,8 +47,8 @@ log = logging.getLogger("engine")
 class Engine:
     """The child: its sessions, the lines that it has to answer, and where each answer goes."""
 
-    def __init__(self, program: pathlib.Path, journal: Log):
-        self.program, self.journal = program, journal
+    def __init__(self, program: pathlib.Path, journal: Log, rows: int | None = None):
+        self.program, self.journal, self.rows = program, journal, rows
         self.ready = asyncio.Event()
         self.clients: dict[int, Client] = {}
         self.child: asyncio.subprocess.Process | None = None
@@ -84,7 +84,7 @@ class Engine:
         spare = SPARE if self.journal.follow or self.journal.shared else 0
         self.free = list(range(SESSIONS - spare, 0, -1))
         self.child = await asyncio.create_subprocess_exec(
-            self.program, "replay", "--lines", "4294967295",
+            *replay(self.program, self.rows),
             stdin=asyncio.subprocess.PIPE, stdout=asyncio.subprocess.PIPE, limit=1 << 20)
         work = [self.answers(), self.sends(), self.restore()]
         if self.journal.shared:
