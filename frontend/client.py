@@ -93,3 +93,26 @@ class Ask:
     asker: tuple[str, int] | None = None  # the gateway that asks, and how often it has asked anything
     view: bool = False  # subscribes to what may be a view
     outcome: asyncio.Future[tuple[int, bytes] | None] | None = None  # a refusal and its place; none where it was accepted
+
+
+def frames_of(clients: set[Client]) -> list[tuple[Client, bytes]]:
+    """A message for each client that has lines. Who has the same lines is sent the same bytes."""
+    made: dict[tuple[bytes, ...], bytes] = {}
+    frames = []
+    for client in clients:
+        lines, client.lines = tuple(client.lines), []
+        if client.gone or not lines:
+            continue
+        if lines not in made:
+            made[lines] = frame(b"\n".join(lines))
+        frames.append((client, made[lines]))
+    return frames
+
+
+async def ended(tasks: list[asyncio.Task]) -> None:
+    """Ends tasks. Some have to be told again: redis-py can take the end of a task for a timeout of its own."""
+    while left := [task for task in tasks if not task.done()]:
+        for task in left:
+            task.cancel()
+        await asyncio.wait(left, timeout=0.5)
+    await asyncio.gather(*tasks, return_exceptions=True)

@@ -1,7 +1,7 @@
 #!/usr/bin/python3
 """Writes a journal anew: the requests that make its roles, relations, rights and policies, and then the rows as they are now.
 
-    frontend/compact.py JOURNAL [VIEWD]
+    frontend/compact.py [--rows N] JOURNAL [VIEWD]
 
 viewd has no dump, so it is told the journal and the administrator subscribes to each table. What was written is read
 back by another viewd before it takes the journal's place. Where anything differs, the journal stays as it was.
@@ -9,6 +9,7 @@ back by another viewd before it takes the journal's place. Where anything differ
 A file is written anew while no gateway writes it. Of a stream, redis://HOST:PORT/NAME, the lines are kept as a snapshot of the
 place to which it was read, gateways that start begin there, and what stands further behind goes; gateways run meanwhile.
 """
+import argparse
 import asyncio
 import json
 import pathlib
@@ -16,7 +17,7 @@ import subprocess
 import sys
 from collections.abc import Iterable, Iterator
 
-from journal import BODY, Anew, Damaged, Journal, Shape, by_role, entry_of, replace, to_text
+from journal import BODY, Anew, Damaged, Journal, Shape, by_role, entry_of, replace, replay, to_text
 
 ENTRIES = 1000  # of a write
 
@@ -26,8 +27,8 @@ Rows = dict[str, list]  # of each table: pairs of copies and row
 class Viewd:
     """A viewd that is asked one thing after another."""
 
-    def __init__(self, program: pathlib.Path):
-        self.process = subprocess.Popen([program, "replay", "--lines", "4294967295"], stdin=subprocess.PIPE, stdout=subprocess.PIPE)
+    def __init__(self, words: list[str | pathlib.Path]):
+        self.process = subprocess.Popen(words, stdin=subprocess.PIPE, stdout=subprocess.PIPE)
         self.sessions: dict[str, int] = {}
 
     def ask(self, role: str, request: dict) -> tuple[dict, list]:
@@ -82,13 +83,13 @@ def write(inserts: list[bytes]) -> Iterator[bytes]:
         yield by_role("admin", b'"do":"write","entries":[%s]' % b",".join(inserts))
 
 
-def main(path: pathlib.Path, program: pathlib.Path) -> str:
+def compact(path: pathlib.Path, words: list[str | pathlib.Path]) -> str:
     journal = Journal(path)
-    before = Viewd(program).state(journal.entries())
+    before = Viewd(words).state(journal.entries())
     was, size = journal.lines, journal.end
 
     def check(fresh: pathlib.Path) -> None:
-        if Viewd(program).state(Journal(fresh, follow=True).entries()) != before:
+        if Viewd(words).state(Journal(fresh, follow=True).entries()) != before:
             raise Damaged(f"{fresh} leads to another state, so {path} stays")
 
     replace(path, lines(*before), check)
@@ -96,7 +97,7 @@ def main(path: pathlib.Path, program: pathlib.Path) -> str:
     return f"{path}: {sum(1 for _ in now.entries())} lines of {now.end} bytes instead of {was} of {size}"
 
 
-async def snapshot(url: str, program: pathlib.Path) -> str:
+async def snapshot(url: str, words: list[str | pathlib.Path]) -> str:
     """Reads to the end that the stream has now."""
     from stream import Stream
     stream = Stream(url)
@@ -106,30 +107,33 @@ async def snapshot(url: str, program: pathlib.Path) -> str:
         entries += [(it.role, it.request) for it in await stream.read() if it.request is not None]
     if not entries:
         raise Damaged(f"{stream.where} is empty")
-    before = Viewd(program).state(entries)
+    before = Viewd(words).state(entries)
     made = [line.rstrip(b"\n") for line in lines(*before)]
-    if Viewd(program).state([entry_of(line, "a line of the snapshot") for line in made]) != before:
+    if Viewd(words).state([entry_of(line, "a line of the snapshot") for line in made]) != before:
         raise Damaged(f"the snapshot leads to another state, so {stream.where} stays")
     done = await stream.put_snapshot(made)
     await stream.close()
     return f"{stream.where}: " + (f"{len(made)} lines lead to the state of {stream.lines}" if done else f"there is a snapshot at {stream.lines} or later")
 
 
-def run(journal: str, program: pathlib.Path) -> str:
-    if "://" not in journal:
-        return main(pathlib.Path(journal), program)
+def main(given: argparse.Namespace) -> str:
+    words = replay(given.viewd, given.rows)
+    if "://" not in given.journal:
+        return compact(pathlib.Path(given.journal), words)
     try:
-        return asyncio.run(snapshot(journal, program))
+        return asyncio.run(snapshot(given.journal, words))
     except Anew as why:
         raise Damaged(f"{why}: try again") from None
 
 
 if __name__ == "__main__":
-    if not 2 <= len(sys.argv) <= 3:
-        sys.exit(__doc__)
     here = pathlib.Path(__file__).resolve().parent
+    words = argparse.ArgumentParser(description=__doc__, formatter_class=argparse.RawDescriptionHelpFormatter)
+    words.add_argument("--rows", type=int, help="the row limit of viewd, if not its own: at least the one under which the journal was written")
+    words.add_argument("journal", metavar="JOURNAL")
+    words.add_argument("viewd", metavar="VIEWD", nargs="?", default=here.parent / "viewd", type=pathlib.Path)
     try:
-        print(run(sys.argv[1], pathlib.Path(sys.argv[2] if len(sys.argv) > 2 else here.parent / "viewd")))
+        print(main(words.parse_args()))
     except BlockingIOError:
         sys.exit("compact: another process writes this journal")
     except (Damaged, OSError) as why:

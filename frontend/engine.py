@@ -18,8 +18,8 @@ import pathlib
 import re
 import time
 
-from client import BACKLOG, Ask, Client, Subscription, frame
-from journal import BODY, SHARED, Anew, Damaged, Entry, Log, Shape, by_role, by_session, to_text
+from client import BACKLOG, Ask, Client, Subscription, ended, frames_of
+from journal import BODY, SHARED, Anew, Damaged, Entry, Log, Shape, by_role, by_session, replay, to_text
 
 SESSIONS = 256  # viewd has no more
 SPARE = 16  # by which the journal is told; clients have them, where it is told before they come
@@ -47,8 +47,8 @@ log = logging.getLogger("engine")
 class Engine:
     """The child: its sessions, the lines that it has to answer, and where each answer goes."""
 
-    def __init__(self, program: pathlib.Path, journal: Log):
-        self.program, self.journal = program, journal
+    def __init__(self, program: pathlib.Path, journal: Log, rows: int | None = None):
+        self.program, self.journal, self.rows = program, journal, rows
         self.ready = asyncio.Event()
         self.clients: dict[int, Client] = {}
         self.child: asyncio.subprocess.Process | None = None
@@ -84,7 +84,7 @@ class Engine:
         spare = SPARE if self.journal.follow or self.journal.shared else 0
         self.free = list(range(SESSIONS - spare, 0, -1))
         self.child = await asyncio.create_subprocess_exec(
-            self.program, "replay", "--lines", "4294967295",
+            *replay(self.program, self.rows),
             stdin=asyncio.subprocess.PIPE, stdout=asyncio.subprocess.PIPE, limit=1 << 20)
         work = [self.answers(), self.sends(), self.restore()]
         if self.journal.shared:
@@ -115,7 +115,7 @@ class Engine:
                 self.child.kill()
             self.child.stdin.close()
             await self.child.wait()
-            await asyncio.gather(*tasks, return_exceptions=True)
+            await ended(tasks)
             await self.journal.release()
 
     def tell(self, line: bytes, ask: Ask) -> None:
@@ -488,16 +488,8 @@ class Engine:
                 self.put(client, text)
 
     def frames(self) -> list[tuple[Client, bytes]]:
-        """A message for each client that has lines. Who has the same lines is sent the same bytes."""
-        made: dict[tuple[bytes, ...], bytes] = {}
-        frames = []
-        for client in self.pending | self.touched:
-            lines, client.lines = tuple(client.lines), []
-            if client.gone or not lines:
-                continue
-            if lines not in made:
-                made[lines] = frame(b"\n".join(lines))
-            frames.append((client, made[lines]))
+        """What is to be sent to each client that has lines."""
+        frames = frames_of(self.pending | self.touched)
         self.pending.clear()
         self.made.clear()
         self.gathered = 0
@@ -505,9 +497,7 @@ class Engine:
 
     def release(self, frames: list[tuple[Client, bytes]]) -> int:
         """Sends messages, and counts them."""
-        for client, message in frames:
-            if not client.gone:
-                self.dropped += not client.send(message)
+        self.dropped += sum(not client.send(message) for client, message in frames if not client.gone)
         return len(frames)
 
     async def enter(self, client: Client) -> bool:
@@ -580,6 +570,8 @@ class Engine:
         end = time.monotonic() + GIVE_UP
         try:
             while self.journal.follow and ask.known_by not in self.known and not ask.outcome.done():
+                if ask.client.gone:  # its session may be another's by now
+                    return False
                 if time.monotonic() > end:
                     log.warning("nobody decides for session %d of %s: dropped", ask.client.session, ask.client.role)
                     ask.client.drop()
@@ -598,6 +590,8 @@ class Engine:
             place, ask.given = refused
             while self.taken < place:  # so that the client sees what its request was refused for
                 await asyncio.sleep(0.005)
+        elif ask.client.gone:
+            return False
         elif ask.known_by in self.known:
             ask.given = OK
         else:

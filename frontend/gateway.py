@@ -149,7 +149,7 @@ def unexpected(loop: asyncio.AbstractEventLoop, context: dict) -> None:
 
 async def main(given: argparse.Namespace) -> None:
     os.umask(0o077)
-    engine = Engine(given.viewd, journal(given))
+    engine = Engine(given.viewd, journal(given), given.rows)
     desk = Desk(engine, given.tokens, given.web)
     try:
         desk.roles()
@@ -171,6 +171,7 @@ if __name__ == "__main__":
     here = pathlib.Path(__file__).resolve().parent
     words = argparse.ArgumentParser(description="The front end of a viewd.")
     words.add_argument("--viewd", default=here.parent / "viewd", type=pathlib.Path, help="the program")
+    words.add_argument("--rows", type=int, help="the row limit of viewd, if not its own; for all who read a journal the same")
     words.add_argument("--journal", required=True, help="a file, made where it is missing; or redis://[:PASSWORD@]HOST:PORT/NAME")
     words.add_argument("--seed", type=pathlib.Path, help="what a journal begins with that is missing")
     words.add_argument("--follow", action="store_true", help="only another gateway writes this journal: serve readers alone")

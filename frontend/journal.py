@@ -31,6 +31,11 @@ SHARED = frozenset(("create_role", "create_table", "create_view", "grant", "revo
 log = logging.getLogger("journal")
 
 
+def replay(program: pathlib.Path, rows: int | None) -> list[str | pathlib.Path]:
+    """The words that start a viewd with so many rows at most in a table, or at each step of a view; its own number where none is said."""
+    return [program, "replay", "--lines", "4294967295", *(["--rows", str(rows)] if rows else [])]
+
+
 class Damaged(Exception):
     """The journal does not lead to a state. To go on would lose what was acknowledged."""
 

@@ -23,6 +23,7 @@ import yarl
 
 from gate import PATIENCE, ROLES, TOP, VIEWD, Gate, Peer, enter, eventually, explain, free_port, leave, quiet, soon, tokens
 
+import client
 import engine
 import gateway
 import journal
@@ -312,6 +313,19 @@ async def on_disk_before_it_is_told(gate: None, http: aiohttp.ClientSession):
 
 
 @test
+async def an_end_is_told_again(gate: None, http: aiohttp.ClientSession):
+    """A task that takes its end for something else is ended all the same: a gateway whose viewd died would wait for it for ever."""
+    async def deaf() -> None:
+        with contextlib.suppress(asyncio.CancelledError):
+            await asyncio.Event().wait()
+        await asyncio.Event().wait()
+    tasks = [asyncio.create_task(it()) for it in (deaf, asyncio.Event().wait)]
+    await asyncio.sleep(0)
+    await asyncio.wait_for(client.ended(tasks), PATIENCE)
+    assert all(task.cancelled() for task in tasks)
+
+
+@test
 async def nothing_is_lost(gate: Gate, http: aiohttp.ClientSession):
     """viewd and the gateway are killed in turn while clients write: each number that was acknowledged is there afterwards."""
     done: set[int] = set()
@@ -457,6 +471,46 @@ async def compaction_keeps_the_state(gate: Gate, http: aiohttp.ClientSession):
     gate.journal.write_bytes(was[:500] + b"\n" + was[500:])
     damaged = subprocess.run(words, capture_output=True, text=True)
     assert damaged.returncode == 1 and "no accepted request" in damaged.stderr and gate.journal.read_bytes() != again, damaged
+
+
+@test
+async def rows_are_limited(gate: Gate, http: aiohttp.ClientSession):
+    """The gateway and a compaction hand the row limit on to viewd; under less than it was written with, a journal leads nowhere."""
+    async def fill(lena: Peer, numbers: range) -> list[dict]:
+        return [await lena.ask(do="write", entries=[{"on": "tickets", "insert": [number, "mia", "x", True]} for number in numbers[at:at + 500]])
+                for at in range(0, len(numbers), 500)]
+    gate.kill_gateway()
+    had = len(gate.words)
+    gate.words += ["--rows", "1024"]
+    await asyncio.to_thread(gate.start)
+    lena, admin = await enter(http, gate, "lena", "admin")
+    there = len(await admin.see("tickets"))
+    assert await fill(lena, range(1000, 2024 - there)) == [{"ok": True}] * 3
+    assert (await lena.insert(3000, "mia"))["error"] == 17 and len(await admin.see("tickets")) == 1024
+    await leave(lena, admin)
+    gate.kill_gateway()
+    del gate.words[had:]
+    gate.words += ["--rows", "4096"]
+    await asyncio.to_thread(gate.start)
+    lena, = await enter(http, gate, "lena")
+    assert await fill(lena, range(3000, 5000)) == [{"ok": True}] * 4
+    await lena.leave()
+    gate.kill_gateway()
+    was = gate.journal.read_bytes()
+    words = ["/usr/bin/python3", TOP / "compact.py", gate.journal, VIEWD, "--rows"]
+    little = subprocess.run([*words, "1024"], capture_output=True, text=True)
+    assert little.returncode == 1 and "17" in little.stderr and gate.journal.read_bytes() == was, little
+    assert subprocess.run([*words, "4096"], capture_output=True).returncode == 0 and gate.journal.read_bytes() != was
+    await asyncio.to_thread(gate.start)
+    admin, = await enter(http, gate, "admin")
+    assert len(await admin.see("tickets")) == 3024
+    await admin.leave()
+    gate.kill_gateway()
+    del gate.words[had:]
+    gate.words += ["--rows", "1024"]
+    await asyncio.to_thread(gate.launch)
+    status, said = await asyncio.to_thread(gate.ended)
+    assert status == 1 and "leads to no state" in said, said
 
 
 @test

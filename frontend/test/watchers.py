@@ -222,7 +222,7 @@ def never_back(book: Book, places: dict[str, dict[int, int]]) -> None:
 
 def bags(store: Store) -> dict[str, tuple[dict, dict]]:
     """What each role sees, by a viewd that was told the stream and nothing else."""
-    viewd = compact.Viewd(VIEWD)
+    viewd = compact.Viewd(journal.replay(VIEWD, None))
     for fields in store.lines():
         viewd.ask(*journal.entry_of(fields[b"line"], "a line"))
     seen = {}

@@ -1,5 +1,5 @@
 -- A list of commands, one after another.
-use Rattle.std.proofs.Common.{◌≡◌, ◌∙◌, List, [], ◌∷◌, ◌++◌, refl, sym, ap, subst, append_assoc}
+use Rattle.std.proofs.Common.{◌≡◌, ◌∙◌, List, ◌∷◌, ◌++◌, refl, sym, ap, subst, append_assoc}
 use Rattle.iv_machine.specs.Act.{Command, Line}
 use Rattle.iv_engine.specs.Applied.{AreApplied, IsApplied}
 use Rattle.iv_engine.specs.Seen.{Seen}

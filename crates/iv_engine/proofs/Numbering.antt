@@ -6,11 +6,10 @@ use Rattle.std.specs.List.Sorted.{IsStrictlySortedBy}
 use Rattle.std.specs.Map.{keys_of}
 use Rattle.std.specs.Ordering.{nat_cmp}
 use Rattle.std.specs.Cmp.{nat_cmp_is}
-use Rattle.std.specs.declared.cmp.Ordering.{Ordering}
 use Rattle.std.specs.declared.cmp.Ordering.TheVariants.{Less}
 use Rattle.std.proofs.lemmas.Bool.Decides.{nat_tests}
 use Rattle.iv_machine.specs.Reached.{AreGiven, AreNumbersUnique, AreUnique}
-use Rattle.iv_machine.specs.State.{Frame, State, Subscription, is_open_number, start}
+use Rattle.iv_machine.specs.State.{Frame, Subscription, start}
 use Rattle.iv_engine.specs.Answering.{seen}
 use Rattle.iv_engine.specs.Kept.{Kept, frame_of}
 use Rattle.iv_engine.specs.Rounds.{by_number, of_number, rounds, rounds_of}

@@ -65,9 +65,10 @@ fn row(alloc: Global, numbers: [i64; 3]) -> Result<Row, AllocError> {
 
 /// Whether these are the rows, with their copies; none where memory was refused.
 fn are(alloc: Global, rows: &ZSet, wanted: &[Weighed]) -> Option<bool> {
-    for (numbers, copies) in wanted {
-        let row = row(alloc, *numbers).ok()?;
-        if rows.weight(&row, &mut Meter::new()) != *copies {
+    for entry in wanted {
+        let (numbers, copies) = *entry;
+        let row = row(alloc, numbers).ok()?;
+        if rows.weight(&row, &mut Meter::new()) != copies {
             return Some(false);
         }
     }

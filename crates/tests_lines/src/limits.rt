@@ -199,13 +199,23 @@ fn notes(alloc: Global, low: u64, high: u64) -> Result<String, AllocError> {
     list_of(alloc, [front, more, "]}\n"], (low, high))
 }
 
+/// Runs an engine with the least row limit, 1,024, over the bytes.
+fn run_the_least(alloc: Global, bytes: &[u8], written: &mut Vec<u8>) -> Result<(), AllocError> {
+    let mut engine = Engine::new(alloc, 1_024)?;
+    let _ended = run(
+        alloc,
+        &mut engine,
+        &mut FromRead::new(bytes),
+        &mut FromWrite::new(written),
+        1_000_000,
+    );
+    Ok(())
+}
+
 /// What an engine with the least row limit, 1,024, writes for the lines.
 fn written_by_the_least(alloc: Global, lines: &str) -> Result<Vec<u8>, AllocError> {
     let mut written: Vec<u8> = Vec::new(alloc);
-    let mut engine = Engine::new(alloc, 1_024)?;
-    let mut reader = FromRead::new(lines.as_bytes());
-    let mut writer = FromWrite::new(&mut written);
-    let _ = run(alloc, &mut engine, &mut reader, &mut writer, 1_000_000);
+    run_the_least(alloc, lines.as_bytes(), &mut written)?;
     Ok(written)
 }
 

@@ -70,31 +70,29 @@ const HELD: Word = "held";
 
 const REFUSED: Word = "refused";
 
-/// What stands behind the front, where the text of the two parts begins with it.
-fn rest_of<'a>(parts: [&'a str; 2], front: &[u8]) -> Option<[&'a [u8]; 2]> {
-    let [first, second] = parts;
-    let (first, second) = (first.as_bytes(), second.as_bytes());
-    match front.strip_prefix(first) {
-        Some(more) => Some([second.strip_prefix(more)?, b""]),
-        None => Some([first.strip_prefix(front)?, second]),
+/// Whether these bytes are the whole answers to the first so many commands of the text: what follows begins with a reply, which
+/// is the first line of each answer.
+fn is_front(written: &[u8], text: &str) -> bool {
+    match text.as_bytes().strip_prefix(written) {
+        Some(rest) => rest.is_empty() || rest.starts_with(b"{\"ok\":true,"),
+        None => false,
     }
 }
 
-/// Whether these bytes are the whole answers to the first so many commands: what follows begins with a reply, which is the
-/// first line of each answer.
+/// The same of a text in two parts.
 fn is_of_whole_commands(written: &[u8], answers: [&str; 2]) -> bool {
-    match rest_of(answers, written) {
-        Some([first, second]) => {
-            let next = if first.is_empty() { second } else { first };
-            next.is_empty() || next.starts_with(b"{\"ok\":true,")
-        }
-        None => false,
+    match written.strip_prefix(answers[0].as_bytes()) {
+        Some(more) => is_front(more, answers[1]),
+        None => is_front(written, answers[0]),
     }
 }
 
 /// Whether they are all the answers.
 fn is_whole(written: &[u8], answers: [&str; 2]) -> bool {
-    matches!(rest_of(answers, written), Some([b"", b""]))
+    match written.strip_prefix(answers[0].as_bytes()) {
+        Some(more) => more == answers[1].as_bytes(),
+        None => false,
+    }
 }
 
 fn finish() -> Command {

@@ -9,33 +9,19 @@ use std::io::Read;
 use std::net::{TcpListener, TcpStream};
 use std::test::Fail;
 
-/// All that the client is sent until the server hangs up, in room that takes no memory.
-#[derive(Drop)]
-struct Sent {
-    room: [u8; 512],
-    len: usize,
-    ghost in_room: { len ≤ 512 },
-}
-
-impl Sent {
-    fn bytes(&self) -> &[u8] {
-        &self.room[..self.len]
-    }
-}
-
-fn sent(client: &mut TcpStream) -> Sent {
-    let mut sent = Sent {
-        room: [0; 512],
-        len: 0,
-    };
+/// All that the client is sent until the server hangs up, in room that takes no memory: how many bytes of it.
+fn read_all(client: &mut TcpStream, room: &mut [u8; 512]) -> usize
+    ensures { result ≤ 512 }
+{
+    let mut len = 0;
     for _ in 0..512 {
-        match client.read(&mut sent.room[sent.len..]) {
-            Ok(0) => return sent,
-            Ok(count) => sent.len += count,
-            Err(_) => return sent,
+        match client.read(&mut room[len..]) {
+            Ok(0) => return len,
+            Ok(count) => len += count,
+            Err(_) => return len,
         }
     }
-    sent
+    len
 }
 
 /// Whether these bytes are the whole answers to the first so many requests: what follows begins with a reply.
@@ -50,10 +36,25 @@ fn is_of_whole_requests(written: &[u8]) -> bool {
 fn word_for(ended: Option<Result<(), ServeFault>>, client: &mut TcpStream) -> &'static str {
     match ended {
         None => "refused",
-        Some(Ok(())) if sent(client).bytes() == FIRST_ANSWERS => "held",
-        Some(Err(ServeFault::Memory)) if is_of_whole_requests(sent(client).bytes()) => "refused",
-        Some(Err(ServeFault::Memory)) => "the answers are not those of whole requests",
-        Some(_) => "other answers",
+        Some(Ok(())) => {
+            let mut room = [0; 512];
+            let len = read_all(client, &mut room);
+            if &room[..len] == FIRST_ANSWERS {
+                "held"
+            } else {
+                "other answers"
+            }
+        }
+        Some(Err(ServeFault::Memory)) => {
+            let mut room = [0; 512];
+            let len = read_all(client, &mut room);
+            if is_of_whole_requests(&room[..len]) {
+                "refused"
+            } else {
+                "the answers are not those of whole requests"
+            }
+        }
+        Some(Err(_)) => "another fault",
     }
 }
 
