@@ -1,6 +1,5 @@
 //! A test of a circuit that holds whichever request for memory is refused, so that a script can refuse each in turn. It prints
 //! `refused` where some request was, and `held` where none was.
-ghost use Rattle.std.specs.Prelude.{IfSome};
 ghost use Rattle.iv_circuit.specs.Changing.{IsDue, IsReady};
 ghost use Rattle.iv_circuit.specs.Deltas.{change_in};
 ghost use Rattle.tests_circuits.specs.Worlds.{AreSound, IsReader};
@@ -15,11 +14,13 @@ use iv_zset::{Meter, ZSet, bags_have_lists};
 use std::alloc::{AllocError, Global};
 use std::test::Fail;
 
-type Word = &'static str;
-
-const HELD: Word = "held";
-
-const REFUSED: Word = "refused";
+/// Whether all was as wanted, and whether a request for memory was refused.
+#[derive(Clone, Copy)]
+enum Outcome {
+    Held,
+    Refused,
+    Wrong,
+}
 
 /// A row of three numbers, and its copies.
 type Weighed = ([i64; 3], i64);
@@ -75,55 +76,60 @@ fn are(alloc: Global, rows: &ZSet, wanted: &[Weighed]) -> Option<bool> {
     Some(rows.rows() == wanted.len())
 }
 
-/// A word for the rows, where they are these the one before them.
-fn word_of(alloc: Global, rows: &ZSet, wanted: &[Weighed], before: Word, other: Word) -> Word {
+fn compared(alloc: Global, rows: &ZSet, wanted: &[Weighed]) -> Outcome {
     match are(alloc, rows, wanted) {
-        Some(true) => before,
-        Some(false) => other,
-        None => REFUSED,
+        Some(true) => Outcome::Held,
+        Some(false) => Outcome::Wrong,
+        None => Outcome::Refused,
     }
 }
 
-/// What changes make of the circuit, where it is asked a second time if memory was refused.
-fn prepared(circuit: &Circuit, deltas: &Deltas, word: &mut Word) -> Option<Pending>
-    requires { IsReady circuit.now.cap circuit.now.node (change_in deltas.now) }
-    ensures { IfSome result (IsDue circuit.now.node) }
+/// What comes of the change as it is taken in.
+fn committed(alloc: Global, circuit: &mut Circuit, pending: Pending) -> Outcome
+    requires { IsDue circuit.old.node pending }
 {
-    match circuit.prepare(deltas, &mut Meter::new()) {
-        Ok(pending) => return Some(pending),
-        Err(CircuitFault::Limit) => return None,
-        Err(CircuitFault::Memory) => {}
+    match circuit.commit(pending, &mut Meter::new()) {
+        Ok(()) => compared(alloc, circuit.total(), &AFTER),
+        Err(AllocError) => Outcome::Refused,
     }
-    *word = REFUSED;
-    circuit.prepare(deltas, &mut Meter::new()).ok()
+}
+
+/// What comes of the change as it is looked at and taken in.
+fn finished(alloc: Global, circuit: &mut Circuit, pending: Pending) -> Outcome
+    requires { IsDue circuit.old.node pending }
+{
+    match compared(alloc, pending.root(), &CHANGE) {
+        Outcome::Held => committed(alloc, circuit, pending),
+        other => other,
+    }
+}
+
+/// What comes of changes that are prepared a second time, since memory was refused.
+fn finished_again(alloc: Global, circuit: &mut Circuit, deltas: &Deltas) -> Outcome
+    requires { IsReady circuit.old.cap circuit.old.node (change_in deltas.now) }
+{
+    let Ok(pending) = circuit.prepare(deltas, &mut Meter::new()) else {
+        return Outcome::Wrong;
+    };
+    match finished(alloc, circuit, pending) {
+        Outcome::Wrong => Outcome::Wrong,
+        _ => Outcome::Refused,
+    }
 }
 
 /// What comes of the changes as they are prepared and taken in.
-fn taken_in(alloc: Global, circuit: &mut Circuit, deltas: &Deltas) -> Word
+fn taken_in(alloc: Global, circuit: &mut Circuit, deltas: &Deltas) -> Outcome
     requires { IsReady circuit.old.cap circuit.old.node (change_in deltas.now) }
 {
-    let mut word = HELD;
-    let Some(pending) = prepared(circuit, deltas, &mut word) else {
-        return "the changes were not prepared again";
-    };
-    word = word_of(alloc, pending.root(), &CHANGE, word, "another change");
-    if word != HELD && word != REFUSED {
-        return word;
-    }
-    match circuit.commit(pending, &mut Meter::new()) {
-        Ok(()) => word_of(
-            alloc,
-            circuit.total(),
-            &AFTER,
-            word,
-            "other rows afterwards",
-        ),
-        Err(AllocError) => REFUSED,
+    match circuit.prepare(deltas, &mut Meter::new()) {
+        Ok(pending) => finished(alloc, circuit, pending),
+        Err(CircuitFault::Memory) => finished_again(alloc, circuit, deltas),
+        Err(CircuitFault::Limit) => Outcome::Wrong,
     }
 }
 
 /// What comes of the batch.
-fn changed(alloc: Global, circuit: &mut Circuit, tables: &mut Tables) -> Word
+fn changed(alloc: Global, circuit: &mut Circuit, tables: &mut Tables) -> Outcome
     requires reader { IsReader tables.old circuit.old }
     requires sound { AreSound tables.old }
 {
@@ -131,43 +137,58 @@ fn changed(alloc: Global, circuit: &mut Circuit, tables: &mut Tables) -> Word
     bags_have_lists();
     match turn(alloc, tables, &BATCH) {
         Some(deltas) => taken_in(alloc, circuit, &deltas),
-        None => REFUSED,
+        None => Outcome::Refused,
+    }
+}
+
+/// What comes of the circuit, and then of the batch.
+fn seen(alloc: Global, circuit: &mut Circuit, tables: &mut Tables) -> Outcome
+    requires reader { IsReader tables.old circuit.old }
+    requires sound { AreSound tables.old }
+{
+    match compared(alloc, circuit.total(), &BEFORE) {
+        Outcome::Held => changed(alloc, circuit, tables),
+        other => other,
     }
 }
 
 /// What comes of a circuit of the plan, and then of the batch.
-fn opened(alloc: Global, plan: &Plan, tables: &mut Tables) -> Word
+fn opened(alloc: Global, plan: &Plan, tables: &mut Tables) -> Outcome
     requires { AreSound tables.old }
 {
-    let Some(mut circuit) = planned(alloc, plan, tables) else {
-        return REFUSED;
-    };
-    let word = word_of(alloc, circuit.total(), &BEFORE, HELD, "other rows before");
-    if word == HELD {
-        changed(alloc, &mut circuit, tables)
-    } else {
-        word
+    match planned(alloc, plan, tables) {
+        Some(mut circuit) => seen(alloc, &mut circuit, tables),
+        None => Outcome::Refused,
     }
 }
 
 /// The same over the rows.
-fn tried(alloc: Global) -> Word {
-    let Some(mut tables) = two_tables(alloc) else {
-        return REFUSED;
-    };
-    if turn(alloc, &mut tables, &ROWS).is_none() {
-        return REFUSED;
+fn opened_over(alloc: Global, tables: &mut Tables) -> Outcome
+    requires { AreSound tables.old }
+{
+    if turn(alloc, tables, &ROWS).is_none() {
+        return Outcome::Refused;
     }
     match of_each_kind(alloc) {
-        Ok(plan) => opened(alloc, &plan, &mut tables),
-        Err(AllocError) => REFUSED,
+        Ok(plan) => opened(alloc, &plan, tables),
+        Err(AllocError) => Outcome::Refused,
+    }
+}
+
+/// The same over the two tables.
+fn tried(alloc: Global) -> Outcome {
+    match two_tables(alloc) {
+        Some(mut tables) => opened_over(alloc, &mut tables),
+        None => Outcome::Refused,
     }
 }
 
 #[test]
 fn changes_are_prepared_again(rt: HostRuntime) -> Result<(), Fail> {
-    let word = tried(rt.alloc());
-    assert!(rt; word == HELD || word == REFUSED, "{word}");
-    println!(rt; "{word}")?;
+    match tried(rt.alloc()) {
+        Outcome::Held => println!(rt; "held")?,
+        Outcome::Refused => println!(rt; "refused")?,
+        Outcome::Wrong => assert!(rt; false),
+    }
     Ok(())
 }
