@@ -18,6 +18,7 @@ use crate::role::RoleId;
 use crate::roles::Roles;
 use indexmap::IndexSet;
 use iv_rows::RelId;
+use iv_zset::Seed;
 use std::alloc::{AllocError, Global};
 use std::marker::Model;
 
@@ -31,7 +32,7 @@ pub struct Access {
     pub(crate) members: Memberships,
     pub(crate) relations: Relations,
     pub(crate) guards: Vec<Guard>,
-    pub(crate) grants: IndexSet<Grant>,
+    pub(crate) grants: IndexSet<Grant, Seed>,
 }
 
 impl Model for Access {
@@ -50,21 +51,31 @@ impl Model for Access {
 }
 
 impl Access {
-    /// One role, `admin`, and no relation.
+    /// One role, `admin`, and no relation. Names and grants are hashed under the known seed.
     ///
     /// # Errors
     /// `AllocError` where a growth of memory was refused.
     pub fn new(alloc: Global) -> Result<Access, AllocError>
         ensures { IfOk result (λ access. access ≡ known_at_start) }
     {
-        let mut roles = Roles::new(alloc);
+        Access::with_seed(alloc, Seed::known())
+    }
+
+    /// The same, where names and grants are hashed under a seed. No answer depends on it.
+    ///
+    /// # Errors
+    /// `AllocError` where a growth of memory was refused.
+    pub fn with_seed(alloc: Global, seed: Seed) -> Result<Access, AllocError>
+        ensures { IfOk result (λ access. access ≡ known_at_start) }
+    {
+        let mut roles = Roles::with_seed(alloc, seed);
         roles.push("admin")?;
         Ok(Access {
             roles,
             members: Memberships::new(alloc),
-            relations: Relations::new(alloc),
+            relations: Relations::with_seed(alloc, seed),
             guards: Vec::new(alloc),
-            grants: IndexSet::new(alloc),
+            grants: IndexSet::with_hasher(alloc, seed),
         })
     }
 

@@ -17,6 +17,7 @@ use crate::privilege::Privilege;
 use crate::role::RoleId;
 use indexmap::IndexSet;
 use iv_rows::RelId;
+use iv_zset::Seed;
 use std::hash::{Hash, Hasher};
 use std::marker::Model;
 
@@ -78,7 +79,7 @@ impl Hash for Grant {
 
 /// Whether the privilege was granted to the grantee.
 pub(crate) fn is_granted_to(
-    grants: &IndexSet<Grant>,
+    grants: &IndexSet<Grant, Seed>,
     grantee: Grantee,
     privilege: Privilege,
     rel: RelId,
@@ -95,7 +96,7 @@ pub(crate) fn is_granted_to(
 
 /// Whether the privilege was granted to all roles or to the role.
 pub(crate) fn is_granted(
-    grants: &IndexSet<Grant>,
+    grants: &IndexSet<Grant, Seed>,
     role: RoleId,
     privilege: Privilege,
     rel: RelId,
@@ -108,7 +109,7 @@ pub(crate) fn is_granted(
 
 /// Grants each of the privileges, for which there is room.
 pub(crate) fn give(
-    grants: &mut IndexSet<Grant>,
+    grants: &mut IndexSet<Grant, Seed>,
     rel: RelId,
     privileges: &[Privilege],
     grantee: Grantee,
@@ -127,7 +128,7 @@ pub(crate) fn give(
 }
 
 /// Revokes the privilege. It takes no memory.
-fn take_one(grants: &mut IndexSet<Grant>, grant: Grant)
+fn take_one(grants: &mut IndexSet<Grant, Seed>, grant: Grant)
     ensures { grants.new.keys ≡ revoked grant grants.old.keys }
 {
     grants.shift_remove(&grant);
@@ -135,7 +136,7 @@ fn take_one(grants: &mut IndexSet<Grant>, grant: Grant)
 
 /// Revokes each of the privileges. It takes no memory.
 pub(crate) fn take(
-    grants: &mut IndexSet<Grant>,
+    grants: &mut IndexSet<Grant, Seed>,
     rel: RelId,
     privileges: &[Privilege],
     grantee: Grantee,

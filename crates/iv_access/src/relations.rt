@@ -8,6 +8,7 @@ ghost use Rattle.iv_access.specs.Stored.{relation_at};
 
 use indexmap::IndexMap;
 use iv_rows::{Kind, RelId};
+use iv_zset::Seed;
 use std::alloc::{AllocError, Global};
 use std::marker::Model;
 
@@ -17,7 +18,7 @@ pub(crate) const MOST_RELATIONS: usize = 64;
 /// The relations, each with the number of its place: a table has the kinds of its columns, and a view has none.
 #[derive(Drop)]
 pub(crate) struct Relations {
-    kinds: IndexMap<String, Option<Vec<Kind>>>,
+    kinds: IndexMap<String, Option<Vec<Kind>>, Seed>,
 }
 
 impl Model for Relations {
@@ -46,7 +47,7 @@ fn is_like(kinds: &Option<Vec<Kind>>, table: bool) -> bool
 }
 
 /// How many tables there are, or how many views.
-fn count_like(kinds: &IndexMap<String, Option<Vec<Kind>>>, table: bool) -> usize
+fn count_like(kinds: &IndexMap<String, Option<Vec<Kind>>, Seed>, table: bool) -> usize
     ensures { result ≡ count_by (λ ks. beq table (is_some ks)) (values kinds.now) }
 {
     kinds.values().filter(|kinds| is_like(kinds, table)).count()
@@ -54,11 +55,11 @@ fn count_like(kinds: &IndexMap<String, Option<Vec<Kind>>>, table: bool) -> usize
 
 impl Relations {
     /// No relation. It takes no memory.
-    pub(crate) fn new(alloc: Global) -> Relations
+    pub(crate) fn with_seed(alloc: Global, seed: Seed) -> Relations
         ensures { result ≡ [] }
     {
         Relations {
-            kinds: IndexMap::new(alloc),
+            kinds: IndexMap::with_hasher(alloc, seed),
         }
     }
 

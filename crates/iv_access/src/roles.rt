@@ -3,6 +3,7 @@ ghost use Rattle.std.specs.Prelude.{◌≡◌, ◌<◌, ◌≤◌, ◌∷◌, []
 
 use crate::role::RoleId;
 use indexmap::IndexSet;
+use iv_zset::Seed;
 use std::alloc::{AllocError, Global};
 use std::marker::Model;
 
@@ -12,7 +13,7 @@ pub(crate) const MOST_ROLES: usize = 256;
 /// The names of the roles, each with the number of its place.
 #[derive(Drop)]
 pub(crate) struct Roles {
-    names: IndexSet<String>,
+    names: IndexSet<String, Seed>,
 }
 
 impl Model for Roles {
@@ -27,11 +28,11 @@ impl Model for Roles {
 
 impl Roles {
     /// No role. It takes no memory.
-    pub(crate) fn new(alloc: Global) -> Roles
+    pub(crate) fn with_seed(alloc: Global, seed: Seed) -> Roles
         ensures { result ≡ [] }
     {
         Roles {
-            names: IndexSet::new(alloc),
+            names: IndexSet::with_hasher(alloc, seed),
         }
     }
 

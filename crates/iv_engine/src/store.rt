@@ -67,7 +67,7 @@ impl Store {
     {
         Ok(Store {
             cap,
-            access: Access::new(alloc)?,
+            access: Access::with_seed(alloc, seed)?,
             catalog: Catalog::new(alloc),
             sessions: Vec::new(alloc),
             subscriptions: Vec::new(alloc),
