@@ -54,3 +54,5 @@ mod Carried
 mod Counted
 mod Opened
 mod Touched
+mod Spreading
+mod Partly

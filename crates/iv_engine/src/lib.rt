@@ -31,6 +31,7 @@ mod store;
 mod stored;
 mod subscribing;
 mod summing;
+mod touching;
 mod turning;
 mod well;
 mod writing;

@@ -9,6 +9,7 @@ ghost use Rattle.iv_engine.specs.Target.{IsActingOn};
 
 use crate::command::Refusal;
 use crate::stored::{RoleCircuit, Session, Subscription, find_session};
+use crate::touching::Touched;
 use iv_access::{Access, RoleId};
 use iv_algebra::Tables;
 use iv_bind::Catalog;
@@ -17,7 +18,7 @@ use std::alloc::{AllocError, Global};
 use std::marker::Model;
 
 /// Rights, relations, the rows of tables, sessions, subscriptions and the circuits that they read. Subscriptions stand in
-/// the order of their lines.
+/// the order of their lines. For tables that were written it is kept which circuits scan them.
 #[derive(Drop)]
 pub struct Store {
     pub access: Access,
@@ -25,6 +26,7 @@ pub struct Store {
     pub sessions: Vec<Session>,
     pub subscriptions: Vec<Subscription>,
     pub circuits: Vec<RoleCircuit>,
+    pub found: Vec<Touched>,
     pub last: u64,
     pub tables: Tables,
     pub alloc: Global,
@@ -33,6 +35,7 @@ pub struct Store {
 impl Model for Store {
     ghost use Rattle.iv_engine.specs.Codes.{kept_code};
     ghost use Rattle.iv_engine.specs.Kept.{Kept};
+    ghost use Rattle.iv_engine.specs.Touching.{AreFoundAmong};
 
     ghost Value = { Kept };
 
@@ -47,6 +50,8 @@ impl Model for Store {
       last = s.last;
       tables = s.tables;
     } };
+
+    ghost invariant = { λ s. AreFoundAmong s.circuits.items s.found.items };
 }
 
 impl Store {
@@ -63,6 +68,7 @@ impl Store {
             circuits: Vec::new(alloc),
             last: 0,
             tables: Tables::new(alloc),
+            found: Vec::new(alloc),
             alloc,
         })
     }
