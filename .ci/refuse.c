@@ -1,5 +1,6 @@
-/* Put before a program by LD_PRELOAD: refuses the request for memory whose number REFUSE gives, none
-   where it is 0. At the end it writes the number of requests to the file descriptor REFUSE_TELL. */
+/* Put before a program by LD_PRELOAD: refuses the request for memory whose number REFUSE gives, and no other one; none
+   where it is 0. At the end it writes the number of requests to the file descriptor REFUSE_TELL. Where REFUSE_OPTIONS is
+   set it refuses each option of a TCP connection, and writes the number of those. */
 typedef __SIZE_TYPE__ size_t;
 
 extern void *__libc_malloc(size_t);
@@ -8,9 +9,14 @@ extern void *__libc_calloc(size_t, size_t);
 extern char *getenv(const char *);
 extern long strtol(const char *, char **, int);
 extern int dprintf(int, const char *, ...);
+extern long syscall(long, ...);
+extern int *__errno_location(void);
+
+enum { EINVAL = 22, IPPROTO_TCP = 6, SYS_setsockopt = 54 };
 
 static long asked;
 static long at = -1;
+static long options;
 
 static int is_refused(void) {
   if (at < 0) {
@@ -27,8 +33,16 @@ void *realloc(void *block, size_t size) { return is_refused() ? 0 : __libc_reall
 
 void *calloc(size_t count, size_t size) { return is_refused() ? 0 : __libc_calloc(count, size); }
 
+int setsockopt(int socket, int level, int name, const void *value, unsigned length) {
+  if (level != IPPROTO_TCP || !getenv("REFUSE_OPTIONS"))
+    return (int)syscall(SYS_setsockopt, socket, level, name, value, length);
+  options++;
+  *__errno_location() = EINVAL;
+  return -1;
+}
+
 __attribute__((destructor)) static void tell(void) {
   const char *descriptor = getenv("REFUSE_TELL");
   if (descriptor)
-    dprintf((int)strtol(descriptor, 0, 10), "%ld\n", asked);
+    dprintf((int)strtol(descriptor, 0, 10), "%ld\n", getenv("REFUSE_OPTIONS") ? options : asked);
 }

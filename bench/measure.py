@@ -61,9 +61,9 @@ class Told:
 class Run:
     """A replay that is told its requests part by part, so that each part is measured alone."""
 
-    def __init__(self, program, **how):
+    def __init__(self, program, words=(), **how):
         self.program = program
-        self.child = subprocess.Popen([program, "replay"], stdin=subprocess.PIPE, stdout=subprocess.PIPE, pipesize=1 << 20, **how)
+        self.child = subprocess.Popen([program, "replay", *words], stdin=subprocess.PIPE, stdout=subprocess.PIPE, pipesize=1 << 20, **how)
         self.digest = hashlib.sha256()
 
     def tell(self, part):
@@ -114,10 +114,10 @@ def part_of(requests):
     return text_of([*requests, LAST])
 
 
-def asked(program, parts, shim):
+def asked(program, parts, shim, words=()):
     """How often memory was asked for."""
     read, write = os.pipe()
-    run = Run(program, pass_fds=[write], env=dict(os.environ, LD_PRELOAD=shim, REFUSE="0", REFUSE_TELL=str(write)))
+    run = Run(program, words, pass_fds=[write], env=dict(os.environ, LD_PRELOAD=shim, REFUSE="0", REFUSE_TELL=str(write)))
     for part in parts:
         run.tell(part)
     run.end()

@@ -10,6 +10,8 @@ import typing
 
 READERS = [f"r{n}" for n in range(16)]
 SIZES = (1_000, 8_192, 65_536)
+# with --largest: more than 65,536 rows need another row limit
+LARGEST = (1_000, 65_536, 1_000_000)
 SUBSCRIPTIONS = (256, 1_024, 3_840)
 # rows of the largest write
 WRITE = 1_000

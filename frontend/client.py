@@ -1,8 +1,10 @@
 """A browser, as the gateway keeps it: what it subscribed to, the bytes that wait for it, and what it asks."""
 import asyncio
 import dataclasses
+import fcntl
 import logging
 import struct
+import termios
 from collections.abc import Callable
 
 from journal import Entry
@@ -39,12 +41,17 @@ class Client:
         self.subscribed = 0
         self.lines: list[bytes] = []  # what the next message will have
         self.asked_bytes, self.allowance = 0, BACKLOG
+        self.sent, self.heard, self.busy = 0, 0, True  # bytes, messages, and whether it waits for viewd to take one: its entry is the first
         self.flight = asyncio.Semaphore(IN_FLIGHT)
         self.task = asyncio.current_task()
 
     def behind(self) -> int:
         """The bytes that wait for this browser to read."""
         return self.transport.get_write_buffer_size()
+
+    def waits(self) -> int:
+        """The same, with those that this system has taken and the other end has not."""
+        return self.behind() + struct.unpack("i", fcntl.ioctl(self.transport.get_extra_info("socket"), termios.TIOCOUTQ, bytes(4)))[0]
 
     def send(self, message: bytes) -> bool:
         """Whether the browser could be kept. What it asked for itself may wait beside the backlog."""
@@ -57,6 +64,7 @@ class Client:
             return False
         self.allowance += self.asked_bytes
         self.asked_bytes = 0
+        self.sent += len(message)
         self.transport.write(message)
         return True
 

@@ -73,6 +73,7 @@ class Engine:
         self.more, self.room, self.gathered = asyncio.Event(), asyncio.Event(), 0
         self.open = asyncio.Event()  # clear while no client's request is taken: room is made for an entry, or gateways are compared
         self.open.set()
+        self.held: asyncio.TimerHandle | None = None  # what opens it, where gateways are compared
         self.taken, self.place, self.digest = 0, 0, ""  # accepted requests that viewd carried out, and those that others may know of
         self.known: dict[str, None] = {}  # names of the last of them, the oldest first
         self.deciding: set[str] = set()  # names of those that are not in the journal yet
@@ -237,7 +238,9 @@ class Engine:
         """Decides nothing for so long, where this gateway writes a stream: so that all who read it come to one place."""
         if self.journal.shared and not self.journal.follow:
             self.open.clear()
-            asyncio.get_running_loop().call_later(seconds, self.open.set)
+            if self.held:
+                self.held.cancel()
+            self.held = asyncio.get_running_loop().call_later(seconds, self.open.set)
 
     async def tables(self) -> dict | None:
         """A digest of tables, roles, grants and policies as they are at a place; the rows as viewd tells them to an
@@ -458,20 +461,24 @@ class Engine:
         self.changed(ask.request)
 
     def changed(self, request: dict) -> None:
-        """Takes in what was accepted, and tells a role of a relation that it may try again: viewd tells nobody."""
+        """Takes in what was accepted, and tells a role and its members of a relation that they may try again: viewd tells nobody."""
         if request["do"] == "write":
             return
         self.shape.apply(request)
         self.reshaped = True
         match request:
             case {"do": "grant", "on": on, "to": to} | {"do": "create_table" | "create_view", "name": on, "owner": to}:
-                for client in self.clients.values():
-                    if to in ("public", client.role) or self.shape.members:
-                        self.put(client, to_text({"granted": on}))
-            case {"do": "grant_role"}:
-                for client in self.clients.values():
-                    for on in self.shape.relations:
-                        self.put(client, to_text({"granted": on}))
+                self.tell_granted(to, [on])
+            case {"do": "grant_role", "role": role, "to": to}:
+                roles = self.shape.reached(role)
+                self.tell_granted(to, [on for on, held in self.shape.grants.items() if roles & held.keys()])
+
+    def tell_granted(self, to: str, names: list[str]) -> None:
+        roles = {role for role in {client.role for client in self.clients.values()} if to == "public" or to in self.shape.reached(role)}
+        for client in self.clients.values():
+            if client.role in roles:
+                for on in names:
+                    self.put(client, to_text({"granted": on}))
 
     def tell_shape(self, clients: list[Client]) -> None:
         self.reshaped = False

@@ -7,6 +7,7 @@ either process dies, nothing that was acknowledged is lost.
 """
 import argparse
 import asyncio
+import contextlib
 import hashlib
 import logging
 import os
@@ -22,7 +23,8 @@ from engine import Client, Engine
 from journal import LINE, Damaged, Journal, Log
 
 HELLO = 10.0  # seconds to send a token
-HOLD = 0.5  # seconds for which nothing is decided, while gateways are compared
+PING, PONG = 20.0, 10.0  # seconds between an answer and the next ping, and for an answer
+HOLD = 8.0  # seconds, at most, for which nothing is decided while gateways are compared
 
 log = logging.getLogger("gateway")
 
@@ -45,7 +47,7 @@ class Desk:
 
     async def live(self, request: web.Request) -> web.WebSocketResponse:
         # A little more than a line, so that one that is too long is refused and not cut off.
-        ws = web.WebSocketResponse(heartbeat=20, max_msg_size=2 * LINE, compress=False)
+        ws = web.WebSocketResponse(autoping=False, max_msg_size=2 * LINE, compress=False)
         await ws.prepare(request)
         try:
             role = self.role(await ws.receive_str(timeout=HELLO))
@@ -55,31 +57,59 @@ class Desk:
             await ws.close(code=4401, message=b"This token is not known.")
             return ws
         client = Client(role, request.transport)
+        watch = asyncio.create_task(self.watch(client, ws))
         try:
             if not await self.engine.enter(client):
                 await ws.close(code=1013, message=b"No session is free, or the role is not there.")
                 return ws
+            client.busy = False
             async for message in ws:
-                if message.type is not WSMsgType.TEXT:
+                client.heard += 1
+                if message.type is WSMsgType.TEXT:
+                    client.busy = True
+                    await self.engine.forward(client, message.data)
+                    client.busy = False
+                elif message.type is WSMsgType.PING:
+                    await ws.pong(message.data)
+                elif message.type is not WSMsgType.PONG:
                     break
-                await self.engine.forward(client, message.data)
         except ConnectionError:  # viewd went in the middle of a line
             pass
         finally:
+            watch.cancel()
             self.engine.leave(client)
         return ws
 
+    async def watch(self, client: Client, ws: web.WebSocketResponse) -> None:
+        """Drops a browser that is gone without a word: it answers no ping, and takes nothing of what waits for it. On a slow
+        line a ping stands behind a long answer, and what has been taken of that says as much."""
+        with contextlib.suppress(ConnectionError, OSError, ValueError):  # of a socket that is closed
+            while True:
+                await asyncio.sleep(PING)
+                heard, waits, sent = client.heard, client.waits(), client.sent
+                await ws.ping()
+                await asyncio.sleep(PONG)
+                taken = waits - client.waits() + client.sent - sent
+                if client.heard == heard and not (taken > 0 if waits else client.busy):
+                    log.warning("session %d of %s does not answer: dropped", client.session, client.role)
+                    self.engine.dropped += 1
+                    return client.drop()
+
     async def state(self, request: web.Request) -> web.Response:
         """How it goes, for administrators. Gateways of one journal agree where they tell the same digest of as many lines.
-        With `?tables` there is a digest of what viewd holds, too, and the place at which it was taken. With `?hold` one that
-        writes a stream pauses, so that all can be asked at one place."""
+        With `?tables` there is a digest of what viewd holds, too, and the place at which it was taken. With `?hold=0.5` one that
+        writes a stream pauses for so many seconds, so that all can be asked at one place."""
         if self.role(request.headers.get("Authorization", "").removeprefix("Bearer ")) != "admin":
             raise web.HTTPForbidden()
         engine = self.engine
         state = {"ready": engine.ready.is_set(), "viewd": engine.child and engine.child.pid, "sessions": len(engine.clients),
                  "dropped": engine.dropped}
         if "hold" in request.query:
-            engine.hold(HOLD)
+            try:
+                seconds = float(request.query["hold"])
+            except ValueError:
+                raise web.HTTPBadRequest() from None
+            engine.hold(seconds if 0 < seconds < HOLD else HOLD)
         if "tables" in request.query:
             await engine.ready.wait()
             state["tables"] = await engine.tables()

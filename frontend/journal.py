@@ -1,6 +1,6 @@
 """The journal: the accepted requests that changed what is shared, one a line, in viewd's order.
 
-A line is the request without its session and with the role that made it: `{"role":"mia","do":"write","entries":[..]}`.
+A line is the request without its session and with the role that made it: `{"as":"mia","do":"write","entries":[..]}`.
 A viewd that begins empty and is told these lines is in the state that they lead to, and refuses none of them.
 
 What the engine asks of a journal is `Log`. Here is the file, for one machine; stream.py has one for several.
@@ -21,7 +21,7 @@ from typing import NamedTuple
 
 LINE = 65_536  # bytes of a line without its newline: viewd ends behind a longer one
 # What is left of a line for a request, whoever tells it: by the longest number of a session, or the longest role.
-BODY = LINE - max(len('{"session":4294967295,}'), len('{"role":"",}') + 63)
+BODY = LINE - max(len('{"session":4294967295,}'), len('{"as":"",}') + 63)
 FOLLOW = 0.05  # seconds between two looks at a file that another gateway writes
 PIECE = 1000  # entries that are read at a time
 PRIVILEGES = ("select", "insert", "update", "delete")
@@ -47,7 +47,7 @@ def by_session(session: int, body: bytes) -> bytes:
 
 def by_role(role: str, body: bytes) -> bytes:
     """The same request as a line of the journal."""
-    return b'{"role":"%s",%s}\n' % (role.encode(), body)
+    return b'{"as":"%s",%s}\n' % (role.encode(), body)
 
 
 @dataclasses.dataclass
@@ -87,6 +87,14 @@ class Shape:
         self.grants[on][role] = [privilege for privilege in PRIVILEGES if privilege in held]
         if not held and role != self.relations[on]["owner"]:
             del self.grants[on][role]
+
+    def reached(self, role: str) -> set[str]:
+        """The role, and each one of which it is a member, through any number of steps."""
+        reached, news = {role}, {role}
+        while news:
+            news = {above for above, member in self.members if member in news} - reached
+            reached |= news
+        return reached
 
     def tables(self) -> list[str]:
         return [name for name, made in self.relations.items() if made["do"] == "create_table"]
@@ -166,7 +174,7 @@ def entry_of(line: bytes, where: str) -> tuple[str, dict]:
     """Role and request of a line. Raises Damaged."""
     try:
         request = json.loads(line)
-        role = request.pop("role")
+        role = request.pop("as" if "as" in request else "role")  # as it was written before requests had a `role` of their own
         if request["do"] not in SHARED or len(line) > LINE:
             raise ValueError
     except (ValueError, KeyError, TypeError, AttributeError):

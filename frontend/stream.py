@@ -112,13 +112,13 @@ class Stream(Log):
         self.where = f"{parts.scheme}://{parts.hostname}:{parts.port or 6379}/{self.name}"
         words = {} if parts.password else {"password": os.environ.get("REDISCLI_AUTH")}
         self.redis = redis.asyncio.Redis.from_url(urlunsplit(parts._replace(path="")), socket_timeout=PATIENCE,
-                                                  socket_connect_timeout=PATIENCE, **words)
+                                                  socket_connect_timeout=PATIENCE, redis_connect_func=self._connected, **words)
         self._take, self._keep, self._append, self._ask, self._answer, self._snapshot = map(
             self.redis.register_script, (TAKE, KEEP, APPEND, ASK, ANSWER, SNAPSHOT))
         self.me, self.may_write, self.milliseconds, self.seed = secrets.token_hex(6), may_write, round(lease * 1000), seed
         self.lease: bytes | None = None
         self.synced: bool | None = None
-        self.away, self.heard, self.tried = True, time.monotonic(), 0.0
+        self.away, self.looked, self.heard, self.tried = True, False, time.monotonic(), 0.0
         self.rewind()
 
     def key(self, more: str) -> str:
@@ -134,12 +134,18 @@ class Stream(Log):
 
     # Asking Redis.
 
+    async def _connected(self, connection: redis.asyncio.Connection) -> None:
+        """The library connects again by itself, and the Redis that is there then may be another."""
+        await connection.on_connect()
+        self.looked = False
+
     async def _insist(self, what: Callable[[], Awaitable]):
         """The answer to a question, however long Redis is away. Raises OSError where it refuses."""
         while True:
             try:
                 answer = await what()
-                if self.away:
+                if self.away or not self.looked:
+                    self.looked = True
                     await self._look()
                 self.away, self.heard = False, time.monotonic()
                 return answer

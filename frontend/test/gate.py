@@ -1,15 +1,20 @@
 """What the tests share: a gateway of their own on a free port, and clients without a browser."""
 import asyncio
+import collections
+import contextlib
 import hashlib
 import json
 import os
 import pathlib
+import random
+import re
 import signal
 import socket
 import subprocess
 import sys
 import tempfile
 import time
+import traceback
 import urllib.error
 import urllib.request
 from collections.abc import Callable
@@ -47,6 +52,33 @@ def tokens(roles: tuple[str, ...] = ROLES) -> str:
     return "[tokens]\n" + "".join(f'{hashlib.sha256(f"{role}-demo".encode()).hexdigest()} = "{role}"\n' for role in roles)
 
 
+def free_port() -> int:
+    """A port on which nobody listens. Not one of those that the system gives to clients: one of them could take it meanwhile."""
+    low = int(pathlib.Path("/proc/sys/net/ipv4/ip_local_port_range").read_text().split()[0])
+    while True:
+        with socket.socket() as probe, contextlib.suppress(OSError):
+            probe.bind(("127.0.0.1", random.randrange(10_000, low) if low > 12_000 else 0))
+            return probe.getsockname()[1]
+
+
+def explain(why: BaseException) -> str:
+    """What went wrong, in few lines: where in the tests, the values there, and what was said. The end of an output is what is kept."""
+    said = f"{type(why).__name__}: {why}"
+    while isinstance(why, (asyncio.TimeoutError, asyncio.CancelledError)) and (inner := why.__cause__ or why.__context__):
+        why, said = inner, "it waits there, and the test did not end in time"
+    lines = []
+    for frame, number in [it for it in traceback.walk_tb(why.__traceback__) if pathlib.Path(it[0].f_code.co_filename).is_relative_to(TOP)][-3:]:
+        [step] = traceback.StackSummary.extract([(frame, number)])
+        lines.append(f"  {pathlib.Path(step.filename).name}:{number} {step.name}: {step.line}")
+        values = {name: frame.f_locals[name] for name in re.findall(r"[A-Za-z_]\w*", step.line) if name in frame.f_locals}
+        lines += [f"    {name} = {shortened(repr(value), 400)}" for name, value in values.items() if not callable(value)]
+    return "\n".join([*lines, shortened(said, 1500)])
+
+
+def shortened(text: str, size: int) -> str:
+    return text if len(text) <= size else f"{text[:size // 2]} .. {text[-size // 2:]}"
+
+
 class Gate:
     """A gateway with a journal in a folder of its own. It begins as the support desk, or with `lines`."""
 
@@ -59,16 +91,16 @@ class Gate:
         self.tokens.write_text(tokens())
         if journal is None:
             self.journal.write_bytes((TOP / "desk.jsonl").read_bytes() if lines is None else lines)
-        with socket.socket() as probe:
-            probe.bind(("127.0.0.1", 0))
-            self.port = probe.getsockname()[1]
-        self.url = f"http://127.0.0.1:{self.port}/"
+        self.move(free_port())
         self.words = ["--viewd", VIEWD, "--journal", self.journal, "--tokens", self.tokens, "--port", str(self.port), *words]
         self.log = (here / "log").open("ab+")
         self.process: subprocess.Popen | None = None
         self.running.append(self)
         if start:
             self.start()
+
+    def move(self, port: int) -> None:
+        self.port, self.url = port, f"http://127.0.0.1:{port}/"
 
     def launch(self) -> None:
         self.process = subprocess.Popen(["/usr/bin/python3", TOP / "gateway.py", *self.words], stderr=self.log)
@@ -117,7 +149,7 @@ class Gate:
 
 
 class Peer:
-    """A client: `ask` gives the reply to a request, `rows` adds up what came for each subscription."""
+    """A client: `ask` gives the reply to a request once all that it brought is here, `rows` adds up what came for each subscription."""
 
     @classmethod
     async def enter(cls, http: aiohttp.ClientSession, url: str, token: str) -> "Peer":
@@ -125,30 +157,50 @@ class Peer:
         self.ws = await http.ws_connect(url + "live", max_msg_size=0)
         await self.ws.send_str(token)
         self.lines: list[dict] = []  # all that came
-        self.asked: list[asyncio.Future[dict]] = []
-        self.rows: dict[int, dict[tuple, int]] = {}
+        self.asked: collections.deque[asyncio.Future[dict]] = collections.deque()
+        self.replied: list[tuple[asyncio.Future[dict], dict]] = []  # their requests are not settled
+        self.rows: dict[int, dict[tuple, int]] = collections.defaultdict(dict)
         self.role: str | None = None
         self.task = asyncio.create_task(self.take())
-        await soon(lambda: self.role or self.task.done())
+        await soon(lambda: self.told("settled") or self.task.done())
         return self
 
+    def __repr__(self) -> str:
+        return f"{self.role}, gone: {self.task.done()}, {len(self.lines)} lines that end with {json.dumps(self.lines[-6:])}"
+
     async def take(self) -> None:
-        async for message in self.ws:
-            for line in map(json.loads, message.data.split("\n")):
-                self.lines.append(line)
-                if "changes" in line:
-                    rows = self.rows.setdefault(line["sub"], {})
-                    for copies, row in line["changes"]:
-                        rows[tuple(row)] = rows.get(tuple(row), 0) + copies
-                        if not rows[tuple(row)]:
-                            del rows[tuple(row)]
-                elif "ok" in line or "error" in line:
-                    self.asked.pop(0).set_result(line)
-                elif "role" in line:
-                    self.role = line["role"]
-        for lost in self.asked:
-            if not lost.done():
-                lost.set_result({"error": "lost"})
+        try:
+            async for message in self.ws:
+                if message.type is not aiohttp.WSMsgType.TEXT:
+                    break
+                for line in map(json.loads, message.data.split("\n")):
+                    self.line(line)
+        finally:
+            self.settle()
+            for lost in self.asked:
+                if not lost.done():
+                    lost.set_result({"error": "lost"})
+
+    def line(self, line: dict) -> None:
+        self.lines.append(line)
+        if "changes" in line:
+            rows = self.rows[line["sub"]]
+            for copies, row in line["changes"]:
+                rows[tuple(row)] = rows.get(tuple(row), 0) + copies
+                if not rows[tuple(row)]:
+                    del rows[tuple(row)]
+        elif "ok" in line or "error" in line:
+            self.replied.append((self.asked.popleft(), line))
+        elif "role" in line:
+            self.role = line["role"]
+        elif "settled" in line:
+            self.settle()
+
+    def settle(self) -> None:
+        for reply, line in self.replied:
+            if not reply.done():
+                reply.set_result(line)
+        self.replied.clear()
 
     def told(self, key: str) -> list:
         """The values of a key in all lines that came."""
@@ -168,6 +220,10 @@ class Peer:
     async def ask(self, **request) -> dict:
         return await self.raw(json.dumps(request, ensure_ascii=False))
 
+    async def quiet(self) -> None:
+        """Returns when all lines of requests that this gateway's viewd has answered are here, whoever asked: they come in its order."""
+        await self.ask(do="unsubscribe", sub=1 << 60)
+
     async def insert(self, number: int, agent: str, subject: str = "x") -> dict:
         return await self.ask(do="write", entries=[{"on": "tickets", "insert": [number, agent, subject, True]}])
 
@@ -177,8 +233,22 @@ class Peer:
         if "error" in reply:
             return reply
         await self.ask(do="unsubscribe", sub=reply["sub"])
-        return self.rows.get(reply["sub"], {})
+        return self.rows[reply["sub"]]
 
     async def leave(self) -> None:
         await self.ws.close()
         await self.task
+
+
+async def enter(http: aiohttp.ClientSession, gate: Gate, *roles: str) -> list[Peer]:
+    return [await Peer.enter(http, gate.url, f"{role}-demo") for role in roles]
+
+
+async def leave(*peers: Peer) -> None:
+    for peer in peers:
+        await peer.leave()
+
+
+async def quiet(*peers: Peer) -> None:
+    for peer in peers:
+        await peer.quiet()

@@ -253,7 +253,7 @@ def starts() -> None:
         long.write((TOP / "desk.jsonl").read_bytes())
         for number in range(FIRST, FIRST + JOURNAL):
             entries = change(number) if number >= FIRST + KEPT else change(number)[:1]
-            long.write(json.dumps({"role": "lena", "do": "write", "entries": entries}, separators=(",", ":")).encode() + b"\n")
+            long.write(json.dumps({"as": "lena", "do": "write", "entries": entries}, separators=(",", ":")).encode() + b"\n")
         long.seek(0)
         gate = Gate(long.read(), start=False)
     for turn in ("as it grew", "compacted"):
@@ -286,7 +286,7 @@ def memory() -> None:
     sessions = {"admin": 1}
     tell(do="begin", role="admin", session=1)
     for entry in map(json.loads, (TOP / "desk.jsonl").read_text().splitlines()):
-        if (role := entry.pop("role")) not in sessions:
+        if (role := entry.pop("as")) not in sessions:
             sessions[role] = 2
             tell(do="begin", role=role, session=2)
         tell(**entry, session=sessions[role])

@@ -4,19 +4,17 @@ import os
 import pathlib
 import subprocess
 
-import aiohttp
-
-from gate import TOP, Gate, Peer, eventually
+from gate import PATIENCE, TOP, Gate, eventually
 from store import Store
 
-LEASE = 2.0  # seconds, so that no test waits for long
+LEASE = 60.0  # seconds: no slow machine loses it; where a test needs that it passes, it is taken away
 
 
 class Party:
     """Gateways of one stream: the first of them writes, as the others start when it does."""
 
-    def __init__(self, store: Store, candidates: int = 1, readers: int = 1, seed: pathlib.Path = TOP / "desk.jsonl"):
-        words = ("--lease", str(LEASE))
+    def __init__(self, store: Store, candidates: int = 1, readers: int = 1, seed: pathlib.Path = TOP / "desk.jsonl", lease: float = LEASE):
+        self.store, words = store, ("--lease", str(lease))
         self.candidates = [Gate(journal=store.url, words=(*words, "--seed", seed), start=False) for _ in range(candidates)]
         self.readers = [Gate(journal=store.url, words=(*words, "--follow"), start=False) for _ in range(readers)]
         self.candidates[0].start()
@@ -31,6 +29,11 @@ class Party:
     def writer(self) -> Gate | None:
         return next((gate for gate in self.candidates if gate.process and gate.process.poll() is None and gate.state().get("writes")), None)
 
+    def kill_writer(self) -> None:
+        """It is gone, and its lease has passed."""
+        self.writer().kill_gateway()
+        self.store.client.delete("desk:lease")
+
     def agree(self) -> str:
         """Returns once all have taken in the same lines, and hold the same; what `agree` says."""
         eventually(lambda: all(gate.state()["ready"] for gate in self.all))
@@ -40,18 +43,11 @@ class Party:
         return done.stdout.strip()
 
 
-def agree(*gates: Gate) -> subprocess.CompletedProcess:
-    return subprocess.run([TOP / "agree", "--seconds", "2", *[gate.url for gate in gates]], env=os.environ | {"TOKEN": "admin-demo"}, capture_output=True, text=True)
+def agree(*gates: Gate, seconds: float = PATIENCE / 2) -> subprocess.CompletedProcess:
+    words = [TOP / "agree", "--seconds", str(seconds), *[gate.url for gate in gates]]
+    return subprocess.run(words, env=os.environ | {"TOKEN": "admin-demo"}, capture_output=True, text=True)
 
 
-async def enter(http: aiohttp.ClientSession, gate: Gate, *roles: str) -> list[Peer]:
-    return [await Peer.enter(http, gate.url, f"{role}-demo") for role in roles]
-
-
-async def leave(*peers: Peer) -> None:
-    for peer in peers:
-        await peer.leave()
-
-
-async def quiet(what, *words):
+async def there(what, *words):
+    """The first true answer, while other tasks go on."""
     return await asyncio.to_thread(eventually, lambda: what(*words))

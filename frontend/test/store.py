@@ -1,12 +1,13 @@
 """A Redis of a test's own, on loopback, with a folder of its own and a sync for each append."""
 import pathlib
 import signal
-import socket
 import subprocess
 import tempfile
 import time
 
 import redis
+
+from gate import PATIENCE, free_port
 
 WORD = "a-password"
 
@@ -16,9 +17,7 @@ class Store:
 
     def __init__(self, tls: bool = False, sync: str = "always"):
         self.folder = tempfile.TemporaryDirectory(prefix="store.")
-        with socket.socket() as probe:
-            probe.bind(("127.0.0.1", 0))
-            self.port = probe.getsockname()[1]
+        self.port = free_port()
         self.words = ["redis-server", "--bind", "127.0.0.1", "--dir", self.folder.name, "--save", "", "--requirepass", WORD,
                       "--appendonly", "yes", "--appendfsync", sync]
         self.words += ["--port", "0", "--tls-port", str(self.port), *self.certificate()] if tls else ["--port", str(self.port)]
@@ -38,7 +37,7 @@ class Store:
 
     def start(self) -> None:
         self.process = subprocess.Popen(self.words, stdout=subprocess.DEVNULL, stderr=subprocess.DEVNULL)
-        end = time.monotonic() + 20
+        end = time.monotonic() + PATIENCE
         while True:
             try:
                 self.client = redis.Redis.from_url(self.url.replace("/desk", ""))

@@ -9,13 +9,23 @@ import tempfile
 import time
 
 from selenium import webdriver
+from selenium.common.exceptions import WebDriverException
 from selenium.webdriver.common.by import By
 from selenium.webdriver.common.keys import Keys
-from selenium.webdriver.support.ui import Select
 
-from gate import Gate, eventually
+from gate import ROLES, Gate, eventually, explain, tokens
 
 GREATEST = (1 << 63) - 1
+
+
+def until(test):
+    """The first true answer. A page that is being made anew lacks what is looked for, for a moment."""
+    def answer():
+        try:
+            return test()
+        except (WebDriverException, LookupError):
+            return None
+    return eventually(answer)
 
 
 class Desk:
@@ -36,8 +46,9 @@ class Desk:
         return self.find_element(By.CSS_SELECTOR, selector)
 
     def click(self, selector: str) -> None:
-        """As a keyboard does: no scrolling, no other element in the way."""
-        self.css(selector).send_keys(Keys.SPACE)
+        """In one step, as the page may put another element in the place of one that was found."""
+        until(lambda: self.css(selector))
+        self.execute_script("const it = document.querySelector(arguments[0]); it.focus(); it.click()", selector)
 
     def tickets(self) -> dict[int, tuple]:
         """What stands in the table on the page: number to agent, subject and state."""
@@ -60,7 +71,10 @@ class Desk:
         return self.execute_script("return document.getElementById('toast').textContent")
 
     def choose(self, selector: str, word: str) -> None:
-        Select(self.css(selector)).select_by_visible_text(word)
+        """In one step too."""
+        until(lambda: self.execute_script("""const it = document.querySelector(arguments[0]);
+            it.value = arguments[1];
+            return it.value === arguments[1]""", selector, word))
 
     def type(self, selector: str, words: str) -> None:
         field = self.css(selector)
@@ -74,11 +88,15 @@ class Desk:
 
     def rights(self, what: str, on: str, to: str, *privileges: str) -> None:
         for name in ("select", "insert", "update", "delete"):
-            if self.css(f"#rights [name={name}]").is_selected() != (name in privileges):
-                self.click(f"#rights [name={name}]")
+            self.execute_script("document.querySelector(arguments[0]).checked = arguments[1]", f"#rights [name={name}]", name in privileges)
         self.choose("#rights [name=on]", on)
         self.choose("#rights [name=to]", to)
         self.click(f"#rights [value={what}]")
+
+    def member(self, to: str, role: str) -> None:
+        self.choose("#member [name=to]", to)
+        self.choose("#member [name=role]", role)
+        self.click("#member button")
 
     def policy(self, on: str, name: str, command: str, to: str, using: str) -> None:
         for field, word in (("on", on), ("command", command), ("to", to)):
@@ -104,65 +122,88 @@ class Test:
 
     def tokens(self) -> None:
         door = Desk(self.driver, self.gate.url, "guessed", (600, 500))
-        eventually(lambda: "not known" in door.css("#turned").text)
-        door.type("#door input", "mia-demo" + Keys.ENTER)
-        eventually(lambda: door.state() == "live" and door.css("#role").text == "mia")
+        until(lambda: "not known" in door.css("#turned").text)
+        self.gate.tokens.write_text(tokens((*ROLES, "eve")))
+        door.type("#door input", "eve-demo" + Keys.ENTER)
+        until(lambda: "the role is not there. Trying again." in door.state())
         door.css("#out").send_keys(Keys.ENTER)
-        eventually(lambda: door.css("#door").is_displayed())
+        until(lambda: door.css("#door").is_displayed())
+        door.type("#door input", "mia-demo" + Keys.ENTER)
+        until(lambda: door.state() == "live" and door.css("#role").text == "mia")
+        door.css("#out").send_keys(Keys.ENTER)
+        until(lambda: door.css("#door").is_displayed())
 
     def three_roles(self) -> None:
         self.admin = Desk(self.driver, self.gate.url, "admin-demo", (1280, 1420))
         self.mia, self.noah = Desk(self.driver, self.gate.url, "mia-demo"), Desk(self.driver, self.gate.url, "noah-demo")
-        eventually(lambda: len(self.admin.numbers()) == 12 and self.mia.numbers() == [101, 102, 109])
-        eventually(lambda: self.noah.numbers() == [103, 104, 107, 112] and self.noah.bars() == {"noah": 4})
-        eventually(lambda: self.admin.bars() == {"noah": 4, "mia": 2, "olga": 2, "jun": 1, "ravi": 1} and self.mia.bars() == {"mia": 2})
+        until(lambda: len(self.admin.numbers()) == 12 and self.mia.numbers() == [101, 102, 109])
+        until(lambda: self.noah.numbers() == [103, 104, 107, 112] and self.noah.bars() == {"noah": 4})
+        until(lambda: self.admin.bars() == {"noah": 4, "mia": 2, "olga": 2, "jun": 1, "ravi": 1} and self.mia.bars() == {"mia": 2})
         assert "token" not in self.mia.current_url and self.admin.css("#admin").is_displayed() and not self.mia.css("#admin").is_displayed()
 
     def writes(self) -> None:
         self.mia.add("mia", "Wrong currency")
-        eventually(lambda: len(self.mia.numbers()) == 4 and len(self.admin.numbers()) == 13)
+        until(lambda: len(self.mia.numbers()) == 4 and len(self.admin.numbers()) == 13)
         assert len(self.noah.numbers()) == 4
         self.admin.add("noah", "Monitor stays black")
-        eventually(lambda: len(self.noah.numbers()) == 5 and self.noah.bars() == {"noah": 5} and len(self.mia.numbers()) == 4)
+        until(lambda: len(self.noah.numbers()) == 5 and self.noah.bars() == {"noah": 5} and len(self.mia.numbers()) == 4)
         self.mia.add("noah", "for another")
-        eventually(lambda: "no permissive policy (14)" in self.mia.toast())
+        until(lambda: "no permissive policy (14)" in self.mia.toast())
 
     def keyboard(self) -> None:
         """A ticket is closed and opened by keys alone: the row is another one, and the keyboard stays on it."""
         button = self.mia.css("[aria-label='Close ticket 101']")
         button.send_keys(Keys.ENTER)
-        eventually(lambda: self.mia.tickets()[101][2] == self.admin.tickets()[101][2] == "closed" and self.admin.bars()["mia"] == 2)
+        until(lambda: self.mia.tickets()[101][2] == self.admin.tickets()[101][2] == "closed" and self.admin.bars()["mia"] == 2)
         focused = lambda: self.mia.execute_script("return document.activeElement.getAttribute('aria-label')")
-        eventually(lambda: focused() == "Reopen ticket 101")
+        until(lambda: focused() == "Reopen ticket 101")
         self.mia.switch_to.active_element.send_keys(Keys.SPACE)
-        eventually(lambda: self.mia.tickets()[101][2] == "open" and focused() == "Close ticket 101")
+        until(lambda: self.mia.tickets()[101][2] == "open" and focused() == "Close ticket 101")
 
     def policies(self) -> None:
         mine = self.mia.numbers()
         self.admin.policy("tickets", "cover", "select", "mia", "open = true")
         openly = [number for number, row in self.admin.tickets().items() if row[2] == "open"]
-        eventually(lambda: self.mia.numbers() == sorted({*mine, *openly}) and self.mia.bars() == self.admin.bars())
-        eventually(lambda: "cover" in self.admin.css("#policies").text)
+        until(lambda: self.mia.numbers() == sorted({*mine, *openly}) and self.mia.bars() == self.admin.bars())
+        until(lambda: "cover" in self.admin.css("#policies").text)
         assert len(self.noah.numbers()) == 5
         self.calm(self.mia, self.admin)
         self.mia.picture(self.pictures / "desk_agent.png")
         self.admin.picture(self.pictures / "desk_admin.png")
         self.admin.click("[name=drop_cover]")
-        eventually(lambda: self.mia.numbers() == mine and self.mia.bars() == {"mia": 3})
+        until(lambda: self.mia.numbers() == mine and self.mia.bars() == {"mia": 3})
         self.admin.policy("tickets", "bad", "select", "mia", "opened = true")
-        eventually(lambda: "bad query (10), why unknown column, place 0" in self.admin.toast())
+        until(lambda: "bad query (10), why unknown column, place 0" in self.admin.toast())
         self.admin.click("[name=tickets_enable]")
-        eventually(lambda: len(self.mia.numbers()) == len(self.noah.numbers()) == len(self.admin.numbers()) == 14)
+        until(lambda: len(self.mia.numbers()) == len(self.noah.numbers()) == len(self.admin.numbers()) == 14)
         self.admin.click("[name=tickets_enable]")
-        eventually(lambda: self.mia.numbers() == mine and len(self.noah.numbers()) == 5)
+        until(lambda: self.mia.numbers() == mine and len(self.noah.numbers()) == 5)
 
     def revokes(self) -> None:
         mine = self.mia.numbers()
         self.admin.rights("revoke", "tickets", "noah", "select")
-        eventually(lambda: self.noah.numbers() == [] and self.noah.bars() == {} and self.mia.numbers() == mine)
+        until(lambda: self.noah.numbers() == [] and self.noah.bars() == {} and self.mia.numbers() == mine)
         assert "was taken back" in self.noah.css("#none").text
         self.admin.rights("grant", "tickets", "noah", "select")
-        eventually(lambda: len(self.noah.numbers()) == 5 and self.noah.bars() == {"noah": 5} and not self.noah.css("#none").is_displayed())
+        until(lambda: len(self.noah.numbers()) == 5 and self.noah.bars() == {"noah": 5} and not self.noah.css("#none").is_displayed())
+
+    def members(self) -> None:
+        """A member has what its role has, in its window at once, and loses it when the membership ends."""
+        olga = Desk(self.driver, self.gate.url, "olga-demo")
+        until(lambda: "You may not read tickets" in olga.css("#none").text and olga.numbers() == [])
+        self.admin.member("olga", "noah")
+        until(lambda: olga.numbers() == [105, 111] and olga.bars() == {"olga": 2} and not olga.css("#none").is_displayed())
+        until(lambda: "olga is a member of noah" in self.admin.css("#members").text)
+        self.admin.member("noah", "olga")
+        until(lambda: "membership loop (23)" in self.admin.toast())
+        self.admin.member("noah", "lena")  # who owns the table, so that its policies do not bind them
+        until(lambda: olga.numbers() == self.noah.numbers() == self.admin.numbers() and len(olga.numbers()) == 14)
+        self.admin.click("[name=end_noah_of_lena]")
+        until(lambda: olga.numbers() == [105, 111] and len(self.noah.numbers()) == 5)
+        self.admin.click("[name=end_olga_of_noah]")
+        until(lambda: olga.numbers() == [] and olga.bars() == {} and "was taken back" in olga.css("#none").text)
+        until(lambda: self.admin.css("#members").text == "" and len(self.noah.numbers()) == 5)
+        olga.close()
 
     def forged(self) -> None:
         for session in range(1, 8):
@@ -174,31 +215,32 @@ class Test:
         subject = "<b>bold</b> & \"quotes\" \\ 12345678901234567890"
         before = set(self.mia.numbers())
         self.mia.add("mia", subject)
-        eventually(lambda: len(self.mia.numbers()) == len(before) + 1)
+        until(lambda: len(self.mia.numbers()) == len(before) + 1)
         [added] = set(self.mia.numbers()) - before
-        assert self.mia.tickets()[added] == self.admin.tickets()[added] == ("mia", subject, "open")
+        until(lambda: self.mia.tickets()[added] == self.admin.tickets()[added] == ("mia", subject, "open"))
         self.admin.execute_script("""window.viewd.db.request({do: 'write', entries: [9223372036854775807n, -9223372036854775808n].map(
             (id) => ({on: 'tickets', insert: [id, 'mia', 'a long number', true], copies: 9007199254740993n}))})""")
-        eventually(lambda: {GREATEST, -GREATEST - 1} <= set(self.mia.numbers()))
+        until(lambda: {GREATEST, -GREATEST - 1} <= set(self.mia.numbers()))
         assert self.mia.tickets()[GREATEST][1] == "a long number (×9007199254740993)"
         self.admin.say({"do": "write", "entries": [{"on": "tickets", "insert": [77, "mia", "\u00001", True]}]})  # no text of viewd's, and no number
         self.mia.css(f"[aria-label='Close ticket {GREATEST}']").send_keys(Keys.ENTER)
-        eventually(lambda: self.admin.tickets().get(GREATEST, "")[2] == "closed")
+        until(lambda: self.admin.tickets()[GREATEST][2] == "closed")
         assert 77 not in self.admin.tickets()
 
     def kills(self) -> None:
         before = {desk: desk.tickets() for desk in (self.admin, self.mia, self.noah)}
         self.gate.kill_viewd()
-        eventually(lambda: all(desk.state() == "live" and desk.tickets() == rows for desk, rows in before.items()))
+        until(lambda: all(desk.state() == "live" and desk.tickets() == rows for desk, rows in before.items()))
         self.gate.kill_gateway()
-        eventually(lambda: all("not connected" in desk.state() or desk.state() == "connecting" for desk in before))
-        eventually(lambda: "not connected" in self.mia.state())
-        assert "stale" in self.mia.css("main").get_attribute("class") and self.mia.tickets() == before[self.mia]
+        until(lambda: all("not connected" in desk.state() or desk.state() == "connecting" for desk in before))
+        until(lambda: "not connected" in self.mia.state())
+        until(lambda: "stale" in self.mia.css("main").get_attribute("class"))
+        assert self.mia.tickets() == before[self.mia]
         assert "not sent" in self.mia.say({"do": "subscribe", "on": "tickets"})["lost"]
         self.gate.start()
-        eventually(lambda: all(desk.state() == "live" and desk.tickets() == rows for desk, rows in before.items()))
+        until(lambda: all(desk.state() == "live" and desk.tickets() == rows for desk, rows in before.items()))
         self.admin.add("mia", "After the crash")
-        eventually(lambda: "After the crash" in [row[1] for row in self.mia.tickets().values()])
+        until(lambda: "After the crash" in [row[1] for row in self.mia.tickets().values()])
 
     def dark_and_narrow(self) -> None:
         """On a phone at night: no text on its own color, nothing wider than the window."""
@@ -224,7 +266,7 @@ class Test:
     def calm(self, *desks: Desk) -> None:
         """Waits for the ends of the animations, and takes the last words away, for a picture."""
         for desk in desks:
-            eventually(lambda: desk.execute_script("return document.getAnimations().every((it) => it.playState === 'finished')"))
+            until(lambda: desk.execute_script("return document.getAnimations().every((it) => it.playState === 'finished')"))
             desk.execute_script("document.getElementById('toast').className = ''; document.activeElement.blur()")
 
 
@@ -247,14 +289,14 @@ def main(pictures: pathlib.Path) -> None:
         driver.set_script_timeout(60)
         test = Test(driver, gate, pictures)
         for step in (test.tokens, test.three_roles, test.writes, test.keyboard, test.policies, test.dark_and_narrow, test.revokes,
-                     test.forged, test.odd_rows, test.kills, test.no_errors):
+                     test.members, test.forged, test.odd_rows, test.kills, test.no_errors):
             began = time.monotonic()
             step()
             print(f"ok  in Chromium: {step.__name__}  {time.monotonic() - began:.1f} s", flush=True)
-    except BaseException:
-        print(f"FAILED  {step.__name__}", gate.said()[-2000:], sep="\n")
-        print(driver.get_log("browser"))
-        raise
+    except Exception as why:
+        print(f"--- {gate.url}\n{gate.said()[-1500:]}\n{driver.get_log('browser')}")
+        print(f"FAILED  in Chromium: {step.__name__}  {time.monotonic() - began:.1f} s\n{explain(why)}", flush=True)
+        sys.exit(1)
     finally:
         driver.quit()
         gate.end()

@@ -5,6 +5,7 @@
 """
 import asyncio
 import base64
+import contextlib
 import json
 import os
 import random
@@ -20,7 +21,7 @@ import urllib.error
 import aiohttp
 import yarl
 
-from gate import PATIENCE, ROLES, TOP, VIEWD, Gate, Peer, eventually, soon, tokens
+from gate import PATIENCE, ROLES, TOP, VIEWD, Gate, Peer, enter, eventually, explain, free_port, leave, quiet, soon, tokens
 
 import engine
 import gateway
@@ -34,24 +35,51 @@ def test(check):
     return check
 
 
-async def enter(http: aiohttp.ClientSession, gate: Gate, *roles: str) -> list[Peer]:
-    return [await Peer.enter(http, gate.url, f"{role}-demo") for role in roles]
-
-
-async def leave(*peers: Peer) -> None:
+async def forget(*peers: Peer) -> None:
+    """Takes away the lines of all requests that were answered anywhere, when all of them are there."""
+    await quiet(*peers)
     for peer in peers:
-        await peer.leave()
+        peer.lines.clear()
 
 
-async def quiet(peer: Peer) -> None:
-    """Returns when all lines of earlier requests are there: replies come in order."""
-    await peer.ask(do="unsubscribe", sub=1 << 60)
+@contextlib.asynccontextmanager
+async def inside(gate: Gate):
+    """The gateway in this process, for a test that looks into it."""
+    runs = engine.Engine(VIEWD, journal.Journal(gate.journal))
+    await gateway.Desk(runs, gate.tokens, TOP / "web").listen(gate.port)
+    work = asyncio.create_task(runs.run())
+    try:
+        yield runs
+    finally:
+        work.cancel()
+        await asyncio.wait([work])
+        gate.end()
 
 
-async def settled(peer: Peer) -> None:
-    """Forgets the lines that came, once the mark behind the last reply is there."""
-    await soon(lambda: not peer.lines or "settled" in peer.lines[-1])
-    peer.lines.clear()
+class Raw:
+    """A client that reads when it is told to, and answers no ping."""
+
+    def __init__(self, gate: Gate, token: str):
+        self.socket = socket.socket()
+        self.socket.setsockopt(socket.SOL_SOCKET, socket.SO_RCVBUF, 4096)
+        self.socket.connect(("127.0.0.1", gate.port))
+        key = base64.b64encode(os.urandom(16)).decode()
+        self.socket.sendall(f"GET /live HTTP/1.1\r\nHost: x\r\nUpgrade: websocket\r\nConnection: Upgrade\r\n"
+                            f"Sec-WebSocket-Version: 13\r\nSec-WebSocket-Key: {key}\r\n\r\n".encode())
+        answer = b""
+        while b"\r\n\r\n" not in answer:
+            answer += self.socket.recv(4096)
+        self.message(token)
+
+    def message(self, text: str, kind: int = 0x81) -> None:
+        data, mask = text.encode(), os.urandom(4)
+        self.socket.sendall(bytes([kind, 0x80 | len(data)]) + mask + bytes(b ^ mask[i % 4] for i, b in enumerate(data)))
+
+
+async def digest_of(http: aiohttp.ClientSession, gate: Gate) -> str:
+    """Of tables, roles, memberships, grants and policies, as viewd holds them."""
+    async with http.get(gate.url + "state?tables", headers={"Authorization": "Bearer admin-demo"}) as answer:
+        return (await answer.json())["tables"]["digest"]
 
 
 @test
@@ -109,12 +137,12 @@ async def nobody_acts_for_another(gate: Gate, http: aiohttp.ClientSession):
                         ('{"do":"finish"}\n{"do":"finish"}', 1), ('{"do":"subscribe",\n"on":"nothing"}', 7)):
         assert await mia.raw(text) == {"error": error}, text[:40]
     assert (await mia.insert(7, "mia"))["ok"]
-    await asyncio.gather(*map(quiet, (admin, noah)))
+    await quiet(admin, noah)
     row = (7, "mia", "x", True)
     assert row in admin.rows[1] and row in mia.rows[1] and len(noah.rows[1]) == 4
     for text in ('"session":3}', '","session":3,"sub":1}', '\\","session":3,"sub":3}', '"session":3}\n{"ok":true,"session":3}', "\u2028\u0001{\"changes\":3"):
         assert await mia.insert(8, "mia", text) == {"ok": True}
-        await asyncio.gather(*map(quiet, (admin, noah)))
+        await quiet(admin, noah)
         row = (8, "mia", text, True)
         assert row in admin.rows[1] and row in mia.rows[1] and len(noah.rows[1]) == 4, row
     await leave(admin, mia, noah)
@@ -142,7 +170,7 @@ async def no_line_is_too_long(gate: Gate, http: aiohttp.ClientSession):
         got = await peer.ask(do="write", entries=entries)
         assert got == {"ok": True}, got
         line = gate.journal.read_bytes().splitlines()[-1]
-        assert line.startswith(b'{"role":"rrr') and len(line) == 65_536, len(line)
+        assert line.startswith(b'{"as":"rrr') and len(line) == 65_536, len(line)
         entries[-1]["insert"][0] += "a"
         assert await peer.ask(do="write", entries=entries, id=5) == {"error": 22, "id": 5}
     assert gate.state()["viewd"] == viewd
@@ -162,20 +190,17 @@ async def lines_have_marks(gate: Gate, http: aiohttp.ClientSession):
     for name in (None, 1.5, [1], {"a": 1}, True):
         assert await mia.ask(do="subscribe", on="tickets", id=name) == {"error": 2}
     assert (await mia.raw('{"do":"subscribe","on":"tickets","id":"\\ud800"}')) == {"error": 1}
-    await settled(mia)
+    await forget(admin, lena, mia)
     assert await mia.ask(do="subscribe", on="workload", id=1) == {"id": 1, "ok": True, "sub": 1}
     assert await mia.ask(do="subscribe", on="tickets", id=2) == {"id": 2, "ok": True, "sub": 2}
-    await soon(lambda: len(mia.told("settled")) == 2)
     keys = [" ".join(sorted(line)) for line in mia.lines]
     assert keys == ["id ok sub", "changes sub", "settled"] * 2, keys
-    await settled(mia)
-    await settled(lena)
+    await forget(mia)
     await lena.insert(50, "mia")
+    assert lena.lines == [{"ok": True}, {"settled": True}]
     await soon(lambda: mia.told("settled"))
     assert [line.get("sub") for line in mia.lines] == [1, 2, None] and mia.lines[-1] == {"settled": True}, mia.lines
-    await soon(lambda: lena.told("settled"))
-    assert lena.lines == [{"ok": True}, {"settled": True}]
-    await settled(mia)
+    await forget(mia)
     await lena.ask(do="revoke", on="tickets", privileges=["select"], to="mia")
     await soon(lambda: mia.told("settled"))
     assert [(line.get("ended"), line.get("on"), line.get("sub")) for line in mia.lines] == [
@@ -183,17 +208,17 @@ async def lines_have_marks(gate: Gate, http: aiohttp.ClientSession):
     assert mia.rows == {1: {}, 2: {}}
     assert await mia.ask(do="unsubscribe", sub=2) == {"error": 19}
     assert await mia.ask(do="subscribe", on="tickets") == {"error": 13, "on": "tickets", "privilege": "select"}
-    await settled(mia)
+    await forget(mia)
     await lena.ask(do="grant", on="tickets", privileges=["select"], to="mia")
     await soon(lambda: mia.told("settled"))
-    assert mia.lines == [{"granted": "tickets"}, {"settled": True}] and not admin.told("granted"), mia.lines
+    assert mia.lines == [{"granted": "tickets"}, {"settled": True}], mia.lines
     assert await mia.ask(do="subscribe", on="tickets") == {"ok": True, "sub": 3}
     assert await mia.ask(do="unsubscribe", sub=3) == {"ok": True}
     assert await mia.ask(do="unsubscribe", sub=3) == {"error": 19}
     await admin.ask(do="create_table", name="notes", owner="mia", columns=[["a", "int"]])
     await lena.ask(do="grant", on="teams", privileges=["select"], to="public")
-    await soon(lambda: "teams" in admin.told("granted"))
-    assert mia.told("granted") == ["tickets", "notes", "teams"]
+    await quiet(admin, mia)
+    assert mia.told("granted") == ["tickets", "notes", "teams"] and admin.told("granted") == ["teams"]
     await leave(admin, lena, mia)
 
 
@@ -216,14 +241,16 @@ async def administrators_see_the_shape(gate: Gate, http: aiohttp.ClientSession):
                     {"do": "drop_policy", "on": "tickets", "name": "own"}):
         assert await lena.ask(**request) == {"ok": True}
         told += 1
-        await soon(lambda: len(other.told("shape")) == told)
+        await quiet(other)
+        assert len(other.told("shape")) == told
     assert (await lena.ask(do="drop_policy", on="tickets", name="own"))["error"] == 18
     assert (await lena.insert(1, "mia"))["ok"]  # by the grant to all: a write is not of the shape
-    await asyncio.gather(*map(quiet, (admin, other)))
+    await quiet(admin, other)
     assert len(other.told("shape")) == told
     shape = other.told("shape")[-1]
     assert shape["grants"]["tickets"] == {"lena": [], "mia": ["select", "update"], "public": ["insert", "update"]}, shape["grants"]
     assert shape["row_security"]["tickets"] == {"enable": False, "force": True} and [p["name"] for p in shape["policies"]] == ["second"]
+    await quiet(mia, lena)
     assert not mia.told("shape") and not lena.told("shape")
     gate.kill_viewd()
     admin, = await enter(http, gate, "admin")
@@ -234,7 +261,9 @@ async def administrators_see_the_shape(gate: Gate, http: aiohttp.ClientSession):
 @test
 async def places_are_given_back(gate: Gate, http: aiohttp.ClientSession):
     """256 at once, the next is turned away, and a place that is left is taken again, with nothing of who had it."""
-    peers = await asyncio.gather(*[Peer.enter(http, gate.url, "mia-demo") for _ in range(256)])
+    peers = []
+    for _ in range(8):  # not all at once: who is slow to send a token is turned away
+        peers += await asyncio.gather(*[Peer.enter(http, gate.url, "mia-demo") for _ in range(32)])
     assert all(peer.role == "mia" for peer in peers)
     late, = await enter(http, gate, "mia")
     assert (late.role, late.ws.close_code) == (None, 1013)
@@ -266,27 +295,20 @@ async def on_disk_before_it_is_told(gate: None, http: aiohttp.ClientSession):
         return send(client, message)
     os.fdatasync, engine.Client.send = slow_sync, noted_send
     try:
-        runs = engine.Engine(VIEWD, journal.Journal(gate.journal))
-        desk = asyncio.create_task(gateway.Desk(runs, gate.tokens, TOP / "web").listen(gate.port))
-        work = asyncio.create_task(runs.run())
-        await desk
-        lena, mia = await enter(http, gate, "lena", "mia")
-        await mia.ask(do="subscribe", on="tickets")
-        await soon(lambda: mia.told("changes"))
-        for number in range(5):
-            order.clear()
-            assert (await lena.insert(number, "mia"))["ok"]
-            await soon(lambda: order.count("changes") == 1)
-            assert order[:2] == ["sync", "synced"] and sorted(order[2:]) == ["changes", "ok"], order
-            order.clear()
-            assert "error" in await mia.insert(number, "noah")
-            assert not order, order  # what was refused is not waited for
-        await leave(lena, mia)
-        work.cancel()
-        await asyncio.wait([work])
+        async with inside(gate):
+            lena, mia = await enter(http, gate, "lena", "mia")
+            await mia.ask(do="subscribe", on="tickets")
+            for number in range(5):
+                order.clear()
+                assert (await lena.insert(number, "mia"))["ok"]
+                await soon(lambda: order.count("changes") == 1)
+                assert order[:2] == ["sync", "synced"] and sorted(order[2:]) == ["changes", "ok"], order
+                order.clear()
+                assert "error" in await mia.insert(number, "noah")
+                assert not order, order  # what was refused is not waited for
+            await leave(lena, mia)
     finally:
         os.fdatasync, engine.Client.send = sync, send
-        gate.end()
 
 
 @test
@@ -323,7 +345,7 @@ async def nothing_is_lost(gate: Gate, http: aiohttp.ClientSession):
                     torn.write(b'{"role":"lena","do":"wri')
             await asyncio.to_thread(gate.start)
     stop = True
-    await asyncio.wait(writers, timeout=PATIENCE)
+    await asyncio.wait_for(asyncio.gather(*writers), PATIENCE)
     admin, = await enter(http, gate, "admin")
     there: dict[int, list] = {}
     for row, copies in (await admin.see("tickets")).items():
@@ -438,6 +460,92 @@ async def compaction_keeps_the_state(gate: Gate, http: aiohttp.ClientSession):
 
 
 @test
+async def memberships_are_kept(gate: Gate, http: aiohttp.ClientSession):
+    """What a role holds, its members see, and are told that they may; over restarts and a compaction, until it is ended."""
+    tickets = {"olga": {105, 111}, "noah": {103, 104, 107, 112}}
+
+    async def seen() -> tuple:
+        peers = await enter(http, gate, *ROLES)
+        rows = {peer.role: {on: await peer.see(on) for on in ("tickets", "workload", "notes")} for peer in peers}
+        shape = peers[0].told("shape")[0]
+        await leave(*peers)
+        return rows, shape
+
+    async def same(before: tuple) -> None:
+        now = await seen()
+        assert now == before, (now, before)
+    admin, lena, mia, noah, olga = await enter(http, gate, "admin", "lena", "mia", "noah", "olga")
+    for name in ("staff", "night", "team"):
+        assert await admin.ask(do="create_role", name=name) == {"ok": True}
+    assert await admin.ask(do="create_table", name="notes", owner="staff", columns=[["n", "int"]]) == {"ok": True}
+    assert await lena.ask(do="grant", on="tickets", privileges=["select"], to="team") == {"ok": True}
+    assert await olga.see("tickets") == {"error": 13, "on": "tickets", "privilege": "select"}
+    await forget(mia, noah, olga)
+    # by one step, and by three; each is told of what it reaches now, and nobody else
+    assert await admin.ask(do="grant_role", role="team", to="olga") == {"ok": True}
+    await quiet(mia, noah, olga)
+    assert (olga.told("granted"), noah.told("granted"), mia.told("granted")) == (["tickets"], [], [])
+    assert {row[0] for row in await olga.see("tickets")} == tickets["olga"]  # its own by the policy, which asks for its name
+    for role, to in (("staff", "night"), ("night", "team")):
+        assert await admin.ask(do="grant_role", role=role, to=to) == {"ok": True}
+    await quiet(mia, noah, olga)
+    assert (olga.told("granted"), noah.told("granted"), mia.told("granted")) == (["tickets", "notes"], [], [])
+    assert await lena.ask(do="grant", on="workload", privileges=["select"], to="staff") == {"ok": True}
+    await quiet(mia, noah, olga)
+    assert (olga.told("granted"), noah.told("granted"), mia.told("granted")) == (["tickets", "notes", "workload"], [], [])
+    assert await olga.ask(do="write", entries=[{"on": "notes", "insert": [1]}]) == {"ok": True}
+    # a policy for a role above shows more at once, and a membership that is ended takes it back
+    reply = await olga.ask(do="subscribe", on="tickets")
+    assert await lena.ask(do="create_policy", on="tickets", name="whole", command="select", to=["night"], using="true") == {"ok": True}
+    await quiet(olga)
+    assert len(olga.rows[reply["sub"]]) == 12
+    for role, to, error in (("olga", "staff", 23), ("team", "team", 23), ("team", "nobody", 5)):
+        assert (await admin.ask(do="grant_role", role=role, to=to))["error"] == error
+    assert await lena.ask(do="grant_role", role="staff", to="lena") == await lena.ask(do="revoke_role", role="team", to="olga") == {"error": 11}
+    assert await admin.ask(do="grant_role", role="admin", to="lena") == {"error": 2}
+    for do, role, to in (("grant_role", "team", "noah"), ("grant_role", "night", "noah"), ("revoke_role", "night", "noah"), ("grant_role", "team", "olga"),
+                         ("grant_role", "olga", "mia"), ("revoke_role", "olga", "noah"), ("grant_role", "staff", "admin")):
+        assert await admin.ask(do=do, role=role, to=to) == {"ok": True}
+    assert await admin.ask(do="revoke_role", role="night", to="team") == {"ok": True}
+    await quiet(olga)
+    assert {row[0] for row in olga.rows[reply["sub"]]} == tickets["olga"] and not olga.told("ended")
+    assert admin.told("shape")[-1]["members"] == [["team", "olga"], ["staff", "night"], ["team", "noah"], ["olga", "mia"], ["staff", "admin"]]
+    assert await admin.ask(do="grant_role", role="night", to="team") == {"ok": True}
+    await leave(admin, lena, mia, noah, olga)
+    before = await seen()
+    assert {role: len(before[0][role]["tickets"]) for role in ROLES} == dict.fromkeys(ROLES, 12) and before[0]["mia"]["notes"] == {(1,): 1}
+    digest = await digest_of(http, gate)
+    await asyncio.to_thread(gate.kill_viewd)
+    await same(before)
+    gate.kill_gateway()
+    await asyncio.to_thread(gate.start)
+    await same(before)
+    gate.kill_gateway()
+    done = await asyncio.to_thread(subprocess.run, ["/usr/bin/python3", TOP / "compact.py", gate.journal, VIEWD], capture_output=True, text=True)
+    assert done.returncode == 0, done.stderr
+    kept = [json.loads(line) for line in gate.journal.read_bytes().splitlines()]
+    assert [it["do"] for it in kept[:13]] == ["create_role"] * 7 + ["grant_role"] * 6, kept
+    await asyncio.to_thread(gate.start)
+    await same(before)
+    assert await digest_of(http, gate) == digest
+    # the last way that leads to the rows is ended
+    admin, mia, olga = await enter(http, gate, "admin", "mia", "olga")
+    subs = [(await olga.ask(do="subscribe", on=on))["sub"] for on in ("tickets", "workload", "notes")]
+    assert len(olga.rows[subs[0]]) == 12 and (await mia.ask(do="subscribe", on="notes"))["ok"]
+    assert await admin.ask(do="revoke_role", role="team", to="olga") == {"ok": True}
+    await quiet(mia, olga)
+    assert olga.told("ended") == ["privilege"] * 3 and mia.told("ended") == ["privilege"], (olga, mia)
+    assert not any(olga.rows.values()) and (await olga.see("notes"))["error"] == (await olga.see("tickets"))["error"] == 13
+    assert len(await mia.see("tickets")) == 3  # what it holds itself
+    await leave(admin, mia, olga)
+    before = await seen()
+    gate.kill_gateway()
+    await asyncio.to_thread(gate.start)
+    await same(before)
+    assert await digest_of(http, gate) != digest
+
+
+@test
 async def a_second_viewd_follows(gate: Gate, http: aiohttp.ClientSession):
     """A gateway that follows the journal of another serves readers, and tells the same digest of as many lines."""
     second = Gate(journal=gate.journal, words=("--follow",))
@@ -459,7 +567,7 @@ async def a_second_viewd_follows(gate: Gate, http: aiohttp.ClientSession):
         assert await here.see("workload") == await there.see("workload")
         await leave(lena, here, there)
         gate.kill_gateway()
-        assert subprocess.run(["/usr/bin/python3", TOP / "compact.py", gate.journal, VIEWD], capture_output=True).returncode == 0
+        assert (await asyncio.to_thread(subprocess.run, ["/usr/bin/python3", TOP / "compact.py", gate.journal, VIEWD], capture_output=True)).returncode == 0
         await mia.task  # the journal was replaced: the follower begins anew
         await asyncio.to_thread(gate.start)
         await asyncio.to_thread(eventually, lambda: second.state()["digest"] == gate.state()["digest"])
@@ -491,21 +599,9 @@ async def a_follower_has_readers_of_its_own(gate: Gate, http: aiohttp.ClientSess
 @test
 async def who_does_not_read_is_dropped(gate: Gate, http: aiohttp.ClientSession):
     """A browser that does not read is dropped at a stated number of bytes; the others get their lines meanwhile."""
-    slow = socket.socket()
-    slow.setsockopt(socket.SOL_SOCKET, socket.SO_RCVBUF, 4096)
-    slow.connect(("127.0.0.1", gate.port))
-    key = base64.b64encode(os.urandom(16)).decode()
-    slow.sendall(f"GET /live HTTP/1.1\r\nHost: x\r\nUpgrade: websocket\r\nConnection: Upgrade\r\nSec-WebSocket-Version: 13\r\nSec-WebSocket-Key: {key}\r\n\r\n".encode())
-    answer = b""
-    while b"\r\n\r\n" not in answer:
-        answer += await asyncio.to_thread(slow.recv, 4096)
-
-    def message(text: str) -> None:
-        data, mask = text.encode(), os.urandom(4)
-        slow.sendall(bytes([0x81, 0x80 | len(data)]) + mask + bytes(b ^ mask[i % 4] for i, b in enumerate(data)))
-    message("admin-demo")
+    slow = await asyncio.to_thread(Raw, gate, "admin-demo")
     for _ in range(16):  # so each line comes to it 16 times
-        message('{"do":"subscribe","on":"tickets"}')
+        slow.message('{"do":"subscribe","on":"tickets"}')
     admin, lena = await enter(http, gate, "admin", "lena")
     await admin.ask(do="subscribe", on="tickets")
     await asyncio.to_thread(eventually, lambda: gate.state()["sessions"] == 3)
@@ -515,12 +611,15 @@ async def who_does_not_read_is_dropped(gate: Gate, http: aiohttp.ClientSession):
         assert written < 64 << 20, "never dropped"
         for peer, turn in ((lena, "insert"), (admin, "delete")):
             assert (await peer.ask(do="write", entries=[{"on": "tickets", turn: row} for row in rows]))["ok"]
-            await soon(lambda: (tuple(rows[0]) in admin.rows[1]) == (turn == "insert"))
+            await quiet(admin)
+            assert (tuple(rows[0]) in admin.rows[1]) == (turn == "insert")
+            with contextlib.suppress(OSError):
+                slow.message("", 0x8A)  # a pong: it lives, whether or not it reads
             written += 16 * 60 * 1000
     waited = int(re.search(r"does not read: dropped at (\d+) bytes", gate.said())[1])
     assert engine.BACKLOG < waited < engine.BACKLOG + 3_000_000 and written > waited, gate.said()
     print(f"    dropped after {written / 1e6:.1f} MB, {time.monotonic() - began:.1f} s; the other reader had every line")
-    slow.close()
+    slow.socket.close()
     await leave(admin, lena)
 
 
@@ -535,6 +634,12 @@ async def a_long_answer_drops_nobody(gate: Gate, http: aiohttp.ClientSession):
     await reader.send_str("noah-demo")
     for _ in range(4):
         await reader.send_str('{"do":"subscribe","on":"tickets"}')
+
+    async def live() -> None:  # it says so now and then, however long this takes
+        while True:
+            await reader.pong()
+            await asyncio.sleep(1)
+    lives = asyncio.create_task(live())
     # aiohttp's client reads ahead a little and then waits for us: of the answers of 27 MB more than 4 MiB wait in the gateway
     await asyncio.to_thread(eventually, lambda: gate.state()["sessions"] == 2)
     for number in range(20):
@@ -544,8 +649,43 @@ async def a_long_answer_drops_nobody(gate: Gate, http: aiohttp.ClientSession):
     while seen < 4 * (len(rows) + 20 + 4):
         for line in map(json.loads, (await reader.receive_str(timeout=PATIENCE)).split("\n")):
             seen += len(line.get("changes", ()))
+    lives.cancel()
     await reader.close()
     await lena.leave()
+
+
+@test
+async def a_slow_line_is_no_silence(gate: None, http: aiohttp.ClientSession):
+    """Who takes a long answer slowly stays, though pings stand behind it; who takes nothing and answers nothing does not."""
+    gate, times = Gate(start=False), (gateway.PING, gateway.PONG)
+    gateway.PING, gateway.PONG = 0.2, 1.5
+    try:
+        async with inside(gate) as runs:
+            lena, mia = await enter(http, gate, "lena", "mia")
+            for at in range(0, 2400, 60):
+                await lena.ask(do="write", entries=[{"on": "tickets", "insert": [at + number, "noah", "s" * 1000, True]} for number in range(60)])
+            assert runs.dropped == 0
+            silent = await asyncio.to_thread(Raw, gate, "noah-demo")
+            await soon(lambda: runs.dropped == 1)  # nothing waits for it, and it does not answer
+            slow = await asyncio.to_thread(Raw, gate, "noah-demo")
+            for _ in range(4):
+                slow.message('{"do":"subscribe","on":"tickets"}')
+            noah = await soon(lambda: next((client for client in runs.clients.values() if client.role == "noah" and not client.gone), None))
+            while noah.waits() < 8 << 20:  # until then it says something
+                slow.message("", 0x8A)
+                await asyncio.sleep(0.1)
+            began, took = time.monotonic(), 0
+            while time.monotonic() < began + 3 * gateway.PONG:
+                took += len(await asyncio.to_thread(slow.socket.recv, 4096))
+                await asyncio.sleep(0.02)
+            assert runs.dropped == 1 and noah.waits() > 4 << 20, (took, noah.waits())
+            await soon(lambda: runs.dropped == 2)
+            assert not lena.task.done() and not mia.task.done()  # who are sent nothing, and answer
+            for raw in (silent, slow):
+                raw.socket.close()
+            await leave(lena, mia)
+    finally:
+        gateway.PING, gateway.PONG = times
 
 
 @test
@@ -553,11 +693,13 @@ async def one_command_opens_the_desk(gate: None, http: aiohttp.ClientSession):
     gate = Gate(start=False)
     folder = gate.journal.parent / "kept"
     for turn in range(2):
+        gate.move(free_port())  # it stays where it was, by other links
         desk = subprocess.Popen(["/usr/bin/python3", TOP / "desk", "--folder", folder, "--port", str(gate.port)], env=os.environ | {"VIEWD": str(VIEWD)},
                                 stdout=subprocess.PIPE, stderr=gate.log, text=True)
         links = dict(line.split() for line in [desk.stdout.readline() for _ in range(2 + len(ROLES))][2:])
         assert tuple(links) == ROLES, links
-        token = links["mia"].partition("#token=")[2]
+        address, _, token = links["mia"].partition("#token=")
+        assert address == gate.url
         assert len(token) > 40 and token not in (folder / "tokens.toml").read_text()
         gate.process = desk
         await asyncio.to_thread(eventually, lambda: gate.state(links["admin"].partition("#token=")[2])["ready"])
@@ -574,9 +716,9 @@ async def run(check) -> None:
     try:
         gate = Gate() if check.__annotations__["gate"] else None
         async with aiohttp.ClientSession(connector=aiohttp.TCPConnector(limit=0)) as http:
-            await asyncio.wait_for(check(gate, http), 3 * PATIENCE)
+            await asyncio.wait_for(check(gate, http), 5 * PATIENCE)
     except BaseException:
-        print(f"FAILED  {check.__name__}", gate.said()[-4000:] if gate else "", sep="\n")
+        print(*[f"--- {it.url}\n{it.said()[-1500:]}" for it in Gate.running], sep="\n")
         raise
     finally:
         for gate in list(Gate.running):
@@ -586,7 +728,11 @@ async def run(check) -> None:
 def main(names: list[str]) -> None:
     for check in [it for it in TESTS if not names or it.__name__ in names]:
         began = time.monotonic()
-        asyncio.run(run(check))
+        try:
+            asyncio.run(run(check))
+        except Exception as why:
+            print(f"FAILED  {check.__name__}  {time.monotonic() - began:.1f} s\n{explain(why)}", flush=True)
+            sys.exit(1)
         print(f"ok  {check.__name__}  {time.monotonic() - began:.1f} s", flush=True)
 
 

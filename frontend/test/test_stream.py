@@ -14,6 +14,7 @@ import os
 import pathlib
 import signal
 import subprocess
+import sys
 import tempfile
 import time
 
@@ -21,10 +22,12 @@ import aiohttp
 
 os.environ["VIEWD_KEPT"] = "1000"  # entries behind a snapshot
 
-from gate import PATIENCE, TOP, VIEWD, Gate, eventually, soon
-from party import LEASE, Party, agree, enter, leave, quiet
+from gate import PATIENCE, TOP, VIEWD, Gate, enter, eventually, explain, leave, quiet, soon
+from party import LEASE, Party, agree, there
 from store import WORD, Store
 from watchers import FIRST, Book, Reaper, Watcher, bags, never_back, told
+
+import watchers
 
 import journal
 import stream
@@ -66,12 +69,13 @@ async def who_lost_the_lease_appends_nothing(store: Store, http: aiohttp.ClientS
     async with lease(one):
         await one.commit([line(1), line(2)], ["a:1", "a:2"])
         assert await two.wait() != [] and not two.lease and await two.read() == [] == await two.wait() and not two.lease  # while another has it
-        await asyncio.sleep(LEASE)
+        assert 0 < store.client.pttl("desk:lease") <= 1000 * LEASE  # it passes by itself
+        store.client.pexpire("desk:lease", 1)
         async with lease(two):
             await two.commit([line(3)], ["b:1"])
             for what in (one.commit([line(4)], ["a:3"]), one.answer([(reader.me, {}, b"{}")]), one.keep()):
                 try:
-                    await asyncio.wait_for(what, 2)
+                    await asyncio.wait_for(what, PATIENCE)
                     raise AssertionError("not refused")
                 except journal.Anew:
                     pass
@@ -84,7 +88,7 @@ async def who_lost_the_lease_appends_nothing(store: Store, http: aiohttp.ClientS
 @test
 async def an_append_is_made_once(store: Store, http: aiohttp.ClientSession):
     """An append whose answer was lost is sent again, and makes nothing more; one behind other entries is refused."""
-    one = opened(store.url, True, 5)
+    one = opened(store.url, True, LEASE)
     async with lease(one):
         for lines in ([line(1)], [line(2), line(3)]):
             base, digest = one.lines, one.digest
@@ -105,7 +109,7 @@ async def an_append_is_made_once(store: Store, http: aiohttp.ClientSession):
 @test
 async def a_stream_is_read_in_its_order(store: Store, http: aiohttp.ClientSession):
     """What is missing, stands twice, is out of order or is another line is seen by each reader, and stops it."""
-    one = opened(store.url, True, 5)
+    one = opened(store.url, True, LEASE)
     async with lease(one):
         await one.commit([line(number) for number in range(1, 6)], ["a"] * 5)
     good = [(f"{number}-0", fields) for number, fields in enumerate(store.lines(), 1)]
@@ -133,15 +137,18 @@ async def a_stream_is_read_in_its_order(store: Store, http: aiohttp.ClientSessio
     store.client.delete("desk")
     for identifier, fields in good:
         store.client.xadd("desk", fields, identifier)
-    assert len(await reader.read()) == 5
+    early = opened(store.url)
+    assert len(await reader.read()) == 5 == len(await early.read())
     store.client.xdel("desk", "5-0")
     store.client.client_kill_filter(_type="normal", skipme=True)
-    try:
-        for _ in range(3):
-            await reader.wait()
-        raise AssertionError("the end is gone, and nobody says so")
-    except journal.Damaged as why:
-        assert "ends at 4" in str(why)
+    for who, pause in ((early, 0), (reader, 0.2)):  # one finds that its connection is gone, for the other the library has made another
+        await asyncio.sleep(pause)
+        try:
+            for _ in range(3):
+                await who.wait()
+            raise AssertionError("the end is gone, and nobody says so")
+        except journal.Damaged as why:
+            assert "ends at 4" in str(why)
 
 
 @test
@@ -155,7 +162,6 @@ async def a_reader_answers_when_it_has_taken_in(store: Store, http: aiohttp.Clie
         await peer.ask(do="subscribe", on="tickets")
     for number in range(1000, 1030):
         assert await mia.ask(do="write", entries=[{"on": "tickets", "insert": [number, "mia", "ä\"x", True]}], id=number) == {"ok": True, "id": number}
-        await soon(lambda: "settled" in mia.lines[-1])
         assert (number, "mia", "ä\"x", True) in mia.rows[1]
     refused = await mia.ask(do="write", entries=[{"on": "tickets", "insert": [1, "noah", "x", True]}], id="no")
     assert refused == {"check": "insert", "entry": 1, "error": 14, "on": "tickets", "id": "no"}, refused
@@ -210,7 +216,7 @@ async def a_request_stands_once(store: Store, http: aiohttp.ClientSession):
         async for message in asks.answers():
             heard.append(message[0])
     task = asyncio.create_task(ears())
-    await quiet(lambda: store.client.pubsub_numsub(f"desk:to:{asks.me}")[0][1])
+    await there(lambda: store.client.pubsub_numsub(f"desk:to:{asks.me}")[0][1])
     before = len(store.lines())
 
     async def ask(count: int, name: str, turn: str, number: int) -> None:
@@ -223,7 +229,7 @@ async def a_request_stands_once(store: Store, http: aiohttp.ClientSession):
     await ask(6, "other", "insert", 8001)
     await ask(4, "late", "delete", 8001)  # it would pass now, but was sent before the one that was refused
     await ask(7, "last", "insert", 8002)
-    await quiet(lambda: store.lines()[-1][b"name"] == b"last")
+    await there(lambda: store.lines()[-1][b"name"] == b"last")
     assert [entry[b"name"] for entry in store.lines()[before:]] == [b"three", b"other", b"last"]
     assert [(it["name"], it["count"]) for it in heard] == [("late", 5)], heard
     # a refusal that comes when its request was sent once more
@@ -237,9 +243,9 @@ async def a_request_stands_once(store: Store, http: aiohttp.ClientSession):
     task.cancel()
     await asyncio.wait([task])
     await asyncio.to_thread(party.agree)
-    writer.kill_gateway()  # another writer knows the names from the stream
+    await asyncio.to_thread(party.kill_writer)  # another writer knows the names from the stream
     await asyncio.to_thread(writer.start)
-    await quiet(party.writer)
+    await there(party.writer)
     mia, = await enter(http, reader, "mia")
     before = len(store.lines())
     assert await mia.ask(**write) == {"ok": True} and len(store.lines()) == before
@@ -250,7 +256,7 @@ async def a_request_stands_once(store: Store, http: aiohttp.ClientSession):
 async def a_writer_that_was_stopped_tells_nobody(store: Store, http: aiohttp.ClientSession):
     """It is continued after its lease has passed to another: what it has decided is not in the stream, and it begins anew."""
     party = await asyncio.to_thread(Party, store, 2, 1)
-    first = await quiet(party.writer)
+    first = await there(party.writer)
     second, = [gate for gate in party.candidates if gate is not first]
     lena, = await enter(http, first, "lena")
     mia, = await enter(http, party.readers[0], "mia")
@@ -259,12 +265,14 @@ async def a_writer_that_was_stopped_tells_nobody(store: Store, http: aiohttp.Cli
     os.kill(first.process.pid, signal.SIGSTOP)
     lost = asyncio.create_task(lena.insert(9001, "mia"))  # it stands in the writer's socket
     mine = asyncio.create_task(mia.insert(9002, "mia"))  # and this in what the writer hears
-    await quiet(lambda: second.state()["writes"])
+    await asyncio.sleep(0.3)
+    store.client.delete("desk:lease")  # it has passed
+    await there(lambda: second.state()["writes"])
     assert await mine == {"ok": True}  # by the other
     before = [fields[b"name"] for fields in store.lines()]
     os.kill(first.process.pid, signal.SIGCONT)
     assert await lost == {"error": "lost"}
-    await quiet(lambda: first.state()["ready"] and not first.state()["writes"])
+    await there(lambda: first.state()["ready"] and not first.state()["writes"])
     assert [fields[b"name"] for fields in store.lines()] == before and "gives way to another: the lease has passed" in first.said()
     numbers = [row[0] for row in mia.rows[1]]
     assert 9000 in numbers and 9002 in numbers and 9001 not in numbers
@@ -277,19 +285,19 @@ async def a_writer_that_was_stopped_tells_nobody(store: Store, http: aiohttp.Cli
     assert store.client.get("desk:lease").startswith(name)
     second.process.terminate()  # who ends in peace gives the lease back
     assert second.process.wait(PATIENCE) == 143 and not (store.client.get("desk:lease") or b"").startswith(name), second.said()
-    await quiet(lambda: first.state()["writes"])
+    await there(lambda: first.state().get("writes"))
     # one that stands by, and has not read all when the lease comes to it
     await asyncio.to_thread(second.start)
     [lena] = await enter(http, first, "lena")
     assert await lena.insert(9004, "mia") == {"ok": True}
-    await quiet(lambda: second.state()["journal"] == len(store.lines()))
+    await there(lambda: second.state()["journal"] == len(store.lines()))
     os.kill(second.process.pid, signal.SIGSTOP)
     for number in range(9005, 9010):
         assert await lena.insert(number, "mia") == {"ok": True}
     first.kill_gateway()
-    await quiet(lambda: not store.client.get("desk:lease"))
+    store.client.delete("desk:lease")
     os.kill(second.process.pid, signal.SIGCONT)
-    assert await mia.insert(9010, "mia") == {"ok": True} and second.state()["writes"]
+    assert await mia.insert(9010, "mia") == {"ok": True} and (await asyncio.to_thread(second.state))["writes"]
     await asyncio.to_thread(first.start)
     await asyncio.to_thread(party.agree)
     await mia.leave()
@@ -319,13 +327,14 @@ async def the_largest_view_ends_first(store: Store, http: aiohttp.ClientSession)
     assert await admin.ask(do="write", entries=[{"on": "ones", "insert": [1, x]} for x in range(200, 256)]) == {"ok": True}  # 257 * 257 pairs
     await soon(lambda: first.told("ended") and second.told("ended") and lena.told("ended"))
     assert await first.ask(do="write", entries=[{"on": "ones", "insert": [1, 501]}], id=10) == {"ok": True, "id": 10}
-    await soon(lambda: first.rows[3] == {(1, 258): 1} == second.rows[1])
+    await soon(lambda: second.rows[1] == {(1, 258): 1} and lena.rows[1] == {} and len(lena.rows[2]) == 258)
+    await quiet(first, second, lena)
+    assert first.rows[3] == {(1, 258): 1} == second.rows[1]
     # `few` has no more than its rows, but its join has as many pairs: it ends too, behind the larger ones
     assert [(it["on"], it["sub"], it["ended"]) for it in first.lines if "ended" in it] == [("pairs", 1, "limit"), ("few", 2, "limit")], first.told("on")
     assert [(it["on"], it["sub"]) for it in second.lines if "ended" in it] == [("pairs", 2), ("pairs", 3)]
     assert first.rows[1] == first.rows[2] == second.rows[2] == second.rows[3] == {} and len(first.rows[4]) == 258
-    await soon(lambda: lena.rows[1] == {} and len(lena.rows[2]) == 258)
-    assert "settled" in first.lines[-1] and reader.state()["viewd"] == viewd
+    assert lena.rows[1] == {} and len(lena.rows[2]) == 258 and "settled" in first.lines[-1] and reader.state()["viewd"] == viewd
     assert await first.ask(do="subscribe", on="pairs") == {"error": 17} and await first.ask(do="unsubscribe", sub=1) == {"error": 19}
     # the writer's own reader of such a view has it refused, as ever
     await admin.ask(do="write", entries=[{"on": "ones", "delete": [1, x]} for x in range(100)])
@@ -361,10 +370,11 @@ async def a_snapshot_is_where_readers_begin(store: Store, http: aiohttp.ClientSe
     assert len(kept) == stream.KEPT and kept[-1][b"name"] == b"mia/early"
     assert "or later" in await asyncio.to_thread(snapshot) and len(store.client.keys("desk:snapshot:*")) == 1
     assert (await mia.insert(7001, "mia"))["ok"]
+    await asyncio.to_thread(party.kill_writer)
+    reader.kill_gateway()
     for gate in (writer, reader):
-        gate.kill_gateway()
         await asyncio.to_thread(gate.start)
-    await quiet(party.writer)
+    await there(party.writer)
     print("   ", await asyncio.to_thread(party.agree))
     mia, = await enter(http, reader, "mia")
     assert await mia.ask(**write) == {"ok": True} and len(store.lines()) == len(kept) + 1
@@ -379,14 +389,48 @@ async def a_snapshot_is_where_readers_begin(store: Store, http: aiohttp.ClientSe
     assert all([(await it).get("ok") for it in asked])
     await asyncio.to_thread(snapshot)
     os.kill(slow.process.pid, signal.SIGCONT)
-    await quiet(lambda: "are in a snapshot" in slow.said())
+    await there(lambda: "are in a snapshot" in slow.said())
     print("   ", await asyncio.to_thread(party.agree))
     await leave(mia, boss)
 
 
 @test
+async def memberships_go_to_all(store: Store, http: aiohttp.ClientSession):
+    """Given at one gateway, told and shown at all; kept by a snapshot; ended at all."""
+    party = await asyncio.to_thread(Party, store)
+    (writer,), (reader,) = party.candidates, party.readers
+    [admin, here], [lena, there] = await enter(http, reader, "admin", "olga"), await enter(http, writer, "lena", "olga")
+    assert await here.see("tickets") == await there.see("tickets") == {"error": 13, "on": "tickets", "privilege": "select"}
+    for role in ("team", "staff"):
+        assert await admin.ask(do="create_role", name=role) == {"ok": True}
+    assert await lena.ask(do="grant", on="tickets", privileges=["select"], to="staff") == {"ok": True}
+    for role, to in (("staff", "team"), ("team", "olga"), ("team", "noah"), ("staff", "noah")):
+        assert await admin.ask(do="grant_role", role=role, to=to) == {"ok": True}
+    assert await admin.ask(do="grant_role", role="olga", to="staff") == {"error": 23} == await admin.ask(do="grant_role", role="team", to="team")
+    assert await admin.ask(do="revoke_role", role="staff", to="noah") == {"ok": True}
+    for olga in (here, there):
+        await soon(lambda: olga.told("granted"))
+        assert olga.told("granted") == ["tickets"] and {row[0] for row in await olga.see("tickets")} == {105, 111}
+    print("   ", await asyncio.to_thread(party.agree))
+    done = await asyncio.to_thread(subprocess.run, ["/usr/bin/python3", TOP / "compact.py", store.url, VIEWD], capture_output=True, text=True)
+    assert done.returncode == 0, done
+    reader.kill_gateway()  # it begins with the snapshot, and the writer has not
+    await asyncio.to_thread(reader.start)
+    print("   ", await asyncio.to_thread(party.agree))
+    [admin, here] = await enter(http, reader, "admin", "olga")
+    for olga in (here, there):
+        olga.lines.clear()
+        assert (await olga.ask(do="subscribe", on="tickets"))["ok"]
+    assert await admin.ask(do="revoke_role", role="staff", to="team") == {"ok": True}
+    for olga in (here, there):
+        await soon(lambda: olga.told("ended") == ["privilege"])
+    await asyncio.to_thread(party.agree)
+    await leave(admin, here, lena, there)
+
+
+@test
 async def agree_sees_a_difference(store: Store, http: aiohttp.ClientSession):
-    """Two streams of as many entries: other rows, other grants. And what a viewd was told beside its stream."""
+    """Two streams of as many entries: other rows, other grants, other memberships. And while many write."""
     def gate(name: str, more: bytes) -> Gate:
         with tempfile.NamedTemporaryFile() as seed:
             seed.write((TOP / "desk.jsonl").read_bytes() + more)
@@ -396,12 +440,14 @@ async def agree_sees_a_difference(store: Store, http: aiohttp.ClientSession):
             eventually(lambda: gate.state().get("writes"))
             return gate
     grants = [b'{"role":"lena","do":"grant","on":"teams","privileges":["insert"],"to":"%s"}\n' % role for role in (b"mia", b"noah")]
+    members = [b'{"as":"admin","do":"grant_role","role":"mia","to":"%s"}\n' % role for role in (b"noah", b"olga")]
     gates = [await asyncio.to_thread(gate, name, more) for name, more in (
-        ("one", line(1)), ("two", line(1)), ("three", line(2)), ("four", b""), ("five", grants[0]), ("six", grants[1]))]
-    same, rows, short = [await asyncio.to_thread(agree, gates[0], other) for other in gates[1:4]]
-    rights = await asyncio.to_thread(agree, *gates[4:])
+        ("one", line(1)), ("two", line(1)), ("three", line(2)), ("four", b""), ("five", grants[0]), ("six", grants[1]), ("seven", members[0]), ("eight", members[1]))]
+    same, rows = [await asyncio.to_thread(agree, gates[0], other) for other in gates[1:3]]
+    short = await asyncio.to_thread(agree, gates[0], gates[3], seconds=1)
+    rights, roles = [await asyncio.to_thread(agree, *gates[at:at + 2]) for at in (4, 6)]
     assert same.returncode == 0 and "2 gateways agree" in same.stdout, same
-    assert rows.returncode == rights.returncode == 1 and "DIFFERENT" in rows.stdout, (rows, rights)
+    assert rows.returncode == rights.returncode == roles.returncode == 1 and "DIFFERENT" in rows.stdout, (rows, rights, roles)
     assert short.returncode == 3 and "no common place" in short.stdout, short
     gates[1].kill_gateway()
     assert (await asyncio.to_thread(agree, *gates)).returncode == 2
@@ -479,30 +525,30 @@ async def nothing_is_lost_or_twice(store: Store, http: aiohttp.ClientSession, se
                         {"do": "grant", "on": "by_agent", "privileges": ["select"], "to": "public"}, {"do": "grant", "on": "tickets", "privileges": ["select"], "to": "olga"}):
             seed.write(journal.by_role("admin", journal.to_text(request)[1:-1]))
         seed.flush()
-        party = await asyncio.to_thread(Party, store, 2, 3, pathlib.Path(seed.name))
+        party = await asyncio.to_thread(Party, store, 2, 3, pathlib.Path(seed.name), watchers.LEASE)
     book, reaper = Book(), Reaper(store, party)
-    watchers = [Watcher(http, (party.readers * 4 + party.candidates)[number % 14], ("lena", "mia", "lena", "noah", "olga")[number % 5], book) for number in range(clients)]
-    await soon(lambda: all(it.ready for it in watchers) or any(it.task.done() for it in watchers))
-    able = [it for it in watchers if it.role in ("lena", "mia")]
+    crowd = [Watcher(http, (party.readers * 4 + party.candidates)[number % 14], ("lena", "mia", "lena", "noah", "olga")[number % 5], book) for number in range(clients)]
+    await soon(lambda: all(it.ready for it in crowd) or any(it.task.done() for it in crowd))
+    able = [it for it in crowd if it.role in ("lena", "mia")]
     tasks = [asyncio.create_task(it.write(0.5)) for it in able[:writers]]
     began = time.monotonic()
     await reaper.all(seconds)
     took, book.stop = time.monotonic() - began, True
-    await asyncio.wait_for(asyncio.gather(*tasks), PATIENCE)
+    await asyncio.wait_for(asyncio.gather(*tasks), 2 * PATIENCE)
     said = await asyncio.to_thread(party.agree)
     places, counted = told(store, book)
     expected = bags(store)
-    for it in watchers:
+    for it in crowd:
         assert not it.task.done(), it.task.exception()
         await soon(lambda: it.ready and (it.tickets, it.counts) == expected[it.role])
     never_back(book, places)
     assert {row[0] for row in expected["lena"][0] if row[0] >= FIRST} == places["insert"].keys() - places["delete"].keys()
     for gate in party.all:
         assert gate.process.poll() is None and "Traceback" not in gate.said() and "amaged" not in gate.said(), gate.said()
-    for it in watchers:
+    for it in crowd:
         it.task.cancel()
     ends = ", ".join(f"{name} {count}" for name, count in sorted(reaper.count.items()))
-    print(f"    {counted}\n    {clients} clients at 5 gateways, {took:.0f} s, ended: {ends}; {len(book.came) + sum(1 for it in watchers if it.role != 'lena')} entries,"
+    print(f"    {counted}\n    {clients} clients at 5 gateways, {took:.0f} s, ended: {ends}; {len(book.came) + sum(1 for it in crowd if it.role != 'lena')} entries,"
           f" {book.settled} settled states looked at, {book.again} writes asked again\n    {said}")
 
 
@@ -511,11 +557,11 @@ async def run(check, seconds: float) -> None:
     store = await asyncio.to_thread(Store)
     try:
         async with aiohttp.ClientSession(connector=aiohttp.TCPConnector(limit=0)) as http:
-            await asyncio.wait_for(check(store, http, **words), 4 * PATIENCE + 2 * seconds)
+            await asyncio.wait_for(check(store, http, **words), 6 * PATIENCE + 2 * seconds)
             while OPENED:
                 await OPENED.pop().close()
     except BaseException:
-        print(f"FAILED  {check.__name__}", *[f"--- {gate.url}\n{gate.said()[-3000:]}" for gate in Gate.running], sep="\n")
+        print(*[f"--- {it.url}\n{it.said()[-1500:]}" for it in Gate.running], sep="\n")
         raise
     finally:
         for gate in list(Gate.running):
@@ -526,7 +572,11 @@ async def run(check, seconds: float) -> None:
 def main(given: argparse.Namespace) -> None:
     for check in [it for it in TESTS if not given.tests or it.__name__ in given.tests]:
         began = time.monotonic()
-        asyncio.run(run(check, given.seconds))
+        try:
+            asyncio.run(run(check, given.seconds))
+        except Exception as why:
+            print(f"FAILED  {check.__name__}  {time.monotonic() - began:.1f} s\n{explain(why)}", flush=True)
+            sys.exit(1)
         print(f"ok  {check.__name__}  {time.monotonic() - began:.1f} s", flush=True)
 
 

@@ -12,13 +12,14 @@ import time
 import aiohttp
 
 from gate import ROLES, VIEWD, Gate, soon
-from party import LEASE, Party, quiet
+from party import Party, there
 from store import Store
 
 import compact
 import journal
 
 FIRST = 10_000  # the number of the first pair of tickets
+LEASE = 2.0  # seconds, which pass while parts are ended
 
 
 class Watcher:
@@ -35,6 +36,7 @@ class Watcher:
         self.ws, self.tickets, self.counts = None, {}, {}
         self.agents, self.odd, self.subs = collections.Counter(), set(), 0
         self.asked: collections.deque[asyncio.Future] = collections.deque()
+        self.replied: list[tuple[asyncio.Future, dict]] = []  # whose request is not settled
 
     async def live(self) -> None:
         while True:
@@ -44,6 +46,7 @@ class Watcher:
                     async for message in ws:
                         for one in map(json.loads, message.data.split("\n")):
                             self.take(one, ws)
+            self.answer()
             lost, _ = self.asked, self.clear()
             for reply in lost:
                 if not reply.done():
@@ -68,6 +71,7 @@ class Watcher:
                     if self.ready and row[0] >= FIRST:
                         self.before = (row[0], self.before[1]) if copies > 0 else (self.before[0], row[0])
         elif "settled" in one:
+            self.answer()
             if self.subs < 2:
                 return
             assert self.counts == {(agent, n): 1 for agent, n in self.agents.items() if n}, (self.role, self.counts, self.agents)
@@ -79,9 +83,13 @@ class Watcher:
             self.book.settled += 1
         elif "granted" not in one and "shape" not in one:
             self.subs += "sub" in one
-            reply = self.asked.popleft()
+            self.replied.append((self.asked.popleft(), one))
+
+    def answer(self) -> None:
+        for reply, one in self.replied:
             if not reply.done():
                 reply.set_result(one)
+        self.replied.clear()
 
     @property
     def ready(self) -> bool:
@@ -165,7 +173,7 @@ class Reaper:
 
     async def writer(self) -> None:
         """Sometimes it is back before its lease has passed."""
-        await self.gateway(await quiet(self.party.writer), random.choice((0.1, LEASE + 0.5)))
+        await self.gateway(await there(self.party.writer), random.choice((0.1, LEASE + 0.5)))
 
     async def viewd(self) -> None:
         gate = random.choice(self.party.all)
@@ -179,7 +187,7 @@ class Reaper:
 
     async def stopped(self) -> None:
         """The writer is cut off, and goes on when another writes."""
-        gate = await quiet(self.party.writer)
+        gate = await there(self.party.writer)
         os.kill(gate.process.pid, signal.SIGSTOP)
         await asyncio.sleep(LEASE + 1)
         os.kill(gate.process.pid, signal.SIGCONT)

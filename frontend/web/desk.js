@@ -176,14 +176,23 @@ function policyRow({on, name, using, check, restrictive, command = "all", to = [
     make("td", {}, drop));
 }
 
-function showRights({roles, relations, grants, row_security, policies}) {
+function memberRow([role, to]) {
+  const end = make("button", {textContent: "End", name: `end_${to}_of_${role}`, onclick: () => ask({do: "revoke_role", role, to})});
+  end.setAttribute("aria-label", `End that ${to} is a member of ${role}`);
+  return make("tr", {}, make("td", {className: "words"}, make("b", {textContent: to}), ` is a member of ${role}`), make("td", {}, end));
+}
+
+function showRights({roles, members, relations, grants, row_security, policies}) {
   const names = Object.keys(relations), tables = names.filter((name) => relations[name].columns);
   const people = roles.filter((role) => role !== "admin");
   options($("rights").elements.on, names, "tickets");
   options($("rights").elements.to, [...people, "public"], "noah");
+  options($("member").elements.to, roles, "olga");
+  options($("member").elements.role, people, "mia");
   options($("policy").elements.on, tables, "tickets");
   options($("policy").elements.to, ["public", ...people], "mia");
   fill("grants", names.map((on) => grantRow(on, relations[on].owner, grants[on])));
+  fill("members", members.map(memberRow));
   fill("security", tables.map((on) => securityRow(on, row_security[on] ?? {enable: false, force: false})));
   fill("policies", policies.map(policyRow));
 }
@@ -193,6 +202,12 @@ $("rights").onsubmit = (event) => {
   const form = event.target.elements, what = event.submitter?.value === "revoke" ? "revoke" : "grant";
   const privileges = PRIVILEGES.filter((name) => form[name].checked);
   ask({do: what, on: form.on.value, privileges, to: form.to.value}, `${what}: ${privileges.join(", ")} on ${form.on.value}, ${form.to.value}.`);
+};
+
+$("member").onsubmit = (event) => {
+  event.preventDefault();
+  const {role, to} = event.target.elements;
+  ask({do: "grant_role", role: role.value, to: to.value}, `${to.value} is a member of ${role.value}.`);
 };
 
 $("policy").onsubmit = (event) => {
@@ -224,7 +239,7 @@ function showLines(lines) {
 const STATES = {live: "live", connecting: "connecting", waiting: "not connected, trying again"};
 function showState(state, token, more) {
   $("state").className = `state ${state}`;
-  $("state").textContent = STATES[state] ?? state;
+  $("state").textContent = state === "waiting" && more ? `${more} Trying again.` : STATES[state] ?? state;
   document.querySelector("main").classList.toggle("stale", state !== "live");
   if (state === "live") {
     sessionStorage.token = token;

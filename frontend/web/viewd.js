@@ -13,7 +13,8 @@
 const NAMES = {1: "bad json", 2: "bad request", 3: "no session", 4: "session in use", 5: "unknown role", 6: "name taken",
   7: "unknown relation", 8: "not a table", 9: "bad row", 10: "bad query", 11: "not administrator", 12: "not owner",
   13: "missing privilege", 14: "no permissive policy", 15: "restrictive policy failed", 16: "no such row", 17: "limit",
-  18: "unknown policy", 19: "unknown subscription", 20: "too many", 22: "line too long", 100: "read only"};
+  18: "unknown policy", 19: "unknown subscription", 20: "too many", 22: "line too long",
+  23: "membership loop", 100: "read only"};
 const LIMIT = 17;
 const AGAIN = 30_000; // milliseconds after which a relation that was too large is tried again: nobody tells of that
 
@@ -76,7 +77,7 @@ class Live {
 
 export class Viewd {
   role = null;
-  shape = null; // for an administrator: roles, relations, grants, row security and policies
+  shape = null; // for an administrator: roles, their members, relations, grants, row security and policies
   #url; #token; #ws; #on; #tries = 0;
   #asked = []; // requests without a reply: replies come in their order
   #replied = []; // what to do when the request is settled

@@ -1,4 +1,9 @@
 //! Who may do what.
+//!
+//! Roles and relations are numbers inside; requests and calls name roles and policies. Role 0 is `admin`. Names and
+//! kinds of relations are known here for look-ups and counts; the rights of the definitions have neither. `has` asks
+//! for grants to all roles and to the role itself first, and walks the roles of which it is a member where neither
+//! was granted.
 ghost use Rattle.std.specs.Prelude.{◌≡◌, ◌&&◌, true, false, IfOk, map, option_map};
 ghost use Rattle.iv_access.specs.Given.{IsInherited, IsNotInherited};
 ghost use Rattle.iv_access.specs.Known.{known_at_start, relation_of, relation_name};

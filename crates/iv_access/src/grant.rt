@@ -1,4 +1,8 @@
 //! Grants, found by hash.
+//!
+//! Grants are a list in the order of granting, each once: the finite sets of std's definitions do not compute, and
+//! worked examples have to. The keys of the hash set are that list. A grant that is held is not added again, so to
+//! grant it changes nothing at all.
 ghost use Rattle.std.specs.Prelude.{◌≡◌, ◌++◌, ◌≤◌, ◌||◌, length};
 ghost use Rattle.std.specs.Cmp.{partial_equiv_from_equiv};
 ghost use Rattle.std.specs.List.{list_any};

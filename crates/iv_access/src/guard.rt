@@ -1,4 +1,7 @@
 //! Owners, row security and policies of relations.
+//!
+//! Policies stand in the byte order of their names, so that the first restrictive one that fails is the one that is
+//! named, and no call sorts.
 ghost use Rattle.std.specs.Prelude.{◌≡◌, ◌≤◌, false, [], OnOk, OnErr, position, length};
 ghost use Rattle.std.specs.List.{position_or_len};
 ghost use Rattle.iv_access.specs.Changing.{insert_policy, remove_policy};

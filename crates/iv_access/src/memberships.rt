@@ -1,4 +1,11 @@
 //! Membership of roles in roles.
+//!
+//! There are rows for the roles up to the highest that a membership ever named, and none where there was no
+//! membership. `grant_role` sets flags once there is room for them, so want of memory changes no right; `revoke_role`
+//! clears the flags, sets those of the memberships that are left, and takes no memory.
+//!
+//! That `admin` has no members is a rule on requests. The rights would allow it, and a member of `admin` would still
+//! be no superuser.
 ghost use Rattle.std.specs.Prelude.{◌≡◌, ℕ, ◌<◌, ◌≤◌, ◌==◌, ◌&&◌, ◌||◌, [], false, length, get_or, OnOk, OnErr};
 ghost use Rattle.std.specs.List.{All};
 ghost use Rattle.iv_access.specs.Memberships.{further, is_direct, joined, member_of, membership_eq, parted, reaches};

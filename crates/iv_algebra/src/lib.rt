@@ -1,4 +1,7 @@
 //! Predicates, plans, and their evaluation over tables.
+//!
+//! `eval`, the operators that it calls and `Plan::fits` are on no path of the program, which keeps circuits. They are
+//! the reference: the definitions as code, on which tests are worked out. iv_delta uses the words on rows and groups.
 #![tactic(auto)]
 
 mod accumulate;

@@ -1,4 +1,8 @@
 //! Queries over a catalog to their plans.
+//!
+//! The definition is a function from a tree and a catalog to a plan as plain data, by steps that may fail, in the
+//! order in which faults are told. A view that is named stands in the needs before what it reaches. Its own needs are
+//! each once already, and the whole list is cut to first places at the end.
 
 ghost use Rattle.std.specs.Prelude.{◌≡◌, ◌==◌, ◌-◌, ◌≤◌, [], true, Some, nat_le, SomeIff, IfOk};
 ghost use Rattle.iv_zset.specs.Bags.{stands};

@@ -1,4 +1,6 @@
 //! The sources of a select, and its joins.
+//!
+//! A pair of a join is kept with the earlier side first, in whichever order the text has the two.
 
 ghost use Rattle.std.specs.Prelude.{◌≡◌, map, option_map, IfOk};
 ghost use Rattle.iv_query.specs.Trees.{name_tree, source_tree, pair_tree, join_tree, pred_tree};

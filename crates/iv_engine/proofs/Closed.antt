@@ -62,13 +62,14 @@ module _ (e : Kept) (h : IsSound e) (ss : List Session) (p : Subscription → Bo
   pub left_sound : IsSound c
   left_sound = record {
     stored = record {
-      reached = record { unique = unique_kept p e.subscriptions h.stored.reached.unique; given = given_kept e.last p e.subscriptions h.stored.reached.given };
+      numbers = record { unique = unique_kept p e.subscriptions h.stored.numbers.unique; given = given_kept e.last p e.subscriptions h.stored.numbers.given };
       roles = roles;
       numbered = h.stored.numbered;
       relations = h.stored.relations;
       guards = h.stored.guards;
       tables = h.stored.tables;
       zsets = h.stored.zsets;
+      limit = h.stored.limit;
       small = h.stored.small;
       positive = h.stored.positive;
       kinds = h.stored.kinds;
@@ -92,7 +93,7 @@ module _ (e : Kept) (h : IsSound e) (ss : List Session) (p : Subscription → Bo
     IsLeft s = (p s ≡ true) × (subscription_of e.subscriptions s.number ≡ Some s)
 
     each_left : AllByRecursion IsLeft (filter p e.subscriptions)
-    each_left = left (λ s. subscription_of e.subscriptions s.number ≡ Some s) IsLeft (λ s k f. (k, f)) (each_found e.subscriptions h.stored.reached.unique)
+    each_left = left (λ s. subscription_of e.subscriptions s.number ≡ Some s) IsLeft (λ s k f. (k, f)) (each_found e.subscriptions h.stored.numbers.unique)
 
     still : (s : Subscription) → IsLeft s → subscription_of (filter p e.subscriptions) s.number ≡ Some s → shown (at c T) s.number ≡ shown (at e T) s.number
     still s x f = ap (λ o. if_some o [] (view_of (at c T))) f ∙ still_shown e c s (unmoved s x.0) T stands ∙ sym (ap (λ o. if_some o [] (view_of (at e T))) x.1)
@@ -101,7 +102,7 @@ module _ (e : Kept) (h : IsSound e) (ss : List Session) (p : Subscription → Bo
     quiet s v k = (λ i. machine_line (k i) s (difference (shown (at e T) s.number) (v i))) ∙ ap (machine_line None s) (difference_none (shown (at e T) s.number))
 
     still_each : AllByRecursion (λ s. shown (at c T) s.number ≡ shown (at e T) s.number) (filter p e.subscriptions)
-    still_each = all_zip IsLeft (λ s. subscription_of (filter p e.subscriptions) s.number ≡ Some s) (λ s. shown (at c T) s.number ≡ shown (at e T) s.number) (filter p e.subscriptions) still each_left (each_found (filter p e.subscriptions) left_sound.stored.reached.unique)
+    still_each = all_zip IsLeft (λ s. subscription_of (filter p e.subscriptions) s.number ≡ Some s) (λ s. shown (at c T) s.number ≡ shown (at e T) s.number) (filter p e.subscriptions) still each_left (each_found (filter p e.subscriptions) left_sound.stored.numbers.unique)
 
     pub left_quiet : flat_map (line_for (at e T) (at c T) (ending (at c T))) (filter p e.subscriptions) ≡ []
     left_quiet = no_lines (line_for (at e T) (at c T) (ending (at c T))) (filter p e.subscriptions)

@@ -83,7 +83,7 @@ IsBeside e s = beside_number s.number (rounds e) ≡ rounds_of e s
 pub all_beside : (e : Kept) → IsStored e → AllByRecursion (IsBeside e) e.subscriptions
 all_beside e h = all_zip (λ s. subscription_of e.subscriptions s.number ≡ Some s) (λ s. s.number ≤ e.last) (IsBeside e) e.subscriptions
     (λ s found low. beside_from (rounds_of e) s e.subscriptions s.number 0 (suc e.last) found (omega arith) (omega (arith, low)))
-    (each_found e.subscriptions h.reached.unique) (all_given e.last e.subscriptions h.reached.given)
+    (each_found e.subscriptions h.numbers.unique) (all_given e.last e.subscriptions h.numbers.given)
 
 -- and none stands there of the next number
 pub next_none : (e : Kept) → beside_number (e.last + 1) (rounds e) ≡ 0

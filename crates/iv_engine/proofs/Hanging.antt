@@ -23,7 +23,7 @@ closed_shown e k failed h = ap (λ (v : Kept). shown_by v failed) h
 pub all_closed : (e : Kept) → IsSound e → IsSound (without_sessions e)
 all_closed e h = record {
   stored = record {
-    reached = record { unique = tt; given = tt };
+    numbers = record { unique = tt; given = tt };
     roles = tt;
     numbered = h.stored.numbered;
     relations = h.stored.relations;
@@ -32,6 +32,7 @@ all_closed e h = record {
     zsets = h.stored.zsets;
     positive = h.stored.positive;
     kinds = h.stored.kinds;
+    limit = h.stored.limit;
     small = h.stored.small;
     shows = tt;
   };

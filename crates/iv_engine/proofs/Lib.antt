@@ -52,6 +52,8 @@ mod Pairing
 mod FoundLines
 mod Carried
 mod Counted
+mod Numbering
+mod Applying
 mod Opened
 mod Touched
 mod Spreading

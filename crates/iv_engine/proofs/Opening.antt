@@ -17,8 +17,8 @@ use Rattle.iv_machine.specs.Refusing.{refusal, rows_refusal, or_else, test}
 use Rattle.iv_machine.specs.State.{State, Subscription, actor, is_within, is_within_for, plan_at, subscription_of, shown, view_of}
 use Rattle.iv_machine.specs.Changing.{after, insert_subscription}
 use Rattle.iv_machine.specs.Machine.{changes, line_for, line_of as machine_line, ending, settled, difference}
-use Rattle.iv_machine.specs.Reached.{IsReached}
-use Rattle.iv_machine.proofs.Reached.{after_reached, next_is_new}
+use Rattle.iv_machine.specs.Reached.{AreNumbersUnique}
+use Rattle.iv_machine.proofs.Reached.{after_numbers, next_is_new}
 use Rattle.iv_engine.specs.Answering.{IsStep, seen, sent}
 use Rattle.iv_engine.specs.Built.{AreInOrder, IsBeyond, IsNew}
 use Rattle.iv_engine.specs.Counting.{AreCounted}
@@ -150,9 +150,9 @@ module _ (e : Kept) (n k : ℕ) (name : Name) (h : IsSound e) (x : IsOpenable e 
   abbrev new : Kept
   new = opened e added place s
 
-  reached : IsReached (frame_of new)
-  reached = subst (λ j. IsReached (frame_of (opened e added place (asked e n j)))) x.number
-      (let r = after_reached (frame_of e) n (subscribe name) h.stored.reached in record { unique = r.unique; given = r.given })
+  numbers : AreNumbersUnique (frame_of new)
+  numbers = subst (λ j. AreNumbersUnique (frame_of (opened e added place (asked e n j)))) x.number
+      (let r = after_numbers (frame_of e) n (subscribe name) h.stored.numbers in record { unique = r.unique; given = r.given })
 
   -- ---- its circuits
 
@@ -188,7 +188,7 @@ module _ (e : Kept) (n k : ℕ) (name : Name) (h : IsSound e) (x : IsOpenable e 
   pub opened_sound : IsSound new
   opened_sound = record {
     stored = record {
-      reached = reached;
+      numbers = numbers;
       roles = h.stored.roles;
       numbered = h.stored.numbered;
       relations = h.stored.relations;
@@ -197,6 +197,7 @@ module _ (e : Kept) (n k : ℕ) (name : Name) (h : IsSound e) (x : IsOpenable e 
       zsets = h.stored.zsets;
       positive = h.stored.positive;
       kinds = h.stored.kinds;
+      limit = h.stored.limit;
       small = h.stored.small;
       shows = all_inserted (IsOpen new) s e.subscriptions (record { session = x.opened; known = x.below }) (all_map (IsOpen e) (IsOpen new) e.subscriptions (λ y o. record { session = o.session; known = o.known }) h.stored.shows);
     };
@@ -226,7 +227,7 @@ module _ (e : Kept) (n k : ℕ) (name : Name) (h : IsSound e) (x : IsOpenable e 
   were_open = all_zip (λ y. is_some (place_of e y) ≡ true) (λ y. (beside_number y.number (rounds e) ≡ rounds_of e y) × (y.number ≤ e.last)) WasOpen e.subscriptions
       (λ y t b. record { beside = b.0; given = b.1; there = t }) h.there
       (all_zip (λ y. beside_number y.number (rounds e) ≡ rounds_of e y) (λ y. y.number ≤ e.last) (λ y. (beside_number y.number (rounds e) ≡ rounds_of e y) × (y.number ≤ e.last)) e.subscriptions
-      (λ y b g. (b, g)) (all_beside e h.stored) (all_given e.last e.subscriptions h.stored.reached.given))
+      (λ y b g. (b, g)) (all_beside e h.stored) (all_given e.last e.subscriptions h.stored.numbers.given))
 
   old_rounds : (y : Subscription) → WasOpen y → rounds_of new y ≡ beside_number y.number (rounds e)
   old_rounds y o = others_rounds s.number (role_of y) y.rel y.number (below_next y.number e.last o.given) place (e.circuits ++ added)
@@ -248,7 +249,7 @@ module _ (e : Kept) (n k : ℕ) (name : Name) (h : IsSound e) (x : IsOpenable e 
     P y = IsShown new y × (ending (at new T) y ≡ None)
 
     before : shown (at e T) (e.last + 1) ≡ []
-    before = ap (λ o. if_some o [] (view_of (at e T))) (not_found (e.last + 1) e.subscriptions (next_is_new e.last e.subscriptions h.stored.reached.given))
+    before = ap (λ o. if_some o [] (view_of (at e T))) (not_found (e.last + 1) e.subscriptions (next_is_new e.last e.subscriptions h.stored.numbers.given))
 
     pub opened_left : settled (subscribe name) (after (at e T) n (subscribe name)) ≡ at new T
     opened_left = ap (settled (subscribe name)) after_is ∙ ap (λ ss. at (record new { subscriptions = ss }) T) (none_settled new T opened_sound stands)

@@ -116,7 +116,7 @@ module _ (e : Kept) (ms : List Membership) (us : List Guard) (gs : List Grant) w
   -- what is stored, where each relation has its guard
   pub righted_stored : length us ≡ length e.catalog → IsStored e → IsStored c
   righted_stored guards h = record {
-    reached = record { unique = h.reached.unique; given = h.reached.given };
+    numbers = record { unique = h.numbers.unique; given = h.numbers.given };
     roles = h.roles;
     numbered = h.numbered;
     relations = h.relations;
@@ -125,6 +125,7 @@ module _ (e : Kept) (ms : List Membership) (us : List Guard) (gs : List Grant) w
     zsets = h.zsets;
     positive = h.positive;
     kinds = h.kinds;
+    limit = h.limit;
     small = h.small;
     shows = all_map (IsOpen e) (IsOpen c) e.subscriptions (λ s o. record { session = o.session; known = o.known }) h.shows;
   }
@@ -132,7 +133,7 @@ module _ (e : Kept) (ms : List Membership) (us : List Guard) (gs : List Grant) w
   -- those that stay open
   kept_stored : (p : Subscription → Bool) (cs : List RoleCircuit) → IsStored c → IsStored (record c { subscriptions = filter p e.subscriptions; circuits = cs })
   kept_stored p cs h = record {
-    reached = record { unique = unique_kept p e.subscriptions h.reached.unique; given = given_kept e.last p e.subscriptions h.reached.given };
+    numbers = record { unique = unique_kept p e.subscriptions h.numbers.unique; given = given_kept e.last p e.subscriptions h.numbers.given };
     roles = h.roles;
     numbered = h.numbered;
     relations = h.relations;
@@ -141,6 +142,7 @@ module _ (e : Kept) (ms : List Membership) (us : List Guard) (gs : List Grant) w
     zsets = h.zsets;
     positive = h.positive;
     kinds = h.kinds;
+    limit = h.limit;
     small = h.small;
     shows = let new : Kept = record c { subscriptions = filter p e.subscriptions; circuits = cs } in
         all_kept (IsOpen new) p e.subscriptions (all_map (IsOpen c) (IsOpen new) e.subscriptions (λ s o. record { session = o.session; known = o.known }) h.shows);
@@ -186,7 +188,7 @@ module _ (e : Kept) (ms : List Membership) (us : List Guard) (gs : List Grant) w
 
       found : AllByRecursion Found e.subscriptions
       found = all_zip (λ s. subscription_of e.subscriptions s.number ≡ Some s) (λ s. subscription_of (filter (stays_open c T) e.subscriptions) s.number ≡ kept_one (stays_open c T) s) Found e.subscriptions
-          (λ s a b. record { before = a; after = b }) (each_found e.subscriptions h.stored.reached.unique) (kept_found (stays_open c T) e.subscriptions h.stored.reached.unique)
+          (λ s a b. record { before = a; after = b }) (each_found e.subscriptions h.stored.numbers.unique) (kept_found (stays_open c T) e.subscriptions h.stored.numbers.unique)
 
       lines_are : flat_map (line_for (at e T) (at left T) (ending (at c T))) e.subscriptions ≡ flat_map (λ s. turned_line c T s (shown_rows e T s)) e.subscriptions
       lines_are = same_lines (line_for (at e T) (at left T) (ending (at c T))) (λ s. turned_line c T s (shown_rows e T s)) e.subscriptions

@@ -23,7 +23,7 @@ use Rattle.iv_machine.specs.Machine.{difference, is_change, weighted, rising_row
 use Rattle.iv_machine.specs.Reached.{AreUnique}
 use Rattle.iv_machine.specs.declared.Cause.{Cause}
 use Rattle.iv_machine.specs.declared.Cause.TheVariants as cause
-use Rattle.iv_engine.specs.Kept.{Kept, IsStored, frame_of, at, cap, may_read, shown_rows, table_rows}
+use Rattle.iv_engine.specs.Kept.{Kept, IsStored, frame_of, at, may_read, shown_rows, table_rows}
 use Rattle.iv_engine.specs.Stands.{Stands}
 use Rattle.iv_engine.proofs.Seeing.{filter_within, rows_same}
 use Rattle.iv_engine.proofs.Tables.{IsATable, plan_is}
@@ -37,8 +37,8 @@ module _ (e : Kept) (T : Lists) where
   pub view_is : (role rel : ℕ) → IsATable e.catalog rel → view_for (at e T) role rel ≡ filter (may_see e.known.rights role rel) (T rel)
   view_is role rel t = ap (λ p. eval p (allowed e.known.rights role T)) (plan_is e.catalog rel t)
 
-  pub within_for : (role rel : ℕ) → IsATable e.catalog rel → is_within_for (at e T) role rel ≡ within cap (filter (may_see e.known.rights role rel) (T rel))
-  within_for role rel t = ap (λ p. plan_within cap p (allowed e.known.rights role T)) (plan_is e.catalog rel t)
+  pub within_for : (role rel : ℕ) → IsATable e.catalog rel → is_within_for (at e T) role rel ≡ within e.cap (filter (may_see e.known.rights role rel) (T rel))
+  within_for role rel t = ap (λ p. plan_within e.cap p (allowed e.known.rights role T)) (plan_is e.catalog rel t)
 
   pub shown_is : (s : Subscription) → subscription_of e.subscriptions s.number ≡ Some s → shown (at e T) s.number ≡ shown_rows e T s
   shown_is s found = ap (λ o. if_some o [] (view_of (at e T))) found
@@ -47,12 +47,12 @@ module _ (e : Kept) (T : Lists) where
   rows_are s t = view_is (actor (frame_of e) s.session) s.rel t
 
   -- and is within the limits where the table is
-  pub view_within : (role rel : ℕ) → IsATable e.catalog rel → within cap (T rel) ≡ true → is_within_for (at e T) role rel ≡ true
-  view_within role rel t w = within_for role rel t ∙ filter_within (may_see e.known.rights role rel) cap (T rel) w
+  pub view_within : (role rel : ℕ) → IsATable e.catalog rel → within e.cap (T rel) ≡ true → is_within_for (at e T) role rel ≡ true
+  view_within role rel t w = within_for role rel t ∙ filter_within (may_see e.known.rights role rel) e.cap (T rel) w
 
   module _ (sound : IsStored e) (stands : Stands T e.tables) where
-    pub table_fits : (t : ℕ) → within cap (T t) ≡ true
-    table_fits t = within_is cap (rows_of e.tables t) (T t) (sound.zsets t) (stands t) ∙ nat_at_most (length (rows_of e.tables t)) cap (sound.small t)
+    pub table_fits : (t : ℕ) → within e.cap (T t) ≡ true
+    table_fits t = within_is e.cap (rows_of e.tables t) (T t) (sound.zsets t) (stands t) ∙ nat_at_most (length (rows_of e.tables t)) e.cap (sound.small t)
 
     pub view_fits : (role rel : ℕ) → IsATable e.catalog rel → is_within_for (at e T) role rel ≡ true
     view_fits role rel t = view_within role rel t (table_fits rel)

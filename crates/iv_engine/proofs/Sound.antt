@@ -4,6 +4,7 @@ use Rattle.std.specs.Prelude.{◌==◌, Result, Ok, Err, is_some, option_map, po
 use Rattle.std.specs.List.{AllByRecursion, IsDistinct, list_any}
 use Rattle.std.proofs.lemmas.Int.{ints}
 use Rattle.std.proofs.lemmas.List.{map-append}
+use Rattle.iv_zset.specs.RowLimit.{IsRowLimit}
 use Rattle.iv_zset.specs.Weights.{Weighed, IsBag, IsZSet, weight_of}
 use Rattle.iv_rows.specs.Columns.{Column, kinds_of}
 use Rattle.iv_algebra.specs.Plans.{Lists}
@@ -180,6 +181,7 @@ module _ (e : Kept) (h : IsSound e) (name owner : Name) (held : Held) where
         needs = ap (λ (y : Option Entry). if_some y [] (λ z. reached_by z.rel z.held)) same;
         reads = λ rel k. has_more r q (actor (frame_of e) s.session) (λ o. refl) Select rel (length r.guards) all_privileges (Role (role_number e.known.rights owner)) refl k;
         sees = λ T k. sees_before r q (actor (frame_of e) s.session) g e.tables T (λ o. refl) refl refl (λ t l. none_beyond e h.stored t (subst (λ m. m ≤ t) h.stored.guards l)) k;
+        cap = refl;
         acts = refl;
         grows = let l = length-append e.catalog (x ∷ []) in omega (arith, l);
         kinds = λ t l. ap (λ (y : Option Entry). option_map kinds_of (if_some y None (λ z. table_in z.held))) (still_numbered name (Some held) e.catalog t (known_at 0 e.catalog t h.stored.numbered (omega arith) (omega (arith, l))));
@@ -196,7 +198,7 @@ module _ (e : Kept) (h : IsSound e) (name owner : Name) (held : Held) where
   relation_sound =
       record {
         stored = record {
-          reached = record { unique = h.stored.reached.unique; given = h.stored.reached.given };
+          numbers = record { unique = h.stored.numbers.unique; given = h.stored.numbers.given };
           roles = h.stored.roles;
           numbered = numbered_push 0 e.catalog x h.stored.numbered (from_zero (length e.catalog));
           relations = ap (λ (rs : List Relation). rs ++ record { name = name; kinds = option_map kinds_of (table_in held) } ∷ []) h.stored.relations ∙ sym (map-append relation_in e.catalog (x ∷ []));
@@ -205,7 +207,8 @@ module _ (e : Kept) (h : IsSound e) (name owner : Name) (held : Held) where
           zsets = λ t. subst IsZSet (sym (rows_with held (length e.catalog) e.tables t)) (h.stored.zsets t);
           positive = λ t. subst IsBag (sym (rows_with held (length e.catalog) e.tables t)) (h.stored.positive t);
           kinds = λ t. subst (HoldsKinds (schema_of (e.catalog ++ x ∷ []) t)) (sym (rows_with held (length e.catalog) e.tables t)) (still_holds e.catalog x t (rows_of e.tables t) (h.stored.kinds t));
-          small = λ t. subst (λ (z : Weighed). length z ≤ 65536) (sym (rows_with held (length e.catalog) e.tables t)) (h.stored.small t);
+          limit = h.stored.limit;
+          small = λ t. subst (λ (z : Weighed). length z ≤ e.cap) (sym (rows_with held (length e.catalog) e.tables t)) (h.stored.small t);
           shows = all_map (IsOpen e) (IsOpen c) e.subscriptions (λ s o. record { session = o.session; known = let k = o.known in let l = length-append e.catalog (x ∷ []) in omega (arith, k, l) }) h.stored.shows;
         };
         served = all_read e c e.subscriptions relation_unmoved h.served;
@@ -240,7 +243,7 @@ module _ (e : Kept) (n : ℕ) (h : IsSound e) where
     pub begin_sound : frame_refusal (frame_of e) n (begin role) ≡ None → IsSound begun
     begin_sound passed = record {
       stored = record {
-        reached = record { unique = h.stored.reached.unique; given = h.stored.reached.given };
+        numbers = record { unique = h.stored.numbers.unique; given = h.stored.numbers.given };
         roles = roles_after (frame_of e) n (begin role) passed h.stored.roles;
         numbered = h.stored.numbered;
         relations = h.stored.relations;
@@ -249,6 +252,7 @@ module _ (e : Kept) (n : ℕ) (h : IsSound e) where
         zsets = h.stored.zsets;
         positive = h.stored.positive;
         kinds = h.stored.kinds;
+        limit = h.stored.limit;
         small = h.stored.small;
         shows = all_map (IsOpen e) (IsOpen begun) e.subscriptions (λ s o. record { session = ap (λ p. is_some p) (begin_same s o) ∙ o.session; known = o.known }) h.stored.shows;
       };
@@ -275,6 +279,7 @@ module _ (e : Kept) (n : ℕ) (h : IsSound e) where
           needs = refl;
           reads = λ rel y. ap (λ role. has q role Select rel) a ∙ has_same q r k (λ o. refl) Select rel refl ∙ y;
           sees = λ T y. ap (λ role. allowed q role T) a ∙ (λ i t. rows_same q r k t (λ o. refl) called refl (T t) i);
+          cap = refl;
           acts = a;
           grows = omega arith;
           kinds = λ t l. refl;
@@ -284,7 +289,7 @@ module _ (e : Kept) (n : ℕ) (h : IsSound e) where
     pub role_sound : frame_refusal (frame_of e) n (create_role name) ≡ None → IsSound named
     role_sound passed = record {
       stored = record {
-        reached = record { unique = h.stored.reached.unique; given = h.stored.reached.given };
+        numbers = record { unique = h.stored.numbers.unique; given = h.stored.numbers.given };
         roles = roles_after (frame_of e) n (create_role name) passed h.stored.roles;
         numbered = h.stored.numbered;
         relations = h.stored.relations;
@@ -293,6 +298,7 @@ module _ (e : Kept) (n : ℕ) (h : IsSound e) where
         zsets = h.stored.zsets;
         positive = h.stored.positive;
         kinds = h.stored.kinds;
+        limit = h.stored.limit;
         small = h.stored.small;
         shows = all_map (IsOpen e) (IsOpen named) e.subscriptions (λ s o. record { session = o.session; known = o.known }) h.stored.shows;
       };
@@ -317,6 +323,7 @@ module _ (e : Kept) (n : ℕ) (h : IsSound e) where
           needs = refl;
           reads = λ on y. has_more r q k (λ o. refl) Select on (rel_of e.catalog rel) ps (grantee_of r to) refl y;
           sees = λ T y. (λ i t. rows_same q r k t (λ o. refl) refl refl (T t) i);
+          cap = refl;
           acts = refl;
           grows = omega arith;
           kinds = λ t l. refl;
@@ -326,7 +333,7 @@ module _ (e : Kept) (n : ℕ) (h : IsSound e) where
     pub grant_sound : IsSound given
     grant_sound = record {
       stored = record {
-        reached = record { unique = h.stored.reached.unique; given = h.stored.reached.given };
+        numbers = record { unique = h.stored.numbers.unique; given = h.stored.numbers.given };
         roles = h.stored.roles;
         numbered = h.stored.numbered;
         relations = h.stored.relations;
@@ -335,6 +342,7 @@ module _ (e : Kept) (n : ℕ) (h : IsSound e) where
         zsets = h.stored.zsets;
         positive = h.stored.positive;
         kinds = h.stored.kinds;
+        limit = h.stored.limit;
         small = h.stored.small;
         shows = all_map (IsOpen e) (IsOpen given) e.subscriptions (λ s o. record { session = o.session; known = o.known }) h.stored.shows;
       };
@@ -381,13 +389,13 @@ pub empty_zset : IsZSet []
 unfolding IsDistinct
 empty_zset = record { distinct = tt; weights = λ q. tt }
 
-abbrev pub kept_at_start : Kept
-kept_at_start = record { known = known_at_start; catalog = []; sessions = []; subscriptions = []; circuits = []; last = 0; tables = [] }
+abbrev pub kept_at_start : (cap : ℕ) → Kept
+kept_at_start cap = record { cap = cap; known = known_at_start; catalog = []; sessions = []; subscriptions = []; circuits = []; last = 0; tables = [] }
 
-pub start_sound : IsSound kept_at_start
-start_sound = record {
+pub start_sound : (cap : ℕ) → IsRowLimit cap → IsSound (kept_at_start cap)
+start_sound cap limit = record {
   stored = record {
-    reached = record { unique = tt; given = tt };
+    numbers = record { unique = tt; given = tt };
     roles = tt;
     numbered = tt;
     relations = refl;
@@ -396,6 +404,7 @@ start_sound = record {
     zsets = λ t. empty_zset;
     positive = λ t q. omega (arith, ints);
     kinds = λ t. refl;
+    limit = limit;
     small = λ t. omega arith;
     shows = tt;
   };

@@ -56,7 +56,7 @@ pub record IsShown (e : Kept) (s : Subscription) : Type 0 where
   pub known : s.rel < length e.catalog
 
 pub each_shown : (e : Kept) → IsStored e → AllByRecursion (IsShown e) e.subscriptions
-each_shown e h = all_zip (λ s. subscription_of e.subscriptions s.number ≡ Some s) (IsOpen e) (IsShown e) e.subscriptions (λ s f o. record { found = f; known = o.known }) (each_found e.subscriptions h.reached.unique) h.shows
+each_shown e h = all_zip (λ s. subscription_of e.subscriptions s.number ≡ Some s) (IsOpen e) (IsShown e) e.subscriptions (λ s f o. record { found = f; known = o.known }) (each_found e.subscriptions h.numbers.unique) h.shows
 
 -- none ends where each may be read
 pub none_ends : (c : Kept) (T : Lists) → IsSound c → Stands T c.tables → AllByRecursion (λ s. ending (at c T) s ≡ None) c.subscriptions

@@ -20,7 +20,7 @@ use Rattle.iv_access.specs.Rights.{Guard, Name, Rights}
 use Rattle.iv_machine.specs.Changing.{with_held}
 use Rattle.iv_machine.specs.State.{Session, Subscription, actor, is_within, needs_at, next_rel, plan_at, session_of}
 use Rattle.iv_machine.proofs.Placing.{find_kept}
-use Rattle.iv_engine.specs.Kept.{IsCircuitOf, Kept, RoleCircuit, at, cap, frame_of, kinds_at, may_read, shown_rows}
+use Rattle.iv_engine.specs.Kept.{IsCircuitOf, Kept, RoleCircuit, at, frame_of, kinds_at, may_read, shown_rows}
 use Rattle.iv_engine.specs.Stands.{Stands}
 use Rattle.iv_engine.proofs.Holding.{to_list}
 use Rattle.iv_engine.proofs.Seeing.{rows_same, sees_same}
@@ -32,6 +32,7 @@ pub record IsUnmoved (e d : Kept) (s : Subscription) : Type 0 where
   pub needs : needs_at d.catalog s.rel ≡ needs_at e.catalog s.rel
   pub reads : (rel : ℕ) → has e.known.rights (actor (frame_of e) s.session) Select rel ≡ true → has d.known.rights (actor (frame_of d) s.session) Select rel ≡ true
   pub sees : (T : Lists) → Stands T e.tables → allowed d.known.rights (actor (frame_of d) s.session) T ≡ allowed e.known.rights (actor (frame_of e) s.session) T
+  pub cap : d.cap ≡ e.cap
   pub acts : actor (frame_of d) s.session ≡ actor (frame_of e) s.session
   pub grows : length e.catalog ≤ length d.catalog
   pub kinds : (t : ℕ) → t < length e.catalog → kinds_at d.catalog t ≡ kinds_at e.catalog t
@@ -60,18 +61,19 @@ module _ (e d : Kept) (s : Subscription) (u : IsUnmoved e d s) where
     still_shown = λ i. eval (u.plan i) (u.sees T stands i)
 
     pub still_within : is_within (at d T) s ≡ is_within (at e T) s
-    still_within = λ i. plan_within cap (u.plan i) (u.sees T stands i)
+    still_within = λ i. plan_within (u.cap i) (u.plan i) (u.sees T stands i)
 
   -- its circuit
   pub still_circuit : ((T : Lists) → Stands T d.tables → Stands T e.tables) → (c : Running) → IsCircuitOf e s c → IsCircuitOf d s c
   still_circuit back c h = record {
+    cap = h.cap ∙ sym u.cap;
     plan = h.plan ∙ sym u.plan;
     known = λ k x lt. let l = h.known k x lt in let g = u.grows in omega (arith, l, g);
     scans = λ k x lt. let l = h.known k x lt in let i = h.scans k x lt in record {
       columns = i.columns ∙ ap (λ o. length (or_nothing o)) (sym (u.kinds _ l));
       filter = λ row. i.filter row ∙ sym (u.sight _ l row);
     };
-    stands = λ T w. subst (StandsOn cap c.node) (sym (u.sees T (back T w))) (h.stands T (back T w));
+    stands = λ T w. subst (StandsOn c.cap c.node) (sym (u.sees T (back T w))) (h.stands T (back T w));
   }
 
 -- ---- one relation more
@@ -121,6 +123,7 @@ other_sessions e ss es cs s h = let a = actor_same e ss s.session h in record {
   needs = refl;
   reads = λ rel k. ap (λ role. has e.known.rights role Select rel) a ∙ k;
   sees = λ T stands. ap (λ role. allowed e.known.rights role T) a;
+  cap = refl;
   acts = a;
   grows = omega arith;
   kinds = λ t l. refl;

@@ -46,14 +46,15 @@ role_circuit_code =
 
 abbrev pub kept_code : Coded Kept
 kept_code =
-    code_by ((Known × List Entry) × ((List Session × (List Subscription × List RoleCircuit)) × (ℕ × List Table)))
-    (coded× (coded× known_code entries_code)
+    code_by ((ℕ × (Known × List Entry)) × ((List Session × (List Subscription × List RoleCircuit)) × (ℕ × List Table)))
+    (coded× (coded× coded_ℕ (coded× known_code entries_code))
     (coded× (coded× (coded_list session_code) (coded× (coded_list subscription_code) (coded_list role_circuit_code)))
     (coded× coded_ℕ (coded_list table_code))))
-    (λ e. ((e.known, e.catalog), ((e.sessions, (e.subscriptions, e.circuits)), (e.last, e.tables))))
+    (λ e. ((e.cap, (e.known, e.catalog)), ((e.sessions, (e.subscriptions, e.circuits)), (e.last, e.tables))))
     (λ p. record {
-      known = p.0.0;
-      catalog = p.0.1;
+      cap = p.0.0;
+      known = p.0.1.0;
+      catalog = p.0.1.1;
       sessions = p.1.0.0;
       subscriptions = p.1.0.1.0;
       circuits = p.1.0.1.1;

@@ -2,6 +2,7 @@
 use Rattle.std.specs.Prelude.{◌≡◌, ℕ, ◌<◌, ◌≤◌, ◌==◌, ◌&&◌, Bool, true, false, not, List, [], ◌∷◌, Option, None, Some, filter, length, map, is_some, option_map, position}
 use Rattle.std.specs.List.{All, AllByRecursion, list_any}
 use Rattle.iv_rows.specs.Columns.{Column, kinds_of}
+use Rattle.iv_zset.specs.RowLimit.{IsRowLimit}
 use Rattle.iv_zset.specs.Weights.{Weighed, IsBag, IsZSet}
 use Rattle.iv_algebra.specs.Contents.{AreOf, heads_of, rows_of}
 use Rattle.iv_algebra.specs.Fits.{Heads}
@@ -19,7 +20,7 @@ use Rattle.iv_circuit.specs.Keeping.{StandsOn}
 use Rattle.iv_circuit.specs.Nodes.{plan_of, scans_of}
 use Rattle.iv_machine.specs.State.{Frame, State, Session, Subscription, actor, is_open, is_within_for, missing_for, plan_at, session_of, view_for}
 use Rattle.iv_machine.specs.Numbered.{AreNumbered}
-use Rattle.iv_machine.specs.Reached.{IsReached}
+use Rattle.iv_machine.specs.Reached.{AreNumbersUnique}
 use Rattle.iv_engine.specs.Stands.{Stands}
 
 -- the circuit of what a relation shows to a role, with the numbers of the subscriptions that were opened on it, the last
@@ -38,8 +39,10 @@ opened_to n k = record k { opened = (n, k.circuit.rounds) ∷ k.opened }
 abbrev pub replaced_by : Running → RoleCircuit → RoleCircuit
 replaced_by c k = record k { circuit = c; opened = [] }
 
--- the relations stand in the catalog at their numbers, and the tables among them have their rows
+-- the relations stand in the catalog at their numbers, and the tables among them have their rows; `cap` is the greatest
+-- number of different rows of a table, and of a node of a circuit
 pub record Kept : Type 0 where
+  pub cap : ℕ
   pub known : Known
   pub catalog : List Entry
   pub sessions : List Session
@@ -60,12 +63,8 @@ with_rights r e = record e { known = record { relations = e.known.relations; rig
 abbrev pub relation_in : Entry → Relation
 relation_in x = record { name = x.name; kinds = option_map kinds_of (table_in x.held) }
 
--- the greatest number of different rows of a table
-abbrev pub cap : ℕ
-cap = 65536
-
 abbrev pub frame_of : Kept → Frame
-frame_of e = record { cap = cap; rights = e.known.rights; catalog = e.catalog; sessions = e.sessions; subscriptions = e.subscriptions; last = e.last }
+frame_of e = record { cap = e.cap; rights = e.known.rights; catalog = e.catalog; sessions = e.sessions; subscriptions = e.subscriptions; last = e.last }
 
 -- the state with these lists of rows
 abbrev pub at : Kept → Lists → State
@@ -106,9 +105,9 @@ HoldsKinds None rows = rows ≡ []
 HoldsKinds (Some columns) rows = AreOf (kinds_of columns) rows
 
 -- the machine reaches the frame; sessions act for roles that are there; each relation has its place as its number,
--- and a guard; each table has its kinds, and at most 65,536 rows, of these kinds, none with a weight below 0
+-- and a guard; each table has its kinds, and no more rows than there may be, of these kinds, none with a weight below 0
 pub record IsStored (e : Kept) : Type 0 where
-  pub reached : IsReached (frame_of e)
+  pub numbers : AreNumbersUnique (frame_of e)
   pub roles : AllByRecursion (λ s. s.role < length e.known.rights.roles) e.sessions
   pub numbered : AreNumbered 0 e.catalog
   pub relations : e.known.relations ≡ map relation_in e.catalog
@@ -117,16 +116,18 @@ pub record IsStored (e : Kept) : Type 0 where
   pub zsets : (t : ℕ) → IsZSet (rows_of e.tables t)
   pub positive : (t : ℕ) → IsBag (rows_of e.tables t)
   pub kinds : (t : ℕ) → HoldsKinds (schema_of e.catalog t) (rows_of e.tables t)
-  pub small : (t : ℕ) → length (rows_of e.tables t) ≤ cap
+  pub limit : IsRowLimit e.cap
+  pub small : (t : ℕ) → length (rows_of e.tables t) ≤ e.cap
   pub shows : AllByRecursion (IsOpen e) e.subscriptions
 
 -- the circuit of the plan for the role: over each table that it scans stands what the role may see of it, and it has taken
--- in all rows of the tables
+-- in all rows of the tables, within the engine's own row limit
 pub record IsCircuitFor (e : Kept) (role : ℕ) (p : Shape) (c : Running) : Type 0 where
+  pub cap : c.cap ≡ e.cap
   pub plan : plan_of c.node ≡ p
   pub known : All (λ t. t.table < length e.catalog) (scans_of c.node)
   pub scans : AreScans (kinds_at e.catalog) e.known.rights role c.node
-  pub stands : (T : Lists) → Stands T e.tables → StandsOn cap c.node (allowed e.known.rights role T)
+  pub stands : (T : Lists) → Stands T e.tables → StandsOn c.cap c.node (allowed e.known.rights role T)
 
 -- the circuit of what the subscription shows
 abbrev pub IsCircuitOf : Kept → Subscription → Running → Type 0

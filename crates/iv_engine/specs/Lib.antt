@@ -8,6 +8,7 @@ pub mod Openings
 pub mod Kept
 pub mod Rounds
 pub mod Counting
+pub mod Applied
 pub mod Codes
 pub mod Next
 pub mod Telling

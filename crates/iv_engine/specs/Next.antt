@@ -43,6 +43,7 @@ tables_after e _ = e.tables
 
 abbrev pub kept_after : Kept → ℕ → Act → Kept
 kept_after e n act = record {
+  cap = e.cap;
   known = record { relations = relations_after e.known.relations act; rights = after_rights (frame_of e) act };
   catalog = after_catalog (frame_of e) act;
   sessions = after_sessions (frame_of e) n act;

@@ -1,12 +1,15 @@
 -- What contracts see of an engine, and the machine's states that stand behind it.
-use Rattle.std.specs.Prelude.{◌≡◌, ℕ, Bool, List, [], ◌∷◌}
-use Rattle.std.specs.List.{All}
+use Rattle.std.specs.Prelude.{◌≡◌, ◌==◌, ℕ, Bool, List, [], ◌∷◌}
+use Rattle.std.specs.List.{All, list_any}
+use Rattle.std.specs.List.Sorted.{IsStrictlySortedBy}
+use Rattle.std.specs.Map.{keys_of}
+use Rattle.std.specs.Ordering.{nat_cmp}
 use Rattle.iv_algebra.specs.declared.tables.Table.{Table}
 use Rattle.iv_machine.specs.Act.{Command, Line, Refusal, refused, reply}
 use Rattle.iv_machine.specs.Machine.{run, step}
 use Rattle.iv_machine.specs.Reached.{LinesAddUp}
 use Rattle.iv_machine.specs.Readers.{ShowsKnownRows}
-use Rattle.iv_machine.specs.State.{Frame, State}
+use Rattle.iv_machine.specs.State.{Frame, State, is_open_number}
 use Rattle.iv_engine.specs.Stands.{Stands}
 
 -- all but the rows, the tables with their rows, how many changes the circuit of each open subscription has taken in, by
@@ -16,6 +19,11 @@ pub record Seen : Type 0 where
   pub tables : List Table
   pub rounds : List (ℕ × ℕ)
   pub failed : Bool
+
+-- its rounds are those of the open subscriptions, by rising number
+pub record HasRoundsOfOpen (e : Seen) : Type 0 where
+  pub rising : IsStrictlySortedBy nat_cmp (keys_of e.rounds)
+  pub those : (n : ℕ) → list_any (λ x. n == x.0) e.rounds ≡ is_open_number e.frame n
 
 -- all sessions and subscriptions are closed
 abbrev pub closed : Seen → Seen

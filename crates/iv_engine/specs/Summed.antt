@@ -11,7 +11,6 @@ use Rattle.iv_algebra.specs.declared.tables.Table.{Table}
 use Rattle.iv_algebra.specs.Contents.{heads_of, rows_of}
 use Rattle.iv_machine.specs.Machine.{difference, weight}
 use Rattle.iv_engine.specs.Changes.{Change, change_at}
-use Rattle.iv_engine.specs.Kept.{cap}
 use Rattle.iv_engine.specs.Stands.{HasTable}
 
 -- each is of one of the tables, and no two are of one
@@ -57,8 +56,8 @@ abbrev pub AreFinished : List Table → List Change → Option (Vec Change) → 
 AreFinished tables sums None = (t : ℕ) × HasTable tables t × IsOutOfRange (change_at sums t)
 AreFinished tables sums (Some changes) = AreNet tables sums changes.items
 
--- a bag with its change can be stored, with at most 65,536 rows
-pub record KeepsLimits (bag change : Weighed) : Type 0 where
+-- a bag with its change can be stored, with no more rows than there may be
+pub record KeepsLimits (cap : ℕ) (bag change : Weighed) : Type 0 where
   pub in_range : AllInRange (change ++ bag)
   pub few : rows_in (change ++ bag) ≤ cap
 

@@ -1,12 +1,18 @@
 //! The engine.
+//!
+//! The clause `known_rows` of `apply` follows from `lines`. It is said all the same: a leak is the worst fault. Of a
+//! change it speaks where the subscription is to a table, since the rows of a view stand in no table; of a last line
+//! it says that it takes back all that was shown.
 ghost use Rattle.std.specs.Prelude.{◌≡◌, ◌↔◌, [], IfOk, OnOk, OnErr, map, true, false};
 ghost use Rattle.std.specs.List.{list_all};
+ghost use Rattle.iv_zset.specs.RowLimit.{IsRowLimit};
 ghost use Rattle.iv_machine.specs.Machine.{hung};
-ghost use Rattle.iv_machine.specs.Reached.{IsReached};
+ghost use Rattle.iv_machine.specs.Reached.{AreNumbersUnique};
 ghost use Rattle.iv_machine.specs.State.{State, start};
 ghost use Rattle.iv_machine.specs.Well.{is_well_command};
+ghost use Rattle.iv_engine.specs.Applied.{AreApplied};
 ghost use Rattle.iv_engine.specs.Counting.{AreCountedWhereAccepted};
-ghost use Rattle.iv_engine.specs.Seen.{AreLinesOf, AreLinesOfAll, ChangesWhereAccepted, HasKnownRows, IsBehind, IsLeftBy, IsLeftByAll, LinesAddUpBehind, closed};
+ghost use Rattle.iv_engine.specs.Seen.{AreLinesOf, AreLinesOfAll, ChangesWhereAccepted, HasKnownRows, HasRoundsOfOpen, IsBehind, IsLeftBy, IsLeftByAll, LinesAddUpBehind, closed};
 ghost use Rattle.iv_engine.specs.Views.{command_of, line_of};
 
 use crate::command::{Command, EngineFault, Line};
@@ -39,25 +45,30 @@ impl Model for Engine {
 }
 
 impl Engine {
-    /// An engine with the role `admin`, no table and no session.
+    /// An engine with the role `admin`, no table and no session. A table, and each node of a plan that is read, has at most
+    /// `cap` different rows; that stays so.
     ///
     /// # Errors
     /// `AllocError` where a growth of memory was refused.
-    pub fn new(alloc: Global) -> Result<Engine, AllocError>
-        ensures start { IfOk result (λ engine. IsBehind (start 65536) engine) }
+    pub fn new(alloc: Global, cap: u32) -> Result<Engine, AllocError>
+        requires { IsRowLimit cap }
+        ensures start { IfOk result (λ engine. IsBehind (start cap) engine) }
+        ensures rounds { IfOk result (λ engine. engine.rounds ≡ []) }
         ensures failed { IfOk result (λ engine. engine.failed ≡ false) }
     {
+        let store = Store::new(alloc, cap as usize)?;
         Ok(Engine {
-            store: Store::new(alloc)?,
+            store,
             failed: false,
         })
     }
 
     /// Whether the engine has failed: then no command is answered any more. Until then its frame is one that the machine
-    /// reaches.
+    /// reaches, and it tells the rounds of its open subscriptions and of no others.
     pub fn is_failed(&self) -> bool
         ensures failed { result ≡ self.now.failed }
-        ensures reached { result ≡ false → IsReached self.now.frame }
+        ensures numbers { result ≡ false → AreNumbersUnique self.now.frame }
+        ensures rounds { result ≡ false → HasRoundsOfOpen self.now }
     {
         self.failed
     }
@@ -123,6 +134,8 @@ impl Engine {
         requires { list_all is_well_command (map command_of commands.items) ≡ true }
         ensures lines { IfOk result (λ lines. AreLinesOfAll self.old (map command_of commands.items) (map line_of lines.items)) }
         ensures state { OnOk result (IsLeftByAll self.old (map command_of commands.items) self.new) }
+        // Each command is answered as `apply` answers it: known rows, nothing changed where it is refused, and rounds counted.
+        ensures each { IfOk result (λ lines. AreApplied self.old (map command_of commands.items) (map line_of lines.items) self.new) }
         // For each subscription that its reader did not close, what is sent adds up to what it shows more than before.
         ensures held { IfOk result (λ lines. LinesAddUpBehind self.old (map command_of commands.items) (map line_of lines.items)) }
         ensures went_on { OnOk result (self.new.failed ≡ false) }

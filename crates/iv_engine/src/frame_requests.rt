@@ -1,4 +1,7 @@
 //! The requests that look at no row: `begin`, `create_role`, `create_table` and `grant`.
+//!
+//! What a reader sees depends on the name of its role, its memberships and the guards of tables, not on privileges,
+//! so none of these sends a line to others.
 ghost use Rattle.std.specs.Prelude.{◌≡◌, ◌&&◌, IfOk, OnOk, option_map, string_bytes, true};
 ghost use Rattle.iv_rows.specs.Columns.{has_columns, has_distinct_names, kinds_of};
 ghost use Rattle.iv_access.specs.Known.{named};

@@ -1,4 +1,7 @@
 //! The requests `grant_role` and `revoke_role`.
+//!
+//! Which readers a membership concerns is one flag for each circuit: a role reaches other roles than before exactly
+//! where it comes to reach the membership's role, or ceases to. That is a law of iv_access.
 ghost use Rattle.std.specs.Prelude.{◌≡◌, IfOk, OnOk, length, string_bytes};
 ghost use Rattle.iv_machine.specs.Act as machine;
 ghost use Rattle.iv_engine.specs.Answering.{IsStep};

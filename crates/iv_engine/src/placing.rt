@@ -1,4 +1,6 @@
 //! The entries of a write at the numbers of their tables.
+//!
+//! Each name is looked up once; all that comes behind goes by number.
 ghost use Rattle.std.specs.Prelude.{◌≡◌, ◌+◌, ◌<◌, IfOk, IfErr, OnOk, length, None, Some};
 ghost use Rattle.std.specs.List.{list_all};
 ghost use Rattle.iv_rows.specs.Columns.{accepts, kinds_of};

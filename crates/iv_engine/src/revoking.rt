@@ -1,4 +1,7 @@
 //! The request `revoke`.
+//!
+//! A revoke shows no row more or less: it ends the subscriptions whose role lacks select on what they need, and takes
+//! back what they showed. Each circuit is asked once, not each subscription.
 ghost use Rattle.std.specs.Prelude.{◌≡◌, IfOk, OnOk, string_bytes};
 ghost use Rattle.iv_access.specs.Known.{named};
 ghost use Rattle.iv_machine.specs.Act as machine;

@@ -1,9 +1,15 @@
 //! All that the engine stores.
+//!
+//! `tables` has an entry for each table alone. A table's columns stand in the catalog and, copied once when it is
+//! created, with its rows. The invariant says that all tables are within the limits, that each session's role is one
+//! of the roles, that each open subscription may be read and is within the limits (so what it showed can always be
+//! taken back), and that the circuits are those of open subscriptions and no others.
 ghost use Rattle.std.specs.Prelude.{◌≡◌, ◌<◌, IfOk, IfSome, is_some, length, option_map, true, Some};
+ghost use Rattle.iv_zset.specs.RowLimit.{IsRowLimit};
 ghost use Rattle.iv_bind.specs.Catalogs.{named, schema_of};
 ghost use Rattle.iv_machine.specs.State.{name_of, rel_of, session_of, start, table_columns};
 ghost use Rattle.iv_engine.specs.Answering.{seen};
-ghost use Rattle.iv_engine.specs.Kept.{IsSound, IsStored, cap, frame_of};
+ghost use Rattle.iv_engine.specs.Kept.{IsSound, IsStored, frame_of};
 ghost use Rattle.iv_engine.specs.Seen.{IsBehind};
 ghost use Rattle.iv_engine.specs.Target.{IsActingOn};
 
@@ -18,9 +24,11 @@ use std::alloc::{AllocError, Global};
 use std::marker::Model;
 
 /// Rights, relations, the rows of tables, sessions, subscriptions and the circuits that they read. Subscriptions stand in
-/// the order of their lines. For tables that were written it is kept which circuits scan them.
+/// the order of their lines. `cap` is the greatest number of different rows of a table, and of a node of a circuit. For tables that
+/// were written it is kept which circuits scan them.
 #[derive(Drop)]
 pub struct Store {
+    pub cap: usize,
     pub access: Access,
     pub catalog: Catalog,
     pub sessions: Vec<Session>,
@@ -42,6 +50,7 @@ impl Model for Store {
     ghost coded = { kept_code };
 
     ghost view = { λ s. record {
+      cap = s.cap;
       known = s.access;
       catalog = s.catalog;
       sessions = s.sessions.items;
@@ -56,11 +65,13 @@ impl Model for Store {
 
 impl Store {
     /// One role, `admin`, and nothing else.
-    pub fn new(alloc: Global) -> Result<Store, AllocError>
+    pub fn new(alloc: Global, cap: usize) -> Result<Store, AllocError>
+        requires { IsRowLimit cap }
         ensures start { IfOk result (λ store. IsBehind (start cap) (seen store)) }
         ensures sound { IfOk result (λ store. IsSound store) }
     {
         Ok(Store {
+            cap,
             access: Access::new(alloc)?,
             catalog: Catalog::new(alloc),
             sessions: Vec::new(alloc),

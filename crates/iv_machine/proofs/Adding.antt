@@ -14,9 +14,9 @@ use Rattle.iv_machine.specs.Refusing.{refusal}
 use Rattle.iv_machine.specs.Changing.{after_frame, after}
 use Rattle.iv_machine.specs.Machine.{weight, difference, line_of, line_for, changes, ending_by, settled, outcome, step, run}
 use Rattle.iv_machine.specs.Held.{line_weight, held, closed_by, closed_in, closed}
-use Rattle.iv_machine.specs.Reached.{AreUnique, IsReached, AddsUp}
+use Rattle.iv_machine.specs.Reached.{AreUnique, AreNumbersUnique, AddsUp}
 use Rattle.iv_machine.proofs.Rising.{difference_weighs, zero_left, zero_right, once}
-use Rattle.iv_machine.proofs.Reached.{has_number, neither, none_kept, settled_reached, after_reached, was_not_open}
+use Rattle.iv_machine.proofs.Reached.{has_number, neither, none_kept, settled_numbers, after_numbers, was_not_open}
 use Rattle.iv_machine.specs.declared.Cause.{Cause}
 
 plus_assoc : (x y z : ℤ) → (x +ℤ y) +ℤ z ≡ x +ℤ (y +ℤ z)
@@ -75,23 +75,23 @@ pick : (s : State) (n : ℕ) (act : Act) (k : ℕ) (q : List Cell) (b : Bool) �
 pick s n act k q true c e = refl
 pick s n act k q false c e = sym ((λ i. weight (shows_nothing s k (was_not_open s.frame n act k c e) i) (shows_nothing (settled act (after s n act)) k (none_kept k _ (after_frame s.frame n act).subscriptions e) i) q) ∙ weight_itself [] q)
 
-changes_add : (s : State) (n : ℕ) (act : Act) (k : ℕ) (q : List Cell) → IsReached s.frame → list_any (λ j. k == j) (closed_by s.frame n act) ≡ false → held k q (changes act s (after s n act) (settled act (after s n act))) ≡ weight (shown s k) (shown (settled act (after s n act)) k) q
+changes_add : (s : State) (n : ℕ) (act : Act) (k : ℕ) (q : List Cell) → AreNumbersUnique s.frame → list_any (λ j. k == j) (closed_by s.frame n act) ≡ false → held k q (changes act s (after s n act) (settled act (after s n act))) ≡ weight (shown s k) (shown (settled act (after s n act)) k) q
 changes_add s n act k q h c = let changed = after s n act in
-    lines_held k q s (settled act changed) (ending_by act changed) (after_frame s.frame n act).subscriptions (after_reached s.frame n act h).unique
+    lines_held k q s (settled act changed) (ending_by act changed) (after_frame s.frame n act).subscriptions (after_numbers s.frame n act h).unique
     ∙ pick s n act k q (has_number k (after_frame s.frame n act).subscriptions) c refl
 
 -- ---- one command, and many
 
-step_by : (s : State) (c : Command) (o : Option Refusal) (k : ℕ) (q : List Cell) → IsReached s.frame → list_any (λ j. k == j) (closed_in s c o) ≡ false → held k q (outcome s c o).lines ≡ weight (shown s k) (shown (outcome s c o).state k) q
+step_by : (s : State) (c : Command) (o : Option Refusal) (k : ℕ) (q : List Cell) → AreNumbersUnique s.frame → list_any (λ j. k == j) (closed_in s c o) ≡ false → held k q (outcome s c o).lines ≡ weight (shown s k) (shown (outcome s c o).state k) q
 step_by s c None k q h n = zero_left (held k q (changes c.act s (after s c.session c.act) (settled c.act (after s c.session c.act)))) ∙ changes_add s c.session c.act k q h n
 step_by s c (Some r) k q h n = sym (weight_itself (shown s k) q)
 
-reached_by : (s : State) (c : Command) (o : Option Refusal) → IsReached s.frame → IsReached (outcome s c o).state.frame
-reached_by s c None h = settled_reached c.act (after s c.session c.act) (after_reached s.frame c.session c.act h)
-reached_by s c (Some r) h = h
+numbers_by : (s : State) (c : Command) (o : Option Refusal) → AreNumbersUnique s.frame → AreNumbersUnique (outcome s c o).state.frame
+numbers_by s c None h = settled_numbers c.act (after s c.session c.act) (after_numbers s.frame c.session c.act h)
+numbers_by s c (Some r) h = h
 
-pub step_reached : (s : State) (c : Command) → IsReached s.frame → IsReached (step s c).state.frame
-step_reached s c h = reached_by s c (refusal s c.session c.act) h
+pub step_numbers : (s : State) (c : Command) → AreNumbersUnique s.frame → AreNumbersUnique (step s c).state.frame
+step_numbers s c h = numbers_by s c (refusal s c.session c.act) h
 
 none_of_both : (k : ℕ) (xs ys : List ℕ) → list_any (λ j. k == j) (xs ++ ys) ≡ false → (list_any (λ j. k == j) xs ≡ false) × (list_any (λ j. k == j) ys ≡ false)
 none_of_both k [] ys h = (refl, h)
@@ -100,21 +100,21 @@ none_of_both k (x ∷ xs) ys h =
     let b = none_of_both k xs ys a.1 in
     (ap (λ z. z || list_any (λ j. k == j) xs) a.0 ∙ b.0, b.1)
 
-pub adds_up : (s : State) (cs : List Command) → IsReached s.frame → AddsUp s cs
+pub adds_up : (s : State) (cs : List Command) → AreNumbersUnique s.frame → AddsUp s cs
 adds_up s [] h = λ k q n. sym (weight_itself (shown s k) q)
 adds_up s (c ∷ cs) h = λ k q n.
     let o = none_of_both k (closed_in s c (refusal s c.session c.act)) (closed (step s c).state cs) n in
     held-append k q (step s c).lines (run (step s c).state cs).lines
-    ∙ (λ i. step_by s c (refusal s c.session c.act) k q h o.0 i +ℤ adds_up (step s c).state cs (step_reached s c h) k q o.1 i)
+    ∙ (λ i. step_by s c (refusal s c.session c.act) k q h o.0 i +ℤ adds_up (step s c).state cs (step_numbers s c h) k q o.1 i)
     ∙ through (pos (copies q (shown s k))) (pos (copies q (shown (step s c).state k))) (pos (copies q (shown (run (step s c).state cs).state k)))
 
-pub run_reached : (s : State) (cs : List Command) → IsReached s.frame → IsReached (run s cs).state.frame
-run_reached s [] h = h
-run_reached s (c ∷ cs) h = run_reached (step s c).state cs (step_reached s c h)
+pub run_numbers : (s : State) (cs : List Command) → AreNumbersUnique s.frame → AreNumbersUnique (run s cs).state.frame
+run_numbers s [] h = h
+run_numbers s (c ∷ cs) h = run_numbers (step s c).state cs (step_numbers s c h)
 
-pub start_reached : (cap : ℕ) → IsReached (start cap).frame
-start_reached cap = record { unique = tt; given = tt }
+pub start_numbers : (cap : ℕ) → AreNumbersUnique (start cap).frame
+start_numbers cap = record { unique = tt; given = tt }
 
 -- from the start the lines add up to what is shown
 pub adds_up_to_view : (cap : ℕ) (cs : List Command) (k : ℕ) (q : List Cell) → list_any (λ j. k == j) (closed (start cap) cs) ≡ false → held k q (run (start cap) cs).lines ≡ pos (copies q (shown (run (start cap) cs).state k))
-adds_up_to_view cap cs k q n = adds_up (start cap) cs (start_reached cap) k q n ∙ minus_none (copies q (shown (run (start cap) cs).state k))
+adds_up_to_view cap cs k q n = adds_up (start cap) cs (start_numbers cap) k q n ∙ minus_none (copies q (shown (run (start cap) cs).state k))

@@ -31,13 +31,13 @@ abbrev asked : Act → Command
 asked act = record { session = 1; act = act }
 
 first_fits : (n c : ℕ) → c < 2 ^ 63 → refusal unread 1 (copied n c) ≡ None
-first_fits n c l = ap (λ b. or_else (test (not ((b && true) && true)) limit) None) (within_times 65536 c (of_x n) (omega arith) l)
+first_fits n c l = ap (λ b. or_else (test (not ((b && true) && true)) limit) None) (within_times 1024 c (of_x n) (omega arith) l)
 
 pub no_sums_compute : (c : ℕ) → c ≡ 2 ^ 62 → Computes unread (no_sums c)
 no_sums_compute c e = ap (λ o. (outcome unread (asked (copied 2 c)) o).lines ++ []) (first_fits 2 c (omega arith))
 
 then_full : (c : ℕ) → c ≡ 2 ^ 63 - 1 → refusal (outcome unread (asked (copied 1 c)) None).state 1 (put notes (of_x 1)) ≡ Some limit
-then_full c e = ap (λ b. or_else (test (not ((b && true) && true)) limit) None) (one_more_not_within 65536 c (of_x 1) e)
+then_full c e = ap (λ b. or_else (test (not ((b && true) && true)) limit) None) (one_more_not_within 1024 c (of_x 1) e)
 
 pub copies_limit_computes : (c : ℕ) → c ≡ 2 ^ 63 - 1 → Computes unread (copies_limit c)
 copies_limit_computes c e =
@@ -90,7 +90,7 @@ rows_are c = ap (λ rows. of_ann 1 ∷ filter (holds below_hundred []) rows) (fi
 
 over_rows : (c : ℕ) → c ≡ 2 ^ 62 → is_within (after_copies c) second ≡ false
 unfolding texts_compute
-over_rows c e = group_not_within 65536 0 below_hundred (0 ∷ 1 ∷ 2 ∷ []) (1 ∷ []) (Sum 0 ∷ Count ∷ []) (seen c)
+over_rows c e = group_not_within 1024 0 below_hundred (0 ∷ 1 ∷ 2 ∷ []) (1 ∷ []) (Sum 0 ∷ Count ∷ []) (seen c)
     (ap (group_fits (1 ∷ []) (Sum 0 ∷ Count ∷ [])) (rows_are c) ∙ sum_fails (1 ∷ []) (noted c) (shares_fail c e))
 
 last_fails : (p : Subscription → Bool) (x y : Subscription) → p y ≡ false → list_all p (x ∷ y ∷ []) ≡ false
@@ -143,7 +143,7 @@ batched c = asked (write (many c notes (insert (of_x 8)) ∷ many c notes (inser
 -- the tests of the batch, by what it finds and what it leaves
 abbrev batch_tests : (a b : Bool) → List (List Cell) → Option Refusal
 batch_tests a b rows = or_else (or_else (test (not a) (no_such_row 3)) (or_else (test (not b) (no_such_row 4)) None))
-    (or_else (test (not ((within 65536 rows && true) && (within 65536 (filter (may_see first.frame.rights 1 0) rows) && true))) limit) None)
+    (or_else (test (not ((within 1024 rows && true) && (within 1024 (filter (may_see first.frame.rights 1 0) rows) && true))) limit) None)
 
 batch_accepted : (c : ℕ) → c ≡ 2 ^ 63 - 1 → refusal first 1 (batched c).act ≡ None
 batch_accepted c e = λ i. batch_tests (first_there c i) (second_there c e i) (all_left c e i)

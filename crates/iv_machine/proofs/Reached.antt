@@ -1,4 +1,4 @@
--- What every reached state has is kept by an accepted command.
+-- The numbers of subscriptions stay unique with an accepted command.
 use Rattle.std.proofs.Common.{◌≡◌, ℕ, ◌+◌, ◌≤◌, Bool, true, false, cond, not, ◌||◌, List, [], ◌∷◌, map, ap, ◌∙◌, sym, refl, arith}
 use Rattle.std.proofs.lemmas.Bool.Decides.{nat_tests}
 use Rattle.std.specs.Prelude.{◌==◌, nat_lt, filter}
@@ -8,7 +8,7 @@ use Rattle.iv_machine.specs.State.{State, Frame, Subscription, rel_of}
 use Rattle.iv_machine.specs.Changing.{insert_subscription, after_subscriptions, after_frame}
 use Rattle.iv_machine.specs.Machine.{settled}
 use Rattle.iv_machine.specs.Held.{closed_by}
-use Rattle.iv_machine.specs.Reached.{AreUnique, AreGiven, IsReached}
+use Rattle.iv_machine.specs.Reached.{AreUnique, AreGiven, AreNumbersUnique}
 
 -- some subscription has the number
 abbrev pub has_number : ℕ → List Subscription → Bool
@@ -95,17 +95,17 @@ given_kept m p (e ∷ es) h = given_kept_by m (p e) e (filter p es) h.0 (given_k
 
 -- ---- a command
 
-pub settled_reached : (act : Act) (s : State) → IsReached s.frame → IsReached (settled act s).frame
-settled_reached act s h = record { unique = unique_kept _ s.frame.subscriptions h.unique; given = given_kept s.frame.last _ s.frame.subscriptions h.given }
+pub settled_numbers : (act : Act) (s : State) → AreNumbersUnique s.frame → AreNumbersUnique (settled act s).frame
+settled_numbers act s h = record { unique = unique_kept _ s.frame.subscriptions h.unique; given = given_kept s.frame.last _ s.frame.subscriptions h.given }
 
-pub after_reached : (f : Frame) (n : ℕ) (act : Act) → IsReached f → IsReached (after_frame f n act)
-after_reached f n finish h = record { unique = unique_kept _ f.subscriptions h.unique; given = given_kept f.last _ f.subscriptions h.given }
-after_reached f n (subscribe rel) h = let e : Subscription = record { session = n; number = f.last + 1; rel = rel_of f.catalog rel } in record {
+pub after_numbers : (f : Frame) (n : ℕ) (act : Act) → AreNumbersUnique f → AreNumbersUnique (after_frame f n act)
+after_numbers f n finish h = record { unique = unique_kept _ f.subscriptions h.unique; given = given_kept f.last _ f.subscriptions h.given }
+after_numbers f n (subscribe rel) h = let e : Subscription = record { session = n; number = f.last + 1; rel = rel_of f.catalog rel } in record {
   unique = unique_inserted e f.subscriptions (next_is_new f.last f.subscriptions h.given) h.unique;
   given = given_inserted (f.last + 1) e f.subscriptions (omega arith) (given_more f.last f.subscriptions h.given);
 }
-after_reached f n (unsubscribe k) h = record { unique = unique_kept _ f.subscriptions h.unique; given = given_kept f.last _ f.subscriptions h.given }
-after_reached f n _ h = record { unique = h.unique; given = h.given }
+after_numbers f n (unsubscribe k) h = record { unique = unique_kept _ f.subscriptions h.unique; given = given_kept f.last _ f.subscriptions h.given }
+after_numbers f n _ h = record { unique = h.unique; given = h.given }
 
 -- ---- what is not open afterwards, and was not closed, was not open before
 

@@ -21,9 +21,9 @@ use Rattle.iv_machine.specs.State.{State, Frame, Subscription, actor, is_within_
 use Rattle.iv_machine.specs.Refusing.{test, or_else, is_present, entries_present, all_within, frame_refusal, rows_refusal, refusal}
 use Rattle.iv_machine.specs.Changing.{after_entry, after}
 use Rattle.iv_machine.specs.Machine.{weight, weighted, is_change, rising_rows, difference, line_of, line_for, changes, ending_by, reply_to, settled, outcome, step}
-use Rattle.iv_machine.specs.Reached.{AreUnique, IsReached}
+use Rattle.iv_machine.specs.Reached.{AreUnique, AreNumbersUnique}
 use Rattle.iv_machine.specs.Readers.{IsAllowed, IsKnownRow, AreKnownRows, ShowsKnownRows, looks_at_rows}
-use Rattle.iv_machine.proofs.Reached.{has_number, both_false, neither, none_kept, after_reached}
+use Rattle.iv_machine.proofs.Reached.{has_number, both_false, neither, none_kept, after_numbers}
 use Rattle.iv_machine.proofs.Adding.{shows_nothing}
 
 -- ---- a row of a difference stands in one of the two lists
@@ -116,16 +116,16 @@ module _ (s new : State) (ends : Subscription → Option Cause) where
       (line_shows (ends e) e (difference (shown s e.number) (shown new e.number)) (known_rows s new e.number) (λ x. ap (difference (shown s e.number)) (shows_nothing new e.number (h.0 x))))
       (lines_show es h.1)
 
-outcome_shows : (s : State) (c : Command) (o : Option Refusal) → IsReached s.frame → All (ShowsKnownRows s (outcome s c o).state) (outcome s c o).lines
+outcome_shows : (s : State) (c : Command) (o : Option Refusal) → AreNumbersUnique s.frame → All (ShowsKnownRows s (outcome s c o).state) (outcome s c o).lines
 outcome_shows s c None r =
     let changed = after s c.session c.act in
     let new = settled c.act changed in
     All-cons (ShowsKnownRows s new) (reply c.session (reply_to s.frame c.act)) (changes c.act s changed new) tt
     (lines_show s new (ending_by c.act changed) changed.frame.subscriptions
-    (all_gone (ending_by c.act changed) changed.frame.subscriptions (after_reached s.frame c.session c.act r).unique))
+    (all_gone (ending_by c.act changed) changed.frame.subscriptions (after_numbers s.frame c.session c.act r).unique))
 outcome_shows s c (Some x) r = All-cons (ShowsKnownRows s s) (reply c.session (refused x)) [] tt (All-nil (ShowsKnownRows s s))
 
-pub step_shows : (s : State) (c : Command) → IsReached s.frame → All (ShowsKnownRows s (step s c).state) (step s c).lines
+pub step_shows : (s : State) (c : Command) → AreNumbersUnique s.frame → All (ShowsKnownRows s (step s c).state) (step s c).lines
 step_shows s c r = outcome_shows s c (refusal s c.session c.act) r
 
 -- ---- refusals

@@ -8,7 +8,7 @@ use Rattle.iv_access.specs.Rights.{Name, Guard, Policy, Public}
 use Rattle.iv_access.specs.Rights as rights
 use Rattle.iv_machine.specs.Act.{Act, create_policy, create_view}
 use Rattle.iv_machine.specs.State.{State, Frame, Session, start_frame}
-use Rattle.iv_machine.specs.Worked.{admin, column, policy}
+use Rattle.iv_machine.specs.Worked.{admin, column, least_cap, policy}
 
 -- ---- sessions and roles
 
@@ -17,7 +17,7 @@ session_of number role = record { number = number; role = role }
 
 -- session 1 is open, and n others
 abbrev pub sessions : ℕ → Frame
-sessions n = record (start_frame 65536) { sessions = session_of 1 0 ∷ repeat n (session_of 2 0 ∷ []) }
+sessions n = record (start_frame least_cap) { sessions = session_of 1 0 ∷ repeat n (session_of 2 0 ∷ []) }
 
 -- a role that was granted nothing
 abbrev pub stranger : Name

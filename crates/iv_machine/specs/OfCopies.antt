@@ -4,11 +4,11 @@ use Rattle.iv_access.specs.declared.privilege.Privilege.TheVariants.{Select}
 use Rattle.iv_machine.specs.Act.{begin, create_table, create_view, grant, write, insert, delete, limit, change}
 use Rattle.iv_machine.specs.OfViews.{sums, sums_text, group_of}
 use Rattle.iv_machine.specs.State.{State, start}
-use Rattle.iv_machine.specs.Worked.{Steps, admin, after_steps, ann, asks, column, fails, first, full_cap, many, notes, of_x, opens, put, texts}
+use Rattle.iv_machine.specs.Worked.{Steps, admin, after_steps, ann, asks, column, fails, first, least_cap, many, notes, of_x, opens, put, texts}
 
 -- notes is empty, and there is no subscription
 abbrev pub unread : State
-unread = after_steps (start full_cap) (
+unread = after_steps (start least_cap) (
     asks 1 (begin admin) []
     ∷ asks 1 (create_table notes admin (column (codes "id") ∷ texts (codes "who") ∷ [])) []
     ∷ [])

@@ -8,7 +8,7 @@ use Rattle.iv_access.specs.declared.privilege.Privilege.TheVariants.{Select}
 use Rattle.iv_access.specs.Rights.{Name}
 use Rattle.iv_machine.specs.Act.{begin, create_role, create_table, create_view, create_policy, drop_policy, grant, row_security, write, insert, delete, bad_query, limit, change, ended}
 use Rattle.iv_machine.specs.State.{State, start}
-use Rattle.iv_machine.specs.Worked.{Steps, Row, admin, many, after_steps, asks, full_cap, fails, opens, one, two, int, entry, put, take, policy, restrictive, column, ann, bob, notes, of_ann}
+use Rattle.iv_machine.specs.Worked.{Steps, Row, admin, many, after_steps, asks, least_cap, fails, opens, one, two, int, entry, put, take, policy, restrictive, column, ann, bob, notes, of_ann}
 use Rattle.iv_machine.specs.declared.Cause.TheVariants as cause
 
 -- ---- groups
@@ -76,12 +76,12 @@ of_j cap = after_steps (between cap) (view (codes "j") j_text)
 
 -- where the views u and ua are there
 abbrev pub of_unions : State
-of_unions = after_steps (between full_cap)
+of_unions = after_steps (between least_cap)
     (view (codes "u") (codes "select x from a union select y from b") ++ view (codes "ua") (codes "select x from a union all select y from b"))
 
 -- where the view e is there
 abbrev pub of_except : State
-of_except = after_steps (between full_cap) (view (codes "e") (codes "select x from a except select y from b"))
+of_except = after_steps (between least_cap) (view (codes "e") (codes "select x from a except select y from b"))
 
 -- after `of_j`
 abbrev pub join_both_sides_at_once : Steps

@@ -1,4 +1,4 @@
--- What every state has that the machine reaches, and what the lines add up to.
+-- That the numbers of subscriptions are unique, and what the lines add up to.
 use Rattle.std.specs.Prelude.{◌≡◌, ℕ, ◌==◌, ◌≤◌, false, List, [], ◌∷◌, pos}
 use Rattle.std.specs.List.{list_any}
 use Rattle.iv_rows.specs.Cell.{Cell}
@@ -18,7 +18,8 @@ abbrev pub AreGiven : ℕ → List Subscription → Type 0
 AreGiven last [] = Unit {0}
 AreGiven last (e ∷ es) = (e.number ≤ last) × AreGiven last es
 
-pub record IsReached (f : Frame) : Type 0 where
+-- no two open subscriptions have one number, and none has one that was not given
+pub record AreNumbersUnique (f : Frame) : Type 0 where
   pub unique : AreUnique f.subscriptions
   pub given : AreGiven f.last f.subscriptions
 

@@ -3,6 +3,7 @@ use Rattle.std.specs.Prelude.{◌≡◌, ◌⊎◌, ℕ, ◌<◌, ℤ, Bool, tru
 use Rattle.std.specs.List.{All}
 use Rattle.iv_rows.specs.Cell.{Cell}
 use Rattle.iv_zset.specs.Limits.{copies}
+use Rattle.iv_algebra.specs.Counting.{SameCopies, SameTables}
 use Rattle.iv_algebra.specs.Plans.{Lists}
 use Rattle.iv_algebra.specs.Shapes.{Scan}
 use Rattle.iv_access.specs.Policies.{may_see, allowed}
@@ -10,7 +11,7 @@ use Rattle.iv_machine.specs.Act.{Act, Line, reply, change, ended, Refusal, no_su
 use Rattle.iv_machine.specs.Machine.{difference}
 use Rattle.iv_machine.specs.Refusing.{has_subscription, refusal}
 use Rattle.iv_machine.specs.Sound.{MayRead}
-use Rattle.iv_machine.specs.State.{State, Frame, Subscription, actor, plan_at, shown, subscription_of, view_for}
+use Rattle.iv_machine.specs.State.{State, Frame, Subscription, actor, is_within_for, plan_at, shown, subscription_of, view_for}
 
 -- the subscription is open, of this session, and may be read
 pub record IsReader (f : Frame) (n k : ℕ) : Type 0 where
@@ -60,7 +61,10 @@ abbrev pub IsRefusedAlike : Frame → Refusal → Type 0
 IsRefusedAlike f r = (S T : Lists) (n : ℕ) (act : Act) → refusal (record { frame = f; rows = S }) n act ≡ Some r
     → refusal (record { frame = f; rows = T }) n act ≡ Some r
 
--- the role sees the same where it may see the same rows
-abbrev pub SeesAlike : Frame → (role rel : ℕ) → Type 0
-SeesAlike f role rel = (S T : Lists) → ((t : ℕ) → allowed f.rights role S t ≡ allowed f.rights role T t)
-    → view_for (record { frame = f; rows = S }) role rel ≡ view_for (record { frame = f; rows = T }) role rel
+-- where the role may see the same rows of each table, each as often, it sees the same rows of the relation, each as often, and
+-- its limits hold alike
+pub record SeesAlike (f : Frame) (role rel : ℕ) : Type 0 where
+  pub rows : (S T : Lists) → SameTables (allowed f.rights role S) (allowed f.rights role T)
+      → SameCopies (view_for (record { frame = f; rows = S }) role rel) (view_for (record { frame = f; rows = T }) role rel)
+  pub limits : (S T : Lists) → SameTables (allowed f.rights role S) (allowed f.rights role T)
+      → is_within_for (record { frame = f; rows = S }) role rel ≡ is_within_for (record { frame = f; rows = T }) role rel

@@ -7,7 +7,7 @@ use Rattle.iv_zset.specs.Limits.{within}
 use Rattle.iv_bind.specs.Catalogs.{numbered, schema_of}
 use Rattle.iv_machine.specs.Lines.{AreInOrder}
 use Rattle.iv_machine.specs.Numbered.{IsNumbered}
-use Rattle.iv_machine.specs.Reached.{IsReached}
+use Rattle.iv_machine.specs.Reached.{AreNumbersUnique}
 use Rattle.iv_machine.specs.Served.{AreServed}
 use Rattle.iv_machine.specs.State.{State, Frame, Subscription, actor, is_open, missing_for}
 
@@ -32,7 +32,7 @@ HasKinds (Some columns) rows = AllPass (accepts (kinds_of columns)) rows
 -- are distinct; relations are numbered by their places; sessions act for roles that are there; each table is within the
 -- limits, and its rows have its columns' kinds.
 pub record IsSound (s : State) : Type 0 where
-  pub reached : IsReached s.frame
+  pub numbers : AreNumbersUnique s.frame
   pub ordered : AreInOrder s.frame.subscriptions
   pub readers : All (MayRead s.frame) s.frame.subscriptions
   pub served : AreServed s

@@ -119,11 +119,12 @@ opened =
     ∷ opens 2 notes 1 []
     ∷ []
 
-abbrev pub full_cap : ℕ
-full_cap = 65536
+-- the least row limit of an engine
+abbrev pub least_cap : ℕ
+least_cap = 1024
 
 abbrev pub before_first : State
-before_first = after_steps (start full_cap) opened
+before_first = after_steps (start least_cap) opened
 
 abbrev pub first_change : Steps
 first_change = asks 1 (put notes (of_ann 1)) (change 2 1 ((of_ann 1, pos 1) ∷ []) ∷ []) ∷ []

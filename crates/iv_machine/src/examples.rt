@@ -16,17 +16,17 @@ ghost use Rattle.iv_machine.specs.Refusing.{frame_refusal, refusal};
 ghost use Rattle.iv_machine.specs.Shapes as shapes;
 ghost use Rattle.iv_machine.specs.State.{start};
 ghost use Rattle.iv_machine.specs.Well.{is_well_act, is_well_command};
-ghost use Rattle.iv_machine.specs.Worked.{admin, after_steps, before_first, commands, Computes, first, first_change, full_cap, notes, opened, row_security_then_policy, secured, true_text};
+ghost use Rattle.iv_machine.specs.Worked.{admin, after_steps, before_first, commands, Computes, first, first_change, least_cap, notes, opened, row_security_then_policy, secured, true_text};
 
 /// A reader is sent what is written.
 pub fn first_changes()
-    ensures opened { Computes (start full_cap) opened }
+    ensures opened { Computes (start least_cap) opened }
     ensures first { Computes before_first first_change }
 {}
 
 /// Grants, revokes, and what they end.
 pub fn grants_compute()
-    ensures owners_grant { Computes (start full_cap) grants.owners_grant }
+    ensures owners_grant { Computes (start least_cap) grants.owners_grant }
     ensures revoke_takes_back { Computes first grants.revoke_takes_back }
     ensures public_grant_and_revoke { Computes first grants.public_grant_and_revoke }
     ensures owner_revokes_own { Computes first grants.owner_revokes_own }
@@ -77,7 +77,7 @@ pub fn views_compute()
     ensures sum_limits { Computes first views.sum_limits }
     ensures table_limit { Computes (after_steps (start 1) (opened ++ first_change)) views.table_limit }
     ensures query_faults { Computes first views.query_faults }
-    ensures join_both_sides_at_once { Computes (views.of_j full_cap) views.join_both_sides_at_once }
+    ensures join_both_sides_at_once { Computes (views.of_j least_cap) views.join_both_sides_at_once }
     ensures union_and_union_all { Computes views.of_unions views.union_and_union_all }
     ensures except_under_policy { Computes views.of_except views.except_under_policy }
     ensures node_row_limit { Computes (views.of_j 4) views.node_row_limit }

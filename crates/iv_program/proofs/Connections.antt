@@ -5,7 +5,7 @@ use Rattle.std.specs.Io.KnownBytes.{Appends}
 use Rattle.std.specs.List.{AllByRecursion}
 use Rattle.iv_machine.specs.Act.{Command}
 use Rattle.iv_machine.specs.Machine.{hung, run}
-use Rattle.iv_machine.specs.Reached.{AreGiven, AreUnique, IsReached}
+use Rattle.iv_machine.specs.Reached.{AreGiven, AreUnique, AreNumbersUnique}
 use Rattle.iv_machine.specs.State.{Frame, State}
 use Rattle.iv_engine.specs.Seen.{Seen, IsBehind}
 use Rattle.iv_wire.specs.Ran.{HasRun}
@@ -36,8 +36,8 @@ more_served lines n m s mid new h f =
       behind = subst (λ (t : State). IsBehind t new) (served_behind s h.commands last.commands) last.behind;
     }
 
-pub closed_reached : (f : Frame) → IsClosed f → IsReached f
-closed_reached f h = record {
+pub closed_numbers : (f : Frame) → IsClosed f → AreNumbersUnique f
+closed_numbers f h = record {
   unique = subst AreUnique (sym h.subscriptions) tt;
   given = subst (AreGiven f.last) (sym h.subscriptions) tt;
 }

@@ -10,14 +10,14 @@ use Rattle.iv_wire.specs.declared.lines.RunFault.TheVariants as run
 abbrev ran : ℕ → Option (List ℕ) → Option (List ℕ) → Option (List ℕ) → Option (List ℕ) → Seen → Run
 ran lines given left taken written now = record { lines = lines; given = given; left = left; taken = taken; written = written; now = now }
 
-pub ended : (f g : RunFault) (lines : ℕ) (given left taken written : Option (List ℕ)) (now : Seen) → f ≡ g → IsAnswered (start 65536) (ran lines given left taken written now) (Err f) → (seen : Seen) × IsAnswered (start 65536) (ran lines given left taken written seen) (Err g)
-ended f g lines given left taken written now e h = let P : RunFault → Type 0 = λ k. IsAnswered (start 65536) (ran lines given left taken written now) (Err k) in (now, subst P e h)
+pub ended : (cap : ℕ) (f g : RunFault) (lines : ℕ) (given left taken written : Option (List ℕ)) (now : Seen) → f ≡ g → IsAnswered (start cap) (ran lines given left taken written now) (Err f) → (seen : Seen) × IsAnswered (start cap) (ran lines given left taken written seen) (Err g)
+ended cap f g lines given left taken written now e h = let P : RunFault → Type 0 = λ k. IsAnswered (start cap) (ran lines given left taken written now) (Err k) in (now, subst P e h)
 
 nothing_more : (old : Option (List ℕ)) → Appends old old []
 nothing_more None = tt
 nothing_more (Some xs) = sym (append-nil xs)
 
 -- no engine was made: no line was answered
-pub nothing_answered : (lines : ℕ) (given left taken : Option (List ℕ)) → 1 ≤ lines → (now : Seen) × IsAnswered (start 65536) (ran lines given left taken taken now) (Err run.Memory)
-nothing_answered lines None left taken h = (record { frame = start_frame 65536; tables = []; rounds = []; failed = true }, tt)
-nothing_answered lines (Some bs) left taken h = (record { frame = start_frame 65536; tables = []; rounds = []; failed = true }, (0, omega arith, (refl, nothing_more taken)))
+pub nothing_answered : (cap lines : ℕ) (given left taken : Option (List ℕ)) → 1 ≤ lines → (now : Seen) × IsAnswered (start cap) (ran lines given left taken taken now) (Err run.Memory)
+nothing_answered cap lines None left taken h = (record { frame = start_frame cap; tables = []; rounds = []; failed = true }, tt)
+nothing_answered cap lines (Some bs) left taken h = (record { frame = start_frame cap; tables = []; rounds = []; failed = true }, (0, omega arith, (refl, nothing_more taken)))

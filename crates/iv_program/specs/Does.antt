@@ -32,13 +32,14 @@ Listens port taken written (Ok _) = Appends taken written (listening port)
 Listens port taken written (Err Read) = ⊥
 Listens port taken written (Err f) = (n : ℕ) × Appends taken written (take n (listening port))
 
--- lines of the reader are answered on the writer, or those of connections are answered, and the writer tells the port
+-- lines of the reader are answered on the writer, with so many rows at most, or those of connections are answered, and the
+-- writer tells the port
 abbrev pub Does : Settings → Ends → Result (Unit {0}) Fault → Type 0
-Does (Replay lines) e result = (now : Seen) × Replays (run_of lines e now) result
-Does (Serve port connections lines) e result = Listens port e.taken e.written result
+Does (Replay lines rows) e result = (now : Seen) × Replays rows (run_of lines e now) result
+Does (Serve port connections lines rows) e result = Listens port e.taken e.written result
 
 -- where lines of the reader are answered and the reader tells its bytes, the lines that were written add up, for each
 -- subscription that its reader did not close, to what it shows
 abbrev pub AddsUp : Settings → Ends → Type 0
-AddsUp (Replay lines) e = (now : Seen) × IfSome e.given (λ _. HasWritten (start 65536) (run_of lines e now))
-AddsUp (Serve port connections lines) e = ⊤
+AddsUp (Replay lines rows) e = (now : Seen) × IfSome e.given (λ _. HasWritten (start rows) (run_of lines e now))
+AddsUp (Serve port connections lines rows) e = ⊤

@@ -1,5 +1,5 @@
 -- How a replay ends, and what stands written then.
-use Rattle.std.specs.Prelude.{Bool, true, false, Result, Ok, Err}
+use Rattle.std.specs.Prelude.{ℕ, Bool, true, false, Result, Ok, Err}
 use Rattle.iv_machine.specs.State.{start}
 use Rattle.iv_wire.specs.Endings.{Run, IsAnswered}
 use Rattle.iv_wire.specs.declared.lines.End.{End}
@@ -7,13 +7,13 @@ use Rattle.iv_wire.specs.declared.lines.RunFault.TheVariants as run
 use Rattle.iv_program.specs.declared.fault.Fault.{Fault}
 use Rattle.iv_program.specs.declared.fault.Fault.TheVariants.{Read, Write, Network, Memory}
 
--- the ending of a run from the machine's start, with the same fault
-abbrev pub Replays : Run → Result (Unit {0}) Fault → Type 0
-Replays r (Ok _) = (end : End) × IsAnswered (start 65536) r (Ok end)
-Replays r (Err Read) = IsAnswered (start 65536) r (Err run.Read)
-Replays r (Err Write) = IsAnswered (start 65536) r (Err run.Write)
-Replays r (Err Network) = ⊥
-Replays r (Err Memory) = IsAnswered (start 65536) r (Err run.Memory)
+-- the ending of a run from the machine's start with the row limit, with the same fault
+abbrev pub Replays : (cap : ℕ) → Run → Result (Unit {0}) Fault → Type 0
+Replays cap r (Ok _) = (end : End) × IsAnswered (start cap) r (Ok end)
+Replays cap r (Err Read) = IsAnswered (start cap) r (Err run.Read)
+Replays cap r (Err Write) = IsAnswered (start cap) r (Err run.Write)
+Replays cap r (Err Network) = ⊥
+Replays cap r (Err Memory) = IsAnswered (start cap) r (Err run.Memory)
 
 abbrev pub is_read : Result (Unit {0}) Fault → Bool
 is_read (Ok _) = false

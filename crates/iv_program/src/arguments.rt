@@ -1,6 +1,11 @@
 //! The words after the program's name.
+//!
+//! `settings` promises ranges alone, since clap's clauses say nothing of a subcommand's values: a body that answers
+//! another number of the range, or an error, meets its contract. Words and texts are shown by tests. A word that is
+//! not text is status 1, with a text of ours; `--help` is status 0 even where standard output is closed.
 
 ghost use Rattle.std.specs.Prelude.{◌≤◌, IfOk, IfSome};
+ghost use Rattle.iv_zset.specs.RowLimit.{IsRowLimit};
 ghost use Rattle.iv_program.specs.Arguments.{InRange};
 
 use crate::asked::Settings;
@@ -22,10 +27,22 @@ fn count<'a>(alloc: Global, name: &'a str, help: &'a str) -> Arg<'a> {
         .default_value("1000000")
 }
 
+fn rows<'a>(alloc: Global) -> Arg<'a> {
+    Arg::new(alloc, "rows")
+        .long("rows")
+        .value_name("N")
+        .help(
+            "The number of different rows at most of a table, and of each step of a view that is read",
+        )
+        .value_parser(value_parser!(u32).range(1_024..=1_048_576))
+        .default_value("65536")
+}
+
 fn command<'a>(alloc: Global) -> Result<Command<'a>, Error> {
     let replay = Command::new(alloc, "replay")
         .about("Answers the request lines of standard input on standard output")
-        .arg(count(alloc, "lines", "The number of lines to take at most"))?;
+        .arg(count(alloc, "lines", "The number of lines to take at most"))?
+        .arg(rows(alloc))?;
     let port = Arg::new(alloc, "port")
         .long("port")
         .value_name("P")
@@ -40,7 +57,8 @@ fn command<'a>(alloc: Global) -> Result<Command<'a>, Error> {
             alloc,
             "lines",
             "The number of lines to take at most of each connection",
-        ))?;
+        ))?
+        .arg(rows(alloc))?;
     let command = Command::new(alloc, "viewd")
         .bin_name("viewd")?
         .version(VERSION)
@@ -59,6 +77,17 @@ fn count_of(matches: &ArgMatches<'_>, name: &str) -> Option<u32>
     matches.get_one::<u32>(name).filter(|n| *n >= 1)
 }
 
+fn rows_of(matches: &ArgMatches<'_>) -> Option<u32>
+    ensures { IfSome result IsRowLimit }
+{
+    let rows = matches.get_one::<u32>("rows")?;
+    if rows >= 1_024 && rows <= 1_048_576 {
+        Some(rows)
+    } else {
+        None
+    }
+}
+
 fn port_of(matches: &ArgMatches<'_>) -> Option<u16>
     ensures { IfSome result (λ n. 1 ≤ n) }
 {
@@ -71,24 +100,28 @@ fn found(matches: &ArgMatches<'_>) -> Option<Settings>
     match matches.subcommand() {
         Some(("replay", inner)) => {
             let lines = count_of(inner, "lines")?;
-            Some(Settings::Replay { lines })
+            let rows = rows_of(inner)?;
+            Some(Settings::Replay { lines, rows })
         }
         Some(("serve", inner)) => {
             let port = port_of(inner)?;
             let connections = count_of(inner, "connections")?;
             let lines = count_of(inner, "lines")?;
+            let rows = rows_of(inner)?;
             Some(Settings::Serve {
                 port,
                 connections,
                 lines,
+                rows,
             })
         }
         _ => None,
     }
 }
 
-/// Reads the words after the program's name: `replay` with `--lines N`, or `serve` with `--port P`,
-/// `--connections N` and `--lines N`. P is from 1 to 65,535 and must be given; N is from 1 to
+/// Reads the words after the program's name: `replay` with `--lines N` and `--rows N`, or `serve`
+/// with `--port P`, `--connections N`, `--lines N` and `--rows N`. P is from 1 to 65,535 and must be
+/// given; the rows are from 1,024 to 1,048,576, by default 65,536, and each other N from 1 to
 /// 4,294,967,295, by default 1,000,000. Other words, and a call for help, are an error whose text
 /// is for the user. Want of memory is the kind `OutOfMemory`.
 pub fn settings<'a>(alloc: Global, words: &'a [&'a str]) -> Result<Settings, Error>

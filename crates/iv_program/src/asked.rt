@@ -1,4 +1,6 @@
 //! What the program is asked to do.
+//!
+//! `Settings` and `settings` stand in two modules: names that differ only in case are refused in one.
 
 /// What the program is asked to do.
 #[derive(Clone, Copy, Debug, PartialEq, Eq)]
@@ -7,6 +9,8 @@ pub enum Settings {
     Replay {
         /// The number of lines to take at most, skipped ones counted.
         lines: u32,
+        /// The number of different rows at most of a table, and of each node of a plan that is read.
+        rows: u32,
     },
     /// Answer the lines of connections, one connection after another.
     Serve {
@@ -16,5 +20,7 @@ pub enum Settings {
         connections: u32,
         /// The number of lines to take at most of each connection, skipped ones counted.
         lines: u32,
+        /// The number of different rows at most of a table, and of each node of a plan that is read.
+        rows: u32,
     },
 }

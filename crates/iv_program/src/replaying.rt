@@ -1,6 +1,7 @@
 //! Request lines in, answer lines out, through a new engine.
 
 ghost use Rattle.std.specs.Prelude.{◌≡◌, ◌≤◌, ◌+◌, ◌*◌, ◌||◌, IfSome, OnOk, true, false};
+ghost use Rattle.iv_zset.specs.RowLimit.{IsRowLimit};
 ghost use Rattle.iv_machine.specs.State.{start};
 ghost use Rattle.iv_engine.specs.Seen.{Seen};
 ghost use Rattle.iv_wire.specs.Cut.{line_room};
@@ -16,7 +17,8 @@ use iv_engine::Engine;
 use iv_wire::{RunFault, Sink, Source, run};
 use std::alloc::Global;
 
-/// Answers at most `lines` lines of the reader on the writer, through a new engine.
+/// Answers at most `lines` lines of the reader on the writer, through a new engine with at most `rows` different rows in
+/// each table and node.
 ///
 /// # Errors
 /// `Read` and `Write` where the reader or the writer failed; `Memory` where a growth of memory was
@@ -26,9 +28,11 @@ fn replay<R: Source, W: Sink>(
     reader: &mut R,
     writer: &mut W,
     lines: u32,
+    rows: u32,
 ) -> Result<(), Fault>
-    requires { 1 ≤ lines }
-    ensures answers { (now : Seen) × Replays (record {
+    requires lines { 1 ≤ lines }
+    requires rows { IsRowLimit rows }
+    ensures answers { (now : Seen) × Replays rows (record {
       lines = lines;
       given = R.left reader.old;
       left = R.left reader.new;
@@ -36,7 +40,7 @@ fn replay<R: Source, W: Sink>(
       written = W.taken writer.new;
       now = now;
     }) result }
-    ensures adds_up { OnOk result ((now : Seen) × IfSome (R.left reader.old) (λ _. HasWritten (start 65536) (record {
+    ensures adds_up { OnOk result ((now : Seen) × IfSome (R.left reader.old) (λ _. HasWritten (start rows) (record {
       lines = lines;
       given = R.left reader.old;
       left = R.left reader.new;
@@ -49,7 +53,7 @@ fn replay<R: Source, W: Sink>(
     ensures flushed { (is_write result ≡ false) → W.is_flushed writer.old ≡ true → W.is_flushed writer.new ≡ true }
     ensures reads { R.reads reader.new ≤ R.reads reader.old + lines * line_room }
 {
-    let Ok(mut engine) = Engine::new(alloc) else {
+    let Ok(mut engine) = Engine::new(alloc, rows) else {
         return Err(Fault::Memory);
     };
     match run(alloc, &mut engine, reader, writer, lines) {
@@ -92,11 +96,12 @@ pub fn work<R: Source, W: Sink>(
     ensures reads { R.reads reader.new ≤ R.reads reader.old + (lines_of settings * line_room) }
 {
     match settings {
-        Settings::Replay { lines } => replay(rt.alloc(), reader, writer, lines),
+        Settings::Replay { lines, rows } => replay(rt.alloc(), reader, writer, lines, rows),
         Settings::Serve {
             port,
             connections,
             lines,
-        } => serve(rt, writer, port, connections, lines),
+            rows,
+        } => serve(rt, writer, port, connections, lines, rows),
     }
 }

@@ -1,7 +1,19 @@
 //! Connections, one after another, through one engine.
+//!
+//! A failed engine is answered before an accept, which a test shows: no contract of a listener tells its accepts.
+//! After a run it is the engine that is asked whether it failed: of a run's faults the read and the write end the
+//! connection alone. An accept that fails ends the program, also where another try might do; std's accept tries again
+//! after a signal.
+//!
+//! Each answer is one write, so `TCP_NODELAY` is set; where it can't be, answers may come later and are the same. What is
+//! done with a connection can only lack memory, by its type, so a network fault comes from an accept. Tests show it
+//! (`.ci/socket`), with connections of which no option can be set, and with one that is reset before it is accepted. The
+//! engine is made before the port is taken, so want of memory there leaves no line `listening on ..`, which is
+//! written by the same kind of end as answers: its text and its faults are in a contract.
 
 ghost use Rattle.std.specs.Prelude.{◌≡◌, ◌≤◌, ◌||◌, ◌↔◌, true, false, IsErrOf, OnOk, is_err};
-ghost use Rattle.iv_machine.specs.Reached.{IsReached};
+ghost use Rattle.iv_zset.specs.RowLimit.{IsRowLimit};
+ghost use Rattle.iv_machine.specs.Reached.{AreNumbersUnique};
 ghost use Rattle.iv_machine.specs.State.{State};
 ghost use Rattle.iv_engine.specs.Seen.{IsBehind};
 ghost use Rattle.iv_program.specs.Does.{Listens};
@@ -70,7 +82,7 @@ pub fn serve_on(
 ) -> Result<(), ServeFault>
     ensures served { (s : State) → IsBehind s engine.old → Serves lines connections s engine.new result }
     ensures closed { OnOk result (1 ≤ connections → IsClosed engine.new.frame) }
-    ensures reached { engine.new.failed ≡ false → IsReached engine.new.frame }
+    ensures numbers { engine.new.failed ≡ false → AreNumbersUnique engine.new.frame }
     ensures failed { engine.new.failed ≡ (engine.old.failed || is_memory result) }
     ensures refused { IsErrOf result ServeFault.Failed ↔ (engine.old.failed ≡ true) }
     ensures untouched { engine.old.failed ≡ true → engine.new ≡ engine.old }
@@ -109,7 +121,7 @@ fn tell_port<W: Sink>(alloc: Global, writer: &mut W, port: u16) -> Result<(), Fa
 }
 
 /// Listens on a port of 127.0.0.1, tells so on the writer, and serves so many connections through a new engine, with at
-/// most `lines` lines of each.
+/// most `lines` lines of each, and at most `rows` different rows in each table and node.
 ///
 /// # Errors
 /// `Network` where the port could not be listened on, or a connection not be accepted; `Write` where the writer failed;
@@ -120,13 +132,15 @@ pub fn serve<W: Sink>(
     port: u16,
     connections: u32,
     lines: u32,
+    rows: u32,
 ) -> Result<(), Fault>
+    requires { IsRowLimit rows }
     ensures listens { Listens port (W.taken writer.old) (W.taken writer.new) result }
     ensures write { W.has_failed writer.new ≡ (W.has_failed writer.old || is_write result) }
     ensures flushed { (is_write result ≡ false) → W.is_flushed writer.old ≡ true → W.is_flushed writer.new ≡ true }
 {
     let alloc = rt.alloc();
-    let Ok(mut engine) = Engine::new(alloc) else {
+    let Ok(mut engine) = Engine::new(alloc, rows) else {
         return Err(Fault::Memory);
     };
     let Ok(listener) = TcpListener::bind(rt, SocketAddrV4::new(Ipv4Addr::LOCALHOST, port)) else {

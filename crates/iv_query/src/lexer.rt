@@ -1,4 +1,7 @@
 //! From bytes to tokens.
+//!
+//! A letter is A to Z or a to z, also where a number must have none behind it. A text without its closing quote is
+//! one fault at its first quote, also where a shorter text could be cut from it.
 
 ghost use Rattle.std.specs.Prelude.{◌≡◌, ◌==◌, ◌<◌, ◌∷◌, length, drop, slice_index, IfOk, IsTrue, option_map, string_bytes};
 ghost use Rattle.std.specs.Char.{is_ascii_digit};

@@ -1,4 +1,8 @@
 //! Predicates, from tokens to trees.
+//!
+//! A conjunction and a disjunction have the same loop of eight lines, one for each level of the grammar. One loop for
+//! both would need a type for the two words, and contracts by cases on the sign, the tree and the level below of
+//! each.
 
 ghost use Rattle.std.specs.Prelude.{◌≡◌, ◌<◌, ◌≤◌, length, option_map};
 ghost use Rattle.iv_query.specs.Tokens.{toks};

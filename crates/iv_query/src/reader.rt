@@ -1,4 +1,7 @@
 //! From texts to trees.
+//!
+//! The end of the text is a fault that stands behind the tokens, so reading from the left gives the least place by
+//! itself.
 
 ghost use Rattle.std.specs.Prelude.{◌≡◌, ◌<◌, ◌≤◌, length, IfOk, IfErr};
 ghost use Rattle.iv_query.specs.Limits.{text_bytes, sources};

@@ -1,4 +1,6 @@
 //! Names of roles, relations and columns.
+//!
+//! A reserved word is looked for among those of its length alone.
 ghost use Rattle.std.specs.Prelude.{◌≡◌, bytes_eq, nat_le, length};
 ghost use Rattle.std.specs.List.{list_all, list_any};
 ghost use Rattle.iv_rows.specs.Names.{is_name, is_first, is_further, is_reserved, begins_well};

@@ -3,9 +3,9 @@ use Rattle.std.proofs.Common.{ℕ, List, [], ◌∷◌, ◌++◌, Option, Some, 
 use Rattle.std.specs.Prelude.{flat_map, IfSome, OnOk, Result, Ok, Err}
 use Rattle.iv_machine.specs.Act.{Line}
 use Rattle.iv_machine.specs.Machine.{run, step}
-use Rattle.iv_machine.specs.Reached.{IsReached}
+use Rattle.iv_machine.specs.Reached.{AreNumbersUnique}
 use Rattle.iv_machine.specs.State.{State}
-use Rattle.iv_machine.proofs.Adding.{adds_up, run_reached}
+use Rattle.iv_machine.proofs.Adding.{adds_up, run_numbers}
 use Rattle.iv_engine.specs.Seen.{Seen, IsBehind}
 use Rattle.iv_wire.specs.Answer.{Reading, faulty, asked, heard, commands_of, text_of}
 use Rattle.iv_wire.specs.Endings.{Run, Answers, IsAnswered}
@@ -26,7 +26,7 @@ text_is_of_run s (asked c ∷ rs) = let one = step s c in texts_follow one.lines
 
 -- ---- what a run has written
 
-written_ok : (s : State) (left : Option (List ℕ)) (r : Run) (end : End) → Answers s left r (Ok end) → IsReached s.frame → IfSome left (λ _. HasWritten s r)
+written_ok : (s : State) (left : Option (List ℕ)) (r : Run) (end : End) → Answers s left r (Ok end) → AreNumbersUnique s.frame → IfSome left (λ _. HasWritten s r)
 written_ok s None r end h p = tt
 written_ok s (Some bytes) r end h p =
     let rs = (heard r.lines bytes).readings in
@@ -34,12 +34,12 @@ written_ok s (Some bytes) r end h p =
       commands = commands_of rs;
       text = text_of s rs;
       behind = h.1;
-      reached = run_reached s (commands_of rs) p;
+      numbers = run_numbers s (commands_of rs) p;
       written = h.0;
       texts = text_is_of_run s rs;
       sums = adds_up s (commands_of rs) p;
     }
 
-pub has_written : (first : Seen) (r : Run) (result : Result End RunFault) → IsReached first.frame → ((s : State) → IsBehind s first → IsAnswered s r result) → OnOk result ((s : State) → IsBehind s first → IfSome r.given (λ _. HasWritten s r))
-has_written first r (Ok end) p h = λ s b. written_ok s r.given r end (h s b) (subst IsReached (sym b.frame) p)
+pub has_written : (first : Seen) (r : Run) (result : Result End RunFault) → AreNumbersUnique first.frame → ((s : State) → IsBehind s first → IsAnswered s r result) → OnOk result ((s : State) → IsBehind s first → IfSome r.given (λ _. HasWritten s r))
+has_written first r (Ok end) p h = λ s b. written_ok s r.given r end (h s b) (subst AreNumbersUnique (sym b.frame) p)
 has_written first r (Err e) p h = tt

@@ -3,7 +3,7 @@ use Rattle.std.specs.Prelude.{ℕ, List, [], ◌∷◌, ◌++◌}
 use Rattle.std.specs.Io.KnownBytes.{Appends}
 use Rattle.iv_machine.specs.Act.{Command, Line}
 use Rattle.iv_machine.specs.Machine.{run}
-use Rattle.iv_machine.specs.Reached.{AddsUp, IsReached}
+use Rattle.iv_machine.specs.Reached.{AddsUp, AreNumbersUnique}
 use Rattle.iv_machine.specs.State.{State}
 use Rattle.iv_engine.specs.Seen.{IsBehind}
 use Rattle.iv_wire.specs.Endings.{Run}
@@ -21,7 +21,7 @@ pub record HasWritten (before : State) (r : Run) : Type 0 where
   pub commands : List Command
   pub text : List ℕ
   pub behind : IsBehind (run before commands).state r.now
-  pub reached : IsReached (run before commands).state.frame
+  pub numbers : AreNumbersUnique (run before commands).state.frame
   pub written : Appends r.taken r.written text
   pub texts : IsTextOf (run before commands).lines text
   pub sums : AddsUp before commands

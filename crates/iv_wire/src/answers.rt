@@ -1,5 +1,9 @@
 //! The texts of a command's lines, one behind another. Rows that come again, as they do for each reader who sees the same,
 //! are written once.
+//!
+//! `ok` and `subscribed` are fixed parts with numbers between them, proved to be the text of their value; refusals
+//! and faults are written by `serde_json`. Where a line has the rows of the line before, compared value by value,
+//! their text is copied, and with it the front of the line up to the number of the subscription.
 ghost use Rattle.std.specs.Prelude.{◌≡◌, ◌++◌, [], map, flat_map, decimal, true, IfOk, OnOk};
 ghost use Rattle.iv_machine.specs.Act as machine;
 ghost use Rattle.iv_engine.specs.Views.{line_of, reply_of};

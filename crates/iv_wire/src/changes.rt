@@ -1,4 +1,7 @@
 //! The text of the rows of a change, token by token.
+//!
+//! The token writer on which `serde_json` stands says that what it writes of a value's tokens is the value's compact
+//! text, so an answer is still what `serde_json` writes of its value.
 ghost use Rattle.std.specs.Prelude.{◌≡◌, [], IfOk, OnOk};
 ghost use Rattle.serde_json.specs.Written.{compact_text};
 ghost use Rattle.iv_rows.specs.View.{cell_of, cells_of};

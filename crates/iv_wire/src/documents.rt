@@ -1,4 +1,8 @@
 //! JSON values whose texts are borrowed from the line.
+//!
+//! What is read has the data that `serde_json` reads of the line: what nests deeper than 127, and a number beyond a
+//! float's range, are no JSON, and of a key that stands twice the last value stays, as one key. Names, texts and
+//! values of rows are copied out once, each into memory of its own.
 ghost use Rattle.std.specs.Prelude.{◌≡◌, ◌==◌, ◌<◌, false, true, length, slice_index, IfOk, IsTrue, is_some, option_map};
 ghost use Rattle.json.specs.Value.{value_view, items_view, members_view};
 ghost use Rattle.serde_json.specs.Read as serde_json;

@@ -1,4 +1,7 @@
 //! Parts of a JSON value.
+//!
+//! "No further keys" is the number of keys, with each key there: an object has no key twice once it is read. Where
+//! some keys need not be there, it is the number of those that must be, and of those of the others that are.
 ghost use Rattle.std.specs.Prelude.{◌≡◌, ◌==◌, ◌≤◌, IfOk, bytes_eq, false, length, map, option_map, option_and_then, string_bytes};
 ghost use Rattle.std.specs.List.{list_any};
 ghost use Rattle.json.specs.Value.{members_view};

@@ -1,4 +1,7 @@
 //! Bytes that are read before they are asked for.
+//!
+//! The reader is asked for 4,096 bytes at a time, and at most 65,537 times a line. Bytes up to the next newline,
+//! which `memchr` finds, are moved at once.
 ghost use Rattle.std.specs.Prelude.{◌≡◌, ◌≤◌, ◌<◌, ◌+◌, ◌||◌, ◌==◌, [], true, false, length, position, IfOk, OnOk, OnErr, is_err};
 ghost use Rattle.std.specs.Io.KnownBytes.{Keeps, IsAtEnd};
 

@@ -1,4 +1,8 @@
 //! Lines, each answered in turn.
+//!
+//! The answer to bytes folds the machine's `run` over the commands among the lines. That the state is one that the
+//! machine reaches is no premise: the engine's invariant gives it. A flush at the end alone would meet the contract;
+//! that each answer is flushed before the next line is read is shown by a dialogue over pipes (`.ci/examples`).
 ghost use Rattle.std.specs.Prelude.{◌≡◌, ◌≤◌, ◌+◌, ◌*◌, ◌||◌, ◌↔◌, ℕ, take, flat_map, true, false, IfOk, IfErr, IfSome, OnOk, OnErr, IsErrOf};
 ghost use Rattle.std.specs.Io.KnownBytes.{Appends};
 ghost use Rattle.iv_machine.specs.State.{State};

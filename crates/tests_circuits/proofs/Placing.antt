@@ -18,7 +18,7 @@ use Rattle.iv_algebra.specs.Shapes.{Join, Scan}
 use Rattle.iv_access.specs.Policies.{allowed, may_see}
 use Rattle.iv_delta.specs.Pairs.{Pairs}
 use Rattle.iv_circuit.specs.Changing.{Given, IsReady}
-use Rattle.iv_circuit.specs.Circuits.{cap, IsTurned, ReadersFollow, Running}
+use Rattle.iv_circuit.specs.Circuits.{IsTurned, ReadersFollow, Running}
 use Rattle.iv_circuit.specs.Nodes.{Scanned, plan_of}
 use Rattle.iv_circuit.proofs.Filled.{all_from}
 use Rattle.tests_circuits.specs.Swaps.{IsSwap}
@@ -96,7 +96,7 @@ module _ (old new : List Table) (c : Running) (given : Given) (follow : ReadersF
         ((after s.table).kinds q (λ e. n (number (copies q (list_behind (rows_of new s.table))) (sym (lists (rows_of new s.table) (after s.table).bag q) ∙ e)))));
   }
 
-  pub ready : IsReady cap c.node given
+  pub ready : IsReady c.cap c.node given
   ready = record {
     before = allowed reader.rights reader.role (λ n. list_behind (rows_of old n));
     after = allowed reader.rights reader.role (λ n. list_behind (rows_of new n));
@@ -106,7 +106,7 @@ module _ (old new : List Table) (c : Running) (given : Given) (follow : ReadersF
 
   -- all rows of table 0 go, and rows come into table 1
   pub swapping : (most : ℕ) (pairs : Pairs) → plan_of c.node ≡ Join (Scan 0) (Scan 1) pairs → rows_of old 1 ≡ [] → rows_of new 0 ≡ [] → length (given 0) ≤ most → length (given 1) ≤ most
-      → IsSwap most c.node given
+      → IsSwap most c given
   swapping most pairs plan had has l r = record {
     pairs = pairs;
     plan = plan;

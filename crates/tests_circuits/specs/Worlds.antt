@@ -9,7 +9,7 @@ use Rattle.iv_algebra.specs.declared.tables.Table.{Table}
 use Rattle.iv_access.specs.Policies.{allowed}
 use Rattle.iv_access.specs.Rights.{Rights}
 use Rattle.iv_circuit.specs.Changing.{Given}
-use Rattle.iv_circuit.specs.Circuits.{cap, AreScans, Running}
+use Rattle.iv_circuit.specs.Circuits.{AreScans, Running}
 use Rattle.iv_circuit.specs.Keeping.{StandsOn}
 
 -- no row of the table has a weight below 0, and each is of its kinds
@@ -37,4 +37,4 @@ pub record IsReader (tables : List Table) (c : Running) : Type 0 where
   pub rights : Rights
   pub role : ℕ
   pub scans : AreScans (heads_of tables) rights role c.node
-  pub stands : (T : Lists) → Hold tables T → StandsOn cap c.node (allowed rights role T)
+  pub stands : (T : Lists) → Hold tables T → StandsOn c.cap c.node (allowed rights role T)

@@ -1,4 +1,4 @@
-//! A circuit of the join over the two tables, as `admin` reads them.
+//! Circuits over the two tables, as `admin` reads them.
 ghost use Rattle.std.specs.Prelude.{◌≡◌, [], ◌∷◌, IfSome};
 ghost use Rattle.iv_algebra.specs.Shapes.{Join, Scan, shape_of};
 ghost use Rattle.iv_circuit.specs.Nodes.{plan_of};
@@ -8,6 +8,7 @@ use crate::plans::joined;
 use iv_access::{ADMIN, Access};
 use iv_algebra::{Plan, Tables};
 use iv_circuit::Circuit;
+use iv_rows::Kind;
 use std::alloc::Global;
 
 /// The circuit of a plan under the rights, where the plan is for the tables.
@@ -18,19 +19,39 @@ fn built(alloc: Global, plan: &Plan, access: &Access, tables: &Tables) -> Option
     if !plan.fits(tables) {
         return None;
     }
-    match Circuit::build(alloc, plan, access, ADMIN, tables) {
+    match Circuit::build(alloc, plan, access, ADMIN, tables, 1_024) {
         Ok(circuit) => Some(circuit),
         Err(_) => None,
     }
 }
 
-/// The same under new rights.
-fn planned(alloc: Global, plan: &Plan, tables: &Tables) -> Option<Circuit>
+/// Adds the two tables, which belong to `admin`.
+fn add_relations(alloc: Global, access: &mut Access) -> bool {
+    for name in ["a", "b"] {
+        let Ok(kinds) = Vec::from_array(alloc, [Kind::Int, Kind::Int]) else {
+            return false;
+        };
+        if access
+            .add_relation(ADMIN, name, "admin", Some(kinds))
+            .is_err()
+        {
+            return false;
+        }
+    }
+    true
+}
+
+/// The same under new rights, which know the two tables.
+pub(crate) fn planned(alloc: Global, plan: &Plan, tables: &Tables) -> Option<Circuit>
     ensures plan { IfSome result (λ circuit. plan_of circuit.node ≡ shape_of plan.now) }
     ensures reader { IfSome result (λ circuit. IsReader tables.now circuit) }
 {
-    let access = Access::new(alloc).ok()?;
-    built(alloc, plan, &access, tables)
+    let mut access = Access::new(alloc).ok()?;
+    if add_relations(alloc, &mut access) {
+        built(alloc, plan, &access, tables)
+    } else {
+        None
+    }
 }
 
 /// The circuit of the join.

@@ -1,10 +1,13 @@
-//! A test of circuits that counts: a batch over a join in which all left rows of a key go and right rows of it come.
+//! Tests of circuits. One counts: a batch over a join in which all left rows of a key go and right rows of it come. One holds
+//! whichever request for memory is refused.
 #![tactic(auto)]
 
 #[cfg(test)]
 mod circuits;
 #[cfg(test)]
 mod plans;
+#[cfg(test)]
+mod refused;
 #[cfg(test)]
 mod swaps;
 #[cfg(test)]

@@ -22,7 +22,7 @@ fn swap_prepared(
     deltas: &Deltas,
     meter: &mut Meter,
 ) -> Result<Pending, CircuitFault>
-    requires { IsSwap 200 circuit.now.node (change_in deltas.now) }
+    requires { IsSwap 200 circuit.now (change_in deltas.now) }
     ensures { meter.new ≤ meter.old + 19200 }
 {
     circuit.prepare(deltas, meter)

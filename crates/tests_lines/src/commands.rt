@@ -77,7 +77,7 @@ fn tell_first(alloc: Global, engine: &mut Engine) -> Result<(), Fail> {
 
 /// What the lines are answered behind `first_change`.
 fn answered(alloc: Global, lines: &[(&str, i64)]) -> Result<Vec<u8>, Fail> {
-    let mut engine = Engine::new(alloc)?;
+    let mut engine = Engine::new(alloc, 1_024)?;
     tell_first(alloc, &mut engine)?;
     all_told(alloc, &mut engine, lines)
 }
@@ -140,7 +140,7 @@ fn copies_have_a_limit(rt: HostRuntime) -> Result<(), Fail> {
 }
 
 /// Whether all commands keep the rules on shape.
-fn are_well(commands: &[Command]) -> bool
+pub fn are_well(commands: &[Command]) -> bool
     ensures { result ≡ list_all is_well_command (map command_of commands.now) }
 {
     for command in commands {
@@ -184,7 +184,7 @@ fn first_listed(alloc: Global, engine: &mut Engine) -> Result<Vec<u8>, Fail> {
 
 /// What a new engine answers to it, and whether the engine has failed then.
 fn first_run(alloc: Global) -> Result<(Vec<u8>, bool), Fail> {
-    let mut engine = Engine::new(alloc)?;
+    let mut engine = Engine::new(alloc, 1_024)?;
     let text = first_listed(alloc, &mut engine)?;
     Ok((text, engine.is_failed()))
 }
@@ -198,7 +198,7 @@ fn first_change_as_a_list(rt: HostRuntime) -> Result<(), Fail> {
 }
 
 /// What an engine answers to a command, where the command keeps the rules on shape.
-fn fault_of(engine: &mut Engine, command: Command) -> Option<EngineFault> {
+pub fn fault_of(engine: &mut Engine, command: Command) -> Option<EngineFault> {
     if !command.well() {
         return None;
     }
@@ -208,7 +208,7 @@ fn fault_of(engine: &mut Engine, command: Command) -> Option<EngineFault> {
 /// What an engine that has failed answers to a command, and to a list of none.
 fn answered_after_failure(alloc: Global) -> Result<(Option<EngineFault>, Vec<u8>), Fail> {
     let begin = command(alloc, r#"{"do":"begin","role":"admin","session":1}"#)?;
-    let mut engine = Engine::new(alloc)?;
+    let mut engine = Engine::new(alloc, 1_024)?;
     engine.fail();
     let fault = fault_of(&mut engine, begin);
     let text = listed(alloc, &mut engine, Vec::new(alloc))?;
@@ -225,7 +225,7 @@ fn nothing_is_answered_after_a_failure(rt: HostRuntime) -> Result<(), Fail> {
 
 #[test]
 fn an_engine_fails(rt: HostRuntime) -> Result<(), Fail> {
-    let mut engine = Engine::new(rt.alloc())?;
+    let mut engine = Engine::new(rt.alloc(), 1_024)?;
     assert!(rt; !engine.is_failed());
     engine.fail();
     assert!(rt; engine.is_failed());

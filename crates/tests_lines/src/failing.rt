@@ -186,7 +186,7 @@ fn readers_end(rt: HostRuntime) -> Result<(), Fail> {
 
 /// What is written for `first_change` by a reader that once fails, and then by another run over it and the same engine.
 fn stumbled(alloc: Global, step: usize, fails_at: u64) -> Result<Vec<u8>, AllocError> {
-    let mut engine = Engine::new(alloc)?;
+    let mut engine = Engine::new(alloc, 1_024)?;
     let stumbler = Stumbler {
         bytes: REQUESTS.as_bytes(),
         step,
@@ -370,7 +370,7 @@ fn a_flush_fails(rt: HostRuntime) -> Result<(), Fail> {
 
 /// How a run of a failed engine ends, the number of its reads, and how much it wrote.
 fn ended_failed(alloc: Global) -> Result<(Ended, u64, usize), AllocError> {
-    let mut engine = Engine::new(alloc)?;
+    let mut engine = Engine::new(alloc, 1_024)?;
     engine.fail();
     let mut reader = Giver {
         bytes: b"{\n",

@@ -8,11 +8,17 @@ mod commands;
 #[cfg(test)]
 mod damaged;
 #[cfg(test)]
+mod examples;
+#[cfg(test)]
 mod failing;
+#[cfg(test)]
+mod failing_once;
 #[cfg(test)]
 mod limits;
 #[cfg(test)]
 mod numbered;
+#[cfg(test)]
+mod query_limits;
 #[cfg(test)]
 mod refused;
 #[cfg(test)]

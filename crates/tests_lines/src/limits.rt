@@ -1,6 +1,8 @@
 //! The refusals of each request and the limits, as lines.
 use crate::numbered::{between, list_of, numbered};
-use crate::replayed::{answers, writes};
+use crate::replayed::answers;
+use iv_engine::Engine;
+use iv_wire::{FromRead, FromWrite, run};
 use std::alloc::{AllocError, Global};
 use std::test::Fail;
 
@@ -197,33 +199,103 @@ fn notes(alloc: Global, low: u64, high: u64) -> Result<String, AllocError> {
     list_of(alloc, [front, more, "]}\n"], (low, high))
 }
 
-/// A session, a table, and 65 writes of 1,000 rows.
-fn rows_below_65_000(alloc: Global) -> Result<String, AllocError> {
-    let mut lines = String::from_str(
-        alloc,
-        r#"{"do":"begin","role":"admin","session":1}
-{"do":"create_table","name":"notes","owner":"admin","columns":[["id","int"],["who","text"]],"session":1}
-"#,
-    )?;
-    for batch in 0..65u64 {
-        lines.push_str(&notes(alloc, batch * 1000, batch * 1000 + 1000)?)?;
-    }
-    Ok(lines)
+/// What an engine with the least row limit, 1,024, writes for the lines.
+fn written_by_the_least(alloc: Global, lines: &str) -> Result<Vec<u8>, AllocError> {
+    let mut written: Vec<u8> = Vec::new(alloc);
+    let mut engine = Engine::new(alloc, 1_024)?;
+    let mut reader = FromRead::new(lines.as_bytes());
+    let mut writer = FromWrite::new(&mut written);
+    let _ = run(alloc, &mut engine, &mut reader, &mut writer, 1_000_000);
+    Ok(written)
+}
+
+/// Whether it writes this text for the lines.
+fn writes_the_least(alloc: Global, lines: &str, text: &str) -> Result<bool, AllocError> {
+    Ok(written_by_the_least(alloc, lines)?.as_slice() == text.as_bytes())
 }
 
 #[test]
-fn rows_have_a_limit(rt: HostRuntime) -> Result<(), Fail> {
+fn cap_in_a_table(rt: HostRuntime) -> Result<(), Fail> {
     let alloc = rt.alloc();
-    let mut lines = rows_below_65_000(alloc)?;
-    for (low, high) in [(65_000, 65_537), (65_000, 65_536), (65_536, 65_537), (7, 8)] {
+    let mut lines = String::from_str(
+        alloc,
+        r#"{"do":"begin","role":"admin","session":1}
+{"do":"create_role","name":"ann","session":1}
+{"do":"create_table","name":"notes","owner":"admin","columns":[["id","int"],["who","text"]],"session":1}
+"#,
+    )?;
+    for (low, high) in [(1, 1001), (1001, 1025), (1025, 1026), (1024, 1025)] {
         lines.push_str(&notes(alloc, low, high)?)?;
     }
     let done = "{\"ok\":true,\"session\":1}\n";
-    let mut text = numbered(alloc, done, 0, 67)?;
+    let mut text = numbered(alloc, done, 0, 5)?;
     text.push_str("{\"error\":17,\"session\":1}\n")?;
     text.push_str(done)?;
+    assert!(rt; writes_the_least(alloc, &lines, &text)?);
+    Ok(())
+}
+
+/// A write of the rows with one key and the numbers from 1 to 32.
+fn thirty_two(alloc: Global, front: &str, more: &str) -> Result<String, AllocError> {
+    list_of(alloc, [front, more, "],\"session\":1}\n"], (1, 33))
+}
+
+/// A view of two tables with 32 rows each, which ann reads, and a row more.
+fn join_of_32(alloc: Global) -> Result<String, AllocError> {
+    let mut lines = String::from_str(
+        alloc,
+        r#"{"do":"begin","role":"admin","session":1}
+{"do":"create_role","name":"ann","session":1}
+{"do":"create_role","name":"bob","session":1}
+{"do":"create_table","name":"a","owner":"admin","columns":[["k","int"],["x","int"]],"session":1}
+{"do":"create_table","name":"b","owner":"admin","columns":[["k","int"],["y","int"]],"session":1}
+{"do":"create_view","name":"j","owner":"admin","query":"select a.x, b.y from a join b on a.k = b.k","session":1}
+{"do":"grant","on":"a","privileges":["select"],"to":"public","session":1}
+{"do":"grant","on":"b","privileges":["select"],"to":"public","session":1}
+{"do":"grant","on":"j","privileges":["select"],"to":"public","session":1}
+{"do":"begin","role":"ann","session":2}
+{"do":"begin","role":"bob","session":3}
+"#,
+    )?;
+    let front = r#"{"do":"write","entries":[{"on":"a","insert":[1,#]}"#;
+    lines.push_str(&thirty_two(alloc, front, r#",{"on":"a","insert":[1,#]}"#)?)?;
+    let front = r#"{"do":"write","entries":[{"on":"b","insert":[1,#]}"#;
+    lines.push_str(&thirty_two(alloc, front, r#",{"on":"b","insert":[1,#]}"#)?)?;
+    lines.push_str(
+        r#"{"do":"subscribe","on":"j","session":2}
+{"do":"write","entries":[{"on":"a","insert":[1,33]}],"session":1}
+"#,
+    )?;
+    Ok(lines)
+}
+
+/// The line with 32 rows for each of the numbers from 1 to 32.
+fn shown_32(alloc: Global) -> Result<String, AllocError> {
+    let front = "{\"changes\":[[1,[1,#]]";
+    let mut text = list_of(alloc, [front, ",[1,[1,#]]", ""], (1, 33))?;
+    for x in 2..33u64 {
+        let row = format!(in alloc; ",[1,[{x},#]]")?;
+        text.push_str(&numbered(alloc, &row, 1, 33)?)?;
+    }
+    text.push_str("],\"session\":2,\"sub\":1}\n")?;
+    Ok(text)
+}
+
+#[test]
+fn cap_at_a_node(rt: HostRuntime) -> Result<(), Fail> {
+    let alloc = rt.alloc();
+    let lines = join_of_32(alloc)?;
+    let mut text = numbered(alloc, "{\"ok\":true,\"session\":1}\n", 0, 9)?;
+    text.push_str(
+        r#"{"ok":true,"session":2}
+{"ok":true,"session":3}
+{"ok":true,"session":1}
+{"ok":true,"session":1}
+{"ok":true,"session":2,"sub":1}
+"#,
+    )?;
+    text.push_str(&shown_32(alloc)?)?;
     text.push_str("{\"error\":17,\"session\":1}\n")?;
-    text.push_str(done)?;
-    assert!(rt; writes(alloc, lines.as_bytes(), &text, "end of input")?);
+    assert!(rt; writes_the_least(alloc, &lines, &text)?);
     Ok(())
 }

@@ -1,24 +1,32 @@
-//! A test that holds whichever request for memory is refused, so that a script can refuse each in turn.
+//! Tests that hold whichever request for memory is refused, so that a script can refuse each in turn. Each prints a word for
+//! what came of it: `refused` where some request was.
 ghost use Rattle.std.specs.Prelude.{◌≡◌, ◌≤◌, ◌<◌, None, true};
 
-use crate::replayed::{ANSWERS, REQUESTS};
-use iv_engine::Engine;
-use iv_wire::{End, EndFault, FromRead, RunFault, Sink, run};
+use crate::commands::{are_well, fault_of};
+use crate::examples::{
+    EXCEPT_UNDER_POLICY, Example, FIRST_CHANGE, GROUPED_SUMS, REVOKE_TAKES_BACK,
+    ROW_SECURITY_THEN_POLICY,
+};
+use crate::replayed::{ANSWERS, Ended, REQUESTS};
+use iv_engine::{Act, Command, Engine, EngineFault, Line};
+use iv_wire::{End, EndFault, FromRead, RunFault, Sink, WireFault, read_line, run, write_line};
+use std::alloc::{AllocError, Global};
+use std::io::Read;
 use std::test::Fail;
 
 /// A sink with room of its own, which takes no memory.
 #[derive(Drop)]
 struct Kept {
-    room: [u8; 512],
+    room: [u8; 1024],
     len: usize,
     failed: bool,
-    ghost in_room: { len ≤ 512 },
+    ghost in_room: { len ≤ 1024 },
 }
 
 impl Kept {
     fn new() -> Kept {
         Kept {
-            room: [0; 512],
+            room: [0; 1024],
             len: 0,
             failed: false,
         }
@@ -39,7 +47,7 @@ impl Sink for Kept {
     ghost calls = { λ _. 0 };
 
     fn write(&mut self, bytes: &[u8]) -> Result<usize, EndFault> {
-        let count = bytes.len().min(512 - self.len);
+        let count = bytes.len().min(1024 - self.len);
         let is_full = count == 0 && 0 < bytes.len();
         self.failed = self.failed || is_full;
         if is_full {
@@ -55,38 +63,232 @@ impl Sink for Kept {
     }
 }
 
-/// Prints `refused` where some request for memory was refused.
-#[test]
-fn first_change_holds(rt: HostRuntime) -> Result<(), Fail> {
-    let alloc = rt.alloc();
-    let Ok(mut engine) = Engine::new(alloc) else {
-        println!(rt; "refused")?;
-        return Ok(());
-    };
-    let mut writer = Kept::new();
-    let ended = run(
-        alloc,
-        &mut engine,
-        &mut FromRead::new(REQUESTS.as_bytes()),
-        &mut writer,
-        10,
-    );
-    let written = writer.bytes();
-    if ended == Ok(End::Input) {
-        assert_eq!(rt; written, ANSWERS.as_bytes());
-        return Ok(());
+/// What came of a test where a request for memory may have been refused.
+type Word = &'static str;
+
+const HELD: Word = "held";
+
+const REFUSED: Word = "refused";
+
+/// What stands behind the front, where the text of the two parts begins with it.
+fn rest_of<'a>(parts: [&'a str; 2], front: &[u8]) -> Option<[&'a [u8]; 2]> {
+    let [first, second] = parts;
+    let (first, second) = (first.as_bytes(), second.as_bytes());
+    match front.strip_prefix(first) {
+        Some(more) => Some([second.strip_prefix(more)?, b""]),
+        None => Some([first.strip_prefix(front)?, second]),
     }
-    assert!(rt; ended == Err(RunFault::Memory));
-    assert!(rt; ANSWERS.as_bytes().starts_with(written));
-    assert!(rt; matches!(written.last(), None | Some(b'\n')));
-    let again = run(
+}
+
+/// Whether these bytes are the whole answers to the first so many commands: what follows begins with a reply, which is the
+/// first line of each answer.
+fn is_of_whole_commands(written: &[u8], answers: [&str; 2]) -> bool {
+    match rest_of(answers, written) {
+        Some([first, second]) => {
+            let next = if first.is_empty() { second } else { first };
+            next.is_empty() || next.starts_with(b"{\"ok\":true,")
+        }
+        None => false,
+    }
+}
+
+/// Whether they are all the answers.
+fn is_whole(written: &[u8], answers: [&str; 2]) -> bool {
+    matches!(rest_of(answers, written), Some([b"", b""]))
+}
+
+fn finish() -> Command {
+    Command {
+        session: 1,
+        act: Act::Finish,
+    }
+}
+
+/// What a list of one command is answered.
+fn fault_of_list(alloc: Global, engine: &mut Engine) -> Option<EngineFault> {
+    let commands = Vec::from_array(alloc, [finish()]).ok()?;
+    if !are_well(&commands) {
+        return None;
+    }
+    engine.run_list(commands).err()
+}
+
+/// How a run of `first_change` ends.
+fn ended_again(alloc: Global, engine: &mut Engine, writer: &mut Kept) -> Ended {
+    run(
         alloc,
-        &mut engine,
+        engine,
         &mut FromRead::new(REQUESTS.as_bytes()),
-        &mut writer,
-        10,
-    );
-    assert!(rt; again == Err(RunFault::Failed));
-    println!(rt; "refused")?;
+        writer,
+        100,
+    )
+}
+
+/// Whether the engine answers `Failed` to a command, to a list of one, and to lines, of which nothing is written.
+fn has_failed(alloc: Global, engine: &mut Engine) -> bool {
+    let mut writer = Kept::new();
+    fault_of(engine, finish()) == Some(EngineFault::Failed)
+        && fault_of_list(alloc, engine) == Some(EngineFault::Failed)
+        && ended_again(alloc, engine, &mut writer) == Err(RunFault::Failed)
+        && writer.bytes().is_empty()
+}
+
+/// Whether it has failed for good: hanging up changes nothing of it.
+fn has_failed_for_good(alloc: Global, engine: &mut Engine) -> bool {
+    if !engine.is_failed() || !has_failed(alloc, engine) {
+        return false;
+    }
+    engine.hang_up();
+    engine.is_failed() && has_failed(alloc, engine)
+}
+
+/// How a run of the example ends.
+fn ended_of(alloc: Global, engine: &mut Engine, example: Example, writer: &mut Kept) -> Ended {
+    let [first, second] = example.requests;
+    let reader = first.as_bytes().chain(second.as_bytes());
+    run(alloc, engine, &mut FromRead::new(reader), writer, 100)
+}
+
+/// What comes of a run of the example.
+fn run_through(alloc: Global, engine: &mut Engine, example: Example) -> Word {
+    let mut writer = Kept::new();
+    match ended_of(alloc, engine, example, &mut writer) {
+        Ok(End::Input) if is_whole(writer.bytes(), example.answers) => HELD,
+        Err(RunFault::Memory) if !is_of_whole_commands(writer.bytes(), example.answers) => {
+            "the answers are not those of whole commands"
+        }
+        Err(RunFault::Memory) if has_failed_for_good(alloc, engine) => REFUSED,
+        Err(RunFault::Memory) => "the engine goes on",
+        _ => "other answers",
+    }
+}
+
+/// The same with a new engine.
+fn ran(alloc: Global, example: Example) -> Word {
+    match Engine::new(alloc, 1_024) {
+        Ok(mut engine) => run_through(alloc, &mut engine, example),
+        Err(_) => REFUSED,
+    }
+}
+
+fn tell(rt: &HostRuntime, word: Word) -> Result<(), Fail> {
+    if word != HELD && word != REFUSED {
+        return Err(Fail::new(word));
+    }
+    println!(rt; "{word}")?;
     Ok(())
+}
+
+#[test]
+fn first_change(rt: HostRuntime) -> Result<(), Fail> {
+    tell(&rt, ran(rt.alloc(), FIRST_CHANGE))
+}
+
+#[test]
+fn row_security_then_policy(rt: HostRuntime) -> Result<(), Fail> {
+    tell(&rt, ran(rt.alloc(), ROW_SECURITY_THEN_POLICY))
+}
+
+#[test]
+fn grouped_sums(rt: HostRuntime) -> Result<(), Fail> {
+    tell(&rt, ran(rt.alloc(), GROUPED_SUMS))
+}
+
+#[test]
+fn except_under_policy(rt: HostRuntime) -> Result<(), Fail> {
+    tell(&rt, ran(rt.alloc(), EXCEPT_UNDER_POLICY))
+}
+
+#[test]
+fn revoke_takes_back(rt: HostRuntime) -> Result<(), Fail> {
+    tell(&rt, ran(rt.alloc(), REVOKE_TAKES_BACK))
+}
+
+/// Adds the commands of the lines.
+fn read_commands(alloc: Global, lines: &str, commands: &mut Vec<Command>) -> Result<(), WireFault> {
+    for line in lines.lines() {
+        let command = read_line(alloc, line.as_bytes())?;
+        if commands.push(command).is_err() {
+            return Err(WireFault::Memory);
+        }
+    }
+    Ok(())
+}
+
+/// Adds the texts of the lines.
+fn write_texts(alloc: Global, lines: &[Line], text: &mut Vec<u8>) -> Result<(), AllocError> {
+    for line in lines {
+        text.extend_from_slice(&write_line(alloc, line)?)?;
+    }
+    Ok(())
+}
+
+/// What comes of the lines that a list is answered.
+fn compared(alloc: Global, lines: &[Line], answers: [&str; 2]) -> Word {
+    let mut text = Vec::new(alloc);
+    match write_texts(alloc, lines, &mut text) {
+        Ok(()) if is_whole(&text, answers) => HELD,
+        Ok(()) => "other answers",
+        Err(_) => REFUSED,
+    }
+}
+
+/// What comes of commands as a list, which a new engine is asked.
+fn listed(alloc: Global, engine: &mut Engine, commands: Vec<Command>, answers: [&str; 2]) -> Word {
+    if !are_well(&commands) {
+        return "the commands break the rules on shape";
+    }
+    match engine.run_list(commands) {
+        Ok(lines) => compared(alloc, &lines, answers),
+        Err(EngineFault::Memory) if has_failed_for_good(alloc, engine) => REFUSED,
+        Err(EngineFault::Memory) => "the engine goes on",
+        Err(EngineFault::Failed) => "the engine had failed",
+    }
+}
+
+/// The same with a new engine.
+fn listed_by_new(alloc: Global, commands: Vec<Command>, answers: [&str; 2]) -> Word {
+    match Engine::new(alloc, 1_024) {
+        Ok(mut engine) => listed(alloc, &mut engine, commands, answers),
+        Err(_) => REFUSED,
+    }
+}
+
+/// What comes of the example's requests as a list of commands.
+fn ran_as_list(alloc: Global, example: Example) -> Word {
+    let mut commands = Vec::new(alloc);
+    let [first, second] = example.requests;
+    for lines in [first, second] {
+        match read_commands(alloc, lines, &mut commands) {
+            Ok(()) => {}
+            Err(WireFault::Memory) => return REFUSED,
+            Err(_) => return "a line is no command",
+        }
+    }
+    listed_by_new(alloc, commands, example.answers)
+}
+
+#[test]
+fn first_change_as_a_list(rt: HostRuntime) -> Result<(), Fail> {
+    tell(&rt, ran_as_list(rt.alloc(), FIRST_CHANGE))
+}
+
+#[test]
+fn row_security_then_policy_as_a_list(rt: HostRuntime) -> Result<(), Fail> {
+    tell(&rt, ran_as_list(rt.alloc(), ROW_SECURITY_THEN_POLICY))
+}
+
+#[test]
+fn grouped_sums_as_a_list(rt: HostRuntime) -> Result<(), Fail> {
+    tell(&rt, ran_as_list(rt.alloc(), GROUPED_SUMS))
+}
+
+#[test]
+fn except_under_policy_as_a_list(rt: HostRuntime) -> Result<(), Fail> {
+    tell(&rt, ran_as_list(rt.alloc(), EXCEPT_UNDER_POLICY))
+}
+
+#[test]
+fn revoke_takes_back_as_a_list(rt: HostRuntime) -> Result<(), Fail> {
+    tell(&rt, ran_as_list(rt.alloc(), REVOKE_TAKES_BACK))
 }

@@ -3,6 +3,9 @@ use iv_engine::Engine;
 use iv_wire::{End, FromRead, FromWrite, RunFault, Sink, Source, run};
 use std::alloc::{AllocError, Global};
 
+/// The row limit of the engines, more than any test but those of the limit has rows.
+const ROW_LIMIT: u32 = 32_768;
+
 /// The requests of the worked example `first_change`.
 pub const REQUESTS: &str = r#"{"do":"begin","role":"admin","session":1}
 {"do":"create_role","name":"ann","session":1}
@@ -47,7 +50,7 @@ pub fn ended<R: Source, W: Sink>(
     writer: &mut W,
     lines: u32,
 ) -> Result<Ended, AllocError> {
-    let mut engine = Engine::new(alloc)?;
+    let mut engine = Engine::new(alloc, ROW_LIMIT)?;
     let ended = run(alloc, &mut engine, reader, writer, lines);
     if engine.is_failed() {
         return Ok(Err(RunFault::Failed));

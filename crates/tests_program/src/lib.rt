@@ -2,6 +2,8 @@
 #![tactic(auto)]
 
 #[cfg(test)]
+mod refused;
+#[cfg(test)]
 mod served;
 #[cfg(test)]
 mod words;

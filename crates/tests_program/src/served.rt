@@ -10,13 +10,13 @@ use std::net::{Shutdown, SocketAddr, TcpListener, TcpStream};
 use std::test::Fail;
 
 /// How serving through a new engine ends; none where memory was refused.
-fn served(
+pub fn served(
     alloc: Global,
     listener: &TcpListener,
     connections: u32,
     lines: u32,
 ) -> Option<Result<(), ServeFault>> {
-    let Ok(mut engine) = Engine::new(alloc) else {
+    let Ok(mut engine) = Engine::new(alloc, 1_024) else {
         return None;
     };
     Some(serve_on(alloc, &mut engine, listener, connections, lines))
@@ -24,7 +24,7 @@ fn served(
 
 /// How serving through an engine that has failed ends.
 fn served_by_failed(alloc: Global, listener: &TcpListener) -> Option<Result<(), ServeFault>> {
-    let Ok(mut engine) = Engine::new(alloc) else {
+    let Ok(mut engine) = Engine::new(alloc, 1_024) else {
         return None;
     };
     engine.fail();
@@ -32,7 +32,7 @@ fn served_by_failed(alloc: Global, listener: &TcpListener) -> Option<Result<(), 
 }
 
 /// A client that has sent the bytes and shut its writing side.
-fn client(rt: &HostRuntime, address: SocketAddr, bytes: &[u8]) -> Result<TcpStream, Fail> {
+pub fn client(rt: &HostRuntime, address: SocketAddr, bytes: &[u8]) -> Result<TcpStream, Fail> {
     let mut stream = TcpStream::connect(rt, address)?;
     stream.write_all(bytes)?;
     stream.shutdown(Shutdown::Write)?;
@@ -46,7 +46,7 @@ fn answers(alloc: Global, mut client: TcpStream) -> Result<Vec<u8>, Fail> {
     Ok(given)
 }
 
-const FIRST: &[u8] = b"{\"do\":\"begin\",\"role\":\"admin\",\"session\":1}
+pub const FIRST: &[u8] = b"{\"do\":\"begin\",\"role\":\"admin\",\"session\":1}
 {\"do\":\"create_role\",\"name\":\"ann\",\"session\":1}
 {\"do\":\"create_table\",\"name\":\"notes\",\"owner\":\"admin\",\"columns\":[[\"id\",\"int\"],[\"who\",\"text\"]],\"session\":1}
 {\"do\":\"grant\",\"on\":\"notes\",\"privileges\":[\"select\"],\"to\":\"ann\",\"session\":1}
@@ -55,7 +55,7 @@ const FIRST: &[u8] = b"{\"do\":\"begin\",\"role\":\"admin\",\"session\":1}
 {\"do\":\"write\",\"entries\":[{\"on\":\"notes\",\"insert\":[1,\"ann\"]}],\"session\":1}
 ";
 
-const FIRST_ANSWERS: &[u8] = b"{\"ok\":true,\"session\":1}
+pub const FIRST_ANSWERS: &[u8] = b"{\"ok\":true,\"session\":1}
 {\"ok\":true,\"session\":1}
 {\"ok\":true,\"session\":1}
 {\"ok\":true,\"session\":1}

@@ -7,13 +7,14 @@ use std::test::Fail;
 #[test]
 fn reads_settings(rt: HostRuntime) -> Result<(), Fail> {
     let alloc = rt.alloc();
-    let most = Settings::Replay {
-        lines: 4_294_967_295,
+    let plain = Settings::Replay {
+        lines: 1_000_000,
+        rows: 65_536,
     };
-    assert!(rt; settings(alloc, &["replay"])? == Settings::Replay { lines: 1_000_000 });
-    assert!(rt; settings(alloc, &["replay", "--lines", "1"])? == Settings::Replay { lines: 1 });
-    assert!(rt; settings(alloc, &["replay", "--lines=4294967295"])? == most);
+    assert!(rt; settings(alloc, &["replay"])? == plain);
     for (word, lines) in [
+        ("1", 1),
+        ("4294967295", 4_294_967_295),
         ("2", 2),
         ("10", 10),
         ("007", 7),
@@ -21,10 +22,30 @@ fn reads_settings(rt: HostRuntime) -> Result<(), Fail> {
         ("1000001", 1_000_001),
     ] {
         let words = ["replay", "--lines", word];
-        assert!(rt;
-            settings(alloc, &words)? == Settings::Replay { lines },
-            "{word}"
-        );
+        let wanted = Settings::Replay {
+            lines,
+            rows: 65_536,
+        };
+        assert!(rt; settings(alloc, &words)? == wanted, "{word}");
+    }
+    Ok(())
+}
+
+#[test]
+fn reads_the_row_limit(rt: HostRuntime) -> Result<(), Fail> {
+    let alloc = rt.alloc();
+    for (word, rows) in [
+        ("1024", 1_024),
+        ("1025", 1_025),
+        ("1000000", 1_000_000),
+        ("1048576", 1_048_576),
+    ] {
+        let words = ["replay", "--rows", word];
+        let wanted = Settings::Replay {
+            lines: 1_000_000,
+            rows,
+        };
+        assert!(rt; settings(alloc, &words)? == wanted, "{word}");
     }
     Ok(())
 }
@@ -36,16 +57,19 @@ fn reads_settings_of_serve(rt: HostRuntime) -> Result<(), Fail> {
         port: 1,
         connections: 1_000_000,
         lines: 1_000_000,
+        rows: 65_536,
     };
     assert!(rt; settings(alloc, &["serve", "--port", "1"])? == plain);
     let full = Settings::Serve {
         port: 65_535,
         connections: 2,
         lines: 4_294_967_295,
+        rows: 1_024,
     };
     let words = [
         "serve",
         "--lines=4294967295",
+        "--rows=1024",
         "--connections",
         "2",
         "--port=65535",
@@ -68,6 +92,9 @@ fn refuses_words(rt: HostRuntime) -> Result<(), Fail> {
         (["replay", "--lines", ""], ErrorKind::ValueValidation),
         (["replay", "--lines", "1.0"], ErrorKind::ValueValidation),
         (["replay", "--lines", "1 "], ErrorKind::ValueValidation),
+        (["replay", "--rows", "1023"], ErrorKind::ValueValidation),
+        (["replay", "--rows", "1048577"], ErrorKind::ValueValidation),
+        (["serve", "--rows", "0"], ErrorKind::ValueValidation),
         (["replay", "--port", "1"], ErrorKind::UnknownArgument),
         (["serve", "--port", "0"], ErrorKind::ValueValidation),
         (["serve", "--port", "65536"], ErrorKind::ValueValidation),

@@ -90,7 +90,7 @@ fn evaluated(alloc: Global, plan: &Plan, tables: &Tables) -> Result<Result<ZSet,
     if !plan.fits(tables) {
         return Err(Fail::new("the plan does not fit"));
     }
-    Ok(eval(alloc, plan, tables, &mut Meter::new()))
+    Ok(eval(alloc, plan, tables, 1_024, &mut Meter::new()))
 }
 
 /// Whether the plan breaks a limit over these tables.

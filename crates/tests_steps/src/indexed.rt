@@ -11,7 +11,7 @@ use iv_delta::{DeltaFault, GroupIndex, Join, KeyIndex, step_join};
 use iv_zset::{Meter, ZSet};
 use std::alloc::{AllocError, Global};
 
-const CAP: usize = 65_536;
+const ROW_LIMIT: usize = 1_024;
 
 /// A number and a sum, where they are kept.
 pub(crate) type Sums = (Option<i128>, Option<i128>);
@@ -148,7 +148,7 @@ fn step_moving(
     requires left_change { da.old ≡ [] }
 {
     if move_rows(alloc, a, da, db, rows) && are_few(da) && are_few(db) {
-        step_join(alloc, join, a, b, out, da, db, CAP, &mut Meter::new())
+        step_join(alloc, join, a, b, out, da, db, ROW_LIMIT, &mut Meter::new())
     } else {
         Err(DeltaFault::Memory)
     }
@@ -217,7 +217,7 @@ fn step_filled(
         && are_few(da)
         && are_few(db)
     {
-        step_join(alloc, join, a, b, out, da, db, CAP, &mut Meter::new())
+        step_join(alloc, join, a, b, out, da, db, ROW_LIMIT, &mut Meter::new())
     } else {
         Err(DeltaFault::Memory)
     }

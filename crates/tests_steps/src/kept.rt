@@ -11,7 +11,7 @@ use iv_delta::{DeltaFault, GroupIndex, step_group_kept};
 use iv_zset::{Meter, ZSet};
 use std::alloc::Global;
 
-const CAP: usize = 65_536;
+const ROW_LIMIT: usize = 1_024;
 
 /// The step where the old output is at hand.
 fn step_over(alloc: Global, a: &ZSet, out: &ZSet, d: &ZSet) -> Result<ZSet, DeltaFault>
@@ -22,7 +22,7 @@ fn step_over(alloc: Global, a: &ZSet, out: &ZSet, d: &ZSet) -> Result<ZSet, Delt
     requires old { HasGroups (0 ∷ []) (Sum 1 ∷ []) a.now out.now }
 {
     let index = GroupIndex::build(alloc, &[0], &[Agg::Sum(1)], a, &mut Meter::new())?;
-    step_group_kept(alloc, &index, a, out, d, CAP, &mut Meter::new())
+    step_group_kept(alloc, &index, a, out, d, ROW_LIMIT, &mut Meter::new())
 }
 
 /// The step over the groups of a Z-set.
@@ -32,7 +32,7 @@ fn step_groups_of(alloc: Global, a: &ZSet, d: &ZSet) -> Result<ZSet, DeltaFault>
     requires bag { IsBag a.now }
     requires new_range { AllInRange (d.now ++ a.now) }
 {
-    match group_rows(alloc, &[0], &[Agg::Sum(1)], a, CAP, &mut Meter::new()) {
+    match group_rows(alloc, &[0], &[Agg::Sum(1)], a, ROW_LIMIT, &mut Meter::new()) {
         Ok(out) => step_over(alloc, a, &out, d),
         Err(fault) => Err(fault),
     }

@@ -11,7 +11,7 @@ use iv_delta::{Bilinear, DeltaFault, Join, step_bilinear, step_group};
 use iv_zset::{Meter, ZSet};
 use std::alloc::{AllocError, Global};
 
-const CAP: usize = 65_536;
+const ROW_LIMIT: usize = 1_024;
 
 /// The rows of a case.
 #[derive(Clone, Copy)]
@@ -63,7 +63,7 @@ fn step_filled_pair<B: Bilinear>(
             out,
             left_change,
             right_change,
-            CAP,
+            ROW_LIMIT,
             &mut Meter::new(),
         )
     } else {
@@ -192,7 +192,7 @@ fn step_filled_groups(
         && fill(alloc, d, true, come, y)
         && fill(alloc, out, true, before, 1)
     {
-        step_group(alloc, &[0], aggs, a, out, d, CAP, &mut Meter::new())
+        step_group(alloc, &[0], aggs, a, out, d, ROW_LIMIT, &mut Meter::new())
     } else {
         Err(DeltaFault::Memory)
     }

@@ -12,7 +12,7 @@ use iv_rows::Value;
 use iv_zset::{Meter, ZSet};
 use std::alloc::{AllocError, Global};
 
-const CAP: usize = 65_536;
+const ROW_LIMIT: usize = 1_024;
 
 fn above_one() -> Filter {
     Filter {
@@ -28,7 +28,7 @@ fn above_one() -> Filter {
 pub(crate) fn filtered(alloc: Global) -> Result<Seen, DeltaFault> {
     let out = two(alloc, &[2], 1, &[2], 0)?;
     let d = two(alloc, &[1], 5, &[2], -1)?;
-    let answer = step_linear(alloc, &above_one(), &out, &d, CAP, &mut Meter::new());
+    let answer = step_linear(alloc, &above_one(), &out, &d, ROW_LIMIT, &mut Meter::new());
     seen_of(alloc, answer, false, &[1], &[2])
 }
 
@@ -46,7 +46,7 @@ fn step_project(alloc: Global, out: &ZSet, d: &ZSet) -> Result<ZSet, DeltaFault>
     requires rows { OfRows (λ q. All (λ k. k < length q) (0 ∷ [])) d.now }
 {
     let project = first_column(alloc)?;
-    step_linear(alloc, &project, out, d, CAP, &mut Meter::new())
+    step_linear(alloc, &project, out, d, ROW_LIMIT, &mut Meter::new())
 }
 
 /// The first column: a row comes and one goes, both with a 1 there.
@@ -61,7 +61,7 @@ pub(crate) fn signs(alloc: Global) -> Result<Seen, DeltaFault> {
     let out = two(alloc, &[1], 1, &[1], 0)?;
     let d = two(alloc, &[5], 2, &[-1], 1)?;
     let positive = Positive { column: 0 };
-    let answer = step_linear(alloc, &positive, &out, &d, CAP, &mut Meter::new());
+    let answer = step_linear(alloc, &positive, &out, &d, ROW_LIMIT, &mut Meter::new());
     seen_of(alloc, answer, false, &[1], &[0])
 }
 
@@ -118,7 +118,7 @@ pub(crate) fn united(
 pub(crate) fn once(alloc: Global, old: i64, change: i64) -> Result<Seen, DeltaFault> {
     let a = two(alloc, &[1], old, &[1], 0)?;
     let d = two(alloc, &[1], change, &[1], 0)?;
-    let answer = step_distinct(alloc, &a, &d, &mut Meter::new());
+    let answer = step_distinct(alloc, &a, &d, ROW_LIMIT, &mut Meter::new());
     seen_of(alloc, answer, false, &[1], &[1])
 }
 
@@ -133,7 +133,7 @@ fn step_right_side(
     requires { IsFew da.now }
 {
     let db = two(alloc, &[1], right, &[1], 0)?;
-    step_except(alloc, a, b, da, &db, &mut Meter::new())
+    step_except(alloc, a, b, da, &db, ROW_LIMIT, &mut Meter::new())
 }
 
 fn step_sides(

@@ -7,7 +7,7 @@ use iv_delta::DeltaFault;
 
 const MAX: i64 = i64::MAX;
 
-const CAP: usize = 65_536;
+const ROW_LIMIT: usize = 1_024;
 
 type Answer = Result<Seen, DeltaFault>;
 
@@ -21,8 +21,8 @@ fn linear_operators(rt: HostRuntime) {
 #[test]
 fn unions(rt: HostRuntime) {
     let cases: [((i64, i64), (i64, i64), usize, Answer); 5] = [
-        ((1, 0), (-1, 0), CAP, Ok((0, 0, 0))),
-        ((1, 0), (0, 0), CAP, Err(DeltaFault::Limit)),
+        ((1, 0), (-1, 0), ROW_LIMIT, Ok((0, 0, 0))),
+        ((1, 0), (0, 0), ROW_LIMIT, Err(DeltaFault::Limit)),
         ((-MAX, 1), (0, 0), 1, Ok((2, -MAX, 1))),
         ((0, 1), (0, 0), 1, Err(DeltaFault::Limit)),
         ((0, 1), (0, 0), 2, Ok((1, 0, 1))),

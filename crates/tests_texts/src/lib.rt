@@ -4,6 +4,8 @@
 #[cfg(test)]
 mod bind;
 #[cfg(test)]
+mod prefixes;
+#[cfg(test)]
 mod query;
 #[cfg(test)]
 mod shown;

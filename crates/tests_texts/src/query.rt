@@ -1,7 +1,7 @@
 //! Reading queries and policies: tables with a text a line, ` => `, and the tree with all places or the fault.
 
 use crate::shown::{Kind, shown};
-use iv_query::{QueryFault, read_pred, read_query};
+use iv_query::{read_pred, read_query};
 use std::alloc::{AllocError, Global};
 
 fn is(alloc: Global, kind: Kind, text: &str, want: &str) -> bool {
@@ -230,6 +230,25 @@ fn nesting(rt: HostRuntime) {
     assert!(rt; repeated_is_read(rt.alloc(), "(true) and ", 40, "(true)"));
 }
 
+fn padded_query(alloc: Global, spaces: usize) -> Result<String, AllocError> {
+    repeated(alloc, " ", spaces, "select x from a")
+}
+
+fn padded_is(alloc: Global, spaces: usize, want: &str) -> bool {
+    match padded_query(alloc, spaces) {
+        Ok(text) => is(alloc, Kind::View, &text, want),
+        Err(_) => false,
+    }
+}
+
+#[test]
+fn lengths_of_queries(rt: HostRuntime) {
+    // A text of 4,096 bytes, whose last 15 are the query, and one of 4,097.
+    let query = "select@4081 x@4088 from a@4095";
+    assert!(rt; padded_is(rt.alloc(), 4081, query));
+    assert!(rt; padded_is(rt.alloc(), 4082, "4096 too long"));
+}
+
 #[test]
 fn lengths(rt: HostRuntime) {
     // Words of 63 and of 64 bytes.
@@ -277,51 +296,4 @@ select x from a join b on k = k join c on k = k join d on k = k union select x f
     let eight =
         "select x from a join b on k = k join c on k = k join d on k = k union select x from e join f on k = k join g on k = k except select x from h";
     assert!(rt; query_is_read(rt.alloc(), eight));
-}
-
-fn fault_of(alloc: Global, text: &str) -> Option<QueryFault> {
-    read_query(alloc, text).err()
-}
-
-// The place of a query's fault, or 0 where it has none.
-fn fault_place(alloc: Global, text: &str) -> usize {
-    match fault_of(alloc, text) {
-        Some(QueryFault::At { place, .. }) => place,
-        _ => 0,
-    }
-}
-
-// Whether each text that begins the given one is read, or has a fault in its own bytes.
-fn prefixes_are_read(alloc: Global, text: &str) -> bool {
-    for end in 0..=text.len() {
-        match text.get(..end) {
-            Some(prefix) if fault_place(alloc, prefix) <= end => {}
-            _ => return false,
-        }
-    }
-    true
-}
-
-#[test]
-fn prefixes(rt: HostRuntime) {
-    let texts = "\
-select who, sum(id) as s, count(*) as n from notes where id < 100 group by who
-select a.x, b.y from a join b on a.k = b.k
-select x from a union select y from b
-select x from a union all select y from b
-select x from a except select y from b
-select id from notes
-select id from v
-select id, from notes
-select nope from notes
-select who, count(*) as n from notes
-select x from a where x = 1-1
-select x from a where x = 1a
-select x from a where x = 9223372036854775808
-select a.x from a join b on a.k = b.z
-select a.x from a join b on a.k = a.x
-select * from a join b on a.k = b.k";
-    for text in texts.lines() {
-        assert!(rt; prefixes_are_read(rt.alloc(), text), "{text}");
-    }
 }

@@ -1,5 +1,5 @@
 use Rattle.std.proofs.Common.{◌≡◌, ◌<◌, false}
-use Rattle.iv_machine.specs.Reached.{IsReached}
+use Rattle.iv_machine.specs.Reached.{AreNumbersUnique}
 use Rattle.iv_machine.specs.State.{State}
 use Rattle.iv_engine.specs.Seen.{IsBehind}
 use Rattle.iv_program.specs.Serves.{HasServed, IsClosed}
@@ -9,6 +9,6 @@ abbrev pub invariant-loop : goal.invariant-loop
 invariant-loop l = record {
   served : (s : State) → IsBehind s l.fn.engine → HasServed l.lines l.counter s l.engine;
   closed : 0 < l.counter → IsClosed l.engine.frame;
-  reached : IsReached l.engine.frame;
+  numbers : AreNumbersUnique l.engine.frame;
   failed : l.engine.failed ≡ false;
 }

@@ -1,3 +1,6 @@
+use Rattle.std.proofs.Common.{sym, subst}
+use Rattle.iv_access.specs.Policies.{allowed}
+use Rattle.iv_circuit.specs.Keeping.{StandsOn}
 use Rattle.tests_circuits.proofs.circuits.built.Goals as goal
 
 pub returns-in-Ok-clause-reader : goal.returns-in-Ok-clause-reader
@@ -5,5 +8,5 @@ returns-in-Ok-clause-reader c = record {
   rights = c.args.access.now.rights;
   role = 0;
   scans = c.in-Ok.ensures.scans;
-  stands = c.in-Ok.ensures.answers;
+  stands = λ T hold. subst (λ k. StandsOn k c.in-Ok.circuit.node (allowed c.args.access.now.rights 0 T)) (sym c.in-Ok.ensures.cap) (c.in-Ok.ensures.answers T hold);
 }

@@ -6,4 +6,4 @@ pub prepare-requires : goal.prepare-requires
 prepare-requires c = record { before = c.requires.before; after = c.requires.after; stands = c.requires.stands; leads = c.requires.leads }
 
 pub returns : goal.returns
-returns c = swap_counts c.args.circuit.now.node (change_in c.args.deltas.now) 200 c.args.meter.now c.prepare.new.meter c.requires c.prepare.ensures.meter
+returns c = swap_counts c.args.circuit.now (change_in c.args.deltas.now) 200 c.args.meter.now c.prepare.new.meter c.requires c.prepare.ensures.meter

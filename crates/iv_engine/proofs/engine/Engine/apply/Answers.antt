@@ -1,16 +1,16 @@
 use Rattle.std.proofs.Common.{◌≡◌, ◌∙◌, false, map, sym, ap, subst}
 use Rattle.iv_machine.specs.Machine.{step}
 use Rattle.iv_machine.specs.State.{Frame}
-use Rattle.iv_machine.specs.Reached.{IsReached}
+use Rattle.iv_machine.specs.Reached.{AreNumbersUnique}
 use Rattle.iv_machine.specs.Readers.{ShowsKnownRows}
 use Rattle.iv_machine.proofs.Seeing.{step_shows}
 use Rattle.std.specs.List.{All}
 use Rattle.iv_engine.specs.Answering.{seen}
-use Rattle.iv_engine.specs.Kept.{frame_of}
+use Rattle.iv_engine.specs.Kept.{Kept, frame_of}
 use Rattle.iv_engine.specs.Seen.{Seen, IsBehind}
 use Rattle.iv_engine.specs.Stands.{Stands}
 use Rattle.iv_engine.specs.Views.{command_of, line_of}
-use Rattle.iv_engine.proofs.Running.{counted_seen}
+use Rattle.iv_engine.proofs.Running.{counted_seen, shown_by}
 use Rattle.iv_engine.proofs.engine.Engine.apply.Goals as goal
 
 pub returns-in-Ok-clause-lines : goal.returns-in-Ok-clause-lines
@@ -31,8 +31,11 @@ returns-in-Ok-clause-known_rows c = λ s b.
     let frame : s.frame ≡ frame_of c.self.inside.store = b.frame ∙ ap (λ (v : Seen). v.frame) (sym c.self.view_is) in
     let rows = subst (λ (v : Seen). Stands s.rows v.tables) (sym c.self.view_is) b.rows in
     let lines = c.in-Ok.ensures.lines s.rows rows ∙ ap (λ (f : Frame). (step (record { frame = f; rows = s.rows }) (command_of c.args.command)).lines) (sym frame) in
-    let reached : IsReached s.frame = subst IsReached (sym b.frame) (c.is_failed.ensures.reached c.if-is_failed.false) in
-    subst (All (ShowsKnownRows s (step s (command_of c.args.command)).state)) (sym lines) (step_shows s (command_of c.args.command) reached)
+    let numbers : AreNumbersUnique s.frame = subst AreNumbersUnique (sym b.frame) (c.is_failed.ensures.numbers c.if-is_failed.false) in
+    subst (All (ShowsKnownRows s (step s (command_of c.args.command)).state)) (sym lines) (step_shows s (command_of c.args.command) numbers)
+
+pub returns-in-Ok-clause-refused : goal.returns-in-Ok-clause-refused
+returns-in-Ok-clause-refused c = λ n r is. ap (λ (e : Kept). shown_by e c.self.inside.failed) (c.in-Ok.ensures.refused n r is) ∙ c.self.view_is
 
 pub returns-in-Ok-clause-rounds : goal.returns-in-Ok-clause-rounds
 returns-in-Ok-clause-rounds c =

@@ -1,16 +1,19 @@
-use Rattle.std.proofs.Common.{◌≡◌, ◌∙◌, sym, ap, List, map, ◌++◌, [], subst, cond, arith}
+use Rattle.std.proofs.Common.{◌≡◌, ◌∙◌, refl, sym, ap, List, map, ◌++◌, [], subst, cond, arith}
 use Rattle.std.specs.List.{list_all}
 use Rattle.std.proofs.lemmas.List.{map-append}
 use Rattle.std.specs.Vec.Iter.{into_iter_items}
 use Rattle.iv_machine.proofs.Adding.{adds_up}
 use Rattle.iv_machine.specs.Held.{held}
 use Rattle.iv_machine.specs.Machine.{run, step}
-use Rattle.iv_machine.specs.Reached.{IsReached}
+use Rattle.iv_machine.specs.Reached.{AreNumbersUnique}
 use Rattle.iv_machine.specs.State.{State}
 use Rattle.iv_machine.specs.Well.{is_well_command}
+use Rattle.iv_machine.specs.Act.{Line}
 use Rattle.iv_engine.specs.declared.command.Command.{Command}
+use Rattle.iv_engine.specs.Applied.{AreApplied}
 use Rattle.iv_engine.specs.Seen.{IsBehind}
 use Rattle.iv_engine.specs.Views.{command_of, line_of}
+use Rattle.iv_engine.proofs.Applying.{GoesBehind, one_more}
 use Rattle.iv_engine.proofs.Running.{no_items, nothing_more, run_more, well_others}
 use Rattle.iv_engine.proofs.engine.Engine.run_list.Goals as goal
 
@@ -34,6 +37,16 @@ loop-command-preserved c =
                 (sym (ap (λ (cs : List Command). map line_of old ++ (run x.0 (map command_of cs)).lines) next) ∙ x.2),
             sym (ap (λ (cs : List Command). (run x.0 (map command_of cs)).state) next) ∙ x.3,
           ),
+      one_more c.args.self.now c.loop-command.self c.apply.new.self (map command_of c.args.commands.items) cmd rest (map line_of old) (map line_of c.in_ok-said.said.items) (map line_of c.append.new.self.items)
+          (ap (map line_of) (c.append.ensures.items ∙ ap (λ t. cond t (old ++ c.in_ok-said.said.items) old) c.if-is_err.ensures.negation) ∙ map-append line_of old c.in_ok-said.said.items)
+          (subst (λ (cs : List Command). GoesBehind c.args.self.now c.loop-command.self (map command_of c.args.commands.items) (map command_of cs) (map line_of old)) next c.loop-command.invariant.5)
+          (record {
+            lines = c.in_ok-said.ensures.lines;
+            state = c.in_ok-said.ensures.state;
+            known_rows = c.in_ok-said.ensures.known_rows;
+            refused = c.in_ok-said.ensures.refused;
+            rounds = c.in_ok-said.ensures.rounds;
+          }),
     )
 
 pub returns-clause-lines : goal.returns-clause-lines
@@ -48,10 +61,17 @@ returns-clause-state c = λ s b.
     let none : into_iter_items c.loop-command.command-iterator ≡ [] = no_items (into_iter_items c.loop-command.command-iterator) (let empty = c.in-None.ensures.steps.0 in let ok = c.loop-command.command-iterator.rest.ok in omega (arith, empty, ok)) in
     subst (λ (t : State). IsBehind t c.loop-command.self) (sym (ap (λ (cs : List Command). (run x.0 (map command_of cs)).state) none) ∙ x.3) x.1
 
+pub returns-clause-each : goal.returns-clause-each
+returns-clause-each c =
+    let none : into_iter_items c.loop-command.command-iterator ≡ [] = no_items (into_iter_items c.loop-command.command-iterator) (let empty = c.in-None.ensures.steps.0 in let ok = c.loop-command.command-iterator.rest.ok in omega (arith, empty, ok)) in
+    let all = map command_of c.args.commands.items in
+    let behind = subst (λ (cs : List Command). GoesBehind c.args.self.now c.loop-command.self all (map command_of cs) (map line_of c.loop-command.lines.items)) none c.loop-command.invariant.5 in
+    subst (λ (ls : List Line). AreApplied c.args.self.now all ls c.loop-command.self) (sym (nothing_more (map line_of c.loop-command.lines.items))) (behind [] c.loop-command.self (refl, refl))
+
 pub returns-clause-held : goal.returns-clause-held
 returns-clause-held c = λ s b k q kept.
     let x = c.loop-command.invariant.4 s b in
     let none : into_iter_items c.loop-command.command-iterator ≡ [] = no_items (into_iter_items c.loop-command.command-iterator) (let empty = c.in-None.ensures.steps.0 in let ok = c.loop-command.command-iterator.rest.ok in omega (arith, empty, ok)) in
     let lines : map line_of c.loop-command.lines.items ≡ (run s (map command_of c.args.commands.items)).lines = nothing_more (map line_of c.loop-command.lines.items) ∙ sym (ap (λ (cs : List Command). map line_of c.loop-command.lines.items ++ (run x.0 (map command_of cs)).lines) none) ∙ x.2 in
-    let reached : IsReached s.frame = subst IsReached (sym b.frame) (c.is_failed.ensures.reached c.if-is_failed.false) in
-    ap (held k q) lines ∙ adds_up s (map command_of c.args.commands.items) reached k q kept
+    let numbers : AreNumbersUnique s.frame = subst AreNumbersUnique (sym b.frame) (c.is_failed.ensures.numbers c.if-is_failed.false) in
+    ap (held k q) lines ∙ adds_up s (map command_of c.args.commands.items) numbers k q kept

@@ -6,9 +6,11 @@ use Rattle.iv_machine.specs.State.{State}
 use Rattle.iv_machine.specs.Well.{is_well_command}
 use Rattle.iv_engine.specs.Seen.{IsBehind}
 use Rattle.iv_engine.specs.Views.{command_of, line_of}
+use Rattle.iv_engine.proofs.Applying.{GoesBehind}
 use Rattle.iv_engine.proofs.engine.Engine.run_list.Given as goal
 
--- from each state behind the engine at the start: a state behind it now, from which what is left has the lines that are still to come
+-- from each state behind the engine at the start: a state behind it now, from which what is left has the lines that are still to come;
+-- and what is left goes behind what was answered
 abbrev pub invariant-loop-command : goal.invariant-loop-command
 invariant-loop-command l =
     (goal.iterator-loop-command).can_next l.command-iterator ×
@@ -18,4 +20,5 @@ invariant-loop-command l =
     ((s : State) → IsBehind s l.fn.self →
     (t : State) × IsBehind t l.self
     × (map line_of l.lines.items ++ (run t (map command_of (into_iter_items l.command-iterator))).lines ≡ (run s (map command_of l.fn.commands.items)).lines)
-    × ((run t (map command_of (into_iter_items l.command-iterator))).state ≡ (run s (map command_of l.fn.commands.items)).state))
+    × ((run t (map command_of (into_iter_items l.command-iterator))).state ≡ (run s (map command_of l.fn.commands.items)).state)) ×
+    GoesBehind l.fn.self l.self (map command_of l.fn.commands.items) (map command_of (into_iter_items l.command-iterator)) (map line_of l.lines.items)

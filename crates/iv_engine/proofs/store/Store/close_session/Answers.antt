@@ -11,5 +11,5 @@ returns c =
     let n = c.args.session in
     let sessions : c.retain.new.self.items ≡ filter (λ (s : Session). not (n == s.number)) x.sessions.items = filter_same _ (λ (s : Session). not (n == s.number)) _ (λ s b f' k. search rules) x.sessions.items c.retain.new.self.items c.retain.ensures.filtered in
     let after : c.retain-2.new.self.items ≡ filter (λ (s : Subscription). not (n == s.session)) x.subscriptions.items = filter_same _ (λ (s : Subscription). not (n == s.session)) _ (λ s b f' k. search rules) x.subscriptions.items c.retain-2.new.self.items c.retain-2.ensures.filtered in
-    (λ i. record { known = x.access; catalog = x.catalog; sessions = sessions i; subscriptions = after i; circuits = x.circuits.items; last = x.last; tables = x.tables })
+    (λ i. record { cap = x.cap; known = x.access; catalog = x.catalog; sessions = sessions i; subscriptions = after i; circuits = x.circuits.items; last = x.last; tables = x.tables })
     ∙ ap (without_session n) c.self.view_is
