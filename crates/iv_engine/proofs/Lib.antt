@@ -56,3 +56,5 @@ mod Numbering
 mod Applying
 mod Opened
 mod Touched
+mod Spreading
+mod Partly

@@ -19,6 +19,7 @@ pub mod Each
 pub mod Found
 pub mod Built
 pub mod Moved
+pub mod Touching
 pub mod Resolving
 pub mod Turned
 pub mod Concerned

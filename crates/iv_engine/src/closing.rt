@@ -13,5 +13,6 @@ impl Store {
         self.sessions.clear();
         self.subscriptions.clear();
         self.circuits.clear();
+        self.found.clear();
     }
 }

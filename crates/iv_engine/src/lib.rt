@@ -35,6 +35,7 @@ mod store;
 mod stored;
 mod subscribing;
 mod summing;
+mod touching;
 mod turning;
 mod well;
 mod writing;

@@ -15,6 +15,7 @@ ghost use Rattle.iv_engine.specs.Target.{IsActingOn};
 
 use crate::command::Refusal;
 use crate::stored::{RoleCircuit, Session, Subscription, find_session};
+use crate::touching::Touched;
 use iv_access::{Access, RoleId};
 use iv_algebra::Tables;
 use iv_bind::Catalog;
@@ -24,7 +25,8 @@ use std::alloc::{AllocError, Global};
 use std::marker::Model;
 
 /// Rights, relations, the rows of tables, sessions, subscriptions and the circuits that they read. Subscriptions stand in
-/// the order of their lines. `cap` is the greatest number of different rows of a table, and of a node of a circuit.
+/// the order of their lines. `cap` is the greatest number of different rows of a table, and of a node of a circuit. For tables that
+/// were written it is kept which circuits scan them.
 #[derive(Drop)]
 pub struct Store {
     pub cap: usize,
@@ -33,6 +35,7 @@ pub struct Store {
     pub sessions: Vec<Session>,
     pub subscriptions: Vec<Subscription>,
     pub circuits: Vec<RoleCircuit>,
+    pub found: Vec<Touched>,
     pub last: u64,
     pub tables: Tables,
     pub alloc: Global,
@@ -41,6 +44,7 @@ pub struct Store {
 impl Model for Store {
     ghost use Rattle.iv_engine.specs.Codes.{kept_code};
     ghost use Rattle.iv_engine.specs.Kept.{Kept};
+    ghost use Rattle.iv_engine.specs.Touching.{AreFoundAmong};
 
     ghost Value = { Kept };
 
@@ -56,6 +60,8 @@ impl Model for Store {
       last = s.last;
       tables = s.tables;
     } };
+
+    ghost invariant = { λ s. AreFoundAmong s.circuits.items s.found.items };
 }
 
 impl Store {
@@ -74,6 +80,7 @@ impl Store {
             circuits: Vec::new(alloc),
             last: 0,
             tables: Tables::with_seed(alloc, seed),
+            found: Vec::new(alloc),
             alloc,
         })
     }
