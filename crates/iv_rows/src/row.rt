@@ -1,8 +1,7 @@
 //! Rows, their equality, order and hash.
 //!
-//! Comparisons and hash of a row are written by hand over those that are derived for `Value`: a derive on a type with
-//! such a view asks for an inverse of the view, and there is none. `Row::copy` takes its memory from the allocator
-//! that the row holds.
+//! Comparisons of a row are written by hand over those that are derived for `Value`: a derive on a type with such a view
+//! asks for an inverse of the view, and there is none. `Row::copy` takes its memory from the allocator that the row holds.
 ghost use Rattle.std.specs.Prelude.{◌≡◌, ◌++◌, IfOk, IsTrue, OnOk, ◌↔◌, refl};
 ghost use Rattle.std.specs.Cmp.{partial_equiv_from_equiv, partial_order_from_total};
 ghost use Rattle.std.specs.List.{fold, list_all};
