@@ -1,5 +1,5 @@
 -- The derived comparisons of values are those of what they stand for.
-use Rattle.std.proofs.Common.{◌≡◌, ◌∙◌, suc, refl, ap, List, [], ◌∷◌}
+use Rattle.std.proofs.Common.{◌≡◌, ◌∙◌, ℕ, ◌++◌, refl, sym, ap, List, [], ◌∷◌}
 use Rattle.std.specs.Ordering.{ordering_then, is_eq}
 use Rattle.std.specs.Cmp.Lexicographic.{pointwise, slice_cmp, lists_ties}
 use Rattle.iv_rows.specs.declared.value.Value.{Value}
@@ -7,11 +7,9 @@ use Rattle.iv_rows.specs.declared.value.Value.TheVariants.{Int, Text, Flag}
 use Rattle.iv_rows.specs.contracts.value.ValueOrd.TheImpl.{cmp-value}
 use Rattle.iv_rows.specs.contracts.value.ValueOrd.TheImpl.Laws.{matches_eq-law}
 use Rattle.iv_rows.specs.contracts.value.ValuePartialEq.TheImpl.{eq-value}
-use Rattle.iv_rows.specs.contracts.value.ValueHash.TheImpl.{hash_input-value}
-use Rattle.std.specs.Hash as fed
-use Rattle.std.specs.List.{flat_map}
-use Rattle.std.proofs.Common.{◌++◌, length}
+use Rattle.std.specs.List.{fold}
 use Rattle.iv_rows.specs.Fed.{cell_fed, row_fed}
+use Rattle.iv_rows.specs.Cell.{Cell}
 use Rattle.iv_rows.specs.Order.{cell_cmp, row_cmp, row_eq}
 use Rattle.iv_rows.specs.View.{cell_of, cells_of}
 
@@ -36,18 +34,13 @@ same_row_cmp (v ∷ vs) (w ∷ ws) = λ i. ordering_then (same_cmp v w i) (same_
 pub same_row_eq : (vs ws : List Value) → pointwise eq-value.it vs ws ≡ row_eq (cells_of vs) (cells_of ws)
 same_row_eq vs ws = lists_ties cmp-value.it matches_eq-law vs ws ∙ ap is_eq (same_row_cmp vs ws)
 
-pub same_fed : (v : Value) → hash_input-value.it v ≡ cell_fed (cell_of v)
-same_fed (Int n) = refl
-same_fed (Text t) = refl
-same_fed (Flag b) = refl
+fold_then : {S A : Type 0} (f : S → A → S) (s : S) (xs ys : List A) → fold f s (xs ++ ys) ≡ fold f (fold f s xs) ys
+fold_then f s [] ys = refl
+fold_then f s (x ∷ xs) ys = fold_then f (f s x) xs ys
 
-same_items_fed : (vs : List Value) → flat_map hash_input-value.it vs ≡ flat_map cell_fed (cells_of vs)
-same_items_fed [] = refl
-same_items_fed (v ∷ vs) = λ i. same_fed v i ++ same_items_fed vs i
-
-as_many : (vs : List Value) → length vs ≡ length (cells_of vs)
-as_many [] = refl
-as_many (v ∷ vs) = ap suc (as_many vs)
-
-pub same_row_fed : (vs : List Value) → fed.slice hash_input-value.it vs ≡ row_fed (cells_of vs)
-same_row_fed vs = λ i. fed.usize (as_many vs i) ++ same_items_fed vs i
+-- what values and then one more feed
+pub fed_more : {S : Type 0} (write : S → List ℕ → S) (s : S) (cs : List Cell) (c : Cell) → fold write s (row_fed (cs ++ c ∷ [])) ≡ fold write (fold write s (row_fed cs)) (cell_fed c)
+fed_more write s [] c = fold_then write s (cell_fed c) []
+fed_more write s (d ∷ cs) c =
+    fold_then write s (cell_fed d) (row_fed (cs ++ c ∷ [])) ∙ fed_more write (fold write s (cell_fed d)) cs c
+    ∙ ap (λ t. fold write t (cell_fed c)) (sym (fold_then write s (cell_fed d) (row_fed cs)))

@@ -1,13 +1,12 @@
 //! Rows, their equality, order and hash.
 //!
-//! Comparisons and hash of a row are written by hand over those that are derived for `Value`: a derive on a type with
-//! such a view asks for an inverse of the view, and there is none. `Row::copy` takes its memory from the allocator
-//! that the row holds.
+//! Comparisons of a row are written by hand over those that are derived for `Value`: a derive on a type with such a view
+//! asks for an inverse of the view, and there is none. `Row::copy` takes its memory from the allocator that the row holds.
 ghost use Rattle.std.specs.Prelude.{◌≡◌, ◌++◌, IfOk, IsTrue, OnOk, ◌↔◌, refl};
 ghost use Rattle.std.specs.Cmp.{partial_equiv_from_equiv, partial_order_from_total};
-ghost use Rattle.std.specs.List.{list_all};
+ghost use Rattle.std.specs.List.{fold, list_all};
 ghost use Rattle.std.specs.Ordering.{as_partial_cmp};
-ghost use Rattle.iv_rows.specs.Fed.{row_fed};
+ghost use Rattle.iv_rows.specs.Fed.{cell_fed, row_fed, text_fed};
 ghost use Rattle.iv_rows.specs.Order.{row_cmp, row_eq};
 ghost use Rattle.iv_rows.specs.OrderLaws.{row_cmp_total, row_eq_equiv, row_fed_alike};
 ghost use Rattle.iv_rows.specs.Texts.{is_well, is_well_cell};
@@ -127,12 +126,46 @@ impl Ord for Row {
     }
 }
 
+/// What makes a text's bytes whole words.
+const PADDING: [u8; 8] = [0; 8];
+
+/// Feeds a hasher the number of a text's bytes, and the bytes in whole words.
+fn feed_text<H: Hasher>(bytes: &[u8], state: &mut H)
+    ensures { state.new ≡ fold H.write state.old (text_fed bytes.now) }
+{
+    state.write_usize(bytes.len());
+    state.write(bytes);
+    state.write(&PADDING[bytes.len() % 8..]);
+}
+
+/// Feeds a hasher a value.
+fn feed<H: Hasher>(value: &Value, state: &mut H)
+    ensures { state.new ≡ fold H.write state.old (cell_fed (cell_of value.now)) }
+{
+    match value {
+        Value::Int(number) => state.write_i64(*number),
+        Value::Text(text) => feed_text(text.as_bytes(), state),
+        Value::Flag(flag) => state.write_u64(*flag as u64),
+    }
+}
+
+/// Feeds a hasher the values, in their order.
+fn feed_all<H: Hasher>(values: &[Value], state: &mut H)
+    ensures { state.new ≡ fold H.write state.old (row_fed (cells_of values.now)) }
+{
+    for value in values {
+        feed(value, state);
+    }
+}
+
+/// Rows that meet in one collection have the same kinds in the same columns, so neither these nor their number are fed; and
+/// all that is fed are whole words, since SipHash takes a word in less time than a byte of one.
 impl Hash for Row {
     ghost hash_input = { row_fed };
 
     ghost respects_eq = { row_fed_alike };
 
     fn hash<H: Hasher>(&self, state: &mut H) {
-        self.0.hash(state);
+        feed_all(&self.0, state);
     }
 }
