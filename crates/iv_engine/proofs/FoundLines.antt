@@ -35,7 +35,7 @@ module _ (e : Kept) (ps : List Prepared) (long : length ps ≡ length e.circuits
 
 -- ---- where no reader sees anything more
 
-no_rows : (o : Option (Rc (Vec (List Cell × ℤ)) Global)) → not (is_some o) ≡ true → shared_rows o ≡ []
+pub no_rows : (o : Option (Rc (Vec (List Cell × ℤ)) Global)) → not (is_some o) ≡ true → shared_rows o ≡ []
 no_rows None h = refl
 no_rows (Some rows) h = cc
 

@@ -15,6 +15,7 @@ impl Store {
     fn close_session(&mut self, session: u32)
         ensures { self.new ≡ without_session session self.old }
     {
+        self.found.clear();
         self.sessions.retain(|open| session != open.number);
         self.subscriptions.retain(|open| session != open.session);
     }
@@ -23,6 +24,7 @@ impl Store {
     fn close(&mut self, number: u64)
         ensures { self.new ≡ without_subscription number self.old }
     {
+        self.found.clear();
         self.subscriptions.retain(|open| number != open.number);
     }
 

@@ -66,6 +66,7 @@ impl Store {
         if self.sessions.len() >= MOST_SESSIONS {
             return Ok(Some(Refusal::TooMany));
         }
+        self.found.clear();
         self.sessions.push(Session {
             number: session,
             role,

@@ -26,7 +26,7 @@ use std::marker::Model;
 
 /// Rights, relations, the rows of tables, sessions, subscriptions and the circuits that they read. Subscriptions stand in
 /// the order of their lines. `cap` is the greatest number of different rows of a table, and of a node of a circuit. For tables that
-/// were written it is kept which circuits scan them.
+/// were written it is kept which circuits scan them, and who reads these.
 #[derive(Drop)]
 pub struct Store {
     pub cap: usize,
@@ -61,7 +61,7 @@ impl Model for Store {
       tables = s.tables;
     } };
 
-    ghost invariant = { λ s. AreFoundAmong s.circuits.items s.found.items };
+    ghost invariant = { λ s. AreFoundAmong s.sessions.items s.subscriptions.items s.circuits.items s.found.items };
 }
 
 impl Store {
