@@ -296,6 +296,7 @@ async def a_writer_that_was_stopped_tells_nobody(store: Store, http: aiohttp.Cli
         assert await lena.insert(number, "mia") == {"ok": True}
     first.kill_gateway()
     store.client.delete("desk:lease")
+    await asyncio.sleep(2 * stream.AGAIN)  # so that it asks for the lease before it reads more than the entry that has come to it
     os.kill(second.process.pid, signal.SIGCONT)
     assert await mia.insert(9010, "mia") == {"ok": True} and (await asyncio.to_thread(second.state))["writes"]
     await asyncio.to_thread(first.start)
