@@ -40,7 +40,7 @@ pub record HasTurned (u : Kept) (K : Known) (R : Rights) (f : Option AccessFault
   pub err_when : IfErr x (λ y. (y ≡ fault.Memory) ⊎ (f ≡ Some y))
   pub unchanged : OnErr x (K ≡ u.known)
 
-agrees_by : (u : Kept) (K : Known) (R : Rights) (n : ℕ) (act : Act) (f : Option AccessFault) (name : Name) (o : Option Refusal) (x : Result Unit AccessFault) (r : Option Refusal)
+pub agrees_by : (u : Kept) (K : Known) (R : Rights) (n : ℕ) (act : Act) (f : Option AccessFault) (name : Name) (o : Option Refusal) (x : Result Unit AccessFault) (r : Option Refusal)
     → Tells f name o → o ≡ frame_refusal (frame_of u) n act → with_rights R u ≡ kept_after u n act → HasTurned u K R f x → IsTold x name r → Agrees u (record u { known = K }) n act r
 agrees_by u K R n act f name o (Ok i) r tells is left h t = let none = tells.none h.ok_when in record {
   refused = t ∙ sym none ∙ is;

@@ -58,3 +58,4 @@ mod Opened
 mod Touched
 mod Spreading
 mod Partly
+pub mod Granting
