@@ -182,10 +182,11 @@ class Stream(Log):
         return place_of(found[0][0]) if found else 0
 
     async def _still_there(self) -> None:
-        if self.lines:
+        taken = self.lines  # before it is asked: more may be appended while it answers
+        if taken:
             last = await self.last()
-            if last < self.lines:
-                raise Damaged(f"{self.where} ends at {last}, and its {self.lines}th entry was taken in here: Redis has lost its end")
+            if last < taken:
+                raise Damaged(f"{self.where} ends at {last}, and its {taken}th entry was taken in here: Redis has lost its end")
 
     # Reading.
 
