@@ -135,6 +135,11 @@ def over_others(subscriptions):
     return lines
 
 
+def over_one_of_many(subscriptions):
+    """The same, and one reader of the table."""
+    return over_others(subscriptions) + readable("a") + [request("begin", 1_000, role="s0"), request("subscribe", 1_000, on="a")]
+
+
 def changes_of_policies(size):
     """A policy that hides one row of a thousand comes, and goes again."""
     for _ in range(max(10, 400_000 // size) // 2):
@@ -170,6 +175,7 @@ HALF = "half of a table's rows, `where amount < 500`; a batch of one row"
 SUMS = "sums and counts by amount, for 16 readers of whom each sees its own rows by a policy; a batch of one row"
 FAN_OUT = "subscriptions to one table, 16 a session; a batch of one row, so a line of changes for each"
 APART = "a batch of one row into a table that nobody reads, while so many subscriptions of roles of 16 each watch 16 others"
+ONE_OF_MANY = "the same, where one reader more watches that table"
 POLICIES = "a restrictive policy that hides a row of a thousand from 16 readers comes, or goes"
 
 WORKLOADS = [
@@ -199,6 +205,15 @@ WORKLOADS = [
         "apart",
         APART,
         over_others,
+        lambda count: batches(20_000)(1_000),
+        counts="subscriptions",
+        sizes=SUBSCRIPTIONS,
+        is_evaluated=False,
+    ),
+    Workload(
+        "one-of-many",
+        ONE_OF_MANY,
+        over_one_of_many,
         lambda count: batches(20_000)(1_000),
         counts="subscriptions",
         sizes=SUBSCRIPTIONS,
