@@ -23,6 +23,7 @@ use iv_rows::{RelId, Schema};
 use iv_zset::Seed;
 use std::alloc::{AllocError, Global};
 use std::marker::Model;
+use std::rc::Rc;
 
 /// Rights, relations, the rows of tables, sessions, subscriptions and the circuits that they read. Subscriptions stand in
 /// the order of their lines. `cap` is the greatest number of different rows of a table, and of a node of a circuit. For tables that
@@ -35,7 +36,7 @@ pub struct Store {
     pub sessions: Vec<Session>,
     pub subscriptions: Vec<Subscription>,
     pub circuits: Vec<RoleCircuit>,
-    pub found: Vec<Touched>,
+    pub found: Vec<Rc<Touched>>,
     pub last: u64,
     pub tables: Tables,
     pub alloc: Global,
