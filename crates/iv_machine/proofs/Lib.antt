@@ -21,7 +21,4 @@ pub mod Needing
 pub mod Standing
 pub mod Telling
 pub mod Seeing
-pub mod Computing
 pub mod Typing
-pub mod Copies
-pub mod ManyCopies

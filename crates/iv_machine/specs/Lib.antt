@@ -17,11 +17,3 @@ pub mod Well
 pub mod Learned
 pub mod Stored
 pub mod Told
-pub mod Worked
-pub mod OfPolicies
-pub mod OfRoles
-pub mod OfGrants
-pub mod OfViews
-pub mod Counts
-pub mod Shapes
-pub mod OfCopies

@@ -1,7 +1,8 @@
 //! The access machine: what a list of commands means. Definitions, and laws over them.
 //!
 //! The definitions stand in `specs/`. The actor of a session that is not open is a number that no role has. No edit
-//! is tried here: the functions are laws and examples without a body, and an edit of a definition shows nothing.
+//! is tried here: the functions are laws without a body, and an edit of a definition shows nothing. Worked examples stand in
+//! `crates/tests_machine`.
 #![tactic(auto)]
 
 pub use iv_access::Privilege;
@@ -15,5 +16,4 @@ pub enum Cause {
     Limit,
 }
 
-pub mod examples;
 pub mod laws;

@@ -10,7 +10,7 @@ use Rattle.iv_access.specs.declared.policy.PolicyCommand.TheVariants as command
 use Rattle.iv_access.specs.declared.policy.Check.TheVariants as check
 use Rattle.iv_access.specs.Rights.{Name}
 use Rattle.iv_machine.specs.Act.{Act, create_policy, drop_policy, create_table, row_security, grant, write, insert, delete, no_permissive, restrictive_failed, no_such_row, unknown_policy, bad_query, change}
-use Rattle.iv_machine.specs.Worked.{Steps, asks, fails, opens, one, two, int, entry, put, take, swap, policy, restrictive, column, ann, notes, of_ann, of_bob, of_x}
+use Rattle.tests_machine.specs.Worked.{Steps, asks, fails, opens, one, two, int, entry, put, take, swap, policy, restrictive, column, ann, notes, of_ann, of_bob, of_x}
 
 -- after `first`, with row security on
 abbrev pub restrictive_alone : Steps

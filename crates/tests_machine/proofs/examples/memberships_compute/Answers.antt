@@ -1,6 +1,6 @@
 use Rattle.std.proofs.Common.{refl}
-use Rattle.iv_machine.proofs.Computing.{texts_compute}
-use Rattle.iv_machine.proofs.examples.memberships_compute.Goals as goal
+use Rattle.tests_machine.proofs.Computing.{texts_compute}
+use Rattle.tests_machine.proofs.examples.memberships_compute.Goals as goal
 
 pub returns-clause-membership_and_policy : goal.returns-clause-membership_and_policy
 unfolding texts_compute

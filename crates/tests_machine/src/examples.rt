@@ -6,17 +6,17 @@ ghost use Rattle.iv_query.specs.declared.fault.Why.TheVariants.{Unexpected};
 ghost use Rattle.iv_bind.specs.BoundTexts.{Reading};
 ghost use Rattle.iv_access.specs.declared.privilege.Privilege.TheVariants.{Select};
 ghost use Rattle.iv_machine.specs.Act.{begin, create_role, create_table, subscribe, bad_query, limit, missing_privilege, name_taken, too_many, unknown_role};
-ghost use Rattle.iv_machine.specs.Counts as counts;
-ghost use Rattle.iv_machine.specs.OfCopies as copies;
-ghost use Rattle.iv_machine.specs.OfGrants as grants;
-ghost use Rattle.iv_machine.specs.OfPolicies as policies;
-ghost use Rattle.iv_machine.specs.OfRoles as roles;
-ghost use Rattle.iv_machine.specs.OfViews as views;
+ghost use Rattle.tests_machine.specs.Counts as counts;
+ghost use Rattle.tests_machine.specs.OfCopies as copies;
+ghost use Rattle.tests_machine.specs.OfGrants as grants;
+ghost use Rattle.tests_machine.specs.OfPolicies as policies;
+ghost use Rattle.tests_machine.specs.OfRoles as roles;
+ghost use Rattle.tests_machine.specs.OfViews as views;
 ghost use Rattle.iv_machine.specs.Refusing.{frame_refusal, refusal};
-ghost use Rattle.iv_machine.specs.Shapes as shapes;
+ghost use Rattle.tests_machine.specs.Shapes as shapes;
 ghost use Rattle.iv_machine.specs.State.{start};
 ghost use Rattle.iv_machine.specs.Well.{is_well_act, is_well_command};
-ghost use Rattle.iv_machine.specs.Worked.{admin, after_steps, before_first, commands, Computes, first, first_change, least_cap, notes, opened, row_security_then_policy, secured, true_text};
+ghost use Rattle.tests_machine.specs.Worked.{admin, after_steps, before_first, commands, Computes, first, first_change, least_cap, notes, opened, row_security_then_policy, secured, true_text};
 
 /// A reader is sent what is written.
 pub fn first_changes()

@@ -15,13 +15,13 @@ use Rattle.iv_algebra.specs.declared.pred.Comparison.TheVariants.{Less}
 use Rattle.iv_machine.specs.Act.{Act, write, insert, delete, Entry, Command, Line, reply, done, Refusal, limit, no_such_row}
 use Rattle.iv_machine.specs.Changing.{after, times, without}
 use Rattle.iv_machine.specs.Machine.{difference, line_of, outcome, run}
-use Rattle.iv_machine.specs.OfCopies.{batch, copies_limit, no_sums, summed, sums_limit, unread}
+use Rattle.tests_machine.specs.OfCopies.{batch, copies_limit, no_sums, summed, sums_limit, unread}
 use Rattle.iv_machine.specs.Refusing.{test, or_else, all_within, entries_present, frame_refusal, refusal}
 use Rattle.iv_machine.specs.State.{State, Subscription, is_within}
-use Rattle.iv_machine.specs.Worked.{Computes, first, many, notes, of_ann, of_x, put}
-use Rattle.iv_machine.proofs.Computing.{texts_compute}
+use Rattle.tests_machine.specs.Worked.{Computes, first, many, notes, of_ann, of_x, put}
+use Rattle.tests_machine.proofs.Computing.{texts_compute}
 use Rattle.iv_machine.proofs.Counting.{copies-append}
-use Rattle.iv_machine.proofs.Copies.{filter_times, within_times, without_times, and_false, one_fails, one_more_not_within, own_copies}
+use Rattle.tests_machine.proofs.Copies.{filter_times, within_times, without_times, and_false, one_fails, one_more_not_within, own_copies}
 
 -- c copies of a row
 abbrev copied : ℕ → ℕ → Act

@@ -6,8 +6,8 @@ use Rattle.iv_access.specs.declared.policy.PolicyCommand.TheVariants.{All, Selec
 use Rattle.iv_access.specs.declared.privilege.Privilege.TheVariants as privilege
 use Rattle.iv_access.specs.Rights.{Name}
 use Rattle.iv_machine.specs.Act.{Act, begin, finish, create_role, create_table, create_view, grant, revoke, grant_role, revoke_role, row_security, create_policy, drop_policy, subscribe, unsubscribe, write, insert, delete, update, Command}
-use Rattle.iv_machine.specs.OfPolicies.{for_command}
-use Rattle.iv_machine.specs.Worked.{admin, ann, notes, column, many, policy}
+use Rattle.tests_machine.specs.OfPolicies.{for_command}
+use Rattle.tests_machine.specs.Worked.{admin, ann, notes, column, many, policy}
 
 -- sixteen names
 abbrev pub names : List Name

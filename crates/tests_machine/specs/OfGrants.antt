@@ -6,7 +6,7 @@ use Rattle.iv_bind.specs.BoundTexts.{Reading}
 use Rattle.iv_access.specs.declared.privilege.Privilege.TheVariants.{Select, Insert, Update, Delete}
 use Rattle.iv_access.specs.Rights.{Name}
 use Rattle.iv_machine.specs.Act.{begin, finish, create_role, create_table, create_view, grant, revoke, subscribe, unsubscribe, no_session, session_in_use, name_taken, not_a_table, bad_row, not_administrator, missing_privilege, unknown_subscription, too_many, Line, change, ended, row_security, create_policy, drop_policy, write, insert, delete, unknown_role, unknown_relation, not_owner, bad_query}
-use Rattle.iv_machine.specs.Worked.{Steps, admin, asks, fails, opens, one, two, int, put, column, ann, bob, notes, of_ann, of_x, many, entry, policy, take, swap}
+use Rattle.tests_machine.specs.Worked.{Steps, admin, asks, fails, opens, one, two, int, put, column, ann, bob, notes, of_ann, of_x, many, entry, policy, take, swap}
 use Rattle.iv_machine.specs.declared.Cause.TheVariants as cause
 
 -- all that ann holds in subscription 1 is taken back

@@ -8,7 +8,7 @@ use Rattle.iv_access.specs.declared.privilege.Privilege.TheVariants.{Select}
 use Rattle.iv_access.specs.Rights.{Name}
 use Rattle.iv_machine.specs.Act.{begin, create_role, create_table, create_view, create_policy, drop_policy, grant, row_security, write, insert, delete, bad_query, limit, change, ended}
 use Rattle.iv_machine.specs.State.{State, start}
-use Rattle.iv_machine.specs.Worked.{Steps, Row, admin, many, after_steps, asks, least_cap, fails, opens, one, two, int, entry, put, take, policy, restrictive, column, ann, bob, notes, of_ann}
+use Rattle.tests_machine.specs.Worked.{Steps, Row, admin, many, after_steps, asks, least_cap, fails, opens, one, two, int, entry, put, take, policy, restrictive, column, ann, bob, notes, of_ann}
 use Rattle.iv_machine.specs.declared.Cause.TheVariants as cause
 
 -- ---- groups

@@ -1,6 +1,6 @@
 use Rattle.std.proofs.Common.{refl}
-use Rattle.iv_machine.proofs.Computing.{texts_compute}
-use Rattle.iv_machine.proofs.examples.views_and_grants_compute.Goals as goal
+use Rattle.tests_machine.proofs.Computing.{texts_compute}
+use Rattle.tests_machine.proofs.examples.views_and_grants_compute.Goals as goal
 
 pub returns-clause-reader_needs_every_relation : goal.returns-clause-reader_needs_every_relation
 unfolding texts_compute

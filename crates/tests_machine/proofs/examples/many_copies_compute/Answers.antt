@@ -1,5 +1,5 @@
-use Rattle.iv_machine.proofs.ManyCopies.{batch_computes, copies_limit_computes, no_sums_compute, sums_limit_computes}
-use Rattle.iv_machine.proofs.examples.many_copies_compute.Goals as goal
+use Rattle.tests_machine.proofs.ManyCopies.{batch_computes, copies_limit_computes, no_sums_compute, sums_limit_computes}
+use Rattle.tests_machine.proofs.examples.many_copies_compute.Goals as goal
 
 pub returns-clause-copies_limit : goal.returns-clause-copies_limit
 returns-clause-copies_limit c = copies_limit_computes

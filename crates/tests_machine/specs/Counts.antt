@@ -8,7 +8,7 @@ use Rattle.iv_access.specs.Rights.{Name, Guard, Policy, Public}
 use Rattle.iv_access.specs.Rights as rights
 use Rattle.iv_machine.specs.Act.{Act, create_policy, create_view}
 use Rattle.iv_machine.specs.State.{State, Frame, Session, start_frame}
-use Rattle.iv_machine.specs.Worked.{admin, column, least_cap, policy}
+use Rattle.tests_machine.specs.Worked.{admin, column, least_cap, policy}
 
 -- ---- sessions and roles
 

@@ -3,9 +3,9 @@ use Rattle.std.specs.Prelude.{pos, negsuc, true, false, [], ◌∷◌, codes, So
 use Rattle.iv_access.specs.declared.privilege.Privilege.TheVariants.{Select}
 use Rattle.iv_access.specs.Rights.{Name}
 use Rattle.iv_machine.specs.Act.{create_role, create_table, create_policy, grant, revoke, grant_role, revoke_role, row_security, begin, change, ended, membership_loop, no_session, not_administrator, unknown_role}
-use Rattle.iv_machine.specs.OfGrants.{taken_back}
+use Rattle.tests_machine.specs.OfGrants.{taken_back}
 use Rattle.iv_machine.specs.declared.Cause.TheVariants as cause
-use Rattle.iv_machine.specs.Worked.{Steps, admin, ann, asks, bob, column, fails, int, notes, of_ann, of_bob, one, opens, policy, put, true_text}
+use Rattle.tests_machine.specs.Worked.{Steps, admin, ann, asks, bob, column, fails, int, notes, of_ann, of_bob, one, opens, policy, put, true_text}
 
 abbrev pub team : Name
 team = codes "team"

@@ -1,6 +1,6 @@
 use Rattle.std.proofs.Common.{refl}
-use Rattle.iv_machine.proofs.Computing.{texts_compute}
-use Rattle.iv_machine.proofs.examples.views_compute.Goals as goal
+use Rattle.tests_machine.proofs.Computing.{texts_compute}
+use Rattle.tests_machine.proofs.examples.views_compute.Goals as goal
 
 pub returns-clause-grouped_sums : goal.returns-clause-grouped_sums
 unfolding texts_compute

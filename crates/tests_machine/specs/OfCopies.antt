@@ -2,9 +2,9 @@
 use Rattle.std.specs.Prelude.{ℕ, pos, [], ◌∷◌, codes, Some}
 use Rattle.iv_access.specs.declared.privilege.Privilege.TheVariants.{Select}
 use Rattle.iv_machine.specs.Act.{begin, create_table, create_view, grant, write, insert, delete, limit, change}
-use Rattle.iv_machine.specs.OfViews.{sums, sums_text, group_of}
+use Rattle.tests_machine.specs.OfViews.{sums, sums_text, group_of}
 use Rattle.iv_machine.specs.State.{State, start}
-use Rattle.iv_machine.specs.Worked.{Steps, admin, after_steps, ann, asks, column, fails, first, least_cap, many, notes, of_x, opens, put, texts}
+use Rattle.tests_machine.specs.Worked.{Steps, admin, after_steps, ann, asks, column, fails, first, least_cap, many, notes, of_x, opens, put, texts}
 
 -- notes is empty, and there is no subscription
 abbrev pub unread : State

@@ -1,6 +1,6 @@
 use Rattle.std.proofs.Common.{refl}
-use Rattle.iv_machine.proofs.Computing.{texts_compute}
-use Rattle.iv_machine.proofs.examples.policies_compute.Goals as goal
+use Rattle.tests_machine.proofs.Computing.{texts_compute}
+use Rattle.tests_machine.proofs.examples.policies_compute.Goals as goal
 
 pub returns-clause-row_security_then_policy : goal.returns-clause-row_security_then_policy
 unfolding texts_compute

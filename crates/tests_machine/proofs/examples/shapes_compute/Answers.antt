@@ -1,6 +1,6 @@
 use Rattle.std.proofs.Common.{refl}
 use Rattle.iv_rows.specs.Names.{reserved}
-use Rattle.iv_machine.proofs.examples.shapes_compute.Goals as goal
+use Rattle.tests_machine.proofs.examples.shapes_compute.Goals as goal
 
 pub returns-clause-example : goal.returns-clause-example
 unfolding reserved
