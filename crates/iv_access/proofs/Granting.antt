@@ -1,39 +1,36 @@
 -- Grants as a set that keeps the order in which they came.
 use Rattle.std.proofs.Common.{◌≡◌, inl, inr, ℕ, ◌==◌, List, [], ◌∷◌, Bool, true, false, cond, not, ◌&&◌, ◌||◌, refl, sym, ap, subst}
+use Rattle.std.specs.Bool.{Decides}
 use Rattle.std.specs.Cmp.{unsigned_Decides}
 use Rattle.std.specs.List.{list_any, filter}
-use Rattle.indexmap.specs.IndexSet.{remove_key}
 use Rattle.iv_access.specs.declared.privilege.Privilege.{Privilege}
 use Rattle.iv_access.specs.Rights.{Grantee, Public, Role, Grant, Rights}
 use Rattle.iv_access.specs.declared.privilege.Privilege.TheVariants.{Select, Insert, Update, Delete}
 use Rattle.iv_access.specs.Given.{HasBy, as_admin, by_all, by_role, IsInherited, IsNotInherited, grant_to, is_among}
-use Rattle.iv_access.specs.Grants.{grant_eq_decides, grant_eq_equiv}
 use Rattle.iv_access.specs.Memberships.{reaches}
 use Rattle.iv_access.specs.Privileges.{has, is_admin, privilege_eq, is_for}
 use Rattle.iv_access.specs.Changing.{grant_eq, grantee_eq}
 use Rattle.iv_access.proofs.Chains.{never, one_of, each_of, by_left, by_right, by_both, two_ways, follows, reaches_itself, reaches_on}
-use Rattle.iv_access.proofs.Lists.{or_right}
 
--- ---- what is taken out
+-- ---- grants that are found equal are one grant
 
-none_left : {A : Type 0} (test : A → Bool) (xs : List A) → list_any test xs ≡ false → filter (λ x. not (test x)) xs ≡ xs
-none_left test [] e = refl
-none_left test (x ∷ xs) e =
-    elim (test x) as (λ b. (b || list_any test xs) ≡ false → cond (not b) (x ∷ filter (λ y. not (test y)) xs) (filter (λ y. not (test y)) xs) ≡ (x ∷ xs)) [
-      | true ↦ λ h. cc
-      | false ↦ λ h. ap (λ ys. x ∷ ys) (none_left test xs h)
-    ] e
-
--- where none is left, all were taken out
-pub all_taken : {A : Type 0} (test : A → Bool) (xs : List A) → list_any test (remove_key test xs) ≡ false → remove_key test xs ≡ filter (λ x. not (test x)) xs
-all_taken test [] e = refl
-all_taken test (x ∷ xs) e =
-    elim (test x) as (λ b. list_any test (cond b xs (x ∷ remove_key test xs)) ≡ false → cond b xs (x ∷ remove_key test xs) ≡ cond (not b) (x ∷ filter (λ y. not (test y)) xs) (filter (λ y. not (test y)) xs)) [
-      | true ↦ λ h. sym (none_left test xs h)
-      | false ↦ λ h. ap (λ ys. x ∷ ys) (all_taken test xs (or_right (test x) _ h))
-    ] e
-
--- ---- who has what
+privilege_same : (p q : Privilege) → privilege_eq p q ≡ true → p ≡ q
+privilege_same Select Select e = refl
+privilege_same Insert Insert e = refl
+privilege_same Update Update e = refl
+privilege_same Delete Delete e = refl
+privilege_same Select Insert e = cc
+privilege_same Select Update e = cc
+privilege_same Select Delete e = cc
+privilege_same Insert Select e = cc
+privilege_same Insert Update e = cc
+privilege_same Insert Delete e = cc
+privilege_same Update Select e = cc
+privilege_same Update Insert e = cc
+privilege_same Update Delete e = cc
+privilege_same Delete Select e = cc
+privilege_same Delete Insert e = cc
+privilege_same Delete Update e = cc
 
 privilege_itself : (p : Privilege) → privilege_eq p p ≡ true
 privilege_itself Select = refl
@@ -43,6 +40,51 @@ privilege_itself Delete = refl
 
 number_itself : (n : ℕ) → (n == n) ≡ true
 number_itself n = (unsigned_Decides n n).1 refl
+
+grantee_same : (a b : Grantee) → grantee_eq a b ≡ true → a ≡ b
+grantee_same Public Public e = refl
+grantee_same (Role a) (Role b) e = ap Role ((unsigned_Decides a b).0 e)
+grantee_same Public (Role b) e = cc
+grantee_same (Role a) Public e = cc
+
+grantee_itself : (a : Grantee) → grantee_eq a a ≡ true
+grantee_itself Public = refl
+grantee_itself (Role a) = number_itself a
+
+grant_same : (a b : Grant) → grant_eq a b ≡ true → a ≡ b
+grant_same a b e =
+    let first = each_of (a.rel == b.rel) (privilege_eq a.privilege b.privilege && grantee_eq a.grantee b.grantee) e in
+    let second = each_of (privilege_eq a.privilege b.privilege) (grantee_eq a.grantee b.grantee) first.1 in
+    λ i. record {
+      grantee = grantee_same a.grantee b.grantee second.1 i;
+      privilege = privilege_same a.privilege b.privilege second.0 i;
+      rel = (unsigned_Decides a.rel b.rel).0 first.0 i;
+    }
+
+pub grant_itself : (a : Grant) → grant_eq a a ≡ true
+grant_itself a = (λ i. number_itself a.rel i && (privilege_itself a.privilege i && grantee_itself a.grantee i))
+
+pub grant_eq_decides : (a b : Grant) → Decides (grant_eq a b) (a ≡ b)
+grant_eq_decides a b = (grant_same a b, λ e. subst (λ c. grant_eq a c ≡ true) e (grant_itself a))
+
+pub grant_turned : (a b : Grant) → grant_eq a b ≡ grant_eq b a
+grant_turned a b =
+    two_ways (grant_eq a b) (grant_eq b a)
+    (λ e. (grant_eq_decides b a).1 (sym (grant_same a b e)))
+    (λ e. (grant_eq_decides a b).1 (sym (grant_same b a e)))
+
+-- ---- what is taken out
+
+-- where none is there, none is taken out
+pub none_left : {A : Type 0} (test : A → Bool) (xs : List A) → list_any test xs ≡ false → filter (λ x. not (test x)) xs ≡ xs
+none_left test [] e = refl
+none_left test (x ∷ xs) e =
+    elim (test x) as (λ b. (b || list_any test xs) ≡ false → cond (not b) (x ∷ filter (λ y. not (test y)) xs) (filter (λ y. not (test y)) xs) ≡ (x ∷ xs)) [
+      | true ↦ λ h. cc
+      | false ↦ λ h. ap (λ ys. x ∷ ys) (none_left test xs h)
+    ] e
+
+-- ---- who has what
 
 module _ (r : Rights) (role : ℕ) (p : Privilege) (rel : ℕ) where
   -- the grant gives the role the privilege
@@ -66,7 +108,7 @@ module _ (r : Rights) (role : ℕ) (p : Privilege) (rel : ℕ) where
         | inl x ↦
             let same = each_of (rel == g.rel) (privilege_eq p g.privilege && is_for r role g.grantee) x in
             let rest = each_of (privilege_eq p g.privilege) (is_for r role g.grantee) same.1 in
-            let whole = each_of (g.rel == g.rel) (privilege_eq g.privilege g.privilege && grantee_eq g.grantee g.grantee) (grant_eq_equiv.refl g) in
+            let whole = each_of (g.rel == g.rel) (privilege_eq g.privilege g.privilege && grantee_eq g.grantee g.grantee) (grant_itself g) in
             let to = (each_of (privilege_eq g.privilege g.privilege) (grantee_eq g.grantee g.grantee) whole.1).1 in (
               g.grantee,
               rest.1,

@@ -6,6 +6,7 @@ pub mod Counting
 pub mod Entering
 pub mod Policies
 pub mod Naming
+pub mod Flagged
 pub mod Rising
 pub mod Looping
 pub mod Long

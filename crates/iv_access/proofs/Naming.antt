@@ -11,7 +11,7 @@ use Rattle.iv_access.specs.Rights.{Grantee, Grant}
 use Rattle.iv_access.specs.Privileges.{privilege_eq}
 use Rattle.iv_access.specs.Changing.{grantee_eq, grant_eq, granted, revoked, for_each}
 use Rattle.iv_access.specs.Given.{is_among, is_named_by}
-use Rattle.iv_access.specs.Grants.{grant_eq_decides, grant_eq_equiv}
+use Rattle.iv_access.proofs.Granting.{grant_eq_decides, grant_turned}
 
 or_false : (a : Bool) → (a || false) ≡ a
 or_false true = refl
@@ -34,7 +34,7 @@ among_granted g h gs =
 pub among_revoked : (g h : Grant) (gs : List Grant) → is_among (revoked h gs) g ≡ (not (grant_eq g h) && is_among gs g)
 among_revoked g h gs =
     any-filter_same (grant_eq g) (λ k. not (grant_eq h k)) (not (grant_eq g h))
-    (λ k e. ap not (ap (grant_eq h) (sym ((grant_eq_decides g k).0 e)) ∙ grant_eq_equiv.symm h g)) gs
+    (λ k e. ap not (ap (grant_eq h) (sym ((grant_eq_decides g k).0 e)) ∙ grant_turned h g)) gs
 
 no_more : (a t b : Bool) → b ≡ (b || (a && (false && t)))
 no_more true t true = refl

@@ -14,6 +14,7 @@ use Rattle.iv_access.specs.Rights.{Name, Membership, Grantee, Public, Role, Gran
 use Rattle.iv_access.specs.Known.{Relation, Known}
 use Rattle.iv_access.specs.Asked.{Asked}
 use Rattle.iv_access.specs.Filters.{Filter}
+use Rattle.iv_access.specs.Grants.{Held}
 
 -- ---- grants
 
@@ -54,6 +55,11 @@ abbrev pub grant_code : Coded Grant
 grant_code =
     code_by (Grantee × (Privilege × ℕ)) (coded× grantee_code (coded× privilege_code coded_ℕ))
     (λ g. (g.grantee, (g.privilege, g.rel))) (λ c. record { grantee = c.0; privilege = c.1.0; rel = c.1.1 }) (λ _. refl)
+
+abbrev pub held_code : Coded Held
+held_code =
+    code_by (List Grant × (ℕ × ℕ)) (coded× (coded_list grant_code) (coded× coded_ℕ coded_ℕ))
+    (λ h. (h.list, (h.spare, h.relations))) (λ c. record { list = c.0; spare = c.1.0; relations = c.1.1 }) (λ _. refl)
 
 -- ---- policies
 

@@ -1,95 +1,67 @@
--- Grants that are found equal are one grant, and feed a hasher alike.
-use Rattle.std.specs.Prelude.{◌≡◌, ℕ, ◌==◌, ◌&&◌, Bool, true, false, refl}
-use Rattle.std.specs.Bool.{Decides}
-use Rattle.std.specs.Cmp.{IsEquivalence, unsigned_Decides}
-use Rattle.std.proofs.Common.{ap, sym, subst}
+-- Grants as Access stores them: without where they lie, and as flags.
+use Rattle.std.specs.Prelude.{◌≡◌, ℕ, ◌<◌, ◌&&◌, Bool, false, if◌then◌else◌, List, [], get_or}
 use Rattle.iv_access.specs.declared.privilege.Privilege.{Privilege}
 use Rattle.iv_access.specs.declared.privilege.Privilege.TheVariants.{Select, Insert, Update, Delete}
 use Rattle.iv_access.specs.declared.grant.Grantee.{Grantee as Named}
 use Rattle.iv_access.specs.declared.grant.Grantee.TheVariants as named
+use Rattle.iv_access.specs.declared.grants.Grantees.{Grantees}
+use Rattle.iv_access.specs.declared.grants.RelationGrants.{RelationGrants}
 use Rattle.iv_access.specs.Rights.{Grantee, Public, Role, Grant}
 use Rattle.iv_access.specs.Privileges.{privilege_eq}
-use Rattle.iv_access.specs.Changing.{grantee_eq, grant_eq}
-use Rattle.iv_access.specs.Fed.{grant_fed}
+use Rattle.iv_access.specs.Changing.{grantee_eq}
+use Rattle.iv_access.specs.Given.{is_among}
 
 -- the grantee without where it lies
 abbrev pub seen : Named → Grantee
 seen named.Public = Public
 seen (named.Role id) = Role id.0
 
-both_true : (a b : Bool) → (a && b) ≡ true → (a ≡ true) × (b ≡ true)
-both_true true b e = (refl, e)
-both_true false b e = cc
+-- the grants in the order of granting, room for how many more there is, and how many relations have flags
+pub record Held : Type 0 where
+  pub list : List Grant
+  pub spare : ℕ
+  pub relations : ℕ
 
-privilege_same : (p q : Privilege) → privilege_eq p q ≡ true → p ≡ q
-privilege_same Select Select e = refl
-privilege_same Insert Insert e = refl
-privilege_same Update Update e = refl
-privilege_same Delete Delete e = refl
-privilege_same Select Insert e = cc
-privilege_same Select Update e = cc
-privilege_same Select Delete e = cc
-privilege_same Insert Select e = cc
-privilege_same Insert Update e = cc
-privilege_same Insert Delete e = cc
-privilege_same Update Select e = cc
-privilege_same Update Insert e = cc
-privilege_same Update Delete e = cc
-privilege_same Delete Select e = cc
-privilege_same Delete Insert e = cc
-privilege_same Delete Update e = cc
+-- flags have a place for the grantee
+abbrev pub HasPlace : Grantee → Type 0
+HasPlace Public = Unit {0}
+HasPlace (Role n) = n < 256
 
-privilege_itself : (p : Privilege) → privilege_eq p p ≡ true
-privilege_itself Select = refl
-privilege_itself Insert = refl
-privilege_itself Update = refl
-privilege_itself Delete = refl
+abbrev pub flag_of : Grantees → Grantee → Bool
+flag_of gs Public = gs.all
+flag_of gs (Role n) = get_or gs.roles n false
 
-number_itself : (n : ℕ) → (n == n) ≡ true
-number_itself n = (unsigned_Decides n n).1 refl
+abbrev pub grantees_of : RelationGrants → Privilege → Grantees
+grantees_of r Select = r.select
+grantees_of r Insert = r.insert
+grantees_of r Update = r.update
+grantees_of r Delete = r.delete
 
-grantee_same : (a b : Grantee) → grantee_eq a b ≡ true → a ≡ b
-grantee_same Public Public e = refl
-grantee_same (Role a) (Role b) e = ap Role ((unsigned_Decides a b).0 e)
-grantee_same Public (Role b) e = cc
-grantee_same (Role a) Public e = cc
+-- no flag is set
+abbrev pub IsClear : RelationGrants → Type 0
+IsClear r = (p : Privilege) (to : Grantee) → flag_of (grantees_of r p) to ≡ false
 
-grantee_itself : (a : Grantee) → grantee_eq a a ≡ true
-grantee_itself Public = refl
-grantee_itself (Role a) = number_itself a
+-- the flag of the grantee is set or cleared, and the others stay
+abbrev pub IsSet : Grantee → Bool → (old new : Grantees) → Type 0
+IsSet to held old new = (other : Grantee) → flag_of new other ≡ (if grantee_eq other to then held else flag_of old other)
 
-grant_same : (a b : Grant) → grant_eq a b ≡ true → a ≡ b
-grant_same a b e =
-    let first = both_true (a.rel == b.rel) (privilege_eq a.privilege b.privilege && grantee_eq a.grantee b.grantee) e in
-    let second = both_true (privilege_eq a.privilege b.privilege) (grantee_eq a.grantee b.grantee) first.1 in
-    λ i. record {
-      grantee = grantee_same a.grantee b.grantee second.1 i;
-      privilege = privilege_same a.privilege b.privilege second.0 i;
-      rel = (unsigned_Decides a.rel b.rel).0 first.0 i;
-    }
+-- the flag of the privilege and the grantee is set or cleared, and the others stay
+abbrev pub IsSetIn : Privilege → Grantee → Bool → (old new : RelationGrants) → Type 0
+IsSetIn p to held old new =
+    (q : Privilege) (other : Grantee) → flag_of (grantees_of new q) other ≡ (if privilege_eq q p && grantee_eq other to then held else flag_of (grantees_of old q) other)
 
-grant_itself : (a : Grant) → grant_eq a a ≡ true
-grant_itself a = (λ i. number_itself a.rel i && (privilege_itself a.privilege i && grantee_itself a.grantee i))
+-- of a relation past those with flags
+abbrev pub no_grants : RelationGrants
+no_grants = let nobody : Grantees = record { all = false; roles = [] } in record { select = nobody; insert = nobody; update = nobody; delete = nobody }
 
--- grants that are found equal are one grant
-pub grant_eq_decides : (a b : Grant) → Decides (grant_eq a b) (a ≡ b)
-grant_eq_decides a b = (grant_same a b, λ e. subst (λ c. grant_eq a c ≡ true) e (grant_itself a))
+-- the flag of a grant
+abbrev pub is_flagged : List RelationGrants → Grant → Bool
+is_flagged rs g = flag_of (grantees_of (get_or rs g.rel no_grants) g.privilege) g.grantee
 
-two_ways : (a b : Bool) → (a ≡ true → b ≡ true) → (b ≡ true → a ≡ true) → a ≡ b
-two_ways true true f g = refl
-two_ways false false f g = refl
-two_ways true false f g = sym (f refl)
-two_ways false true f g = g refl
+-- each flag is as it was
+abbrev pub FlagsStay : (old new : List RelationGrants) → Type 0
+FlagsStay old new = (g : Grant) → is_flagged new g ≡ is_flagged old g
 
-grant_eq_turned : (a b : Grant) → grant_eq a b ≡ true → grant_eq b a ≡ true
-grant_eq_turned a b e = (grant_eq_decides b a).1 (sym (grant_same a b e))
-
-pub grant_eq_equiv : IsEquivalence grant_eq
-grant_eq_equiv = record {
-  refl = grant_itself;
-  symm = λ a b. two_ways (grant_eq a b) (grant_eq b a) (grant_eq_turned a b) (grant_eq_turned b a);
-  congr = λ a b c e. ap (λ x. grant_eq x c) (grant_same a b e);
-}
-
-pub grant_fed_alike : (a b : Grant) → grant_eq a b ≡ true → grant_fed a ≡ grant_fed b
-grant_fed_alike a b e = ap grant_fed (grant_same a b e)
+-- each flag says whether the grant is among the grants
+abbrev pub AreFlags : List Grant → List RelationGrants → Type 0
+AreFlags gs rs = (g : Grant) → is_flagged rs g ≡ is_among gs g

@@ -7,7 +7,6 @@ pub mod Changing
 pub mod Known
 pub mod Faults
 pub mod Codes
-pub mod Fed
 pub mod Grants
 pub mod Stored
 pub mod Asked

@@ -2,21 +2,20 @@
 //!
 //! Roles and relations are numbers inside; requests and calls name roles and policies. Role 0 is `admin`. Names and
 //! kinds of relations are known here for look-ups and counts; the rights of the definitions have neither. `has` asks
-//! for grants to all roles and to the role itself first, and walks the roles of which it is a member where neither
-//! was granted.
+//! for grants to all roles and to the role itself first. Where neither was granted, it walks two rows of flags side by
+//! side: of the roles that the role reaches, and of those that were granted the privilege.
 ghost use Rattle.std.specs.Prelude.{◌≡◌, ◌&&◌, true, false, IfOk, map, option_map};
 ghost use Rattle.iv_access.specs.Given.{IsInherited, IsNotInherited};
 ghost use Rattle.iv_access.specs.Known.{known_at_start, relation_of, relation_name};
 ghost use Rattle.iv_access.specs.Privileges.{acts_as, has, first_missing, owns, role_of};
 
-use crate::grant::{self, Grant, Grantee};
+use crate::grants::Grants;
 use crate::guard::Guard;
-use crate::memberships::Memberships;
+use crate::memberships::{Memberships, flag_at};
 use crate::privilege::{Missing, Privilege};
 use crate::relations::Relations;
 use crate::role::RoleId;
 use crate::roles::Roles;
-use indexmap::IndexSet;
 use iv_rows::RelId;
 use iv_zset::Seed;
 use std::alloc::{AllocError, Global};
@@ -32,7 +31,7 @@ pub struct Access {
     pub(crate) members: Memberships,
     pub(crate) relations: Relations,
     pub(crate) guards: Vec<Guard>,
-    pub(crate) grants: IndexSet<Grant, Seed>,
+    pub(crate) grants: Grants,
 }
 
 impl Model for Access {
@@ -43,7 +42,7 @@ impl Model for Access {
 
     ghost coded = { known_code };
 
-    ghost view = { λ a. record { relations = a.relations; rights = record { roles = a.roles; members = a.members; guards = a.guards.items; grants = a.grants.keys } } };
+    ghost view = { λ a. record { relations = a.relations; rights = record { roles = a.roles; members = a.members; guards = a.guards.items; grants = a.grants.list } } };
 
     ghost use Rattle.std.specs.Prelude.{◌≡◌, length};
 
@@ -51,7 +50,7 @@ impl Model for Access {
 }
 
 impl Access {
-    /// One role, `admin`, and no relation. Names and grants are hashed under the known seed.
+    /// One role, `admin`, and no relation. Names are hashed under the known seed.
     ///
     /// # Errors
     /// `AllocError` where a growth of memory was refused.
@@ -61,7 +60,7 @@ impl Access {
         Access::with_seed(alloc, Seed::known())
     }
 
-    /// The same, where names and grants are hashed under a seed. No answer depends on it.
+    /// The same, where names are hashed under a seed. No answer depends on it.
     ///
     /// # Errors
     /// `AllocError` where a growth of memory was refused.
@@ -75,7 +74,7 @@ impl Access {
             members: Memberships::new(alloc),
             relations: Relations::with_seed(alloc, seed),
             guards: Vec::new(alloc),
-            grants: IndexSet::with_hasher(alloc, seed),
+            grants: Grants::new(alloc),
         })
     }
 
@@ -128,10 +127,10 @@ impl Access {
         ensures yes { result ≡ true → IsInherited self.now.rights role.0 privilege rel.0 }
         ensures no { result ≡ false → IsNotInherited self.now.rights role.0 privilege rel.0 }
     {
+        let granted = self.grants.roles(privilege, rel);
         let row = self.members.reached(role);
         for (place, reached) in row.iter().enumerate() {
-            let other = Grantee::Role(RoleId(place as u32));
-            if *reached && grant::is_granted_to(&self.grants, other, privilege, rel) {
+            if *reached && flag_at(granted, place) {
                 return true;
             }
         }
@@ -144,7 +143,7 @@ impl Access {
         ensures { result ≡ has self.now.rights role.0 privilege rel.0 }
     {
         role.is_admin()
-            || (grant::is_granted(&self.grants, role, privilege, rel)
+            || (self.grants.is_granted(role, privilege, rel)
                 || self.is_inherited(role, privilege, rel))
     }
 

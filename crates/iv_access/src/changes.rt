@@ -3,12 +3,12 @@ ghost use Rattle.std.specs.Prelude.{◌≡◌, ◌⊎◌, ◌<◌, ◌∷◌, []
 ghost use Rattle.iv_access.specs.declared.fault.AccessFault.TheVariants.{Memory};
 ghost use Rattle.iv_access.specs.Changing.{with_role, with_member, without_member, with_relation, with_grants, without_grants};
 ghost use Rattle.iv_access.specs.Faults.{count_like, create_role_fault, grant_role_fault, revoke_role_fault, add_relation_fault, grant_fault};
-ghost use Rattle.iv_access.specs.Grants.{seen};
+ghost use Rattle.iv_access.specs.Grants.{HasPlace, seen};
 ghost use Rattle.iv_access.specs.Known.{relation_of, relation_with, role_number, grantee_of, named};
 
 use crate::access::Access;
 use crate::fault::AccessFault;
-use crate::grant::{self, Grantee};
+use crate::grant::Grantee;
 use crate::guard::Guard;
 use crate::privilege::Privilege;
 use crate::relations::MOST_RELATIONS;
@@ -112,6 +112,7 @@ impl Access {
         table: bool,
     ) -> Result<RoleId, AccessFault>
         ensures owner { IfOk result (λ role. role.0 ≡ role_number self.now.rights owner.now) }
+        ensures wide { IfOk result (λ role. role.0 < 256) }
         ensures new { OnOk result (relation_of self.now.relations name.now ≡ None) }
         ensures room { OnOk result (count_like table self.now.relations < 64) }
         ensures ok_when { OnOk result (add_relation_fault self.now acting.0 name.now owner.now table ≡ None) }
@@ -120,7 +121,7 @@ impl Access {
         if !acting.is_admin() {
             return Err(AccessFault::NotAdmin);
         }
-        let Some(role) = self.role(owner) else {
+        let Some(role) = self.roles.number(owner) else {
             return Err(AccessFault::Role);
         };
         if self.relation(name).is_some() {
@@ -160,11 +161,11 @@ impl Access {
         ];
         let rel = self.relations.next();
         self.guards.reserve(1)?;
-        self.grants.reserve(all.len())?;
+        self.grants.reserve(rel, all.len())?;
         self.relations.push(name, kinds)?;
         let guard = Guard::new(*self.guards.allocator(), owner);
         self.guards.push(guard).unwrap();
-        grant::give(&mut self.grants, rel, &all, Grantee::Role(owner));
+        self.grants.give(rel, &all, Grantee::Role(owner));
         Ok(rel)
     }
 
@@ -172,6 +173,7 @@ impl Access {
     /// there is no name.
     fn grantee(&self, acting: RoleId, rel: RelId, to: Option<&str>) -> Result<Grantee, AccessFault>
         ensures grantee { IfOk result (λ g. seen g ≡ grantee_of self.now.rights (named to.entry)) }
+        ensures place { IfOk result (λ g. HasPlace (seen g)) }
         ensures ok_when { OnOk result (grant_fault self.now.rights acting.0 rel.0 (named to.entry) ≡ None) }
         ensures err_when { IfErr result (λ e. grant_fault self.now.rights acting.0 rel.0 (named to.entry) ≡ Some e) }
     {
@@ -179,7 +181,7 @@ impl Access {
             return Err(AccessFault::NotOwner);
         }
         match to {
-            Some(name) => match self.role(name) {
+            Some(name) => match self.roles.number(name) {
                 Some(role) => Ok(Grantee::Role(role)),
                 None => Err(AccessFault::Role),
             },
@@ -205,8 +207,8 @@ impl Access {
         ensures unchanged { OnErr result (self.new ≡ self.old) }
     {
         let grantee = self.grantee(acting, rel, to)?;
-        self.grants.reserve(privileges.len())?;
-        grant::give(&mut self.grants, rel, privileges, grantee);
+        self.grants.reserve(rel, privileges.len())?;
+        self.grants.give(rel, privileges, grantee);
         Ok(())
     }
 
@@ -229,7 +231,7 @@ impl Access {
         ensures unchanged { OnErr result (self.new ≡ self.old) }
     {
         let grantee = self.grantee(acting, rel, to)?;
-        grant::take(&mut self.grants, rel, privileges, grantee);
+        self.grants.take(rel, privileges, grantee);
         Ok(())
     }
 }

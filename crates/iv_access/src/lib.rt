@@ -7,6 +7,7 @@ mod check;
 mod fault;
 mod filter;
 mod grant;
+mod grants;
 mod guard;
 pub mod laws;
 mod memberships;

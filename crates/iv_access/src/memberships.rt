@@ -76,7 +76,7 @@ fn no_flags() -> [bool; 256]
 }
 
 /// The flag at a place of a row.
-fn flag_at(row: &[bool], place: usize) -> bool
+pub(crate) fn flag_at(row: &[bool], place: usize) -> bool
     ensures { result ≡ get_or row.now place false }
 {
     match row.get(place) {

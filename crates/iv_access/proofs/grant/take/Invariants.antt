@@ -1,7 +1,0 @@
-use Rattle.std.proofs.Common.{◌≡◌, drop}
-use Rattle.iv_access.specs.Changing.{revoked, for_each}
-use Rattle.iv_access.specs.Grants.{seen}
-use Rattle.iv_access.proofs.grant.take.Given as goal
-
-abbrev pub invariant-loop-privilege : goal.invariant-loop-privilege
-invariant-loop-privilege l = for_each revoked l.rel.0 l.privileges (seen l.grantee) l.fn.grants.keys ≡ for_each revoked l.rel.0 (drop l.privilege-index l.privileges) (seen l.grantee) l.grants.keys

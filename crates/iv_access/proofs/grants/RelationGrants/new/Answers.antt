@@ -1,0 +1,5 @@
+use Rattle.iv_access.proofs.Flagged.{clear_of}
+use Rattle.iv_access.proofs.grants.RelationGrants.new.Goals as goal
+
+pub returns : goal.returns
+returns c = clear_of 256
