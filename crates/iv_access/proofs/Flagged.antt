@@ -32,14 +32,7 @@ clear_of n Update to = to_nobody n to
 clear_of n Delete to = to_nobody n to
 
 clear_past : IsClear no_grants
-clear_past Select Public = refl
-clear_past Insert Public = refl
-clear_past Update Public = refl
-clear_past Delete Public = refl
-clear_past Select (Role k) = get_or_past [] k false (omega arith)
-clear_past Insert (Role k) = get_or_past [] k false (omega arith)
-clear_past Update (Role k) = get_or_past [] k false (omega arith)
-clear_past Delete (Role k) = get_or_past [] k false (omega arith)
+clear_past = clear_of 0
 
 past_all : (rs : List RelationGrants) (g : Grant) → length rs ≤ g.rel → is_flagged rs g ≡ false
 past_all rs g l = ap (λ r. flag_of (grantees_of r g.privilege) g.grantee) (get_or_past rs g.rel no_grants l) ∙ clear_past g.privilege g.grantee
