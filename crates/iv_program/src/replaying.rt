@@ -1,9 +1,9 @@
 //! Request lines in, answer lines out, through a new engine.
 
-ghost use Rattle.std.specs.Prelude.{◌≡◌, ◌≤◌, ◌+◌, ◌*◌, ◌||◌, IfSome, OnOk, true, false};
+ghost use Rattle.std.specs.Prelude.{◌≡◌, ℕ, ◌≤◌, ◌+◌, ◌*◌, ◌||◌, IfSome, OnOk, true, false};
 ghost use Rattle.iv_zset.specs.RowLimit.{IsRowLimit};
 ghost use Rattle.iv_machine.specs.State.{start};
-ghost use Rattle.iv_engine.specs.Seen.{Seen};
+ghost use Rattle.iv_engine.specs.Seen.{IsBehind, Seen};
 ghost use Rattle.iv_wire.specs.Cut.{line_room};
 ghost use Rattle.iv_wire.specs.Sums.{HasWritten};
 ghost use Rattle.iv_program.specs.Arguments.{InRange, lines_of};
@@ -16,6 +16,49 @@ use crate::serving::serve;
 use iv_engine::{Engine, Seed};
 use iv_wire::{RunFault, Sink, Source, run};
 use std::alloc::Global;
+
+/// Answers at most `lines` lines of the reader on the writer, through an engine that has not failed.
+///
+/// # Errors
+/// `Read` and `Write` where the reader or the writer failed; `Memory` where a growth of memory was
+/// refused.
+fn replay_on<R: Source, W: Sink>(
+    alloc: Global,
+    engine: &mut Engine,
+    reader: &mut R,
+    writer: &mut W,
+    lines: u32,
+) -> Result<(), Fault>
+    requires { engine.old.failed ≡ false }
+    ensures answers { (cap : ℕ) → IsBehind (start cap) engine.old → (now : Seen) × Replays cap (record {
+      lines = lines;
+      given = R.left reader.old;
+      left = R.left reader.new;
+      taken = W.taken writer.old;
+      written = W.taken writer.new;
+      now = now;
+    }) result }
+    ensures adds_up { (cap : ℕ) → IsBehind (start cap) engine.old → OnOk result ((now : Seen) × IfSome (R.left reader.old) (λ _. HasWritten (start cap) (record {
+      lines = lines;
+      given = R.left reader.old;
+      left = R.left reader.new;
+      taken = W.taken writer.old;
+      written = W.taken writer.new;
+      now = now;
+    }))) }
+    ensures read { R.has_failed reader.new ≡ (R.has_failed reader.old || is_read result) }
+    ensures write { W.has_failed writer.new ≡ (W.has_failed writer.old || is_write result) }
+    ensures flushed { (is_write result ≡ false) → W.is_flushed writer.old ≡ true → W.is_flushed writer.new ≡ true }
+    ensures reads { R.reads reader.new ≤ R.reads reader.old + lines * line_room }
+{
+    match run(alloc, engine, reader, writer, lines) {
+        Ok(_) => Ok(()),
+        Err(RunFault::Read) => Err(Fault::Read),
+        Err(RunFault::Write) => Err(Fault::Write),
+        Err(RunFault::Memory) => Err(Fault::Memory),
+        Err(RunFault::Failed) => unreachable!(),
+    }
+}
 
 /// Answers at most `lines` lines of the reader on the writer, through a new engine with at most `rows` different rows in
 /// each table and node. Rows are hashed under the seed.
@@ -57,13 +100,7 @@ fn replay<R: Source, W: Sink>(
     let Ok(mut engine) = Engine::with_seed(alloc, seed, rows) else {
         return Err(Fault::Memory);
     };
-    match run(alloc, &mut engine, reader, writer, lines) {
-        Ok(_) => Ok(()),
-        Err(RunFault::Read) => Err(Fault::Read),
-        Err(RunFault::Write) => Err(Fault::Write),
-        Err(RunFault::Memory) => Err(Fault::Memory),
-        Err(RunFault::Failed) => unreachable!(),
-    }
+    replay_on(alloc, &mut engine, reader, writer, lines)
 }
 
 /// Does what the settings ask, with these ends in place of standard input and output. Rows are hashed under the seed.

@@ -120,6 +120,38 @@ fn tell_port<W: Sink>(alloc: Global, writer: &mut W, port: u16) -> Result<(), Fa
     }
 }
 
+/// Listens on a port of 127.0.0.1, tells so on the writer, and serves so many connections through an engine that has not
+/// failed, with at most `lines` lines of each.
+///
+/// # Errors
+/// `Network` where the port could not be listened on, or a connection not be accepted; `Write` where the writer failed;
+/// `Memory` where a growth of memory was refused.
+fn serve_through<W: Sink>(
+    rt: &HostRuntime,
+    engine: &mut Engine,
+    writer: &mut W,
+    port: u16,
+    connections: u32,
+    lines: u32,
+) -> Result<(), Fault>
+    requires { engine.old.failed ≡ false }
+    ensures listens { Listens port (W.taken writer.old) (W.taken writer.new) result }
+    ensures write { W.has_failed writer.new ≡ (W.has_failed writer.old || is_write result) }
+    ensures flushed { (is_write result ≡ false) → W.is_flushed writer.old ≡ true → W.is_flushed writer.new ≡ true }
+{
+    let alloc = rt.alloc();
+    let Ok(listener) = TcpListener::bind(rt, SocketAddrV4::new(Ipv4Addr::LOCALHOST, port)) else {
+        return Err(Fault::Network);
+    };
+    tell_port(alloc, writer, port)?;
+    match serve_on(alloc, engine, &listener, connections, lines) {
+        Ok(()) => Ok(()),
+        Err(ServeFault::Network) => Err(Fault::Network),
+        Err(ServeFault::Memory) => Err(Fault::Memory),
+        Err(ServeFault::Failed) => unreachable!(),
+    }
+}
+
 /// Listens on a port of 127.0.0.1, tells so on the writer, and serves so many connections through a new engine, with at
 /// most `lines` lines of each, and at most `rows` different rows in each table and node. Rows are hashed under the seed.
 ///
@@ -140,18 +172,8 @@ pub fn serve<W: Sink>(
     ensures write { W.has_failed writer.new ≡ (W.has_failed writer.old || is_write result) }
     ensures flushed { (is_write result ≡ false) → W.is_flushed writer.old ≡ true → W.is_flushed writer.new ≡ true }
 {
-    let alloc = rt.alloc();
-    let Ok(mut engine) = Engine::with_seed(alloc, seed, rows) else {
+    let Ok(mut engine) = Engine::with_seed(rt.alloc(), seed, rows) else {
         return Err(Fault::Memory);
     };
-    let Ok(listener) = TcpListener::bind(rt, SocketAddrV4::new(Ipv4Addr::LOCALHOST, port)) else {
-        return Err(Fault::Network);
-    };
-    tell_port(alloc, writer, port)?;
-    match serve_on(alloc, &mut engine, &listener, connections, lines) {
-        Ok(()) => Ok(()),
-        Err(ServeFault::Network) => Err(Fault::Network),
-        Err(ServeFault::Memory) => Err(Fault::Memory),
-        Err(ServeFault::Failed) => unreachable!(),
-    }
+    serve_through(rt, &mut engine, writer, port, connections, lines)
 }

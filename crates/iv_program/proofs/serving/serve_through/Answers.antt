@@ -1,6 +1,6 @@
 use Rattle.iv_program.specs.Does.{listening}
 use Rattle.iv_program.proofs.Connections.{all_front}
-use Rattle.iv_program.proofs.serving.serve.Goals as goal
+use Rattle.iv_program.proofs.serving.serve_through.Goals as goal
 
 pub returns-in-Err-Network-clause-listens : goal.returns-in-Err-Network-clause-listens
 returns-in-Err-Network-clause-listens g c = all_front _ _ (listening c.args.port) c.in_ok-tell_port.ensures.listens
