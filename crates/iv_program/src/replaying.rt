@@ -1,14 +1,14 @@
 //! Request lines in, answer lines out, through a new engine.
 
-ghost use Rattle.std.specs.Prelude.{◌≡◌, ℕ, ◌≤◌, ◌+◌, ◌*◌, ◌||◌, IfSome, OnOk, true, false};
+ghost use Rattle.std.specs.Prelude.{◌≡◌, ℕ, ◌≤◌, ◌+◌, ◌*◌, ◌||◌, OnOk, true, false};
 ghost use Rattle.iv_zset.specs.RowLimit.{IsRowLimit};
 ghost use Rattle.iv_machine.specs.State.{start};
-ghost use Rattle.iv_engine.specs.Seen.{IsBehind, Seen};
+ghost use Rattle.iv_engine.specs.Seen.{IsBehind};
 ghost use Rattle.iv_wire.specs.Cut.{line_room};
-ghost use Rattle.iv_wire.specs.Sums.{HasWritten};
 ghost use Rattle.iv_program.specs.Arguments.{InRange, lines_of};
 ghost use Rattle.iv_program.specs.Does.{AddsUp, Does};
-ghost use Rattle.iv_program.specs.Replays.{Replays, is_read, is_write};
+ghost use Rattle.iv_program.specs.Replays.{is_read, is_write};
+ghost use Rattle.iv_program.specs.declared.asked.Settings.TheVariants.{Replay};
 
 use crate::asked::Settings;
 use crate::fault::Fault;
@@ -30,22 +30,18 @@ fn replay_on<R: Source, W: Sink>(
     lines: u32,
 ) -> Result<(), Fault>
     requires { engine.old.failed ≡ false }
-    ensures answers { (cap : ℕ) → IsBehind (start cap) engine.old → (now : Seen) × Replays cap (record {
-      lines = lines;
+    ensures answers { (cap : ℕ) → IsBehind (start cap) engine.old → Does (Replay lines cap) (record {
       given = R.left reader.old;
       left = R.left reader.new;
       taken = W.taken writer.old;
       written = W.taken writer.new;
-      now = now;
     }) result }
-    ensures adds_up { (cap : ℕ) → IsBehind (start cap) engine.old → OnOk result ((now : Seen) × IfSome (R.left reader.old) (λ _. HasWritten (start cap) (record {
-      lines = lines;
+    ensures adds_up { (cap : ℕ) → IsBehind (start cap) engine.old → OnOk result (AddsUp (Replay lines cap) (record {
       given = R.left reader.old;
       left = R.left reader.new;
       taken = W.taken writer.old;
       written = W.taken writer.new;
-      now = now;
-    }))) }
+    })) }
     ensures read { R.has_failed reader.new ≡ (R.has_failed reader.old || is_read result) }
     ensures write { W.has_failed writer.new ≡ (W.has_failed writer.old || is_write result) }
     ensures flushed { (is_write result ≡ false) → W.is_flushed writer.old ≡ true → W.is_flushed writer.new ≡ true }
@@ -76,22 +72,18 @@ fn replay<R: Source, W: Sink>(
 ) -> Result<(), Fault>
     requires lines { 1 ≤ lines }
     requires rows { IsRowLimit rows }
-    ensures answers { (now : Seen) × Replays rows (record {
-      lines = lines;
+    ensures answers { Does (Replay lines rows) (record {
       given = R.left reader.old;
       left = R.left reader.new;
       taken = W.taken writer.old;
       written = W.taken writer.new;
-      now = now;
     }) result }
-    ensures adds_up { OnOk result ((now : Seen) × IfSome (R.left reader.old) (λ _. HasWritten (start rows) (record {
-      lines = lines;
+    ensures adds_up { OnOk result (AddsUp (Replay lines rows) (record {
       given = R.left reader.old;
       left = R.left reader.new;
       taken = W.taken writer.old;
       written = W.taken writer.new;
-      now = now;
-    }))) }
+    })) }
     ensures read { R.has_failed reader.new ≡ (R.has_failed reader.old || is_read result) }
     ensures write { W.has_failed writer.new ≡ (W.has_failed writer.old || is_write result) }
     ensures flushed { (is_write result ≡ false) → W.is_flushed writer.old ≡ true → W.is_flushed writer.new ≡ true }
