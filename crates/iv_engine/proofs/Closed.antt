@@ -17,14 +17,15 @@ use Rattle.iv_machine.proofs.Reached.{given_kept, unique_kept}
 use Rattle.iv_engine.specs.Answering.{IsStep, seen}
 use Rattle.iv_engine.specs.Counting.{AreCounted}
 use Rattle.iv_engine.specs.Finished.{without_session, without_subscription, without_unread}
-use Rattle.iv_engine.specs.Kept.{IsOpen, IsRoleCircuit, IsSound, IsWithin, Kept, at, frame_of, is_for, may_read, place_of}
+use Rattle.iv_database.proofs.Stored.{sessions_stored}
+use Rattle.iv_engine.specs.Kept.{database_of, IsOpen, IsRoleCircuit, IsSound, IsWithin, Kept, at, frame_of, is_for, may_read, place_of}
 use Rattle.iv_engine.specs.Rounds.{beside_number, rounds, rounds_of}
 use Rattle.iv_engine.specs.Seen.{IsBehind}
-use Rattle.iv_engine.specs.Stands.{Stands}
-use Rattle.iv_engine.specs.Views.{line_of}
-use Rattle.iv_engine.specs.declared.answer.Answer.TheVariants.{Accepted}
-use Rattle.iv_engine.specs.declared.command.Line.{Line}
-use Rattle.iv_engine.specs.declared.command.Reply.TheVariants.{Ok}
+use Rattle.iv_database.specs.Stands.{Stands}
+use Rattle.iv_command.specs.Views.{line_of}
+use Rattle.iv_command.specs.declared.answer.Answer.TheVariants.{Accepted}
+use Rattle.iv_command.specs.declared.command.Line.{Line}
+use Rattle.iv_command.specs.declared.command.Reply.TheVariants.{Ok}
 use Rattle.iv_engine.proofs.Counted.{IsBeside, all_beside, left_rounds, same_rounds, those_counted}
 use Rattle.iv_engine.proofs.Dropped.{left_have, left_read, left_there}
 use Rattle.iv_engine.proofs.Showing.{difference_none, each_found}
@@ -63,16 +64,7 @@ module _ (e : Kept) (h : IsSound e) (ss : List Session) (p : Subscription → Bo
   left_sound = record {
     stored = record {
       numbers = record { unique = unique_kept p e.subscriptions h.stored.numbers.unique; given = given_kept e.last p e.subscriptions h.stored.numbers.given };
-      roles = roles;
-      numbered = h.stored.numbered;
-      relations = h.stored.relations;
-      guards = h.stored.guards;
-      tables = h.stored.tables;
-      zsets = h.stored.zsets;
-      limit = h.stored.limit;
-      small = h.stored.small;
-      positive = h.stored.positive;
-      kinds = h.stored.kinds;
+      database = sessions_stored (database_of e) h.stored.database c.sessions roles;
       shows = left (IsOpen e) (IsOpen c) (λ s k o. record { session = ap (λ (x : Option Session). is_some x) (same s k) ∙ o.session; known = o.known }) h.stored.shows;
     };
     served = left (λ s. may_read e s ≡ true) (λ s. may_read c s ≡ true) (λ s k r. still_read e c s (unmoved s k) r) h.served;
@@ -151,7 +143,7 @@ module _ (e new : Kept) (n : ℕ) (lines : Vec Line) (h : IsSound e) (none : lin
   finished_step k =
       let ss = filter (λ (s : Session). not (n == s.number)) e.sessions in
       let p = λ (s : Subscription). not (n == s.session) in
-      let roles = all_kept (λ (s : Session). s.role < length e.known.rights.roles) (λ s. s.role < length e.known.rights.roles) (λ s. not (n == s.number)) (λ s b r. r) e.sessions h.stored.roles in
+      let roles = all_kept (λ (s : Session). s.role < length e.known.rights.roles) (λ s. s.role < length e.known.rights.roles) (λ s. not (n == s.number)) (λ s b r. r) e.sessions h.stored.database.roles in
       let same = λ (s : Subscription) (x : p s ≡ true). others_stay e.sessions n s.session (stays (n == s.session) x) in
       record {
         answer = λ T s. (
@@ -176,13 +168,13 @@ module _ (e new : Kept) (n : ℕ) (lines : Vec Line) (h : IsSound e) (none : lin
         answer = λ T s. (
           (λ i. or_else (or_else (test (not (opened i)) machine.no_session) (test (not (has i)) machine.unknown_subscription)) None),
           refl,
-          ap (map line_of) none ∙ sym (left_sent e h e.sessions p h.stored.roles same T s),
+          ap (map line_of) none ∙ sym (left_sent e h e.sessions p h.stored.database.roles same T s),
         );
-        left = λ T s. subst (λ (t : State). IsBehind t (seen new)) (sym (left_settled e h e.sessions p h.stored.roles same T s))
+        left = λ T s. subst (λ (t : State). IsBehind t (seen new)) (sym (left_settled e h e.sessions p h.stored.database.roles same T s))
             (subst (λ (v : Kept). IsBehind (at (without_unread (without_subscription number e)) T) (seen v)) (sym k) (record { frame = refl; rows = s }));
         kept = no_refusal Ok refl;
-        rounds = subst (λ (v : Kept). AreCounted (seen e) (unsubscribe number) (seen v)) (sym k) (left_counted e h e.sessions p h.stored.roles same);
-        sound = subst IsSound (sym k) (left_sound e h e.sessions p h.stored.roles same);
+        rounds = subst (λ (v : Kept). AreCounted (seen e) (unsubscribe number) (seen v)) (sym k) (left_counted e h e.sessions p h.stored.database.roles same);
+        sound = subst IsSound (sym k) (left_sound e h e.sessions p h.stored.database.roles same);
       }
 
 -- ---- the tests

@@ -13,7 +13,7 @@ use Rattle.iv_engine.specs.Concerned.{unreadable}
 use Rattle.iv_engine.specs.Kept.{IsSound, IsStored, Kept, frame_of, role_reads, with_rights}
 use Rattle.iv_engine.specs.Next.{kept_after}
 use Rattle.iv_engine.specs.Turned.{AreReadersTold, AreWaiting}
-use Rattle.iv_engine.specs.declared.answer.Answer.{Answer}
+use Rattle.iv_command.specs.declared.answer.Answer.{Answer}
 use Rattle.iv_engine.proofs.Circling.{seen_circuit}
 use Rattle.iv_engine.proofs.Righting.{StaysStill, flag_beside, righted_step, righted_stored, waiting}
 use Rattle.iv_engine.proofs.Seeing.{sees_same}
@@ -49,7 +49,7 @@ module _ (e : Kept) (n : ℕ) (name : Name) (ps : List Privilege) (to : Option N
   }
 
   revoked_stored : IsStored e → IsStored revoked
-  revoked_stored h = righted_stored e e.known.rights.members e.known.rights.guards gs h.guards h
+  revoked_stored h = righted_stored e e.known.rights.members e.known.rights.guards gs h.database.guards h
 
   pub revoked_waiting : IsSound e → AreWaiting revoked (unreadable revoked)
   revoked_waiting h = waiting e e.known.rights.members e.known.rights.guards gs lost revoke_still (revoked_stored h.stored) h

@@ -1,30 +1,34 @@
 -- Changes of the guard of a table, by which rows come to be seen or cease to.
-use Rattle.std.proofs.Common.{◌≡◌, ℕ, zero, suc, Bool, true, false, cond, ◌||◌, List, [], ◌∷◌, length, refl, sym, ap, ◌∙◌, arith}
+use Rattle.std.proofs.Common.{◌≡◌, ℕ, zero, suc, Bool, true, false, cond, None, ◌||◌, List, [], ◌∷◌, length, refl, sym, ap, ◌∙◌, arith}
 use Rattle.std.proofs.lemmas.Bool.Decides.{nat_tests}
 use Rattle.std.proofs.lemmas.List.Elements.{All-cons, All-nil}
-use Rattle.std.specs.Prelude.{◌==◌, is_some, slice_get}
+use Rattle.std.specs.Prelude.{◌==◌, Ok, Err, slice_get}
+use Rattle.iv_rows.specs.declared.schema.RelId.{RelId}
+use Rattle.iv_database.specs.Database as database
+use Rattle.iv_database.specs.Database.{Database}
+use Rattle.iv_database.specs.Owned.{IsGuarded}
+use Rattle.iv_command.specs.declared.answer.Answer.TheVariants as answers
+use Rattle.iv_command.specs.declared.command.Refusal.{Refusal}
+use Rattle.iv_command.specs.declared.stop.Stop.TheVariants.{Refused}
 use Rattle.std.specs.List.{All, list_any}
 use Rattle.iv_algebra.specs.Shapes.{scans as shape_scans}
-use Rattle.iv_access.specs.Asked.{policy_from}
 use Rattle.iv_access.specs.Changing.{changed_at, insert_policy, remove_policy}
-use Rattle.iv_access.specs.Policies.{policy_of}
 use Rattle.iv_access.specs.Rights.{Guard, Name, Rights}
 use Rattle.iv_circuit.specs.Nodes.{Scanned, scans_of}
-use Rattle.iv_machine.specs.Act.{PolicyText, create_policy, drop_policy, row_security}
+use Rattle.iv_machine.specs.Act.{Act, PolicyText, create_policy, drop_policy, row_security}
+use Rattle.iv_machine.specs.Refusing.{frame_refusal}
 use Rattle.iv_machine.specs.Changing.{policy_for}
 use Rattle.iv_machine.specs.State.{actor, plan_at, rel_of}
 use Rattle.iv_engine.specs.Answering.{IsStep}
 use Rattle.iv_engine.specs.Concerned.{scanning}
 use Rattle.iv_engine.specs.Counting.{scans_at}
-use Rattle.iv_engine.specs.Kept.{IsRoleCircuit, IsSound, IsStored, Kept, RoleCircuit, at, frame_of, with_rights}
-use Rattle.iv_engine.specs.Owned.{IsOwner, IsReady, asked, has_room}
+use Rattle.iv_engine.specs.Next.{kept_after}
+use Rattle.iv_engine.specs.Kept.{database_of, with_database, IsRoleCircuit, IsSound, IsStored, Kept, RoleCircuit, at, frame_of, with_rights}
 use Rattle.iv_engine.specs.Turned.{AreReadersTold, AreWaiting}
-use Rattle.iv_engine.specs.declared.answer.Answer.{Answer}
-use Rattle.iv_engine.specs.declared.policies.Owned.{Owned}
-use Rattle.iv_engine.specs.declared.predicates.Predicates.{Predicates}
+use Rattle.iv_command.specs.declared.answer.Answer.{Answer}
 use Rattle.iv_engine.proofs.Circling.{seen_circuit}
-use Rattle.iv_engine.proofs.Owning.{drop_tests, has_passed, owner_passes}
-use Rattle.iv_engine.proofs.Righting.{StaysStill, flag_beside, reads_same, righted_step, righted_stored, waiting}
+use Rattle.iv_engine.proofs.Stepping.{refused_step}
+use Rattle.iv_engine.proofs.Righting.{StaysStill, told_as, waiting_as, flag_beside, reads_same, righted_step, righted_stored, waiting}
 use Rattle.iv_engine.proofs.Seeing.{sees_same}
 use Rattle.iv_engine.proofs.Touched.{scans_alike}
 
@@ -62,7 +66,7 @@ module _ (e : Kept) (table : ℕ) (change : Guard → Guard) where
   us = changed_at table change e.known.rights.guards
 
   pub guarded_stored : IsStored e → IsStored c
-  guarded_stored h = righted_stored e e.known.rights.members us e.known.rights.grants (as_many change table e.known.rights.guards ∙ h.guards) h
+  guarded_stored h = righted_stored e e.known.rights.members us e.known.rights.grants (as_many change table e.known.rights.guards ∙ h.database.guards) h
 
   -- ---- circuits that do not scan the table
 
@@ -91,61 +95,106 @@ module _ (e : Kept) (table : ℕ) (change : Guard → Guard) where
 
 -- ---- the requests
 
-module _ (e : Kept) (n table : ℕ) (change : Guard → Guard) (h : IsSound e) where
-  -- the rounds of those that read the table begin anew
-  anew_where : (name : Name) → rel_of e.catalog name ≡ table → (k role was now : ℕ) (b : Bool) → b ≡ scans_at e.catalog k table → now ≡ cond b 0 was → now ≡ cond (scans_at e.catalog k (rel_of e.catalog name)) 0 was
-  anew_where name number k role was now b flag is = is ∙ (λ i. cond ((flag ∙ ap (λ t. scans_at e.catalog k t) (sym number)) i) 0 was)
+-- the rounds of those that read the table begin anew
+anew_where : (e : Kept) (table k was now : ℕ) (b : Bool) → b ≡ scans_at e.catalog k table → now ≡ cond b 0 was → now ≡ cond (scans_at e.catalog k table) 0 was
+anew_where e table k was now b flag is = is ∙ ap (λ x. cond x 0 was) flag
 
-pub security_step : (e new : Kept) (n : ℕ) (rel : Name) (enable force : Bool) (owned : Owned) (a : Answer) → IsSound e → IsOwner e n rel owned
-    → AreReadersTold (guarded owned.table.0 (λ g. record g { enabled = enable; forced = force }) e) (scanning e owned.table.0) a new → IsStep e n (row_security rel enable force) a new
-security_step e new n rel enable force owned a h o told =
-    let t = owned.table.0 in
-    let change : Guard → Guard = λ g. record g { enabled = enable; forced = force } in
-    righted_step e e.known.rights.members (changed_at t change e.known.rights.guards) e.known.rights.grants n (row_security rel enable force) (scanning e t)
-    (record {
-      rows = λ T. refl;
-      after = λ T. ap (λ k. at (guarded k change e) T) o.number;
-      ends = λ s. refl;
-      reply = refl;
-      stored = guarded_stored e t change h.stored;
-      counts = λ ss cs s was now there reads is. anew_where e n t change h rel o.number s.rel (actor (frame_of e) s.session) was now _ (flag_beside (by_table e t) e s there) is;
-    }) h new a (owner_passes e n rel owned o []) told
-
-pub drop_step : (e new : Kept) (n : ℕ) (rel name : Name) (owned : Owned) (a : Answer) → IsSound e → IsOwner e n rel owned → is_some (policy_of e.known.rights owned.table.0 name) ≡ true
-    → AreReadersTold (guarded owned.table.0 (λ g. record g { policies = remove_policy name g.policies }) e) (scanning e owned.table.0) a new → IsStep e n (drop_policy rel name) a new
-drop_step e new n rel name owned a h o there told =
-    let t = owned.table.0 in
-    let change : Guard → Guard = λ g. record g { policies = remove_policy name g.policies } in
-    righted_step e e.known.rights.members (changed_at t change e.known.rights.guards) e.known.rights.grants n (drop_policy rel name) (scanning e t)
-    (record {
-      rows = λ T. refl;
-      after = λ T. ap (λ k. at (guarded k change e) T) o.number;
-      ends = λ s. refl;
-      reply = refl;
-      stored = guarded_stored e t change h.stored;
-      counts = λ ss cs s was now there reads is. anew_where e n t change h rel o.number s.rel (actor (frame_of e) s.session) was now _ (flag_beside (by_table e t) e s there) is;
-    }) h new a (drop_tests e n rel name owned true o there) told
-
-module _ (e : Kept) (n : ℕ) (p : PolicyText) (owned : Owned) (preds : Predicates) (ready : IsReady e n p owned preds) where
-  abbrev rights : Rights
-  rights = e.known.rights
-
-  policy_is : policy_for (frame_of e) p ≡ policy_from rights (asked p preds)
-  policy_is = λ i. record (policy_for (frame_of e) p) { using = ready.texts.1 i; check = ready.texts.2 i }
-
-  abbrev pub with_it : Guard → Guard
-  with_it = λ g. record g { policies = insert_policy (policy_from rights (asked p preds)) g.policies }
-
-  pub policy_step : (new : Kept) (a : Answer) → IsSound e → has_room rights owned.table.0 ≡ true
-      → AreReadersTold (guarded owned.table.0 with_it e) (scanning e owned.table.0) a new → IsStep e n (create_policy p) a new
-  policy_step new a h room told =
-      let t = owned.table.0 in
-      righted_step e rights.members (changed_at t with_it rights.guards) rights.grants n (create_policy p) (scanning e t)
+module _ (e : Kept) (n : ℕ) (h : IsSound e) (new : Kept) (a : Answer) where
+  pub security_step : (rel : Name) (enable force : Bool) → frame_refusal (frame_of e) n (row_security rel enable force) ≡ None
+      → AreReadersTold (kept_after e n (row_security rel enable force)) (scanning e (rel_of e.catalog rel)) a new → IsStep e n (row_security rel enable force) a new
+  security_step rel enable force passed told =
+      let t = rel_of e.catalog rel in
+      let change : Guard → Guard = λ g. record g { enabled = enable; forced = force } in
+      righted_step e e.known.rights.members (changed_at t change e.known.rights.guards) e.known.rights.grants n (row_security rel enable force) (scanning e t)
       (record {
         rows = λ T. refl;
-        after = λ T i. at (guarded (ready.owner.number i) (λ g. record g { policies = insert_policy (policy_is i) g.policies }) e) T;
+        after = λ T. refl;
+        ends = λ s. refl;
+        reply = refl;
+        stored = guarded_stored e t change h.stored;
+        counts = λ ss cs s was now there reads is. anew_where e t s.rel was now _ (flag_beside (by_table e t) e s there) is;
+      }) h new a passed told
+
+  pub drop_step : (rel name : Name) → frame_refusal (frame_of e) n (drop_policy rel name) ≡ None
+      → AreReadersTold (kept_after e n (drop_policy rel name)) (scanning e (rel_of e.catalog rel)) a new → IsStep e n (drop_policy rel name) a new
+  drop_step rel name passed told =
+      let t = rel_of e.catalog rel in
+      let change : Guard → Guard = λ g. record g { policies = remove_policy name g.policies } in
+      righted_step e e.known.rights.members (changed_at t change e.known.rights.guards) e.known.rights.grants n (drop_policy rel name) (scanning e t)
+      (record {
+        rows = λ T. refl;
+        after = λ T. refl;
+        ends = λ s. refl;
+        reply = refl;
+        stored = guarded_stored e t change h.stored;
+        counts = λ ss cs s was now there reads is. anew_where e t s.rel was now _ (flag_beside (by_table e t) e s there) is;
+      }) h new a passed told
+
+  pub policy_step : (p : PolicyText) → frame_refusal (frame_of e) n (create_policy p) ≡ None
+      → AreReadersTold (kept_after e n (create_policy p)) (scanning e (rel_of e.catalog p.rel)) a new → IsStep e n (create_policy p) a new
+  policy_step p passed told =
+      let t = rel_of e.catalog p.rel in
+      let with_it : Guard → Guard = λ g. record g { policies = insert_policy (policy_for (frame_of e) p) g.policies } in
+      righted_step e e.known.rights.members (changed_at t with_it e.known.rights.guards) e.known.rights.grants n (create_policy p) (scanning e t)
+      (record {
+        rows = λ T. refl;
+        after = λ T. refl;
         ends = λ s. refl;
         reply = refl;
         stored = guarded_stored e t with_it h.stored;
-        counts = λ ss cs s was now there reads is. anew_where e n t with_it h p.rel ready.owner.number s.rel (actor (frame_of e) s.session) was now _ (flag_beside (by_table e t) e s there) is;
-      }) h new a (has_passed e n p owned preds ready room) told
+        counts = λ ss cs s was now there reads is. anew_where e t s.rel was now _ (flag_beside (by_table e t) e s there) is;
+      }) h new a passed told
+
+-- the request has changed the guard of a table of the name
+pub record IsGuarding (e : Kept) (n : ℕ) (act : Act) (rel : Name) : Type 0 where
+  pub same : (v : Kept) → frame_refusal (database.frame_of (database_of v)) n act ≡ frame_refusal (frame_of v) n act
+  pub scans : (t : ℕ) → scanning (kept_after e n act) t ≡ scanning e t
+  pub waits : IsSound e → AreWaiting (kept_after e n act) (scanning e (rel_of e.catalog rel))
+  pub steps : (new : Kept) (a : Answer) → IsSound e → frame_refusal (frame_of e) n act ≡ None
+      → AreReadersTold (kept_after e n act) (scanning e (rel_of e.catalog rel)) a new → IsStep e n act a new
+
+pub security_guards : (e : Kept) (n : ℕ) (rel : Name) (enable force : Bool) → IsGuarding e n (row_security rel enable force) rel
+security_guards e n rel enable force = record {
+  same = λ v. refl;
+  scans = λ t. refl;
+  waits = guard_waiting e (rel_of e.catalog rel) (λ g. record g { enabled = enable; forced = force });
+  steps = λ new a h. security_step e n h new a rel enable force;
+}
+
+pub drop_guards : (e : Kept) (n : ℕ) (rel name : Name) → IsGuarding e n (drop_policy rel name) rel
+drop_guards e n rel name = record {
+  same = λ v. refl;
+  scans = λ t. refl;
+  waits = guard_waiting e (rel_of e.catalog rel) (λ g. record g { policies = remove_policy name g.policies });
+  steps = λ new a h. drop_step e n h new a rel name;
+}
+
+pub policy_guards : (e : Kept) (n : ℕ) (p : PolicyText) → IsGuarding e n (create_policy p) p.rel
+policy_guards e n p = record {
+  same = λ v. refl;
+  scans = λ t. refl;
+  waits = guard_waiting e (rel_of e.catalog p.rel) (λ g. record g { policies = insert_policy (policy_for (frame_of e) p) g.policies });
+  steps = λ new a h. policy_step e n h new a p;
+}
+
+-- ---- what the database says of such a request
+
+module _ (e u : Kept) (d : Database) (n : ℕ) (act : Act) (rel : Name) (is : u ≡ e) (g : IsGuarding e n act rel) (h : IsSound e) where
+  module _ (table : RelId) (told : IsGuarded (database_of u) n act rel (Ok table) d) where
+    passed : frame_refusal (frame_of e) n act ≡ None
+    passed = ap (λ (v : Kept). frame_refusal (frame_of v) n act) (sym is) ∙ sym (g.same u) ∙ told.0
+
+    was : with_database d u ≡ kept_after e n act
+    was = ap (λ x. with_database x u) told.2 ∙ ap (λ (v : Kept). kept_after v n act) is
+
+    flags : scanning (with_database d u) table.0 ≡ scanning e (rel_of e.catalog rel)
+    flags = ap (λ (v : Kept). scanning v table.0) was ∙ g.scans table.0 ∙ ap (scanning e) (sym told.1 ∙ ap (λ (v : Kept). rel_of v.catalog rel) is)
+
+    pub guard_waits : AreWaiting (with_database d u) (scanning (with_database d u) table.0)
+    guard_waits = waiting_as (with_database d u) (kept_after e n act) _ _ was flags (g.waits h)
+
+    pub guard_steps : (new : Kept) (a : Answer) → AreReadersTold (with_database d u) (scanning (with_database d u) table.0) a new → IsStep e n act a new
+    guard_steps new a readers = g.steps new a h passed (told_as (with_database d u) (kept_after e n act) _ _ a new was flags readers)
+
+  pub guard_refused : (r : Refusal) → IsGuarded (database_of u) n act rel (Err (Refused r)) d → IsStep e n act (answers.Refused r) (with_database d u)
+  guard_refused r told = refused_step e (with_database d u) n act r h (ap (λ (v : Kept). frame_refusal (frame_of v) n act) (sym is) ∙ sym (g.same u) ∙ told.0) (ap (λ x. with_database x u) told.1 ∙ is)

@@ -3,7 +3,8 @@
 use Rattle.std.proofs.Common.{◌≡◌, ◌∙◌, Bool, [], suc, ap, subst, sym}
 use Rattle.iv_machine.specs.Machine.{hung}
 use Rattle.iv_machine.specs.State.{Frame, State}
-use Rattle.iv_engine.specs.Kept.{IsSound, Kept}
+use Rattle.iv_database.proofs.Stored.{sessions_stored}
+use Rattle.iv_engine.specs.Kept.{database_of, IsSound, Kept}
 use Rattle.iv_engine.specs.Rounds.{rounds_of}
 use Rattle.iv_engine.specs.Seen.{Seen, IsBehind, closed}
 use Rattle.iv_engine.proofs.Counted.{none_listed}
@@ -24,16 +25,7 @@ pub all_closed : (e : Kept) → IsSound e → IsSound (without_sessions e)
 all_closed e h = record {
   stored = record {
     numbers = record { unique = tt; given = tt };
-    roles = tt;
-    numbered = h.stored.numbered;
-    relations = h.stored.relations;
-    guards = h.stored.guards;
-    tables = h.stored.tables;
-    zsets = h.stored.zsets;
-    positive = h.stored.positive;
-    kinds = h.stored.kinds;
-    limit = h.stored.limit;
-    small = h.stored.small;
+    database = sessions_stored (database_of e) h.stored.database [] tt;
     shows = tt;
   };
   served = tt;

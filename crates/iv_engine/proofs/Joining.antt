@@ -21,7 +21,7 @@ use Rattle.iv_engine.specs.Kept.{IsSound, IsStored, Kept, RoleCircuit, frame_of,
 use Rattle.iv_engine.specs.Next.{kept_after}
 use Rattle.iv_engine.specs.Seen.{Seen}
 use Rattle.iv_engine.specs.Turned.{AreReadersTold, AreWaiting}
-use Rattle.iv_engine.specs.declared.answer.Answer.{Answer}
+use Rattle.iv_command.specs.declared.answer.Answer.{Answer}
 use Rattle.iv_engine.proofs.Circling.{seen_circuit}
 use Rattle.iv_engine.proofs.Righting.{StaysStill, flag_beside, flags_of, reads_same, righted_step, righted_stored, waiting}
 use Rattle.iv_engine.proofs.Seeing.{sees_same}
@@ -74,7 +74,7 @@ module _ (e : Kept) (ms : List Membership) (group : ℕ) (few : StaysUnless e.kn
       }
 
   pub member_stored : IsStored e → IsStored c
-  member_stored h = righted_stored e ms e.known.rights.guards e.known.rights.grants h.guards h
+  member_stored h = righted_stored e ms e.known.rights.guards e.known.rights.grants h.database.guards h
 
   -- the rounds begin anew where the role reaches other roles than before
   turned_by_flag : (old new : Seen) (role rel was now : ℕ) → old.frame.rights ≡ e.known.rights → new.frame.rights ≡ q → (b : Bool) → turns_reach role rel ≡ b → now ≡ cond b 0 was → IsRebuiltByReach old new role was now

@@ -1,41 +1,25 @@
-mod Tables
-mod Tabled
 mod Showing
 mod Sound
 mod Unmoved
 mod Stepping
-mod Telling
 mod Lines
 mod Opening
-mod Fitting
-mod Sums
-mod TablesOf
-mod Bagging
-mod Checking
-mod Gathering
 mod Settling
 pub mod Scanning
-mod Adding
 mod Viewing
 mod Differing
-mod Reaching
 mod Running
 mod Passing
 mod Flagging
 mod Righting
 mod Ending
 mod Joining
-mod Enrolling
 mod Seeing
 mod Listing
 mod Turned
 mod Guarding
-mod Owning
 mod Closed
-mod Creating
-mod Holding
 mod Hanging
-mod Needing
 mod Standing
 mod Beside
 mod Unread
@@ -58,4 +42,3 @@ mod Opened
 mod Touched
 mod Spreading
 mod Partly
-pub mod Granting

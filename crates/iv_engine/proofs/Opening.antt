@@ -24,16 +24,17 @@ use Rattle.iv_engine.specs.Built.{AreInOrder, IsBeyond, IsNew}
 use Rattle.iv_engine.specs.Counting.{AreCounted}
 use Rattle.iv_engine.specs.Each.{Each}
 use Rattle.iv_engine.specs.Found.{total_at}
-use Rattle.iv_engine.specs.Kept.{Kept, IsCircuitFor, IsOpen, IsRoleCircuit, IsSound, IsWithin, RoleCircuit, WereOpened, acts_as, at, frame_of, is_for, is_read, may_read, opened_to, place_of, shown_rows}
+use Rattle.iv_engine.specs.Kept.{Kept, IsCircuitFor, IsOpen, IsRoleCircuit, IsSound, IsWithin, RoleCircuit, WereOpened, at, frame_of, is_for, is_read, may_read, opened_to, place_of, shown_rows}
+use Rattle.iv_database.specs.Database.{acts_as}
 use Rattle.iv_engine.specs.Openable.{AreFirstLines, HasCircuitAt, IsNewFor, IsOpenable, with_subscription}
 use Rattle.iv_engine.specs.Rounds.{beside_number, rounds, rounds_of}
 use Rattle.iv_engine.specs.Seen.{IsBehind}
-use Rattle.iv_engine.specs.Stands.{Stands}
-use Rattle.iv_engine.specs.Views.{line_of, reply_of}
-use Rattle.iv_engine.specs.declared.answer.Answer.TheVariants.{Accepted, Refused}
-use Rattle.iv_engine.specs.declared.command.Line.{Line}
-use Rattle.iv_engine.specs.declared.command.Refusal.TheVariants.{Limit}
-use Rattle.iv_engine.specs.declared.command.Reply.{Reply}
+use Rattle.iv_database.specs.Stands.{Stands}
+use Rattle.iv_command.specs.Views.{line_of, reply_of}
+use Rattle.iv_command.specs.declared.answer.Answer.TheVariants.{Accepted, Refused}
+use Rattle.iv_command.specs.declared.command.Line.{Line}
+use Rattle.iv_command.specs.declared.command.Refusal.TheVariants.{Limit}
+use Rattle.iv_command.specs.declared.command.Reply.{Reply}
 use Rattle.iv_engine.proofs.Beside.{is_own, place_pushed, slot_is}
 use Rattle.iv_engine.proofs.Circling.{same_circuit}
 use Rattle.iv_engine.proofs.Counted.{all_beside, all_given, next_none, now_counted, rounds_more}
@@ -189,16 +190,7 @@ module _ (e : Kept) (n k : ℕ) (name : Name) (h : IsSound e) (x : IsOpenable e 
   opened_sound = record {
     stored = record {
       numbers = numbers;
-      roles = h.stored.roles;
-      numbered = h.stored.numbered;
-      relations = h.stored.relations;
-      guards = h.stored.guards;
-      tables = h.stored.tables;
-      zsets = h.stored.zsets;
-      positive = h.stored.positive;
-      kinds = h.stored.kinds;
-      limit = h.stored.limit;
-      small = h.stored.small;
+      database = h.stored.database;
       shows = all_inserted (IsOpen new) s e.subscriptions (record { session = x.opened; known = x.below }) (all_map (IsOpen e) (IsOpen new) e.subscriptions (λ y o. record { session = o.session; known = o.known }) h.stored.shows);
     };
     served = all_inserted (λ y. may_read new y ≡ true) s e.subscriptions (ap (λ o. not (is_some o)) x.reads) (all_map (λ y. may_read e y ≡ true) (λ y. may_read new y ≡ true) e.subscriptions (λ y r. r) h.served);

@@ -4,7 +4,8 @@ use Rattle.std.specs.Prelude.{◌==◌, nat_lt, position}
 use Rattle.std.specs.List.{AllByRecursion, list_any, position_or_len}
 use Rattle.iv_machine.specs.State.{Frame}
 use Rattle.iv_engine.specs.Each.{Each, HaveBecome}
-use Rattle.iv_engine.specs.Kept.{RoleCircuit, acts_as, is_for, is_read}
+use Rattle.iv_engine.specs.Kept.{RoleCircuit, is_for, is_read}
+use Rattle.iv_database.specs.Database.{acts_as}
 
 -- the same role and relation
 pub record IsSameReader (k n : RoleCircuit) : Type 0 where

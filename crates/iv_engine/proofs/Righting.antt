@@ -22,14 +22,15 @@ use Rattle.iv_engine.specs.Answering.{IsStep, seen, sent}
 use Rattle.iv_engine.specs.Counting.{TurnsRounds}
 use Rattle.iv_engine.specs.Each.{Each}
 use Rattle.iv_engine.specs.Found.{beside_of, total_at}
-use Rattle.iv_engine.specs.Kept.{IsOpen, IsRoleCircuit, IsSound, IsStored, IsWithin, Kept, RoleCircuit, at, frame_of, is_read, may_read, place_of, role_reads, shown_rows, with_rights}
+use Rattle.iv_database.proofs.Stored.{rights_stored}
+use Rattle.iv_engine.specs.Kept.{database_of, IsOpen, IsRoleCircuit, IsSound, IsStored, IsWithin, Kept, RoleCircuit, at, frame_of, is_read, may_read, place_of, role_reads, shown_rows, with_rights}
 use Rattle.iv_engine.specs.Rounds.{rounds_of}
 use Rattle.iv_engine.specs.Seen.{IsBehind}
-use Rattle.iv_engine.specs.Stands.{Stands}
+use Rattle.iv_database.specs.Stands.{Stands}
 use Rattle.iv_engine.specs.Turned.{AreReadersTold, AreShowed, AreWaiting, IsOther, IsStill, WasRead, stays_open, turned_by, turned_line}
-use Rattle.iv_engine.specs.Views.{line_of, reply_of}
-use Rattle.iv_engine.specs.declared.answer.Answer.{Answer}
-use Rattle.iv_engine.specs.declared.answer.Answer.TheVariants.{Accepted, Refused}
+use Rattle.iv_command.specs.Views.{line_of, reply_of}
+use Rattle.iv_command.specs.declared.answer.Answer.{Answer}
+use Rattle.iv_command.specs.declared.answer.Answer.TheVariants.{Accepted, Refused}
 use Rattle.iv_engine.proofs.Beside.{beside_each}
 use Rattle.iv_engine.proofs.Circling.{bag_for, same_circuit}
 use Rattle.iv_engine.proofs.Counted.{IsBeside, all_beside, those_counted}
@@ -117,16 +118,7 @@ module _ (e : Kept) (ms : List Membership) (us : List Guard) (gs : List Grant) w
   pub righted_stored : length us ≡ length e.catalog → IsStored e → IsStored c
   righted_stored guards h = record {
     numbers = record { unique = h.numbers.unique; given = h.numbers.given };
-    roles = h.roles;
-    numbered = h.numbered;
-    relations = h.relations;
-    guards = guards;
-    tables = h.tables;
-    zsets = h.zsets;
-    positive = h.positive;
-    kinds = h.kinds;
-    limit = h.limit;
-    small = h.small;
+    database = rights_stored (database_of e) q guards refl h.database;
     shows = all_map (IsOpen e) (IsOpen c) e.subscriptions (λ s o. record { session = o.session; known = o.known }) h.shows;
   }
 
@@ -134,16 +126,7 @@ module _ (e : Kept) (ms : List Membership) (us : List Guard) (gs : List Grant) w
   kept_stored : (p : Subscription → Bool) (cs : List RoleCircuit) → IsStored c → IsStored (record c { subscriptions = filter p e.subscriptions; circuits = cs })
   kept_stored p cs h = record {
     numbers = record { unique = unique_kept p e.subscriptions h.numbers.unique; given = given_kept e.last p e.subscriptions h.numbers.given };
-    roles = h.roles;
-    numbered = h.numbered;
-    relations = h.relations;
-    guards = h.guards;
-    tables = h.tables;
-    zsets = h.zsets;
-    positive = h.positive;
-    kinds = h.kinds;
-    limit = h.limit;
-    small = h.small;
+    database = h.database;
     shows = let new : Kept = record c { subscriptions = filter p e.subscriptions; circuits = cs } in
         all_kept (IsOpen new) p e.subscriptions (all_map (IsOpen c) (IsOpen new) e.subscriptions (λ s o. record { session = o.session; known = o.known }) h.shows);
   }

@@ -9,14 +9,15 @@ use Rattle.iv_machine.specs.Machine.{outcome, run, step}
 use Rattle.iv_algebra.specs.Plans.{Lists}
 use Rattle.iv_machine.specs.State.{State}
 use Rattle.iv_machine.specs.Well.{is_well_act, is_well_command}
-use Rattle.iv_engine.specs.Answering.{AreRounds, IsAnswer, IsCountedBy, IsKept, IsLeft, said, seen}
+use Rattle.iv_engine.specs.Answering.{AreRounds, IsAnswer, IsCountedBy, IsKept, IsLeft, seen}
+use Rattle.iv_command.specs.Answers.{said}
 use Rattle.iv_engine.specs.Counting.{AreCountedWhereAccepted}
 use Rattle.iv_engine.specs.Kept.{Kept, at, frame_of}
 use Rattle.iv_engine.specs.Seen.{IsBehind, Seen}
-use Rattle.iv_engine.specs.Stands.{Stands}
-use Rattle.iv_engine.specs.Views.{refusal_of}
-use Rattle.iv_engine.specs.declared.answer.Answer.{Answer}
-use Rattle.iv_engine.specs.declared.answer.Answer.TheVariants.{Refused, Accepted}
+use Rattle.iv_database.specs.Stands.{Stands}
+use Rattle.iv_command.specs.Views.{refusal_of}
+use Rattle.iv_command.specs.declared.answer.Answer.{Answer}
+use Rattle.iv_command.specs.declared.answer.Answer.TheVariants.{Refused, Accepted}
 
 -- ---- one step
 

@@ -7,9 +7,7 @@ use Rattle.std.specs.Ordering.{int_eq}
 use Rattle.std.specs.List.{AllByRecursion, list_any}
 use Rattle.iv_rows.specs.Cell.{Cell}
 use Rattle.iv_zset.specs.Limits.{copies, within}
-use Rattle.iv_zset.proofs.Behind.{counts_behind}
 use Rattle.iv_zset.proofs.Limits.{within_is}
-use Rattle.iv_zset.specs.Support.{list_behind}
 use Rattle.iv_algebra.specs.Plans.{Lists}
 use Rattle.iv_algebra.specs.Evaluation.{eval, plan_within}
 use Rattle.iv_algebra.specs.Contents.{rows_of}
@@ -23,10 +21,11 @@ use Rattle.iv_machine.specs.Machine.{difference, is_change, weighted, rising_row
 use Rattle.iv_machine.specs.Reached.{AreUnique}
 use Rattle.iv_machine.specs.declared.Cause.{Cause}
 use Rattle.iv_machine.specs.declared.Cause.TheVariants as cause
-use Rattle.iv_engine.specs.Kept.{Kept, IsStored, frame_of, at, may_read, shown_rows, table_rows}
-use Rattle.iv_engine.specs.Stands.{Stands}
+use Rattle.iv_database.proofs.Taken as taking
+use Rattle.iv_engine.specs.Kept.{database_of, Kept, IsStored, frame_of, at, may_read, shown_rows, table_rows}
+use Rattle.iv_database.specs.Stands.{Stands}
 use Rattle.iv_engine.proofs.Seeing.{filter_within, rows_same}
-use Rattle.iv_engine.proofs.Tables.{IsATable, plan_is}
+use Rattle.iv_database.proofs.Tables.{IsATable, plan_is}
 
 nat_at_most : (m n : ℕ) → m ≤ n → nat_le m n ≡ true
 nat_at_most m n h = grind (arith, nat_tests)
@@ -52,7 +51,7 @@ module _ (e : Kept) (T : Lists) where
 
   module _ (sound : IsStored e) (stands : Stands T e.tables) where
     pub table_fits : (t : ℕ) → within e.cap (T t) ≡ true
-    table_fits t = within_is e.cap (rows_of e.tables t) (T t) (sound.zsets t) (stands t) ∙ nat_at_most (length (rows_of e.tables t)) e.cap (sound.small t)
+    table_fits t = within_is e.cap (rows_of e.tables t) (T t) (sound.database.zsets t) (stands t) ∙ nat_at_most (length (rows_of e.tables t)) e.cap (sound.database.small t)
 
     pub view_fits : (role rel : ℕ) → IsATable e.catalog rel → is_within_for (at e T) role rel ≡ true
     view_fits role rel t = view_within role rel t (table_fits rel)
@@ -70,10 +69,10 @@ limits_same f q role rel T reach name guards = λ i. plan_within f.cap (plan_at 
 -- ---- lists behind the tables
 
 abbrev pub lists_behind : Kept → Lists
-lists_behind e = λ t. list_behind (rows_of e.tables t)
+lists_behind e = taking.lists_behind (database_of e)
 
 pub stands_behind : (e : Kept) → IsStored e → Stands (lists_behind e) e.tables
-stands_behind e h = λ t. counts_behind (rows_of e.tables t) (h.positive t)
+stands_behind e h = taking.stands_behind (database_of e) h.database
 
 -- ---- which subscriptions end
 

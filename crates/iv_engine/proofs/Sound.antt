@@ -28,13 +28,15 @@ use Rattle.iv_machine.specs.Changing.{view_held, with_held}
 use Rattle.iv_machine.specs.Refusing.{administrator, bad_text, frame_refusal, free_relation, known_role, role_refusal, test}
 use Rattle.iv_machine.proofs.Placing.{roles_after}
 use Rattle.iv_machine.proofs.Serving.{or_none}
-use Rattle.iv_engine.specs.Kept.{HoldsKinds, IsCircuitFor, IsOpen, IsRoleCircuit, IsSound, IsWithin, Kept, RoleCircuit, frame_of, is_for as is_circuit_for, is_read, may_read, place_of, relation_in, shown_rows}
-use Rattle.iv_engine.specs.Next.{kept_after, with_relation_of}
-use Rattle.iv_engine.specs.Stands.{Stands}
-use Rattle.iv_engine.proofs.Tabled.{heads_with, none_beyond, rows_with}
-use Rattle.iv_engine.proofs.Holding.{still_holds}
+use Rattle.iv_engine.specs.Kept.{database_of, with_database, IsCircuitFor, IsOpen, IsRoleCircuit, IsSound, IsWithin, Kept, RoleCircuit, frame_of, is_for as is_circuit_for, is_read, may_read, place_of, shown_rows}
+use Rattle.iv_engine.specs.Next.{kept_after}
+use Rattle.iv_database.specs.Next as database
+use Rattle.iv_database.specs.Next.{database_after}
+use Rattle.iv_database.proofs.Stored.{begin_stored, relation_stored, rights_stored, role_stored, start_stored, view_is}
+use Rattle.iv_database.specs.Stands.{Stands}
+use Rattle.iv_database.proofs.Tabled.{none_beyond, rows_with}
 use Rattle.iv_engine.proofs.Seeing.{for_same, rows_same, sees_same}
-use Rattle.iv_engine.proofs.Tables.{known_at, numbered_push}
+use Rattle.iv_database.proofs.Tables.{known_at}
 use Rattle.iv_engine.proofs.Unread.{read_has, read_same}
 use Rattle.iv_engine.proofs.Unmoved.{IsUnmoved, other_sessions, sees_before, sight_before, still_circuit, still_numbered, still_read, still_shown, still_there, still_within}
 
@@ -51,12 +53,6 @@ all_zip P Q R (x ∷ xs) h a b = (h x a.0 b.0, all_zip P Q R xs h a.1 b.1)
 pub all_push : {X : Type 0} (P : X → Type 0) (xs : List X) (x : X) → AllByRecursion P xs → P x → AllByRecursion P (xs ++ x ∷ [])
 all_push P [] x a p = (p, tt)
 all_push P (y ∷ ys) x a p = (a.0, all_push P ys x a.1 p)
-
-longer : {X Y : Type 0} (xs : List X) (ys : List Y) (x : X) (y : Y) → length xs ≡ length ys → length (xs ++ x ∷ []) ≡ length (ys ++ y ∷ [])
-longer xs ys x y h = length-append xs (x ∷ []) ∙ ap (λ k. k + 1) h ∙ sym (length-append ys (y ∷ []))
-
-from_zero : (n : ℕ) → n ≡ 0 + n
-from_zero n = omega arith
 
 -- ---- more rights
 
@@ -161,6 +157,9 @@ module _ (e d : Kept) (back : (T : Lists) → Stands T d.tables → Stands T e.t
 
 -- ---- a new relation, which has no row
 
+abbrev pub with_relation_of : (name owner : Name) → Held → Kept → Kept
+with_relation_of name owner held e = with_database (database.with_relation_of name owner held (database_of e)) e
+
 module _ (e : Kept) (h : IsSound e) (name owner : Name) (held : Held) where
   abbrev c : Kept
   c = with_relation_of name owner held e
@@ -175,17 +174,17 @@ module _ (e : Kept) (h : IsSound e) (name owner : Name) (held : Held) where
   relation_unmoved_by s o =
       let r = e.known.rights in
       let q = c.known.rights in
-      let same = still_numbered name (Some held) e.catalog s.rel (known_at 0 e.catalog s.rel h.stored.numbered (omega arith) (let k = o.known in omega (arith, k))) in
+      let same = still_numbered name (Some held) e.catalog s.rel (known_at 0 e.catalog s.rel h.stored.database.numbered (omega arith) (let k = o.known in omega (arith, k))) in
       record {
         plan = ap (λ (y : Option Entry). if_some y (Scan s.rel) (λ z. plan_of z.rel z.held)) same;
         needs = ap (λ (y : Option Entry). if_some y [] (λ z. reached_by z.rel z.held)) same;
         reads = λ rel k. has_more r q (actor (frame_of e) s.session) (λ o. refl) Select rel (length r.guards) all_privileges (Role (role_number e.known.rights owner)) refl k;
-        sees = λ T k. sees_before r q (actor (frame_of e) s.session) g e.tables T (λ o. refl) refl refl (λ t l. none_beyond e h.stored t (subst (λ m. m ≤ t) h.stored.guards l)) k;
+        sees = λ T k. sees_before r q (actor (frame_of e) s.session) g e.tables T (λ o. refl) refl refl (λ t l. none_beyond (database_of e) h.stored.database t (subst (λ m. m ≤ t) h.stored.database.guards l)) k;
         cap = refl;
         acts = refl;
         grows = let l = length-append e.catalog (x ∷ []) in omega (arith, l);
-        kinds = λ t l. ap (λ (y : Option Entry). option_map kinds_of (if_some y None (λ z. table_in z.held))) (still_numbered name (Some held) e.catalog t (known_at 0 e.catalog t h.stored.numbered (omega arith) (omega (arith, l))));
-        sight = λ t l. sight_before r q (actor (frame_of e) s.session) g (λ o. refl) refl refl t (subst (λ m. t < m) (sym h.stored.guards) l);
+        kinds = λ t l. ap (λ (y : Option Entry). option_map kinds_of (if_some y None (λ z. table_in z.held))) (still_numbered name (Some held) e.catalog t (known_at 0 e.catalog t h.stored.database.numbered (omega arith) (omega (arith, l))));
+        sight = λ t l. sight_before r q (actor (frame_of e) s.session) g (λ o. refl) refl refl t (subst (λ m. t < m) (sym h.stored.database.guards) l);
       }
 
   pub relation_unmoved : AllByRecursion (IsUnmoved e c) e.subscriptions
@@ -199,16 +198,7 @@ module _ (e : Kept) (h : IsSound e) (name owner : Name) (held : Held) where
       record {
         stored = record {
           numbers = record { unique = h.stored.numbers.unique; given = h.stored.numbers.given };
-          roles = h.stored.roles;
-          numbered = numbered_push 0 e.catalog x h.stored.numbered (from_zero (length e.catalog));
-          relations = ap (λ (rs : List Relation). rs ++ record { name = name; kinds = option_map kinds_of (table_in held) } ∷ []) h.stored.relations ∙ sym (map-append relation_in e.catalog (x ∷ []));
-          guards = longer e.known.rights.guards e.catalog g x h.stored.guards;
-          tables = heads_with e.catalog e.tables h.stored.numbered h.stored.tables name held;
-          zsets = λ t. subst IsZSet (sym (rows_with held (length e.catalog) e.tables t)) (h.stored.zsets t);
-          positive = λ t. subst IsBag (sym (rows_with held (length e.catalog) e.tables t)) (h.stored.positive t);
-          kinds = λ t. subst (HoldsKinds (schema_of (e.catalog ++ x ∷ []) t)) (sym (rows_with held (length e.catalog) e.tables t)) (still_holds e.catalog x t (rows_of e.tables t) (h.stored.kinds t));
-          limit = h.stored.limit;
-          small = λ t. subst (λ (z : Weighed). length z ≤ e.cap) (sym (rows_with held (length e.catalog) e.tables t)) (h.stored.small t);
+          database = relation_stored (database_of e) h.stored.database name owner held;
           shows = all_map (IsOpen e) (IsOpen c) e.subscriptions (λ s o. record { session = o.session; known = let k = o.known in let l = length-append e.catalog (x ∷ []) in omega (arith, k, l) }) h.stored.shows;
         };
         served = all_read e c e.subscriptions relation_unmoved h.served;
@@ -217,11 +207,6 @@ module _ (e : Kept) (h : IsSound e) (name owner : Name) (held : Held) where
         there = all_there e c e.subscriptions relation_unmoved refl h.there;
         read = h.read;
       }
-
--- the text of a view that passes
-text_bound : (r : Result Answer TextFault) → bad_text r ≡ None → (a : Answer) × (r ≡ Ok a)
-text_bound (Ok a) h = (a, refl)
-text_bound (Err (FaultAt place why)) h = cc
 
 -- ---- request by request
 
@@ -244,16 +229,7 @@ module _ (e : Kept) (n : ℕ) (h : IsSound e) where
     begin_sound passed = record {
       stored = record {
         numbers = record { unique = h.stored.numbers.unique; given = h.stored.numbers.given };
-        roles = roles_after (frame_of e) n (begin role) passed h.stored.roles;
-        numbered = h.stored.numbered;
-        relations = h.stored.relations;
-        guards = h.stored.guards;
-        tables = h.stored.tables;
-        zsets = h.stored.zsets;
-        positive = h.stored.positive;
-        kinds = h.stored.kinds;
-        limit = h.stored.limit;
-        small = h.stored.small;
+        database = begin_stored (database_of e) h.stored.database n role passed;
         shows = all_map (IsOpen e) (IsOpen begun) e.subscriptions (λ s o. record { session = ap (λ p. is_some p) (begin_same s o) ∙ o.session; known = o.known }) h.stored.shows;
       };
       served = all_read e begun e.subscriptions begin_unmoved h.served;
@@ -273,7 +249,7 @@ module _ (e : Kept) (n : ℕ) (h : IsSound e) where
         let q = named.known.rights in
         let a = some_role (session_of e.sessions s.session) (length q.roles) (length r.roles) o.session in
         let k = actor (frame_of e) s.session in
-        let called : role_name q k ≡ role_name r k = ap (λ z. unwrap_or z []) (still_there r.roles name k (role_below e.sessions s.session (length r.roles) h.stored.roles o.session)) in
+        let called : role_name q k ≡ role_name r k = ap (λ z. unwrap_or z []) (still_there r.roles name k (role_below e.sessions s.session (length r.roles) h.stored.database.roles o.session)) in
         record {
           plan = refl;
           needs = refl;
@@ -290,16 +266,7 @@ module _ (e : Kept) (n : ℕ) (h : IsSound e) where
     role_sound passed = record {
       stored = record {
         numbers = record { unique = h.stored.numbers.unique; given = h.stored.numbers.given };
-        roles = roles_after (frame_of e) n (create_role name) passed h.stored.roles;
-        numbered = h.stored.numbered;
-        relations = h.stored.relations;
-        guards = h.stored.guards;
-        tables = h.stored.tables;
-        zsets = h.stored.zsets;
-        positive = h.stored.positive;
-        kinds = h.stored.kinds;
-        limit = h.stored.limit;
-        small = h.stored.small;
+        database = role_stored (database_of e) h.stored.database n name passed;
         shows = all_map (IsOpen e) (IsOpen named) e.subscriptions (λ s o. record { session = o.session; known = o.known }) h.stored.shows;
       };
       served = all_read e named e.subscriptions role_unmoved h.served;
@@ -334,16 +301,7 @@ module _ (e : Kept) (n : ℕ) (h : IsSound e) where
     grant_sound = record {
       stored = record {
         numbers = record { unique = h.stored.numbers.unique; given = h.stored.numbers.given };
-        roles = h.stored.roles;
-        numbered = h.stored.numbered;
-        relations = h.stored.relations;
-        guards = h.stored.guards;
-        tables = h.stored.tables;
-        zsets = h.stored.zsets;
-        positive = h.stored.positive;
-        kinds = h.stored.kinds;
-        limit = h.stored.limit;
-        small = h.stored.small;
+        database = rights_stored (database_of e) given.known.rights h.stored.database.guards refl h.stored.database;
         shows = all_map (IsOpen e) (IsOpen given) e.subscriptions (λ s o. record { session = o.session; known = o.known }) h.stored.shows;
       };
       served = all_read e given e.subscriptions grant_unmoved h.served;
@@ -361,33 +319,19 @@ module _ (e : Kept) (n : ℕ) (h : IsSound e) where
     table_sound = relation_sound e h name owner (Table columns)
 
   module _ (name owner : Name) (query : Name) (passed : frame_refusal (frame_of e) n (create_view name owner query) ≡ None) where
-    abbrev o : Result Answer TextFault
-    o = bound_query e.catalog query
+    view : (a : Answer) × (database_after (database_of e) n (create_view name owner query) ≡ database.with_relation_of name owner (View a) (database_of e))
+    view = view_is (database_of e) h.stored.database n name owner query passed
 
-    -- its text is bound
-    view_bound : (a : Answer) × (o ≡ Ok a)
-    view_bound =
-        let f = frame_of e in
-        let s = or_none (test (not (is_open f n)) no_session) (role_refusal f n (actor f n) (create_view name owner query)) passed in
-        let a = or_none (administrator (actor f n)) _ s.1 in
-        let b = or_none (known_role f owner) _ a.1 in
-        let d = or_none (free_relation f name) _ b.1 in
-        text_bound o (or_none (bad_text o) _ d.1).0
-
-    view_is : kept_after e n (create_view name owner query) ≡ with_relation_of name owner (View view_bound.0) e
-    view_is = ap (λ (r : Result Answer TextFault). record (kept_after e n (create_view name owner query)) { catalog = with_held name (view_held r) e.catalog }) view_bound.1
+    added : kept_after e n (create_view name owner query) ≡ with_relation_of name owner (View view.0) e
+    added = ap (λ d. with_database d e) view.1
 
     pub view_unmoved : AllByRecursion (IsUnmoved e (kept_after e n (create_view name owner query))) e.subscriptions
-    view_unmoved = subst (λ (d : Kept). AllByRecursion (IsUnmoved e d) e.subscriptions) (sym view_is) (relation_unmoved e h name owner (View view_bound.0))
+    view_unmoved = subst (λ (d : Kept). AllByRecursion (IsUnmoved e d) e.subscriptions) (sym added) (relation_unmoved e h name owner (View view.0))
 
     pub view_sound : IsSound (kept_after e n (create_view name owner query))
-    view_sound = subst IsSound (sym view_is) (relation_sound e h name owner (View view_bound.0))
+    view_sound = subst IsSound (sym added) (relation_sound e h name owner (View view.0))
 
 -- ---- the start
-
-pub empty_zset : IsZSet []
-unfolding IsDistinct
-empty_zset = record { distinct = tt; weights = λ q. tt }
 
 abbrev pub kept_at_start : (cap : ℕ) → Kept
 kept_at_start cap = record { cap = cap; known = known_at_start; catalog = []; sessions = []; subscriptions = []; circuits = []; last = 0; tables = [] }
@@ -396,16 +340,7 @@ pub start_sound : (cap : ℕ) → IsRowLimit cap → IsSound (kept_at_start cap)
 start_sound cap limit = record {
   stored = record {
     numbers = record { unique = tt; given = tt };
-    roles = tt;
-    numbered = tt;
-    relations = refl;
-    guards = refl;
-    tables = λ t. refl;
-    zsets = λ t. empty_zset;
-    positive = λ t q. omega (arith, ints);
-    kinds = λ t. refl;
-    limit = limit;
-    small = λ t. omega arith;
+    database = start_stored cap limit;
     shows = tt;
   };
   served = tt;

@@ -18,20 +18,23 @@ use Rattle.iv_machine.specs.declared.Cause.{Cause}
 use Rattle.iv_machine.specs.Machine.{changes, line_for, line_of as machine_line, ending, ending_by, settled, reply_to, difference}
 use Rattle.iv_engine.specs.Answering.{IsPlain, IsStep, change_line, seen, sent}
 use Rattle.iv_engine.specs.Counting.{AreCounted, TurnsRounds}
-use Rattle.iv_engine.specs.Kept.{Kept, IsOpen, IsSound, IsStored, IsWithin, at, frame_of, may_read, shown_rows}
+use Rattle.iv_engine.specs.Kept.{database_of, with_database, Kept, IsOpen, IsSound, IsStored, IsWithin, at, frame_of, may_read, shown_rows}
 use Rattle.iv_engine.specs.Next.{kept_after, next, next_by}
+use Rattle.iv_database.specs.Database as database
+use Rattle.iv_database.specs.Database.{Database}
+use Rattle.iv_database.specs.Next as changed
 use Rattle.iv_engine.specs.Rounds.{rounds_of}
 use Rattle.iv_engine.specs.Seen.{IsBehind, Seen}
-use Rattle.iv_engine.specs.Stands.{Stands}
-use Rattle.iv_engine.specs.Views.{line_of, refusal_of, reply_of}
-use Rattle.iv_engine.specs.declared.command.Line.{Line}
-use Rattle.iv_engine.specs.declared.command.Refusal.{Refusal}
-use Rattle.iv_engine.specs.declared.command.Reply.{Reply}
-use Rattle.iv_engine.specs.declared.command.Reply.TheVariants.{Ok}
-use Rattle.iv_engine.specs.declared.answer.Answer.{Answer}
-use Rattle.iv_engine.specs.declared.answer.Answer.TheVariants.{Refused, Accepted}
+use Rattle.iv_database.specs.Stands.{Stands}
+use Rattle.iv_command.specs.Views.{line_of, refusal_of, reply_of}
+use Rattle.iv_command.specs.declared.command.Line.{Line}
+use Rattle.iv_command.specs.declared.command.Refusal.{Refusal}
+use Rattle.iv_command.specs.declared.command.Reply.{Reply}
+use Rattle.iv_command.specs.declared.command.Reply.TheVariants.{Ok}
+use Rattle.iv_command.specs.declared.answer.Answer.{Answer}
+use Rattle.iv_command.specs.declared.answer.Answer.TheVariants.{Refused, Accepted}
 use Rattle.iv_engine.proofs.Counted.{all_beside, same_rounds, those_counted}
-use Rattle.iv_engine.proofs.Tabled.{rows_with}
+use Rattle.iv_database.proofs.Tabled.{rows_with}
 use Rattle.iv_engine.proofs.Showing.{cause_for, difference_none, each_found, ending_is, shown_is}
 use Rattle.iv_engine.proofs.Sound.{all_map, all_shown, all_zip, begin_sound, begin_unmoved, grant_sound, grant_unmoved, role_sound, role_unmoved, table_sound, table_unmoved, view_sound, view_unmoved}
 use Rattle.iv_engine.proofs.Unmoved.{IsUnmoved}
@@ -204,3 +207,27 @@ plain_by e new n act (Some r) a q sound p h k = subst (λ x. IsStep e n act x ne
 
 pub plain_step : (e new : Kept) (n : ℕ) (act : Act) (o : Option Refusal) (a : Answer) → IsQuiet e n act → IsSound e → IsPlain o a → option_map refusal_of o ≡ frame_refusal (frame_of e) n act → new ≡ next e n act → IsStep e n act a new
 plain_step e new n act o a q sound p h k = plain_by e new n act o a q sound p h (k ∙ ap (next_by e n act) (sym h))
+
+-- ---- what the database says of a request
+
+pub as_next : (e : Kept) (d : Database) (n : ℕ) (act : Act) → frame_refusal (database.frame_of (database_of e)) n act ≡ frame_refusal (frame_of e) n act → d ≡ changed.next (database_of e) n act → with_database d e ≡ next e n act
+as_next e d n act same h = ap (λ x. with_database x e) h ∙ by (frame_refusal (database.frame_of (database_of e)) n act) ∙ ap (next_by e n act) same
+  where
+    by : (o : Option machine.Refusal) → with_database (changed.next_by (database_of e) n act o) e ≡ next_by e n act o
+    by None = refl
+    by (Some r) = refl
+
+-- a request of the database that shows nothing
+pub plain_told : (e u : Kept) (d : Database) (n : ℕ) (act : Act) (o : Option Refusal) (a : Answer) → u ≡ e → IsQuiet u n act → IsSound e → frame_refusal (database.frame_of (database_of u)) n act ≡ frame_refusal (frame_of u) n act
+    → IsPlain o a → option_map refusal_of o ≡ frame_refusal (database.frame_of (database_of u)) n act → d ≡ changed.next (database_of u) n act → IsStep e n act a (with_database d u)
+plain_told e u d n act o a is q sound same p h k = subst (λ (v : Kept). IsStep v n act a (with_database d u)) is
+    (plain_step u (with_database d u) n act o a q (subst IsSound (sym is) sound) p (h ∙ same) (as_next u d n act same k))
+
+-- a request of the database that passes
+module _ (e u : Kept) (d : Database) (n : ℕ) (act : Act) (o : Option Refusal) (is : u ≡ e) (same : frame_refusal (database.frame_of (database_of u)) n act ≡ frame_refusal (frame_of u) n act)
+    (none : o ≡ None) (refused : option_map refusal_of o ≡ frame_refusal (database.frame_of (database_of u)) n act) where
+  pub has_passed : frame_refusal (frame_of e) n act ≡ None
+  has_passed = ap (λ (v : Kept). frame_refusal (frame_of v) n act) (sym is) ∙ sym same ∙ sym refused ∙ ap (option_map refusal_of) none
+
+  pub has_become : d ≡ changed.next (database_of u) n act → with_database d u ≡ kept_after e n act
+  has_become state = as_next u d n act same state ∙ ap (λ (v : Kept). next v n act) is ∙ ap (next_by e n act) has_passed

@@ -11,10 +11,10 @@ use Rattle.iv_circuit.specs.Nodes.{total_of}
 use Rattle.iv_machine.specs.State.{Subscription, actor, view_for}
 use Rattle.iv_engine.specs.Found.{total_at}
 use Rattle.iv_engine.specs.Kept.{IsRoleCircuit, IsWithin, IsWithinFor, Kept, RoleCircuit, at, frame_of, is_for, place_of, shown_rows}
-use Rattle.iv_engine.specs.Stands.{Stands}
+use Rattle.iv_database.specs.Stands.{Stands}
 use Rattle.iv_engine.proofs.Beside.{for_is, place_there}
 use Rattle.iv_engine.proofs.Circling.{shows_for, within_for}
-use Rattle.iv_engine.proofs.Fitting.{slice_at}
+use Rattle.iv_database.proofs.Fitting.{slice_at}
 
 -- what follows of each circuit that is for the role and the relation, where one is found
 module _ (role rel : ℕ) (P : RoleCircuit → Type 0) (Q : Type 0) (go : (k : RoleCircuit) → k.role ≡ role → k.rel ≡ rel → P k → Q) where

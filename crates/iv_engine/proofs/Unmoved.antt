@@ -20,9 +20,10 @@ use Rattle.iv_access.specs.Rights.{Guard, Name, Rights}
 use Rattle.iv_machine.specs.Changing.{with_held}
 use Rattle.iv_machine.specs.State.{Session, Subscription, actor, is_within, needs_at, next_rel, plan_at, session_of}
 use Rattle.iv_machine.proofs.Placing.{find_kept}
-use Rattle.iv_engine.specs.Kept.{IsCircuitOf, Kept, RoleCircuit, at, frame_of, kinds_at, may_read, shown_rows}
-use Rattle.iv_engine.specs.Stands.{Stands}
-use Rattle.iv_engine.proofs.Holding.{to_list}
+use Rattle.iv_engine.specs.Kept.{IsCircuitOf, Kept, RoleCircuit, at, frame_of, may_read, shown_rows}
+use Rattle.iv_database.specs.Database.{kinds_at}
+use Rattle.iv_database.specs.Stands.{Stands}
+use Rattle.iv_database.proofs.Holding.{to_list}
 use Rattle.iv_engine.proofs.Seeing.{rows_same, sees_same}
 
 -- in d it has the plan and the needs that it has in e, and its reader may select what it might, and sees the same rows; the

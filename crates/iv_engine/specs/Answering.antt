@@ -10,21 +10,16 @@ use Rattle.iv_engine.specs.Counting.{AreCounted, AreCountedWhereAccepted}
 use Rattle.iv_engine.specs.Kept.{Kept, IsSound, frame_of, at, shown_rows}
 use Rattle.iv_engine.specs.Rounds.{rounds}
 use Rattle.iv_engine.specs.Seen.{Seen, IsBehind}
-use Rattle.iv_engine.specs.Stands.{Stands}
-use Rattle.iv_engine.specs.Views.{refusal_of, reply_of, line_of}
-use Rattle.iv_engine.specs.declared.command.Refusal.{Refusal}
-use Rattle.iv_engine.specs.declared.command.Reply.TheVariants.{Ok}
-use Rattle.iv_engine.specs.declared.answer.Answer.{Answer}
-use Rattle.iv_engine.specs.declared.answer.Answer.TheVariants.{Refused, Accepted}
+use Rattle.iv_database.specs.Stands.{Stands}
+use Rattle.iv_command.specs.Views.{refusal_of, reply_of, line_of}
+use Rattle.iv_command.specs.declared.command.Refusal.{Refusal}
+use Rattle.iv_command.specs.declared.command.Reply.TheVariants.{Ok}
+use Rattle.iv_command.specs.declared.answer.Answer.{Answer}
+use Rattle.iv_command.specs.declared.answer.Answer.TheVariants.{Refused, Accepted}
 
 -- what the engine shows of itself while it has not failed
 abbrev pub seen : Kept → Seen
 seen e = record { frame = frame_of e; tables = e.tables; rounds = rounds e; failed = false }
-
--- the lines of an answer
-abbrev pub said : ℕ → Answer → List machine.Line
-said n (Refused r) = machine.reply n (machine.refused (refusal_of r)) ∷ []
-said n (Accepted reply lines) = machine.reply n (reply_of reply) ∷ map line_of lines.items
 
 -- the lines that the machine sends for an accepted request in the state with the lists T
 abbrev pub sent : Kept → Lists → ℕ → machine.Act → List machine.Line

@@ -1,36 +1,23 @@
 -- How the logic stores what the engine keeps, so that a contract may speak of it.
 use Rattle.std.specs.Prelude.{ℕ, Bool, List, refl}
-use Rattle.std.specs.Coded.{Coded, code_by, coded_ℕ, coded_ℤ, coded_bool, coded_list, coded×}
-use Rattle.iv_zset.specs.Weights.{Weighed}
-use Rattle.iv_rows.specs.Columns.{Column}
-use Rattle.iv_algebra.specs.Codes.{cell_code}
+use Rattle.std.specs.Coded.{Coded, code_by, coded_ℕ, coded_bool, coded_list, coded×}
 use Rattle.iv_algebra.specs.declared.tables.Table.{Table}
 use Rattle.iv_bind.specs.Catalogs.{Entry}
-use Rattle.iv_bind.specs.Codes.{column_code, entries_code}
+use Rattle.iv_bind.specs.Codes.{entries_code}
 use Rattle.iv_access.specs.Codes.{known_code, rights_code}
 use Rattle.iv_access.specs.Known.{Known}
 use Rattle.iv_access.specs.Rights.{Rights}
 use Rattle.iv_circuit.specs.Circuits.{Running}
 use Rattle.iv_circuit.specs.Codes.{running_code}
 use Rattle.iv_machine.specs.State.{Frame, Session, Subscription}
+use Rattle.iv_database.specs.Codes.{session_code, table_code}
 use Rattle.iv_engine.specs.Kept.{Kept, RoleCircuit}
 use Rattle.iv_engine.specs.Seen.{Seen}
-
-abbrev pub session_code : Coded Session
-session_code = code_by (ℕ × ℕ) (coded× coded_ℕ coded_ℕ) (λ s. (s.number, s.role)) (λ p. record { number = p.0; role = p.1 }) (λ _. refl)
 
 abbrev pub subscription_code : Coded Subscription
 subscription_code =
     code_by (ℕ × (ℕ × ℕ)) (coded× coded_ℕ (coded× coded_ℕ coded_ℕ)) (λ s. (s.session, (s.number, s.rel)))
     (λ p. record { session = p.0; number = p.1.0; rel = p.1.1 }) (λ _. refl)
-
-abbrev pub weighed_code : Coded Weighed
-weighed_code = coded_list (coded× (coded_list cell_code) coded_ℤ)
-
-abbrev pub table_code : Coded Table
-table_code =
-    code_by (ℕ × (List Column × Weighed)) (coded× coded_ℕ (coded× (coded_list column_code) weighed_code))
-    (λ t. (t.rel.0, (t.schema, t.rows))) (λ p. record { rel = record { 0 = p.0 }; schema = p.1.0; rows = p.1.1 }) (λ _. refl)
 
 abbrev pub frame_code : Coded Frame
 frame_code =

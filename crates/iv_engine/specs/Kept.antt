@@ -1,27 +1,21 @@
 -- What the engine keeps, and the machine's frame that it stands for.
 use Rattle.std.specs.Prelude.{◌≡◌, ℕ, ◌<◌, ◌≤◌, ◌==◌, ◌&&◌, Bool, true, false, not, List, [], ◌∷◌, Option, None, Some, filter, length, map, is_some, option_map, position}
 use Rattle.std.specs.List.{All, AllByRecursion, list_any}
-use Rattle.iv_rows.specs.Columns.{Column, kinds_of}
-use Rattle.iv_zset.specs.RowLimit.{IsRowLimit}
-use Rattle.iv_zset.specs.Weights.{Weighed, IsBag, IsZSet}
-use Rattle.iv_algebra.specs.Contents.{AreOf, heads_of, rows_of}
-use Rattle.iv_algebra.specs.Fits.{Heads}
 use Rattle.iv_algebra.specs.declared.tables.Table.{Table}
 use Rattle.iv_algebra.specs.Plans.{Lists}
 use Rattle.iv_algebra.specs.Shapes.{Shape}
 use Rattle.iv_rows.specs.Cell.{Cell}
-use Rattle.iv_bind.specs.Catalogs.{Entry, schema_of, table_in}
-use Rattle.iv_bind.specs.Faults.{if_some}
-use Rattle.iv_access.specs.Known.{Known, Relation}
+use Rattle.iv_bind.specs.Catalogs.{Entry}
+use Rattle.iv_access.specs.Known.{Known}
 use Rattle.iv_access.specs.Policies.{allowed, may_see}
 use Rattle.iv_access.specs.Rights.{Rights}
 use Rattle.iv_circuit.specs.Circuits.{AreScans, Running}
 use Rattle.iv_circuit.specs.Keeping.{StandsOn}
 use Rattle.iv_circuit.specs.Nodes.{plan_of, scans_of}
-use Rattle.iv_machine.specs.State.{Frame, State, Session, Subscription, actor, is_open, is_within_for, missing_for, plan_at, session_of, view_for}
-use Rattle.iv_machine.specs.Numbered.{AreNumbered}
+use Rattle.iv_machine.specs.State.{Frame, State, Session, Subscription, actor, is_open, is_within_for, missing_for, plan_at, view_for}
 use Rattle.iv_machine.specs.Reached.{AreNumbersUnique}
-use Rattle.iv_engine.specs.Stands.{Stands}
+use Rattle.iv_database.specs.Database.{Database, IsDatabase, acts_as, kinds_at}
+use Rattle.iv_database.specs.Stands.{Stands}
 
 -- the circuit of what a relation shows to a role, with the numbers of the subscriptions that were opened on it, the last
 -- first, each with the rounds that the circuit had then
@@ -39,8 +33,7 @@ opened_to n k = record k { opened = (n, k.circuit.rounds) ∷ k.opened }
 abbrev pub replaced_by : Running → RoleCircuit → RoleCircuit
 replaced_by c k = record k { circuit = c; opened = [] }
 
--- the relations stand in the catalog at their numbers, and the tables among them have their rows; `cap` is the greatest
--- number of different rows of a table, and of a node of a circuit
+-- what the database holds, with the subscriptions, their circuits and the last number that was given
 pub record Kept : Type 0 where
   pub cap : ℕ
   pub known : Known
@@ -51,17 +44,17 @@ pub record Kept : Type 0 where
   pub last : ℕ
   pub tables : List Table
 
--- the kinds of each table's columns, by its number; none of what is no table
-abbrev pub kinds_at : List Entry → Heads
-kinds_at catalog n = option_map kinds_of (schema_of catalog n)
+-- its database
+abbrev pub database_of : Kept → Database
+database_of e = record { cap = e.cap; known = e.known; catalog = e.catalog; sessions = e.sessions; tables = e.tables }
+
+-- with another database
+abbrev pub with_database : Database → Kept → Kept
+with_database d e = record e { cap = d.cap; known = d.known; catalog = d.catalog; sessions = d.sessions; tables = d.tables }
 
 -- with other rights
 abbrev pub with_rights : Rights → Kept → Kept
 with_rights r e = record e { known = record { relations = e.known.relations; rights = r } }
-
--- what Access knows of a relation: a table's kinds are those of its columns
-abbrev pub relation_in : Entry → Relation
-relation_in x = record { name = x.name; kinds = option_map kinds_of (table_in x.held) }
 
 abbrev pub frame_of : Kept → Frame
 frame_of e = record { cap = e.cap; rights = e.known.rights; catalog = e.catalog; sessions = e.sessions; subscriptions = e.subscriptions; last = e.last }
@@ -99,25 +92,10 @@ shown_rows e T s = view_for (at e T) (actor (frame_of e) s.session) s.rel
 abbrev pub table_rows : Kept → Lists → Subscription → List (List Cell)
 table_rows e T s = filter (may_see e.known.rights (actor (frame_of e) s.session) s.rel) (T s.rel)
 
--- a table's rows are of the kinds of its columns, and what is no table has no row
-abbrev pub HoldsKinds : Option (List Column) → Weighed → Type 0
-HoldsKinds None rows = rows ≡ []
-HoldsKinds (Some columns) rows = AreOf (kinds_of columns) rows
-
--- the machine reaches the frame; sessions act for roles that are there; each relation has its place as its number,
--- and a guard; each table has its kinds, and no more rows than there may be, of these kinds, none with a weight below 0
+-- the machine reaches the frame, and the database is one
 pub record IsStored (e : Kept) : Type 0 where
   pub numbers : AreNumbersUnique (frame_of e)
-  pub roles : AllByRecursion (λ s. s.role < length e.known.rights.roles) e.sessions
-  pub numbered : AreNumbered 0 e.catalog
-  pub relations : e.known.relations ≡ map relation_in e.catalog
-  pub guards : length e.known.rights.guards ≡ length e.catalog
-  pub tables : (t : ℕ) → heads_of e.tables t ≡ kinds_at e.catalog t
-  pub zsets : (t : ℕ) → IsZSet (rows_of e.tables t)
-  pub positive : (t : ℕ) → IsBag (rows_of e.tables t)
-  pub kinds : (t : ℕ) → HoldsKinds (schema_of e.catalog t) (rows_of e.tables t)
-  pub limit : IsRowLimit e.cap
-  pub small : (t : ℕ) → length (rows_of e.tables t) ≤ e.cap
+  pub database : IsDatabase (database_of e)
   pub shows : AllByRecursion (IsOpen e) e.subscriptions
 
 -- the circuit of the plan for the role: over each table that it scans stands what the role may see of it, and it has taken
@@ -152,10 +130,6 @@ is_for role rel k = (k.role == role) && (k.rel == rel)
 -- the place of the first that is for the subscription
 abbrev pub place_of : Kept → Subscription → Option ℕ
 place_of e s = position (is_for (actor (frame_of e) s.session) s.rel) e.circuits
-
--- the session is open, and acts for the role
-abbrev pub acts_as : Frame → (session role : ℕ) → Bool
-acts_as f n role = if_some (session_of f.sessions n) false (λ s. s.role == role)
 
 -- some open subscription reads it
 abbrev pub is_read : Frame → RoleCircuit → Bool

@@ -1,57 +1,12 @@
--- What is kept after a request that shows nothing.
-use Rattle.std.specs.Prelude.{◌≡◌, ℕ, List, [], ◌∷◌, ◌++◌, length, Option, Some, None, option_map}
-use Rattle.iv_rows.specs.Columns.{kinds_of}
-use Rattle.iv_algebra.specs.declared.tables.Table.{Table}
-use Rattle.iv_bind.specs.Catalogs as catalogs
-use Rattle.iv_bind.specs.Catalogs.{Held, extended, table_in}
-use Rattle.iv_access.specs.Changing.{with_relation}
-use Rattle.iv_access.specs.Known.{Relation, role_number}
-use Rattle.iv_access.specs.Rights.{Name}
-use Rattle.iv_machine.specs.Act.{Act, create_table, create_view, Refusal}
+-- What is kept after a request that concerns the database alone.
+use Rattle.std.specs.Prelude.{ℕ, Option, Some, None}
+use Rattle.iv_machine.specs.Act.{Act, Refusal}
 use Rattle.iv_machine.specs.Refusing.{frame_refusal}
-use Rattle.iv_machine.specs.Changing.{after_catalog, after_rights, after_sessions}
-use Rattle.iv_engine.specs.Kept.{Kept, frame_of}
-use Rattle.iv_engine.specs.Views.{refusal_of}
-use Rattle.iv_engine.specs.declared.command.Refusal as said
-
--- a new table has no row, and a view has none of its own
-abbrev pub with_table : Held → ℕ → List Table → List Table
-with_table (catalogs.Table columns) rel tables = tables ++ record { rel = record { 0 = rel }; schema = columns; rows = [] } ∷ []
-with_table (catalogs.View answer) rel tables = tables
-
--- with a relation more, behind the others: its owner is granted everything, and it has no row
-abbrev pub with_relation_of : (name owner : Name) → Held → Kept → Kept
-with_relation_of name owner held e = record e {
-  known = record {
-    relations = e.known.relations ++ record { name = name; kinds = option_map kinds_of (table_in held) } ∷ [];
-    rights = with_relation (role_number e.known.rights owner) e.known.rights;
-  };
-  catalog = extended e.catalog name (length e.catalog) held;
-  tables = with_table held (length e.catalog) e.tables;
-}
-
--- ---- after a request
-
-abbrev pub relations_after : List Relation → Act → List Relation
-relations_after relations (create_table name owner columns) = relations ++ record { name = name; kinds = Some (kinds_of columns) } ∷ []
-relations_after relations (create_view name owner query) = relations ++ record { name = name; kinds = None } ∷ []
-relations_after relations _ = relations
-
-abbrev pub tables_after : Kept → Act → List Table
-tables_after e (create_table name owner columns) = with_table (catalogs.Table columns) (length e.catalog) e.tables
-tables_after e _ = e.tables
+use Rattle.iv_database.specs.Next.{database_after}
+use Rattle.iv_engine.specs.Kept.{Kept, database_of, frame_of, with_database}
 
 abbrev pub kept_after : Kept → ℕ → Act → Kept
-kept_after e n act = record {
-  cap = e.cap;
-  known = record { relations = relations_after e.known.relations act; rights = after_rights (frame_of e) act };
-  catalog = after_catalog (frame_of e) act;
-  sessions = after_sessions (frame_of e) n act;
-  subscriptions = e.subscriptions;
-  circuits = e.circuits;
-  last = e.last;
-  tables = tables_after e act;
-}
+kept_after e n act = with_database (database_after (database_of e) n act) e
 
 -- as before where it is refused
 abbrev pub next_by : Kept → ℕ → Act → Option Refusal → Kept
@@ -60,7 +15,3 @@ next_by e n act (Some r) = e
 
 abbrev pub next : Kept → ℕ → Act → Kept
 next e n act = next_by e n act (frame_refusal (frame_of e) n act)
-
--- the refusal of the first test that fails, of those that look at no row
-abbrev pub IsFirstRefusal : Kept → ℕ → Act → Option said.Refusal → Type 0
-IsFirstRefusal e n act r = option_map refusal_of r ≡ frame_refusal (frame_of e) n act

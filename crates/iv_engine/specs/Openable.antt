@@ -3,8 +3,6 @@ use Rattle.std.specs.Prelude.{◌≡◌, ◌<◌, ◌-◌, ◌^◌, ℕ, zero, s
 use Rattle.std.specs.List.{AllByRecursion}
 use Rattle.iv_rows.specs.Cell.{Cell}
 use Rattle.iv_rows.specs.declared.schema.RelId.{RelId}
-use Rattle.iv_access.specs.declared.privilege.Privilege.{Privilege}
-use Rattle.iv_access.specs.declared.privilege.Privilege.TheVariants.{Select}
 use Rattle.iv_access.specs.Rights.{Name}
 use Rattle.iv_zset.specs.Limits.{Counts}
 use Rattle.iv_zset.specs.Weights.{Weighed}
@@ -16,13 +14,9 @@ use Rattle.iv_machine.specs.Refusing.{frame_refusal}
 use Rattle.iv_machine.specs.State.{Subscription, actor, is_open, missing_for, plan_at, rel_of}
 use Rattle.iv_engine.specs.Built.{IsBeyond, IsNew}
 use Rattle.iv_engine.specs.Kept.{Kept, RoleCircuit, frame_of, is_for, opened_to}
-use Rattle.iv_engine.specs.Views.{refusal_of}
-use Rattle.iv_engine.specs.declared.predicates.Stop.{Stop}
-use Rattle.iv_engine.specs.declared.predicates.Stop.TheVariants.{Refused, Memory}
-
--- the privilege that a reader needs on a relation
-abbrev pub select_from : RelId → Privilege × ℕ
-select_from rel = (Select, rel.0)
+use Rattle.iv_command.specs.Views.{refusal_of}
+use Rattle.iv_command.specs.declared.stop.Stop.{Stop}
+use Rattle.iv_command.specs.declared.stop.Stop.TheVariants.{Refused, Memory}
 
 -- all tests pass that look at no row
 pub record IsOpenable (e : Kept) (n : ℕ) (name : Name) (rel : ℕ) : Type 0 where

@@ -10,7 +10,7 @@ use Rattle.iv_machine.specs.Machine.{run, step}
 use Rattle.iv_machine.specs.Reached.{LinesAddUp}
 use Rattle.iv_machine.specs.Readers.{ShowsKnownRows}
 use Rattle.iv_machine.specs.State.{Frame, State, is_open_number}
-use Rattle.iv_engine.specs.Stands.{Stands}
+use Rattle.iv_database.specs.Stands.{Stands}
 
 -- all but the rows, the tables with their rows, how many changes the circuit of each open subscription has taken in, by
 -- the numbers of the subscriptions, and whether the engine has failed

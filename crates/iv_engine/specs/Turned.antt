@@ -18,13 +18,13 @@ use Rattle.iv_engine.specs.Found.{beside_of, total_at}
 use Rattle.iv_engine.specs.Kept.{IsCircuitFor, IsRoleCircuit, IsStored, Kept, RoleCircuit, WereOpened, at, frame_of, is_read, place_of, replaced_by, role_reads, shown_rows}
 use Rattle.iv_engine.specs.Moved.{IsBagDifference, shared_rows}
 use Rattle.iv_engine.specs.Rounds.{rounds_of}
-use Rattle.iv_engine.specs.Stands.{Stands}
-use Rattle.iv_engine.specs.Views.{line_of}
-use Rattle.iv_engine.specs.declared.answer.Answer.{Answer}
-use Rattle.iv_engine.specs.declared.answer.Answer.TheVariants.{Refused, Accepted}
-use Rattle.iv_engine.specs.declared.command.Line.{Line}
-use Rattle.iv_engine.specs.declared.command.Reply.{Reply}
-use Rattle.iv_engine.specs.declared.command.Reply.TheVariants.{Ok}
+use Rattle.iv_database.specs.Stands.{Stands}
+use Rattle.iv_command.specs.Views.{line_of}
+use Rattle.iv_command.specs.declared.answer.Answer.{Answer}
+use Rattle.iv_command.specs.declared.answer.Answer.TheVariants.{Refused, Accepted}
+use Rattle.iv_command.specs.declared.command.Line.{Line}
+use Rattle.iv_command.specs.declared.command.Reply.{Reply}
+use Rattle.iv_command.specs.declared.command.Reply.TheVariants.{Ok}
 use Rattle.iv_engine.specs.declared.turning.Turn.{Turn}
 use Rattle.iv_engine.specs.declared.turning.Turn.TheVariants.{Same, Anew, Lost, Beyond}
 

@@ -5,11 +5,10 @@ ghost use Rattle.iv_machine.specs.Well.{is_well_act, is_well_command};
 ghost use Rattle.iv_engine.specs.Answering.{IsCountedBy, IsNext, IsPlain, IsSaid, IsStep};
 ghost use Rattle.iv_engine.specs.Kept.{IsSound};
 ghost use Rattle.iv_engine.specs.Seen.{ChangesWhereAccepted};
-ghost use Rattle.iv_engine.specs.Views.{act_of, command_of, line_of};
+ghost use Rattle.iv_command.specs.Views.{act_of, command_of, line_of};
 
-use crate::answer::{Answer, lines_of};
-use crate::command::{Act, Command, Line, Refusal, Reply};
 use crate::store::Store;
+use iv_command::{Act, Answer, Command, Line, Refusal, Reply, lines_of};
 use std::alloc::{AllocError, Global};
 
 /// The answer of a request that shows nothing.
@@ -44,12 +43,13 @@ impl Store {
     {
         match act {
             Act::Begin { role } => {
-                let refusal = self.begin(session, role.as_str())?;
+                self.found.clear();
+                let refusal = self.database.begin(session, role.as_str())?;
                 Ok(plain(self.alloc, refusal))
             }
             Act::Finish => Ok(self.finish(session)),
             Act::CreateRole { name } => {
-                let refusal = self.create_role(session, name)?;
+                let refusal = self.database.create_role(session, name)?;
                 Ok(plain(self.alloc, refusal))
             }
             Act::CreateTable {
@@ -57,16 +57,15 @@ impl Store {
                 owner,
                 columns,
             } => {
-                let refusal = self.create_table(session, name, owner.as_str(), columns)?;
+                let refusal = self
+                    .database
+                    .create_table(session, name, owner.as_str(), columns)?;
                 Ok(plain(self.alloc, refusal))
             }
             Act::CreateView { name, owner, query } => {
-                let refusal = self.create_view(
-                    session,
-                    name.as_str(),
-                    owner.as_str(),
-                    query.as_str(),
-                )?;
+                let refusal = self
+                    .database
+                    .create_view(session, name.as_str(), owner.as_str(), query.as_str())?;
                 Ok(plain(self.alloc, refusal))
             }
             Act::Grant {
@@ -74,7 +73,9 @@ impl Store {
                 privileges,
                 grantee,
             } => {
-                let refusal = self.grant(session, rel, &privileges, text_of(&grantee))?;
+                let refusal = self
+                    .database
+                    .grant(session, rel, &privileges, text_of(&grantee))?;
                 Ok(plain(self.alloc, refusal))
             }
             Act::Revoke {

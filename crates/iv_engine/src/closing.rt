@@ -10,7 +10,7 @@ impl Store {
         ensures closed { self.new ≡ record self.old { sessions = []; subscriptions = []; circuits = [] } }
         ensures sound { IsSound self.old → IsSound self.new }
     {
-        self.sessions.clear();
+        self.database.end_sessions();
         self.subscriptions.clear();
         self.circuits.clear();
         self.found.clear();

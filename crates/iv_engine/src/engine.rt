@@ -13,13 +13,32 @@ ghost use Rattle.iv_machine.specs.Well.{is_well_command};
 ghost use Rattle.iv_engine.specs.Applied.{AreApplied};
 ghost use Rattle.iv_engine.specs.Counting.{AreCountedWhereAccepted};
 ghost use Rattle.iv_engine.specs.Seen.{AreLinesOf, AreLinesOfAll, ChangesWhereAccepted, HasKnownRows, HasRoundsOfOpen, IsBehind, IsLeftBy, IsLeftByAll, LinesAddUpBehind, closed};
-ghost use Rattle.iv_engine.specs.Views.{command_of, line_of};
+ghost use Rattle.iv_command.specs.Views.{command_of, line_of};
 
-use crate::command::{Command, EngineFault, Line};
 use crate::store::Store;
+use iv_command::{Command, Line};
 use iv_zset::Seed;
 use std::alloc::{AllocError, Global};
 use std::marker::Model;
+
+/// Why the engine gives no answer.
+#[derive(Clone, Copy, Debug, PartialEq, Eq)]
+pub enum EngineFault {
+    /// A growth of memory was refused. The engine has failed.
+    Memory,
+    /// The engine had failed before.
+    Failed,
+}
+
+impl From<AllocError> for EngineFault {
+    ghost use Rattle.iv_engine.specs.declared.engine.EngineFault.TheVariants.{Memory};
+
+    ghost from_gives = { λ _ fault. fault ≡ Memory };
+
+    fn from(_error: AllocError) -> EngineFault {
+        EngineFault::Memory
+    }
+}
 
 /// Rights, tables with their rows, sessions and subscriptions. It answers commands as the
 /// access machine does, and after a refused growth of memory none any more.

@@ -6,9 +6,8 @@ ghost use Rattle.iv_engine.specs.Answering.{IsStep};
 ghost use Rattle.iv_engine.specs.Finished.{without_session, without_subscription};
 ghost use Rattle.iv_engine.specs.Kept.{IsSound, frame_of};
 
-use crate::answer::Answer;
-use crate::command::{Refusal, Reply};
 use crate::store::Store;
+use iv_command::{Answer, Refusal, Reply};
 
 impl Store {
     /// Takes out the session of the number and its subscriptions.
@@ -16,7 +15,7 @@ impl Store {
         ensures { self.new ≡ without_session session self.old }
     {
         self.found.clear();
-        self.sessions.retain(|open| session != open.number);
+        self.database.end_session(session);
         self.subscriptions.retain(|open| session != open.session);
     }
 
@@ -33,7 +32,7 @@ impl Store {
         requires { IsSound self.old }
         ensures { IsStep self.old session machine.finish result self.new }
     {
-        if self.actor(session).is_none() {
+        if self.database.actor(session).is_none() {
             return Answer::Refused(Refusal::NoSession);
         }
         self.close_session(session);
@@ -58,7 +57,7 @@ impl Store {
         requires { IsSound self.old }
         ensures { IsStep self.old session (machine.unsubscribe number) result self.new }
     {
-        if self.actor(session).is_none() {
+        if self.database.actor(session).is_none() {
             return Answer::Refused(Refusal::NoSession);
         }
         if !self.has_subscription(session, number) {

@@ -6,47 +6,27 @@
 #![tactic(auto)]
 
 mod acting;
-mod answer;
-mod changes;
 mod circuits;
 mod closing;
-mod command;
 mod committing;
 mod concerning;
-mod defining;
 mod dropping;
 mod engine;
 mod finding;
 mod finishing;
-mod frame_requests;
-mod limits;
 mod memberships;
 mod moving;
-mod permitting;
-mod placing;
 mod policies;
-mod predicates;
 mod readers;
 mod revoking;
-mod schemas;
 mod sending;
 mod sharing;
 mod store;
 mod stored;
 mod subscribing;
-mod summing;
 mod touching;
 mod turning;
-mod well;
 mod writing;
 
-pub use command::{
-    Act, Command, EngineFault, Entry, Line, Op, PolicyText, Reason, Refusal, Reply, SharedRows,
-};
-pub use engine::Engine;
-pub use iv_access::{Check, PolicyCommand, Privilege};
-pub use iv_bind::BindWhy;
-pub use iv_machine::Cause;
-pub use iv_query::Why;
+pub use engine::{Engine, EngineFault};
 pub use iv_zset::Seed;
-pub use well::has_texts;

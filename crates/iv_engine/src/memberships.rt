@@ -2,47 +2,20 @@
 //!
 //! Which readers a membership concerns is one flag for each circuit: a role reaches other roles than before exactly
 //! where it comes to reach the membership's role, or ceases to. That is a law of iv_access.
-ghost use Rattle.std.specs.Prelude.{◌≡◌, IfOk, OnOk, length, string_bytes};
+ghost use Rattle.std.specs.Prelude.{◌≡◌, IfOk, length, string_bytes};
 ghost use Rattle.iv_machine.specs.Act as machine;
 ghost use Rattle.iv_engine.specs.Answering.{IsStep};
 ghost use Rattle.iv_engine.specs.Concerned.{differing, reaching};
 ghost use Rattle.iv_engine.specs.Kept.{IsSound};
-ghost use Rattle.iv_engine.specs.Next.{IsFirstRefusal, next};
 ghost use Rattle.iv_engine.specs.Turned.{AreReadersTold, AreWaiting};
 
-use crate::answer::Answer;
-use crate::command::Refusal;
 use crate::concerning::differing;
-use crate::frame_requests::outcome;
 use crate::store::Store;
 use iv_access::RoleId;
+use iv_command::Answer;
 use std::alloc::AllocError;
 
 impl Store {
-    /// Makes a role a member of another, or says which test fails first.
-    fn join(&mut self, session: u32, role: String, to: &str) -> Result<Option<Refusal>, AllocError>
-        ensures refused { IfOk result (IsFirstRefusal self.old session (machine.grant_role (string_bytes role) to.now)) }
-        ensures state { OnOk result (self.new ≡ next self.old session (machine.grant_role (string_bytes role) to.now)) }
-    {
-        let Some(acting) = self.actor(session) else {
-            return Ok(Some(Refusal::NoSession));
-        };
-        let change = self.access.grant_role(acting, role.as_str(), to);
-        outcome(change, role)
-    }
-
-    /// Takes a role out of the members of another, or says which test fails first.
-    fn part(&mut self, session: u32, role: String, to: &str) -> Result<Option<Refusal>, AllocError>
-        ensures refused { IfOk result (IsFirstRefusal self.old session (machine.revoke_role (string_bytes role) to.now)) }
-        ensures state { OnOk result (self.new ≡ next self.old session (machine.revoke_role (string_bytes role) to.now)) }
-    {
-        let Some(acting) = self.actor(session) else {
-            return Ok(Some(Refusal::NoSession));
-        };
-        let change = self.access.revoke_role(acting, role.as_str(), to);
-        outcome(change, role)
-    }
-
     /// Tells readers what they see more and less whose role did not reach the group as it does now: `before` tells of each
     /// circuit whether its role reached it.
     fn tell_members(&mut self, group: Option<RoleId>, before: &[bool]) -> Result<Answer, AllocError>
@@ -61,9 +34,9 @@ impl Store {
         requires { IsSound self.old }
         ensures { IfOk result (λ answer. IsStep self.old session (machine.grant_role (string_bytes role) to.now) answer self.new) }
     {
-        let group = self.access.role(role.as_str());
+        let group = self.database.access().role(role.as_str());
         let before = self.reaching(group)?;
-        if let Some(refusal) = self.join(session, role, to)? {
+        if let Some(refusal) = self.database.grant_role(session, role, to)? {
             return Ok(Answer::Refused(refusal));
         }
         self.tell_members(group, &before)
@@ -80,9 +53,9 @@ impl Store {
         requires { IsSound self.old }
         ensures { IfOk result (λ answer. IsStep self.old session (machine.revoke_role (string_bytes role) to.now) answer self.new) }
     {
-        let group = self.access.role(role.as_str());
+        let group = self.database.access().role(role.as_str());
         let before = self.reaching(group)?;
-        if let Some(refusal) = self.part(session, role, to)? {
+        if let Some(refusal) = self.database.revoke_role(session, role, to)? {
             return Ok(Answer::Refused(refusal));
         }
         self.tell_members(group, &before)

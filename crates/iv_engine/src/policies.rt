@@ -1,158 +1,24 @@
 //! The requests that change which rows readers see: `row_security`, `create_policy` and `drop_policy`.
-ghost use Rattle.std.specs.Prelude.{◌≡◌, ◌<◌, IfOk, None, OnOk, is_some, length, map, nat_le, option_map, slice_get, string_bytes, true};
-ghost use Rattle.std.specs.List.{list_all};
-ghost use Rattle.iv_access.specs.Changing.{with_security, without_policy};
-ghost use Rattle.iv_access.specs.Faults.{is_grantee};
-ghost use Rattle.iv_access.specs.Policies.{policies_of, policy_of};
-ghost use Rattle.iv_access.specs.Privileges.{owns};
+ghost use Rattle.std.specs.Prelude.{◌≡◌, IfOk, string_bytes};
 ghost use Rattle.iv_machine.specs.Act as machine;
 ghost use Rattle.iv_engine.specs.Answering.{IsStep};
-ghost use Rattle.iv_engine.specs.Kept.{IsSound, IsStored, with_rights};
-ghost use Rattle.iv_engine.specs.Owned.{IsChecked, IsOwned, asked, has_room, name_tests, named_tests, with_asked};
-ghost use Rattle.iv_engine.specs.Views.{refusal_of};
+ghost use Rattle.iv_engine.specs.Concerned.{scanning};
+ghost use Rattle.iv_engine.specs.Kept.{IsSound};
+ghost use Rattle.iv_engine.specs.Turned.{AreReadersTold, AreWaiting};
 
-use crate::answer::Answer;
-use crate::command::{PolicyText, Refusal};
-use crate::predicates::{Predicates, Stop, bound_texts};
 use crate::store::Store;
-use iv_access::{AccessFault, MOST_POLICIES, Policy, RoleId};
+use iv_command::{Answer, PolicyText, Stop};
 use iv_rows::RelId;
 use std::alloc::AllocError;
 
-/// The acting role, and a table that it owns.
-#[derive(Clone, Copy)]
-struct Owned {
-    acting: RoleId,
-    table: RelId,
-}
-
-/// The policy that is asked for, with its predicates.
-fn asked(policy: PolicyText, predicates: Predicates) -> Policy
-    ensures { result ≡ asked policy predicates }
-{
-    Policy {
-        name: policy.name,
-        restrictive: policy.restrictive,
-        command: policy.command,
-        to: policy.grantee,
-        using: predicates.using,
-        check: predicates.check,
-    }
-}
-
 impl Store {
-    /// The acting role and the table of a name, where the role may change the table's policies.
-    fn owned(&self, session: u32, rel: &str) -> Result<Owned, Stop>
-        requires { IsStored self.now }
-        ensures { IsOwned self.now session rel.now result }
+    /// Tells readers of a table and of views over it what they see more and less, once its policies are others.
+    fn tell_of(&mut self, table: RelId) -> Result<Answer, AllocError>
+        requires { AreWaiting self.old (scanning self.old table.0) }
+        ensures { IfOk result (λ answer. AreReadersTold self.old (scanning self.old table.0) answer self.new) }
     {
-        let (acting, table) = self.acting_on(session, rel)?;
-        if self.catalog.schema(table).is_none() {
-            return Err(Stop::Refused(Refusal::NotATable));
-        }
-        if !self.access.owns(acting, table) {
-            let rel = String::from_str(self.alloc, rel)?;
-            return Err(Stop::Refused(Refusal::NotOwner { rel }));
-        }
-        Ok(Owned { acting, table })
-    }
-
-    /// Whether the name is a role's, or stands for all roles.
-    fn is_known(&self, grantee: &Option<String>) -> bool
-        ensures { result ≡ is_grantee self.now.known.rights (option_map string_bytes grantee.now) }
-    {
-        match grantee {
-            Some(name) => self.access.role(name.as_str()).is_some(),
-            None => true,
-        }
-    }
-
-    /// Whether each name is a role's, or stands for all roles.
-    fn are_known(&self, grantees: &[Option<String>]) -> bool
-        ensures { result ≡ list_all (is_grantee self.now.known.rights) (map (option_map string_bytes) grantees.now) }
-    {
-        for grantee in grantees {
-            if !self.is_known(grantee) {
-                return false;
-            }
-        }
-        true
-    }
-
-    /// Which name of a policy may not stand.
-    fn check_names(&self, table: RelId, policy: &PolicyText) -> Option<Refusal>
-        ensures { option_map refusal_of result ≡ name_tests self.now.known.rights table.0 policy.now }
-    {
-        if !self.are_known(&policy.grantee) {
-            return Some(Refusal::UnknownRole);
-        }
-        if self.access.policy(table, policy.name.as_str()).is_some() {
-            return Some(Refusal::NameTaken);
-        }
-        None
-    }
-
-    /// The table of a policy and its predicates, where all tests pass but that of the number of policies.
-    fn check_policy(&self, session: u32, policy: &PolicyText) -> Result<(Owned, Predicates), Stop>
-        requires { IsStored self.now }
-        ensures { IsChecked self.now session policy.now result }
-    {
-        let owned = self.owned(session, policy.rel.as_str())?;
-        if let Some(refusal) = self.check_names(owned.table, policy) {
-            return Err(Stop::Refused(refusal));
-        }
-        let schema = self.schema(owned.table);
-        let predicates = bound_texts(self.alloc, schema, policy)?;
-        Ok((owned, predicates))
-    }
-
-    /// Switches row security of the table.
-    fn switch(&mut self, owned: Owned, enable: bool, force: bool)
-        requires below { owned.table.0 < length self.old.known.rights.guards }
-        requires owns { owns self.old.known.rights owned.acting.0 owned.table.0 ≡ true }
-        ensures { self.new ≡ with_rights (with_security owned.table.0 enable force self.old.known.rights) self.old }
-    {
-        let change = self
-            .access
-            .row_security(owned.acting, owned.table, enable, force);
-        if change.is_err() {
-            unreachable!()
-        }
-    }
-
-    /// Takes a policy of the table away.
-    fn remove(&mut self, owned: Owned, name: &str)
-        requires below { owned.table.0 < length self.old.known.rights.guards }
-        requires owns { owns self.old.known.rights owned.acting.0 owned.table.0 ≡ true }
-        requires there { is_some (policy_of self.old.known.rights owned.table.0 name.now) ≡ true }
-        ensures { self.new ≡ with_rights (without_policy owned.table.0 name.now self.old.known.rights) self.old }
-    {
-        let change = self.access.drop_policy(owned.acting, owned.table, name);
-        if change.is_err() {
-            unreachable!()
-        }
-    }
-
-    /// Whether the table has as many policies as it may have.
-    fn has_most_policies(&self, table: RelId) -> bool
-        ensures { result ≡ nat_le 32 (length (policies_of (slice_get self.now.known.rights.guards table.0))) }
-    {
-        self.access.policies(table) >= MOST_POLICIES
-    }
-
-    /// Adds a policy to the table.
-    fn add(&mut self, owned: Owned, policy: Policy) -> Result<(), AllocError>
-        requires below { owned.table.0 < length self.old.known.rights.guards }
-        requires owns { owns self.old.known.rights owned.acting.0 owned.table.0 ≡ true }
-        requires names { named_tests self.old.known.rights owned.table.0 policy.name policy.to ≡ None }
-        requires room { has_room self.old.known.rights owned.table.0 ≡ true }
-        ensures { OnOk result (self.new ≡ with_asked owned.table.0 policy self.old) }
-    {
-        match self.access.create_policy(owned.acting, owned.table, policy) {
-            Ok(()) => Ok(()),
-            Err(AccessFault::Memory) => Err(AllocError),
-            Err(_) => unreachable!(),
-        }
+        let concerned = self.scanning(table)?;
+        self.tell_readers(&concerned)
     }
 
     /// Switches row security of a table, and tells readers of it and of views over it what they see more and less.
@@ -166,14 +32,14 @@ impl Store {
         requires { IsSound self.old }
         ensures { IfOk result (λ answer. IsStep self.old session (machine.row_security (string_bytes rel) enable force) answer self.new) }
     {
-        let owned = match self.owned(session, rel.as_str()) {
-            Ok(owned) => owned,
-            Err(Stop::Refused(refusal)) => return Ok(Answer::Refused(refusal)),
-            Err(Stop::Memory) => return Err(AllocError),
-        };
-        let concerned = self.scanning(owned.table)?;
-        self.switch(owned, enable, force);
-        self.tell_readers(&concerned)
+        match self
+            .database
+            .row_security(session, rel.as_str(), enable, force)
+        {
+            Ok(table) => self.tell_of(table),
+            Err(Stop::Refused(refusal)) => Ok(Answer::Refused(refusal)),
+            Err(Stop::Memory) => Err(AllocError),
+        }
     }
 
     /// Adds a policy to a table, and tells readers of it and of views over it what they see more and less.
@@ -181,17 +47,11 @@ impl Store {
         requires { IsSound self.old }
         ensures { IfOk result (λ answer. IsStep self.old session (machine.create_policy policy) answer self.new) }
     {
-        let (owned, predicates) = match self.check_policy(session, &policy) {
-            Ok(checked) => checked,
-            Err(Stop::Refused(refusal)) => return Ok(Answer::Refused(refusal)),
-            Err(Stop::Memory) => return Err(AllocError),
-        };
-        if self.has_most_policies(owned.table) {
-            return Ok(Answer::Refused(Refusal::TooMany));
+        match self.database.create_policy(session, policy) {
+            Ok(table) => self.tell_of(table),
+            Err(Stop::Refused(refusal)) => Ok(Answer::Refused(refusal)),
+            Err(Stop::Memory) => Err(AllocError),
         }
-        let concerned = self.scanning(owned.table)?;
-        self.add(owned, asked(policy, predicates))?;
-        self.tell_readers(&concerned)
     }
 
     /// Takes a policy of a table away, and tells readers of it and of views over it what they see more and less.
@@ -204,16 +64,10 @@ impl Store {
         requires { IsSound self.old }
         ensures { IfOk result (λ answer. IsStep self.old session (machine.drop_policy (string_bytes rel) name.now) answer self.new) }
     {
-        let owned = match self.owned(session, rel.as_str()) {
-            Ok(owned) => owned,
-            Err(Stop::Refused(refusal)) => return Ok(Answer::Refused(refusal)),
-            Err(Stop::Memory) => return Err(AllocError),
-        };
-        if self.access.policy(owned.table, name).is_none() {
-            return Ok(Answer::Refused(Refusal::UnknownPolicy));
+        match self.database.drop_policy(session, rel.as_str(), name) {
+            Ok(table) => self.tell_of(table),
+            Err(Stop::Refused(refusal)) => Ok(Answer::Refused(refusal)),
+            Err(Stop::Memory) => Err(AllocError),
         }
-        let concerned = self.scanning(owned.table)?;
-        self.remove(owned, name);
-        self.tell_readers(&concerned)
     }
 }

@@ -2,41 +2,18 @@
 //!
 //! A revoke shows no row more or less: it ends the subscriptions whose role lacks select on what they need, and takes
 //! back what they showed. Each circuit is asked once, not each subscription.
-ghost use Rattle.std.specs.Prelude.{◌≡◌, IfOk, OnOk, string_bytes};
+ghost use Rattle.std.specs.Prelude.{◌≡◌, IfOk, string_bytes};
 ghost use Rattle.iv_access.specs.Known.{named};
 ghost use Rattle.iv_machine.specs.Act as machine;
 ghost use Rattle.iv_engine.specs.Answering.{IsStep};
-ghost use Rattle.iv_engine.specs.Kept.{IsSound, IsStored};
-ghost use Rattle.iv_engine.specs.Next.{IsFirstRefusal, next};
+ghost use Rattle.iv_engine.specs.Kept.{IsSound};
 
-use crate::answer::Answer;
-use crate::command::Refusal;
-use crate::frame_requests::outcome;
 use crate::store::Store;
 use iv_access::Privilege;
+use iv_command::Answer;
 use std::alloc::AllocError;
 
 impl Store {
-    /// Takes privileges on a relation back, or says which test fails first.
-    fn take_back(
-        &mut self,
-        session: u32,
-        rel: String,
-        privileges: &[Privilege],
-        grantee: Option<&str>,
-    ) -> Result<Option<Refusal>, AllocError>
-        requires { IsStored self.old }
-        ensures refused { IfOk result (IsFirstRefusal self.old session (machine.revoke (string_bytes rel) privileges.now (named grantee.entry))) }
-        ensures state { OnOk result (self.new ≡ next self.old session (machine.revoke (string_bytes rel) privileges.now (named grantee.entry))) }
-    {
-        let (acting, number) = match self.acting_on(session, rel.as_str()) {
-            Ok(found) => found,
-            Err(refusal) => return Ok(Some(refusal)),
-        };
-        let change = self.access.revoke(acting, number, privileges, grantee);
-        outcome(change, rel)
-    }
-
     /// Takes privileges on a relation from a role or from PUBLIC, and ends the subscriptions that may not be read any more.
     pub fn revoke(
         &mut self,
@@ -48,7 +25,7 @@ impl Store {
         requires { IsSound self.old }
         ensures { IfOk result (λ answer. IsStep self.old session (machine.revoke (string_bytes rel) privileges.now (named grantee.entry)) answer self.new) }
     {
-        if let Some(refusal) = self.take_back(session, rel, privileges, grantee)? {
+        if let Some(refusal) = self.database.revoke(session, rel, privileges, grantee)? {
             return Ok(Answer::Refused(refusal));
         }
         let concerned = self.unreadable()?;

@@ -7,7 +7,8 @@ use Rattle.iv_machine.specs.Machine.{step}
 use Rattle.iv_machine.specs.State.{State}
 use Rattle.iv_engine.specs.Seen.{Seen, IsBehind}
 use Rattle.iv_wire.specs.Cut.{Cut, nothing, whole, endless, cut}
-use Rattle.iv_wire.specs.Answer.{Reading, faulty, asked, readings_of, Heard, behind, heard, heard_cut, Told, told, Answer, answer_to, answer}
+use Rattle.iv_request.specs.Reading.{Reading, faulty, asked}
+use Rattle.iv_wire.specs.Answer.{readings_of, Heard, behind, heard, heard_cut, Told, told, Answer, answer_to, answer}
 use Rattle.iv_wire.specs.Texts.{line_text, fault_text}
 use Rattle.iv_wire.specs.Reads.{IsCut, IsCutShort, BeginsLine}
 use Rattle.iv_wire.specs.Endings.{Run, IsAnswered}

@@ -1,16 +1,10 @@
 pub mod Ahead
 pub mod Answering
-pub mod Asking
 pub mod Cutting
-pub mod Each
 pub mod Finding
 pub mod Joining
-pub mod Keys
 pub mod Known
-pub mod Looking
 pub mod Parting
 pub mod Ran
-pub mod Reading
 pub mod Sums
-pub mod Well
 pub mod Writing

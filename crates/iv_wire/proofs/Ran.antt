@@ -4,7 +4,8 @@ use Rattle.iv_machine.specs.Act.{Command}
 use Rattle.iv_machine.specs.Machine.{run, step}
 use Rattle.iv_machine.specs.State.{State}
 use Rattle.iv_engine.specs.Seen.{Seen, IsBehind}
-use Rattle.iv_wire.specs.Answer.{Reading, faulty, asked, commands_of, reading_of, readings_of, told}
+use Rattle.iv_request.specs.Reading.{Reading, faulty, asked, reading_of}
+use Rattle.iv_wire.specs.Answer.{commands_of, readings_of, told}
 use Rattle.iv_wire.specs.Cut.{is_blank}
 use Rattle.iv_wire.specs.Ran.{HasRun}
 

@@ -7,7 +7,8 @@ use Rattle.iv_machine.specs.Reached.{AreNumbersUnique}
 use Rattle.iv_machine.specs.State.{State}
 use Rattle.iv_machine.proofs.Adding.{adds_up, run_numbers}
 use Rattle.iv_engine.specs.Seen.{Seen, IsBehind}
-use Rattle.iv_wire.specs.Answer.{Reading, faulty, asked, heard, commands_of, text_of}
+use Rattle.iv_request.specs.Reading.{Reading, faulty, asked}
+use Rattle.iv_wire.specs.Answer.{heard, commands_of, text_of}
 use Rattle.iv_wire.specs.Endings.{Run, Answers, IsAnswered}
 use Rattle.iv_wire.specs.declared.lines.End.{End}
 use Rattle.iv_wire.specs.declared.lines.RunFault.{RunFault}

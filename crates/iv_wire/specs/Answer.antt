@@ -1,48 +1,19 @@
 -- The bytes that answer bytes: lines are cut and read, and the machine runs the commands among them.
-use Rattle.std.specs.Prelude.{ℕ, zero, suc, List, [], ◌∷◌, ◌++◌, flat_map, if◌then◌else◌, Option, Some, None}
-use Rattle.std.specs.Str.{is_utf8}
+use Rattle.std.specs.Prelude.{ℕ, zero, suc, List, [], ◌∷◌, ◌++◌, flat_map, if◌then◌else◌}
 use Rattle.iv_machine.specs.Act.{Command}
 use Rattle.iv_machine.specs.Machine.{run, step}
 use Rattle.iv_machine.specs.State.{State}
-use Rattle.serde_json.specs.Data.{Data}
-use Rattle.serde_json.specs.Read.{read}
+use Rattle.iv_request.specs.Reading.{Reading, faulty, asked, reading_of}
 use Rattle.iv_wire.specs.Cut.{Cut, nothing, whole, endless, cut, is_blank}
-use Rattle.iv_wire.specs.Request.{request}
 use Rattle.iv_wire.specs.Texts.{line_text, fault_text}
 use Rattle.iv_wire.specs.declared.lines.End.{End}
 use Rattle.iv_wire.specs.declared.lines.End.TheVariants.{Input, Lines, TooLong}
 
 -- ---- one line
 
--- what a line is: a command, or none, which is answered by this number
-pub data Reading : Type 0 where
-  faulty : ℕ → Reading
-  asked : Command → Reading
-
--- no JSON; a JSON value that is no request; a line without an end
-abbrev pub bad_json : Reading
-bad_json = faulty 1
-
-abbrev pub bad_request : Reading
-bad_request = faulty 2
-
+-- a line without an end
 abbrev pub too_long : Reading
 too_long = faulty 22
-
--- a line that is no UTF-8 is no JSON
-abbrev pub value_of : List ℕ → Option Data
-value_of line = if is_utf8 line then read line else None
-
-abbrev pub asked_by : Option Command → Reading
-asked_by None = bad_request
-asked_by (Some c) = asked c
-
-abbrev pub reading_by : Option Data → Reading
-reading_by None = bad_json
-reading_by (Some d) = asked_by (request d)
-
-abbrev pub reading_of : List ℕ → Reading
-reading_of line = reading_by (value_of line)
 
 -- a blank line is passed over
 abbrev pub readings_of : List ℕ → List Reading

@@ -1,15 +1,11 @@
 pub mod Ahead
 pub mod Answer
-pub mod Asked
 pub mod Calls
 pub mod Cut
-pub mod Documents
 pub mod Endings
-pub mod Names
 pub mod Parts
 pub mod Ran
 pub mod Reads
-pub mod Request
 pub mod Sums
 pub mod Texts
 pub mod Tokens

@@ -1,6 +1,6 @@
 -- The texts of lines: compact JSON with keys in the order of their bytes, and a newline.
 use Rattle.std.specs.Prelude.{ℕ, ℤ, true, List, [], ◌∷◌, ◌++◌, map, codes}
-use Rattle.iv_rows.specs.Cell.{Cell, num, text, flag}
+use Rattle.iv_rows.specs.Cell.{Cell}
 use Rattle.iv_query.specs.declared.fault.Why.{Why}
 use Rattle.iv_query.specs.declared.fault.Why.TheVariants as reading
 use Rattle.iv_bind.specs.declared.fault.BindWhy.{BindWhy}
@@ -8,28 +8,14 @@ use Rattle.iv_bind.specs.declared.fault.BindWhy.TheVariants as binding
 use Rattle.iv_bind.specs.BoundTexts.{Reason, Reading, Binding}
 use Rattle.iv_access.specs.declared.policy.Check.{Check}
 use Rattle.iv_access.specs.declared.policy.Check.TheVariants as check
-use Rattle.iv_access.specs.declared.privilege.Privilege.{Privilege}
-use Rattle.iv_access.specs.declared.privilege.Privilege.TheVariants.{Select, Insert, Update, Delete}
 use Rattle.iv_machine.specs.Act as machine
 use Rattle.iv_machine.specs.Act.{Refusal, Reply, done, subscribed, refused, Line, reply, change, ended}
 use Rattle.iv_machine.specs.declared.Cause.{Cause}
 use Rattle.iv_machine.specs.declared.Cause.TheVariants as cause
-use Rattle.serde_json.specs.Data.{Data, number, unsigned, string, boolean, array, object, item, no_items, member, no_members}
-use Rattle.serde_json.specs.Find.{of_integer}
+use Rattle.serde_json.specs.Data.{Data, string, boolean, array, object, item, no_items, member, no_members}
 use Rattle.serde_json.specs.View.{items_of}
 use Rattle.serde_json.specs.Written.{compact_text}
-
-abbrev pub natural : ℕ → Data
-natural n = number (unsigned n)
-
-abbrev pub whole : ℤ → Data
-whole z = number (of_integer z)
-
-abbrev pub privilege_text : Privilege → List ℕ
-privilege_text Select = codes "select"
-privilege_text Insert = codes "insert"
-privilege_text Update = codes "update"
-privilege_text Delete = codes "delete"
+use Rattle.iv_request.specs.Values.{natural, whole, privilege_text, row_data}
 
 abbrev pub check_text : Check → List ℕ
 check_text check.Select = codes "select"
@@ -123,14 +109,6 @@ reply_data n (subscribed k) = object (member (codes "ok") (boolean true) (member
 reply_data n (refused r) = refused_data n r
 
 -- ---- changes
-
-abbrev pub cell_data : Cell → Data
-cell_data (num z) = whole z
-cell_data (text t) = string t
-cell_data (flag b) = boolean b
-
-abbrev pub row_data : List Cell → Data
-row_data row = array (items_of (map cell_data row))
 
 -- [weight, row]
 abbrev pub entry_data : List Cell × ℤ → Data

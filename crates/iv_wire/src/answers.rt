@@ -6,7 +6,7 @@
 //! their text is copied, and with it the front of the line up to the number of the subscription.
 ghost use Rattle.std.specs.Prelude.{◌≡◌, ◌++◌, [], map, flat_map, decimal, true, IfOk, OnOk};
 ghost use Rattle.iv_machine.specs.Act as machine;
-ghost use Rattle.iv_engine.specs.Views.{line_of, reply_of};
+ghost use Rattle.iv_command.specs.Views.{line_of, reply_of};
 ghost use Rattle.serde_json.specs.Written.{compact_text};
 ghost use Rattle.iv_wire.specs.Parts.{IsWritten, behind_front, cause_part, done_text, ended_text, front_text, rest_text, subscribed_text};
 ghost use Rattle.iv_wire.specs.Texts.{line_text, rows_data};
@@ -14,7 +14,7 @@ ghost use Rattle.iv_wire.specs.Texts.{line_text, rows_data};
 use crate::changes::write_rows;
 use crate::texts::write_refusal;
 use itoa::Buffer;
-use iv_engine::{Cause, Line, Reply};
+use iv_command::{Cause, Line, Reply};
 use iv_rows::Row;
 use std::alloc::{AllocError, Global};
 use std::mem;

@@ -5,7 +5,8 @@
 ghost use Rattle.std.specs.Prelude.{◌≡◌, [], IfOk, OnOk};
 ghost use Rattle.serde_json.specs.Written.{compact_text};
 ghost use Rattle.iv_rows.specs.View.{cell_of, cells_of};
-ghost use Rattle.iv_wire.specs.Texts.{cell_data, row_data, entry_data, rows_data};
+ghost use Rattle.iv_request.specs.Values.{cell_data, row_data};
+ghost use Rattle.iv_wire.specs.Texts.{entry_data, rows_data};
 ghost use Rattle.iv_wire.specs.Tokens.{AddsValue};
 
 use iv_rows::{Row, Value};

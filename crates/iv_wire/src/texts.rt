@@ -3,11 +3,12 @@ ghost use Rattle.std.specs.Prelude.{◌≡◌, false, IfOk};
 ghost use Rattle.serde_json.specs.View.{view};
 ghost use Rattle.serde_json.specs.Written.{has_float};
 ghost use Rattle.iv_machine.specs.Act as machine;
-ghost use Rattle.iv_engine.specs.Views.{reason_of, refusal_of};
+ghost use Rattle.iv_command.specs.Views.{reason_of, refusal_of};
+ghost use Rattle.iv_request.specs.Values.{privilege_text};
 ghost use Rattle.iv_wire.specs.Texts as texts;
-ghost use Rattle.iv_wire.specs.Texts.{privilege_text, check_text, reading_text, binding_text, reason_text, line_text, text_of, fault_text};
+ghost use Rattle.iv_wire.specs.Texts.{check_text, reading_text, binding_text, reason_text, line_text, text_of, fault_text};
 
-use iv_engine::{BindWhy, Check, Privilege, Reason, Refusal, Why};
+use iv_command::{BindWhy, Check, Privilege, Reason, Refusal, Why};
 use serde_json::{Value as Json, json};
 use std::alloc::{AllocError, Global};
 

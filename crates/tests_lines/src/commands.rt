@@ -3,12 +3,14 @@
 ghost use Rattle.std.specs.Prelude.{◌≡◌, map};
 ghost use Rattle.std.specs.List.{list_all};
 ghost use Rattle.iv_machine.specs.Well.{is_well_command};
-ghost use Rattle.iv_engine.specs.Views.{command_of};
+ghost use Rattle.iv_command.specs.Views.{command_of};
 
 use crate::replayed::{ANSWERS, REQUESTS};
-use iv_engine::{Act, Command, Engine, EngineFault, Entry, Line, Op};
+use iv_command::{Act, Command, Entry, Line, Op};
+use iv_engine::{Engine, EngineFault};
+use iv_request::read_line;
 use iv_rows::{Column, Kind, Row, Value};
-use iv_wire::{read_line, write_line};
+use iv_wire::write_line;
 use std::alloc::{AllocError, Global};
 use std::test::Fail;
 

@@ -1,4 +1,4 @@
-//! Tests of the public calls of iv_engine and iv_wire, most of them as lines in and lines out.
+//! Tests of the public calls of iv_command, iv_request, iv_engine and iv_wire, most of them as lines in and lines out.
 #![tactic(auto)]
 
 #[cfg(test)]

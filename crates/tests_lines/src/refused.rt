@@ -8,8 +8,10 @@ use crate::examples::{
     ROW_SECURITY_THEN_POLICY,
 };
 use crate::replayed::{ANSWERS, Ended, REQUESTS};
-use iv_engine::{Act, Command, Engine, EngineFault, Line};
-use iv_wire::{End, EndFault, FromRead, RunFault, Sink, WireFault, read_line, run, write_line};
+use iv_command::{Act, Command, Line};
+use iv_engine::{Engine, EngineFault};
+use iv_request::{WireFault, read_line};
+use iv_wire::{End, EndFault, FromRead, RunFault, Sink, run, write_line};
 use std::alloc::{AllocError, Global};
 use std::io::Read;
 use std::test::Fail;

@@ -1,8 +1,9 @@
 //! The worked examples, byte for byte.
 use crate::replayed::{ANSWERS, REQUESTS, answers, joined, replayed, writes};
-use iv_engine::{Act, Line, Privilege, Refusal, Reply};
+use iv_command::{Act, Line, Privilege, Refusal, Reply};
+use iv_request::read_line;
 use iv_rows::{Row, Value};
-use iv_wire::{read_line, write_line};
+use iv_wire::write_line;
 use std::alloc::{AllocError, Global};
 use std::rc::Rc;
 use std::test::Fail;

@@ -1,6 +1,6 @@
 use Rattle.std.proofs.Common.{◌∙◌, sym, ap}
-use Rattle.iv_engine.specs.Views.{line_of}
-use Rattle.iv_engine.specs.declared.command.Line.{Line}
+use Rattle.iv_command.specs.Views.{line_of}
+use Rattle.iv_command.specs.declared.command.Line.{Line}
 use Rattle.iv_wire.specs.Parts.{behind_front, ended_text, front_text}
 use Rattle.iv_wire.specs.Texts.{line_text, rows_data}
 use Rattle.serde_json.specs.Written.{compact_text}

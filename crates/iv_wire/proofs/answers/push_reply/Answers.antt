@@ -1,7 +1,7 @@
 use Rattle.std.proofs.Common.{◌∙◌, sym, ap}
 use Rattle.iv_machine.specs.Act.{reply}
-use Rattle.iv_engine.specs.Views.{reply_of}
-use Rattle.iv_engine.specs.declared.command.Reply.{Reply}
+use Rattle.iv_command.specs.Views.{reply_of}
+use Rattle.iv_command.specs.declared.command.Reply.{Reply}
 use Rattle.iv_wire.specs.Parts.{done_text, subscribed_text}
 use Rattle.iv_wire.specs.Texts.{line_text}
 use Rattle.iv_wire.proofs.Parting.{then_same, done_line_text, subscribed_line_text}

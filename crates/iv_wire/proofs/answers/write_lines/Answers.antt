@@ -1,5 +1,5 @@
 use Rattle.std.proofs.Common.{◌∙◌, arith, refl}
-use Rattle.iv_engine.specs.Views.{line_of}
+use Rattle.iv_command.specs.Views.{line_of}
 use Rattle.iv_wire.specs.Texts.{line_text}
 use Rattle.iv_wire.proofs.Writing.{appends_text, all_texts}
 use Rattle.iv_wire.proofs.answers.write_lines.Goals as goal

@@ -1,6 +1,6 @@
 use Rattle.std.proofs.Common.{◌≡◌, take}
 use Rattle.std.specs.Prelude.{flat_map}
-use Rattle.iv_engine.specs.Views.{line_of}
+use Rattle.iv_command.specs.Views.{line_of}
 use Rattle.iv_wire.specs.Parts.{IsWritten}
 use Rattle.iv_wire.specs.Texts.{line_text}
 use Rattle.iv_wire.proofs.answers.write_lines.Given as goal

@@ -2,7 +2,7 @@ use Rattle.std.proofs.Common.{subst, sym, arith}
 use Rattle.std.specs.Prelude.{OnOk}
 use Rattle.serde_json.specs.Data.{array}
 use Rattle.serde_json.specs.View.{items_of}
-use Rattle.iv_wire.specs.Texts.{cell_data}
+use Rattle.iv_request.specs.Values.{cell_data}
 use Rattle.iv_rows.specs.View.{cell_of}
 use Rattle.iv_wire.specs.Tokens.{AddsValue}
 use Rattle.iv_wire.proofs.Writing.{adds_item, adds_items, map-map}

@@ -1,6 +1,6 @@
 use Rattle.std.proofs.Common.{◌∷◌, take}
 use Rattle.json.specs.Token.{begin_array}
-use Rattle.iv_wire.specs.Texts.{cell_data}
+use Rattle.iv_request.specs.Values.{cell_data}
 use Rattle.iv_rows.specs.View.{cell_of}
 use Rattle.iv_wire.specs.Tokens.{Adds}
 use Rattle.iv_wire.proofs.Writing.{each_tokens}

@@ -1,7 +1,7 @@
 use Rattle.std.proofs.Common.{◌∙◌, ap}
 use Rattle.std.proofs.lemmas.Result.{IfOk-weaker}
 use Rattle.serde_json.specs.Written.{has_float}
-use Rattle.iv_engine.specs.Views.{refusal_of}
+use Rattle.iv_command.specs.Views.{refusal_of}
 use Rattle.iv_wire.specs.Texts.{text_of}
 use Rattle.iv_wire.proofs.Writing.{plain_refused}
 use Rattle.iv_wire.proofs.texts.write_refusal.Goals as goal

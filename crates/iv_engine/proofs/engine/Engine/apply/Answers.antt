@@ -8,8 +8,8 @@ use Rattle.std.specs.List.{All}
 use Rattle.iv_engine.specs.Answering.{seen}
 use Rattle.iv_engine.specs.Kept.{Kept, frame_of}
 use Rattle.iv_engine.specs.Seen.{Seen, IsBehind}
-use Rattle.iv_engine.specs.Stands.{Stands}
-use Rattle.iv_engine.specs.Views.{command_of, line_of}
+use Rattle.iv_database.specs.Stands.{Stands}
+use Rattle.iv_command.specs.Views.{command_of, line_of}
 use Rattle.iv_engine.proofs.Running.{counted_seen, shown_by}
 use Rattle.iv_engine.proofs.engine.Engine.apply.Goals as goal
 

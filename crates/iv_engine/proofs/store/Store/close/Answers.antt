@@ -9,5 +9,5 @@ pub returns : goal.returns
 returns c =
     let x = c.self.inside in
     let after : c.retain.new.self.items ≡ filter (λ (s : Subscription). not (c.args.number == s.number)) x.subscriptions.items = filter_same _ _ _ (λ s b f' k. search rules) _ _ c.retain.ensures.filtered in
-    (λ i. record { cap = x.cap; known = x.access; catalog = x.catalog; sessions = x.sessions.items; subscriptions = after i; circuits = x.circuits.items; last = x.last; tables = x.tables })
+    (λ i. record { cap = x.database.cap; known = x.database.known; catalog = x.database.catalog; sessions = x.database.sessions; subscriptions = after i; circuits = x.circuits.items; last = x.last; tables = x.database.tables })
     ∙ ap (without_subscription c.args.number) c.self.view_is

@@ -1,51 +1,75 @@
-use Rattle.std.proofs.Common.{◌≡◌, ◌∙◌, ap, not, refl, sym, true}
-use Rattle.iv_access.specs.Asked.{policy_from}
-use Rattle.iv_access.specs.Changing.{insert_policy}
-use Rattle.iv_access.specs.Rights.{Guard}
+use Rattle.std.proofs.Common.{◌≡◌, subst, sym}
+use Rattle.std.specs.Prelude.{Err, Ok}
+use Rattle.iv_access.specs.Rights.{Name}
 use Rattle.iv_machine.specs.Act.{create_policy}
+use Rattle.iv_database.specs.Database.{IsDatabase}
+use Rattle.iv_database.specs.Owned.{IsGuarded}
+use Rattle.iv_command.specs.declared.stop.Stop.{Stop}
 use Rattle.iv_engine.specs.Answering.{IsStep}
 use Rattle.iv_engine.specs.Concerned.{scanning}
-use Rattle.iv_engine.specs.Owned.{asked, has_room}
+use Rattle.iv_engine.specs.Kept.{Kept, database_of, with_database}
 use Rattle.iv_engine.specs.Turned.{AreReadersTold}
-use Rattle.iv_engine.specs.declared.command.Refusal.TheVariants.{TooMany}
-use Rattle.iv_engine.proofs.Guarding.{guard_waiting, guarded, policy_step}
-use Rattle.iv_engine.proofs.Righting.{by_told, told_as, waiting_as, were_read_now}
-use Rattle.iv_engine.proofs.Owning.{is_full}
-use Rattle.iv_engine.proofs.Stepping.{refused_step}
+use Rattle.iv_engine.proofs.Guarding.{policy_guards, guard_refused, guard_steps, guard_waits}
+use Rattle.iv_engine.proofs.Righting.{by_told}
 use Rattle.iv_engine.proofs.store.Store.create_policy.Goals as goal
 
-pub returns-then-has_most_policies : goal.returns-then-has_most_policies
-returns-then-has_most_policies c =
+pub create_policy-requires : goal.create_policy-requires
+create_policy-requires c = subst (λ (v : Kept). IsDatabase (database_of v)) (sym c.self.view_is) c.requires.stored.database
+
+pub tell_of-requires : goal.tell_of-requires
+tell_of-requires c =
     let e = c.args.self.now in
     let n = c.args.session in
-    let p = c.args.policy in
-    refused_step e e n (create_policy p) TooMany c.requires (is_full e n p c.in-Ok.checked.0 c.in-Ok.checked.1 c.in-Ok.ensures (ap not (sym c.has_most_policies.ensures ∙ c.if-has_most_policies.true))) refl
+    let d = c.create_policy.new.self in
+    let s = c.self.inside in
+    let u : Kept = record {
+      cap = s.database.cap;
+      known = s.database.known;
+      catalog = s.database.catalog;
+      sessions = s.database.sessions;
+      subscriptions = s.subscriptions.items;
+      circuits = s.circuits.items;
+      last = s.last;
+      tables = s.database.tables;
+    } in
+    let told = c.in-Ok.ensures.guarded in
+    guard_waits e u d n (create_policy c.args.policy) (c.args.policy.rel) c.self.view_is (policy_guards e n c.args.policy) c.requires c.in-Ok.table told
 
-pub add-requires-clause-room : goal.add-requires-clause-room
-add-requires-clause-room c = ap not (sym c.has_most_policies.ensures ∙ c.if-has_most_policies.false)
-
-pub scanning-requires : goal.scanning-requires
-scanning-requires c = were_read_now c.args.self.now c.requires
-
-pub tell_readers-requires : goal.tell_readers-requires
-tell_readers-requires c =
-    let e = c.args.self.now in
-    let t = c.in-Ok.checked.0.table.0 in
-    let q = policy_from e.known.rights c.asked.result in
-    let change : Guard → Guard = λ g. record g { policies = insert_policy q g.policies } in
-    waiting_as c.add.new.self (guarded t change e) _ (scanning e t) c.in_ok-add.ensures (c.deref.ensures.value ∙ c.in_ok-concerned.ensures) (guard_waiting e t change c.requires)
-
-pub returns : goal.returns
-returns c =
+pub returns-in-Ok : goal.returns-in-Ok
+returns-in-Ok c =
     let e = c.args.self.now in
     let n = c.args.session in
-    let p = c.args.policy in
-    let owned = c.in-Ok.checked.0 in
-    let t = owned.table.0 in
-    let new = c.tell_readers.new.self in
-    let room : has_room e.known.rights t ≡ true = ap not (sym c.has_most_policies.ensures ∙ c.if-has_most_policies.false) in
-    let was : c.add.new.self ≡ guarded t (λ g. record g { policies = insert_policy (policy_from e.known.rights (asked p c.in-Ok.checked.1)) g.policies }) e =
-    c.in_ok-add.ensures ∙ ap (λ a. guarded t (λ g. record g { policies = insert_policy (policy_from e.known.rights a) g.policies }) e) c.asked.ensures in
-    by_told (AreReadersTold c.add.new.self c.deref.result.now) (IsStep e n (create_policy p)) new c.tell_readers.result
-    (λ a told. policy_step e n p owned c.in-Ok.checked.1 c.in-Ok.ensures new a c.requires room
-    (told_as c.add.new.self _ _ (scanning e t) a new was (c.deref.ensures.value ∙ c.in_ok-concerned.ensures) told)) c.tell_readers.ensures
+    let d = c.create_policy.new.self in
+    let s = c.self.inside in
+    let u : Kept = record {
+      cap = s.database.cap;
+      known = s.database.known;
+      catalog = s.database.catalog;
+      sessions = s.database.sessions;
+      subscriptions = s.subscriptions.items;
+      circuits = s.circuits.items;
+      last = s.last;
+      tables = s.database.tables;
+    } in
+    let told = c.in-Ok.ensures.guarded in
+    by_told (AreReadersTold (with_database d u) (scanning (with_database d u) c.in-Ok.table.0)) (IsStep e n (create_policy c.args.policy)) c.tell_of.new.self c.tell_of.result
+    (λ a readers. guard_steps e u d n (create_policy c.args.policy) (c.args.policy.rel) c.self.view_is (policy_guards e n c.args.policy) c.requires c.in-Ok.table told c.tell_of.new.self a readers) c.tell_of.ensures
+
+pub returns-in-Err-Refused : goal.returns-in-Err-Refused
+returns-in-Err-Refused c =
+    let e = c.args.self.now in
+    let n = c.args.session in
+    let d = c.create_policy.new.self in
+    let s = c.self.inside in
+    let u : Kept = record {
+      cap = s.database.cap;
+      known = s.database.known;
+      catalog = s.database.catalog;
+      sessions = s.database.sessions;
+      subscriptions = s.subscriptions.items;
+      circuits = s.circuits.items;
+      last = s.last;
+      tables = s.database.tables;
+    } in
+    let told = subst (λ (s : Stop). IsGuarded (database_of u) n (create_policy c.args.policy) (c.args.policy.rel) (Err s) d) c.in-Err-Refused.field-0-is (c.in-Err-Refused.ensures.guarded) in
+    guard_refused e u d n (create_policy c.args.policy) (c.args.policy.rel) c.self.view_is (policy_guards e n c.args.policy) c.requires c.in-Err-Refused.refusal told

@@ -1,5 +1,5 @@
 use Rattle.std.proofs.Common.{◌∙◌}
-use Rattle.iv_engine.specs.Views.{act_of}
+use Rattle.iv_command.specs.Views.{act_of}
 use Rattle.iv_engine.proofs.Running.{counted_by, said_lines, left_state}
 use Rattle.iv_engine.proofs.store.Store.step.Goals as goal
 

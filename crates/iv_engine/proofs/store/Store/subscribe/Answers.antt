@@ -4,7 +4,7 @@ use Rattle.iv_access.specs.Rights.{Name}
 use Rattle.iv_machine.specs.State.{Subscription}
 use Rattle.iv_engine.specs.Kept.{Kept}
 use Rattle.iv_engine.specs.Openable.{IsCircuitAt, IsOpenable}
-use Rattle.iv_engine.specs.declared.command.Reply.TheVariants.{Subscribed}
+use Rattle.iv_command.specs.declared.command.Reply.TheVariants.{Subscribed}
 use Rattle.iv_engine.proofs.Opening.{asked, beyond_step, opened_step}
 use Rattle.iv_engine.proofs.store.Store.subscribe.Goals as goal
 

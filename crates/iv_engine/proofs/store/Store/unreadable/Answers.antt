@@ -1,6 +1,6 @@
 use Rattle.std.proofs.Common.{◌≡◌, ◌∙◌, ◌<◌, List, ap, get_or, length, not, subst}
 use Rattle.iv_engine.specs.Kept.{role_reads}
-use Rattle.iv_engine.specs.Openable.{select_from}
+use Rattle.iv_database.specs.Database.{select_from}
 use Rattle.iv_engine.proofs.Flagging.{missing_flag}
 use Rattle.iv_engine.proofs.Pairing.{map_more}
 use Rattle.iv_machine.specs.State.{missing_for}

@@ -1,0 +1,4 @@
+pub mod Views
+pub mod Entries
+pub mod Stops
+pub mod Answers

@@ -1,0 +1,16 @@
+//! Commands and lines: what a session asks, the shape that it has, and what it is answered.
+#![tactic(auto)]
+
+mod answer;
+mod command;
+mod stop;
+mod well;
+
+pub use answer::{Answer, lines_of};
+pub use command::{Act, Command, Entry, Line, Op, PolicyText, Reason, Refusal, Reply, SharedRows};
+pub use iv_access::{Check, PolicyCommand, Privilege};
+pub use iv_bind::BindWhy;
+pub use iv_machine::Cause;
+pub use iv_query::Why;
+pub use stop::Stop;
+pub use well::{LAST_NUMBER, has_texts};

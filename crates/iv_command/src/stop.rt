@@ -1,0 +1,72 @@
+//! Why a request is not done.
+ghost use Rattle.std.specs.Prelude.{◌≡◌};
+
+use crate::command::{Reason, Refusal};
+use iv_bind::BindFault;
+use iv_query::QueryFault;
+use std::alloc::AllocError;
+
+/// Why a request is not done.
+#[derive(Drop)]
+pub enum Stop {
+    /// The test fails.
+    Refused(Refusal),
+    /// A growth of memory was refused.
+    Memory,
+}
+
+impl From<AllocError> for Stop {
+    ghost use Rattle.std.specs.Prelude.{◌≡◌};
+    ghost use Rattle.iv_command.specs.declared.stop.Stop.TheVariants.{Memory};
+
+    ghost from_gives = { λ _ stop. stop ≡ Memory };
+
+    fn from(_error: AllocError) -> Stop {
+        Stop::Memory
+    }
+}
+
+impl From<Refusal> for Stop {
+    ghost use Rattle.std.specs.Prelude.{◌≡◌};
+    ghost use Rattle.iv_command.specs.declared.stop.Stop.TheVariants.{Refused};
+
+    ghost from_gives = { λ refusal stop. stop ≡ Refused refusal };
+
+    fn from(refusal: Refusal) -> Stop {
+        Stop::Refused(refusal)
+    }
+}
+
+impl From<QueryFault> for Stop {
+    ghost use Rattle.std.specs.Prelude.{◌≡◌};
+    ghost use Rattle.iv_command.specs.Stops.{read_stop};
+
+    ghost from_gives = { λ fault stop. stop ≡ read_stop fault };
+
+    fn from(fault: QueryFault) -> Stop {
+        match fault {
+            QueryFault::At { place, why } => Stop::Refused(Refusal::BadQuery {
+                place,
+                why: Reason::Reading(why),
+            }),
+            QueryFault::Memory => Stop::Memory,
+        }
+    }
+}
+
+impl From<BindFault> for Stop {
+    ghost use Rattle.std.specs.Prelude.{◌≡◌};
+    ghost use Rattle.iv_command.specs.Stops.{bind_stop};
+
+    ghost from_gives = { λ fault stop. stop ≡ bind_stop fault };
+
+    fn from(fault: BindFault) -> Stop {
+        match fault {
+            BindFault::At { place, why } => Stop::Refused(Refusal::BadQuery {
+                place,
+                why: Reason::Binding(why),
+            }),
+            BindFault::Memory => Stop::Memory,
+        }
+    }
+}

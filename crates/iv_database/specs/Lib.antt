@@ -1,0 +1,12 @@
+pub mod Stands
+pub mod Target
+pub mod Changes
+pub mod Database
+pub mod Codes
+pub mod Next
+pub mod Telling
+pub mod Summed
+pub mod Placed
+pub mod Resolving
+pub mod Owned
+pub mod Defined

@@ -1,7 +1,0 @@
-use Rattle.std.proofs.Common.{take}
-use Rattle.std.specs.List.{AllByRecursion}
-use Rattle.iv_engine.proofs.Fitting.{IsKept}
-use Rattle.iv_engine.proofs.limits.all_fit.Given as goal
-
-abbrev pub invariant-loop-change : goal.invariant-loop-change
-invariant-loop-change l = AllByRecursion (IsKept l.cap l.tables) (take l.change-index l.changes)

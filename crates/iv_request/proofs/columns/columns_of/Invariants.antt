@@ -1,0 +1,8 @@
+use Rattle.std.proofs.Common.{◌≡◌, drop}
+use Rattle.iv_request.specs.Documents.{items_data}
+use Rattle.iv_request.specs.Request.{each, column_of}
+use Rattle.iv_request.proofs.Each.{behind}
+use Rattle.iv_request.proofs.columns.columns_of.Given as goal
+
+abbrev pub invariant-loop-item : goal.invariant-loop-item
+invariant-loop-item l = each column_of (items_data l.items) ≡ behind l.columns.items (each column_of (items_data (drop l.item-index l.items)))

@@ -1,0 +1,130 @@
+//! JSON values whose texts are borrowed from the line.
+//!
+//! What is read has the data that `serde_json` reads of the line: what nests deeper than 127, and a number beyond a
+//! float's range, are no JSON, and of a key that stands twice the last value stays, as one key. Names, texts and
+//! values of rows are copied out once, each into memory of its own.
+ghost use Rattle.std.specs.Prelude.{◌≡◌, ◌==◌, ◌<◌, false, true, length, slice_index, IfOk, IsTrue, is_some, option_map};
+ghost use Rattle.json.specs.Value.{value_view, items_view, members_view};
+ghost use Rattle.serde_json.specs.Read as serde_json;
+ghost use Rattle.serde_json.specs.Read.{float_of, number_from, number_of};
+ghost use Rattle.serde_json.specs.View.{number_view};
+ghost use Rattle.iv_request.specs.Documents.{value_data, fits, items_fit, members_fit};
+
+use fast_float::Numeral;
+use json::{Error, Reader, Scratch, Value};
+use serde_json::Number;
+use std::alloc::{AllocError, Global};
+
+/// How deep arrays and objects may nest.
+const MOST_DEPTH: usize = 127;
+
+/// The nearest float, where it is finite.
+fn float_of(negative: bool, numeral: &Numeral<'_>) -> Option<Number>
+    ensures { option_map number_view result ≡ float_of negative numeral.now }
+{
+    Number::from_f64(numeral.to_float::<f64>(negative))
+}
+
+/// The number without a sign.
+fn unsigned_of(numeral: &Numeral<'_>) -> Option<Number>
+    ensures { option_map number_view result ≡ number_from false numeral.now }
+{
+    match numeral.to_u64() {
+        Some(n) => Number::from_u128(n as u128),
+        None => float_of(false, numeral),
+    }
+}
+
+/// The number with a minus.
+fn negative_of(numeral: &Numeral<'_>) -> Option<Number>
+    ensures { option_map number_view result ≡ number_from true numeral.now }
+{
+    if let Some(n) = numeral.to_i64(true) {
+        if n < 0 {
+            return Number::from_i128(n as i128);
+        }
+    }
+    float_of(true, numeral)
+}
+
+/// Whether the number begins with a minus.
+fn has_minus(bytes: &[u8]) -> bool
+    ensures value { result ≡ (slice_index bytes.now 0 == 45) }
+    ensures some { IsTrue result → 0 < length bytes.now }
+{
+    !bytes.is_empty() && bytes[0] == b'-'
+}
+
+/// The number that a text of JSON's grammar is: a whole one of 64 bits, or the nearest float where that is finite.
+pub fn number_of(text: &str) -> Option<Number>
+    ensures { option_map number_view result ≡ number_of text.now }
+{
+    let bytes = text.as_bytes();
+    if has_minus(bytes) {
+        negative_of(&Numeral::scan(&bytes[1..]))
+    } else {
+        unsigned_of(&Numeral::scan(bytes))
+    }
+}
+
+/// Whether each number in the value has a value.
+#[cycle(fits)]
+fn fits(value: &Value<'_>) -> bool
+    ensures { result ≡ fits (value_view value.now) }
+{
+    match value {
+        Value::Number(text) => number_of(text).is_some(),
+        Value::Array(items) => items_fit(items),
+        Value::Object(members) => members_fit(members),
+        _ => true,
+    }
+}
+
+#[cycle(fits)]
+fn items_fit(items: &Vec<Value<'_>>) -> bool
+    ensures { result ≡ items_fit (items_view items.now.items) }
+{
+    for item in items {
+        if !fits(item) {
+            return false;
+        }
+    }
+    true
+}
+
+#[cycle(fits)]
+fn members_fit(members: &Vec<(&str, Value<'_>)>) -> bool
+    ensures { result ≡ members_fit (members_view members.now.items) }
+{
+    for member in members {
+        if !fits(&member.1) {
+            return false;
+        }
+    }
+    true
+}
+
+/// The JSON value that a text is.
+pub fn read<'a>(
+    alloc: Global,
+    text: &'a str,
+    scratch: &'a mut Scratch,
+) -> Result<Option<Value<'a>>, AllocError>
+    ensures { IfOk result (λ found. option_map value_data found ≡ serde_json.read text.now) }
+{
+    let mut reader = Reader::new(text, scratch)?;
+    match Value::read(alloc, &mut reader, MOST_DEPTH) {
+        Ok(value) => match reader.next() {
+            Some(_) => Ok(None),
+            None => {
+                if fits(&value) {
+                    Ok(Some(value))
+                } else {
+                    Ok(None)
+                }
+            }
+        },
+        Err(Error::OutOfMemory) => Err(AllocError),
+        Err(_) => Ok(None),
+    }
+}

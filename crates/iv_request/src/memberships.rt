@@ -1,0 +1,86 @@
+//! Memberships that are granted and revoked, of a JSON value.
+ghost use Rattle.std.specs.Prelude.{◌≡◌, IfOk, option_map, string_bytes};
+ghost use Rattle.iv_machine.specs.Well.{is_group};
+ghost use Rattle.iv_request.specs.Documents.{value_data};
+ghost use Rattle.iv_command.specs.Views.{act_of};
+ghost use Rattle.iv_request.specs.Request.{group_at, membership_of, grant_role_by, revoke_role_by};
+
+use crate::parts::{has_size, string_at, text_at};
+use iv_command::Act;
+use iv_rows::name_ok;
+use json::Value as Json;
+use std::alloc::{AllocError, Global};
+use std::marker::Model;
+
+/// Whether it is the name of a role that may have members: of any but the superuser.
+fn is_group(name: &str) -> bool
+    ensures { result ≡ is_group name.now }
+{
+    name_ok(name) && name != "admin"
+}
+
+/// The name at a key of a role that may have members, in memory of its own.
+fn group_at(alloc: Global, value: &Json<'_>, key: &str) -> Result<Option<String>, AllocError>
+    ensures { IfOk result (λ found. option_map string_bytes found ≡ group_at key.now (value_data value.now)) }
+{
+    match text_at(value, key) {
+        None => Ok(None),
+        Some(name) => {
+            if is_group(name) {
+                Ok(Some(String::from_str(alloc, name)?))
+            } else {
+                Ok(None)
+            }
+        }
+    }
+}
+
+/// What a grant and a revoke of a role name.
+#[derive(Drop)]
+pub struct Membership {
+    role: String,
+    member: String,
+}
+
+impl Model for Membership {
+    ghost use Rattle.std.specs.Prelude.{string_bytes};
+    ghost use Rattle.iv_request.specs.Request.{Membership};
+
+    ghost Value = { Membership };
+
+    ghost view = { λ m. record { role = string_bytes m.role; to = string_bytes m.member } };
+}
+
+impl Membership {
+    /// The request to give it.
+    pub fn grant(self) -> Act
+        ensures { act_of result ≡ grant_role_by self }
+    {
+        let Membership { role, member } = self;
+        Act::GrantRole { role, to: member }
+    }
+
+    /// The request to take it.
+    pub fn revoke(self) -> Act
+        ensures { act_of result ≡ revoke_role_by self }
+    {
+        let Membership { role, member } = self;
+        Act::RevokeRole { role, to: member }
+    }
+}
+
+/// What the request names, where it has these keys alone.
+pub fn membership_of(alloc: Global, value: &Json<'_>) -> Result<Option<Membership>, AllocError>
+    ensures { IfOk result (λ found. found ≡ membership_of (value_data value.now)) }
+{
+    if !has_size(value, 4) {
+        return Ok(None);
+    }
+    let Some(role) = group_at(alloc, value, "role")? else {
+        return Ok(None);
+    };
+    match string_at(alloc, value, "to")? {
+        None => Ok(None),
+        Some(member) => Ok(Some(Membership { role, member })),
+    }
+}

@@ -1,0 +1,200 @@
+//! Parts of a JSON value.
+//!
+//! "No further keys" is the number of keys, with each key there: an object has no key twice once it is read. Where
+//! some keys need not be there, it is the number of those that must be, and of those of the others that are.
+ghost use Rattle.std.specs.Prelude.{◌≡◌, ◌==◌, ◌≤◌, IfOk, bytes_eq, false, length, map, option_map, option_and_then, string_bytes};
+ghost use Rattle.std.specs.List.{list_any};
+ghost use Rattle.json.specs.Value.{members_view};
+ghost use Rattle.serde_json.specs.Data.{no_members};
+ghost use Rattle.serde_json.specs.Events.{members_len};
+ghost use Rattle.serde_json.specs.Find.{get, at, as_array, as_bool, as_number, as_str, as_i64, as_u64};
+ghost use Rattle.iv_request.specs.Documents.{value_data, items_data, members_of};
+ghost use Rattle.iv_request.specs.Request.{size, count, text_at, name_at, bool_at, positive_of, has, present};
+
+use crate::documents::number_of;
+use iv_rows::name_ok;
+use json::Value as Json;
+use std::alloc::{AllocError, Global};
+
+/// The greatest number that is read: a signed one of 64 bits.
+const MOST: u64 = 9_223_372_036_854_775_807;
+
+/// As many keys as a request may have: those of a policy.
+const MOST_KEYS: usize = 9;
+
+/// Whether a key is one of these.
+fn stands(keys: &[&str], key: &str) -> bool
+    ensures { result ≡ list_any (λ k. bytes_eq k.now key.now) keys.now }
+{
+    keys.iter().any(|k| *k == key)
+}
+
+/// Whether there are so many keys, where a key that stands twice is one.
+fn has_keys(members: &Vec<(&str, Json<'_>)>, size: usize) -> bool
+    requires { size ≤ 9 }
+    ensures { result ≡ (members_len (members_of (members_view members.now.items) no_members) == size) }
+{
+    let mut keys = [""; MOST_KEYS];
+    let mut count = 0;
+    for member in members {
+        if !stands(&keys[..count], member.0) {
+            if count == size {
+                return false;
+            }
+            keys[count] = member.0;
+            count += 1;
+        }
+    }
+    count == size
+}
+
+/// Whether the value has so many keys, 0 where it is no object.
+pub fn has_size(value: &Json<'_>, keys: usize) -> bool
+    requires { keys ≤ 9 }
+    ensures { result ≡ (size (value_data value.now) == keys) }
+{
+    match value {
+        Json::Object(members) => has_keys(members, keys),
+        _ => keys == 0,
+    }
+}
+
+/// How many items a list has, and 0 where it is none.
+pub fn count(value: &Json<'_>) -> usize
+    ensures { result ≡ count (value_data value.now) }
+{
+    match value {
+        Json::Array(items) => items.len(),
+        _ => 0,
+    }
+}
+
+/// The value at a key.
+pub fn get<'v, 'a>(value: &'v Json<'a>, key: &str) -> Option<&'v Json<'a>>
+    ensures { option_map (λ v. value_data v.now) result ≡ get key.now (value_data value.now) }
+{
+    value.get(key)
+}
+
+/// The item at a place of a list.
+pub fn item_at<'v, 'a>(value: &'v Json<'a>, place: usize) -> Option<&'v Json<'a>>
+    ensures { option_map (λ v. value_data v.now) result ≡ at place (value_data value.now) }
+{
+    value.at(place)
+}
+
+/// The text that a value is.
+pub fn text_of<'a>(value: &Json<'a>) -> Option<&'a str>
+    ensures { option_map (λ s. s.now) result ≡ as_str (value_data value.now) }
+{
+    value.as_str()
+}
+
+/// The truth value that a value is.
+pub fn bool_of(value: &Json<'_>) -> Option<bool>
+    ensures { result ≡ as_bool (value_data value.now) }
+{
+    value.as_bool()
+}
+
+/// The items of the list that a value is.
+pub fn items_of<'v, 'a>(value: &'v Json<'a>) -> Option<&'v Vec<Json<'a>>>
+    ensures { option_map (λ v. items_data v.now.items) result ≡ as_array (value_data value.now) }
+{
+    match value {
+        Json::Array(items) => Some(items),
+        _ => None,
+    }
+}
+
+/// The whole number from 0 on that a value is.
+pub fn u64_of(value: &Json<'_>) -> Option<u64>
+    ensures { result ≡ option_and_then as_u64 (as_number (value_data value.now)) }
+{
+    match value {
+        Json::Number(text) => number_of(text)?.as_u64(),
+        _ => None,
+    }
+}
+
+/// The whole number that a value is.
+pub fn i64_of(value: &Json<'_>) -> Option<i64>
+    ensures { result ≡ option_and_then as_i64 (as_number (value_data value.now)) }
+{
+    match value {
+        Json::Number(text) => number_of(text)?.as_i64(),
+        _ => None,
+    }
+}
+
+/// The text at a key.
+pub fn text_at<'a>(value: &Json<'a>, key: &str) -> Option<&'a str>
+    ensures { option_map (λ s. s.now) result ≡ text_at key.now (value_data value.now) }
+{
+    text_of(get(value, key)?)
+}
+
+/// The name at a key.
+pub fn name_at<'a>(value: &Json<'a>, key: &str) -> Option<&'a str>
+    ensures { option_map (λ s. s.now) result ≡ name_at key.now (value_data value.now) }
+{
+    match text_at(value, key) {
+        None => None,
+        Some(text) => { if name_ok(text) { Some(text) } else { None } }
+    }
+}
+
+/// The items of the list at a key.
+pub fn items_at<'v, 'a>(value: &'v Json<'a>, key: &str) -> Option<&'v Vec<Json<'a>>>
+    ensures { option_map (λ v. items_data v.now.items) result ≡ option_and_then as_array (get key.now (value_data value.now)) }
+{
+    items_of(get(value, key)?)
+}
+
+/// The name at a key, in memory of its own.
+pub fn string_at(alloc: Global, value: &Json<'_>, key: &str) -> Result<Option<String>, AllocError>
+    ensures { IfOk result (λ found. option_map string_bytes found ≡ name_at key.now (value_data value.now)) }
+{
+    match name_at(value, key) {
+        None => Ok(None),
+        Some(name) => Ok(Some(String::from_str(alloc, name)?)),
+    }
+}
+
+/// The truth value at a key.
+pub fn bool_at(value: &Json<'_>, key: &str) -> Option<bool>
+    ensures { result ≡ bool_at key.now (value_data value.now) }
+{
+    bool_of(get(value, key)?)
+}
+
+/// The number from 1 on that a JSON value is.
+pub fn positive_of(value: &Json<'_>) -> Option<u64>
+    ensures { result ≡ positive_of (value_data value.now) }
+{
+    match u64_of(value) {
+        None => None,
+        Some(number) => {
+            if 1 <= number && number <= MOST {
+                Some(number)
+            } else {
+                None
+            }
+        }
+    }
+}
+
+/// Whether the key is there.
+pub fn has(value: &Json<'_>, key: &str) -> bool
+    ensures { result ≡ has key.now (value_data value.now) }
+{
+    get(value, key).is_some()
+}
+
+/// How many of the keys are there.
+pub fn present(value: &Json<'_>, keys: &[&str]) -> usize
+    ensures present { result ≡ present (map (λ key. key.now) keys.now) (value_data value.now) }
+    ensures within { result ≤ length keys.now }
+{
+    keys.iter().filter(|key| has(value, key)).count()
+}

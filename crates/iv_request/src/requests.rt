@@ -1,0 +1,294 @@
+//! A line as a command: the shape rules.
+ghost use Rattle.std.specs.Prelude.{◌≡◌, IfOk, IsErrOf, bytes_eq, codes, false, option_map, true};
+ghost use Rattle.iv_machine.specs.Well.{is_well_command};
+ghost use Rattle.iv_command.specs.Views.{act_of, command_of};
+ghost use Rattle.iv_request.specs.Request.{session_of, begin_of, finish_of, create_role_of, create_table_of, create_view_of, write_of, subscribe_of, unsubscribe_of, rights_for, act_for, asked_act, request};
+ghost use Rattle.iv_request.specs.Documents.{value_data};
+ghost use Rattle.iv_request.specs.Reading.{bad_json, bad_request, asked, reading_of, value_of};
+
+use crate::columns::columns_at;
+use crate::documents::read;
+use crate::entries::entries_at;
+use crate::grants::{Granting, granting_of};
+use crate::memberships::{Membership, membership_of};
+use crate::parts::{get, has_size, positive_of, string_at, text_at, u64_of};
+use crate::policies::{create_policy_of, drop_policy_of, row_security_of};
+use iv_command::{Act, Command};
+use json::{Scratch, Value as Json};
+use std::alloc::{AllocError, Global};
+
+/// Why a line is no command.
+#[derive(Clone, Copy, Debug, PartialEq, Eq)]
+pub enum WireFault {
+    /// The line is no JSON value.
+    BadJson,
+    /// The JSON value is no request.
+    BadRequest,
+    /// A growth of memory was refused.
+    Memory,
+}
+
+impl From<AllocError> for WireFault {
+    ghost use Rattle.iv_request.specs.declared.requests.WireFault.TheVariants.{Memory};
+
+    ghost from_gives = { λ _ fault. fault ≡ Memory };
+
+    fn from(_error: AllocError) -> WireFault {
+        WireFault::Memory
+    }
+}
+
+/// The session's number.
+fn session_of(value: &Json<'_>) -> Option<u32>
+    ensures { result ≡ session_of (value_data value.now) }
+{
+    match get(value, "session").and_then(u64_of) {
+        None => None,
+        Some(n) => {
+            if 1 <= n && n < 4294967296 {
+                Some(n as u32)
+            } else {
+                None
+            }
+        }
+    }
+}
+
+fn begin_of(alloc: Global, value: &Json<'_>) -> Result<Option<Act>, AllocError>
+    ensures { IfOk result (λ act. option_map act_of act ≡ begin_of (value_data value.now)) }
+{
+    if !has_size(value, 3) {
+        return Ok(None);
+    }
+    match string_at(alloc, value, "role")? {
+        None => Ok(None),
+        Some(role) => Ok(Some(Act::Begin { role })),
+    }
+}
+
+fn finish_of(value: &Json<'_>) -> Option<Act>
+    ensures { option_map act_of result ≡ finish_of (value_data value.now) }
+{
+    if has_size(value, 2) {
+        Some(Act::Finish)
+    } else {
+        None
+    }
+}
+
+fn create_role_of(alloc: Global, value: &Json<'_>) -> Result<Option<Act>, AllocError>
+    ensures { IfOk result (λ act. option_map act_of act ≡ create_role_of (value_data value.now)) }
+{
+    if !has_size(value, 3) {
+        return Ok(None);
+    }
+    match string_at(alloc, value, "name")? {
+        None => Ok(None),
+        Some(name) => Ok(Some(Act::CreateRole { name })),
+    }
+}
+
+fn create_table_of(alloc: Global, value: &Json<'_>) -> Result<Option<Act>, AllocError>
+    ensures { IfOk result (λ act. option_map act_of act ≡ create_table_of (value_data value.now)) }
+{
+    if !has_size(value, 5) {
+        return Ok(None);
+    }
+    match string_at(alloc, value, "name")? {
+        None => Ok(None),
+        Some(name) => match string_at(alloc, value, "owner")? {
+            None => Ok(None),
+            Some(owner) => match columns_at(alloc, value)? {
+                None => Ok(None),
+                Some(columns) => Ok(Some(Act::CreateTable {
+                    name,
+                    owner,
+                    columns,
+                })),
+            },
+        },
+    }
+}
+
+fn create_view_of(alloc: Global, value: &Json<'_>) -> Result<Option<Act>, AllocError>
+    ensures { IfOk result (λ act. option_map act_of act ≡ create_view_of (value_data value.now)) }
+{
+    if !has_size(value, 5) {
+        return Ok(None);
+    }
+    let Some(name) = string_at(alloc, value, "name")? else {
+        return Ok(None);
+    };
+    let Some(owner) = string_at(alloc, value, "owner")? else {
+        return Ok(None);
+    };
+    match text_at(value, "query") {
+        None => Ok(None),
+        Some(query) => Ok(Some(Act::CreateView {
+            name,
+            owner,
+            query: String::from_str(alloc, query)?,
+        })),
+    }
+}
+
+fn write_of(alloc: Global, value: &Json<'_>) -> Result<Option<Act>, AllocError>
+    ensures { IfOk result (λ act. option_map act_of act ≡ write_of (value_data value.now)) }
+{
+    if !has_size(value, 3) {
+        return Ok(None);
+    }
+    match entries_at(alloc, value)? {
+        None => Ok(None),
+        Some(entries) => Ok(Some(Act::Write { entries })),
+    }
+}
+
+fn subscribe_of(alloc: Global, value: &Json<'_>) -> Result<Option<Act>, AllocError>
+    ensures { IfOk result (λ act. option_map act_of act ≡ subscribe_of (value_data value.now)) }
+{
+    if !has_size(value, 3) {
+        return Ok(None);
+    }
+    match string_at(alloc, value, "on")? {
+        None => Ok(None),
+        Some(rel) => Ok(Some(Act::Subscribe { rel })),
+    }
+}
+
+fn unsubscribe_of(value: &Json<'_>) -> Option<Act>
+    ensures { option_map act_of result ≡ unsubscribe_of (value_data value.now) }
+{
+    if !has_size(value, 3) {
+        return None;
+    }
+    match get(value, "sub").and_then(positive_of) {
+        None => None,
+        Some(sub) => Some(Act::Unsubscribe { sub }),
+    }
+}
+
+/// What a word for privileges, memberships and policies asks.
+fn rights_for(alloc: Global, word: &str, value: &Json<'_>) -> Result<Option<Act>, AllocError>
+    ensures { IfOk result (λ act. option_map act_of act ≡ rights_for word.now (value_data value.now)) }
+{
+    if word == "grant" {
+        Ok(granting_of(alloc, value)?.map(Granting::grant))
+    } else if word == "revoke" {
+        Ok(granting_of(alloc, value)?.map(Granting::revoke))
+    } else if word == "grant_role" {
+        Ok(membership_of(alloc, value)?.map(Membership::grant))
+    } else if word == "revoke_role" {
+        Ok(membership_of(alloc, value)?.map(Membership::revoke))
+    } else if word == "row_security" {
+        row_security_of(alloc, value)
+    } else if word == "create_policy" {
+        create_policy_of(alloc, value)
+    } else if word == "drop_policy" {
+        drop_policy_of(alloc, value)
+    } else {
+        Ok(None)
+    }
+}
+
+/// What a word other than `write` asks.
+fn act_for(alloc: Global, word: &str, value: &Json<'_>) -> Result<Option<Act>, AllocError>
+    requires { bytes_eq word.now (codes "write") ≡ false }
+    ensures { IfOk result (λ act. option_map act_of act ≡ act_for word.now (value_data value.now)) }
+{
+    if word == "begin" {
+        begin_of(alloc, value)
+    } else if word == "finish" {
+        Ok(finish_of(value))
+    } else if word == "create_role" {
+        create_role_of(alloc, value)
+    } else if word == "create_table" {
+        create_table_of(alloc, value)
+    } else if word == "create_view" {
+        create_view_of(alloc, value)
+    } else if word == "subscribe" {
+        subscribe_of(alloc, value)
+    } else if word == "unsubscribe" {
+        Ok(unsubscribe_of(value))
+    } else {
+        rights_for(alloc, word, value)
+    }
+}
+
+/// What a request asks.
+fn asked_act(alloc: Global, value: &Json<'_>) -> Result<Option<Act>, AllocError>
+    ensures { IfOk result (λ act. option_map act_of act ≡ asked_act (value_data value.now)) }
+{
+    match text_at(value, "do") {
+        None => Ok(None),
+        Some(word) => {
+            if word == "write" {
+                write_of(alloc, value)
+            } else {
+                act_for(alloc, word, value)
+            }
+        }
+    }
+}
+
+/// The command that a value is.
+fn request_of(alloc: Global, value: &Json<'_>) -> Result<Option<Command>, AllocError>
+    ensures { IfOk result (λ found. option_map command_of found ≡ request (value_data value.now)) }
+{
+    match session_of(value) {
+        None => Ok(None),
+        Some(session) => match asked_act(alloc, value)? {
+            None => Ok(None),
+            Some(act) => Ok(Some(Command { session, act })),
+        },
+    }
+}
+
+/// The JSON value that a line is, its texts borrowed. A line that is no UTF-8 is none.
+fn read_value<'a>(
+    alloc: Global,
+    line: &'a [u8],
+    scratch: &'a mut Scratch,
+) -> Result<Option<Json<'a>>, AllocError>
+    ensures { IfOk result (λ found. option_map value_data found ≡ value_of line.now) }
+{
+    match str::from_utf8(line) {
+        Err(_) => Ok(None),
+        Ok(text) => read(alloc, text, scratch),
+    }
+}
+
+/// The command that a line asks for, read by means of room that is kept from line to line.
+///
+/// # Errors
+/// As those of `read_line`.
+pub fn command_in(alloc: Global, line: &[u8], scratch: &mut Scratch) -> Result<Command, WireFault>
+    ensures command { IfOk result (λ command. reading_of line.now ≡ asked (command_of command)) }
+    ensures well { IfOk result (λ command. is_well_command (command_of command) ≡ true) }
+    ensures bad_json { IsErrOf result WireFault.BadJson → reading_of line.now ≡ bad_json }
+    ensures bad_request { IsErrOf result WireFault.BadRequest → reading_of line.now ≡ bad_request }
+{
+    match read_value(alloc, line, scratch)? {
+        None => Err(WireFault::BadJson),
+        Some(value) => match request_of(alloc, &value)? {
+            None => Err(WireFault::BadRequest),
+            Some(command) => Ok(command),
+        },
+    }
+}
+
+/// The command that a line asks for, without its newline.
+///
+/// # Errors
+/// `BadJson` where the line is no JSON value; `BadRequest` where the value is no request; `Memory` where a growth of
+/// memory was refused, which may come in place of the others.
+///
+/// Source: RFC 8259; docs/PROTOCOL.md, Requests.
+pub fn read_line(alloc: Global, line: &[u8]) -> Result<Command, WireFault>
+    ensures command { IfOk result (λ command. reading_of line.now ≡ asked (command_of command)) }
+    ensures well { IfOk result (λ command. is_well_command (command_of command) ≡ true) }
+    ensures bad_json { IsErrOf result WireFault.BadJson → reading_of line.now ≡ bad_json }
+    ensures bad_request { IsErrOf result WireFault.BadRequest → reading_of line.now ≡ bad_request }
+{
+    command_in(alloc, line, &mut Scratch::new(alloc))
+}

@@ -1,9 +1,0 @@
-use Rattle.std.proofs.Common.{◌≡◌, drop}
-use Rattle.iv_rows.specs.View as iv_rows
-use Rattle.iv_wire.specs.Documents.{items_data}
-use Rattle.iv_wire.specs.Request.{each, cell_of}
-use Rattle.iv_wire.proofs.Each.{behind}
-use Rattle.iv_wire.proofs.entries.cells_of.Given as goal
-
-abbrev pub invariant-loop-item : goal.invariant-loop-item
-invariant-loop-item l = each cell_of (items_data l.items) ≡ behind (iv_rows.cells_of l.values.items) (each cell_of (items_data (drop l.item-index l.items)))

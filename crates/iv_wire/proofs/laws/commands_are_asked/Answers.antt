@@ -1,5 +1,0 @@
-use Rattle.iv_wire.proofs.Asking.{command_asked}
-use Rattle.iv_wire.proofs.laws.commands_are_asked.Goals as goal
-
-pub returns : goal.returns
-returns c = command_asked

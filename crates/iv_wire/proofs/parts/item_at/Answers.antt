@@ -1,6 +1,0 @@
-use Rattle.json.specs.Value.{value_view}
-use Rattle.iv_wire.proofs.Looking.{item_found}
-use Rattle.iv_wire.proofs.parts.item_at.Goals as goal
-
-pub returns : goal.returns
-returns c = item_found _ c.args.place (value_view c.args.value.now) c.at.ensures
