@@ -1,32 +1,43 @@
 //! What a request is answered, before it becomes lines.
 ghost use Rattle.std.specs.Prelude.{◌≡◌, ◌∷◌, [], IfOk, map};
-ghost use Rattle.iv_command.specs.Answers.{said};
+ghost use Rattle.iv_command.specs.Answers.{AreLinesOfAnswer};
 ghost use Rattle.iv_command.specs.Views.{line_of};
 
-use crate::command::{Line, Refusal, Reply};
+use crate::command::{Line, Reply};
+use crate::stop::Stop;
 use std::alloc::{AllocError, Global};
 
-/// The refusal, or the reply and the lines of changes.
+/// The reply to an accepted request, and the lines of changes.
 #[derive(Drop)]
-pub enum Answer {
-    Refused(Refusal),
-    Accepted { reply: Reply, changes: Vec<Line> },
+pub struct Answer {
+    /// The reply, which is no refusal.
+    pub reply: Reply,
+    /// What readers are sent.
+    pub changes: Vec<Line>,
 }
 
-/// The lines of an answer: the reply, then the changes.
-pub fn lines_of(alloc: Global, session: u32, answer: Answer) -> Result<Vec<Line>, AllocError>
-    ensures { IfOk result (λ lines. map line_of lines.items ≡ said session answer) }
+/// The lines of an answer, the reply and then the changes; or the one line of a refusal.
+///
+/// # Errors
+/// `AllocError` where a growth of memory was refused, before or now.
+pub fn lines_of(
+    alloc: Global,
+    session: u32,
+    answer: Result<Answer, Stop>,
+) -> Result<Vec<Line>, AllocError>
+    ensures { IfOk result (λ lines. AreLinesOfAnswer session answer (map line_of lines.items)) }
 {
     match answer {
-        Answer::Refused(refusal) => {
-            let reply = Reply::Refused(refusal);
-            one_line(alloc, Line::Reply { session, reply })
-        }
-        Answer::Accepted { reply, mut changes } => {
+        Ok(Answer { reply, mut changes }) => {
             let mut lines = one_line(alloc, Line::Reply { session, reply })?;
             lines.append(&mut changes)?;
             Ok(lines)
         }
+        Err(Stop::Refused(refusal)) => {
+            let reply = Reply::Refused(refusal);
+            one_line(alloc, Line::Reply { session, reply })
+        }
+        Err(Stop::Memory) => Err(AllocError),
     }
 }
 

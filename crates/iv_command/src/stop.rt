@@ -4,7 +4,7 @@ ghost use Rattle.std.specs.Prelude.{◌≡◌};
 use crate::command::{Reason, Refusal};
 use iv_bind::BindFault;
 use iv_query::QueryFault;
-use std::alloc::AllocError;
+use std::alloc::{AllocError, AllocFailed};
 
 /// Why a request is not done.
 #[derive(Drop)]
@@ -26,14 +26,14 @@ impl From<AllocError> for Stop {
     }
 }
 
-impl From<Refusal> for Stop {
+impl<T: Drop> From<AllocFailed<T>> for Stop {
     ghost use Rattle.std.specs.Prelude.{◌≡◌};
-    ghost use Rattle.iv_command.specs.declared.stop.Stop.TheVariants.{Refused};
+    ghost use Rattle.iv_command.specs.declared.stop.Stop.TheVariants.{Memory};
 
-    ghost from_gives = { λ refusal stop. stop ≡ Refused refusal };
+    ghost from_gives = { λ _ stop. stop ≡ Memory };
 
-    fn from(refusal: Refusal) -> Stop {
-        Stop::Refused(refusal)
+    fn from(_failed: AllocFailed<T>) -> Stop {
+        Stop::Memory
     }
 }
 

@@ -1,7 +1,8 @@
 -- The tests of a write that look at no row of a table.
-use Rattle.std.proofs.Common.{◌≡◌, ℕ, zero, suc, ◌<◌, Bool, true, false, cond, not, ◌&&◌, List, [], ◌∷◌, length, map, get_or, Option, None, Some, refl, sym, ap, ◌∙◌, arith}
-use Rattle.std.specs.Prelude.{is_some, option_map, slice_get, unwrap_or}
+use Rattle.std.proofs.Common.{◌≡◌, ℕ, zero, suc, ◌<◌, Bool, true, false, cond, not, ◌&&◌, List, [], ◌∷◌, length, map, get_or, Option, None, Some, refl, sym, ap, subst, ◌∙◌, arith}
+use Rattle.std.specs.Prelude.{Result, Err, is_some, option_map, slice_get, unwrap_or}
 use Rattle.std.specs.List.{list_all}
+use Rattle.iv_rows.specs.Cell.{Cell}
 use Rattle.iv_rows.specs.Columns.{Column, accepts, kinds_of}
 use Rattle.iv_bind.specs.Catalogs.{named}
 use Rattle.iv_access.specs.Privileges.{first_missing, has}
@@ -9,9 +10,15 @@ use Rattle.iv_access.specs.Rights.{Name}
 use Rattle.iv_access.specs.declared.privilege.Privilege.{Privilege}
 use Rattle.iv_machine.specs.Act as machine
 use Rattle.iv_machine.specs.Act.{Entry, Op, write}
-use Rattle.iv_machine.specs.Refusing.{each_entry, entry_policies, entry_privileges, entry_shape, frame_refusal, missing, or_else, rows_in, test}
+use Rattle.iv_machine.specs.Refusing.{checks_for, each_entry, entry_check, entry_policies, entry_privileges, entry_shape, first, frame_refusal, missing, or_else, rows_in, test}
 use Rattle.iv_machine.specs.State.{Frame, name_of, session_of, table_columns}
 use Rattle.iv_database.specs.Database.{Database, frame_of}
+use Rattle.iv_database.specs.Placed.{Placed, entry_of}
+use Rattle.iv_database.specs.Resolving.{AreChecked, AreEntries}
+use Rattle.iv_command.specs.Stops.{IsTested}
+use Rattle.iv_command.specs.Views.{refusal_of}
+use Rattle.iv_command.specs.declared.stop.Stop.{Stop}
+use Rattle.iv_command.specs.declared.stop.Stop.TheVariants.{Refused, Memory}
 use Rattle.iv_database.proofs.Telling.{acts}
 
 -- ---- the shape of an entry
@@ -42,17 +49,33 @@ missing_is f role k name (p ∷ ps) h = by (has f.rights role p k) (missing_is f
     by true ih = ih
     by false ih = ap (λ x. Some (machine.missing_privilege p x)) h
 
+-- ---- tests one after another
+
+-- the first fails
+pub first_stops : (o rest : Option machine.Refusal) (stop : Stop) → IsTested o (Err stop) → IsTested (or_else o rest) (Err stop)
+first_stops o rest (Refused r) h = ap (λ x. or_else x rest) h
+first_stops o rest Memory h = tt
+
+-- the tests of an update
+pub update_tested : (f : Frame) (role n : ℕ) (p : Placed) (old new : List Cell) (x : Result Unit Stop) → p.op ≡ machine.update old new
+    → IsTested (first (map (entry_check f role n p.name) (checks_for (machine.update old new)))) x → IsTested (entry_policies f role n (entry_of p)) x
+update_tested f role n p old new x is h = subst (λ (o : Op). IsTested (first (map (entry_check f role n p.name) (checks_for o))) x) (sym is) h
+
 -- ---- the tests in their order
 
 module _ (e : Database) (a : ℕ) (n : ℕ) (es : List Entry) (acting : Some a ≡ option_map (λ s. s.role) (session_of e.sessions n)) where
   in_order : frame_refusal (frame_of e) n (write es) ≡ or_else (each_entry (entry_shape (frame_of e)) 1 es) (or_else (each_entry (entry_privileges (frame_of e) a) 1 es) (or_else (each_entry (entry_policies (frame_of e) a) 1 es) None))
   in_order = acts e n a (write es) acting
 
-  pub by_shape : (r : machine.Refusal) → each_entry (entry_shape (frame_of e)) 1 es ≡ Some r → frame_refusal (frame_of e) n (write es) ≡ Some r
+  by_shape : (r : machine.Refusal) → each_entry (entry_shape (frame_of e)) 1 es ≡ Some r → frame_refusal (frame_of e) n (write es) ≡ Some r
   by_shape r shape = in_order ∙ ap (λ x. or_else x (or_else (each_entry (entry_privileges (frame_of e) a) 1 es) (or_else (each_entry (entry_policies (frame_of e) a) 1 es) None))) shape
 
+  pub shape_stops : (stop : Stop) → AreEntries (frame_of e) es (Err stop) → AreChecked (frame_of e) n es (Err stop)
+  shape_stops (Refused r) h = by_shape (refusal_of r) h
+  shape_stops Memory h = tt
+
   module _ (shape : each_entry (entry_shape (frame_of e)) 1 es ≡ None) where
-    pub by_privilege : (r : machine.Refusal) → each_entry (entry_privileges (frame_of e) a) 1 es ≡ Some r → frame_refusal (frame_of e) n (write es) ≡ Some r
+    by_privilege : (r : machine.Refusal) → each_entry (entry_privileges (frame_of e) a) 1 es ≡ Some r → frame_refusal (frame_of e) n (write es) ≡ Some r
     by_privilege r lacks = in_order ∙ (λ i. or_else (shape i) (or_else (lacks i) (or_else (each_entry (entry_policies (frame_of e) a) 1 es) None)))
 
     pub by_policy : (o : Option machine.Refusal) → each_entry (entry_privileges (frame_of e) a) 1 es ≡ None → each_entry (entry_policies (frame_of e) a) 1 es ≡ o → frame_refusal (frame_of e) n (write es) ≡ o
@@ -61,6 +84,14 @@ module _ (e : Database) (a : ℕ) (n : ℕ) (es : List Entry) (acting : Some a �
         last : (o : Option machine.Refusal) → or_else o None ≡ o
         last None = refl
         last (Some r) = refl
+
+    pub privilege_stops : (stop : Stop) → IsTested (each_entry (entry_privileges (frame_of e) a) 1 es) (Err stop) → AreChecked (frame_of e) n es (Err stop)
+    privilege_stops (Refused r) h = by_privilege (refusal_of r) h
+    privilege_stops Memory h = tt
+
+    pub policy_stops : each_entry (entry_privileges (frame_of e) a) 1 es ≡ None → (stop : Stop) → IsTested (each_entry (entry_policies (frame_of e) a) 1 es) (Err stop) → AreChecked (frame_of e) n es (Err stop)
+    policy_stops has_all (Refused r) h = by_policy (Some (refusal_of r)) has_all h
+    policy_stops has_all Memory h = tt
 
 -- ---- entries that keep the rules on shape
 

@@ -1,6 +1,6 @@
 -- A new view: its tests in their order, and what is kept with it.
 use Rattle.std.proofs.Common.{◌≡◌, ℕ, ◌+◌, Bool, true, false, cond, not, List, [], ◌∷◌, length, map, Option, None, Some, refl, sym, ap, ◌∙◌, ◌⊎◌, ⊎_elim}
-use Rattle.std.specs.Prelude.{Result, Ok, count_by, is_some, nat_le, option_map}
+use Rattle.std.specs.Prelude.{Result, Ok, Err, count_by, is_some, nat_le, option_map}
 use Rattle.std.specs.Bool.{beq}
 use Rattle.std.proofs.lemmas.List.Sums.{sum_by-cons}
 use Rattle.iv_rows.specs.Columns.{kinds_of}
@@ -18,9 +18,14 @@ use Rattle.iv_machine.specs.Act.{create_view}
 use Rattle.iv_machine.specs.Changing.{view_held, with_held}
 use Rattle.iv_machine.specs.Refusing.{administrator, bad_text, first, frame_refusal, free_relation, full, known_role, or_else, test, views}
 use Rattle.iv_machine.specs.State.{actor, session_of}
-use Rattle.iv_database.specs.Defined.{MayAdd, creator_tests, has_view_room}
+use Rattle.iv_database.specs.Defined.{IsBoundView, IsCreator, IsViewAdded, MayAdd, creator_tests, has_view_room}
 use Rattle.iv_database.specs.Database.{Database, IsDatabase, frame_of, relation_in}
-use Rattle.iv_database.specs.Next.{database_after, with_relation_of}
+use Rattle.iv_database.specs.Next.{IsDone, database_after, with_relation_of}
+use Rattle.iv_command.specs.Views.{refusal_of}
+use Rattle.iv_command.specs.declared.stop.Stop.{Stop}
+use Rattle.iv_command.specs.declared.stop.Stop.TheVariants.{Refused, Memory}
+use Rattle.iv_database.specs.Telling.{IsStopOf, told as told_as}
+use Rattle.iv_database.proofs.Enrolling.{memory_is_none}
 use Rattle.iv_database.proofs.Telling.{closed, named_known, opened}
 
 -- ---- the session and the names
@@ -81,20 +86,6 @@ has_room false false true c h = cc
 has_room false false false true h = cc
 has_room false false false false h = refl
 
--- neither too many, nor want of memory
-abbrev pub is_other : AccessFault → Bool
-is_other fault.Role = true
-is_other fault.Taken = true
-is_other fault.NotAdmin = true
-is_other fault.NotOwner = true
-is_other fault.Policy = true
-is_other fault.Loop = true
-is_other fault.TooMany = false
-is_other fault.Memory = false
-
-true_is_not_false : true ≡ false → ⊥
-true_is_not_false h = cc
-
 -- where the other tests pass, the number of views alone can refuse it
 module _ (e : Database) (h : IsDatabase e) (acting : ℕ) (name owner : Name) (admin : is_admin acting ≡ true) (known : is_some (role_of e.known.rights owner) ≡ true) (free : named e.catalog name ≡ None) where
   not_taken : is_some (relation_of e.known.relations name) ≡ false
@@ -112,18 +103,23 @@ module _ (e : Database) (h : IsDatabase e) (acting : ℕ) (name owner : Name) (a
   pub none_full : add_relation_fault e.known acting name owner false ≡ None → has_view_room e ≡ true
   none_full f = views_full false (has_room (not (is_admin acting)) (not (is_some (role_of e.known.rights owner))) (is_some (relation_of e.known.relations name)) (nat_le 64 (count_like false e.known.relations)) f)
 
-  pub too_many : (x : AccessFault) → x ≡ fault.TooMany → (x ≡ fault.Memory) ⊎ (add_relation_fault e.known acting name owner false ≡ Some x) → false ≡ has_view_room e
-  too_many x is h' = ⊎_elim (λ m. absurd (no_memory x is m)) (λ f. sym (full_alone x f).0) h'
-    where
-      no_memory : (x : AccessFault) → x ≡ fault.TooMany → x ≡ fault.Memory → ⊥
-      no_memory x i m = cc
+  same_refusal : (r : machine.Refusal) → Some machine.too_many ≡ Some r → r ≡ machine.too_many
+  same_refusal r h = let t : machine.too_many ≡ r = cc in sym t
 
-  pub no_other : (x y : AccessFault) → x ≡ y → is_other y ≡ true → (x ≡ fault.Memory) ⊎ (add_relation_fault e.known acting name owner false ≡ Some x) → ⊥
-  no_other x y is other h' = ⊎_elim
-      (λ m. true_is_not_false (sym other ∙ ap is_other (sym is ∙ m)))
-      (λ f. true_is_not_false (sym other ∙ ap is_other (sym is ∙ (full_alone x f).1))) h'
+  -- the fault tells that there are too many views, or is want of memory
+  pub view_stops : (x : AccessFault) (stop : Stop) (a : Answer) (new : Database) → (x ≡ fault.Memory) ⊎ (add_relation_fault e.known acting name owner false ≡ Some x) → IsStopOf x name stop → new ≡ e
+      → IsViewAdded e name owner a (Err stop) new
+  view_stops x (Refused r) a new h' told same = ⊎_elim
+      (λ m. absurd (memory_is_none x name (refusal_of r) m told))
+      (λ f. let full = full_alone x f in (full.0, same_refusal (refusal_of r) (sym (ap (λ y. told_as y name) full.1) ∙ told), same)) h'
+  view_stops x Memory a new h' told same = tt
 
 -- ---- the text, and what is kept
+
+-- the session or the names refuse it
+pub creator_refused : (e : Database) (n : ℕ) (name owner : Name) (query : List ℕ) (stop : Stop) → IsCreator e n name owner (Err stop) → IsDone e n (create_view name owner query) (Err stop) e
+creator_refused e n name owner query (Refused r) h = (h (bad_text (bound_query e.catalog query) ∷ full 64 (views (frame_of e)) ∷ []), refl)
+creator_refused e n name owner query Memory h = tt
 
 module _ (e : Database) (n : ℕ) (name owner : Name) (query : List ℕ) (acting : RoleId) (m : MayAdd e n name owner acting) where
   text_tests : frame_refusal (frame_of e) n (create_view name owner query) ≡ or_else (bad_text (bound_query e.catalog query)) (or_else (full 64 (views (frame_of e))) None)
@@ -152,3 +148,14 @@ module _ (e : Database) (n : ℕ) (name owner : Name) (query : List ℕ) (acting
 
     pub view_kept : database_after e n (create_view name owner query) ≡ with_relation_of name owner (View a) e
     view_kept = ap (λ (b : Result Answer TextFault). record (with_relation_of name owner (View a) e) { catalog = with_held name (view_held b) e.catalog }) bound
+
+    -- the view is added, or there are too many
+    pub view_done : (x : Result Unit Stop) (new : Database) → IsViewAdded e name owner a x new → IsDone e n (create_view name owner query) x new
+    view_done (Ok u) new h = (view_passes h.0, h.1 ∙ sym view_kept)
+    view_done (Err (Refused r)) new h = (view_full h.0 ∙ ap Some (sym h.1), h.2)
+    view_done (Err Memory) new h = tt
+
+  -- the text refuses it
+  pub bound_refused : (stop : Stop) → IsBoundView (bound_query e.catalog query) (Err stop) → IsDone e n (create_view name owner query) (Err stop) e
+  bound_refused (Refused r) h = (text_refused (refusal_of r) h, refl)
+  bound_refused Memory h = tt

@@ -13,9 +13,12 @@ use Rattle.iv_machine.specs.Act.{Act, Refusal, grant_role, revoke_role}
 use Rattle.iv_machine.specs.Refusing.{frame_refusal, or_else, test}
 use Rattle.iv_machine.specs.State.{session_of}
 use Rattle.iv_database.specs.Database.{Database, frame_of, with_rights}
-use Rattle.iv_database.specs.Next.{database_after, next_by}
+use Rattle.iv_database.specs.Next.{IsDone, database_after}
 use Rattle.iv_database.specs.Telling.{IsTold, told}
-use Rattle.iv_database.proofs.Telling.{Agrees, Tells, acts}
+use Rattle.iv_command.specs.Views.{refusal_of}
+use Rattle.iv_command.specs.declared.stop.Stop.{Stop}
+use Rattle.iv_command.specs.declared.stop.Stop.TheVariants.{Refused, Memory}
+use Rattle.iv_database.proofs.Telling.{Tells, acts}
 
 four : (a b c d : Bool) (name : Name) → Tells (first ((a, fault.NotAdmin) ∷ (b, fault.Role) ∷ (c, fault.Role) ∷ (d, fault.Loop) ∷ [])) name
     (or_else (test a machine.not_administrator) (or_else (test b machine.unknown_role) (or_else (test c machine.unknown_role) (or_else (test d machine.membership_loop) None))))
@@ -40,37 +43,41 @@ pub record HasTurned (u : Database) (K : Known) (R : Rights) (f : Option AccessF
   pub err_when : IfErr x (λ y. (y ≡ fault.Memory) ⊎ (f ≡ Some y))
   pub unchanged : OnErr x (K ≡ u.known)
 
-pub agrees_by : (u : Database) (K : Known) (R : Rights) (n : ℕ) (act : Act) (f : Option AccessFault) (name : Name) (o : Option Refusal) (x : Result Unit AccessFault) (r : Option Refusal)
-    → Tells f name o → o ≡ frame_refusal (frame_of u) n act → with_rights R u ≡ database_after u n act → HasTurned u K R f x → IsTold x name r → Agrees u (record u { known = K }) n act r
-agrees_by u K R n act f name o (Ok i) r tells is left h t = let none = tells.none h.ok_when in record {
-  refused = t ∙ sym none ∙ is;
-  state = (λ j. record u { known = record { relations = h.relations j; rights = h.rights j } }) ∙ left ∙ ap (next_by u n act) (sym none ∙ is);
-}
-agrees_by u K R n act f name o (Err y) r tells is left h t = ⊎_elim (λ m. absurd (t.0 m)) (λ s. let z = tells.some y s in record {
-  refused = t.1 ∙ sym z.1.1 ∙ sym z.1.0 ∙ is;
-  state = ap (λ k. record u { known = k }) h.unchanged ∙ ap (next_by u n act) (sym z.1.0 ∙ is);
-}) h.err_when
+-- want of memory is told as no refusal
+pub memory_is_none : (y : AccessFault) (name : Name) (r : Refusal) → y ≡ fault.Memory → told y name ≡ Some r → ⊥
+memory_is_none y name r is t = let e : None ≡ Some r = sym (ap (λ z. told z name) is) ∙ t in cc
 
-module _ (u e : Database) (K : Known) (n a : ℕ) (called role to : Name) (x : Result Unit AccessFault) (r : Option Refusal)
-    (is : u ≡ e) (same : called ≡ role) (acting : Some a ≡ option_map (λ s. s.role) (session_of e.sessions n)) (t : IsTold x role r) where
+pub done_by : (u : Database) (K : Known) (R : Rights) (n : ℕ) (act : Act) (f : Option AccessFault) (name : Name) (o : Option Refusal) (x : Result Unit AccessFault) (y : Result Unit Stop)
+    → Tells f name o → o ≡ frame_refusal (frame_of u) n act → with_rights R u ≡ database_after u n act → HasTurned u K R f x → IsTold x name y → IsDone u n act y (record u { known = K })
+done_by u K R n act f name o (Ok i) (Ok v) tells is left h t =
+    (sym is ∙ tells.none h.ok_when, (λ j. record u { known = record { relations = h.relations j; rights = h.rights j } }) ∙ left)
+done_by u K R n act f name o (Ok i) (Err s) tells is left h t = absurd t
+done_by u K R n act f name o (Err x) (Ok v) tells is left h t = absurd t
+done_by u K R n act f name o (Err x) (Err (Refused r)) tells is left h t = ⊎_elim
+    (λ m. absurd (memory_is_none x name (refusal_of r) m t))
+    (λ s. let z = tells.some x s in (sym is ∙ z.1.0 ∙ z.1.1 ∙ t, ap (λ k. record u { known = k }) h.unchanged)) h.err_when
+done_by u K R n act f name o (Err x) (Err Memory) tells is left h t = tt
+
+module _ (u e : Database) (K : Known) (n a : ℕ) (called role to : Name) (x : Result Unit AccessFault) (y : Result Unit Stop)
+    (is : u ≡ e) (same : called ≡ role) (acting : Some a ≡ option_map (λ s. s.role) (session_of e.sessions n)) (t : IsTold x role y) where
   acts_here : Some a ≡ option_map (λ s. s.role) (session_of u.sessions n)
   acts_here = acting ∙ sym (ap (λ (v : Database). option_map (λ s. s.role) (session_of v.sessions n)) is)
 
-  told_here : IsTold x called r
-  told_here = subst (λ name. IsTold x name r) (sym same) t
+  told_here : IsTold x called y
+  told_here = subst (λ name. IsTold x name y) (sym same) t
 
-  as_named : (act : Name → Act) → Agrees u (record u { known = K }) n (act called) r → Agrees e (record u { known = K }) n (act role) r
-  as_named act g = subst (λ (v : Database). Agrees v (record u { known = K }) n (act role) r) is (subst (λ name. Agrees u (record u { known = K }) n (act name) r) same g)
+  as_named : (act : Name → Act) → IsDone u n (act called) y (record u { known = K }) → IsDone e n (act role) y (record u { known = K })
+  as_named act g = subst (λ (v : Database). IsDone v n (act role) y (record u { known = K })) is (subst (λ name. IsDone u n (act name) y (record u { known = K })) same g)
 
-  pub joined_agrees : HasTurned u K (with_member (role_number u.known.rights called) (role_number u.known.rights to) u.known.rights) (grant_role_fault u.known.rights a called to) x
-      → Agrees e (record u { known = K }) n (grant_role role to) r
-  joined_agrees h = as_named (λ name. grant_role name to) (agrees_by u K _ n (grant_role called to) (grant_role_fault u.known.rights a called to) called _ x r
+  pub joined_done : HasTurned u K (with_member (role_number u.known.rights called) (role_number u.known.rights to) u.known.rights) (grant_role_fault u.known.rights a called to) x
+      → IsDone e n (grant_role role to) y (record u { known = K })
+  joined_done h = as_named (λ name. grant_role name to) (done_by u K _ n (grant_role called to) (grant_role_fault u.known.rights a called to) called _ x y
       (four (not (is_admin a)) (not (is_some (role_of u.known.rights called))) (not (is_some (role_of u.known.rights to))) (acts_as u.known.rights (role_number u.known.rights called) (role_number u.known.rights to)) called)
       (sym (acts u n a (grant_role called to) acts_here)) refl h told_here)
 
-  pub parted_agrees : HasTurned u K (without_member (role_number u.known.rights called) (role_number u.known.rights to) u.known.rights) (revoke_role_fault u.known.rights a called to) x
-      → Agrees e (record u { known = K }) n (revoke_role role to) r
-  parted_agrees h = as_named (λ name. revoke_role name to) (agrees_by u K _ n (revoke_role called to) (revoke_role_fault u.known.rights a called to) called _ x r
+  pub parted_done : HasTurned u K (without_member (role_number u.known.rights called) (role_number u.known.rights to) u.known.rights) (revoke_role_fault u.known.rights a called to) x
+      → IsDone e n (revoke_role role to) y (record u { known = K })
+  parted_done h = as_named (λ name. revoke_role name to) (done_by u K _ n (revoke_role called to) (revoke_role_fault u.known.rights a called to) called _ x y
       (three (not (is_admin a)) (not (is_some (role_of u.known.rights called))) (not (is_some (role_of u.known.rights to))) called)
       (sym (acts u n a (revoke_role called to) acts_here)) refl h told_here)
 

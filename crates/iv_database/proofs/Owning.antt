@@ -14,14 +14,16 @@ use Rattle.iv_machine.specs.Act.{Act, PolicyText, create_policy, drop_policy}
 use Rattle.iv_machine.specs.Changing.{policy_for}
 use Rattle.iv_access.specs.Asked.{policy_from}
 use Rattle.iv_access.specs.Changing.{with_policy}
-use Rattle.iv_database.specs.Next.{database_after}
-use Rattle.iv_machine.specs.Refusing.{bad_policy_text, first, frame_refusal, full, known_grantee, or_else, policy_refusal, test}
+use Rattle.iv_database.specs.Next.{IsDone, database_after}
+use Rattle.iv_machine.specs.Refusing.{bad_policy_text, first, frame_refusal, full, known_grantee, or_else, owner_alone, policy_refusal, table_alone, test}
 use Rattle.iv_machine.specs.State.{Frame, actor, columns_at, rel_of, session_of, table_columns}
 use Rattle.iv_database.specs.Database.{Database, frame_of, with_rights}
 use Rattle.iv_database.specs.Owned.{AreBound, IsChecked, IsGuarded, IsOwned, IsOwner, IsReady, asked, has_room, name_tests, owner_tests, text_tests, with_asked}
+use Rattle.iv_database.specs.Target.{IsActingOn, target_tests}
+use Rattle.iv_command.specs.Stops.{IsTested}
 use Rattle.iv_command.specs.Views.{refusal_of}
 use Rattle.iv_database.specs.declared.policies.Owned.{Owned}
-use Rattle.iv_database.specs.declared.predicates.Predicates.{Predicates}
+use Rattle.iv_database.specs.declared.policies.Predicates.{Predicates}
 use Rattle.iv_command.specs.declared.stop.Stop.{Stop}
 use Rattle.iv_command.specs.declared.stop.Stop.TheVariants.{Refused, Memory}
 use Rattle.iv_database.proofs.Telling.{opened}
@@ -89,8 +91,12 @@ module _ (e : Database) (n : ℕ) (p : PolicyText) (owned : Owned) (o : IsOwner 
       ∙ ap (λ x. or_else (or_else roles (or_else free x)) None) (grouped using check (or_else many None))
       ∙ ap (λ x. or_else x None) (grouped roles free (or_else (text_tests columns p) (or_else many None)))
 
-  pub names_refuse : (x : machine.Refusal) → name_tests r owned.table.0 p ≡ Some x → frame_refusal (frame_of e) n (create_policy p) ≡ Some x
+  names_refuse : (x : machine.Refusal) → name_tests r owned.table.0 p ≡ Some x → frame_refusal (frame_of e) n (create_policy p) ≡ Some x
   names_refuse x h = policy_tests ∙ ap (λ t. or_else (or_else t (or_else (text_tests columns p) (or_else many None))) None) h
+
+  pub names_stop : (stop : Stop) → IsTested (name_tests r owned.table.0 p) (Err stop) → IsChecked e n p (Err stop)
+  names_stop (Refused x) h = names_refuse (refusal_of x) h
+  names_stop Memory h = tt
 
   pub texts_refuse : (x : machine.Refusal) → name_tests r owned.table.0 p ≡ None → text_tests columns p ≡ Some x → frame_refusal (frame_of e) n (create_policy p) ≡ Some x
   texts_refuse x h k = policy_tests ∙ (λ i. or_else (or_else (h i) (or_else (k i) (or_else many None))) None)
@@ -128,6 +134,16 @@ module _ (e : Database) (n : ℕ) (p : PolicyText) (owned : Owned) (preds : Pred
 pub err_is : {A E : Type 0} (r : Result A E) (P : E → Type 0) (Q : Result A E → Type 0) → IsErrAnd r P → ((x : E) → P x → Q (Err x)) → Q r
 err_is (OkResult a) P Q h k = absurd h
 err_is (Err x) P Q h k = k x h
+
+-- the session or the name of the relation refuses it
+pub acting_refused : (d : Database) (n : ℕ) (act : Act) (rel : Name) (stop : Stop) (more : List (Option machine.Refusal)) → frame_refusal (frame_of d) n act ≡ target_tests (frame_of d) n rel more → IsActingOn d n rel (Err stop) → IsDone d n act (Err stop) d
+acting_refused d n act rel (Refused r) more same h = (same ∙ h more, refl)
+acting_refused d n act rel Memory more same h = tt
+
+-- the same of a table that is to be owned
+pub not_owned : (d : Database) (n : ℕ) (rel : Name) (stop : Stop) → IsActingOn d n rel (Err stop) → IsOwned d n rel (Err stop)
+not_owned d n rel (Refused r) h = λ more. h (table_alone (frame_of d) rel ∷ owner_alone (frame_of d) (actor (frame_of d) n) rel ∷ more)
+not_owned d n rel Memory h = tt
 
 -- ---- the requests
 

@@ -1,17 +1,19 @@
 -- Changes of tables, one by one: where they stand, and what lists of them have at a table.
 use Rattle.std.proofs.Common.{◌≡◌, ℕ, zero, suc, ◌+◌, ◌<◌, Bool, true, false, cond, not, List, [], ◌∷◌, ◌++◌, length, get_or, set, None, Some, refl, sym, ap, subst, ◌∙◌, arith}
-use Rattle.std.specs.Prelude.{◌==◌, ◌||◌, is_some, nat_lt, position}
+use Rattle.std.specs.Prelude.{◌==◌, ◌||◌, Err, is_some, nat_lt, position}
 use Rattle.std.specs.List.{AllByRecursion, list_any, position_or_len}
 use Rattle.std.proofs.lemmas.Bool.Decides.{nat_tests}
 use Rattle.iv_rows.specs.Cell.{Cell}
-use Rattle.iv_zset.specs.Weights.{Weighed, weight_of, SameZ}
+use Rattle.iv_zset.specs.Weights.{IsOutOfRange, Weighed, weight_of, SameZ}
 use Rattle.iv_zset.proofs.Places.{empty_zset}
 use Rattle.iv_machine.proofs.Alike.{rows_are}
 use Rattle.iv_machine.proofs.Distinct.{placed_is}
 use Rattle.iv_database.specs.Changes.{Change, change_at}
 use Rattle.iv_algebra.specs.declared.tables.Table.{Table}
-use Rattle.iv_database.specs.Summed.{AreTables, IsFirst, IsNet}
+use Rattle.iv_database.specs.Summed.{AreFinished, AreTables, IsFinished, IsFirst, IsNet}
 use Rattle.iv_database.specs.Stands.{HasTable}
+use Rattle.iv_command.specs.declared.stop.Stop.{Stop}
+use Rattle.iv_command.specs.declared.stop.Stop.TheVariants.{Refused, Memory}
 
 abbrev Line : Type 0
 Line = List Cell
@@ -206,3 +208,9 @@ all_push P (y ∷ xs) x a h = (a.0, all_push P xs x a.1 h)
 pub no_items : {X : Type 0} (xs : List X) → length xs ≡ 0 → xs ≡ []
 no_items [] h = refl
 no_items (x ∷ xs) h = absurd (omega arith)
+
+-- ---- a sum that is no weight
+
+pub finish_stops : (tables : List Table) (sums : List Change) (s : Change) → HasTable tables s.rel → (IsOutOfRange s.rows → IsOutOfRange (change_at sums s.rel)) → (stop : Stop) → IsFinished s (Err stop) → AreFinished tables sums (Err stop)
+finish_stops tables sums s there out (Refused r) h = (h.0, (s.rel, there, out h.1))
+finish_stops tables sums s there out Memory h = tt

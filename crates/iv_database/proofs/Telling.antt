@@ -1,5 +1,5 @@
 -- Which refusal a refused change of rights is, and what an accepted one leaves.
-use Rattle.std.proofs.Common.{◌≡◌, ℕ, ◌<◌, Bool, true, false, not, List, [], ◌∷◌, length, map, Option, None, Some, refl, sym, ap, subst, ◌∙◌, arith, ⊎_elim}
+use Rattle.std.proofs.Common.{◌≡◌, ℕ, ◌<◌, Bool, true, false, not, List, [], ◌∷◌, length, map, Option, None, Some, refl, sym, ap, subst, ◌∙◌, arith}
 use Rattle.std.specs.Prelude.{Result, Ok, Err, IfSome, is_some, nat_le, option_map, unwrap_or, position}
 use Rattle.std.specs.List.{position_from}
 use Rattle.std.proofs.lemmas.Iterator.Adapters.{position_from-zero}
@@ -20,8 +20,10 @@ use Rattle.iv_machine.specs.Refusing.{test, or_else, role_refusal, frame_refusal
 use Rattle.iv_machine.specs.State.{Session, session_of, name_of, table_columns, rel_of, next_rel, is_open, actor}
 use Rattle.std.proofs.lemmas.List.{length-map}
 use Rattle.iv_database.specs.Database.{Database, IsDatabase, frame_of, relation_in}
-use Rattle.iv_database.specs.Next.{next, next_by}
-use Rattle.iv_database.specs.Telling.{told, IsTold, IsAdded}
+use Rattle.iv_database.specs.Next.{IsDone}
+use Rattle.iv_command.specs.declared.stop.Stop.{Stop}
+use Rattle.iv_command.specs.declared.stop.Stop.TheVariants.{Refused, Memory}
+use Rattle.iv_database.specs.Telling.{told, IsAdded}
 use Rattle.iv_database.proofs.Tables.{IsNamed, counted, is_of, none_later, none_named, relation_is}
 
 -- ---- the acting role
@@ -54,13 +56,6 @@ four false true b c name = record { none = λ h. cc; some = λ x h. let e : faul
 four false false true c name = record { none = λ h. cc; some = λ x h. let e : fault.Taken ≡ x = cc in (machine.name_taken, (refl, ap (λ y. told y name) e)) }
 four false false false true name = record { none = λ h. cc; some = λ x h. let e : fault.TooMany ≡ x = cc in (machine.too_many, (refl, ap (λ y. told y name) e)) }
 four false false false false name = record { none = λ h. refl; some = λ x h. cc }
-
--- ---- a change of rights as a request
-
--- what is told of a change and what is kept then are the machine's
-pub record Agrees (e new : Database) (n : ℕ) (act : Act) (r : Option Refusal) : Type 0 where
-  pub refused : r ≡ frame_refusal (frame_of e) n act
-  pub state : new ≡ next e n act
 
 -- ---- a new table
 
@@ -123,22 +118,14 @@ free_name e h a name owner f = unknown e h name (none_is (relation_of e.known.re
 pub free_number : (e : Database) → IsDatabase e → (k : ℕ) → k ≡ length e.known.relations → numbered e.catalog k ≡ None
 free_number e h k l = none_later 0 e.catalog k h.numbered (let m = as_long e h in omega arith)
 
-added_by : (e new : Database) (n a : ℕ) (name owner : Name) (columns : List Column) (f : Option Refusal) (x : Result Unit AccessFault) (r : Option Refusal)
-    → Tells (add_relation_fault e.known a name owner true) name f → f ≡ frame_refusal (frame_of e) n (create_table name owner columns)
-    → IsTold x name r → IsAdded e a name owner columns x new → Agrees e new n (create_table name owner columns) r
-added_by e new n a name owner columns f (Ok u) r tells is t d = let none = tells.none d.0 in record {
-  refused = t ∙ sym none ∙ is;
-  state = d.1 ∙ ap (next_by e n (create_table name owner columns)) (sym none ∙ is);
-}
-added_by e new n a name owner columns f (Err y) r tells is t d = ⊎_elim (λ m. absurd (t.0 m)) (λ s. let z = tells.some y s in record {
-  refused = t.1 ∙ sym z.1.1 ∙ sym z.1.0 ∙ is;
-  state = d.1 ∙ ap (next_by e n (create_table name owner columns)) (sym z.1.0 ∙ is);
-}) d.0
-
-pub added : (e new : Database) (n a : ℕ) (name owner : Name) (columns : List Column) (x : Result Unit AccessFault) (r : Option Refusal)
+pub added : (e new : Database) (n a : ℕ) (name owner : Name) (columns : List Column) (x : Result Unit Stop)
     → IsDatabase e → Some a ≡ option_map (λ s. s.role) (session_of e.sessions n)
-    → IsTold x name r → IsAdded e a name owner columns x new → Agrees e new n (create_table name owner columns) r
-added e new n a name owner columns x r h o t d = added_by e new n a name owner columns (frame_refusal (frame_of e) n (create_table name owner columns)) x r (table_told e h n a name owner columns o) refl t d
+    → IsAdded e a name owner columns x new → IsDone e n (create_table name owner columns) x new
+added e new n a name owner columns (Ok u) h o d = ((table_told e h n a name owner columns o).none d.0, d.1)
+added e new n a name owner columns (Err (Refused r)) h o d =
+    let z = (table_told e h n a name owner columns o).some d.0 d.1 in
+    (z.1.0 ∙ z.1.1 ∙ d.2, d.3)
+added e new n a name owner columns (Err Memory) h o d = tt
 
 -- ---- a table by its name
 

@@ -1,18 +1,17 @@
 -- A new view: the tests of its names and of its text, and what is kept with it.
-use Rattle.std.specs.Prelude.{◌≡◌, ℕ, Bool, cond, not, nat_le, true, List, ◌∷◌, Option, Some, None, option_map, is_some, Result, Ok, Err}
+use Rattle.std.specs.Prelude.{◌≡◌, ℕ, Bool, not, nat_le, true, false, List, ◌∷◌, Option, Some, None, option_map, is_some, Result, Ok, Err}
 use Rattle.iv_bind.specs.BoundTexts.{TextFault}
 use Rattle.iv_bind.specs.Catalogs.{Answer, View, answer_of, named}
 use Rattle.iv_bind.specs.declared.bound.Bound.{Bound}
 use Rattle.iv_access.specs.Privileges.{is_admin, role_of}
 use Rattle.iv_access.specs.Rights.{Name}
 use Rattle.iv_access.specs.declared.role.RoleId.{RoleId}
-use Rattle.iv_machine.specs.Act.{Refusal, no_session}
+use Rattle.iv_machine.specs.Act.{Refusal, no_session, too_many}
 use Rattle.iv_machine.specs.Refusing.{administrator, bad_text, first, free_relation, known_role, or_else, test, views}
 use Rattle.iv_machine.specs.State.{Frame, actor, is_open, session_of}
 use Rattle.iv_database.specs.Database.{Database, frame_of}
 use Rattle.iv_database.specs.Next.{with_relation_of}
 use Rattle.iv_command.specs.Views.{refusal_of}
-use Rattle.iv_command.specs.declared.command.Refusal as said
 use Rattle.iv_command.specs.declared.stop.Stop.{Stop}
 use Rattle.iv_command.specs.declared.stop.Stop.TheVariants.{Refused, Memory}
 
@@ -35,14 +34,17 @@ pub record MayAdd (e : Database) (n : ℕ) (name owner : Name) (acting : RoleId)
   pub free : named e.catalog name ≡ None
 
 -- it may, or the refusal that tells the first test that fails, whatever tests follow
-abbrev pub IsCreator : Database → ℕ → (name owner : Name) → Result RoleId said.Refusal → Type 0
+abbrev pub IsCreator : Database → ℕ → (name owner : Name) → Result RoleId Stop → Type 0
 IsCreator e n name owner (Ok acting) = MayAdd e n name owner acting
-IsCreator e n name owner (Err r) = (more : List (Option Refusal)) → creator_tests (frame_of e) n name owner more ≡ Some (refusal_of r)
+IsCreator e n name owner (Err (Refused r)) = (more : List (Option Refusal)) → creator_tests (frame_of e) n name owner more ≡ Some (refusal_of r)
+IsCreator e n name owner (Err Memory) = Unit {0}
 
 -- there may be another view
 abbrev pub has_view_room : Database → Bool
 has_view_room e = not (nat_le 64 (views (frame_of e)))
 
--- the view is added, or not
-abbrev pub with_view_if : Bool → (name owner : Name) → Answer → Database → Database
-with_view_if added name owner a e = cond added (with_relation_of name owner (View a) e) e
+-- the view is added; or there may be no other, and nothing has changed
+abbrev pub IsViewAdded : Database → (name owner : Name) → Answer → Result Unit Stop → Database → Type 0
+IsViewAdded e name owner a (Ok u) new = (has_view_room e ≡ true) × (new ≡ with_relation_of name owner (View a) e)
+IsViewAdded e name owner a (Err (Refused r)) new = (has_view_room e ≡ false) × (refusal_of r ≡ too_many) × (new ≡ e)
+IsViewAdded e name owner a (Err Memory) new = Unit {0}

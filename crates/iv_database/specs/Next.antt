@@ -1,5 +1,5 @@
 -- The database after a request that writes no row.
-use Rattle.std.specs.Prelude.{◌≡◌, ℕ, List, [], ◌∷◌, ◌++◌, length, Option, Some, None, option_map}
+use Rattle.std.specs.Prelude.{◌≡◌, ℕ, List, [], ◌∷◌, ◌++◌, length, Some, None, Result, Ok, Err, option_map}
 use Rattle.iv_rows.specs.Columns.{kinds_of}
 use Rattle.iv_algebra.specs.declared.tables.Table.{Table}
 use Rattle.iv_bind.specs.Catalogs as catalogs
@@ -7,12 +7,13 @@ use Rattle.iv_bind.specs.Catalogs.{Held, extended, table_in}
 use Rattle.iv_access.specs.Changing.{with_relation}
 use Rattle.iv_access.specs.Known.{Relation, role_number}
 use Rattle.iv_access.specs.Rights.{Name}
-use Rattle.iv_machine.specs.Act.{Act, create_table, create_view, Refusal}
+use Rattle.iv_machine.specs.Act.{Act, create_table, create_view}
 use Rattle.iv_machine.specs.Refusing.{frame_refusal}
 use Rattle.iv_machine.specs.Changing.{after_catalog, after_rights, after_sessions}
 use Rattle.iv_database.specs.Database.{Database, frame_of}
 use Rattle.iv_command.specs.Views.{refusal_of}
-use Rattle.iv_command.specs.declared.command.Refusal as said
+use Rattle.iv_command.specs.declared.stop.Stop.{Stop}
+use Rattle.iv_command.specs.declared.stop.Stop.TheVariants.{Refused, Memory}
 
 -- a new table has no row, and a view has none of its own
 abbrev pub with_table : Held → ℕ → List Table → List Table
@@ -50,14 +51,9 @@ database_after d n act = record {
   tables = tables_after d act;
 }
 
--- as before where it is refused
-abbrev pub next_by : Database → ℕ → Act → Option Refusal → Database
-next_by e n act None = database_after e n act
-next_by e n act (Some r) = e
-
-abbrev pub next : Database → ℕ → Act → Database
-next e n act = next_by e n act (frame_refusal (frame_of e) n act)
-
--- the refusal of the first test that fails, of those that look at no row
-abbrev pub IsFirstRefusal : Database → ℕ → Act → Option said.Refusal → Type 0
-IsFirstRefusal e n act r = option_map refusal_of r ≡ frame_refusal (frame_of e) n act
+-- it is done; or the refusal tells the first test that fails, of those that look at no row, and nothing has changed; nothing is
+-- said where memory runs out
+abbrev pub IsDone : Database → ℕ → Act → Result Unit Stop → Database → Type 0
+IsDone d n act (Ok u) new = (frame_refusal (frame_of d) n act ≡ None) × (new ≡ database_after d n act)
+IsDone d n act (Err (Refused r)) new = (frame_refusal (frame_of d) n act ≡ Some (refusal_of r)) × (new ≡ d)
+IsDone d n act (Err Memory) new = Unit {0}

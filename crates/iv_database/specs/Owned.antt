@@ -21,7 +21,7 @@ use Rattle.iv_database.specs.Database.{Database, frame_of, with_rights}
 use Rattle.iv_database.specs.Next.{database_after}
 use Rattle.iv_command.specs.Views.{refusal_of}
 use Rattle.iv_database.specs.declared.policies.Owned.{Owned}
-use Rattle.iv_database.specs.declared.predicates.Predicates.{Predicates}
+use Rattle.iv_database.specs.declared.policies.Predicates.{Predicates}
 use Rattle.iv_command.specs.declared.stop.Stop.{Stop}
 use Rattle.iv_command.specs.declared.stop.Stop.TheVariants.{Refused, Memory}
 

@@ -1,5 +1,5 @@
 -- What the entries of a write add to tables, and what that makes of them.
-use Rattle.std.specs.Prelude.{◌≡◌, ℕ, zero, suc, ◌*◌, ◌^◌, ◌≤◌, ◌==◌, ℤ, pos, ◌+ℤ◌, ◌≤ℤ◌, true, false, List, [], ◌∷◌, ◌++◌, Option, None, Some}
+use Rattle.std.specs.Prelude.{◌≡◌, ℕ, zero, suc, ◌*◌, ◌^◌, ◌≤◌, ◌==◌, ℤ, pos, ◌+ℤ◌, ◌≤ℤ◌, true, false, List, [], ◌∷◌, ◌++◌, Result, Ok, Err}
 use Rattle.std.specs.Global.{Vec}
 use Rattle.std.specs.List.{list_any}
 use Rattle.iv_rows.specs.Cell.{Cell}
@@ -9,7 +9,11 @@ use Rattle.iv_zset.specs.Weights.{Weighed, weight_of, SameZ, AllInRange, IsBag, 
 use Rattle.iv_algebra.specs.Plans.{Lists}
 use Rattle.iv_algebra.specs.declared.tables.Table.{Table}
 use Rattle.iv_algebra.specs.Contents.{heads_of, rows_of}
+use Rattle.iv_machine.specs.Act.{limit}
 use Rattle.iv_machine.specs.Machine.{difference, weight}
+use Rattle.iv_command.specs.Views.{refusal_of}
+use Rattle.iv_command.specs.declared.stop.Stop.{Stop}
+use Rattle.iv_command.specs.declared.stop.Stop.TheVariants.{Refused, Memory}
 use Rattle.iv_database.specs.Changes.{Change, change_at}
 use Rattle.iv_database.specs.Stands.{HasTable}
 
@@ -41,10 +45,11 @@ pub record IsNet (rows : Weighed) : Type 0 where
   pub zset : IsZSet rows
   pub difference : (before after : List (List Cell)) → ((q : List Cell) → weight_of rows q ≡ weight before after q) → rows ≡ difference before after
 
--- the net change of the sums of a table; none where a sum is no weight
-abbrev pub IsFinished : Change → Option Change → Type 0
-IsFinished s None = IsOutOfRange s.rows
-IsFinished s (Some c) = (c.rel ≡ s.rel) × SameZ c.rows s.rows × IsNet c.rows
+-- the net change of the sums of a table; a limit where a sum is no weight
+abbrev pub IsFinished : Change → Result Change Stop → Type 0
+IsFinished s (Ok c) = (c.rel ≡ s.rel) × SameZ c.rows s.rows × IsNet c.rows
+IsFinished s (Err (Refused r)) = (refusal_of r ≡ limit) × IsOutOfRange s.rows
+IsFinished s (Err Memory) = Unit {0}
 
 -- the net changes of the sums of tables
 pub record AreNet (tables : List Table) (sums changes : List Change) : Type 0 where
@@ -52,9 +57,10 @@ pub record AreNet (tables : List Table) (sums changes : List Change) : Type 0 wh
   pub same : (t : ℕ) → SameZ (change_at changes t) (change_at sums t)
   pub net : (t : ℕ) → IsNet (change_at changes t)
 
-abbrev pub AreFinished : List Table → List Change → Option (Vec Change) → Type 0
-AreFinished tables sums None = (t : ℕ) × HasTable tables t × IsOutOfRange (change_at sums t)
-AreFinished tables sums (Some changes) = AreNet tables sums changes.items
+abbrev pub AreFinished : List Table → List Change → Result (Vec Change) Stop → Type 0
+AreFinished tables sums (Ok changes) = AreNet tables sums changes.items
+AreFinished tables sums (Err (Refused r)) = (refusal_of r ≡ limit) × ((t : ℕ) × HasTable tables t × IsOutOfRange (change_at sums t))
+AreFinished tables sums (Err Memory) = Unit {0}
 
 -- a bag with its change can be stored, with no more rows than there may be
 pub record KeepsLimits (cap : ℕ) (bag change : Weighed) : Type 0 where

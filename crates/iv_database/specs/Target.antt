@@ -9,7 +9,8 @@ use Rattle.iv_machine.specs.Refusing.{first, known_relation, or_else, test}
 use Rattle.iv_machine.specs.State.{Frame, is_open, rel_of, session_of, table_columns}
 use Rattle.iv_database.specs.Database.{Database, frame_of}
 use Rattle.iv_command.specs.Views.{refusal_of}
-use Rattle.iv_command.specs.declared.command.Refusal as said
+use Rattle.iv_command.specs.declared.stop.Stop.{Stop}
+use Rattle.iv_command.specs.declared.stop.Stop.TheVariants.{Refused, Memory}
 
 -- the tests that all requests on a relation begin with, and more
 abbrev pub target_tests : Frame → ℕ → Name → List (Option Refusal) → Option Refusal
@@ -24,6 +25,7 @@ pub record IsTarget (e : Database) (n : ℕ) (name : Name) (role rel : ℕ) : Ty
   pub below : rel < length e.catalog
 
 -- the role and the relation, or the refusal that tells the first test that fails, whatever tests follow
-abbrev pub IsActingOn : Database → ℕ → Name → Result (RoleId × RelId) said.Refusal → Type 0
+abbrev pub IsActingOn : Database → ℕ → Name → Result (RoleId × RelId) Stop → Type 0
 IsActingOn e n name (Ok x) = IsTarget e n name x.0.0 x.1.0
-IsActingOn e n name (Err r) = (more : List (Option Refusal)) → target_tests (frame_of e) n name more ≡ Some (refusal_of r)
+IsActingOn e n name (Err (Refused r)) = (more : List (Option Refusal)) → target_tests (frame_of e) n name more ≡ Some (refusal_of r)
+IsActingOn e n name (Err Memory) = Unit {0}

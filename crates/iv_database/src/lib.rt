@@ -6,22 +6,17 @@
 #![tactic(auto)]
 
 mod changes;
+mod checks;
 mod database;
-mod defining;
-mod frame_requests;
+mod entries;
 mod limits;
-mod memberships;
-mod permitting;
-mod placing;
 mod policies;
-mod predicates;
-mod reading;
-mod revoking;
-mod schemas;
-mod session;
+mod privileges;
+mod relations;
+mod roles;
+mod sessions;
 mod summing;
-mod taking;
-mod writing;
+mod write;
 
 pub use changes::TableChange;
 pub use database::Database;

@@ -1,4 +1,4 @@
-//! The requests that change which rows readers see: `row_security`, `create_policy` and `drop_policy`.
+//! The requests that change which rows readers see: `row_security`, `create_policy` and `drop_policy`, and the texts of policies.
 ghost use Rattle.std.specs.Prelude.{◌≡◌, ◌<◌, None, OnOk, is_some, length, map, nat_le, option_map, slice_get, string_bytes, true};
 ghost use Rattle.std.specs.List.{list_all};
 ghost use Rattle.iv_access.specs.Changing.{with_security, without_policy};
@@ -6,16 +6,19 @@ ghost use Rattle.iv_access.specs.Faults.{is_grantee};
 ghost use Rattle.iv_access.specs.Policies.{policies_of, policy_of};
 ghost use Rattle.iv_access.specs.Privileges.{owns};
 ghost use Rattle.iv_machine.specs.Act as machine;
-ghost use Rattle.iv_command.specs.Views.{refusal_of};
+ghost use Rattle.iv_command.specs.Stops.{IsTested};
 ghost use Rattle.iv_database.specs.Database.{IsDatabase, with_rights};
-ghost use Rattle.iv_database.specs.Owned.{IsChecked, IsGuarded, IsOwned, asked, has_room, name_tests, named_tests, with_asked};
+ghost use Rattle.iv_database.specs.Owned.{IsChecked, IsGuarded, IsOwned, asked, has_room, name_tests, named_tests, with_asked, AreBound, IsBound, IsBoundText};
+ghost use Rattle.iv_bind.specs.BoundTexts.{bound_policy};
 
 use crate::database::Database;
-use crate::predicates::{Predicates, bound_texts};
 use iv_access::{AccessFault, MOST_POLICIES, Policy, RoleId};
+use iv_algebra::Pred;
+use iv_bind::bind_pred;
 use iv_command::{PolicyText, Refusal, Stop};
-use iv_rows::RelId;
-use std::alloc::AllocError;
+use iv_query::read_pred;
+use iv_rows::{RelId, Schema};
+use std::alloc::{AllocError, Global};
 
 /// The acting role, and a table that it owns.
 #[derive(Clone, Copy)]
@@ -77,17 +80,17 @@ impl Database {
         true
     }
 
-    /// Which name of a policy may not stand.
-    fn check_names(&self, table: RelId, policy: &PolicyText) -> Option<Refusal>
-        ensures { option_map refusal_of result ≡ name_tests self.now.known.rights table.0 policy.now }
+    /// Whether the names of a policy may stand.
+    fn check_names(&self, table: RelId, policy: &PolicyText) -> Result<(), Stop>
+        ensures { IsTested (name_tests self.now.known.rights table.0 policy.now) result }
     {
         if !self.are_known(&policy.grantee) {
-            return Some(Refusal::UnknownRole);
+            return Err(Stop::Refused(Refusal::UnknownRole));
         }
         if self.access.policy(table, policy.name.as_str()).is_some() {
-            return Some(Refusal::NameTaken);
+            return Err(Stop::Refused(Refusal::NameTaken));
         }
-        None
+        Ok(())
     }
 
     /// The table of a policy and its predicates, where all tests pass but that of the number of policies.
@@ -96,9 +99,7 @@ impl Database {
         ensures { IsChecked self.now session policy.now result }
     {
         let owned = self.owned(session, policy.rel.as_str())?;
-        if let Some(refusal) = self.check_names(owned.table, policy) {
-            return Err(Stop::Refused(refusal));
-        }
+        self.check_names(owned.table, policy)?;
         let schema = self.schema(owned.table);
         let predicates = bound_texts(self.alloc, schema, policy)?;
         Ok((owned, predicates))
@@ -207,4 +208,46 @@ impl Database {
         self.remove(owned, name);
         Ok(owned.table)
     }
+}
+
+/// The predicates of a policy.
+#[derive(Drop)]
+pub(crate) struct Predicates {
+    pub using: Option<Pred>,
+    pub check: Option<Pred>,
+}
+
+/// The predicate of a text over the columns of its table.
+fn predicate(alloc: Global, schema: &Schema, text: &str) -> Result<Pred, Stop>
+    ensures { IsBound (bound_policy schema.now text.now) result }
+{
+    let tree = read_pred(alloc, text)?;
+    let pred = bind_pred(alloc, &tree, schema)?;
+    Ok(pred)
+}
+
+/// The predicate of a text, if there is one.
+fn predicate_of(alloc: Global, schema: &Schema, text: &Option<String>) -> Result<Option<Pred>, Stop>
+    ensures { IsBoundText schema.now (option_map string_bytes text.now) result }
+{
+    match text {
+        Some(text) => {
+            let pred = predicate(alloc, schema, text.as_str())?;
+            Ok(Some(pred))
+        }
+        None => Ok(None),
+    }
+}
+
+/// The predicates of a policy's texts over the columns of its table, of which `using` is the first.
+pub(crate) fn bound_texts(
+    alloc: Global,
+    schema: &Schema,
+    policy: &PolicyText,
+) -> Result<Predicates, Stop>
+    ensures { AreBound schema.now policy.now result }
+{
+    let using = predicate_of(alloc, schema, &policy.using_text)?;
+    let check = predicate_of(alloc, schema, &policy.check_text)?;
+    Ok(Predicates { using, check })
 }

@@ -14,7 +14,7 @@ use Rattle.iv_machine.specs.Refusing.{has_subscription, or_else, test}
 use Rattle.iv_machine.specs.State.{Session, State, Subscription, is_open, session_of, shown, subscription_of, view_of}
 use Rattle.iv_machine.proofs.Placing.{all_kept}
 use Rattle.iv_machine.proofs.Reached.{given_kept, unique_kept}
-use Rattle.iv_engine.specs.Answering.{IsStep, seen}
+use Rattle.iv_engine.specs.Answering.{IsAccepted, seen}
 use Rattle.iv_engine.specs.Counting.{AreCounted}
 use Rattle.iv_engine.specs.Finished.{without_session, without_subscription, without_unread}
 use Rattle.iv_database.proofs.Stored.{sessions_stored}
@@ -23,7 +23,6 @@ use Rattle.iv_engine.specs.Rounds.{beside_number, rounds, rounds_of}
 use Rattle.iv_engine.specs.Seen.{IsBehind}
 use Rattle.iv_database.specs.Stands.{Stands}
 use Rattle.iv_command.specs.Views.{line_of}
-use Rattle.iv_command.specs.declared.answer.Answer.TheVariants.{Accepted}
 use Rattle.iv_command.specs.declared.command.Line.{Line}
 use Rattle.iv_command.specs.declared.command.Reply.TheVariants.{Ok}
 use Rattle.iv_engine.proofs.Counted.{IsBeside, all_beside, left_rounds, same_rounds, those_counted}
@@ -139,7 +138,7 @@ or_nothing None = refl
 or_nothing (Some r) = refl
 
 module _ (e new : Kept) (n : ℕ) (lines : Vec Line) (h : IsSound e) (none : lines.items ≡ []) (opened : is_open (frame_of e) n ≡ true) where
-  pub finished_step : new ≡ without_unread (without_session n e) → IsStep e n finish (Accepted Ok lines) new
+  pub finished_step : new ≡ without_unread (without_session n e) → IsAccepted e n finish (record { reply = Ok; changes = lines }) new
   finished_step k =
       let ss = filter (λ (s : Session). not (n == s.number)) e.sessions in
       let p = λ (s : Subscription). not (n == s.session) in
@@ -153,14 +152,14 @@ module _ (e new : Kept) (n : ℕ) (lines : Vec Line) (h : IsSound e) (none : lin
         );
         left = λ T s. subst (λ (t : State). IsBehind t (seen new)) (sym (left_settled e h ss p roles same T s))
             (subst (λ (v : Kept). IsBehind (at (without_unread (without_session n e)) T) (seen v)) (sym k) (record { frame = refl; rows = s }));
-        kept = no_refusal Ok refl;
+        accepts = no_refusal Ok refl;
         rounds = subst (λ (v : Kept). AreCounted (seen e) finish (seen v)) (sym k) (left_counted e h ss p roles same);
         sound = subst IsSound (sym k) (left_sound e h ss p roles same);
       }
 
   -- ---- a subscription
 
-  pub unsubscribed_step : (number : ℕ) → has_subscription (frame_of e) n number ≡ true → new ≡ without_unread (without_subscription number e) → IsStep e n (unsubscribe number) (Accepted Ok lines) new
+  pub unsubscribed_step : (number : ℕ) → has_subscription (frame_of e) n number ≡ true → new ≡ without_unread (without_subscription number e) → IsAccepted e n (unsubscribe number) (record { reply = Ok; changes = lines }) new
   unsubscribed_step number has k =
       let p = λ (s : Subscription). not (number == s.number) in
       let same = λ (s : Subscription) (x : p s ≡ true). refl in
@@ -172,7 +171,7 @@ module _ (e new : Kept) (n : ℕ) (lines : Vec Line) (h : IsSound e) (none : lin
         );
         left = λ T s. subst (λ (t : State). IsBehind t (seen new)) (sym (left_settled e h e.sessions p h.stored.database.roles same T s))
             (subst (λ (v : Kept). IsBehind (at (without_unread (without_subscription number e)) T) (seen v)) (sym k) (record { frame = refl; rows = s }));
-        kept = no_refusal Ok refl;
+        accepts = no_refusal Ok refl;
         rounds = subst (λ (v : Kept). AreCounted (seen e) (unsubscribe number) (seen v)) (sym k) (left_counted e h e.sessions p h.stored.database.roles same);
         sound = subst IsSound (sym k) (left_sound e h e.sessions p h.stored.database.roles same);
       }

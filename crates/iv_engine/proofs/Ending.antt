@@ -8,15 +8,19 @@ use Rattle.iv_circuit.specs.Nodes.{scans_of}
 use Rattle.iv_machine.specs.Act.{revoke}
 use Rattle.iv_machine.specs.Refusing.{frame_refusal}
 use Rattle.iv_machine.specs.State.{actor, plan_at, rel_of}
-use Rattle.iv_engine.specs.Answering.{IsStep}
+use Rattle.iv_database.specs.Database as database
+use Rattle.iv_database.specs.Database.{Database}
+use Rattle.iv_database.specs.Next.{database_after}
+use Rattle.iv_engine.specs.Answering.{IsAccepted}
 use Rattle.iv_engine.specs.Concerned.{unreadable}
-use Rattle.iv_engine.specs.Kept.{IsSound, IsStored, Kept, frame_of, role_reads, with_rights}
+use Rattle.iv_engine.specs.Kept.{IsSound, IsStored, Kept, database_of, frame_of, role_reads, with_database, with_rights}
 use Rattle.iv_engine.specs.Next.{kept_after}
 use Rattle.iv_engine.specs.Turned.{AreReadersTold, AreWaiting}
 use Rattle.iv_command.specs.declared.answer.Answer.{Answer}
 use Rattle.iv_engine.proofs.Circling.{seen_circuit}
-use Rattle.iv_engine.proofs.Righting.{StaysStill, flag_beside, righted_step, righted_stored, waiting}
+use Rattle.iv_engine.proofs.Righting.{StaysStill, flag_beside, righted_step, righted_stored, told_as, waiting, waiting_as}
 use Rattle.iv_engine.proofs.Seeing.{sees_same}
+use Rattle.iv_engine.proofs.Stepping.{has_become, has_passed}
 
 reads_still : (b : Bool) → not b ≡ false → b ≡ true
 reads_still true h = refl
@@ -54,7 +58,7 @@ module _ (e : Kept) (n : ℕ) (name : Name) (ps : List Privilege) (to : Option N
   pub revoked_waiting : IsSound e → AreWaiting revoked (unreadable revoked)
   revoked_waiting h = waiting e e.known.rights.members e.known.rights.guards gs lost revoke_still (revoked_stored h.stored) h
 
-  pub revoked_step : (new : Kept) (a : Answer) → IsSound e → frame_refusal (frame_of e) n (revoke name ps to) ≡ None → AreReadersTold revoked (unreadable revoked) a new → IsStep e n (revoke name ps to) a new
+  pub revoked_step : (new : Kept) (a : Answer) → IsSound e → frame_refusal (frame_of e) n (revoke name ps to) ≡ None → AreReadersTold revoked (unreadable revoked) a new → IsAccepted e n (revoke name ps to) a new
   revoked_step new a h passed told =
       righted_step e e.known.rights.members e.known.rights.guards gs n (revoke name ps to) (unreadable revoked)
       (record {
@@ -66,3 +70,17 @@ module _ (e : Kept) (n : ℕ) (name : Name) (ps : List Privilege) (to : Option N
         counts = λ ss cs s was now there reads is.
             same_rounds (role_reads revoked (actor (frame_of e) s.session) s.rel) was now reads (is ∙ ap (λ b. cond b 0 was) (flag_beside lost revoked s there));
       }) h new a passed told
+
+-- ---- what the database says of it
+
+module _ (e u : Kept) (d : Database) (n : ℕ) (name : Name) (ps : List Privilege) (to : Option Name) (is : u ≡ e) (h : IsSound e)
+    (told : (frame_refusal (database.frame_of (database_of u)) n (revoke name ps to) ≡ None) × (d ≡ database_after (database_of u) n (revoke name ps to))) where
+  was : with_database d u ≡ kept_after e n (revoke name ps to)
+  was = has_become e u d n (revoke name ps to) is refl told.0 told.1
+
+  pub revoke_waits : (flags : List Bool) → flags ≡ unreadable (with_database d u) → AreWaiting (with_database d u) flags
+  revoke_waits flags same = waiting_as (with_database d u) (kept_after e n (revoke name ps to)) _ _ was (same ∙ ap unreadable was) (revoked_waiting e n name ps to h)
+
+  pub revoke_steps : (flags : List Bool) → flags ≡ unreadable (with_database d u) → (new : Kept) (a : Answer) → AreReadersTold (with_database d u) flags a new → IsAccepted e n (revoke name ps to) a new
+  revoke_steps flags same new a readers = revoked_step e n name ps to new a h (has_passed e u d n (revoke name ps to) is refl told.0)
+      (told_as (with_database d u) (kept_after e n (revoke name ps to)) _ _ a new was (same ∙ ap unreadable was) readers)

@@ -12,7 +12,7 @@ use Rattle.iv_machine.specs.State.{Subscription, actor}
 use Rattle.iv_engine.specs.Found.{beside}
 use Rattle.iv_engine.specs.Kept.{Kept, RoleCircuit, frame_of, is_for, place_of}
 use Rattle.iv_engine.specs.Moved.{has_no_rows, line_by, shared_rows}
-use Rattle.iv_engine.specs.declared.moving.Prepared.{Prepared}
+use Rattle.iv_engine.specs.declared.changes.Prepared.{Prepared}
 use Rattle.iv_engine.proofs.Beside.{beside_is}
 use Rattle.iv_database.proofs.Checking.{both}
 use Rattle.iv_engine.proofs.Pairing.{map_at}

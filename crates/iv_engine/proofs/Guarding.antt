@@ -7,23 +7,22 @@ use Rattle.iv_rows.specs.declared.schema.RelId.{RelId}
 use Rattle.iv_database.specs.Database as database
 use Rattle.iv_database.specs.Database.{Database}
 use Rattle.iv_database.specs.Owned.{IsGuarded}
-use Rattle.iv_command.specs.declared.answer.Answer.TheVariants as answers
-use Rattle.iv_command.specs.declared.command.Refusal.{Refusal}
-use Rattle.iv_command.specs.declared.stop.Stop.TheVariants.{Refused}
+use Rattle.iv_command.specs.declared.stop.Stop.{Stop}
+use Rattle.iv_command.specs.declared.stop.Stop.TheVariants.{Refused, Memory}
 use Rattle.std.specs.List.{All, list_any}
 use Rattle.iv_algebra.specs.Shapes.{scans as shape_scans}
 use Rattle.iv_access.specs.Changing.{changed_at, insert_policy, remove_policy}
-use Rattle.iv_access.specs.Rights.{Guard, Name, Rights}
+use Rattle.iv_access.specs.Rights.{Guard, Name}
 use Rattle.iv_circuit.specs.Nodes.{Scanned, scans_of}
 use Rattle.iv_machine.specs.Act.{Act, PolicyText, create_policy, drop_policy, row_security}
 use Rattle.iv_machine.specs.Refusing.{frame_refusal}
 use Rattle.iv_machine.specs.Changing.{policy_for}
-use Rattle.iv_machine.specs.State.{actor, plan_at, rel_of}
-use Rattle.iv_engine.specs.Answering.{IsStep}
+use Rattle.iv_machine.specs.State.{plan_at, rel_of}
+use Rattle.iv_engine.specs.Answering.{IsAccepted, IsStep}
 use Rattle.iv_engine.specs.Concerned.{scanning}
 use Rattle.iv_engine.specs.Counting.{scans_at}
 use Rattle.iv_engine.specs.Next.{kept_after}
-use Rattle.iv_engine.specs.Kept.{database_of, with_database, IsRoleCircuit, IsSound, IsStored, Kept, RoleCircuit, at, frame_of, with_rights}
+use Rattle.iv_engine.specs.Kept.{database_of, with_database, IsRoleCircuit, IsSound, IsStored, Kept, RoleCircuit, frame_of, with_rights}
 use Rattle.iv_engine.specs.Turned.{AreReadersTold, AreWaiting}
 use Rattle.iv_command.specs.declared.answer.Answer.{Answer}
 use Rattle.iv_engine.proofs.Circling.{seen_circuit}
@@ -101,7 +100,7 @@ anew_where e table k was now b flag is = is ∙ ap (λ x. cond x 0 was) flag
 
 module _ (e : Kept) (n : ℕ) (h : IsSound e) (new : Kept) (a : Answer) where
   pub security_step : (rel : Name) (enable force : Bool) → frame_refusal (frame_of e) n (row_security rel enable force) ≡ None
-      → AreReadersTold (kept_after e n (row_security rel enable force)) (scanning e (rel_of e.catalog rel)) a new → IsStep e n (row_security rel enable force) a new
+      → AreReadersTold (kept_after e n (row_security rel enable force)) (scanning e (rel_of e.catalog rel)) a new → IsAccepted e n (row_security rel enable force) a new
   security_step rel enable force passed told =
       let t = rel_of e.catalog rel in
       let change : Guard → Guard = λ g. record g { enabled = enable; forced = force } in
@@ -116,7 +115,7 @@ module _ (e : Kept) (n : ℕ) (h : IsSound e) (new : Kept) (a : Answer) where
       }) h new a passed told
 
   pub drop_step : (rel name : Name) → frame_refusal (frame_of e) n (drop_policy rel name) ≡ None
-      → AreReadersTold (kept_after e n (drop_policy rel name)) (scanning e (rel_of e.catalog rel)) a new → IsStep e n (drop_policy rel name) a new
+      → AreReadersTold (kept_after e n (drop_policy rel name)) (scanning e (rel_of e.catalog rel)) a new → IsAccepted e n (drop_policy rel name) a new
   drop_step rel name passed told =
       let t = rel_of e.catalog rel in
       let change : Guard → Guard = λ g. record g { policies = remove_policy name g.policies } in
@@ -131,7 +130,7 @@ module _ (e : Kept) (n : ℕ) (h : IsSound e) (new : Kept) (a : Answer) where
       }) h new a passed told
 
   pub policy_step : (p : PolicyText) → frame_refusal (frame_of e) n (create_policy p) ≡ None
-      → AreReadersTold (kept_after e n (create_policy p)) (scanning e (rel_of e.catalog p.rel)) a new → IsStep e n (create_policy p) a new
+      → AreReadersTold (kept_after e n (create_policy p)) (scanning e (rel_of e.catalog p.rel)) a new → IsAccepted e n (create_policy p) a new
   policy_step p passed told =
       let t = rel_of e.catalog p.rel in
       let with_it : Guard → Guard = λ g. record g { policies = insert_policy (policy_for (frame_of e) p) g.policies } in
@@ -151,7 +150,7 @@ pub record IsGuarding (e : Kept) (n : ℕ) (act : Act) (rel : Name) : Type 0 whe
   pub scans : (t : ℕ) → scanning (kept_after e n act) t ≡ scanning e t
   pub waits : IsSound e → AreWaiting (kept_after e n act) (scanning e (rel_of e.catalog rel))
   pub steps : (new : Kept) (a : Answer) → IsSound e → frame_refusal (frame_of e) n act ≡ None
-      → AreReadersTold (kept_after e n act) (scanning e (rel_of e.catalog rel)) a new → IsStep e n act a new
+      → AreReadersTold (kept_after e n act) (scanning e (rel_of e.catalog rel)) a new → IsAccepted e n act a new
 
 pub security_guards : (e : Kept) (n : ℕ) (rel : Name) (enable force : Bool) → IsGuarding e n (row_security rel enable force) rel
 security_guards e n rel enable force = record {
@@ -193,8 +192,9 @@ module _ (e u : Kept) (d : Database) (n : ℕ) (act : Act) (rel : Name) (is : u 
     pub guard_waits : AreWaiting (with_database d u) (scanning (with_database d u) table.0)
     guard_waits = waiting_as (with_database d u) (kept_after e n act) _ _ was flags (g.waits h)
 
-    pub guard_steps : (new : Kept) (a : Answer) → AreReadersTold (with_database d u) (scanning (with_database d u) table.0) a new → IsStep e n act a new
+    pub guard_steps : (new : Kept) (a : Answer) → AreReadersTold (with_database d u) (scanning (with_database d u) table.0) a new → IsAccepted e n act a new
     guard_steps new a readers = g.steps new a h passed (told_as (with_database d u) (kept_after e n act) _ _ a new was flags readers)
 
-  pub guard_refused : (r : Refusal) → IsGuarded (database_of u) n act rel (Err (Refused r)) d → IsStep e n act (answers.Refused r) (with_database d u)
-  guard_refused r told = refused_step e (with_database d u) n act r h (ap (λ (v : Kept). frame_refusal (frame_of v) n act) (sym is) ∙ sym (g.same u) ∙ told.0) (ap (λ x. with_database x u) told.1 ∙ is)
+  pub guard_stops : (stop : Stop) → IsGuarded (database_of u) n act rel (Err stop) d → IsStep e n act (Err stop) (with_database d u)
+  guard_stops (Refused r) told = refused_step e (with_database d u) n act r (ap (λ (v : Kept). frame_refusal (frame_of v) n act) (sym is) ∙ sym (g.same u) ∙ told.0) (ap (λ x. with_database x u) told.1 ∙ is)
+  guard_stops Memory told = tt

@@ -14,7 +14,7 @@ use Rattle.iv_machine.specs.Act as machine
 use Rattle.iv_machine.specs.Act.{Act, Refusal, grant_role, revoke_role}
 use Rattle.iv_machine.specs.Refusing.{first, frame_refusal, known_role, or_else, test}
 use Rattle.iv_machine.specs.State.{Subscription, actor, is_open, plan_at}
-use Rattle.iv_engine.specs.Answering.{IsStep}
+use Rattle.iv_engine.specs.Answering.{IsAccepted}
 use Rattle.iv_engine.specs.Concerned.{differ, differing, reaches_some, reaching}
 use Rattle.iv_engine.specs.Counting.{IsRebuiltByReach}
 use Rattle.iv_engine.specs.Kept.{IsSound, IsStored, Kept, RoleCircuit, frame_of, with_rights}
@@ -147,7 +147,7 @@ module _ (e : Kept) (n : ℕ) (role to : Name) (h : IsSound e) (group : Option R
       (waiting e joined_members r.guards r.grants (turns_reach e joined_members number few_join) (member_still e joined_members number few_join) (member_stored e joined_members number few_join h.stored) h)
 
   pub joined_step : (new : Kept) (a : Answer) → frame_refusal (frame_of e) n (grant_role role to) ≡ None
-      → AreReadersTold (kept_after e n (grant_role role to)) (differing (reaching e group) (reaching (kept_after e n (grant_role role to)) group)) a new → IsStep e n (grant_role role to) a new
+      → AreReadersTold (kept_after e n (grant_role role to)) (differing (reaching e group) (reaching (kept_after e n (grant_role role to)) group)) a new → IsAccepted e n (grant_role role to) a new
   joined_step new a passed told =
       let ms = joined_members in
       let few = few_join in
@@ -178,7 +178,7 @@ module _ (e : Kept) (n : ℕ) (role to : Name) (h : IsSound e) (group : Option R
       (waiting e parted_members r.guards r.grants (turns_reach e parted_members number few_part) (member_still e parted_members number few_part) (member_stored e parted_members number few_part h.stored) h)
 
   pub parted_step : (new : Kept) (a : Answer) → frame_refusal (frame_of e) n (revoke_role role to) ≡ None
-      → AreReadersTold (kept_after e n (revoke_role role to)) (differing (reaching e group) (reaching (kept_after e n (revoke_role role to)) group)) a new → IsStep e n (revoke_role role to) a new
+      → AreReadersTold (kept_after e n (revoke_role role to)) (differing (reaching e group) (reaching (kept_after e n (revoke_role role to)) group)) a new → IsAccepted e n (revoke_role role to) a new
   parted_step new a passed told =
       let ms = parted_members in
       let few = few_part in

@@ -2,7 +2,7 @@ mod Showing
 mod Sound
 mod Unmoved
 mod Stepping
-mod Lines
+mod Negated
 mod Opening
 mod Settling
 pub mod Scanning
@@ -42,3 +42,4 @@ mod Opened
 mod Touched
 mod Spreading
 mod Partly
+pub mod Enrolled

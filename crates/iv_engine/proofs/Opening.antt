@@ -1,7 +1,7 @@
 -- A new subscription.
-use Rattle.std.proofs.Common.{◌≡◌, ℕ, ◌+◌, ◌<◌, ◌≤◌, Bool, true, false, cond, not, ◌&&◌, ◌||◌, List, [], ◌∷◌, ◌++◌, append-nil, length, map, get_or, Option, None, Some, refl, sym, ap, subst, ◌∙◌, arith}
+use Rattle.std.proofs.Common.{◌≡◌, ℕ, ◌+◌, ◌^◌, ◌<◌, ◌≤◌, Bool, true, false, cond, not, ◌&&◌, ◌||◌, List, [], ◌∷◌, ◌++◌, append-nil, length, map, get_or, Option, None, Some, refl, sym, ap, subst, ◌∙◌, arith}
 use Rattle.std.proofs.lemmas.Bool.Decides.{nat_tests}
-use Rattle.std.specs.Prelude.{◌==◌, is_some, flat_map, nat_lt, position}
+use Rattle.std.specs.Prelude.{◌==◌, Err, count_by, is_some, flat_map, nat_lt, position}
 use Rattle.std.specs.List.{AllByRecursion, list_any}
 use Rattle.std.specs.Global.{Vec}
 use Rattle.iv_zset.specs.Limits.{Counts}
@@ -13,28 +13,30 @@ use Rattle.iv_circuit.specs.Circuits.{Running}
 use Rattle.iv_circuit.specs.Nodes.{total_of}
 use Rattle.iv_machine.specs.Act as machine
 use Rattle.iv_machine.specs.Act.{subscribe}
-use Rattle.iv_machine.specs.Refusing.{refusal, rows_refusal, or_else, test}
-use Rattle.iv_machine.specs.State.{State, Subscription, actor, is_within, is_within_for, plan_at, subscription_of, shown, view_of}
+use Rattle.iv_machine.specs.Refusing.{full, missing, refusal, rows_refusal, or_else, test}
+use Rattle.iv_machine.specs.State.{State, Subscription, actor, is_within, is_within_for, missing_for, plan_at, rel_of, subscription_of, shown, view_of}
 use Rattle.iv_machine.specs.Changing.{after, insert_subscription}
 use Rattle.iv_machine.specs.Machine.{changes, line_for, line_of as machine_line, ending, settled, difference}
 use Rattle.iv_machine.specs.Reached.{AreNumbersUnique}
 use Rattle.iv_machine.proofs.Reached.{after_numbers, next_is_new}
-use Rattle.iv_engine.specs.Answering.{IsStep, seen, sent}
+use Rattle.iv_engine.specs.Answering.{IsAccepted, IsRefused, IsStep, seen, sent}
 use Rattle.iv_engine.specs.Built.{AreInOrder, IsBeyond, IsNew}
 use Rattle.iv_engine.specs.Counting.{AreCounted}
 use Rattle.iv_engine.specs.Each.{Each}
 use Rattle.iv_engine.specs.Found.{total_at}
-use Rattle.iv_engine.specs.Kept.{Kept, IsCircuitFor, IsOpen, IsRoleCircuit, IsSound, IsWithin, RoleCircuit, WereOpened, at, frame_of, is_for, is_read, may_read, opened_to, place_of, shown_rows}
+use Rattle.iv_engine.specs.Kept.{Kept, database_of, IsCircuitFor, IsOpen, IsRoleCircuit, IsSound, IsWithin, RoleCircuit, WereOpened, at, frame_of, is_for, is_read, may_read, opened_to, place_of, shown_rows}
 use Rattle.iv_database.specs.Database.{acts_as}
-use Rattle.iv_engine.specs.Openable.{AreFirstLines, HasCircuitAt, IsNewFor, IsOpenable, with_subscription}
+use Rattle.iv_database.specs.Target.{IsActingOn}
+use Rattle.iv_engine.specs.Openable.{AreFirstLines, HasCircuitAt, IsNewFor, IsOpenable, MayOpen, with_subscription}
 use Rattle.iv_engine.specs.Rounds.{beside_number, rounds, rounds_of}
 use Rattle.iv_engine.specs.Seen.{IsBehind}
 use Rattle.iv_database.specs.Stands.{Stands}
 use Rattle.iv_command.specs.Views.{line_of, reply_of}
-use Rattle.iv_command.specs.declared.answer.Answer.TheVariants.{Accepted, Refused}
 use Rattle.iv_command.specs.declared.command.Line.{Line}
 use Rattle.iv_command.specs.declared.command.Refusal.TheVariants.{Limit}
 use Rattle.iv_command.specs.declared.command.Reply.{Reply}
+use Rattle.iv_command.specs.declared.stop.Stop.{Stop}
+use Rattle.iv_command.specs.declared.stop.Stop.TheVariants.{Refused, Memory}
 use Rattle.iv_engine.proofs.Beside.{is_own, place_pushed, slot_is}
 use Rattle.iv_engine.proofs.Circling.{same_circuit}
 use Rattle.iv_engine.proofs.Counted.{all_beside, all_given, next_none, now_counted, rounds_more}
@@ -43,7 +45,7 @@ use Rattle.iv_engine.proofs.Opened.{opened_have, opened_same, others_rounds, own
 use Rattle.iv_engine.proofs.Replaced.{IsSameReader, place_same, read_still}
 use Rattle.iv_engine.proofs.Showing.{difference_none, shown_is}
 use Rattle.iv_engine.proofs.Sound.{all_map, all_zip}
-use Rattle.iv_engine.proofs.Stepping.{IsShown, each_shown, no_lines, none_ends, none_settled}
+use Rattle.iv_engine.proofs.Stepping.{IsShown, each_shown, no_lines, none_ends, none_settled, refused_step}
 use Rattle.iv_engine.proofs.Totals.{circuits_within, total_counts}
 use Rattle.iv_engine.proofs.Unread.{place_found, place_more, reads_it}
 
@@ -293,15 +295,24 @@ first_lines e place k low at s showed is rows order lines told all counts =
 
 -- ---- the step
 
+-- the first tests refuse it
+pub not_acting : (e : Kept) (n : ℕ) (name : Name) (stop : Stop) → IsActingOn (database_of e) n name (Err stop) → MayOpen e n name (Err stop)
+not_acting e n name (Refused r) told =
+    let f = frame_of e in
+    told (missing f (missing_for f (actor f n) (rel_of f.catalog name)) ∷ full 16 (count_by (λ s. n == s.session) f.subscriptions) ∷ full (2 ^ 63) (f.last + 1) ∷ [])
+not_acting e n name Memory told = tt
+
+-- all tests that look at no row
+pub not_opened : (e : Kept) (n : ℕ) (name : Name) (stop : Stop) → MayOpen e n name (Err stop) → IsStep e n (subscribe name) (Err stop) e
+not_opened e n name (Refused r) told = refused_step e e n (subscribe name) r told refl
+not_opened e n name Memory told = tt
+
 module _ (e : Kept) (n k : ℕ) (name : Name) (h : IsSound e) (x : IsOpenable e n name k) (role : ℕ) (acts : role ≡ actor (frame_of e) n) where
   -- where what it would show is beyond the limits
-  pub beyond_step : (new : Kept) → new ≡ e → IsBeyond e role (plan_at e.catalog k) → IsStep e n (subscribe name) (Refused Limit) new
+  pub beyond_step : (new : Kept) → new ≡ e → IsBeyond e role (plan_at e.catalog k) → IsRefused e n (subscribe name) Limit new
   beyond_step d same past = record {
-    answer = λ T stands. beyond e n k name x T (subst (λ r. is_within_for (at e T) r k ≡ false) acts (past T stands));
-    left = λ T stands. tt;
+    told = λ T stands. beyond e n k name x T (subst (λ r. is_within_for (at e T) r k ≡ false) acts (past T stands));
     kept = same;
-    rounds = tt;
-    sound = subst IsSound (sym same) h;
   }
 
   module _ (place : ℕ) (mid : Kept) (got : HasCircuitAt e role k place mid) where
@@ -351,12 +362,12 @@ module _ (e : Kept) (n k : ℕ) (name : Name) (h : IsSound e) (x : IsOpenable e 
           ∙ sym (opened_sent e n k name h x fits added are place first T stands)
 
       -- it has its first lines, and is kept beside the others
-      pub opened_step : (reply : Reply) → reply_of reply ≡ machine.subscribed s.number → IsStep e n (subscribe name) (Accepted reply lines) new
+      pub opened_step : (reply : Reply) → reply_of reply ≡ machine.subscribed s.number → IsAccepted e n (subscribe name) (record { reply = reply; changes = lines }) new
       opened_step reply is = record {
         answer = λ T stands. (decided e n k name x T (fits T stands), is ∙ ap (λ (y : Subscription). machine.subscribed y.number) same, lines_sent T stands);
         left = λ T stands. subst (λ (t : State). IsBehind t (seen new)) (sym (opened_left e n k name h x fits added are place first T stands))
             (subst (λ (v : Kept). IsBehind (at now T) (seen v)) (sym now_is) (record { frame = refl; rows = stands }));
-        kept = λ r no. subscribed_no_refusal s.number r (sym is ∙ no);
+        accepts = λ r no. subscribed_no_refusal s.number r (sym is ∙ no);
         rounds = subst (λ (v : Kept). AreCounted (seen e) (subscribe name) (seen v)) (sym now_is) (opened_counted e n k name h x fits added are place first);
         sound = subst IsSound (sym now_is) (opened_sound e n k name h x fits added are place first);
       }

@@ -1,6 +1,6 @@
 -- A change of rights as a step of the machine.
 use Rattle.std.proofs.Common.{◌≡◌, ℕ, Bool, true, false, cond, not, List, [], ◌∷◌, length, map, Option, None, Some, refl, sym, ap, subst, ◌∙◌}
-use Rattle.std.specs.Prelude.{Result, Ok as OkResult, Err, IfOk, IfSome, filter, flat_map, is_some}
+use Rattle.std.specs.Prelude.{IfSome, filter, flat_map, is_some}
 use Rattle.std.specs.List.{AllByRecursion}
 use Rattle.iv_zset.specs.Limits.{Counts}
 use Rattle.iv_algebra.specs.Plans.{Lists}
@@ -18,7 +18,7 @@ use Rattle.iv_machine.specs.Refusing.{frame_refusal, or_else, refusal, rows_refu
 use Rattle.iv_machine.specs.State.{State, Subscription, actor, is_within, missing_for, needs_at, plan_at, subscription_of, view_of}
 use Rattle.iv_machine.specs.declared.Cause.{Cause}
 use Rattle.iv_machine.proofs.Reached.{given_kept, unique_kept}
-use Rattle.iv_engine.specs.Answering.{IsStep, seen, sent}
+use Rattle.iv_engine.specs.Answering.{IsAccepted, seen, sent}
 use Rattle.iv_engine.specs.Counting.{TurnsRounds}
 use Rattle.iv_engine.specs.Each.{Each}
 use Rattle.iv_engine.specs.Found.{beside_of, total_at}
@@ -30,7 +30,6 @@ use Rattle.iv_database.specs.Stands.{Stands}
 use Rattle.iv_engine.specs.Turned.{AreReadersTold, AreShowed, AreWaiting, IsOther, IsStill, WasRead, stays_open, turned_by, turned_line}
 use Rattle.iv_command.specs.Views.{line_of, reply_of}
 use Rattle.iv_command.specs.declared.answer.Answer.{Answer}
-use Rattle.iv_command.specs.declared.answer.Answer.TheVariants.{Accepted, Refused}
 use Rattle.iv_engine.proofs.Beside.{beside_each}
 use Rattle.iv_engine.proofs.Circling.{bag_for, same_circuit}
 use Rattle.iv_engine.proofs.Counted.{IsBeside, all_beside, those_counted}
@@ -249,13 +248,12 @@ module _ (e : Kept) (ms : List Membership) (us : List Guard) (gs : List Grant) w
         (λ s there stays. record { there = there; reads = still_reads (is_some (missing_for (frame_of c) (actor (frame_of c) s.session) s.rel)) (is_within (at c T) s) stays })
         (all_kept (λ s. is_some (place_of e s) ≡ true) (stays_open c T) e.subscriptions h.there) (all_pass (stays_open c T) e.subscriptions))
 
-    pub righted_step : (new : Kept) (a : Answer) → frame_refusal (frame_of e) n act ≡ None → AreReadersTold c concerned a new → IsStep e n act a new
-    righted_step new (Refused r) passed told = absurd told
-    righted_step new (Accepted reply lines) passed told =
+    pub righted_step : (new : Kept) (a : Answer) → frame_refusal (frame_of e) n act ≡ None → AreReadersTold c concerned a new → IsAccepted e n act a new
+    righted_step new a passed told =
         let ks = new.subscriptions in
         let cs = new.circuits in
         let left : (T : Lists) → Stands T e.tables → ks ≡ filter (stays_open c T) e.subscriptions = told.left in
-        let sent : (T : Lists) → Stands T e.tables → map line_of lines.items ≡ flat_map (λ s. turned_line c T s (shown_rows e T s)) e.subscriptions = λ T stands.
+        let sent : (T : Lists) → Stands T e.tables → map line_of a.changes.items ≡ flat_map (λ s. turned_line c T s (shown_rows e T s)) e.subscriptions = λ T stands.
         told.told T stands (shown_rows e T) (all_showed T stands) in
         let kept : IsSound new = subst IsSound (sym told.state) (left_sound h ks cs g.stored left told.circuits
         (subst (λ (v : Kept). AllByRecursion (λ s. is_some (place_of v s) ≡ true) ks) told.state told.there)
@@ -271,13 +269,7 @@ module _ (e : Kept) (ms : List Membership) (us : List Guard) (gs : List Grant) w
           answer = λ T stands. (act_refusal T stands passed, ap reply_of told.done ∙ g.reply, sent T stands ∙ sym (act_sent T stands));
           left = λ T stands. subst (λ (t : State). IsBehind t (seen new)) (sym (act_left T stands))
               (subst (λ (v : Kept). IsBehind (at (still T stands) T) (seen v)) (sym (told.state ∙ ap (λ (ss : List Subscription). record c { subscriptions = ss; circuits = cs }) (left T stands))) (record { frame = refl; rows = stands }));
-          kept = no_refusal reply told.done;
+          accepts = no_refusal a.reply told.done;
           rounds = those_counted e new kept.stored (R new) were counted;
           sound = kept;
         }
-
--- ---- what is told of an answer
-
-pub by_told : {E : Type 0} (P Q : Answer → Kept → Type 0) (new : Kept) (r : Result Answer E) → ((a : Answer) → P a new → Q a new) → IfOk r (λ a. P a new) → IfOk r (λ a. Q a new)
-by_told P Q new (OkResult a) go h = go a h
-by_told P Q new (Err x) go h = tt

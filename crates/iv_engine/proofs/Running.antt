@@ -1,43 +1,61 @@
 -- A step from its answer, and the lines of a list of commands one by one.
 use Rattle.std.proofs.Common.{◌≡◌, ℕ, Bool, true, false, ◌&&◌, List, [], ◌∷◌, ◌++◌, length, refl, sym, ap, ◌∙◌, append_assoc, arith, subst}
 use Rattle.std.specs.List.{list_all}
+use Rattle.std.specs.Prelude.{Result, Ok, Err, map}
 use Rattle.iv_rows.specs.Columns.{Column, has_columns, has_distinct_names}
 use Rattle.iv_rows.specs.Names.{is_name}
 use Rattle.iv_machine.specs.Act as machine
 use Rattle.iv_machine.specs.Act.{create_table}
 use Rattle.iv_machine.specs.Machine.{outcome, run, step}
-use Rattle.iv_algebra.specs.Plans.{Lists}
 use Rattle.iv_machine.specs.State.{State}
 use Rattle.iv_machine.specs.Well.{is_well_act, is_well_command}
-use Rattle.iv_engine.specs.Answering.{AreRounds, IsAnswer, IsCountedBy, IsKept, IsLeft, seen}
-use Rattle.iv_command.specs.Answers.{said}
+use Rattle.iv_engine.specs.Answering.{IsCountedBy, IsNext, IsSaid, IsStep, seen}
+use Rattle.iv_command.specs.Answers.{AreLinesOfAnswer}
 use Rattle.iv_engine.specs.Counting.{AreCountedWhereAccepted}
-use Rattle.iv_engine.specs.Kept.{Kept, at, frame_of}
-use Rattle.iv_engine.specs.Seen.{IsBehind, Seen}
+use Rattle.iv_engine.specs.Kept.{IsSound, Kept, at, frame_of}
+use Rattle.iv_engine.specs.Seen.{ChangesWhereAccepted, IsBehind, Seen}
 use Rattle.iv_database.specs.Stands.{Stands}
-use Rattle.iv_command.specs.Views.{refusal_of}
+use Rattle.iv_command.specs.Views.{line_of, refusal_of, reply_of}
 use Rattle.iv_command.specs.declared.answer.Answer.{Answer}
-use Rattle.iv_command.specs.declared.answer.Answer.TheVariants.{Refused, Accepted}
+use Rattle.iv_command.specs.declared.stop.Stop.{Stop}
+use Rattle.iv_command.specs.declared.stop.Stop.TheVariants.{Refused, Memory}
 
 -- ---- one step
 
-module _ (e : Kept) (T : Lists) (n : ℕ) (act : machine.Act) where
+module _ (e new : Kept) (n : ℕ) (act : machine.Act) (lines : List machine.Line) where
   abbrev told : machine.Command
   told = record { session = n; act = act }
 
-  pub said_lines : (a : Answer) → IsAnswer e T n act a → said n a ≡ (step (at e T) told).lines
-  said_lines (Refused r) h = sym (ap (λ o. (outcome (at e T) told o).lines) h)
-  said_lines (Accepted reply lines) h = (λ i. machine.reply n (h.1 i) ∷ h.2 i) ∙ sym (ap (λ o. (outcome (at e T) told o).lines) h.0)
+  pub said_lines : (a : Result Answer Stop) → IsStep e n act a new → AreLinesOfAnswer n a lines → IsSaid e told lines
+  said_lines (Ok a) h is = λ T s. let x = h.answer T s in is ∙ (λ i. machine.reply n (x.1 i) ∷ x.2 i) ∙ sym (ap (λ o. (outcome (at e T) told o).lines) x.0)
+  said_lines (Err (Refused r)) h is = λ T s. is ∙ sym (ap (λ o. (outcome (at e T) told o).lines) (h.told T s))
+  said_lines (Err Memory) h is = absurd is
 
-  pub left_state : (a : Answer) (new : Kept) → IsAnswer e T n act a → IsLeft e T n act a new → IsKept e a new → Stands T e.tables → IsBehind (step (at e T) told).state (seen new)
-  left_state (Refused r) new h l k s = subst (λ (t : State). IsBehind t (seen new)) (sym (ap (λ o. (outcome (at e T) told o).state) h))
-      (record { frame = ap frame_of (sym k); rows = subst (λ (v : Kept). Stands T v.tables) (sym k) s })
-  left_state (Accepted reply lines) new h l k s = subst (λ (t : State). IsBehind t (seen new)) (sym (ap (λ o. (outcome (at e T) told o).state) h.0)) l
+  pub left_state : (a : Result Answer Stop) → IsStep e n act a new → AreLinesOfAnswer n a lines → IsNext e told new
+  left_state (Ok a) h is = λ T s. subst (λ (t : State). IsBehind t (seen new)) (sym (ap (λ o. (outcome (at e T) told o).state) (h.answer T s).0)) (h.left T s)
+  left_state (Err (Refused r)) h is = λ T s. subst (λ (t : State). IsBehind t (seen new)) (sym (ap (λ o. (outcome (at e T) told o).state) (h.told T s)))
+      (record { frame = ap frame_of (sym h.kept); rows = subst (λ (v : Kept). Stands T v.tables) (sym h.kept) s })
+  left_state (Err Memory) h is = absurd is
 
--- where it is accepted it counts the rounds
-pub counted_by : (e new : Kept) (n : ℕ) (act : machine.Act) (a : Answer) (lines : List machine.Line) → AreRounds e act a new → lines ≡ said n a → IsCountedBy e (record { session = n; act = act }) lines new
-counted_by e new n act (Refused r) lines h is = λ accepted. absurd (accepted n (refusal_of r) is)
-counted_by e new n act (Accepted reply said) lines h is = λ accepted. h
+  -- a refused one leaves all as it was
+  pub unchanged : (a : Result Answer Stop) → IsStep e n act a new → AreLinesOfAnswer n a lines → ChangesWhereAccepted e lines new
+  unchanged (Ok a) h is = λ k r no. absurd (h.accepts r (refused_by a k r (sym is ∙ no)))
+    where
+      refused_by : (a : Answer) (k : ℕ) (r : machine.Refusal) → machine.reply n (reply_of a.reply) ∷ map line_of a.changes.items ≡ machine.reply k (machine.refused r) ∷ [] → reply_of a.reply ≡ machine.refused r
+      refused_by a k r both = cc
+  unchanged (Err (Refused x)) h is = λ k r no. h.kept
+  unchanged (Err Memory) h is = absurd is
+
+  -- where it is accepted it counts the rounds
+  pub counted_by : (a : Result Answer Stop) → IsStep e n act a new → AreLinesOfAnswer n a lines → IsCountedBy e told lines new
+  counted_by (Ok a) h is = λ accepted. h.rounds
+  counted_by (Err (Refused r)) h is = λ accepted. absurd (accepted n (refusal_of r) is)
+  counted_by (Err Memory) h is = absurd is
+
+  pub left_sound : (a : Result Answer Stop) → IsSound e → IsStep e n act a new → AreLinesOfAnswer n a lines → IsSound new
+  left_sound (Ok a) sound h is = h.sound
+  left_sound (Err (Refused r)) sound h is = subst IsSound (sym h.kept) sound
+  left_sound (Err Memory) sound h is = absurd is
 
 -- what is seen of an engine with the store
 abbrev pub shown_by : Kept → (failed : Bool) → Seen

@@ -1,33 +1,26 @@
 -- What every stored state has is kept by requests that show nothing.
-use Rattle.std.proofs.Common.{◌≡◌, ℕ, ◌+◌, ◌<◌, ◌≤◌, Bool, true, false, cond, not, ◌&&◌, ◌||◌, List, [], ◌∷◌, ◌++◌, length, length-append, Option, None, Some, refl, sym, ap, subst, ◌∙◌, arith}
-use Rattle.std.specs.Prelude.{◌==◌, Result, Ok, Err, is_some, option_map, position, unwrap_or}
-use Rattle.std.specs.List.{AllByRecursion, IsDistinct, list_any}
-use Rattle.std.proofs.lemmas.Int.{ints}
-use Rattle.std.proofs.lemmas.List.{map-append}
+use Rattle.std.proofs.Common.{◌≡◌, ℕ, ◌<◌, ◌≤◌, Bool, true, false, cond, ◌&&◌, ◌||◌, List, [], ◌∷◌, ◌++◌, length, length-append, Option, None, Some, refl, sym, ap, subst, ◌∙◌, arith}
+use Rattle.std.specs.Prelude.{◌==◌, is_some, option_map, position, unwrap_or}
+use Rattle.std.specs.List.{AllByRecursion, list_any}
 use Rattle.iv_zset.specs.RowLimit.{IsRowLimit}
-use Rattle.iv_zset.specs.Weights.{Weighed, IsBag, IsZSet, weight_of}
+use Rattle.iv_zset.specs.Weights.{weight_of}
 use Rattle.iv_rows.specs.Columns.{Column, kinds_of}
 use Rattle.iv_algebra.specs.Plans.{Lists}
 use Rattle.iv_algebra.specs.Shapes.{Scan}
-use Rattle.iv_algebra.specs.Contents.{rows_of}
-use Rattle.iv_bind.specs.BoundTexts.{FaultAt, TextFault, bound_query}
-use Rattle.iv_bind.specs.Catalogs.{Answer, Entry, Held, Table, View, plan_of, reached_by, schema_of, table_in}
+use Rattle.iv_bind.specs.Catalogs.{Answer, Entry, Held, Table, View, plan_of, reached_by, table_in}
 use Rattle.iv_bind.specs.Faults.{if_some}
 use Rattle.iv_access.specs.Laws.{ReachesAlike}
 use Rattle.iv_access.specs.declared.privilege.Privilege.{Privilege}
 use Rattle.iv_access.specs.declared.privilege.Privilege.TheVariants.{Select}
-use Rattle.iv_access.specs.Known.{Relation, known_at_start, role_number, grantee_of}
+use Rattle.iv_access.specs.Known.{known_at_start, role_number, grantee_of}
 use Rattle.iv_access.specs.Policies.{allowed, may_see}
 use Rattle.iv_access.specs.Rights.{Grant, Grantee, Role, Guard, Name, Rights}
 use Rattle.iv_access.specs.Privileges.{has, is_admin, is_for, privilege_eq, role_name}
 use Rattle.iv_access.specs.Changing.{grant_eq, granted, for_each, all_privileges}
 use Rattle.iv_circuit.specs.Circuits.{Running}
-use Rattle.iv_machine.specs.State.{Session, Subscription, actor, is_open, plan_at, rel_of, session_of}
-use Rattle.iv_machine.specs.Act.{begin, create_role, create_table, create_view, grant, no_session}
-use Rattle.iv_machine.specs.Changing.{view_held, with_held}
-use Rattle.iv_machine.specs.Refusing.{administrator, bad_text, frame_refusal, free_relation, known_role, role_refusal, test}
-use Rattle.iv_machine.proofs.Placing.{roles_after}
-use Rattle.iv_machine.proofs.Serving.{or_none}
+use Rattle.iv_machine.specs.State.{Session, Subscription, actor, plan_at, rel_of, session_of}
+use Rattle.iv_machine.specs.Act.{begin, create_role, create_table, create_view, grant}
+use Rattle.iv_machine.specs.Refusing.{frame_refusal, test}
 use Rattle.iv_engine.specs.Kept.{database_of, with_database, IsCircuitFor, IsOpen, IsRoleCircuit, IsSound, IsWithin, Kept, RoleCircuit, frame_of, is_for as is_circuit_for, is_read, may_read, place_of, shown_rows}
 use Rattle.iv_engine.specs.Next.{kept_after}
 use Rattle.iv_database.specs.Next as database

@@ -1,7 +1,6 @@
 -- A request as a step of the machine.
 use Rattle.std.proofs.Common.{◌≡◌, ℕ, ◌<◌, Bool, true, cond, not, List, [], ◌∷◌, ◌++◌, length, map, Option, None, Some, refl, sym, ap, subst, ◌∙◌}
-use Rattle.std.specs.Prelude.{option_map, is_some, filter, flat_map}
-use Rattle.std.specs.Global.{Vec}
+use Rattle.std.specs.Prelude.{Result, Ok as OkResult, Err, is_some, filter, flat_map}
 use Rattle.std.specs.List.{AllByRecursion}
 use Rattle.iv_rows.specs.Columns.{Column}
 use Rattle.iv_zset.specs.Weights.{weight_of}
@@ -16,23 +15,24 @@ use Rattle.iv_machine.specs.Refusing.{refusal, frame_refusal, rows_refusal, or_e
 use Rattle.iv_machine.specs.Changing.{after}
 use Rattle.iv_machine.specs.declared.Cause.{Cause}
 use Rattle.iv_machine.specs.Machine.{changes, line_for, line_of as machine_line, ending, ending_by, settled, reply_to, difference}
-use Rattle.iv_engine.specs.Answering.{IsPlain, IsStep, change_line, seen, sent}
+use Rattle.iv_engine.specs.Answering.{IsAccepted, IsPlain, IsRefused, IsStep, change_line, seen, sent}
 use Rattle.iv_engine.specs.Counting.{AreCounted, TurnsRounds}
 use Rattle.iv_engine.specs.Kept.{database_of, with_database, Kept, IsOpen, IsSound, IsStored, IsWithin, at, frame_of, may_read, shown_rows}
-use Rattle.iv_engine.specs.Next.{kept_after, next, next_by}
+use Rattle.iv_engine.specs.Next.{kept_after}
 use Rattle.iv_database.specs.Database as database
 use Rattle.iv_database.specs.Database.{Database}
 use Rattle.iv_database.specs.Next as changed
+use Rattle.iv_database.specs.Next.{IsDone}
 use Rattle.iv_engine.specs.Rounds.{rounds_of}
 use Rattle.iv_engine.specs.Seen.{IsBehind, Seen}
 use Rattle.iv_database.specs.Stands.{Stands}
 use Rattle.iv_command.specs.Views.{line_of, refusal_of, reply_of}
-use Rattle.iv_command.specs.declared.command.Line.{Line}
 use Rattle.iv_command.specs.declared.command.Refusal.{Refusal}
 use Rattle.iv_command.specs.declared.command.Reply.{Reply}
 use Rattle.iv_command.specs.declared.command.Reply.TheVariants.{Ok}
 use Rattle.iv_command.specs.declared.answer.Answer.{Answer}
-use Rattle.iv_command.specs.declared.answer.Answer.TheVariants.{Refused, Accepted}
+use Rattle.iv_command.specs.declared.stop.Stop.{Stop}
+use Rattle.iv_command.specs.declared.stop.Stop.TheVariants.{Refused, Memory}
 use Rattle.iv_engine.proofs.Counted.{all_beside, same_rounds, those_counted}
 use Rattle.iv_database.proofs.Tabled.{rows_with}
 use Rattle.iv_engine.proofs.Showing.{cause_for, difference_none, each_found, ending_is, shown_is}
@@ -169,14 +169,8 @@ pub no_refusal : (reply : Reply) → reply ≡ Ok → (r : machine.Refusal) → 
 no_refusal reply h r k = let e : machine.done ≡ machine.refused r = sym (ap reply_of h) ∙ k in cc
 
 -- a refused request
-pub refused_step : (e new : Kept) (n : ℕ) (act : Act) (r : Refusal) → IsSound e → frame_refusal (frame_of e) n act ≡ Some (refusal_of r) → new ≡ e → IsStep e n act (Refused r) new
-refused_step e new n act r sound h k = record {
-  answer = λ T s. ap (λ o. or_else o (rows_refusal (at e T) n act)) h;
-  left = λ T s. tt;
-  kept = k;
-  rounds = tt;
-  sound = subst IsSound (sym k) sound;
-}
+pub refused_step : (e new : Kept) (n : ℕ) (act : Act) (r : Refusal) → frame_refusal (frame_of e) n act ≡ Some (refusal_of r) → new ≡ e → IsRefused e n act r new
+refused_step e new n act r h k = record { told = λ T s. ap (λ o. or_else o (rows_refusal (at e T) n act)) h; kept = k }
 
 -- an accepted one leaves the rounds
 same_counted : (e : Kept) (n : ℕ) (act : Act) → KeepsRows e n act → IsSound e → frame_refusal (frame_of e) n act ≡ None → AreActors e (kept_after e n act) → AreCounted (seen e) act (seen (kept_after e n act))
@@ -188,46 +182,45 @@ same_counted e n act q sound passed acts =
     (λ s a. subst (R s (rounds_of e s)) (sym (same_rounds e d s refl a)) (q.counts (seen e) (seen d) (actor (frame_of d) s.session) s.rel (rounds_of e s))) acts)
 
 -- an accepted one that tells each subscription what it shows now and did not show before
-pub changed_step : (e new : Kept) (n : ℕ) (act : Act) (reply : Reply) (lines : Vec Line) → KeepsRows e n act → AreActors e (kept_after e n act) → IsSound e → frame_refusal (frame_of e) n act ≡ None → new ≡ kept_after e n act → reply ≡ Ok
-    → ((T : Lists) → Stands T e.tables → map line_of lines.items ≡ flat_map (change_line e (kept_after e n act) T T) e.subscriptions) → IsStep e n act (Accepted reply lines) new
-changed_step e new n act reply lines q acts sound passed k r told = record {
+pub changed_step : (e new : Kept) (n : ℕ) (act : Act) (a : Answer) → KeepsRows e n act → AreActors e (kept_after e n act) → IsSound e → frame_refusal (frame_of e) n act ≡ None → new ≡ kept_after e n act → a.reply ≡ Ok
+    → ((T : Lists) → Stands T e.tables → map line_of a.changes.items ≡ flat_map (change_line e (kept_after e n act) T T) e.subscriptions) → IsAccepted e n act a new
+changed_step e new n act a q acts sound passed k r told = record {
   answer = λ T s. (decided e n act q sound T s ∙ passed, ap reply_of r ∙ q.reply, told T s ∙ sym (changed_sent e n act q sound T s passed));
   left = λ T s. subst (λ (t : State). IsBehind t (seen new)) (sym (changed_left e n act q sound T s passed))
       (subst (λ (v : Kept). IsBehind (at (kept_after e n act) T) (seen v)) (sym k) (record { frame = refl; rows = q.tables T s }));
-  kept = no_refusal reply r;
+  accepts = no_refusal a.reply r;
   rounds = subst (λ (v : Kept). AreCounted (seen e) act (seen v)) (sym k) (same_counted e n act q sound passed acts);
   sound = subst IsSound (sym k) (q.sound passed sound);
 }
 
-plain_by : (e new : Kept) (n : ℕ) (act : Act) (o : Option Refusal) (a : Answer) → IsQuiet e n act → IsSound e → IsPlain o a → option_map refusal_of o ≡ frame_refusal (frame_of e) n act → new ≡ next_by e n act (option_map refusal_of o) → IsStep e n act a new
-plain_by e new n act None (Refused r) q sound p h k = absurd p
-plain_by e new n act None (Accepted reply lines) q sound p h k = changed_step e new n act reply lines q.keeps (q.acts (sym h) sound) sound (sym h) k p.0
-    (λ T s. ap (map line_of) p.1 ∙ sym (quiet_lines e (kept_after e n act) T e.subscriptions (q.shows (sym h) sound T s)))
-plain_by e new n act (Some r) a q sound p h k = subst (λ x. IsStep e n act x new) (sym p) (refused_step e new n act r sound (sym h) k)
-
-pub plain_step : (e new : Kept) (n : ℕ) (act : Act) (o : Option Refusal) (a : Answer) → IsQuiet e n act → IsSound e → IsPlain o a → option_map refusal_of o ≡ frame_refusal (frame_of e) n act → new ≡ next e n act → IsStep e n act a new
-plain_step e new n act o a q sound p h k = plain_by e new n act o a q sound p h (k ∙ ap (next_by e n act) (sym h))
-
 -- ---- what the database says of a request
 
-pub as_next : (e : Kept) (d : Database) (n : ℕ) (act : Act) → frame_refusal (database.frame_of (database_of e)) n act ≡ frame_refusal (frame_of e) n act → d ≡ changed.next (database_of e) n act → with_database d e ≡ next e n act
-as_next e d n act same h = ap (λ x. with_database x e) h ∙ by (frame_refusal (database.frame_of (database_of e)) n act) ∙ ap (next_by e n act) same
-  where
-    by : (o : Option machine.Refusal) → with_database (changed.next_by (database_of e) n act o) e ≡ next_by e n act o
-    by None = refl
-    by (Some r) = refl
+-- its tests are the engine's
+abbrev pub TestsAlike : Kept → ℕ → Act → Type 0
+TestsAlike u n act = frame_refusal (database.frame_of (database_of u)) n act ≡ frame_refusal (frame_of u) n act
 
--- a request of the database that shows nothing
-pub plain_told : (e u : Kept) (d : Database) (n : ℕ) (act : Act) (o : Option Refusal) (a : Answer) → u ≡ e → IsQuiet u n act → IsSound e → frame_refusal (database.frame_of (database_of u)) n act ≡ frame_refusal (frame_of u) n act
-    → IsPlain o a → option_map refusal_of o ≡ frame_refusal (database.frame_of (database_of u)) n act → d ≡ changed.next (database_of u) n act → IsStep e n act a (with_database d u)
-plain_told e u d n act o a is q sound same p h k = subst (λ (v : Kept). IsStep v n act a (with_database d u)) is
-    (plain_step u (with_database d u) n act o a q (subst IsSound (sym is) sound) p (h ∙ same) (as_next u d n act same k))
+module _ (e u : Kept) (d : Database) (n : ℕ) (act : Act) (is : u ≡ e) (same : TestsAlike u n act) where
+  -- a request that it does not do
+  pub stopped : (stop : Stop) → IsDone (database_of u) n act (Err stop) d → IsStep e n act (Err stop) (with_database d u)
+  stopped (Refused r) told = refused_step e (with_database d u) n act r
+      (ap (λ (v : Kept). frame_refusal (frame_of v) n act) (sym is) ∙ sym same ∙ told.0) (ap (λ x. with_database x u) told.1 ∙ is)
+  stopped Memory told = tt
 
--- a request of the database that passes
-module _ (e u : Kept) (d : Database) (n : ℕ) (act : Act) (o : Option Refusal) (is : u ≡ e) (same : frame_refusal (database.frame_of (database_of u)) n act ≡ frame_refusal (frame_of u) n act)
-    (none : o ≡ None) (refused : option_map refusal_of o ≡ frame_refusal (database.frame_of (database_of u)) n act) where
-  pub has_passed : frame_refusal (frame_of e) n act ≡ None
-  has_passed = ap (λ (v : Kept). frame_refusal (frame_of v) n act) (sym is) ∙ sym same ∙ sym refused ∙ ap (option_map refusal_of) none
+  -- a request that it has done
+  module _ (passed : frame_refusal (database.frame_of (database_of u)) n act ≡ None) where
+    pub has_passed : frame_refusal (frame_of e) n act ≡ None
+    has_passed = ap (λ (v : Kept). frame_refusal (frame_of v) n act) (sym is) ∙ sym same ∙ passed
 
-  pub has_become : d ≡ changed.next (database_of u) n act → with_database d u ≡ kept_after e n act
-  has_become state = as_next u d n act same state ∙ ap (λ (v : Kept). next v n act) is ∙ ap (next_by e n act) has_passed
+    pub has_become : d ≡ changed.database_after (database_of u) n act → with_database d u ≡ kept_after e n act
+    has_become state = ap (λ x. with_database x u) state ∙ ap (λ (v : Kept). kept_after v n act) is
+
+-- a request that shows nothing
+pub plain_told : (e u : Kept) (d : Database) (n : ℕ) (act : Act) (done : Result Unit Stop) (a : Result Answer Stop) → u ≡ e → IsQuiet e n act → IsSound e → TestsAlike u n act
+    → IsPlain done a → IsDone (database_of u) n act done d → IsStep e n act a (with_database d u)
+plain_told e u d n act (OkResult v) (OkResult a) is q sound same p told =
+    let passed = has_passed e u d n act is same told.0 in
+    changed_step e (with_database d u) n act a q.keeps (q.acts passed sound) sound passed (has_become e u d n act is same told.0 told.1) p.0
+    (λ T s. ap (map line_of) p.1 ∙ sym (quiet_lines e (kept_after e n act) T e.subscriptions (q.shows passed sound T s)))
+plain_told e u d n act (OkResult v) (Err t) is q sound same p told = absurd p
+plain_told e u d n act (Err x) (OkResult a) is q sound same p told = absurd p
+plain_told e u d n act (Err x) (Err t) is q sound same p told = subst (λ (y : Stop). IsStep e n act (Err y) (with_database d u)) (sym p) (stopped e u d n act is same x told)

@@ -1,5 +1,5 @@
 -- What private functions promise of an answer: its lines, and what is kept afterwards.
-use Rattle.std.specs.Prelude.{◌≡◌, ℕ, List, [], ◌∷◌, map, flat_map, Option, Some, None, false}
+use Rattle.std.specs.Prelude.{◌≡◌, ℕ, List, [], map, flat_map, Some, None, Result, Ok, Err, false}
 use Rattle.iv_algebra.specs.Plans.{Lists}
 use Rattle.iv_machine.specs.Act as machine
 use Rattle.iv_machine.specs.State.{Subscription}
@@ -13,9 +13,10 @@ use Rattle.iv_engine.specs.Seen.{Seen, IsBehind}
 use Rattle.iv_database.specs.Stands.{Stands}
 use Rattle.iv_command.specs.Views.{refusal_of, reply_of, line_of}
 use Rattle.iv_command.specs.declared.command.Refusal.{Refusal}
-use Rattle.iv_command.specs.declared.command.Reply.TheVariants.{Ok}
+use Rattle.iv_command.specs.declared.command.Reply.TheVariants as said
 use Rattle.iv_command.specs.declared.answer.Answer.{Answer}
-use Rattle.iv_command.specs.declared.answer.Answer.TheVariants.{Refused, Accepted}
+use Rattle.iv_command.specs.declared.stop.Stop.{Stop}
+use Rattle.iv_command.specs.declared.stop.Stop.TheVariants.{Refused, Memory}
 
 -- what the engine shows of itself while it has not failed
 abbrev pub seen : Kept → Seen
@@ -25,40 +26,36 @@ seen e = record { frame = frame_of e; tables = e.tables; rounds = rounds e; fail
 abbrev pub sent : Kept → Lists → ℕ → machine.Act → List machine.Line
 sent e T n act = let changed = after (at e T) n act in changes act (at e T) changed (settled act changed)
 
--- the machine gives the answer in the state with the lists T
+-- the machine accepts the request in the state with the lists T, and gives the answer
 abbrev pub IsAnswer : Kept → Lists → ℕ → machine.Act → Answer → Type 0
-IsAnswer e T n act (Refused r) = refusal (at e T) n act ≡ Some (refusal_of r)
-IsAnswer e T n act (Accepted reply lines) = (refusal (at e T) n act ≡ None)
-    × (reply_of reply ≡ reply_to (frame_of e) act) × (map line_of lines.items ≡ sent e T n act)
+IsAnswer e T n act a =
+    (refusal (at e T) n act ≡ None) × (reply_of a.reply ≡ reply_to (frame_of e) act) × (map line_of a.changes.items ≡ sent e T n act)
 
--- an accepted request leaves what the machine leaves
-abbrev pub IsLeft : Kept → Lists → ℕ → machine.Act → Answer → Kept → Type 0
-IsLeft e T n act (Refused r) new = Unit {0}
-IsLeft e T n act (Accepted reply lines) new = IsBehind (settled act (after (at e T) n act)) (seen new)
-
--- a refused one leaves all, and a reply to an accepted one is no refusal
-abbrev pub IsKept : Kept → Answer → Kept → Type 0
-IsKept old (Refused r) new = new ≡ old
-IsKept old (Accepted reply lines) new = (r : machine.Refusal) → reply_of reply ≡ machine.refused r → ⊥
-
--- an accepted one counts the rounds of each subscription
-abbrev pub AreRounds : Kept → machine.Act → Answer → Kept → Type 0
-AreRounds e act (Refused r) new = Unit {0}
-AreRounds e act (Accepted reply lines) new = AreCounted (seen e) act (seen new)
-
--- one step of the machine from e to new, for all lists behind e
-pub record IsStep (e : Kept) (n : ℕ) (act : machine.Act) (a : Answer) (new : Kept) : Type 0 where
+-- an accepted request, for all lists behind e: new is what the machine leaves, and it counts the rounds of each subscription
+pub record IsAccepted (e : Kept) (n : ℕ) (act : machine.Act) (a : Answer) (new : Kept) : Type 0 where
   pub answer : (T : Lists) → Stands T e.tables → IsAnswer e T n act a
-  pub left : (T : Lists) → Stands T e.tables → IsLeft e T n act a new
-  pub kept : IsKept e a new
-  pub rounds : AreRounds e act a new
+  pub left : (T : Lists) → Stands T e.tables → IsBehind (settled act (after (at e T) n act)) (seen new)
+  pub accepts : (r : machine.Refusal) → reply_of a.reply ≡ machine.refused r → ⊥
+  pub rounds : AreCounted (seen e) act (seen new)
   pub sound : IsSound new
 
--- the answer of a request that shows nothing
-abbrev pub IsPlain : Option Refusal → Answer → Type 0
-IsPlain None (Refused r) = ⊥
-IsPlain None (Accepted reply lines) = (reply ≡ Ok) × (lines.items ≡ [])
-IsPlain (Some r) a = a ≡ Refused r
+-- a refused one, for all lists behind e: nothing has changed
+pub record IsRefused (e : Kept) (n : ℕ) (act : machine.Act) (r : Refusal) (new : Kept) : Type 0 where
+  pub told : (T : Lists) → Stands T e.tables → refusal (at e T) n act ≡ Some (refusal_of r)
+  pub kept : new ≡ e
+
+-- one step of the machine from e to new; nothing is said where memory runs out
+abbrev pub IsStep : Kept → ℕ → machine.Act → Result Answer Stop → Kept → Type 0
+IsStep e n act (Ok a) new = IsAccepted e n act a new
+IsStep e n act (Err (Refused r)) new = IsRefused e n act r new
+IsStep e n act (Err Memory) new = Unit {0}
+
+-- the answer of a request that shows nothing, which has the result
+abbrev pub IsPlain : Result Unit Stop → Result Answer Stop → Type 0
+IsPlain (Ok u) (Ok a) = (a.reply ≡ said.Ok) × (a.changes.items ≡ [])
+IsPlain (Ok u) (Err s) = ⊥
+IsPlain (Err s) (Ok a) = ⊥
+IsPlain (Err s) (Err t) = t ≡ s
 
 -- the line of a subscription from what it shows of the lists T to what it shows, afterwards, of the lists U
 abbrev pub change_line : Kept → Kept → Lists → Lists → Subscription → List machine.Line

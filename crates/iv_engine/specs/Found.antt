@@ -5,7 +5,7 @@ use Rattle.iv_bind.specs.Faults.{if_some}
 use Rattle.iv_circuit.specs.Nodes.{total_of}
 use Rattle.iv_machine.specs.State.{Subscription, actor}
 use Rattle.iv_engine.specs.Kept.{Kept, RoleCircuit, frame_of, is_for}
-use Rattle.iv_engine.specs.declared.finding.Found.{Found}
+use Rattle.iv_engine.specs.declared.circuits.Found.{Found}
 
 -- the place for the role of the session and the relation
 pub record IsFound (e : Kept) (f : Found) : Type 0 where

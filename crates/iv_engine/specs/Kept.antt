@@ -1,5 +1,5 @@
 -- What the engine keeps, and the machine's frame that it stands for.
-use Rattle.std.specs.Prelude.{◌≡◌, ℕ, ◌<◌, ◌≤◌, ◌==◌, ◌&&◌, Bool, true, false, not, List, [], ◌∷◌, Option, None, Some, filter, length, map, is_some, option_map, position}
+use Rattle.std.specs.Prelude.{◌≡◌, ℕ, ◌<◌, ◌≤◌, ◌==◌, ◌&&◌, Bool, true, not, List, [], ◌∷◌, Option, filter, length, is_some, position}
 use Rattle.std.specs.List.{All, AllByRecursion, list_any}
 use Rattle.iv_algebra.specs.declared.tables.Table.{Table}
 use Rattle.iv_algebra.specs.Plans.{Lists}
@@ -48,9 +48,22 @@ pub record Kept : Type 0 where
 abbrev pub database_of : Kept → Database
 database_of e = record { cap = e.cap; known = e.known; catalog = e.catalog; sessions = e.sessions; tables = e.tables }
 
+-- the database with these
+abbrev pub kept_of : Database → List Subscription → List RoleCircuit → (last : ℕ) → Kept
+kept_of d ss ks last = record {
+  cap = d.cap;
+  known = d.known;
+  catalog = d.catalog;
+  sessions = d.sessions;
+  subscriptions = ss;
+  circuits = ks;
+  last = last;
+  tables = d.tables;
+}
+
 -- with another database
 abbrev pub with_database : Database → Kept → Kept
-with_database d e = record e { cap = d.cap; known = d.known; catalog = d.catalog; sessions = d.sessions; tables = d.tables }
+with_database d e = kept_of d e.subscriptions e.circuits e.last
 
 -- with other rights
 abbrev pub with_rights : Rights → Kept → Kept

@@ -21,12 +21,11 @@ use Rattle.iv_engine.specs.Rounds.{rounds_of}
 use Rattle.iv_database.specs.Stands.{Stands}
 use Rattle.iv_command.specs.Views.{line_of}
 use Rattle.iv_command.specs.declared.answer.Answer.{Answer}
-use Rattle.iv_command.specs.declared.answer.Answer.TheVariants.{Refused, Accepted}
 use Rattle.iv_command.specs.declared.command.Line.{Line}
 use Rattle.iv_command.specs.declared.command.Reply.{Reply}
 use Rattle.iv_command.specs.declared.command.Reply.TheVariants.{Ok}
-use Rattle.iv_engine.specs.declared.turning.Turn.{Turn}
-use Rattle.iv_engine.specs.declared.turning.Turn.TheVariants.{Same, Anew, Lost, Beyond}
+use Rattle.iv_engine.specs.declared.turns.Turn.{Turn}
+use Rattle.iv_engine.specs.declared.turns.Turn.TheVariants.{Same, Anew, Lost, Beyond}
 
 -- ---- circuits
 
@@ -163,5 +162,4 @@ pub record AreReaders (e : Kept) (concerned : List Bool) (reply : Reply) (lines 
 
 -- the answer has the lines
 abbrev pub AreReadersTold : Kept → (concerned : List Bool) → Answer → Kept → Type 0
-AreReadersTold e concerned (Refused r) new = ⊥
-AreReadersTold e concerned (Accepted reply lines) new = AreReaders e concerned reply lines.items new
+AreReadersTold e concerned a new = AreReaders e concerned a.reply a.changes.items new

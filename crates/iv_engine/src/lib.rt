@@ -5,28 +5,20 @@
 //! smaller size after a refusal, which would hide it from tests that refuse memory.
 #![tactic(auto)]
 
-mod acting;
+mod changes;
 mod circuits;
-mod closing;
-mod committing;
-mod concerning;
-mod dropping;
+mod concerned;
 mod engine;
-mod finding;
-mod finishing;
+mod lines;
 mod memberships;
-mod moving;
 mod policies;
-mod readers;
-mod revoking;
-mod sending;
-mod sharing;
+mod privileges;
+mod step;
 mod store;
-mod stored;
-mod subscribing;
+mod subscriptions;
 mod touching;
-mod turning;
-mod writing;
+mod turns;
+mod write;
 
 pub use engine::{Engine, EngineFault};
 pub use iv_zset::Seed;

@@ -9,10 +9,10 @@ ghost use Rattle.iv_engine.specs.Concerned.{differing, reaching};
 ghost use Rattle.iv_engine.specs.Kept.{IsSound};
 ghost use Rattle.iv_engine.specs.Turned.{AreReadersTold, AreWaiting};
 
-use crate::concerning::differing;
+use crate::concerned::differing;
 use crate::store::Store;
 use iv_access::RoleId;
-use iv_command::Answer;
+use iv_command::{Answer, Stop};
 use std::alloc::AllocError;
 
 impl Store {
@@ -30,34 +30,27 @@ impl Store {
 
     /// Makes the role `to` a member of a role. Readers who reach other roles than before are told what they see more and
     /// less.
-    pub fn grant_role(&mut self, session: u32, role: String, to: &str) -> Result<Answer, AllocError>
+    pub fn grant_role(&mut self, session: u32, role: String, to: &str) -> Result<Answer, Stop>
         requires { IsSound self.old }
-        ensures { IfOk result (λ answer. IsStep self.old session (machine.grant_role (string_bytes role) to.now) answer self.new) }
+        ensures { IsStep self.old session (machine.grant_role (string_bytes role) to.now) result self.new }
     {
         let group = self.database.access().role(role.as_str());
         let before = self.reaching(group)?;
-        if let Some(refusal) = self.database.grant_role(session, role, to)? {
-            return Ok(Answer::Refused(refusal));
-        }
-        self.tell_members(group, &before)
+        self.database.grant_role(session, role, to)?;
+        let answer = self.tell_members(group, &before)?;
+        Ok(answer)
     }
 
     /// Takes the role `to` out of the direct members of a role. Readers who reach other roles than before are told what they
     /// see more and less, and subscriptions that may not be read any more end.
-    pub fn revoke_role(
-        &mut self,
-        session: u32,
-        role: String,
-        to: &str,
-    ) -> Result<Answer, AllocError>
+    pub fn revoke_role(&mut self, session: u32, role: String, to: &str) -> Result<Answer, Stop>
         requires { IsSound self.old }
-        ensures { IfOk result (λ answer. IsStep self.old session (machine.revoke_role (string_bytes role) to.now) answer self.new) }
+        ensures { IsStep self.old session (machine.revoke_role (string_bytes role) to.now) result self.new }
     {
         let group = self.database.access().role(role.as_str());
         let before = self.reaching(group)?;
-        if let Some(refusal) = self.database.revoke_role(session, role, to)? {
-            return Ok(Answer::Refused(refusal));
-        }
-        self.tell_members(group, &before)
+        self.database.revoke_role(session, role, to)?;
+        let answer = self.tell_members(group, &before)?;
+        Ok(answer)
     }
 }

@@ -1,5 +1,5 @@
 //! The requests that change which rows readers see: `row_security`, `create_policy` and `drop_policy`.
-ghost use Rattle.std.specs.Prelude.{◌≡◌, IfOk, string_bytes};
+ghost use Rattle.std.specs.Prelude.{IfOk, string_bytes};
 ghost use Rattle.iv_machine.specs.Act as machine;
 ghost use Rattle.iv_engine.specs.Answering.{IsStep};
 ghost use Rattle.iv_engine.specs.Concerned.{scanning};
@@ -28,46 +28,34 @@ impl Store {
         rel: String,
         enable: bool,
         force: bool,
-    ) -> Result<Answer, AllocError>
+    ) -> Result<Answer, Stop>
         requires { IsSound self.old }
-        ensures { IfOk result (λ answer. IsStep self.old session (machine.row_security (string_bytes rel) enable force) answer self.new) }
+        ensures { IsStep self.old session (machine.row_security (string_bytes rel) enable force) result self.new }
     {
-        match self
+        let table = self
             .database
-            .row_security(session, rel.as_str(), enable, force)
-        {
-            Ok(table) => self.tell_of(table),
-            Err(Stop::Refused(refusal)) => Ok(Answer::Refused(refusal)),
-            Err(Stop::Memory) => Err(AllocError),
-        }
+            .row_security(session, rel.as_str(), enable, force)?;
+        let answer = self.tell_of(table)?;
+        Ok(answer)
     }
 
     /// Adds a policy to a table, and tells readers of it and of views over it what they see more and less.
-    pub fn create_policy(&mut self, session: u32, policy: PolicyText) -> Result<Answer, AllocError>
+    pub fn create_policy(&mut self, session: u32, policy: PolicyText) -> Result<Answer, Stop>
         requires { IsSound self.old }
-        ensures { IfOk result (λ answer. IsStep self.old session (machine.create_policy policy) answer self.new) }
+        ensures { IsStep self.old session (machine.create_policy policy) result self.new }
     {
-        match self.database.create_policy(session, policy) {
-            Ok(table) => self.tell_of(table),
-            Err(Stop::Refused(refusal)) => Ok(Answer::Refused(refusal)),
-            Err(Stop::Memory) => Err(AllocError),
-        }
+        let table = self.database.create_policy(session, policy)?;
+        let answer = self.tell_of(table)?;
+        Ok(answer)
     }
 
     /// Takes a policy of a table away, and tells readers of it and of views over it what they see more and less.
-    pub fn drop_policy(
-        &mut self,
-        session: u32,
-        rel: String,
-        name: &str,
-    ) -> Result<Answer, AllocError>
+    pub fn drop_policy(&mut self, session: u32, rel: String, name: &str) -> Result<Answer, Stop>
         requires { IsSound self.old }
-        ensures { IfOk result (λ answer. IsStep self.old session (machine.drop_policy (string_bytes rel) name.now) answer self.new) }
+        ensures { IsStep self.old session (machine.drop_policy (string_bytes rel) name.now) result self.new }
     {
-        match self.database.drop_policy(session, rel.as_str(), name) {
-            Ok(table) => self.tell_of(table),
-            Err(Stop::Refused(refusal)) => Ok(Answer::Refused(refusal)),
-            Err(Stop::Memory) => Err(AllocError),
-        }
+        let table = self.database.drop_policy(session, rel.as_str(), name)?;
+        let answer = self.tell_of(table)?;
+        Ok(answer)
     }
 }

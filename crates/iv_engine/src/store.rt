@@ -2,14 +2,15 @@
 //!
 //! The invariant of requests says that the database is one, that each open subscription may be read and is within the limits (so what
 //! it showed can always be taken back), and that the circuits are those of open subscriptions and no others.
-ghost use Rattle.std.specs.Prelude.{◌≡◌, IfOk};
+ghost use Rattle.std.specs.Prelude.{IfOk};
 ghost use Rattle.iv_zset.specs.RowLimit.{IsRowLimit};
 ghost use Rattle.iv_machine.specs.State.{start};
 ghost use Rattle.iv_engine.specs.Answering.{seen};
 ghost use Rattle.iv_engine.specs.Kept.{IsSound};
 ghost use Rattle.iv_engine.specs.Seen.{IsBehind};
 
-use crate::stored::{RoleCircuit, Subscription};
+use crate::circuits::RoleCircuit;
+use crate::subscriptions::Subscription;
 use crate::touching::Touched;
 use iv_database::Database;
 use iv_zset::Seed;
@@ -31,23 +32,14 @@ pub struct Store {
 
 impl Model for Store {
     ghost use Rattle.iv_engine.specs.Codes.{kept_code};
-    ghost use Rattle.iv_engine.specs.Kept.{Kept};
+    ghost use Rattle.iv_engine.specs.Kept.{Kept, kept_of};
     ghost use Rattle.iv_engine.specs.Touching.{AreFoundAmong};
 
     ghost Value = { Kept };
 
     ghost coded = { kept_code };
 
-    ghost view = { λ s. record {
-      cap = s.database.cap;
-      known = s.database.known;
-      catalog = s.database.catalog;
-      sessions = s.database.sessions;
-      subscriptions = s.subscriptions.items;
-      circuits = s.circuits.items;
-      last = s.last;
-      tables = s.database.tables;
-    } };
+    ghost view = { λ s. kept_of s.database s.subscriptions.items s.circuits.items s.last };
 
     ghost invariant = { λ s. AreFoundAmong s.database.sessions s.subscriptions.items s.circuits.items s.found.items };
 }

@@ -1,4 +1,6 @@
 use Rattle.std.proofs.Common.{◌≡◌, ◌∙◌, None, ap, length, subst, true}
+use Rattle.std.specs.Prelude.{string_bytes}
+use Rattle.iv_access.specs.Rights.{Name}
 use Rattle.iv_bind.specs.Catalogs.{named, numbered}
 use Rattle.iv_access.specs.Faults.{add_relation_fault}
 use Rattle.iv_database.specs.Database.{Database}
@@ -9,10 +11,11 @@ use Rattle.iv_database.proofs.database.Database.add_table.Goals as goal
 
 pub add_table-requires-clause-name : goal.add_table-requires-clause-name
 add_table-requires-clause-name c =
-    let name = c.args.name.now in
-    ap (λ (v : Database). named v.catalog name) c.self.view_is
+    let name = string_bytes c.args.name in
+    (λ i. named (c.self.view_is i).catalog (c.as_str-2.ensures.value i))
     ∙ free_name c.args.self.now c.requires.stored c.args.acting.0 name c.args.owner.now
-    (subst (λ (v : Database). add_relation_fault v.known c.args.acting.0 name c.args.owner.now true ≡ None) c.self.view_is c.in-Ok.ensures.ok_when)
+    (subst (λ (v : Database). add_relation_fault v.known c.args.acting.0 name c.args.owner.now true ≡ None) c.self.view_is
+    (subst (λ (n : Name). add_relation_fault c.self.inside.access c.args.acting.0 n c.args.owner.now true ≡ None) c.as_str.ensures.value c.in-Ok.ensures.ok_when))
 
 pub add_table-requires-clause-number : goal.add_table-requires-clause-number
 add_table-requires-clause-number c =

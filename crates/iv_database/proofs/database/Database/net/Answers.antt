@@ -1,78 +1,71 @@
-use Rattle.std.proofs.Common.{◌≡◌, ◌++◌, ℕ, List, Some, map, sym, subst}
+use Rattle.std.proofs.Common.{◌++◌, ℕ, Err, List, sym, subst}
 use Rattle.iv_machine.specs.Act.{Entry}
-use Rattle.iv_machine.specs.Refusing.{entries_present}
 use Rattle.iv_zset.specs.Limits.{Breaks}
 use Rattle.iv_zset.specs.Weights.{IsZSet}
 use Rattle.iv_algebra.specs.Contents.{rows_of}
 use Rattle.iv_database.specs.Changes.{Change, change_at}
-use Rattle.iv_database.specs.Database.{Database, frame_of}
+use Rattle.iv_database.specs.Database.{Database}
 use Rattle.iv_database.specs.Stands.{HasTable}
-use Rattle.iv_database.specs.Placed.{entry_of}
-use Rattle.iv_database.specs.Resolving.{AreChecked, AreSummed, Leads}
-use Rattle.iv_database.specs.Summed.{AreFinished, AreTables, KeepsLimits}
-use Rattle.iv_command.specs.Views.{refusal_of}
-use Rattle.iv_database.proofs.Deciding.{by_frame, by_limit, by_presence, by_weight, leads_same, well_few, well_some}
+use Rattle.iv_database.specs.Resolving.{IsNetOf, Leads}
+use Rattle.iv_database.specs.Summed.{AreTables, KeepsLimits}
+use Rattle.iv_command.specs.declared.stop.Stop.{Stop}
+use Rattle.iv_database.proofs.Deciding.{by_limit, frame_stops, leads_same, presence_stops, weight_stops, well_few, well_some}
+use Rattle.iv_database.proofs.Owning.{err_is}
 use Rattle.iv_database.proofs.database.Database.net.Goals as goal
 
-pub gathered-requires-clause-placed : goal.gathered-requires-clause-placed
-gathered-requires-clause-placed c =
+pub returns-in_err-entries : goal.returns-in_err-entries
+returns-in_err-entries c =
     let e = c.args.self.now in
-    (subst (AreChecked (frame_of e) c.args.session c.args.entries.items) c.in-Placed.is c.in_ok-entries.ensures).2
+    let n = c.args.session in
+    let es = c.args.entries.items in
+    err_is c.from_residual.result _ (IsNetOf e n es) c.from_residual.ensures.1
+    (λ stop is. subst (λ (s : Stop). IsNetOf e n es (Err s)) (sym is) (frame_stops e n es c.in_err-entries.field-0.0 c.in_err-entries.ensures))
+
+pub gathered-requires-clause-placed : goal.gathered-requires-clause-placed
+gathered-requires-clause-placed c = c.in_ok-entries.ensures.2
 
 pub gathered-requires-clause-some : goal.gathered-requires-clause-some
-gathered-requires-clause-some c =
-    let e = c.args.self.now in
-    let checked = subst (AreChecked (frame_of e) c.args.session c.args.entries.items) c.in-Placed.is c.in_ok-entries.ensures in
-    well_some c.args.entries.items c.in-Placed.entries.items checked.1 c.requires.well
+gathered-requires-clause-some c = well_some c.args.entries.items c.in_ok-entries.entries.items c.in_ok-entries.ensures.1 c.requires.well
 
 pub gathered-requires-clause-few : goal.gathered-requires-clause-few
-gathered-requires-clause-few c =
-    let e = c.args.self.now in
-    let checked = subst (AreChecked (frame_of e) c.args.session c.args.entries.items) c.in-Placed.is c.in_ok-entries.ensures in
-    well_few c.args.entries.items c.in-Placed.entries.items checked.1 c.requires.well
+gathered-requires-clause-few c = well_few c.args.entries.items c.in_ok-entries.entries.items c.in_ok-entries.ensures.1 c.requires.well
 
-pub returns-in-Refused : goal.returns-in-Refused
-returns-in-Refused c = λ T s.
-    let e = c.args.self.now in
-    by_frame (frame_of e) c.args.session c.args.entries.items T (refusal_of c.in-Refused.refusal) (subst (AreChecked (frame_of e) c.args.session c.args.entries.items) c.in-Refused.is c.in_ok-entries.ensures)
-
-pub returns-in-Refused-2 : goal.returns-in-Refused-2
-returns-in-Refused-2 c = λ T s.
+pub returns-in_err-sums : goal.returns-in_err-sums
+returns-in_err-sums c =
     let e = c.args.self.now in
     let n = c.args.session in
     let es = c.args.entries.items in
-    let ps = c.in-Placed.entries.items in
-    let checked = subst (AreChecked (frame_of e) n es) c.in-Placed.is c.in_ok-entries.ensures in
-    let refused = subst (AreSummed e (map entry_of ps)) c.in-Refused-2.is c.in_ok-sums.ensures in
-    by_presence (frame_of e) n es T checked.0 (refusal_of c.in-Refused-2.refusal)
-    (subst (λ (xs : List Entry). entries_present (frame_of e).catalog 1 xs T ≡ Some (refusal_of c.in-Refused-2.refusal)) (sym checked.1) (refused T s))
+    let checked = c.in_ok-entries.ensures in
+    err_is c.from_residual-in_err-sums.result _ (IsNetOf e n es) c.from_residual-in_err-sums.ensures.1
+    (λ stop is. subst (λ (s : Stop). IsNetOf e n es (Err s)) (sym is) (presence_stops e n es c.in_ok-entries.entries.items checked.0 checked.1 c.in_err-sums.field-0.0 c.in_err-sums.ensures))
 
-pub returns-in_default : goal.returns-in_default
-returns-in_default c = λ T s.
+pub returns-in_err-changes : goal.returns-in_err-changes
+returns-in_err-changes c =
     let e = c.args.self.now in
     let n = c.args.session in
     let es = c.args.entries.items in
-    let ps = c.in-Placed.entries.items in
-    let sums = c.in-Summed.sums.items in
-    let checked = subst (AreChecked (frame_of e) n es) c.in-Placed.is c.in_ok-entries.ensures in
-    let summed = subst (AreSummed e (map entry_of ps)) c.in-Summed.is c.in_ok-sums.ensures in
-    let out = subst (AreFinished e.tables sums) c.in_default.is (c.in_ok-changes.ensures e.tables summed.0) in
-    by_weight e n es c.requires.stored checked.0 sums T s (subst (λ (xs : List Entry). Leads e xs sums T) (sym checked.1) (summed.1 T s)) out.0 out.1 out.2
+    let sums = c.in_ok-sums.sums.items in
+    let checked = c.in_ok-entries.ensures in
+    let summed = c.in_ok-sums.ensures in
+    err_is c.from_residual-in_err-changes.result _ (IsNetOf e n es) c.from_residual-in_err-changes.ensures.1
+    (λ stop is. subst (λ (s : Stop). IsNetOf e n es (Err s)) (sym is)
+    (weight_stops e n es c.requires.stored checked.0 sums (λ T s. subst (λ (xs : List Entry). Leads e xs sums T) (sym checked.1) (summed.1 T s)) c.in_err-changes.field-0.0
+    (c.in_err-changes.ensures e.tables summed.0)))
 
 pub all_fit-requires-clause-tables : goal.all_fit-requires-clause-tables
 all_fit-requires-clause-tables c =
     let e = c.args.self.now in
-    let sums = c.in-Summed.sums.items in
-    let summed = subst (AreSummed e (map entry_of c.in-Placed.entries.items)) c.in-Summed.is c.in_ok-sums.ensures in
-    let made = subst (AreFinished e.tables sums) c.in-Some.is (c.in_ok-changes.ensures e.tables summed.0) in
-    subst (AreTables c.self.inside.tables) (sym c.deref.ensures.value) (subst (λ (v : Database). AreTables v.tables c.in-Some.changes.items) (sym c.self.view_is) made.tables_are)
+    let sums = c.in_ok-sums.sums.items in
+    let summed = c.in_ok-sums.ensures in
+    let made = c.in_ok-changes.ensures e.tables summed.0 in
+    subst (AreTables c.self.inside.tables) (sym c.deref.ensures.value) (subst (λ (v : Database). AreTables v.tables c.in_ok-changes.changes.items) (sym c.self.view_is) made.tables_are)
 
 pub all_fit-requires-clause-changes : goal.all_fit-requires-clause-changes
 all_fit-requires-clause-changes c =
     let e = c.args.self.now in
-    let sums = c.in-Summed.sums.items in
-    let summed = subst (AreSummed e (map entry_of c.in-Placed.entries.items)) c.in-Summed.is c.in_ok-sums.ensures in
-    let made = subst (AreFinished e.tables sums) c.in-Some.is (c.in_ok-changes.ensures e.tables summed.0) in
+    let sums = c.in_ok-sums.sums.items in
+    let summed = c.in_ok-sums.ensures in
+    let made = c.in_ok-changes.ensures e.tables summed.0 in
     subst (λ (cs : List Change). (t : ℕ) → IsZSet (change_at cs t)) (sym c.deref.ensures.value) (λ t. (made.net t).zset)
 
 pub returns-then-not-all_fit : goal.returns-then-not-all_fit
@@ -80,12 +73,11 @@ returns-then-not-all_fit c = λ T s.
     let e = c.args.self.now in
     let n = c.args.session in
     let es = c.args.entries.items in
-    let ps = c.in-Placed.entries.items in
-    let sums = c.in-Summed.sums.items in
-    let changes = c.in-Some.changes.items in
-    let checked = subst (AreChecked (frame_of e) n es) c.in-Placed.is c.in_ok-entries.ensures in
-    let summed = subst (AreSummed e (map entry_of ps)) c.in-Summed.is c.in_ok-sums.ensures in
-    let made = subst (AreFinished e.tables sums) c.in-Some.is (c.in_ok-changes.ensures e.tables summed.0) in
+    let sums = c.in_ok-sums.sums.items in
+    let changes = c.in_ok-changes.changes.items in
+    let checked = c.in_ok-entries.ensures in
+    let summed = c.in_ok-sums.ensures in
+    let made = c.in_ok-changes.ensures e.tables summed.0 in
     let leads = leads_same e es sums changes T (subst (λ (xs : List Entry). Leads e xs sums T) (sym checked.1) (summed.1 T s)) made.same in
     let b = c.all_fit.ensures.breaks c.if-not-all_fit.true in
     by_limit e n es c.requires.stored checked.0 changes T s leads b.0 (subst (λ (v : Database). HasTable v.tables b.0) c.self.view_is b.1)
@@ -97,12 +89,11 @@ returns c =
     let e = c.args.self.now in
     let n = c.args.session in
     let es = c.args.entries.items in
-    let ps = c.in-Placed.entries.items in
-    let sums = c.in-Summed.sums.items in
-    let changes = c.in-Some.changes.items in
-    let checked = subst (AreChecked (frame_of e) n es) c.in-Placed.is c.in_ok-entries.ensures in
-    let summed = subst (AreSummed e (map entry_of ps)) c.in-Summed.is c.in_ok-sums.ensures in
-    let made = subst (AreFinished e.tables sums) c.in-Some.is (c.in_ok-changes.ensures e.tables summed.0) in
+    let sums = c.in_ok-sums.sums.items in
+    let changes = c.in_ok-changes.changes.items in
+    let checked = c.in_ok-entries.ensures in
+    let summed = c.in_ok-sums.ensures in
+    let made = c.in_ok-changes.ensures e.tables summed.0 in
     record {
       frame = checked.0;
       tables = made.tables_are;

@@ -1,58 +1,37 @@
-use Rattle.std.proofs.Common.{refl, ◌≡◌, [], ◌∷◌, Option, Some, ap, subst, sym}
-use Rattle.std.proofs.lemmas.Result.{IfOk-weaker}
-use Rattle.std.specs.Prelude.{option_map, string_bytes}
+use Rattle.std.proofs.Common.{[], ◌∷◌, Err, refl, subst, sym}
+use Rattle.std.specs.Prelude.{string_bytes}
 use Rattle.iv_access.specs.Known.{named}
 use Rattle.iv_access.specs.Rights.{Name}
-use Rattle.iv_machine.specs.Act.{revoke}
-use Rattle.iv_machine.specs.Refusing.{frame_refusal, known_grantee, owner_alone}
+use Rattle.iv_machine.specs.Act as machine
+use Rattle.iv_machine.specs.Refusing.{known_grantee, owner_alone}
 use Rattle.iv_machine.specs.State.{actor}
 use Rattle.iv_database.specs.Database.{Database, frame_of}
-use Rattle.iv_database.specs.Next.{IsFirstRefusal, next, next_by}
-use Rattle.iv_database.specs.Target.{target_tests}
-use Rattle.iv_database.specs.Telling.{IsTold}
-use Rattle.iv_command.specs.Views.{refusal_of}
-use Rattle.iv_command.specs.declared.command.Refusal.{Refusal}
+use Rattle.iv_database.specs.Next.{IsDone}
+use Rattle.iv_database.specs.Target.{IsActingOn}
+use Rattle.iv_command.specs.declared.stop.Stop.{Stop}
 use Rattle.iv_database.proofs.Enrolling.{without_memory}
-use Rattle.iv_database.proofs.Granting.{taken_agrees}
+use Rattle.iv_database.proofs.Granting.{taken_done}
+use Rattle.iv_database.proofs.Owning.{acting_refused, err_is}
 use Rattle.iv_database.proofs.database.Database.revoke.Goals as goal
 
-pub returns-in-Err : goal.returns-in-Err
-returns-in-Err c =
+pub returns-in_err-acting-clause-done : goal.returns-in_err-acting-clause-done
+returns-in_err-acting-clause-done c =
     let e = c.args.self.now in
     let f = frame_of e in
     let n = c.args.session in
     let rel = string_bytes c.args.rel in
     let to = named c.args.grantee in
-    let act = revoke rel c.args.privileges.now to in
-    let tests = owner_alone f (actor f n) rel ∷ known_grantee f to ∷ [] in
-    let refused : frame_refusal f n act ≡ Some (refusal_of c.in-Err.refusal) =
-    subst (λ (name : Name). target_tests f n name tests ≡ Some (refusal_of c.in-Err.refusal)) c.as_str.ensures.value (c.in-Err.ensures tests) in
-    record { refused = sym refused; state = ap (next_by e n act) (sym refused); sessions = refl }
+    let act = machine.revoke rel c.args.privileges.now to in
+    err_is c.from_residual.result _ (λ r. IsDone e n act r e) c.from_residual.ensures.1
+    (λ stop is. subst (λ (s : Stop). IsDone e n act (Err s) e) (sym is)
+    (acting_refused e n act rel c.in_err-acting.field-0.0 (owner_alone f (actor f n) rel ∷ known_grantee f to ∷ []) refl
+    (subst (λ (name : Name). IsActingOn e n name (Err c.in_err-acting.field-0.0)) c.as_str.ensures.value c.in_err-acting.ensures)))
 
-pub returns-clause-refused : goal.returns-clause-refused
-returns-clause-refused c =
-    let e = c.args.self.now in
-    let n = c.args.session in
-    let rel = string_bytes c.args.rel in
-    let to = named c.args.grantee in
+pub returns-clause-done : goal.returns-clause-done
+returns-clause-done c =
     let s = c.self.inside in
     let u : Database = record { cap = s.cap; known = s.access; catalog = s.catalog; sessions = s.sessions.items; tables = s.tables } in
-    let K = c.revoke-change.new.self in
     let h = c.revoke-change.ensures in
-    let agrees = λ (r : Option Refusal) (t : IsTold c.revoke-change.result rel (option_map refusal_of r)). taken_agrees u e K n c.in-Ok.found.0.0 c.in-Ok.found.1.0 c.as_str.result.now rel c.args.privileges.now to c.revoke-change.result (option_map refusal_of r) c.self.view_is c.as_str.ensures.value c.in-Ok.ensures t
-    (record { rights = h.ok; relations = h.relations; ok_when = h.ok_when; err_when = without_memory c.revoke-change.result _ c.revoke-change.ensures.err_when; unchanged = h.unchanged }) in
-    IfOk-weaker c.outcome.result (λ r. IsTold c.revoke-change.result rel (option_map refusal_of r)) (IsFirstRefusal e n (revoke rel c.args.privileges.now to)) (λ r t. (agrees r t).refused) c.outcome.ensures
-
-pub returns-clause-state : goal.returns-clause-state
-returns-clause-state c =
-    let e = c.args.self.now in
-    let n = c.args.session in
-    let rel = string_bytes c.args.rel in
-    let to = named c.args.grantee in
-    let s = c.self.inside in
-    let u : Database = record { cap = s.cap; known = s.access; catalog = s.catalog; sessions = s.sessions.items; tables = s.tables } in
-    let K = c.revoke-change.new.self in
-    let h = c.revoke-change.ensures in
-    let agrees = λ (r : Option Refusal) (t : IsTold c.revoke-change.result rel (option_map refusal_of r)). taken_agrees u e K n c.in-Ok.found.0.0 c.in-Ok.found.1.0 c.as_str.result.now rel c.args.privileges.now to c.revoke-change.result (option_map refusal_of r) c.self.view_is c.as_str.ensures.value c.in-Ok.ensures t
-    (record { rights = h.ok; relations = h.relations; ok_when = h.ok_when; err_when = without_memory c.revoke-change.result _ c.revoke-change.ensures.err_when; unchanged = h.unchanged }) in
-    IfOk-weaker c.outcome.result (λ r. IsTold c.revoke-change.result rel (option_map refusal_of r)) (λ r. record u { known = K } ≡ next e n (revoke rel c.args.privileges.now to)) (λ r t. (agrees r t).state) c.outcome.ensures
+    taken_done u c.args.self.now c.revoke-change.new.self c.args.session c.in_ok-acting.acting.0 c.in_ok-acting.number.0 c.as_str.result.now (string_bytes c.args.rel) c.args.privileges.now (named c.args.grantee)
+    c.revoke-change.result c.outcome.result c.self.view_is c.as_str.ensures.value c.in_ok-acting.ensures c.outcome.ensures
+    (record { rights = h.ok; relations = h.relations; ok_when = h.ok_when; err_when = without_memory c.revoke-change.result _ c.revoke-change.ensures.err_when; unchanged = h.unchanged })

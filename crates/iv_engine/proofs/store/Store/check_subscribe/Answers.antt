@@ -1,13 +1,11 @@
-use Rattle.std.proofs.Common.{◌==◌, ◌+◌, ◌^◌, [], ◌∷◌, Err, subst, sym}
-use Rattle.std.specs.Prelude.{count_by}
-use Rattle.iv_machine.specs.Refusing.{full, missing}
-use Rattle.iv_machine.specs.State.{actor, missing_for, rel_of}
+use Rattle.std.proofs.Common.{Err, subst, sym}
 use Rattle.iv_database.specs.Database.{IsDatabase}
 use Rattle.iv_database.specs.Target.{IsActingOn}
-use Rattle.iv_engine.specs.Kept.{Kept, database_of, frame_of}
+use Rattle.iv_engine.specs.Kept.{Kept, database_of}
 use Rattle.iv_engine.specs.Openable.{MayOpen}
 use Rattle.iv_command.specs.declared.stop.Stop.{Stop}
 use Rattle.iv_database.proofs.Owning.{err_is}
+use Rattle.iv_engine.proofs.Opening.{not_acting}
 use Rattle.iv_engine.proofs.store.Store.check_subscribe.Goals as goal
 
 pub acting_on-requires : goal.acting_on-requires
@@ -16,13 +14,11 @@ acting_on-requires c = subst (λ (v : Kept). IsDatabase (database_of v)) (sym c.
 pub returns-in_err-acting : goal.returns-in_err-acting
 returns-in_err-acting c =
     let e = c.args.self.now in
-    let f = frame_of e in
     let n = c.args.session in
     let name = c.args.rel.now in
-    let told = subst (λ (v : Kept). IsActingOn (database_of v) n name (Err c.in_err-acting.field-0.0)) c.self.view_is c.in_err-acting.ensures in
     err_is c.from_residual.result _ (MayOpen e n name) c.from_residual.ensures.1
     (λ stop is. subst (λ (s : Stop). MayOpen e n name (Err s)) (sym is)
-    (told (missing f (missing_for f (actor f n) (rel_of f.catalog name)) ∷ full 16 (count_by (λ s. n == s.session) f.subscriptions) ∷ full (2 ^ 63) (f.last + 1) ∷ [])))
+    (not_acting e n name c.in_err-acting.field-0.0 (subst (λ (v : Kept). IsActingOn (database_of v) n name (Err c.in_err-acting.field-0.0)) c.self.view_is c.in_err-acting.ensures)))
 
 pub name_of-requires : goal.name_of-requires
 name_of-requires c = subst (λ (v : Kept). IsDatabase (database_of v)) (sym c.self.view_is) c.requires.database

@@ -1,4 +1,4 @@
-use Rattle.std.proofs.Common.{◌≡◌, ◌∙◌, ◌<◌, ap, length, subst, sym}
+use Rattle.std.proofs.Common.{◌∙◌, ap, subst, sym}
 use Rattle.iv_machine.specs.State.{missing_for}
 use Rattle.iv_database.specs.Database as database
 use Rattle.iv_database.specs.Database.{IsDatabase}

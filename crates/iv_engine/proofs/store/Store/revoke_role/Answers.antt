@@ -1,40 +1,40 @@
-use Rattle.std.proofs.Common.{◌≡◌, ◌∙◌, None, ap, length, refl, sym}
-use Rattle.std.specs.Prelude.{option_map, string_bytes}
+use Rattle.std.proofs.Common.{◌∙◌, ap, refl, subst, sym}
+use Rattle.std.specs.Prelude.{Err, string_bytes}
 use Rattle.iv_access.specs.Privileges.{role_of}
 use Rattle.iv_machine.specs.Act.{revoke_role}
-use Rattle.iv_machine.specs.Refusing.{frame_refusal}
+use Rattle.iv_database.proofs.Owning.{err_is}
+use Rattle.iv_command.specs.declared.stop.Stop.{Stop}
 use Rattle.iv_engine.specs.Answering.{IsStep}
-use Rattle.iv_engine.specs.Concerned.{differing, reaching}
-use Rattle.iv_engine.specs.Kept.{Kept, frame_of, with_database}
-use Rattle.iv_engine.specs.Next.{kept_after}
-use Rattle.iv_engine.proofs.Stepping.{has_become, has_passed}
-use Rattle.iv_engine.specs.Turned.{AreReadersTold}
-use Rattle.iv_command.specs.Views.{refusal_of}
-use Rattle.iv_engine.proofs.Joining.{many_flags, parted_step, parted_waiting}
-use Rattle.iv_engine.proofs.Righting.{by_told, told_as, waiting_as}
+use Rattle.iv_engine.specs.Kept.{kept_of, Kept, with_database}
+use Rattle.iv_engine.proofs.Enrolled.{enrolled_long, enrolled_steps, enrolled_waits, parts}
+use Rattle.iv_engine.proofs.Stepping.{stopped}
 use Rattle.iv_engine.proofs.store.Store.revoke_role.Goals as goal
+
+pub returns-in_err-revoke_role : goal.returns-in_err-revoke_role
+returns-in_err-revoke_role c =
+    let e = c.args.self.now in
+    let n = c.args.session in
+    let role = string_bytes c.args.role in
+    let to = c.args.to.now in
+    let act = revoke_role role to in
+    let d = c.revoke_role.new.self in
+    let s = c.self.inside in
+    let u = kept_of s.database s.subscriptions.items s.circuits.items s.last in
+    err_is c.from_residual-in_err-revoke_role.result _ (λ r. IsStep e n act r (with_database d u)) c.from_residual-in_err-revoke_role.ensures.1
+    (λ stop is. subst (λ (s : Stop). IsStep e n act (Err s) (with_database d u)) (sym is)
+    (stopped e u d n act c.self.view_is refl c.in_err-revoke_role.field-0.0 c.in_err-revoke_role.ensures.done))
 
 pub tell_members-requires-clause-long : goal.tell_members-requires-clause-long
 tell_members-requires-clause-long c =
     let e = c.args.self.now in
     let n = c.args.session in
-    let act = revoke_role (string_bytes c.args.role) c.args.to.now in
+    let role = string_bytes c.args.role in
+    let to = c.args.to.now in
+    let act = revoke_role role to in
+    let d = c.revoke_role.new.self in
     let s = c.self.inside in
-    let u : Kept = record {
-      cap = s.database.cap;
-      known = s.database.known;
-      catalog = s.database.catalog;
-      sessions = s.database.sessions;
-      subscriptions = s.subscriptions.items;
-      circuits = s.circuits.items;
-      last = s.last;
-      tables = s.database.tables;
-    } in
-    let told = c.in_ok-refusal.ensures in
-    let v = with_database c.revoke_role.new.self u in
-    let passed : frame_refusal (frame_of e) n act ≡ None = has_passed e u c.revoke_role.new.self n act _ c.self.view_is refl c.in_default.is told.refused in
-    let was : v ≡ kept_after e n act = has_become e u c.revoke_role.new.self n act _ c.self.view_is refl c.in_default.is told.refused told.state in
-    ap (λ bs. length bs) (c.deref.ensures.value ∙ c.in_ok-before.ensures) ∙ many_flags e c.role-group.result ∙ sym (ap (λ (u : Kept). length u.circuits) was)
+    let u = kept_of s.database s.subscriptions.items s.circuits.items s.last in
+    enrolled_long e u d n act role c.self.view_is (parts e n role to c.requires) c.in_ok-revoke_role.ensures.done c.role-group.result c.deref.result.now (c.deref.ensures.value ∙ c.in_ok-before.ensures)
 
 pub tell_members-requires-clause-waiting : goal.tell_members-requires-clause-waiting
 tell_members-requires-clause-waiting c =
@@ -43,26 +43,11 @@ tell_members-requires-clause-waiting c =
     let role = string_bytes c.args.role in
     let to = c.args.to.now in
     let act = revoke_role role to in
-    let g = c.role-group.result in
+    let d = c.revoke_role.new.self in
     let s = c.self.inside in
-    let u : Kept = record {
-      cap = s.database.cap;
-      known = s.database.known;
-      catalog = s.database.catalog;
-      sessions = s.database.sessions;
-      subscriptions = s.subscriptions.items;
-      circuits = s.circuits.items;
-      last = s.last;
-      tables = s.database.tables;
-    } in
-    let told = c.in_ok-refusal.ensures in
-    let v = with_database c.revoke_role.new.self u in
-    let passed : frame_refusal (frame_of e) n act ≡ None = has_passed e u c.revoke_role.new.self n act _ c.self.view_is refl c.in_default.is told.refused in
-    let was : v ≡ kept_after e n act = has_become e u c.revoke_role.new.self n act _ c.self.view_is refl c.in_default.is told.refused told.state in
-    let found : option_map (λ r. r.0) g ≡ role_of e.known.rights role = c.role-group.ensures ∙ (λ i. role_of (c.access.ensures i).rights (c.as_str.ensures.value i)) ∙ ap (λ (v : Kept). role_of v.known.rights role) c.self.view_is in
-    let flags : differing c.deref.result.now (reaching v g) ≡ differing (reaching e g) (reaching (kept_after e n act) g) =
-    (λ i. differing ((c.deref.ensures.value ∙ c.in_ok-before.ensures) i) (reaching (was i) g)) in
-    waiting_as v (kept_after e n act) _ _ was flags (parted_waiting e n role to c.requires g found passed)
+    let u = kept_of s.database s.subscriptions.items s.circuits.items s.last in
+    enrolled_waits e u d n act role c.self.view_is (parts e n role to c.requires) c.in_ok-revoke_role.ensures.done c.role-group.result c.deref.result.now (c.deref.ensures.value ∙ c.in_ok-before.ensures)
+    (c.role-group.ensures ∙ (λ i. role_of (c.access.ensures i).rights (c.as_str.ensures.value i)) ∙ ap (λ (v : Kept). role_of v.known.rights role) c.self.view_is)
 
 pub returns : goal.returns
 returns c =
@@ -71,25 +56,9 @@ returns c =
     let role = string_bytes c.args.role in
     let to = c.args.to.now in
     let act = revoke_role role to in
-    let g = c.role-group.result in
+    let d = c.revoke_role.new.self in
     let s = c.self.inside in
-    let u : Kept = record {
-      cap = s.database.cap;
-      known = s.database.known;
-      catalog = s.database.catalog;
-      sessions = s.database.sessions;
-      subscriptions = s.subscriptions.items;
-      circuits = s.circuits.items;
-      last = s.last;
-      tables = s.database.tables;
-    } in
-    let told = c.in_ok-refusal.ensures in
-    let v = with_database c.revoke_role.new.self u in
-    let passed : frame_refusal (frame_of e) n act ≡ None = has_passed e u c.revoke_role.new.self n act _ c.self.view_is refl c.in_default.is told.refused in
-    let was : v ≡ kept_after e n act = has_become e u c.revoke_role.new.self n act _ c.self.view_is refl c.in_default.is told.refused told.state in
-    let found : option_map (λ r. r.0) g ≡ role_of e.known.rights role = c.role-group.ensures ∙ (λ i. role_of (c.access.ensures i).rights (c.as_str.ensures.value i)) ∙ ap (λ (v : Kept). role_of v.known.rights role) c.self.view_is in
-    let flags : differing c.deref.result.now (reaching v g) ≡ differing (reaching e g) (reaching (kept_after e n act) g) =
-    (λ i. differing ((c.deref.ensures.value ∙ c.in_ok-before.ensures) i) (reaching (was i) g)) in
-    let new = c.tell_members.new.self in
-    by_told (AreReadersTold v (differing c.deref.result.now (reaching v g))) (IsStep e n act) new c.tell_members.result
-    (λ a readers. parted_step e n role to c.requires g found new a passed (told_as v (kept_after e n act) _ _ a new was flags readers)) c.tell_members.ensures
+    let u = kept_of s.database s.subscriptions.items s.circuits.items s.last in
+    enrolled_steps e u d n act role c.self.view_is (parts e n role to c.requires) c.in_ok-revoke_role.ensures.done c.role-group.result c.deref.result.now (c.deref.ensures.value ∙ c.in_ok-before.ensures)
+    (c.role-group.ensures ∙ (λ i. role_of (c.access.ensures i).rights (c.as_str.ensures.value i)) ∙ ap (λ (v : Kept). role_of v.known.rights role) c.self.view_is)
+    c.tell_members.new.self c.in_ok-answer.answer c.in_ok-answer.ensures

@@ -1,8 +1,8 @@
 use Rattle.std.proofs.Common.{◌∙◌, Bool, List, ap, length, subst, sym}
+use Rattle.std.proofs.lemmas.Result.{IfOk-weaker}
 use Rattle.iv_engine.specs.Concerned.{differing, reaching}
 use Rattle.iv_engine.specs.Turned.{AreReadersTold, AreWaiting}
 use Rattle.iv_engine.proofs.Joining.{many_flags}
-use Rattle.iv_engine.proofs.Righting.{by_told}
 use Rattle.iv_engine.proofs.store.Store.tell_members.Goals as goal
 
 pub differing-requires : goal.differing-requires
@@ -19,5 +19,5 @@ returns c =
     let e = c.args.self.now in
     let new = c.tell_readers.new.self in
     let flags = c.deref-2.ensures.value ∙ c.in_ok-concerned.ensures ∙ ap (differing c.args.before.now) (c.deref.ensures.value ∙ c.in_ok-after.ensures) in
-    by_told (AreReadersTold e c.deref-2.result.now) (AreReadersTold e (differing c.args.before.now (reaching e c.args.group))) new c.tell_readers.result
+    IfOk-weaker c.tell_readers.result (λ a. AreReadersTold e c.deref-2.result.now a new) (λ a. AreReadersTold e (differing c.args.before.now (reaching e c.args.group)) a new)
     (λ a told. subst (λ (bs : List Bool). AreReadersTold e bs a new) flags told) c.tell_readers.ensures
