@@ -54,7 +54,7 @@ fn cells_of(alloc: Global, items: &[Json<'_>]) -> Result<Option<Row>, AllocError
             Some(value) => values.push(value)?,
         }
     }
-    Ok(Some(Row(values)))
+    Ok(Some(Row::new(values)?))
 }
 
 /// The row that a JSON value is.

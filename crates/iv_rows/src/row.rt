@@ -1,7 +1,8 @@
 //! Rows, their equality, order and hash.
 //!
-//! Comparisons of a row are written by hand over those that are derived for `Value`: a derive on a type with such a view
-//! asks for an inverse of the view, and there is none. `Row::copy` takes its memory from the allocator that the row holds.
+//! A row never changes, so a copy of it shares its values: a row stands in memory once, however many tables, totals,
+//! indexes and lines have it. Comparisons of a row are written by hand over those that are derived for `Value`: a derive on a
+//! type with such a view asks for an inverse of the view, and there is none.
 ghost use Rattle.std.specs.Prelude.{◌≡◌, ◌++◌, IfOk, IsTrue, OnOk, ◌↔◌, refl};
 ghost use Rattle.std.specs.Cmp.{partial_equiv_from_equiv, partial_order_from_total};
 ghost use Rattle.std.specs.List.{fold, list_all};
@@ -13,16 +14,17 @@ ghost use Rattle.iv_rows.specs.Texts.{is_well, is_well_cell};
 ghost use Rattle.iv_rows.specs.View.{cell_of, cells_of};
 
 use crate::value::Value;
-use std::alloc::AllocError;
+use std::alloc::{AllocError, Global};
 use std::cmp::Ordering;
 use std::hash::{Hash, Hasher};
 use std::marker::Model;
+use std::rc::Rc;
 
 /// The values of the columns of a row, from the left.
 ///
 /// Rows compare from the left, column by column; a row that is the front of another stands before it.
 #[derive(Drop)]
-pub struct Row(pub Vec<Value>);
+pub struct Row(Rc<Vec<Value>>);
 
 impl Model for Row {
     ghost use Rattle.std.specs.Prelude.{List};
@@ -32,34 +34,62 @@ impl Model for Row {
 
     ghost use Rattle.iv_rows.specs.View.{cells_of};
 
-    ghost view = { λ r. cells_of r.0.items };
+    ghost view = { λ r. cells_of r.0.value.items };
 }
 
 impl Row {
+    /// The row of these values.
+    ///
+    /// # Errors
+    /// `AllocError` where a growth of memory was refused.
+    pub fn new(values: Vec<Value>) -> Result<Row, AllocError>
+        ensures { IfOk result (λ row. row ≡ cells_of values.items) }
+    {
+        let alloc = *values.allocator();
+        let values = Rc::new(alloc, values)?;
+        Ok(Row(values))
+    }
+
     /// The values of the columns, from the left.
     pub fn values(&self) -> &[Value]
         ensures { cells_of result.now ≡ self.now }
     {
-        &self.0
+        self.0.as_slice()
     }
 
-    /// An equal row, in memory of the same allocator.
+    /// What the row took its memory from.
+    pub fn allocator(&self) -> Global {
+        *self.0.allocator()
+    }
+
+    /// An equal row, which shares the values. It takes no memory.
     ///
     /// # Errors
-    /// `AllocError` where a growth of memory was refused.
+    /// `AllocError` where a row has as many copies as can be counted.
     pub fn copy(&self) -> Result<Row, AllocError>
         ensures { IfOk result (λ row. row ≡ self.now) }
     {
-        let mut copies = Vec::with_capacity(*self.0.allocator(), self.0.len())?;
-        copy_values(&self.0, &mut copies)?;
-        Ok(Row(copies))
+        Ok(Row(self.0.clone()?))
+    }
+
+    /// Equal values in memory of the same allocator, with room for so many more.
+    ///
+    /// # Errors
+    /// `AllocError` where a growth of memory was refused.
+    pub fn copied_values(&self, more: usize) -> Result<Vec<Value>, AllocError>
+        ensures { IfOk result (λ values. cells_of values.items ≡ self.now) }
+    {
+        let values = self.values();
+        let mut copies = Vec::with_capacity(self.allocator(), values.len().saturating_add(more))?;
+        copy_values(values, &mut copies)?;
+        Ok(copies)
     }
 
     /// Whether a table may hold the row: each text has at most 1,024 bytes and no U+0000.
     pub fn well(&self) -> bool
         ensures { result ≡ is_well self.now }
     {
-        are_well(&self.0)
+        are_well(self.values())
     }
 
     /// Whether the two are one row.
@@ -94,7 +124,7 @@ impl PartialEq for Row {
     ghost laws = { partial_equiv_from_equiv row_eq_equiv };
 
     fn eq(&self, other: &Row) -> bool {
-        self.0 == other.0
+        self.values() == other.values()
     }
 }
 
@@ -122,7 +152,7 @@ impl Ord for Row {
     ghost matches_eq = { λ _ _. refl };
 
     fn cmp(&self, other: &Row) -> Ordering {
-        self.0.cmp(&other.0)
+        self.values().cmp(other.values())
     }
 }
 
@@ -166,6 +196,6 @@ impl Hash for Row {
     ghost respects_eq = { row_fed_alike };
 
     fn hash<H: Hasher>(&self, state: &mut H) {
-        feed_all(&self.0, state);
+        feed_all(self.values(), state);
     }
 }

@@ -13,7 +13,7 @@ fn column(alloc: Global, name: &str, kind: Kind) -> Result<Column, Fail> {
 }
 
 fn row_of_k_and_2(alloc: Global) -> Result<Row, Fail> {
-    Ok(Row(Vec::from_array(alloc, [text(alloc, "k")?, Value::Int(2)])?))
+    Ok(Row::new(Vec::from_array(alloc, [text(alloc, "k")?, Value::Int(2)])?)?)
 }
 
 #[test]
@@ -31,13 +31,13 @@ fn a_copy_is_equal(rt: HostRuntime) -> Result<(), Fail> {
 #[test]
 fn rows_rise_from_the_left(rt: HostRuntime) -> Result<(), Fail> {
     let alloc = rt.alloc();
-    let small = Row(Vec::from_array(alloc, [Value::Int(-1), Value::Flag(true)])?);
-    let large = Row(Vec::from_array(alloc, [Value::Int(2), Value::Flag(false)])?);
+    let small = Row::new(Vec::from_array(alloc, [Value::Int(-1), Value::Flag(true)])?)?;
+    let large = Row::new(Vec::from_array(alloc, [Value::Int(2), Value::Flag(false)])?)?;
     assert_eq!(rt; small.cmp(&large), Ordering::Less);
     assert!(rt; small < large);
     assert!(rt; small != large);
-    let upper = Row(Vec::from_array(alloc, [text(alloc, "Z")?])?);
-    let lower = Row(Vec::from_array(alloc, [text(alloc, "a")?])?);
+    let upper = Row::new(Vec::from_array(alloc, [text(alloc, "Z")?])?)?;
+    let lower = Row::new(Vec::from_array(alloc, [text(alloc, "a")?])?)?;
     assert!(rt; upper < lower);
     Ok(())
 }
@@ -73,7 +73,7 @@ fn schemas_are_tried(rt: HostRuntime) -> Result<(), Fail> {
     let schema = Schema::try_new(columns)?;
     assert_eq!(rt; schema.columns().len(), 2);
     assert!(rt; schema.accepts(&row_of_k_and_2(alloc)?));
-    assert!(rt; !schema.accepts(&Row(Vec::new(alloc))));
+    assert!(rt; !schema.accepts(&Row::new(Vec::new(alloc))?));
     assert!(rt; matches!(Schema::try_new(Vec::new(alloc)), Err(RowFault::Columns)));
     let twice = Vec::from_array(
         alloc,
@@ -92,7 +92,7 @@ fn schemas_are_tried(rt: HostRuntime) -> Result<(), Fail> {
 fn rows_are_well(rt: HostRuntime) -> Result<(), Fail> {
     let alloc = rt.alloc();
     assert!(rt; row_of_k_and_2(alloc)?.well());
-    assert!(rt; !Row(Vec::from_array(alloc, [text(alloc, "a\0b")?])?).well());
+    assert!(rt; !Row::new(Vec::from_array(alloc, [text(alloc, "a\0b")?])?)?.well());
     let mut long = String::new(alloc);
     for _ in 0..1024 {
         long.push('x')?;

@@ -61,7 +61,7 @@ fn row(alloc: Global, numbers: [i64; 3]) -> Result<Row, AllocError> {
     for number in numbers {
         values.push(Value::Int(number))?;
     }
-    Ok(Row(values))
+    Row::new(values)
 }
 
 /// Whether these are the rows, with their copies; none where memory was refused.

@@ -104,7 +104,7 @@ fn put(tables: &mut Tables, table: RelId, row: Row, copies: i64) -> bool
 /// A row of two numbers.
 fn row(alloc: Global, numbers: [i64; 2]) -> Result<Row, AllocError> {
     let values = [Value::Int(numbers[0]), Value::Int(numbers[1])];
-    Ok(Row(Vec::from_array(alloc, values)?))
+    Row::new(Vec::from_array(alloc, values)?)
 }
 
 /// Adds a change to a table and to the changes of tables.

@@ -268,7 +268,7 @@ fn entry(alloc: Global, who: &str, copies: i64) -> Result<Entry, AllocError> {
     let mut values = Vec::new(alloc);
     values.push(Value::Int(1))?;
     values.push(Value::Text(who))?;
-    let op = Op::Insert(Row(values));
+    let op = Op::Insert(Row::new(values)?);
     Ok(Entry { rel, op, copies })
 }
 

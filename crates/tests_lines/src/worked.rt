@@ -197,8 +197,8 @@ fn change_written(alloc: Global) -> Result<Vec<u8>, AllocError> {
     values.push(Value::Text(String::from_str(alloc, "a\"n")?))?;
     values.push(Value::Flag(true))?;
     let mut rows = Vec::new(alloc);
-    rows.push((Row(values), i64::MAX))?;
-    rows.push((Row(Vec::new(alloc)), -i64::MAX))?;
+    rows.push((Row::new(values)?, i64::MAX))?;
+    rows.push((Row::new(Vec::new(alloc))?, -i64::MAX))?;
     let change = Line::Change {
         session: 4294967295,
         sub: 9223372036854775807,

@@ -97,13 +97,13 @@ fn verdict_of(
     test: Check,
     n: i64,
 ) -> Result<Verdict, AllocError> {
-    let row = Row(Vec::from_array(alloc, [Value::Int(n)])?);
+    let row = Row::new(Vec::from_array(alloc, [Value::Int(n)])?)?;
     Ok(access.check(role, NOTES, test, &row))
 }
 
 /// Whether the role's filter lets a number through.
 fn is_seen(access: &Access, alloc: Global, role: RoleId, n: i64) -> Result<bool, AllocError> {
-    let row = Row(Vec::from_array(alloc, [Value::Int(n)])?);
+    let row = Row::new(Vec::from_array(alloc, [Value::Int(n)])?)?;
     let filter = access.filter(role, NOTES)?;
     Ok(filter.passes(&row))
 }

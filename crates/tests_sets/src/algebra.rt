@@ -12,7 +12,7 @@ const HALF: i64 = 4_611_686_018_427_387_904;
 /// A row of a text and a number.
 fn row(alloc: Global, key: &str, number: i64) -> Result<Row, Fail> {
     let key = Value::Text(String::from_str(alloc, key)?);
-    Ok(Row(Vec::from_array(alloc, [key, Value::Int(number)])?))
+    Ok(Row::new(Vec::from_array(alloc, [key, Value::Int(number)])?)?)
 }
 
 fn column(alloc: Global, name: &str, kind: Kind) -> Result<Column, Fail> {
@@ -331,7 +331,7 @@ fn too_many_copies_change_nothing(rt: HostRuntime) -> Result<(), Fail> {
 #[test]
 fn rows_of_other_kinds(rt: HostRuntime) -> Result<(), Fail> {
     let note = row(rt.alloc(), "a", 1)?;
-    let number = Row(Vec::from_array(rt.alloc(), [Value::Int(1)])?);
+    let number = Row::new(Vec::from_array(rt.alloc(), [Value::Int(1)])?)?;
     let tables = no_notes(rt.alloc())?;
     assert!(rt; tables.accepts(NOTES, &note));
     assert!(rt; !tables.accepts(RelId(4), &note));

@@ -46,7 +46,7 @@ pub(crate) fn row(alloc: Global, keyed: bool, numbers: &[i64]) -> Result<Row, Al
         push_key(&mut values, key(alloc)?)?;
     }
     push_numbers(&mut values, numbers)?;
-    Ok(Row(values))
+    Row::new(values)
 }
 
 /// Adds to the weight of a row, and tells whether that was done.
