@@ -2,6 +2,7 @@
 use Rattle.std.proofs.Common.{◌≡◌, ℕ, ◌<◌, Bool, true, cond, not, List, [], ◌∷◌, ◌++◌, length, map, Option, None, Some, refl, sym, ap, subst, ◌∙◌}
 use Rattle.std.specs.Prelude.{Result, Ok as OkResult, Err, is_some, filter, flat_map}
 use Rattle.std.specs.List.{AllByRecursion}
+use Rattle.std.specs.Result.{IsErrAnd}
 use Rattle.iv_rows.specs.Columns.{Column}
 use Rattle.iv_zset.specs.Weights.{weight_of}
 use Rattle.iv_algebra.specs.Plans.{Lists}
@@ -34,6 +35,7 @@ use Rattle.iv_command.specs.declared.answer.Answer.{Answer}
 use Rattle.iv_command.specs.declared.stop.Stop.{Stop}
 use Rattle.iv_command.specs.declared.stop.Stop.TheVariants.{Refused, Memory}
 use Rattle.iv_engine.proofs.Counted.{all_beside, same_rounds, those_counted}
+use Rattle.iv_database.proofs.Owning.{err_is}
 use Rattle.iv_database.proofs.Tabled.{rows_with}
 use Rattle.iv_engine.proofs.Showing.{cause_for, difference_none, each_found, ending_is, shown_is}
 use Rattle.iv_engine.proofs.Sound.{all_map, all_shown, all_zip, begin_sound, begin_unmoved, grant_sound, grant_unmoved, role_sound, role_unmoved, table_sound, table_unmoved, view_sound, view_unmoved}
@@ -198,6 +200,10 @@ changed_step e new n act a q acts sound passed k r told = record {
 -- its tests are the engine's
 abbrev pub TestsAlike : Kept → ℕ → Act → Type 0
 TestsAlike u n act = frame_refusal (database.frame_of (database_of u)) n act ≡ frame_refusal (frame_of u) n act
+
+-- what stops a request goes up as it is
+pub goes_up : (e : Kept) (n : ℕ) (act : Act) (new : Kept) (stop : Stop) → IsStep e n act (Err stop) new → (r : Result Answer Stop) → IsErrAnd r (λ x. x ≡ stop) → IsStep e n act r new
+goes_up e n act new stop step r up = err_is r (λ x. x ≡ stop) (λ y. IsStep e n act y new) up (λ x is. subst (λ (z : Stop). IsStep e n act (Err z) new) (sym is) step)
 
 module _ (e u : Kept) (d : Database) (n : ℕ) (act : Act) (is : u ≡ e) (same : TestsAlike u n act) where
   -- a request that it does not do

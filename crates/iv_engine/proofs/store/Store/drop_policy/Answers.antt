@@ -4,11 +4,9 @@ use Rattle.iv_access.specs.Rights.{Name}
 use Rattle.iv_machine.specs.Act.{drop_policy}
 use Rattle.iv_database.specs.Database.{IsDatabase}
 use Rattle.iv_database.specs.Owned.{IsGuarded}
-use Rattle.iv_database.proofs.Owning.{err_is}
-use Rattle.iv_command.specs.declared.stop.Stop.{Stop}
-use Rattle.iv_engine.specs.Answering.{IsStep}
-use Rattle.iv_engine.specs.Kept.{kept_of, Kept, database_of, with_database}
+use Rattle.iv_engine.specs.Kept.{Kept, database_of}
 use Rattle.iv_engine.proofs.Guarding.{drop_guards, guard_steps, guard_stops, guard_waits}
+use Rattle.iv_engine.proofs.Stepping.{goes_up}
 use Rattle.iv_engine.proofs.store.Store.drop_policy.Goals as goal
 
 pub drop_policy-requires : goal.drop_policy-requires
@@ -16,33 +14,18 @@ drop_policy-requires c = subst (λ (v : Kept). IsDatabase (database_of v)) (sym 
 
 pub returns-in_err-table : goal.returns-in_err-table
 returns-in_err-table c =
-    let e = c.args.self.now in
-    let n = c.args.session in
-    let d = c.drop_policy.new.self in
-    let s = c.self.inside in
-    let u = kept_of s.database s.subscriptions.items s.circuits.items s.last in
-    err_is c.from_residual.result _ (λ r. IsStep e n (drop_policy (string_bytes c.args.rel) c.args.name.now) r (with_database d u)) c.from_residual.ensures.1
-    (λ stop is. subst (λ (s : Stop). IsStep e n (drop_policy (string_bytes c.args.rel) c.args.name.now) (Err s) (with_database d u)) (sym is)
-    (guard_stops e u d n (drop_policy (string_bytes c.args.rel) c.args.name.now) (string_bytes c.args.rel) c.self.view_is (drop_guards e n (string_bytes c.args.rel) c.args.name.now) c.requires c.in_err-table.field-0.0
-    (subst (λ (x : Name). IsGuarded (database_of u) n (drop_policy x c.args.name.now) x (Err c.in_err-table.field-0.0) d) c.as_str.ensures.value c.in_err-table.ensures.guarded)))
+    goes_up c.args.self.now c.args.session (drop_policy (string_bytes c.args.rel) c.args.name.now) _ c.in_err-table.field-0.0
+    (guard_stops c.args.self.now _ c.drop_policy.new.self c.args.session (drop_policy (string_bytes c.args.rel) c.args.name.now) (string_bytes c.args.rel) c.self.view_is (drop_guards c.args.self.now c.args.session (string_bytes c.args.rel) c.args.name.now) c.requires c.in_err-table.field-0.0
+    (subst (λ (x : Name). IsGuarded c.self.inside.database c.args.session (drop_policy x c.args.name.now) x (Err c.in_err-table.field-0.0) c.drop_policy.new.self) c.as_str.ensures.value c.in_err-table.ensures.guarded))
+    c.from_residual.result c.from_residual.ensures.1
 
 pub tell_of-requires : goal.tell_of-requires
 tell_of-requires c =
-    let e = c.args.self.now in
-    let n = c.args.session in
-    let d = c.drop_policy.new.self in
-    let s = c.self.inside in
-    let u = kept_of s.database s.subscriptions.items s.circuits.items s.last in
-    guard_waits e u d n (drop_policy (string_bytes c.args.rel) c.args.name.now) (string_bytes c.args.rel) c.self.view_is (drop_guards e n (string_bytes c.args.rel) c.args.name.now) c.requires c.in_ok-table.table
-    (subst (λ (x : Name). IsGuarded (database_of u) n (drop_policy x c.args.name.now) x (Ok c.in_ok-table.table) d) c.as_str.ensures.value c.in_ok-table.ensures.guarded)
+    guard_waits c.args.self.now _ c.drop_policy.new.self c.args.session (drop_policy (string_bytes c.args.rel) c.args.name.now) (string_bytes c.args.rel) c.self.view_is (drop_guards c.args.self.now c.args.session (string_bytes c.args.rel) c.args.name.now) c.requires c.in_ok-table.table
+    (subst (λ (x : Name). IsGuarded c.self.inside.database c.args.session (drop_policy x c.args.name.now) x (Ok c.in_ok-table.table) c.drop_policy.new.self) c.as_str.ensures.value c.in_ok-table.ensures.guarded)
 
 pub returns : goal.returns
 returns c =
-    let e = c.args.self.now in
-    let n = c.args.session in
-    let d = c.drop_policy.new.self in
-    let s = c.self.inside in
-    let u = kept_of s.database s.subscriptions.items s.circuits.items s.last in
-    guard_steps e u d n (drop_policy (string_bytes c.args.rel) c.args.name.now) (string_bytes c.args.rel) c.self.view_is (drop_guards e n (string_bytes c.args.rel) c.args.name.now) c.requires c.in_ok-table.table
-    (subst (λ (x : Name). IsGuarded (database_of u) n (drop_policy x c.args.name.now) x (Ok c.in_ok-table.table) d) c.as_str.ensures.value c.in_ok-table.ensures.guarded)
+    guard_steps c.args.self.now _ c.drop_policy.new.self c.args.session (drop_policy (string_bytes c.args.rel) c.args.name.now) (string_bytes c.args.rel) c.self.view_is (drop_guards c.args.self.now c.args.session (string_bytes c.args.rel) c.args.name.now) c.requires c.in_ok-table.table
+    (subst (λ (x : Name). IsGuarded c.self.inside.database c.args.session (drop_policy x c.args.name.now) x (Ok c.in_ok-table.table) c.drop_policy.new.self) c.as_str.ensures.value c.in_ok-table.ensures.guarded)
     c.tell_of.new.self c.in_ok-answer.answer c.in_ok-answer.ensures
