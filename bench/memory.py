@@ -1,4 +1,3 @@
-#!/usr/bin/env python3
 """The bytes of memory that a row takes: in a table, in the circuit of a reader, in the steps of views and in the indexes of a join.
 
 Rows are those of bench/workloads.py, of a number, a text of two or three letters and a number. Each figure is of the memory that
@@ -6,15 +5,11 @@ the program has at the end (the resident set), divided by the rows, less that of
 other has not. The least and the greatest of sizes tell how the room of maps, which doubles, makes it differ. VIEWD names another
 program to run.
 
-    bench/memory [ROWS ..]          65,536 and 1,000,000 where none is said
+    bench/run memory [ROWS ..]          65,536 and 1,000,000 where none is said
 """
-import sys
-
-sys.dont_write_bytecode = True
 from measure import Run, own_program, part_of
 from workloads import begun, subscribed, table, view
 
-PROGRAM = own_program()
 ALL = "select id, who, amount from a"
 NONE = "select id, who, amount from a where amount < 0"
 
@@ -40,8 +35,8 @@ CASES = [
 ]
 
 
-def resident(requests):
-    run = Run(PROGRAM, ["--rows", "1048576"])
+def resident(program, requests):
+    run = Run(program, ["--rows", "1048576"])
     run.tell(part_of(requests))
     with open(f"/proc/{run.child.pid}/status", encoding="ascii") as file:
         size = next(int(line.split()[1]) * 1024 for line in file if line.startswith("VmRSS"))
@@ -49,15 +44,15 @@ def resident(requests):
     return size
 
 
-def main(sizes):
+def main(words):
+    program, sizes = own_program(), [int(word) for word in words] or [65_536, 1_000_000]
     print("| bytes a row, of " + " | ".join(f"{rows:,} rows" for rows in sizes) + " |")
     print("| --- " * (len(sizes) + 1) + "|")
-    empty = resident(begun(table("a", 0), table("b", 0)))
+    empty = resident(program, begun(table("a", 0), table("b", 0)))
     found = {}
     for name, requests, less in CASES:
-        found[name] = [resident(list(requests(rows))) for rows in sizes]
+        found[name] = [resident(program, list(requests(rows))) for rows in sizes]
         rest = found[less] if less else [empty] * len(sizes)
         print(f"| {name} | " + " | ".join(f"{(size - other) / rows:,.0f}" for rows, size, other in zip(sizes, found[name], rest)) + " |", flush=True)
 
-
-main([int(word) for word in sys.argv[1:]] or [65_536, 1_000_000])
+    return 0

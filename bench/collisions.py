@@ -1,4 +1,3 @@
-#!/usr/bin/env python3
 """The processor time of inserting rows that fall together under the kit's hasher without a seed, beside rows of random numbers.
 
 The numbers of a colliding row are chosen so that the hasher's state behind them is the same whatever the first of them is. They
@@ -12,7 +11,6 @@ import argparse
 import random
 import sys
 
-sys.dont_write_bytecode = True
 from measure import Run, own_program, part_of, slope
 from workloads import begun, request, subscribed, view, write
 
@@ -71,11 +69,11 @@ def seconds(program, before, lines):
     return told[1].seconds
 
 
-def main():
-    parser = argparse.ArgumentParser(description=__doc__, formatter_class=argparse.RawDescriptionHelpFormatter)
+def main(words):
+    parser = argparse.ArgumentParser(prog="bench/run collisions", description=__doc__, formatter_class=argparse.RawDescriptionHelpFormatter)
     parser.add_argument("--rounds", metavar="N", type=int, default=3)
     parser.add_argument("--sizes", metavar="N", type=int, nargs="+", default=SIZES)
-    options = parser.parse_args()
+    options = parser.parse_args(words)
     program, worst = own_program(), 0.0
     for kind, (before, names) in KINDS.items():
         print(f"{kind}: size, microseconds of a row that collides, of another, ratio")
@@ -90,7 +88,4 @@ def main():
             print(f"{size:7} {both[0] / size * 1e6:9.2f} {both[1] / size * 1e6:9.2f} {both[0] / both[1]:7.2f}", flush=True)
         if len(options.sizes) > 1:
             print(f"  slope {slope(options.sizes, costs[0]):9.2f} {slope(options.sizes, costs[1]):9.2f}")
-    sys.exit(0 if worst <= MOST else f"bench: a colliding row costs {worst:.2f} times what another does")
-
-
-main()
+    return 0 if worst <= MOST else f"bench: a colliding row costs {worst:.2f} times what another does"

@@ -1,4 +1,3 @@
-#!/usr/bin/env python3
 """The processor time and the peak memory of batches that a limit refuses, beside accepted batches of the same size.
 
 A table b has 60,000 rows of one key, and an open view joins a table a with it. A batch of 2, 20, 100 or 1,000 rows of that key
@@ -9,13 +8,11 @@ column, which is accepted. VIEWD names another program to run.
 """
 import sys
 
-sys.dont_write_bytecode = True
 from measure import Run, own_program, part_of
 from workloads import WRITE, begun, request, write
 
 BATCHES = {2: 5_000, 20: 1_000, 100: 200, 1_000: 40}
 MOST = 3.0
-PROGRAM = own_program()
 
 
 def table(name, rows):
@@ -28,11 +25,11 @@ def view(name, query):
     return request("create_view", name=name, owner="admin", query=query)
 
 
-def cost(before, lines, is_refused):
+def cost(program, before, lines, is_refused):
     """Processor seconds of a line, the median of three runs, and the peak memory; a limit refuses each line, or none."""
     seconds, peaks = [], []
     for _ in range(3):
-        run = Run(PROGRAM)
+        run = Run(program)
         run.tell(part_of(before))
         told = run.tell(part_of(lines))
         if (told.limits, told.ok) != ((len(lines), 0) if is_refused else (0, len(lines))):
@@ -43,27 +40,28 @@ def cost(before, lines, is_refused):
     return sorted(seconds)[1], max(peaks)
 
 
-def compared(title, before, refused, accepted):
+def compared(program, title, before, refused, accepted):
     """How many times the cost of the accepted lines the refused ones take, in time or memory."""
-    (time, memory), (usual, room) = cost(before, refused, True), cost(before, accepted, False)
+    (time, memory), (usual, room) = cost(program, before, refused, True), cost(program, before, accepted, False)
     told = [f"{name} {seconds * 1e6:,.1f} us and {peak / 1e6:.1f} MB" for name, seconds, peak in (("refused", time, memory), ("accepted", usual, room))]
     print(f"{title}: {', '.join(told)}: {time / usual:.2f} times", flush=True)
     return max(time / usual, memory / room)
 
 
-def main():
+def main(words):
+    if words:
+        return __doc__
+    program = own_program()
     joined = view("v", "select a.n as x, b.n as y from a join b on a.k = b.k")
     before = begun(table("a", 0), table("b", 60_000), [joined, request("subscribe", on="v")])
     worst = []
     for rows, batches in BATCHES.items():
         same, other = ([[key, n] for n in range(rows)] for key in (1, 2))
         accepted = [write("a", kind, other) for _ in range(batches // 2) for kind in ("insert", "delete")]
-        worst.append(compared(f"{rows:5} rows", before, [write("a", "insert", same)] * batches, accepted))
+        worst.append(compared(program, f"{rows:5} rows", before, [write("a", "insert", same)] * batches, accepted))
     query = "select a.n as x, b.n as y from t a join t b on a.{0} = b.{0}"
     alone = begun(table("t", 65_536), [view("v", query.format("k")), view("w", query.format("n"))])
-    worst.append(compared("self-join", alone, [request("subscribe", on="v")], [request("subscribe", on="w")]))
+    worst.append(compared(program, "self-join", alone, [request("subscribe", on="v")], [request("subscribe", on="w")]))
     print(f"refused: at most {max(worst):.2f} times, {MOST} asked")
     return 0 if max(worst) <= MOST else 1
 
-
-sys.exit(main())

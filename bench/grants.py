@@ -1,4 +1,3 @@
-#!/usr/bin/env python3
 """The processor time of 2,000 writes of one row, beside the same writes where more has to be looked at: by a role that holds
 every privilege on each of 64 tables, where 255 roles hold them all too, beside one that holds the one privilege that it
 needs; and by a member that holds it through 32 roles, each a member of the next, beside one that holds it through one.
@@ -9,11 +8,9 @@ nothing of how fast another machine is. VIEWD names another program to run.
 """
 import sys
 
-sys.dont_write_bytecode = True
 from measure import Run, own_program, part_of
 from workloads import request, roles, write
 
-PROGRAM = own_program()
 TABLES = [f"t{n}" for n in range(64)]
 ROLES = [f"r{n}" for n in range(255)]
 ALL = ["select", "insert", "update", "delete"]
@@ -42,9 +39,9 @@ ONE = [grant(TABLES[-1], ROLES[-1], ["insert"])]
 INSERTS = [{**write(TABLES[-1], "insert", [[n]]), "session": 2} for n in range(WRITES)]
 
 
-def seconds(begin):
+def seconds(program, begin):
     """Processor seconds of a write behind these requests, each of which is answered by ok."""
-    run = Run(PROGRAM)
+    run = Run(program)
     told = [run.tell(part_of(requests)) for requests in (begin, INSERTS)]
     run.end()
     if [it.ok for it in told] != [len(begin), WRITES]:
@@ -52,13 +49,18 @@ def seconds(begin):
     return told[1].seconds / WRITES
 
 
-def compare(writer, named):
+def compare(program, writer, named):
     begins = [before(writer) + rights for _, rights in named]
-    few, many = (min(costs) for costs in zip(*([seconds(begin) for begin in begins] for _ in range(5))))
+    few, many = (min(costs) for costs in zip(*([seconds(program, begin) for begin in begins] for _ in range(5))))
     for (name, _), cost in zip(named, (few, many)):
         print(f"{name:<20} {cost * 1e6:6.2f} microseconds of processor time a write")
     print(f"{many / few:.2f} times the cost a write")
 
 
-compare(ROLES[-1], [(f"with {len(ONE)} grant:", ONE), (f"with {len(EVERY):,} grants:", EVERY)])
-compare(ROLES[0], [("through 1 step:", through(1)), (f"through {STEPS} steps:", through(STEPS))])
+def main(words):
+    if words:
+        return __doc__
+    program = own_program()
+    compare(program, ROLES[-1], [(f"with {len(ONE)} grant:", ONE), (f"with {len(EVERY):,} grants:", EVERY)])
+    compare(program, ROLES[0], [("through 1 step:", through(1)), (f"through {STEPS} steps:", through(STEPS))])
+    return 0
