@@ -7,6 +7,7 @@ use Rattle.std.specs.List.{position_or_len}
 use Rattle.iv_circuit.specs.Circuits.{Running}
 use Rattle.iv_engine.specs.Each.{Each}
 use Rattle.iv_engine.specs.Found.{beside}
+use Rattle.iv_engine.specs.Held.{come_to}
 use Rattle.iv_engine.specs.Kept.{RoleCircuit, is_for}
 
 two : (a b c d : ℕ) → ((a == b) && (c == d)) ≡ true → (a ≡ b) × (c ≡ d)
@@ -70,8 +71,8 @@ module _ (role rel : ℕ) where
   is_self : (n : ℕ) → (n == n) ≡ true
   is_self n = grind (arith, nat_tests)
 
-  pub is_own : (c : Running) → is_for role rel (record { role = role; rel = rel; circuit = c; opened = [] }) ≡ true
-  is_own c = ap (λ b. b && (rel == rel)) (is_self role) ∙ is_self rel
+  pub is_own : (at : ℕ) (c : Running) → is_for role rel (come_to role rel at c) ≡ true
+  is_own at c = ap (λ b. b && (rel == rel)) (is_self role) ∙ is_self rel
 
   -- the place is one of the list, and what stands there is for both
   pub place_below : (ks : List RoleCircuit) (i : ℕ) (d : RoleCircuit) → position (is_for role rel) ks ≡ Some i → i < length ks

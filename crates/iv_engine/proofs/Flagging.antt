@@ -13,7 +13,7 @@ use Rattle.iv_engine.proofs.Touched.{scans_alike}
 
 -- a circuit scans the table where its plan does
 pub scan_flag : (e : Kept) (k : RoleCircuit) (table : ℕ) → WasRead e k → list_any (λ s. s.table == table) (scans_of k.circuit.node) ≡ scans_at e.catalog k.rel table
-scan_flag e k table was = sym (scans_alike (λ t. t == table) k.circuit.node) ∙ ap (λ p. list_any (λ t. t == table) (shape_scans p)) was.plan
+scan_flag e k table was = sym (scans_alike (λ t. t == table) k.circuit.node) ∙ ap (λ p. list_any (λ t. t == table) (shape_scans p)) was.is.plan
 
 -- none is missing where none was found
 pub missing_flag : {A B : Type 0} (f : A → B) (o : Option A) (p : Option B) → option_map f o ≡ p → is_some o ≡ not (not (is_some p))

@@ -1,3 +1,4 @@
+pub mod Held
 mod Showing
 mod Sound
 mod Unmoved
@@ -17,6 +18,7 @@ mod Joining
 mod Seeing
 mod Listing
 mod Turned
+mod Turning
 mod Guarding
 mod Closed
 mod Hanging
@@ -33,8 +35,6 @@ mod Carrying
 mod Giving
 mod Building
 mod Pairing
-mod FoundLines
-mod Carried
 mod Counted
 mod Numbering
 mod Applying
@@ -42,4 +42,5 @@ mod Opened
 mod Touched
 mod Spreading
 mod Partly
+mod Placing
 pub mod Enrolled

@@ -2,12 +2,12 @@
 use Rattle.std.proofs.Common.{◌≡◌, ℕ, zero, suc, ◌-◌, ◌<◌, true, false, cond, List, [], ◌∷◌, length, get_or, Some, refl, ap, ◌∙◌, arith}
 use Rattle.std.proofs.lemmas.Bool.Decides.{nat_tests}
 use Rattle.std.proofs.lemmas.List.Quantifiers.{position-Some}
-use Rattle.std.specs.Prelude.{◌==◌, position, slice_set}
+use Rattle.std.specs.Prelude.{◌==◌, position}
 use Rattle.std.specs.List.{AllByRecursion}
 use Rattle.iv_engine.specs.Each.{Each}
 use Rattle.iv_engine.specs.Kept.{RoleCircuit, is_for, opened_to}
 use Rattle.iv_engine.specs.Openable.{opened_at}
-use Rattle.iv_engine.specs.Rounds.{beside_number, rounds_in, rounds_since}
+use Rattle.iv_engine.specs.Rounds.{beside_or, rounds_in, rounds_since}
 use Rattle.iv_engine.proofs.Replaced.{IsSameReader}
 
 same_each : (ks : List RoleCircuit) → Each IsSameReader ks ks
@@ -19,12 +19,6 @@ is_self n = grind (arith, nat_tests)
 
 nothing_since : (r : ℕ) → r - r ≡ 0
 nothing_since r = omega arith
-
--- the list in whose place one is opened
-pub opened_set : (n place : ℕ) (ks : List RoleCircuit) (k new : RoleCircuit) → place < length ks → k ≡ get_or ks place k → new ≡ opened_to n k → slice_set ks place new ≡ opened_at place n ks
-opened_set n place [] k new low at is = absurd (omega arith)
-opened_set n zero (x ∷ ks) k new low at is = ap (λ y. y ∷ ks) (is ∙ ap (opened_to n) at)
-opened_set n (suc place) (x ∷ ks) k new low at is = ap (λ ys. x ∷ ys) (opened_set n place ks k new (omega arith) at is)
 
 module _ (n : ℕ) where
   -- each place has the reader that it had
@@ -46,7 +40,7 @@ module _ (n : ℕ) where
     pub others_rounds : (m : ℕ) → (m == n) ≡ false → (place : ℕ) (ks : List RoleCircuit) → rounds_in role rel m (opened_at place n ks) ≡ rounds_in role rel m ks
     others_rounds m apart zero [] = refl
     others_rounds m apart (suc place) [] = refl
-    others_rounds m apart zero (k ∷ ks) = ap (λ b. cond (is_for role rel k) (k.circuit.rounds - cond b k.circuit.rounds (beside_number m k.opened)) (rounds_in role rel m ks)) apart
+    others_rounds m apart zero (k ∷ ks) = ap (λ b. cond (is_for role rel k) (k.circuit.rounds - cond b k.circuit.rounds (beside_or k.since m k.opened)) (rounds_in role rel m ks)) apart
     others_rounds m apart (suc place) (k ∷ ks) = ap (cond (is_for role rel k) (rounds_since m k)) (others_rounds m apart place ks)
 
     -- and its own: none yet
@@ -54,8 +48,8 @@ module _ (n : ℕ) where
         → rounds_in role rel n (opened_at i n ks) ≡ 0
     own_at [] i d low t f = absurd (omega arith)
     own_at (k ∷ ks) zero d low t f =
-        ap (λ b. cond b (k.circuit.rounds - cond (n == n) k.circuit.rounds (beside_number n k.opened)) (rounds_in role rel n ks)) t
-        ∙ ap (λ b. k.circuit.rounds - cond b k.circuit.rounds (beside_number n k.opened)) (is_self n)
+        ap (λ b. cond b (k.circuit.rounds - cond (n == n) k.circuit.rounds (beside_or k.since n k.opened)) (rounds_in role rel n ks)) t
+        ∙ ap (λ b. k.circuit.rounds - cond b k.circuit.rounds (beside_or k.since n k.opened)) (is_self n)
         ∙ nothing_since k.circuit.rounds
     own_at (k ∷ ks) (suc i) d low t f =
         ap (λ b. cond b (rounds_since n k) (rounds_in role rel n (opened_at i n ks))) (f 0 (omega arith))

@@ -1,5 +1,5 @@
 -- A new subscription.
-use Rattle.std.proofs.Common.{◌≡◌, ℕ, ◌+◌, ◌^◌, ◌<◌, ◌≤◌, Bool, true, false, cond, not, ◌&&◌, ◌||◌, List, [], ◌∷◌, ◌++◌, append-nil, length, map, get_or, Option, None, Some, refl, sym, ap, subst, ◌∙◌, arith}
+use Rattle.std.proofs.Common.{◌≡◌, ℕ, ◌+◌, ◌^◌, ◌<◌, ◌≤◌, Bool, true, false, cond, not, ◌&&◌, ◌||◌, List, [], ◌∷◌, ◌++◌, append-nil, length, map, get_or, Option, None, Some, IfSome, refl, sym, ap, subst, ◌∙◌, arith}
 use Rattle.std.proofs.lemmas.Bool.Decides.{nat_tests}
 use Rattle.std.specs.Prelude.{◌==◌, Err, count_by, is_some, flat_map, nat_lt, position}
 use Rattle.std.specs.List.{AllByRecursion, list_any}
@@ -20,14 +20,15 @@ use Rattle.iv_machine.specs.Machine.{changes, line_for, line_of as machine_line,
 use Rattle.iv_machine.specs.Reached.{AreNumbersUnique}
 use Rattle.iv_machine.proofs.Reached.{after_numbers, next_is_new}
 use Rattle.iv_engine.specs.Answering.{IsAccepted, IsRefused, IsStep, seen, sent}
-use Rattle.iv_engine.specs.Built.{AreInOrder, IsBeyond, IsNew}
+use Rattle.iv_engine.specs.Built.{AreInOrder, IsBeyond}
 use Rattle.iv_engine.specs.Counting.{AreCounted}
 use Rattle.iv_engine.specs.Each.{Each}
 use Rattle.iv_engine.specs.Found.{total_at}
+use Rattle.iv_engine.specs.Held.{HasComeTo, come_to}
 use Rattle.iv_engine.specs.Kept.{Kept, database_of, IsCircuitFor, IsOpen, IsRoleCircuit, IsSound, IsWithin, RoleCircuit, WereOpened, at, frame_of, is_for, is_read, may_read, opened_to, place_of, shown_rows}
 use Rattle.iv_database.specs.Database.{acts_as}
 use Rattle.iv_database.specs.Target.{IsActingOn}
-use Rattle.iv_engine.specs.Openable.{AreFirstLines, HasCircuitAt, IsNewFor, IsOpenable, MayOpen, with_subscription}
+use Rattle.iv_engine.specs.Openable.{AreFirstLines, HasCircuitAt, IsLike, IsNewFor, IsOpenable, IsServed, MayOpen, with_subscription}
 use Rattle.iv_engine.specs.Rounds.{beside_number, rounds, rounds_of}
 use Rattle.iv_engine.specs.Seen.{IsBehind}
 use Rattle.iv_database.specs.Stands.{Stands}
@@ -38,9 +39,10 @@ use Rattle.iv_command.specs.declared.command.Reply.{Reply}
 use Rattle.iv_command.specs.declared.stop.Stop.{Stop}
 use Rattle.iv_command.specs.declared.stop.Stop.TheVariants.{Refused, Memory}
 use Rattle.iv_engine.proofs.Beside.{is_own, place_pushed, slot_is}
-use Rattle.iv_engine.proofs.Circling.{same_circuit}
+use Rattle.iv_engine.proofs.Circling.{same_circuit, serves_circuit}
 use Rattle.iv_engine.proofs.Counted.{all_beside, all_given, next_none, now_counted, rounds_more}
 use Rattle.iv_engine.proofs.Listing.{from_none}
+use Rattle.iv_engine.proofs.Pairing.{all_at}
 use Rattle.iv_engine.proofs.Opened.{opened_have, opened_same, others_rounds, own_rounds}
 use Rattle.iv_engine.proofs.Replaced.{IsSameReader, place_same, read_still}
 use Rattle.iv_engine.proofs.Showing.{difference_none, shown_is}
@@ -120,9 +122,9 @@ not_found k (f ∷ es) n = by (k == f.number) (not_found k es) n
     by true go h = cc
     by false go h = go h
 
--- a circuit that was not opened was not opened at more rounds than it has
-unopened : (k : RoleCircuit) → k.opened ≡ [] → WereOpened k
-unopened k h = subst (AllByRecursion (λ (x : ℕ × ℕ). x.1 ≤ k.circuit.rounds)) (sym h) tt
+-- a circuit that a role has come to, and that was not opened, was not opened at more rounds than it has
+unopened : (k : RoleCircuit) → k.since ≡ k.circuit.rounds → k.opened ≡ [] → WereOpened k
+unopened k came h = record { came = omega (arith, came); each = subst (AllByRecursion (λ (x : ℕ × ℕ). x.1 ≤ k.circuit.rounds)) (sym h) tt }
 
 self_le : (r : ℕ) → r ≤ r
 self_le r = omega arith
@@ -165,8 +167,8 @@ module _ (e : Kept) (n k : ℕ) (name : Name) (h : IsSound e) (x : IsOpenable e 
   fresh : (c : RoleCircuit) → IsNewFor e (actor (frame_of e) n) k c → IsRoleCircuit new c
   fresh c i = still c (record {
     known = subst (λ rel. rel < length e.catalog) (sym i.shows) x.below;
-    is = subst (λ rel. IsCircuitFor e c.role (plan_at e.catalog rel) c.circuit) (sym i.shows) (subst (λ role. IsCircuitFor e role (plan_at e.catalog k) c.circuit) (sym i.acts) i.is.is);
-    opened = unopened c i.opened;
+    is = subst (λ rel. IsCircuitFor e c.role (plan_at e.catalog rel) c.circuit) (sym i.shows) (subst (λ role. IsCircuitFor e role (plan_at e.catalog k) c.circuit) (sym i.acts) i.is);
+    opened = unopened c i.came i.opened;
   })
 
   old_read : (c : RoleCircuit) → is_read (frame_of e) c ≡ true → is_read (frame_of new) c ≡ true
@@ -176,7 +178,7 @@ module _ (e : Kept) (n k : ℕ) (name : Name) (h : IsSound e) (x : IsOpenable e 
   new_read c i = own_inserted (λ y. (y.rel == c.rel) && acts_as (frame_of e) y.session c.role) s e.subscriptions (reads_it (frame_of e) s c x.opened i.acts i.shows)
 
   opens : (c : RoleCircuit) → IsRoleCircuit new c → IsRoleCircuit new (opened_to s.number c)
-  opens c i = record { known = i.known; is = i.is; opened = (self_le c.circuit.rounds, i.opened) }
+  opens c i = record { known = i.known; is = i.is; opened = record { came = i.opened.came; each = (self_le c.circuit.rounds, i.opened.each) } }
 
   readers : Each IsSameReader (e.circuits ++ added) new.circuits
   readers = opened_same s.number place (e.circuits ++ added)
@@ -275,16 +277,30 @@ subscribed_no_refusal k r h = cc
 
 -- ---- its circuit, and its first lines
 
-pub pushed_at : (e new : Kept) (role rel place : ℕ) (c : Running) → position (is_for role rel) e.circuits ≡ None → IsNew e role (plan_at e.catalog rel) c → place ≡ length e.circuits
-    → new ≡ record e { circuits = e.circuits ++ record { role = role; rel = rel; circuit = c; opened = [] } ∷ [] } → HasCircuitAt e role rel place new
-pushed_at e d role rel place c none is at state = record {
-  added = record { role = role; rel = rel; circuit = c; opened = [] } ∷ [];
-  is = (record { acts = refl; shows = refl; is = is; opened = refl }, tt);
-  shared = λ k. let no : false ≡ true = ap (λ (o : Option ℕ). is_some o) (sym none) ∙ k in cc;
-  first = ap (λ (v : Kept). position (is_for role rel) v.circuits) state
-      ∙ place_pushed (is_for role rel) (record { role = role; rel = rel; circuit = c; opened = [] }) (is_own role rel c) e.circuits none
-      ∙ ap (λ j. Some j) (sym at);
-  state = state;
+-- a role comes to a circuit of what the relation shows to it
+pub come_at : (e new : Kept) (role rel place : ℕ) (c : Running) → position (is_for role rel) e.circuits ≡ None → IsCircuitFor e role (plan_at e.catalog rel) c → place ≡ length e.circuits
+    → (ks : List RoleCircuit) → HasComeTo e.circuits role rel c ks → new ≡ record e { circuits = ks } → HasCircuitAt e role rel place new
+come_at e d role rel place c none is at ks come state =
+    let k = come_to role rel come.at c in
+    let left : d ≡ record e { circuits = e.circuits ++ k ∷ [] } = state ∙ ap (λ cs. record e { circuits = cs }) come.added in
+    record {
+      added = k ∷ [];
+      is = (record { acts = refl; shows = refl; is = is; came = refl; opened = refl }, tt);
+      shared = λ h. let no : false ≡ true = ap (λ (o : Option ℕ). is_some o) (sym none) ∙ h in cc;
+      first = ap (λ (v : Kept). position (is_for role rel) v.circuits) left
+          ∙ place_pushed (is_for role rel) k (is_own role rel come.at c) e.circuits none
+          ∙ ap (λ j. Some j) (sym at);
+      state = left;
+    }
+
+-- a circuit that lets through what the role may see is one of the role
+pub like_is : (e : Kept) → AllByRecursion (IsRoleCircuit e) e.circuits → (role rel : ℕ) (o : Option ℕ) → IfSome o (IsServed e.circuits e.known.rights role rel) → IfSome o (IsLike e role rel)
+like_is e are role rel None h = tt
+like_is e are role rel (Some place) h = record {
+  low = h.low;
+  is = λ k at.
+      let i = all_at (IsRoleCircuit e) e.circuits place k are h.low at in
+      subst (λ r. IsCircuitFor e role (plan_at e.catalog r) k.circuit) (h.shows k at) (serves_circuit e e.known.rights k.role role (plan_at e.catalog k.rel) k.circuit i.is (h.serves k at));
 }
 
 pub first_lines : (e : Kept) (place : ℕ) (k : RoleCircuit) → place < length e.circuits → k ≡ get_or e.circuits place k → (s : Subscription) (showed : Weighed) → showed ≡ total_of k.circuit.node
@@ -339,8 +355,8 @@ module _ (e : Kept) (n k : ℕ) (name : Name) (h : IsSound e) (x : IsOpenable e 
         (all_map (IsNewFor e (actor (frame_of e) n) k) (IsRoleCircuit joined) added (λ c i. record {
           known = subst (λ rel. rel < length e.catalog) (sym i.shows) x.below;
           is = same_circuit e e.subscriptions joined.circuits e.last c.role (plan_at e.catalog c.rel) c.circuit
-              (subst (λ rel. IsCircuitFor e c.role (plan_at e.catalog rel) c.circuit) (sym i.shows) (subst (λ r. IsCircuitFor e r (plan_at e.catalog k) c.circuit) (sym i.acts) i.is.is));
-          opened = unopened c i.opened;
+              (subst (λ rel. IsCircuitFor e c.role (plan_at e.catalog rel) c.circuit) (sym i.shows) (subst (λ r. IsCircuitFor e r (plan_at e.catalog k) c.circuit) (sym i.acts) i.is));
+          opened = unopened c i.came i.opened;
         }) are)
 
     fits : IsWithin e (asked e n k)

@@ -95,7 +95,7 @@ each_of P (s ∷ ss) go = (go s, each_of P ss go)
 
 pub were_read_now : (e : Kept) → IsSound e → AllByRecursion (WasRead e) e.circuits
 were_read_now e h = all_map (IsRoleCircuit e) (WasRead e) e.circuits
-    (λ k i. record { known = i.known; plan = i.is.plan; bag = bag_for e k.role k.rel k.circuit i.is h.stored; opened = i.opened }) h.circuits
+    (λ k i. record { known = i.known; bag = bag_for e k.role k.rel k.circuit i.is h.stored; rights = e.known.rights; is = i.is; opened = i.opened }) h.circuits
 
 -- in another state with other flags, where both are the same
 pub waiting_as : (v u : Kept) (bs cs : List Bool) → v ≡ u → bs ≡ cs → AreWaiting u cs → AreWaiting v bs
@@ -134,7 +134,7 @@ module _ (e : Kept) (ms : List Membership) (us : List Guard) (gs : List Grant) w
 
   were_read : IsSound e → AllByRecursion (WasRead c) c.circuits
   were_read h = all_map (IsRoleCircuit e) (WasRead c) e.circuits
-      (λ k i. record { known = i.known; plan = i.is.plan; bag = bag_for e k.role k.rel k.circuit i.is h.stored; opened = i.opened }) h.circuits
+      (λ k i. record { known = i.known; bag = bag_for e k.role k.rel k.circuit i.is h.stored; rights = e.known.rights; is = i.is; opened = i.opened }) h.circuits
 
   -- a circuit stays as it is that the change does not concern
   abbrev pub StaysStill : (F : ℕ → ℕ → Bool) → Type 0

@@ -17,21 +17,29 @@ use Rattle.iv_machine.specs.Reached.{AreNumbersUnique}
 use Rattle.iv_database.specs.Database.{Database, IsDatabase, acts_as, kinds_at}
 use Rattle.iv_database.specs.Stands.{Stands}
 
--- the circuit of what a relation shows to a role, with the numbers of the subscriptions that were opened on it, the last
--- first, each with the rounds that the circuit had then
+-- the circuit of what a relation shows to a role, and its place among all circuits, which others have too who read it; how
+-- many rounds it had when the role came to it; and the numbers of the role's subscriptions that were opened on it since, the
+-- last first, each with the rounds that it had then
 pub record RoleCircuit : Type 0 where
   pub role : ℕ
   pub rel : ℕ
+  pub at : ℕ
   pub circuit : Running
+  pub since : ℕ
   pub opened : List (ℕ × ℕ)
 
 -- the circuit, opened to the subscription of the number now
 abbrev pub opened_to : (number : ℕ) → RoleCircuit → RoleCircuit
 opened_to n k = record k { opened = (n, k.circuit.rounds) ∷ k.opened }
 
--- another circuit in its place, which is opened to none
-abbrev pub replaced_by : Running → RoleCircuit → RoleCircuit
-replaced_by c k = record k { circuit = c; opened = [] }
+-- the circuit of the place for the role now, which is opened to none of its subscriptions
+abbrev pub moved_to : (at : ℕ) → Running → RoleCircuit → RoleCircuit
+moved_to at c k = record k { at = at; circuit = c; since = c.rounds; opened = [] }
+
+-- those of one place are one circuit
+pub record AreShared (ks : List RoleCircuit) : Type 0 where
+  pub held : ℕ → Running
+  pub are : AllByRecursion (λ k. k.circuit ≡ held k.at) ks
 
 -- what the database holds, with the subscriptions, their circuits and the last number that was given
 pub record Kept : Type 0 where
@@ -124,9 +132,10 @@ pub record IsCircuitFor (e : Kept) (role : ℕ) (p : Shape) (c : Running) : Type
 abbrev pub IsCircuitOf : Kept → Subscription → Running → Type 0
 IsCircuitOf e s c = IsCircuitFor e (actor (frame_of e) s.session) (plan_at e.catalog s.rel) c
 
--- none was opened at more rounds than the circuit has
-abbrev pub WereOpened : RoleCircuit → Type 0
-WereOpened k = AllByRecursion (λ x. x.1 ≤ k.circuit.rounds) k.opened
+-- the role did not come to it, nor was any opened, at more rounds than the circuit has
+pub record WereOpened (k : RoleCircuit) : Type 0 where
+  pub came : k.since ≤ k.circuit.rounds
+  pub each : AllByRecursion (λ x. x.1 ≤ k.circuit.rounds) k.opened
 
 -- the circuit of what the relation shows to the role
 pub record IsRoleCircuit (e : Kept) (k : RoleCircuit) : Type 0 where
@@ -144,9 +153,13 @@ is_for role rel k = (k.role == role) && (k.rel == rel)
 abbrev pub place_of : Kept → Subscription → Option ℕ
 place_of e s = position (is_for (actor (frame_of e) s.session) s.rel) e.circuits
 
+-- some open subscription is of the role and to the relation
+abbrev pub is_read_by : Frame → (role rel : ℕ) → Bool
+is_read_by f role rel = list_any (λ s. (s.rel == rel) && acts_as f s.session role) f.subscriptions
+
 -- some open subscription reads it
 abbrev pub is_read : Frame → RoleCircuit → Bool
-is_read f k = list_any (λ s. (s.rel == k.rel) && acts_as f s.session k.role) f.subscriptions
+is_read f k = is_read_by f k.role k.rel
 
 -- ---- what holds between requests
 

@@ -1,6 +1,7 @@
 pub mod Seen
 pub mod Openings
 pub mod Kept
+pub mod Held
 pub mod Rounds
 pub mod Counting
 pub mod Applied

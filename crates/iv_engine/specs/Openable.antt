@@ -1,9 +1,10 @@
 -- The relation that a subscription may be opened to.
-use Rattle.std.specs.Prelude.{◌≡◌, ◌<◌, ◌-◌, ◌^◌, ℕ, zero, suc, true, List, [], ◌∷◌, ◌++◌, length, Option, None, Some, is_some, position, Result, Ok, Err}
+use Rattle.std.specs.Prelude.{◌≡◌, ◌<◌, ◌-◌, ◌^◌, ℕ, zero, suc, true, List, [], ◌∷◌, ◌++◌, get_or, length, Option, None, Some, is_some, position, Result, Ok, Err}
 use Rattle.std.specs.List.{AllByRecursion}
 use Rattle.iv_rows.specs.Cell.{Cell}
 use Rattle.iv_rows.specs.declared.schema.RelId.{RelId}
-use Rattle.iv_access.specs.Rights.{Name}
+use Rattle.iv_access.specs.Rights.{Name, Rights}
+use Rattle.iv_circuit.specs.Circuits.{Serves}
 use Rattle.iv_zset.specs.Limits.{Counts}
 use Rattle.iv_zset.specs.Weights.{Weighed}
 use Rattle.iv_machine.specs.Act as machine
@@ -12,8 +13,8 @@ use Rattle.iv_machine.specs.Changing.{insert_subscription}
 use Rattle.iv_machine.specs.Machine.{difference, line_of as machine_line}
 use Rattle.iv_machine.specs.Refusing.{frame_refusal}
 use Rattle.iv_machine.specs.State.{Subscription, actor, is_open, missing_for, plan_at, rel_of}
-use Rattle.iv_engine.specs.Built.{IsBeyond, IsNew}
-use Rattle.iv_engine.specs.Kept.{Kept, RoleCircuit, frame_of, is_for, opened_to}
+use Rattle.iv_engine.specs.Built.{IsBeyond}
+use Rattle.iv_engine.specs.Kept.{IsCircuitFor, Kept, RoleCircuit, frame_of, is_for, opened_to}
 use Rattle.iv_command.specs.Views.{refusal_of}
 use Rattle.iv_command.specs.declared.stop.Stop.{Stop}
 use Rattle.iv_command.specs.declared.stop.Stop.TheVariants.{Refused, Memory}
@@ -51,11 +52,23 @@ with_subscription s place e = record e {
   last = s.number;
 }
 
--- a new circuit of what the relation shows to the role
+-- a reader of the relation whose circuit lets through what the role may see
+pub record IsServed (ks : List RoleCircuit) (r : Rights) (role rel place : ℕ) : Type 0 where
+  pub low : place < length ks
+  pub shows : (k : RoleCircuit) → k ≡ get_or ks place k → k.rel ≡ rel
+  pub serves : (k : RoleCircuit) → k ≡ get_or ks place k → Serves r role k.circuit.node
+
+-- a reader of the relation whose circuit is one of the role, too
+pub record IsLike (e : Kept) (role rel place : ℕ) : Type 0 where
+  pub low : place < length e.circuits
+  pub is : (k : RoleCircuit) → k ≡ get_or e.circuits place k → IsCircuitFor e role (plan_at e.catalog rel) k.circuit
+
+-- the role comes to a circuit of what the relation shows to it
 pub record IsNewFor (e : Kept) (role rel : ℕ) (k : RoleCircuit) : Type 0 where
   pub acts : k.role ≡ role
   pub shows : k.rel ≡ rel
-  pub is : IsNew e role (plan_at e.catalog rel) k.circuit
+  pub is : IsCircuitFor e role (plan_at e.catalog rel) k.circuit
+  pub came : k.since ≡ k.circuit.rounds
   pub opened : k.opened ≡ []
 
 -- the place of the first that is for the role and the relation: a new one behind the others only where there was none

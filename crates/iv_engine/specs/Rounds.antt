@@ -9,9 +9,14 @@ abbrev pub beside_number : ℕ → List (ℕ × ℕ) → ℕ
 beside_number n [] = 0
 beside_number n (x ∷ xs) = cond (n == x.0) x.1 (beside_number n xs)
 
--- the rounds of a circuit since the subscription of the number was opened
+-- what stands beside the number; where it is not there, what stands for all others
+abbrev pub beside_or : (others : ℕ) → ℕ → List (ℕ × ℕ) → ℕ
+beside_or others n [] = others
+beside_or others n (x ∷ xs) = cond (n == x.0) x.1 (beside_or others n xs)
+
+-- the rounds of a circuit since the subscription of the number was opened, or since its role came to the circuit
 abbrev pub rounds_since : (number : ℕ) → RoleCircuit → ℕ
-rounds_since n k = k.circuit.rounds - beside_number n k.opened
+rounds_since n k = k.circuit.rounds - beside_or k.since n k.opened
 
 -- those of the first circuit that is for the role and the relation
 abbrev pub rounds_in : (role rel number : ℕ) → List RoleCircuit → ℕ

@@ -9,7 +9,7 @@ ghost use Rattle.iv_engine.specs.Answering.{seen};
 ghost use Rattle.iv_engine.specs.Kept.{IsSound};
 ghost use Rattle.iv_engine.specs.Seen.{IsBehind};
 
-use crate::circuits::RoleCircuit;
+use crate::circuits::Circuits;
 use crate::subscriptions::Subscription;
 use crate::touching::Touched;
 use iv_database::Database;
@@ -24,7 +24,7 @@ use std::rc::Rc;
 pub struct Store {
     pub database: Database,
     pub subscriptions: Vec<Subscription>,
-    pub circuits: Vec<RoleCircuit>,
+    pub circuits: Circuits,
     pub found: Vec<Rc<Touched>>,
     pub last: u64,
     pub alloc: Global,
@@ -39,9 +39,9 @@ impl Model for Store {
 
     ghost coded = { kept_code };
 
-    ghost view = { λ s. kept_of s.database s.subscriptions.items s.circuits.items s.last };
+    ghost view = { λ s. kept_of s.database s.subscriptions.items s.circuits s.last };
 
-    ghost invariant = { λ s. AreFoundAmong s.database.sessions s.subscriptions.items s.circuits.items s.found.items };
+    ghost invariant = { λ s. AreFoundAmong s.database.sessions s.subscriptions.items s.circuits s.found.items };
 }
 
 impl Store {
@@ -54,7 +54,7 @@ impl Store {
         Ok(Store {
             database: Database::new(alloc, seed, cap)?,
             subscriptions: Vec::new(alloc),
-            circuits: Vec::new(alloc),
+            circuits: Circuits::new(alloc),
             last: 0,
             found: Vec::new(alloc),
             alloc,

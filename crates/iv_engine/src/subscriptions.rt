@@ -15,6 +15,7 @@ ghost use Rattle.iv_engine.specs.Openable.{AreFirstLines, MayOpen, with_subscrip
 ghost use Rattle.iv_machine.specs.Refusing.{has_subscription};
 ghost use Rattle.iv_engine.specs.Finished.{without_session, without_subscription};
 
+use crate::circuits::Circuits;
 use crate::lines::{in_order, push_change};
 use crate::store::Store;
 use iv_access::{Privilege, RoleId};
@@ -136,11 +137,11 @@ impl Store {
         ensures lines { IfOk result (λ lines. AreFirstLines subscription (total_at self.old place) (map line_of lines.items)) }
         ensures state { OnOk result (self.new ≡ with_subscription subscription place self.old) }
     {
-        let rows = in_order(self.alloc, self.circuits[place].circuit.total(), false)?;
+        let rows = in_order(self.alloc, self.circuits.circuit(place).total(), false)?;
         let mut lines = Vec::new(self.alloc);
         push_change(self.alloc, &mut lines, &subscription, rows)?;
         self.found.clear();
-        self.circuits[place].open(subscription.number);
+        self.circuits.open(place, subscription.number);
         self.last = subscription.number;
         insert(&mut self.subscriptions, subscription)?;
         Ok(lines)
@@ -235,7 +236,7 @@ impl Store {
     {
         self.database.end_sessions();
         self.subscriptions.clear();
-        self.circuits.clear();
+        self.circuits = Circuits::new(self.alloc);
         self.found.clear();
     }
 }

@@ -33,7 +33,7 @@ returns-in-Begin c =
     let role = string_bytes c.in-Begin.role in
     let d = c.begin-done.new.self in
     let s = c.self.inside in
-    let u = kept_of s.database s.subscriptions.items s.circuits.items s.last in
+    let u = kept_of s.database s.subscriptions.items s.circuits s.last in
     let told : IsDone (database_of u) n (machine.begin role) c.begin-done.result d = subst (λ (x : Name). IsDone (database_of u) n (machine.begin x) c.begin-done.result d) c.as_str.ensures.value c.begin-done.ensures in
     subst (λ (a : Act). IsStep e n (act_of a) c.plain.result (with_database d u)) (sym c.in-Begin.is)
     (plain_told e u d n (machine.begin role) c.begin-done.result c.plain.result c.self.view_is (begin_quiet e n role) c.requires.sound refl c.plain.ensures told)
@@ -45,7 +45,7 @@ returns-in-CreateRole c =
     let name = string_bytes c.in-CreateRole.name in
     let d = c.create_role-done.new.self in
     let s = c.self-in-CreateRole.inside in
-    let u = kept_of s.database s.subscriptions.items s.circuits.items s.last in
+    let u = kept_of s.database s.subscriptions.items s.circuits s.last in
     let told : IsDone (database_of u) n (machine.create_role name) c.create_role-done.result d = c.create_role-done.ensures.done in
     subst (λ (a : Act). IsStep e n (act_of a) c.plain-in-CreateRole.result (with_database d u)) (sym c.in-CreateRole.is)
     (plain_told e u d n (machine.create_role name) c.create_role-done.result c.plain-in-CreateRole.result c.self-in-CreateRole.view_is (role_quiet e n name) c.requires.sound refl c.plain-in-CreateRole.ensures told)
@@ -59,7 +59,7 @@ returns-in-CreateTable c =
     let columns = c.in-CreateTable.columns.items in
     let d = c.create_table-done.new.self in
     let s = c.self-in-CreateTable.inside in
-    let u = kept_of s.database s.subscriptions.items s.circuits.items s.last in
+    let u = kept_of s.database s.subscriptions.items s.circuits s.last in
     let told : IsDone (database_of u) n (machine.create_table name owner columns) c.create_table-done.result d =
     subst (λ (x : Name). IsDone (database_of u) n (machine.create_table name x columns) c.create_table-done.result d) c.as_str-in-CreateTable.ensures.value c.create_table-done.ensures.done in
     subst (λ (a : Act). IsStep e n (act_of a) c.plain-in-CreateTable.result (with_database d u)) (sym c.in-CreateTable.is)
@@ -74,7 +74,7 @@ returns-in-CreateView c =
     let query = string_bytes c.in-CreateView.query in
     let d = c.create_view-done.new.self in
     let s = c.self-in-CreateView.inside in
-    let u = kept_of s.database s.subscriptions.items s.circuits.items s.last in
+    let u = kept_of s.database s.subscriptions.items s.circuits s.last in
     let told : IsDone (database_of u) n (machine.create_view name owner query) c.create_view-done.result d =
     subst (λ (a : machine.Act). IsDone (database_of u) n a c.create_view-done.result d) (λ i. machine.create_view name (c.as_str-in-CreateView.ensures.value i) (c.as_str-in-CreateView-2.ensures.value i)) c.create_view-done.ensures.done in
     subst (λ (a : Act). IsStep e n (act_of a) c.plain-in-CreateView.result (with_database d u)) (sym c.in-CreateView.is)
@@ -89,7 +89,7 @@ returns-in-Grant c =
     let to = option_map string_bytes c.in-Grant.grantee in
     let d = c.grant-done.new.self in
     let s = c.self-in-Grant.inside in
-    let u = kept_of s.database s.subscriptions.items s.circuits.items s.last in
+    let u = kept_of s.database s.subscriptions.items s.circuits s.last in
     let told : IsDone (database_of u) n (machine.grant rel privileges to) c.grant-done.result d =
     subst (λ (a : machine.Act). IsDone (database_of u) n a c.grant-done.result d) (λ i. machine.grant rel (c.deref.ensures.value i) (c.text_of.ensures i)) c.grant-done.ensures.done in
     subst (λ (a : Act). IsStep e n (act_of a) c.plain-in-Grant.result (with_database d u)) (sym c.in-Grant.is)

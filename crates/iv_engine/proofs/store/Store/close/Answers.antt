@@ -10,5 +10,5 @@ pub returns : goal.returns
 returns c =
     let x = c.self.inside in
     let after : c.retain.new.self.items ≡ filter (λ (s : Subscription). not (c.args.number == s.number)) x.subscriptions.items = filter_same _ _ _ (λ s b f' k. search rules) _ _ c.retain.ensures.filtered in
-    (λ i. kept_of x.database (after i) (x.circuits.items) x.last)
+    (λ i. kept_of x.database (after i) x.circuits x.last)
     ∙ ap (without_subscription c.args.number) c.self.view_is

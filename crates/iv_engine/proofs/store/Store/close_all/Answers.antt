@@ -5,5 +5,5 @@ use Rattle.iv_engine.proofs.store.Store.close_all.Goals as goal
 
 pub returns-clause-sound : goal.returns-clause-sound
 returns-clause-sound c = λ h. let x = c.self.inside in subst IsSound (sym (
-    (λ i. kept_of (c.end_sessions.ensures i) (c.clear.ensures.items i) (c.clear-2.ensures.items i) x.last)
+    (λ i. kept_of (c.end_sessions.ensures i) (c.clear.ensures.items i) (c.new.ensures i) x.last)
     ∙ ap without_sessions c.self.view_is)) (all_closed c.args.self.now h)

@@ -11,4 +11,4 @@ returns c =
     let x = c.self.inside in
     let n = c.args.session in
     let after : c.retain.new.self.items ≡ filter (λ (s : Subscription). not (n == s.session)) x.subscriptions.items = filter_same _ (λ (s : Subscription). not (n == s.session)) _ (λ s b f' k. search rules) x.subscriptions.items c.retain.new.self.items c.retain.ensures.filtered in
-    (λ i. kept_of (c.end_session.ensures i) (after i) (x.circuits.items) x.last) ∙ ap (without_session n) c.self.view_is
+    (λ i. kept_of (c.end_session.ensures i) (after i) x.circuits x.last) ∙ ap (without_session n) c.self.view_is

@@ -1,20 +1,25 @@
-use Rattle.std.proofs.Common.{◌≡◌, ◌∙◌, ◌<◌, List, ap, get_or, length, not, subst}
-use Rattle.iv_engine.specs.Kept.{role_reads}
-use Rattle.iv_database.specs.Database.{select_from}
-use Rattle.iv_engine.proofs.Flagging.{missing_flag}
-use Rattle.iv_engine.proofs.Pairing.{map_more}
-use Rattle.iv_machine.specs.State.{missing_for}
-use Rattle.iv_engine.specs.Kept.{Kept, RoleCircuit, frame_of}
+use Rattle.std.proofs.Common.{◌≡◌, ◌∙◌, ◌<◌, ◌≤◌, List, ap, length, not, subst}
+use Rattle.iv_engine.specs.Kept.{Kept, RoleCircuit, role_reads}
+use Rattle.iv_engine.proofs.Held.{reader_at}
+use Rattle.iv_engine.proofs.Pairing.{map_more, map_whole}
 use Rattle.iv_engine.proofs.store.Store.unreadable.Goals as goal
 
-pub loop-entry-preserved : goal.loop-entry-preserved
-loop-entry-preserved c =
+pub is_unreadable-requires-clause-place : goal.is_unreadable-requires-clause-place
+is_unreadable-requires-clause-place c = subst (λ n. c.loop-place.place < n) (c.len-place-end.ensures ∙ ap (λ (v : Kept). length v.circuits) c.self.view_is) c.loop-place-test.true
+
+pub loop-place-preserved : goal.loop-place-preserved
+loop-place-preserved c =
     let e = c.args.self.now in
-    let k = c.entry-item.result in
-    let i = c.loop-entry.entry-index in
-    let same : c.deref-entry-items.result.now ≡ e.circuits = c.deref-entry-items.ensures.value ∙ ap (λ (v : Kept). v.circuits) c.self.view_is in
-    let low = subst (λ (ks : List RoleCircuit). i < length ks) same c.loop-entry-test.true in
-    let at = subst (λ (ks : List RoleCircuit). k ≡ get_or ks i k) same c.entry-item.is in
-    let one : c.is_some.result ≡ not (role_reads e k.role k.rel) =
-    c.is_some.ensures ∙ missing_flag select_from c.missing_for.result _ (c.missing_for.ensures ∙ (λ j. missing_for (frame_of e) (c.entry.view_is j).role (c.entry.view_is j).rel)) in
-    map_more (λ x. not (role_reads e x.role x.rel)) e.circuits i k _ c.loop-entry.flags.items c.push.new.self.items low at c.loop-entry.invariant one c.in_ok-push.ensures.items
+    let i = c.loop-place.place in
+    let circuits = ap (λ (v : Kept). v.circuits) c.self.view_is in
+    let low : i < length e.circuits = subst (λ n. i < n) (c.len-place-end.ensures ∙ ap (λ (ks : List RoleCircuit). length ks) circuits) c.loop-place-test.true in
+    let k = reader_at e.circuits i low in
+    let one : c.is_unreadable.result ≡ not (role_reads e k.0.role k.0.rel) = c.is_unreadable.ensures k.0 k.1 in
+    map_more (λ x. not (role_reads e x.role x.rel)) e.circuits i k.0 _ c.loop-place.flags.items c.push.new.self.items low k.1 c.loop-place.invariant one c.in_ok-push.ensures.items
+
+pub returns : goal.returns
+returns c =
+    let e = c.args.self.now in
+    let i = c.loop-place.place in
+    let out : length e.circuits ≤ i = subst (λ n. n ≤ i) (c.len-place-end.ensures ∙ ap (λ (v : Kept). length v.circuits) c.self.view_is) c.loop-place-test.false in
+    map_whole (λ x. not (role_reads e x.role x.rel)) e.circuits i c.loop-place.flags.items out c.loop-place.invariant

@@ -2,5 +2,5 @@ use Rattle.std.proofs.Common.{◌≡◌, map, not, take}
 use Rattle.iv_engine.specs.Kept.{role_reads}
 use Rattle.iv_engine.proofs.store.Store.unreadable.Given as goal
 
-abbrev pub invariant-loop-entry : goal.invariant-loop-entry
-invariant-loop-entry l = l.flags.items ≡ map (λ k. not (role_reads l.self k.role k.rel)) (take l.entry-index l.self.circuits)
+abbrev pub invariant-loop-place : goal.invariant-loop-place
+invariant-loop-place l = l.flags.items ≡ map (λ k. not (role_reads l.self k.role k.rel)) (take l.place l.self.circuits)
