@@ -74,7 +74,8 @@ fn command<'a>(alloc: Global) -> Result<Command<'a>, Error> {
 fn count_of(matches: &ArgMatches<'_>, name: &str) -> Option<u32>
     ensures { IfSome result (λ n. 1 ≤ n) }
 {
-    matches.get_one::<u32>(name).filter(|n| *n >= 1)
+    let count = matches.get_one::<u32>(name)?;
+    if count >= 1 { Some(count) } else { None }
 }
 
 fn rows_of(matches: &ArgMatches<'_>) -> Option<u32>
@@ -91,7 +92,8 @@ fn rows_of(matches: &ArgMatches<'_>) -> Option<u32>
 fn port_of(matches: &ArgMatches<'_>) -> Option<u16>
     ensures { IfSome result (λ n. 1 ≤ n) }
 {
-    matches.get_one::<u16>("port").filter(|port| *port >= 1)
+    let port = matches.get_one::<u16>("port")?;
+    if port >= 1 { Some(port) } else { None }
 }
 
 fn found(matches: &ArgMatches<'_>) -> Option<Settings>
