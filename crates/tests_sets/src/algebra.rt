@@ -35,24 +35,42 @@ fn no_notes(alloc: Global) -> Result<Tables, Fail> {
     Ok(tables)
 }
 
-/// What adding to the copies of a note answers.
-fn put(tables: &mut Tables, row: Row, copies: i64) -> Result<Result<(), ZFault>, Fail> {
+/// What adding to the copies of a note answers; none where it is not of the kinds of the notes, or there would be fewer than none.
+fn put(tables: &mut Tables, row: Row, copies: i64) -> Option<Result<(), ZFault>> {
     if !tables.accepts(NOTES, &row) {
-        return Err(Fail::new("not of the kinds of the notes"));
+        return None;
     }
     let had = tables.table(NOTES).weight(&row, &mut Meter::new());
     if i128::from(had) + i128::from(copies) < 0 {
-        return Err(Fail::new("fewer copies than none"));
+        return None;
     }
-    Ok(tables.change(NOTES, row, copies, &mut Meter::new()))
+    Some(tables.change(NOTES, row, copies, &mut Meter::new()))
+}
+
+/// What adding to the copies of a note answers, where that can be asked.
+fn put_note(
+    alloc: Global,
+    tables: &mut Tables,
+    (key, number, copies): (&str, i64, i64),
+) -> Result<Result<(), ZFault>, Fail> {
+    match put(tables, row(alloc, key, number)?, copies) {
+        Some(answer) => Ok(answer),
+        None => Err(Fail::new("no note that can be put")),
+    }
+}
+
+/// Adds these notes, with their copies.
+fn put_all(alloc: Global, tables: &mut Tables, notes: &[(&str, i64, i64)]) -> Result<(), Fail> {
+    for note in notes {
+        put_note(alloc, tables, *note)??;
+    }
+    Ok(())
 }
 
 /// Tables of these notes, with their copies.
 fn tables(alloc: Global, notes: &[(&str, i64, i64)]) -> Result<Tables, Fail> {
     let mut tables = no_notes(alloc)?;
-    for (key, number, copies) in notes {
-        put(&mut tables, row(alloc, key, *number)?, *copies)??;
-    }
+    put_all(alloc, &mut tables, notes)?;
     Ok(tables)
 }
 
@@ -85,27 +103,37 @@ fn has(alloc: Global, tables: &Tables, want: &[(&str, i64, i64)]) -> Result<bool
     are(alloc, tables.table(NOTES), want)
 }
 
-/// What the plan gives.
-fn evaluated(alloc: Global, plan: &Plan, tables: &Tables) -> Result<Result<ZSet, AlgFault>, Fail> {
-    if !plan.fits(tables) {
-        return Err(Fail::new("the plan does not fit"));
+/// What the plan gives; none where it does not fit.
+fn evaluated(alloc: Global, plan: &Plan, tables: &Tables) -> Option<Result<ZSet, AlgFault>> {
+    if plan.fits(tables) {
+        Some(eval(alloc, plan, tables, 1_024, &mut Meter::new()))
+    } else {
+        None
     }
-    Ok(eval(alloc, plan, tables, 1_024, &mut Meter::new()))
 }
 
 /// Whether the plan breaks a limit over these tables.
-fn is_limit_over(alloc: Global, plan: &Plan, tables: &Tables) -> Result<bool, Fail> {
-    Ok(matches!(evaluated(alloc, plan, tables)?, Err(AlgFault::Limit)))
+fn is_limit_over(alloc: Global, plan: &Plan, tables: &Tables) -> bool {
+    matches!(evaluated(alloc, plan, tables), Some(Err(AlgFault::Limit)))
 }
 
-/// Whether the plan breaks a limit over these notes.
-fn is_limit(alloc: Global, plan: Plan, notes: &[(&str, i64, i64)]) -> Result<bool, Fail> {
+/// The same over tables of these notes.
+fn is_limit_of(alloc: Global, plan: &Plan, notes: &[(&str, i64, i64)]) -> Result<bool, Fail> {
     let tables = tables(alloc, notes)?;
-    is_limit_over(alloc, &plan, &tables)
+    Ok(is_limit_over(alloc, plan, &tables))
 }
 
-/// Whether the plan gives these rows over three notes.
-fn gives(alloc: Global, plan: Plan, want: &[(&str, i64, i64)]) -> Result<bool, Fail> {
+/// Whether the plan, where it was made, breaks a limit over these notes.
+fn is_limit(
+    alloc: Global,
+    plan: Result<Plan, Fail>,
+    notes: &[(&str, i64, i64)],
+) -> Result<bool, Fail> {
+    is_limit_of(alloc, &plan?, notes)
+}
+
+/// Whether the plan, where it was made, gives these rows over three notes.
+fn gives(alloc: Global, plan: Result<Plan, Fail>, want: &[(&str, i64, i64)]) -> Result<bool, Fail> {
     gives_over(alloc, plan, &three(), want)
 }
 
@@ -116,19 +144,32 @@ fn gives_rows(
     tables: &Tables,
     want: &[(&str, i64, i64)],
 ) -> Result<bool, Fail> {
-    let rows = evaluated(alloc, plan, tables)??;
-    are(alloc, &rows, want)
+    match evaluated(alloc, plan, tables) {
+        Some(Ok(rows)) => are(alloc, &rows, want),
+        Some(Err(_)) => Err(Fail::new("the plan gives no rows")),
+        None => Err(Fail::new("the plan does not fit")),
+    }
 }
 
-/// Whether the plan gives these rows over these notes.
-fn gives_over(
+/// The same over tables of these notes.
+fn gives_of(
     alloc: Global,
-    plan: Plan,
+    plan: &Plan,
     notes: &[(&str, i64, i64)],
     want: &[(&str, i64, i64)],
 ) -> Result<bool, Fail> {
     let tables = tables(alloc, notes)?;
-    gives_rows(alloc, &plan, &tables, want)
+    gives_rows(alloc, plan, &tables, want)
+}
+
+/// Whether the plan, where it was made, gives these rows over these notes.
+fn gives_over(
+    alloc: Global,
+    plan: Result<Plan, Fail>,
+    notes: &[(&str, i64, i64)],
+    want: &[(&str, i64, i64)],
+) -> Result<bool, Fail> {
+    gives_of(alloc, &plan?, notes, want)
 }
 
 /// All notes.
@@ -172,9 +213,31 @@ fn two_columns(alloc: Global, k: usize, x: usize, plan: Plan) -> Result<Plan, Fa
     Ok(Plan::Project(Vec::from_array(alloc, [k, x])?, plan))
 }
 
-/// The rows on the left alone.
-fn less(left: Box<Plan>, right: Box<Plan>) -> Plan {
-    Plan::Except(left, right)
+/// These columns of all notes beside the notes with the same k.
+fn two_of_pairs(alloc: Global, k: usize, x: usize) -> Result<Plan, Fail> {
+    two_columns(alloc, k, x, pairs(alloc)?)
+}
+
+/// Each note once, of all notes twice.
+fn once_of_twice(alloc: Global) -> Result<Plan, Fail> {
+    once(alloc, twice(alloc)?)
+}
+
+/// All notes twice, without those that have an x above 1.
+fn twice_less_above(alloc: Global) -> Result<Plan, Fail> {
+    let left = boxed(alloc, twice(alloc)?)?;
+    Ok(Plan::Except(left, boxed(alloc, above(alloc)?)?))
+}
+
+/// All notes, without those of another plan.
+fn scan_less(alloc: Global, right: Plan) -> Result<Plan, Fail> {
+    let right = boxed(alloc, right)?;
+    Ok(Plan::Except(scan(alloc)?, right))
+}
+
+/// All notes, without those that stand in them twice.
+fn scan_less_twice(alloc: Global) -> Result<Plan, Fail> {
+    scan_less(alloc, twice(alloc)?)
 }
 
 /// An aggregate of all notes by k.
@@ -188,14 +251,14 @@ fn by_k(alloc: Global, agg: Agg) -> Result<Plan, Fail> {
 
 #[test]
 fn a_sum_is_too_large(rt: HostRuntime) -> Result<(), Fail> {
-    let plan = by_k(rt.alloc(), Agg::Sum(1))?;
+    let plan = by_k(rt.alloc(), Agg::Sum(1));
     assert!(rt; is_limit(rt.alloc(), plan, &[("k", 2, HALF)])?);
     Ok(())
 }
 
 #[test]
 fn the_least_sum(rt: HostRuntime) -> Result<(), Fail> {
-    let plan = by_k(rt.alloc(), Agg::Sum(1))?;
+    let plan = by_k(rt.alloc(), Agg::Sum(1));
     let want = [("k", i64::MIN, 1)];
     assert!(rt; gives_over(rt.alloc(), plan, &[("k", -2, HALF)], &want)?);
     Ok(())
@@ -203,28 +266,28 @@ fn the_least_sum(rt: HostRuntime) -> Result<(), Fail> {
 
 #[test]
 fn a_share_is_too_large(rt: HostRuntime) -> Result<(), Fail> {
-    let plan = by_k(rt.alloc(), Agg::Sum(1))?;
+    let plan = by_k(rt.alloc(), Agg::Sum(1));
     assert!(rt; is_limit(rt.alloc(), plan, &[("k", 2, HALF), ("k", -4, 1)])?);
     Ok(())
 }
 
 #[test]
 fn sums_with_copies(rt: HostRuntime) -> Result<(), Fail> {
-    let plan = by_k(rt.alloc(), Agg::Sum(1))?;
+    let plan = by_k(rt.alloc(), Agg::Sum(1));
     assert!(rt; gives(rt.alloc(), plan, &[("a", 7, 1), ("b", 15, 1)])?);
     Ok(())
 }
 
 #[test]
 fn counts_of_copies(rt: HostRuntime) -> Result<(), Fail> {
-    let plan = by_k(rt.alloc(), Agg::Count)?;
+    let plan = by_k(rt.alloc(), Agg::Count);
     assert!(rt; gives(rt.alloc(), plan, &[("a", 3, 1), ("b", 3, 1)])?);
     Ok(())
 }
 
 #[test]
 fn no_rows_have_no_group(rt: HostRuntime) -> Result<(), Fail> {
-    let plan = by_k(rt.alloc(), Agg::Count)?;
+    let plan = by_k(rt.alloc(), Agg::Count);
     assert!(rt; gives_over(rt.alloc(), plan, &[], &[])?);
     Ok(())
 }
@@ -232,20 +295,20 @@ fn no_rows_have_no_group(rt: HostRuntime) -> Result<(), Fail> {
 #[test]
 fn scans(rt: HostRuntime) -> Result<(), Fail> {
     let want = [("a", 1, 2), ("a", 5, 1), ("b", 5, 3)];
-    assert!(rt; gives(rt.alloc(), Plan::Scan(NOTES), &want)?);
+    assert!(rt; gives(rt.alloc(), Ok(Plan::Scan(NOTES)), &want)?);
     Ok(())
 }
 
 #[test]
 fn filters(rt: HostRuntime) -> Result<(), Fail> {
-    let plan = above(rt.alloc())?;
+    let plan = above(rt.alloc());
     assert!(rt; gives(rt.alloc(), plan, &[("a", 5, 1), ("b", 5, 3)])?);
     Ok(())
 }
 
 #[test]
 fn joins_and_projects(rt: HostRuntime) -> Result<(), Fail> {
-    let plan = two_columns(rt.alloc(), 0, 3, pairs(rt.alloc())?)?;
+    let plan = two_of_pairs(rt.alloc(), 0, 3);
     let want = [("a", 1, 6), ("a", 5, 3), ("b", 5, 9)];
     assert!(rt; gives(rt.alloc(), plan, &want)?);
     Ok(())
@@ -253,7 +316,7 @@ fn joins_and_projects(rt: HostRuntime) -> Result<(), Fail> {
 
 #[test]
 fn appends(rt: HostRuntime) -> Result<(), Fail> {
-    let plan = twice(rt.alloc())?;
+    let plan = twice(rt.alloc());
     let want = [("a", 1, 4), ("a", 5, 2), ("b", 5, 6)];
     assert!(rt; gives(rt.alloc(), plan, &want)?);
     Ok(())
@@ -261,7 +324,7 @@ fn appends(rt: HostRuntime) -> Result<(), Fail> {
 
 #[test]
 fn each_row_once(rt: HostRuntime) -> Result<(), Fail> {
-    let plan = once(rt.alloc(), twice(rt.alloc())?)?;
+    let plan = once_of_twice(rt.alloc());
     let want = [("a", 1, 1), ("a", 5, 1), ("b", 5, 1)];
     assert!(rt; gives(rt.alloc(), plan, &want)?);
     Ok(())
@@ -269,30 +332,28 @@ fn each_row_once(rt: HostRuntime) -> Result<(), Fail> {
 
 #[test]
 fn rows_on_the_left_alone(rt: HostRuntime) -> Result<(), Fail> {
-    let left = boxed(rt.alloc(), twice(rt.alloc())?)?;
-    let plan = less(left, boxed(rt.alloc(), above(rt.alloc())?)?);
+    let plan = twice_less_above(rt.alloc());
     assert!(rt; gives(rt.alloc(), plan, &[("a", 1, 1)])?);
     Ok(())
 }
 
 #[test]
 fn too_many_copies_below_distinct(rt: HostRuntime) -> Result<(), Fail> {
-    let plan = once(rt.alloc(), twice(rt.alloc())?)?;
+    let plan = once_of_twice(rt.alloc());
     assert!(rt; is_limit(rt.alloc(), plan, &[("a", 1, HALF)])?);
     Ok(())
 }
 
 #[test]
 fn too_many_copies_below_except(rt: HostRuntime) -> Result<(), Fail> {
-    let right = boxed(rt.alloc(), twice(rt.alloc())?)?;
-    let plan = less(scan(rt.alloc())?, right);
+    let plan = scan_less_twice(rt.alloc());
     assert!(rt; is_limit(rt.alloc(), plan, &[("a", 1, HALF)])?);
     Ok(())
 }
 
 #[test]
 fn too_many_copies_of_a_pair(rt: HostRuntime) -> Result<(), Fail> {
-    let plan = pairs(rt.alloc())?;
+    let plan = pairs(rt.alloc());
     assert!(rt; is_limit(rt.alloc(), plan, &[("a", 1, HALF)])?);
     Ok(())
 }
@@ -322,20 +383,37 @@ fn a_row_is_taken_away(rt: HostRuntime) -> Result<(), Fail> {
 #[test]
 fn too_many_copies_change_nothing(rt: HostRuntime) -> Result<(), Fail> {
     let mut tables = tables(rt.alloc(), &[("a", 1, i64::MAX)])?;
-    let answer = put(&mut tables, row(rt.alloc(), "a", 1)?, 1)?;
+    let answer = put_note(rt.alloc(), &mut tables, ("a", 1, 1))?;
     assert_eq!(rt; answer, Err(ZFault::Weight));
     assert!(rt; has(rt.alloc(), &tables, &[("a", 1, i64::MAX)])?);
     Ok(())
 }
 
+/// Whether the notes take a note, whether another table does, and whether the notes take a number.
+fn accepted(tables: &Tables, note: &Row, number: &Row) -> [bool; 3] {
+    [
+        tables.accepts(NOTES, note),
+        tables.accepts(RelId(4), note),
+        tables.accepts(NOTES, number),
+    ]
+}
+
+/// The same of this note.
+fn accepted_with(alloc: Global, tables: &Tables, note: &Row) -> Result<[bool; 3], Fail> {
+    let number = Row::new(Vec::from_array(alloc, [Value::Int(1)])?)?;
+    Ok(accepted(tables, note, &number))
+}
+
+/// The same of a note.
+fn accepted_by(alloc: Global, tables: &Tables) -> Result<[bool; 3], Fail> {
+    let note = row(alloc, "a", 1)?;
+    accepted_with(alloc, tables, &note)
+}
+
 #[test]
 fn rows_of_other_kinds(rt: HostRuntime) -> Result<(), Fail> {
-    let note = row(rt.alloc(), "a", 1)?;
-    let number = Row::new(Vec::from_array(rt.alloc(), [Value::Int(1)])?)?;
     let tables = no_notes(rt.alloc())?;
-    assert!(rt; tables.accepts(NOTES, &note));
-    assert!(rt; !tables.accepts(RelId(4), &note));
-    assert!(rt; !tables.accepts(NOTES, &number));
+    assert_eq!(rt; accepted_by(rt.alloc(), &tables)?, [true, false, false]);
     Ok(())
 }
 
@@ -344,9 +422,18 @@ fn is_own(comparison: Comparison) -> Pred {
     Pred::Compare(Operand::Column(0), comparison, Operand::User)
 }
 
+fn holds_of(pred: &Pred, note: &Row, user: &str) -> bool {
+    pred.holds(note, user)
+}
+
 /// Whether k compares so with the name of the user.
 fn holds(comparison: Comparison, note: &Row, user: &str) -> bool {
-    is_own(comparison).holds(note, user)
+    holds_of(&is_own(comparison), note, user)
+}
+
+/// Whether k can be compared with the name of the user in columns of these kinds.
+fn own_fits(kinds: &[Kind]) -> bool {
+    is_own(Comparison::Equal).fits(kinds)
 }
 
 #[test]
@@ -354,9 +441,9 @@ fn the_user_is_a_text(rt: HostRuntime) -> Result<(), Fail> {
     let note = row(rt.alloc(), "ann", 1)?;
     assert!(rt; holds(Comparison::Equal, &note, "ann"));
     assert!(rt; !holds(Comparison::Equal, &note, "bob"));
-    assert!(rt; is_own(Comparison::Equal).fits(&[Kind::Text, Kind::Int]));
-    assert!(rt; !is_own(Comparison::Equal).fits(&[Kind::Int]));
-    assert!(rt; !is_own(Comparison::Equal).fits(&[]));
+    assert!(rt; own_fits(&[Kind::Text, Kind::Int]));
+    assert!(rt; !own_fits(&[Kind::Int]));
+    assert!(rt; !own_fits(&[]));
     Ok(())
 }
 
@@ -386,17 +473,22 @@ fn both(alloc: Global) -> Result<Pred, Fail> {
     Ok(Pred::And(true_pred(alloc)?, fails))
 }
 
+/// True and not true, or true.
+fn either(alloc: Global) -> Result<Pred, Fail> {
+    let both = boxed_pred(alloc, both(alloc)?)?;
+    Ok(Pred::Or(both, true_pred(alloc)?))
+}
+
+/// Whether the predicate, where it was made, holds of ann's note.
+fn holds_of_ann(alloc: Global, pred: Result<Pred, Fail>) -> Result<bool, Fail> {
+    Ok(holds_of(&pred?, &row(alloc, "ann", 1)?, ""))
+}
+
 #[test]
 fn predicates_are_joined(rt: HostRuntime) -> Result<(), Fail> {
-    let both_hold = both(rt.alloc())?;
-    let either = Pred::Or(
-        boxed_pred(rt.alloc(), both(rt.alloc())?)?,
-        true_pred(rt.alloc())?,
-    );
-    let note = row(rt.alloc(), "ann", 1)?;
-    assert!(rt; !both_hold.holds(&note, ""));
-    assert!(rt; either.holds(&note, ""));
-    assert!(rt; !Pred::False.holds(&note, ""));
+    assert!(rt; !holds_of_ann(rt.alloc(), both(rt.alloc()))?);
+    assert!(rt; holds_of_ann(rt.alloc(), either(rt.alloc()))?);
+    assert!(rt; !holds_of_ann(rt.alloc(), Ok(Pred::False))?);
     Ok(())
 }
 
@@ -407,51 +499,67 @@ fn copied(alloc: Global) -> Result<Pred, Fail> {
     Ok(either.copy(alloc)?)
 }
 
+fn copy_holds(alloc: Global, note: &Row, user: &str) -> Result<bool, Fail> {
+    Ok(holds_of(&copied(alloc)?, note, user))
+}
+
 #[test]
 fn predicates_are_copied(rt: HostRuntime) -> Result<(), Fail> {
-    let copy = copied(rt.alloc())?;
     let note = row(rt.alloc(), "ann", 1)?;
-    assert!(rt; copy.holds(&note, "ann"));
-    assert!(rt; !copy.holds(&note, "bob"));
+    assert!(rt; copy_holds(rt.alloc(), &note, "ann")?);
+    assert!(rt; !copy_holds(rt.alloc(), &note, "bob")?);
     Ok(())
 }
 
 /// Whether the plan fits the notes.
-fn fits(alloc: Global, plan: Plan) -> Result<bool, Fail> {
+fn fits_notes(alloc: Global, plan: &Plan) -> Result<bool, Fail> {
     let tables = no_notes(alloc)?;
     Ok(plan.fits(&tables))
 }
 
+/// Whether the plan, where it was made, fits the notes.
+fn fits(alloc: Global, plan: Result<Plan, Fail>) -> Result<bool, Fail> {
+    fits_notes(alloc, &plan?)
+}
+
 #[test]
 fn plans_of_tables_and_columns(rt: HostRuntime) -> Result<(), Fail> {
-    assert!(rt; fits(rt.alloc(), Plan::Scan(NOTES))?);
-    assert!(rt; !fits(rt.alloc(), Plan::Scan(RelId(4)))?);
-    let missing = two_columns(rt.alloc(), 0, 2, Plan::Scan(NOTES))?;
-    assert!(rt; !fits(rt.alloc(), missing)?);
-    let there = two_columns(rt.alloc(), 1, 3, pairs(rt.alloc())?)?;
-    assert!(rt; fits(rt.alloc(), there)?);
+    let alloc = rt.alloc();
+    assert!(rt; fits(alloc, Ok(Plan::Scan(NOTES)))?);
+    assert!(rt; !fits(alloc, Ok(Plan::Scan(RelId(4))))?);
+    assert!(rt; !fits(alloc, two_columns(alloc, 0, 2, Plan::Scan(NOTES)))?);
+    assert!(rt; fits(alloc, two_of_pairs(alloc, 1, 3))?);
     Ok(())
+}
+
+/// The notes whose k is the name of the user.
+fn own(alloc: Global) -> Result<Plan, Fail> {
+    let notes = scan(alloc)?;
+    Ok(Plan::Filter(is_own(Comparison::Equal), notes))
 }
 
 #[test]
 fn plans_that_ask_for_the_user(rt: HostRuntime) -> Result<(), Fail> {
-    let plan = Plan::Filter(is_own(Comparison::Equal), scan(rt.alloc())?);
-    assert!(rt; !fits(rt.alloc(), plan)?);
+    assert!(rt; !fits(rt.alloc(), own(rt.alloc()))?);
     Ok(())
+}
+
+/// The notes, and pairs of notes.
+fn notes_and_pairs(alloc: Global) -> Result<Plan, Fail> {
+    let pairs = boxed(alloc, pairs(alloc)?)?;
+    Ok(Plan::Union(scan(alloc)?, pairs))
+}
+
+/// The notes, without those whose columns are turned.
+fn scan_less_turned(alloc: Global) -> Result<Plan, Fail> {
+    scan_less(alloc, two_columns(alloc, 1, 0, Plan::Scan(NOTES))?)
 }
 
 #[test]
 fn plans_of_kinds(rt: HostRuntime) -> Result<(), Fail> {
-    let texts = by_k(rt.alloc(), Agg::Sum(0))?;
-    assert!(rt; !fits(rt.alloc(), texts)?);
-    let wider = boxed(rt.alloc(), pairs(rt.alloc())?)?;
-    let union = Plan::Union(scan(rt.alloc())?, wider);
-    assert!(rt; !fits(rt.alloc(), union)?);
-    let turned = boxed(
-        rt.alloc(),
-        two_columns(rt.alloc(), 1, 0, Plan::Scan(NOTES))?,
-    )?;
-    let except = less(scan(rt.alloc())?, turned);
-    assert!(rt; !fits(rt.alloc(), except)?);
+    let alloc = rt.alloc();
+    assert!(rt; !fits(alloc, by_k(alloc, Agg::Sum(0)))?);
+    assert!(rt; !fits(alloc, notes_and_pairs(alloc))?);
+    assert!(rt; !fits(alloc, scan_less_turned(alloc))?);
     Ok(())
 }
