@@ -28,6 +28,13 @@ fn fill(access: &mut Access, alloc: Global) -> Result<(), AccessFault> {
     Ok(())
 }
 
+/// New rights with these.
+fn filled(alloc: Global) -> Result<Access, AccessFault> {
+    let mut access = Access::new(alloc)?;
+    fill(&mut access, alloc)?;
+    Ok(access)
+}
+
 fn roles(access: &Access) -> [Option<RoleId>; 3] {
     [
         access.role("admin"),
@@ -52,13 +59,17 @@ fn owners(access: &Access) -> [bool; 6] {
     ]
 }
 
+/// The roles, the relations and the owners that are found.
+fn found(
+    alloc: Global,
+) -> Result<([Option<RoleId>; 3], [Option<RelId>; 2], [bool; 6]), AccessFault> {
+    let access = filled(alloc)?;
+    Ok((roles(&access), relations(&access), owners(&access)))
+}
+
 #[test]
 fn finds_by_name_and_by_number(rt: HostRuntime) -> Result<(), Fail> {
-    let alloc = rt.alloc();
-    let mut access = Access::new(alloc)?;
-    let filled = fill(&mut access, alloc);
-    let (roles, relations, owners) = (roles(&access), relations(&access), owners(&access));
-    assert_eq!(rt; filled, Ok(()));
+    let (roles, relations, owners) = found(rt.alloc())?;
     assert_eq!(rt; roles, [Some(ADMIN), Some(BOB), None]);
     assert_eq!(rt; relations, [Some(MINE), None]);
     assert_eq!(rt; owners, [true, true, true, true, false, false]);
@@ -75,39 +86,39 @@ fn rights(access: &Access) -> [bool; 4] {
     ]
 }
 
-/// The rights after a grant to all, after a revoke from ann and after one from all.
-fn regranted(access: &mut Access) -> Result<[[bool; 4]; 3], AccessFault> {
+/// The rights at first, after a grant to all, after a revoke from ann, after one from all, and after a grant to bob.
+fn regranted(access: &mut Access) -> Result<[[bool; 4]; 5], AccessFault> {
+    let first = rights(access);
     access.grant(ANN, MINE, &READ, None)?;
     let granted = rights(access);
     access.revoke(ANN, MINE, &READ, Some("ann"))?;
     let own = rights(access);
     access.revoke(ANN, MINE, &READ, None)?;
     let public = rights(access);
-    Ok([granted, own, public])
+    access.grant(ANN, MINE, &READ, Some("bob"))?;
+    Ok([first, granted, own, public, rights(access)])
+}
+
+/// The same, and whether ann owns her view then.
+fn revoked(alloc: Global) -> Result<([[bool; 4]; 5], bool), AccessFault> {
+    let mut access = filled(alloc)?;
+    let rights = regranted(&mut access)?;
+    Ok((rights, access.owns(ANN, MINE)))
 }
 
 #[test]
 fn a_revoke_takes_from_its_grantee_alone(rt: HostRuntime) -> Result<(), Fail> {
-    let alloc = rt.alloc();
-    let mut access = Access::new(alloc)?;
-    let filled = fill(&mut access, alloc);
-    let first = rights(&access);
-    let later = regranted(&mut access);
-    let granted = access.grant(ANN, MINE, &READ, Some("bob"));
-    let last = rights(&access);
-    let owns = access.owns(ANN, MINE);
-    assert_eq!(rt; filled, Ok(()));
-    assert_eq!(rt; first, [true, true, false, false]);
+    let (rights, owns) = revoked(rt.alloc())?;
     assert_eq!(rt;
-        later,
-        Ok([
+        rights,
+        [
+            [true, true, false, false],
             [true, true, true, false],
             [true, true, true, false],
-            [false, true, false, false]
-        ])
+            [false, true, false, false],
+            [false, true, true, false]
+        ]
     );
-    assert_eq!(rt; granted, Ok(()));
-    assert_eq!(rt; last, [false, true, true, false]);
     assert!(rt; owns);
     Ok(())
 }
@@ -125,17 +136,19 @@ fn missing(access: &Access) -> [Option<Missing>; 2] {
     ]
 }
 
+/// What they lack in new rights.
+fn missing_at_first(alloc: Global) -> Result<[Option<Missing>; 2], AccessFault> {
+    let access = filled(alloc)?;
+    Ok(missing(&access))
+}
+
 #[test]
 fn tells_the_first_that_is_missing(rt: HostRuntime) -> Result<(), Fail> {
-    let alloc = rt.alloc();
-    let mut access = Access::new(alloc)?;
-    let filled = fill(&mut access, alloc);
-    let missing = missing(&access);
+    let missing = missing_at_first(rt.alloc())?;
     let select = Missing {
         privilege: Privilege::Select,
         rel: NOTES,
     };
-    assert_eq!(rt; filled, Ok(()));
     assert_eq!(rt; missing, [Some(select), None]);
     Ok(())
 }
@@ -158,16 +171,31 @@ fn creating(access: &mut Access) -> [Option<AccessFault>; 3] {
     ]
 }
 
+fn found_roles(access: &Access) -> [Option<RoleId>; 3] {
+    [access.role("ann"), access.role("r255"), access.role("new")]
+}
+
+/// These faults, and the roles that are found then.
+fn created(
+    access: &mut Access,
+    alloc: Global,
+) -> Result<([Option<AccessFault>; 3], [Option<RoleId>; 3]), AccessFault> {
+    fill_roles(access, alloc)?;
+    let faults = creating(access);
+    Ok((faults, found_roles(access)))
+}
+
+/// The same of new rights.
+fn created_anew(
+    alloc: Global,
+) -> Result<([Option<AccessFault>; 3], [Option<RoleId>; 3]), AccessFault> {
+    let mut access = filled(alloc)?;
+    created(&mut access, alloc)
+}
+
 #[test]
 fn roles_are_refused_in_order(rt: HostRuntime) -> Result<(), Fail> {
-    let alloc = rt.alloc();
-    let mut access = Access::new(alloc)?;
-    let filled = fill(&mut access, alloc);
-    let full = fill_roles(&mut access, alloc);
-    let faults = creating(&mut access);
-    let found = [access.role("ann"), access.role("r255"), access.role("new")];
-    assert_eq!(rt; filled, Ok(()));
-    assert_eq!(rt; full, Ok(()));
+    let (faults, found) = created_anew(rt.alloc())?;
     assert_eq!(rt;
         faults,
         [
@@ -205,17 +233,28 @@ fn add_table(access: &mut Access, alloc: Global) -> Result<RelId, AccessFault> {
     access.add_relation(ADMIN, "more", "bob", Some(columns))
 }
 
+/// These faults, the relations that are found then, and the number of the table.
+fn added(
+    access: &mut Access,
+    alloc: Global,
+) -> Result<([Option<AccessFault>; 4], [Option<RelId>; 2], RelId), AccessFault> {
+    fill_views(access, alloc)?;
+    let faults = adding(access);
+    let found = [access.relation("notes"), access.relation("new")];
+    Ok((faults, found, add_table(access, alloc)?))
+}
+
+/// The same of new rights.
+fn added_anew(
+    alloc: Global,
+) -> Result<([Option<AccessFault>; 4], [Option<RelId>; 2], RelId), AccessFault> {
+    let mut access = filled(alloc)?;
+    added(&mut access, alloc)
+}
+
 #[test]
 fn relations_are_refused_in_order(rt: HostRuntime) -> Result<(), Fail> {
-    let alloc = rt.alloc();
-    let mut access = Access::new(alloc)?;
-    let filled = fill(&mut access, alloc);
-    let full = fill_views(&mut access, alloc);
-    let faults = adding(&mut access);
-    let found = [access.relation("notes"), access.relation("new")];
-    let table = add_table(&mut access, alloc);
-    assert_eq!(rt; filled, Ok(()));
-    assert_eq!(rt; full, Ok(()));
+    let (faults, found, table) = added_anew(rt.alloc())?;
     assert_eq!(rt;
         faults,
         [
@@ -226,40 +265,42 @@ fn relations_are_refused_in_order(rt: HostRuntime) -> Result<(), Fail> {
         ]
     );
     assert_eq!(rt; found, [Some(NOTES), None]);
-    assert_eq!(rt; table, Ok(RelId(65)));
+    assert_eq!(rt; table, RelId(65));
     Ok(())
 }
 
 /// The faults of grants and revokes: bob does not own mine, and carl is no role.
-fn granting(access: &mut Access) -> [Option<AccessFault>; 4] {
+fn granting(access: &mut Access) -> [Option<AccessFault>; 5] {
     [
         access.grant(BOB, MINE, &READ, Some("carl")).err(),
         access.grant(ANN, MINE, &READ, Some("carl")).err(),
         access.revoke(BOB, MINE, &READ, Some("carl")).err(),
         access.revoke(ANN, MINE, &READ, Some("carl")).err(),
+        access.revoke(BOB, MINE, &READ, Some("ann")).err(),
     ]
+}
+
+/// These faults, and the rights before them and behind them.
+fn granted(alloc: Global) -> Result<([Option<AccessFault>; 5], [[bool; 4]; 2]), AccessFault> {
+    let mut access = filled(alloc)?;
+    let before = rights(&access);
+    let faults = granting(&mut access);
+    Ok((faults, [before, rights(&access)]))
 }
 
 #[test]
 fn grants_and_revokes_are_refused_in_order(rt: HostRuntime) -> Result<(), Fail> {
-    let alloc = rt.alloc();
-    let mut access = Access::new(alloc)?;
-    let filled = fill(&mut access, alloc);
-    let before = rights(&access);
-    let faults = granting(&mut access);
-    let foreign = access.revoke(BOB, MINE, &READ, Some("ann"));
-    let after = rights(&access);
-    assert_eq!(rt; filled, Ok(()));
+    let (faults, [before, after]) = granted(rt.alloc())?;
     assert_eq!(rt;
         faults,
         [
             Some(AccessFault::NotOwner),
             Some(AccessFault::Role),
             Some(AccessFault::NotOwner),
-            Some(AccessFault::Role)
+            Some(AccessFault::Role),
+            Some(AccessFault::NotOwner)
         ]
     );
-    assert_eq!(rt; foreign, Err(AccessFault::NotOwner));
     assert_eq!(rt; before, after);
     Ok(())
 }

@@ -37,6 +37,20 @@ fn join(access: &mut Access) -> Result<(), AccessFault> {
     access.grant_role(ADMIN, "crew", "ann")
 }
 
+/// New rights with these.
+fn filled(alloc: Global) -> Result<Access, AccessFault> {
+    let mut access = Access::new(alloc)?;
+    fill(&mut access, alloc)?;
+    Ok(access)
+}
+
+/// New rights in which they are members, too.
+fn filled_and_joined(alloc: Global) -> Result<Access, AccessFault> {
+    let mut access = filled(alloc)?;
+    join(&mut access)?;
+    Ok(access)
+}
+
 /// Which of the four roles a role reaches.
 fn reached(access: &Access, role: RoleId) -> [bool; 4] {
     [
@@ -55,29 +69,40 @@ fn held(access: &Access) -> [bool; 2] {
     ]
 }
 
+/// Which roles ann, team, org and admin reach, and what ann has.
+fn seen(access: &Access) -> ([[bool; 4]; 4], [bool; 2]) {
+    let reached = [
+        reached(access, ANN),
+        reached(access, TEAM),
+        reached(access, ORG),
+        reached(access, ADMIN),
+    ];
+    (reached, held(access))
+}
+
+/// The same before any role is a member of another.
+fn seen_alone(alloc: Global) -> Result<([[bool; 4]; 4], [bool; 2]), AccessFault> {
+    let access = filled(alloc)?;
+    Ok(seen(&access))
+}
+
+/// The same behind it.
+fn seen_joined(alloc: Global) -> Result<([[bool; 4]; 4], [bool; 2]), AccessFault> {
+    let access = filled_and_joined(alloc)?;
+    Ok(seen(&access))
+}
+
 #[test]
 fn chains_are_followed(rt: HostRuntime) -> Result<(), Fail> {
-    let alloc = rt.alloc();
-    let mut access = Access::new(alloc)?;
-    let filled = fill(&mut access, alloc);
-    let alone = [reached(&access, ANN), reached(&access, ORG)];
-    let before = held(&access);
-    let joined = join(&mut access);
-    let led = [reached(&access, ANN), reached(&access, TEAM)];
-    let upper = [reached(&access, ORG), reached(&access, ADMIN)];
-    let after = held(&access);
-    assert_eq!(rt; filled, Ok(()));
-    assert_eq!(rt;
-        alone,
-        [[true, false, false, false], [false, false, true, false]]
-    );
+    let ([ann, _, org, _], before) = seen_alone(rt.alloc())?;
+    assert_eq!(rt; ann, [true, false, false, false]);
+    assert_eq!(rt; org, [false, false, true, false]);
     assert_eq!(rt; before, [false, false]);
-    assert_eq!(rt; joined, Ok(()));
-    assert_eq!(rt; led, [[true, true, true, true], [false, true, true, false]]);
-    assert_eq!(rt;
-        upper,
-        [[false, false, true, false], [false, false, false, false]]
-    );
+    let ([ann, team, org, admin], after) = seen_joined(rt.alloc())?;
+    assert_eq!(rt; ann, [true, true, true, true]);
+    assert_eq!(rt; team, [false, true, true, false]);
+    assert_eq!(rt; org, [false, false, true, false]);
+    assert_eq!(rt; admin, [false, false, false, false]);
     assert_eq!(rt; after, [true, true]);
     Ok(())
 }
@@ -90,23 +115,31 @@ fn parted(access: &mut Access) -> Result<[[bool; 2]; 2], AccessFault> {
     Ok([one, held(access)])
 }
 
+/// Revokes once more, and grants what ann has.
+fn repeat(access: &mut Access) -> Result<(), AccessFault> {
+    access.revoke_role(ADMIN, "org", "crew")?;
+    access.grant_role(ADMIN, "team", "ann")
+}
+
+/// What ann has, and which roles she reaches then: at first, and behind what changes nothing.
+fn left(access: &mut Access) -> Result<([[bool; 2]; 2], [[bool; 4]; 2]), AccessFault> {
+    let held = parted(access)?;
+    let left = reached(access, ANN);
+    repeat(access)?;
+    Ok((held, [left, reached(access, ANN)]))
+}
+
+/// The same of new rights.
+fn left_anew(alloc: Global) -> Result<([[bool; 2]; 2], [[bool; 4]; 2]), AccessFault> {
+    let mut access = filled_and_joined(alloc)?;
+    left(&mut access)
+}
+
 #[test]
 fn the_last_chain_counts(rt: HostRuntime) -> Result<(), Fail> {
-    let alloc = rt.alloc();
-    let mut access = Access::new(alloc)?;
-    let filled = fill(&mut access, alloc);
-    let joined = join(&mut access);
-    let parted = parted(&mut access);
-    let left = reached(&access, ANN);
-    let again = access.revoke_role(ADMIN, "org", "crew");
-    let held_twice = access.grant_role(ADMIN, "team", "ann");
-    let same = reached(&access, ANN);
-    assert_eq!(rt; filled, Ok(()));
-    assert_eq!(rt; joined, Ok(()));
-    assert_eq!(rt; parted, Ok([[true, true], [false, false]]));
+    let (parted, [left, same]) = left_anew(rt.alloc())?;
+    assert_eq!(rt; parted, [[true, true], [false, false]]);
     assert_eq!(rt; left, [true, true, false, true]);
-    assert_eq!(rt; again, Ok(()));
-    assert_eq!(rt; held_twice, Ok(()));
     assert_eq!(rt; same, left);
     Ok(())
 }
@@ -123,16 +156,16 @@ fn faults(access: &mut Access) -> [Option<AccessFault>; 6] {
     ]
 }
 
+/// These faults, and which roles ann and org reach then.
+fn refused(alloc: Global) -> Result<([Option<AccessFault>; 6], [[bool; 4]; 2]), AccessFault> {
+    let mut access = filled_and_joined(alloc)?;
+    let faults = faults(&mut access);
+    Ok((faults, [reached(&access, ANN), reached(&access, ORG)]))
+}
+
 #[test]
 fn memberships_are_refused_in_order(rt: HostRuntime) -> Result<(), Fail> {
-    let alloc = rt.alloc();
-    let mut access = Access::new(alloc)?;
-    let filled = fill(&mut access, alloc);
-    let joined = join(&mut access);
-    let faults = faults(&mut access);
-    let after = [reached(&access, ANN), reached(&access, ORG)];
-    assert_eq!(rt; filled, Ok(()));
-    assert_eq!(rt; joined, Ok(()));
+    let (faults, after) = refused(rt.alloc())?;
     assert_eq!(rt;
         faults,
         [
@@ -189,21 +222,30 @@ fn ends(access: &Access) -> [bool; 4] {
     ]
 }
 
+/// The ends of the whole chain, the fault of a loop, and the ends of the two halves.
+fn halved(
+    access: &mut Access,
+    alloc: Global,
+) -> Result<([bool; 4], Option<AccessFault>, [bool; 4]), AccessFault> {
+    fill_chain(access, alloc)?;
+    link_all(access, alloc)?;
+    let whole = ends(access);
+    let looped = access.grant_role(ADMIN, "r255", "r1").err();
+    access.revoke_role(ADMIN, "r100", "r101")?;
+    Ok((whole, looped, ends(access)))
+}
+
+/// The same of new rights.
+fn halved_anew(alloc: Global) -> Result<([bool; 4], Option<AccessFault>, [bool; 4]), AccessFault> {
+    let mut access = Access::new(alloc)?;
+    halved(&mut access, alloc)
+}
+
 #[test]
 fn chains_of_all_roles_are_followed(rt: HostRuntime) -> Result<(), Fail> {
-    let alloc = rt.alloc();
-    let mut access = Access::new(alloc)?;
-    let filled = fill_chain(&mut access, alloc);
-    let linked = link_all(&mut access, alloc);
-    let whole = ends(&access);
-    let looped = access.grant_role(ADMIN, "r255", "r1").err();
-    let parted = access.revoke_role(ADMIN, "r100", "r101");
-    let halves = ends(&access);
-    assert_eq!(rt; filled, Ok(()));
-    assert_eq!(rt; linked, Ok(()));
+    let (whole, looped, halves) = halved_anew(rt.alloc())?;
     assert_eq!(rt; whole, [true, false, true, true]);
     assert_eq!(rt; looped, Some(AccessFault::Loop));
-    assert_eq!(rt; parted, Ok(()));
     assert_eq!(rt; halves, [false, false, true, true]);
     Ok(())
 }

@@ -127,11 +127,15 @@ fn switched(access: &mut Access, alloc: Global) -> Result<[[Verdict; 3]; 3], Acc
     Ok([forced, enabled, disabled])
 }
 
+/// The same in new rights.
+fn switched_anew(alloc: Global) -> Result<[[Verdict; 3]; 3], AccessFault> {
+    let mut access = Access::new(alloc)?;
+    switched(&mut access, alloc)
+}
+
 #[test]
 fn force_is_for_the_owner_alone(rt: HostRuntime) -> Result<(), Fail> {
-    let alloc = rt.alloc();
-    let mut access = Access::new(alloc)?;
-    let said = switched(&mut access, alloc);
+    let said = switched_anew(rt.alloc());
     let (pass, fail) = (Verdict::Pass, Verdict::NoPermissive);
     assert_eq!(rt;
         said,
@@ -150,6 +154,14 @@ fn restrict(access: &mut Access, alloc: Global) -> Result<(), AccessFault>
     create(access, alloc, ADMIN, for_all("few", true))
 }
 
+/// Adds the table, with these policies.
+fn fill_restricted(access: &mut Access, alloc: Global) -> Result<(), AccessFault>
+    ensures { OnOk result (0 < length access.new.rights.guards) }
+{
+    fill(access, alloc, true)?;
+    restrict(access, alloc)
+}
+
 /// Where the policies stand, and whether the second is told as few and as small.
 fn places(access: &Access) -> ([Option<usize>; 3], [bool; 2]) {
     let places = [
@@ -164,8 +176,7 @@ fn places(access: &Access) -> ([Option<usize>; 3], [bool; 2]) {
 
 /// What is said of 200 and of 2000 before few is dropped, and of 200 after it.
 fn restricted(access: &mut Access, alloc: Global) -> Result<[Verdict; 3], AccessFault> {
-    fill(access, alloc, true)?;
-    restrict(access, alloc)?;
+    fill_restricted(access, alloc)?;
     let first = verdict_of(access, alloc, ANN, Check::UpdateNew, 200)?;
     let none = verdict_of(access, alloc, ANN, Check::UpdateNew, 2000)?;
     access.drop_policy(ADMIN, NOTES, "few")?;
@@ -173,39 +184,40 @@ fn restricted(access: &mut Access, alloc: Global) -> Result<[Verdict; 3], Access
     Ok([first, none, other])
 }
 
+/// The same in new rights, and where the policies stand then.
+fn restricted_anew(
+    alloc: Global,
+) -> Result<([Verdict; 3], ([Option<usize>; 3], [bool; 2])), AccessFault> {
+    let mut access = Access::new(alloc)?;
+    let said = restricted(&mut access, alloc)?;
+    Ok((said, places(&access)))
+}
+
 #[test]
 fn the_first_restrictive_by_name_is_told(rt: HostRuntime) -> Result<(), Fail> {
-    let alloc = rt.alloc();
-    let mut access = Access::new(alloc)?;
-    let said = restricted(&mut access, alloc);
-    let left = places(&access);
+    let (said, left) = restricted_anew(rt.alloc())?;
     assert_eq!(rt;
         said,
-        Ok([
+        [
             Verdict::Restrictive(1),
             Verdict::NoPermissive,
             Verdict::Restrictive(1)
-        ])
+        ]
     );
     assert_eq!(rt; left, ([Some(0), None, Some(1)], [false, true]));
     Ok(())
 }
 
 /// Where the policies stand by name, in whatever order they came.
-fn ordered(
-    access: &mut Access,
-    alloc: Global,
-) -> Result<([Option<usize>; 3], [bool; 2]), AccessFault> {
-    fill(access, alloc, true)?;
-    restrict(access, alloc)?;
-    Ok(places(access))
+fn ordered(alloc: Global) -> Result<([Option<usize>; 3], [bool; 2]), AccessFault> {
+    let mut access = Access::new(alloc)?;
+    fill_restricted(&mut access, alloc)?;
+    Ok(places(&access))
 }
 
 #[test]
 fn policies_stand_by_name(rt: HostRuntime) -> Result<(), Fail> {
-    let alloc = rt.alloc();
-    let mut access = Access::new(alloc)?;
-    let places = ordered(&mut access, alloc);
+    let places = ordered(rt.alloc());
     assert_eq!(rt; places, Ok(([Some(0), Some(1), Some(2)], [true, false])));
     Ok(())
 }
@@ -235,11 +247,15 @@ fn compared(access: &mut Access, alloc: Global) -> Result<[[bool; 2]; 6], Access
     Ok([without, small, large, larger, other, admin])
 }
 
+/// The same in new rights.
+fn compared_anew(alloc: Global) -> Result<[[bool; 2]; 6], AccessFault> {
+    let mut access = Access::new(alloc)?;
+    compared(&mut access, alloc)
+}
+
 #[test]
 fn filters_let_through_what_the_test_passes(rt: HostRuntime) -> Result<(), Fail> {
-    let alloc = rt.alloc();
-    let mut access = Access::new(alloc)?;
-    let seen = compared(&mut access, alloc);
+    let seen = compared_anew(rt.alloc());
     let (yes, no) = ([true, true], [false, false]);
     assert_eq!(rt; seen, Ok([no, yes, no, no, yes, yes]));
     Ok(())
@@ -282,10 +298,19 @@ fn passed(access: &Access, alloc: Global, role: RoleId) -> Result<[bool; 5], All
 }
 
 /// The same with a fresh table.
+fn of_each_test_anew(
+    access: &mut Access,
+    alloc: Global,
+    command: PolicyCommand,
+) -> Result<[[bool; 5]; 2], AccessFault> {
+    fill(access, alloc, true)?;
+    of_each_test(access, alloc, command)
+}
+
+/// The same in new rights.
 fn covered(alloc: Global, command: PolicyCommand) -> Result<[[bool; 5]; 2], AccessFault> {
     let mut access = Access::new(alloc)?;
-    fill(&mut access, alloc, true)?;
-    of_each_test(&mut access, alloc, command)
+    of_each_test_anew(&mut access, alloc, command)
 }
 
 #[test]
@@ -348,32 +373,35 @@ fn creating(
     Ok(([foreign, unknown, taken, many], access.policy(NOTES, "new")))
 }
 
+/// The same in new rights, and whether ann sees 999 then.
+fn created_anew(
+    alloc: Global,
+) -> Result<([Option<AccessFault>; 4], Option<usize>, bool), AccessFault> {
+    let mut access = Access::new(alloc)?;
+    let (faults, place) = creating(&mut access, alloc)?;
+    Ok((faults, place, is_seen(&access, alloc, ANN, 999)?))
+}
+
 #[test]
 fn policies_are_refused_in_order(rt: HostRuntime) -> Result<(), Fail> {
-    let alloc = rt.alloc();
-    let mut access = Access::new(alloc)?;
-    let faults = creating(&mut access, alloc);
-    let seen = is_seen(&access, alloc, ANN, 999);
+    let (faults, place, seen) = created_anew(rt.alloc())?;
     assert_eq!(rt;
         faults,
-        Ok((
-            [
-                Some(AccessFault::NotOwner),
-                Some(AccessFault::Role),
-                Some(AccessFault::Taken),
-                Some(AccessFault::TooMany)
-            ],
-            None
-        ))
+        [
+            Some(AccessFault::NotOwner),
+            Some(AccessFault::Role),
+            Some(AccessFault::Taken),
+            Some(AccessFault::TooMany)
+        ]
     );
-    assert_eq!(rt; seen, Ok(true));
+    assert_eq!(rt; place, None);
+    assert!(rt; seen);
     Ok(())
 }
 
 /// The faults of a role that does not own the table, and of a policy that is not there.
 fn changing(access: &mut Access, alloc: Global) -> Result<[Option<AccessFault>; 4], AccessFault> {
-    fill(access, alloc, true)?;
-    restrict(access, alloc)?;
+    fill_restricted(access, alloc)?;
     let switched = access.row_security(BOB, NOTES, false, false).err();
     let foreign = access.drop_policy(BOB, NOTES, "none").err();
     let unknown = access.drop_policy(ANN, NOTES, "none").err();
@@ -381,23 +409,36 @@ fn changing(access: &mut Access, alloc: Global) -> Result<[Option<AccessFault>; 
     Ok([switched, foreign, unknown, other])
 }
 
+/// The same in new rights, where the policies stand then, and what they say of 200.
+fn changed_anew(
+    alloc: Global,
+) -> Result<
+    (
+        [Option<AccessFault>; 4],
+        ([Option<usize>; 3], [bool; 2]),
+        Verdict,
+    ),
+    AccessFault,
+> {
+    let mut access = Access::new(alloc)?;
+    let faults = changing(&mut access, alloc)?;
+    let said = verdict_of(&access, alloc, ANN, Check::Insert, 200)?;
+    Ok((faults, places(&access), said))
+}
+
 #[test]
 fn switches_and_drops_are_refused_in_order(rt: HostRuntime) -> Result<(), Fail> {
-    let alloc = rt.alloc();
-    let mut access = Access::new(alloc)?;
-    let faults = changing(&mut access, alloc);
-    let places = places(&access);
-    let said = verdict_of(&access, alloc, ANN, Check::Insert, 200);
+    let (faults, places, said) = changed_anew(rt.alloc())?;
     assert_eq!(rt;
         faults,
-        Ok([
+        [
             Some(AccessFault::NotOwner),
             Some(AccessFault::NotOwner),
             Some(AccessFault::Policy),
             Some(AccessFault::NotOwner)
-        ])
+        ]
     );
     assert_eq!(rt; places, ([Some(0), Some(1), Some(2)], [true, false]));
-    assert_eq!(rt; said, Ok(Verdict::Restrictive(1)));
+    assert_eq!(rt; said, Verdict::Restrictive(1));
     Ok(())
 }
