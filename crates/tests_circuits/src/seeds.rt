@@ -9,20 +9,44 @@ use std::alloc::{AllocError, Global};
 use std::hash::BuildHasher;
 use std::test::Fail;
 
+fn projected(alloc: Global) -> Result<Plan, AllocError> {
+    let columns = Vec::from_array(alloc, [1])?;
+    Ok(Plan::Project(columns, scan(alloc, 0)?))
+}
+
+fn counted(alloc: Global) -> Result<Plan, AllocError> {
+    let keys = Vec::from_array(alloc, [0])?;
+    let aggs = Vec::from_array(alloc, [Agg::Count])?;
+    let input = scan(alloc, 0)?;
+    Ok(Plan::Group { keys, aggs, input })
+}
+
+/// The two tables.
+fn two_scans(alloc: Global) -> Result<(Box<Plan>, Box<Plan>), AllocError> {
+    let a = scan(alloc, 0)?;
+    let b = scan(alloc, 1)?;
+    Ok((a, b))
+}
+
+fn united(alloc: Global) -> Result<Plan, AllocError> {
+    let (a, b) = two_scans(alloc)?;
+    Ok(Plan::Union(a, b))
+}
+
+fn left_alone(alloc: Global) -> Result<Plan, AllocError> {
+    let (a, b) = two_scans(alloc)?;
+    Ok(Plan::Except(a, b))
+}
+
 /// One plan for each number below 7, each with another operator on top.
 fn plan_of(alloc: Global, number: u32) -> Result<Plan, AllocError> {
-    let a = scan(alloc, 0)?;
     match number {
-        0 => Ok(Plan::Filter(Pred::True, a)),
-        1 => Ok(Plan::Project(Vec::from_array(alloc, [1])?, a)),
-        2 => Ok(Plan::Distinct(a)),
-        3 => Ok(Plan::Group {
-            keys: Vec::from_array(alloc, [0])?,
-            aggs: Vec::from_array(alloc, [Agg::Count])?,
-            input: a,
-        }),
-        4 => Ok(Plan::Union(a, scan(alloc, 1)?)),
-        5 => Ok(Plan::Except(a, scan(alloc, 1)?)),
+        0 => Ok(Plan::Filter(Pred::True, scan(alloc, 0)?)),
+        1 => projected(alloc),
+        2 => Ok(Plan::Distinct(scan(alloc, 0)?)),
+        3 => counted(alloc),
+        4 => united(alloc),
+        5 => left_alone(alloc),
         _ => joined(alloc),
     }
 }
@@ -34,19 +58,23 @@ fn total_seed(alloc: Global, number: u32, tables: &Tables) -> Option<Seed> {
     Some(circuit.total().seed())
 }
 
+/// What it makes of 1 over tables under this seed.
+fn hash_under(alloc: Global, seed: Seed, number: u32) -> Option<u64> {
+    let tables = two_tables_under(alloc, seed)?;
+    Some(total_seed(alloc, number, &tables)?.hash_one(&1u64))
+}
+
 /// The rows of each operator are hashed under the seed of the tables.
 #[test]
 fn circuits_keep_the_seed(rt: HostRuntime) -> Result<(), Fail> {
-    let alloc = rt.alloc();
     let seed = Seed::random(&rt)?;
-    let Some(tables) = two_tables_under(alloc, seed) else {
-        return Err(Fail::new("no tables"));
-    };
+    let hash = seed.hash_one(&1u64);
     for number in 0..7u32 {
-        let Some(kept) = total_seed(alloc, number, &tables) else {
-            return Err(Fail::new("no circuit"));
-        };
-        assert_eq!(rt; kept.hash_one(&1u64), seed.hash_one(&1u64), "{number}");
+        assert_eq!(rt;
+            hash_under(rt.alloc(), seed, number),
+            Some(hash),
+            "{number}"
+        );
     }
     Ok(())
 }
