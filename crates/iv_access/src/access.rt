@@ -1,4 +1,4 @@
-//! Who may do what.
+//! `Access`: roles, relations, grants and policies; look-ups by name, and `has`, `owns`, `reaches`, `first_missing`.
 //!
 //! Roles and relations are numbers inside; requests and calls name roles and policies. Role 0 is `admin`. Names and
 //! kinds of relations are known here for look-ups and counts; the rights of the definitions have neither. `has` asks

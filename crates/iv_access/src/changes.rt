@@ -1,4 +1,4 @@
-//! How rights change.
+//! Changes of rights: `create_role`, `grant_role`, `revoke_role`, `add_relation`, `grant`, `revoke`.
 ghost use Rattle.std.specs.Prelude.{◌≡◌, ◌⊎◌, ◌<◌, ◌∷◌, [], ◌++◌, None, Some, IfOk, IfErr, OnOk, OnErr, is_some, length, option_map};
 ghost use Rattle.iv_access.specs.declared.fault.AccessFault.TheVariants.{Memory};
 ghost use Rattle.iv_access.specs.Changing.{with_role, with_member, without_member, with_relation, with_grants, without_grants};

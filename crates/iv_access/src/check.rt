@@ -1,4 +1,4 @@
-//! What policies say of a row.
+//! What policies say of a row (`Access::check`): which of them apply (`applies`), permit and forbid; policies by name.
 ghost use Rattle.std.specs.Prelude.{◌≡◌, Some, option_map, position, slice_get};
 ghost use Rattle.std.specs.List.{list_any};
 ghost use Rattle.iv_access.specs.Grants.{seen};

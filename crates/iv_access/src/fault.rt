@@ -1,4 +1,4 @@
-//! Why a change of rights is refused.
+//! `AccessFault`: why a change of rights is refused.
 use std::alloc::AllocError;
 
 /// Why a change of rights is refused.

@@ -1,4 +1,4 @@
-//! A grant, and to whom it goes.
+//! `Grant`: a privilege on a relation that was granted; `Grantee`: to whom a grant or a policy goes.
 ghost use Rattle.std.specs.Prelude.{◌≡◌};
 ghost use Rattle.iv_access.specs.Changing.{grant_eq};
 ghost use Rattle.iv_access.specs.Given.{grant_to};

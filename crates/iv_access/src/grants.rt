@@ -1,4 +1,4 @@
-//! All grants, in the order of granting and as flags.
+//! `Grants`: all grants, in the order of granting and as flags by relation, privilege and role; `give` and `take`.
 //!
 //! Contracts see the list: the grants in the order of granting, each once. The finite sets of std's definitions do not
 //! compute, and worked examples have to. Look-ups ask the flags, which are there for the relations up to the highest that

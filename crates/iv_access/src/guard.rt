@@ -1,4 +1,4 @@
-//! Owners, row security and policies of relations.
+//! `Guard`: a relation's owner, its row security, and its policies in the order of their names.
 //!
 //! Policies stand in the byte order of their names, so that the first restrictive one that fails is the one that is
 //! named, and no call sorts.

@@ -1,4 +1,5 @@
-//! Laws of rights. Each is the contract of a function that does nothing.
+//! Laws of rights: grants, memberships and policies.
+//! Each is the contract of a function that does nothing.
 //!
 //! That what policies say of a row is the same whatever rows the tables hold needs no law: `check` is given the rights, the
 //! role, the table's number, the test and the row, and no table. So it is with each look-up of a privilege.

@@ -1,4 +1,4 @@
-//! Membership of roles in roles.
+//! `Memberships`: which roles are direct members of which, and which roles each role reaches.
 //!
 //! There are rows for the roles up to the highest that a membership ever named, and none where there was no
 //! membership. `grant_role` sets flags once there is room for them, so want of memory changes no right; `revoke_role`

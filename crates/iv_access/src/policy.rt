@@ -1,4 +1,4 @@
-//! Policies of a table.
+//! `Policy`, as asked for and as stored; `PolicyCommand`, `Check`, `Verdict`; whether a row passes one policy.
 ghost use Rattle.std.specs.Prelude.{◌≡◌, option_map};
 ghost use Rattle.iv_algebra.specs.Shapes.{condition_of};
 ghost use Rattle.iv_access.specs.Policies.{covers, is_met, is_named, or_else, passes};

@@ -1,4 +1,4 @@
-//! Privileges.
+//! `Privilege`: what a role may do with a relation; `Missing`: a privilege that a role lacks.
 use iv_rows::RelId;
 
 /// What a role may do with a relation (PostgreSQL 16, Privileges).

@@ -1,4 +1,4 @@
-//! Relations by name and by number.
+//! `Relations` of the rights: adds tables and views (`push`), finds them by name and number; how many there may be.
 ghost use Rattle.std.specs.Prelude.{◌≡◌, ◌<◌, ◌≤◌, ◌∷◌, [], ◌++◌, None, OnOk, OnErr, is_some, count_by, length, slice_get, option_map};
 ghost use Rattle.std.specs.Bool.{beq};
 ghost use Rattle.indexmap.specs.IndexMap.{values};

@@ -1,4 +1,4 @@
-//! Numbers of roles.
+//! `RoleId`: the number of a role; `ADMIN`, the superuser.
 ghost use Rattle.std.specs.Prelude.{◌≡◌};
 ghost use Rattle.iv_access.specs.Privileges.{is_admin};
 

@@ -1,4 +1,4 @@
-//! Roles by name and by number.
+//! `Roles`: adds roles (`push`), finds them by name and number; how many there may be.
 ghost use Rattle.std.specs.Prelude.{◌≡◌, ◌<◌, ◌≤◌, ◌∷◌, [], ◌++◌, None, OnOk, OnErr, IfSome, bytes_eq, length, position, slice_get, option_map};
 
 use crate::role::RoleId;

@@ -1,4 +1,4 @@
-//! How row security and policies change.
+//! Changes of row security and policies: `row_security`, `create_policy`, `drop_policy`, and why they are refused.
 ghost use Rattle.std.specs.Prelude.{◌≡◌, ◌⊎◌, ◌<◌, None, Some, IfOk, IfErr, OnOk, OnErr, length, map, slice_get, option_map, string_bytes};
 ghost use Rattle.std.specs.List.{list_all};
 ghost use Rattle.iv_access.specs.declared.fault.AccessFault.TheVariants.{Memory};

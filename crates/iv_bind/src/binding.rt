@@ -1,4 +1,4 @@
-//! Queries over a catalog to their plans.
+//! `bind`: from the tree of a query to its plan over a catalog; `bind_pred`: from a policy's to a predicate over rows.
 //!
 //! The definition is a function from a tree and a catalog to a plan as plain data, by steps that may fail, in the
 //! order in which faults are told. A view that is named stands in the needs before what it reaches. Its own needs are

@@ -1,4 +1,4 @@
-//! What a query is bound to.
+//! `Bound`: what a query is bound to: its plan, its columns, and the relations that it reaches.
 
 use iv_algebra::Plan;
 use iv_rows::{RelId, Schema};

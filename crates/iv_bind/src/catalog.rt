@@ -1,4 +1,4 @@
-//! The tables and views that queries may name.
+//! `Catalog`: the tables and views that queries may name, with their columns and plans; adds and finds them.
 //!
 //! `add_table` and `add_view` ask for a name and a number that are new; `is_new` is the test. `add_view` asks that
 //! the plan fits, as what `bind` answers over the same catalog does. `schema` and `view` look for a number from the

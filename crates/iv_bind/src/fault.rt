@@ -1,4 +1,4 @@
-//! Why a text with a tree has no plan.
+//! `BindFault`, `BindWhy`: why a text with a tree has no plan or predicate, and at which place.
 
 ghost use Rattle.std.specs.Prelude.{◌≡◌};
 ghost use Rattle.iv_bind.specs.declared.fault.BindFault.TheVariants.{Memory};

@@ -1,4 +1,4 @@
-//! The groups of a select, and its output columns.
+//! `list`, `keys`: binds the items of a select to its output columns and aggregates, and the columns of its group.
 
 ghost use Rattle.std.specs.Prelude.{◌≡◌, ◌==◌, ◌+◌, map, length, bytes_eq, IfOk};
 ghost use Rattle.std.specs.List.{list_any, position_from};

@@ -1,4 +1,4 @@
-//! Laws of the definitions.
+//! Laws of binding, and worked examples: bound queries are sound over a sound catalog.
 
 ghost use Rattle.std.specs.Prelude.{ℕ, List, IfOk};
 ghost use Rattle.iv_query.specs.Trees.{QueryTree};

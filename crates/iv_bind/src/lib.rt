@@ -1,4 +1,4 @@
-//! Trees of queries to plans, over a catalog of tables and views.
+//! Binds the trees of queries and policies to plans and predicates, over a catalog of tables and views.
 #![tactic(auto)]
 
 mod binding;

@@ -1,4 +1,4 @@
-//! The columns that the sources of a select have, and which of them a text means.
+//! `column`: which column of the sources of a select a text means; `Named`, a column with its source.
 
 ghost use Rattle.std.specs.Prelude.{◌≡◌};
 ghost use Rattle.iv_query.specs.Trees.{column_tree};

@@ -1,4 +1,4 @@
-//! Selects and queries.
+//! `query`: binds selects and set operations to plans, with grouping and distinct; `Part`, what each gives.
 
 ghost use Rattle.std.specs.Prelude.{◌≡◌, map, IfOk};
 ghost use Rattle.iv_rows.specs.Columns.{kinds_of};

@@ -1,4 +1,4 @@
-//! The sources of a select, and its joins.
+//! `all_sources`: binds the sources of a select and its joins; `filter`: the rows that its predicate lets through.
 //!
 //! A pair of a join is kept with the earlier side first, in whichever order the text has the two.
 

@@ -1,4 +1,4 @@
-//! What a request is answered, before it becomes lines.
+//! `Answer`: the reply to a request and its lines of changes; `lines_of`: the lines of an answer or of a refusal.
 ghost use Rattle.std.specs.Prelude.{◌≡◌, ◌∷◌, [], IfOk, map};
 ghost use Rattle.iv_command.specs.Answers.{AreLinesOfAnswer};
 ghost use Rattle.iv_command.specs.Views.{line_of};

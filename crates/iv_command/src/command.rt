@@ -1,4 +1,4 @@
-//! What a session asks, and what it is answered.
+//! `Command`, `Act`, `Entry`: what a session asks; `Refusal`, `Reply`, `Line`: what it is answered.
 
 use iv_access::{Check, PolicyCommand, Privilege};
 use iv_bind::BindWhy;

@@ -1,4 +1,4 @@
-//! Why a request is not done.
+//! `Stop`: why a request is not done: a refusal, or want of memory; which fault of a text is which refusal.
 ghost use Rattle.std.specs.Prelude.{◌≡◌};
 
 use crate::command::{Reason, Refusal};

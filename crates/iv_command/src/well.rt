@@ -1,4 +1,4 @@
-//! The rules on the shape of commands.
+//! `Command::well`: whether a command keeps the rules on shape: numbers, names, texts, columns, entries.
 ghost use Rattle.std.specs.Prelude.{◌≡◌, ◌&&◌, ◌^◌, map, nat_le, nat_lt, option_map, string_bytes};
 ghost use Rattle.std.specs.List.{list_all};
 ghost use Rattle.iv_rows.specs.Texts.{is_well};

@@ -1,4 +1,4 @@
-//! The privileges and the policies that the entries of a write need.
+//! `check_privileges`, `check_policies`: the tests of a write's entries by grants and by policies.
 ghost use Rattle.std.specs.Prelude.{◌≡◌, ◌+◌, map, option_map};
 ghost use Rattle.std.specs.List.{AllByRecursion};
 ghost use Rattle.iv_access.specs.Privileges.{first_missing};

@@ -1,4 +1,4 @@
-//! All that the database holds.
+//! `Database`: rights, the catalog, the rows of tables and the sessions, and the row limit.
 //!
 //! `tables` has an entry for each table alone. A table's columns stand in the catalog and, copied once when it is
 //! created, with its rows.

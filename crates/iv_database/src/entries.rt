@@ -1,4 +1,4 @@
-//! The entries of a write at the numbers of their tables.
+//! `placed`: the entries of a write at the numbers of their tables, and whether their rows have the right kinds.
 //!
 //! Each name is looked up once; all that comes behind goes by number.
 ghost use Rattle.std.specs.Prelude.{◌≡◌, ◌+◌, ◌<◌, IfOk, IfErr, OnOk, None, Some};

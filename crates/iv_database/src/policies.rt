@@ -1,4 +1,4 @@
-//! The requests that change which rows readers see: `row_security`, `create_policy` and `drop_policy`, and the texts of policies.
+//! `row_security`, `create_policy`, `drop_policy`: their tests, what they change of rights, and the texts of policies.
 ghost use Rattle.std.specs.Prelude.{◌≡◌, ◌<◌, None, OnOk, is_some, length, map, nat_le, option_map, slice_get, string_bytes, true};
 ghost use Rattle.std.specs.List.{list_all};
 ghost use Rattle.iv_access.specs.Changing.{with_security, without_policy};

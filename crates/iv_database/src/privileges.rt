@@ -1,4 +1,4 @@
-//! The requests `grant` and `revoke`, and the privileges that a reader needs.
+//! `grant`, `revoke`; the refusal for a fault of rights (`stop_of`, `outcome`); what a reader lacks (`missing_for`).
 ghost use Rattle.std.specs.Prelude.{◌≡◌, ◌<◌, length, map, option_map, string_bytes};
 ghost use Rattle.iv_access.specs.Known.{named};
 ghost use Rattle.iv_machine.specs.Act as machine;

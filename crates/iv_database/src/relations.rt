@@ -1,4 +1,4 @@
-//! Relations by their names, and the requests `create_table` and `create_view`.
+//! `create_table`, `create_view`: tests and effects; relations by name, and who acts on one (`acting_on`).
 ghost use Rattle.std.specs.Prelude.{◌≡◌, ◌<◌, IfOk, IfSome, is_some, length, string_bytes, true, Some, ◌&&◌, None};
 ghost use Rattle.iv_bind.specs.Catalogs.{named, schema_of, AreAmong, answer_of};
 ghost use Rattle.iv_machine.specs.State.{name_of, rel_of, table_columns};

@@ -1,4 +1,4 @@
-//! The requests `create_role`, `grant_role` and `revoke_role`.
+//! `create_role`, `grant_role`, `revoke_role`: their tests, and what they change of rights.
 ghost use Rattle.std.specs.Prelude.{◌≡◌, string_bytes};
 ghost use Rattle.iv_machine.specs.Act as machine;
 ghost use Rattle.iv_database.specs.Next.{IsDone};

@@ -1,4 +1,4 @@
-//! Sessions and the roles that act in them, and the request `begin`.
+//! Sessions and the roles that act in them: `begin`, `actor`, `end_session`.
 ghost use Rattle.std.specs.Prelude.{◌≡◌, option_map, []};
 ghost use Rattle.iv_machine.specs.State.{session_of};
 ghost use Rattle.iv_database.specs.Database.{acts_as, frame_of, without_session};

@@ -1,4 +1,4 @@
-//! The engine.
+//! `Engine`: `apply` answers a command, `run_list` many, `hang_up` ends all sessions; one that failed answers none.
 //!
 //! The clause `known_rows` of `apply` follows from `lines`. It is said all the same: a leak is the worst fault. Of a
 //! change it speaks where the subscription is to a table, since the rows of a view stand in no table; of a last line

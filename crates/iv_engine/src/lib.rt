@@ -1,4 +1,4 @@
-//! The engine: commands to lines, as the access machine says.
+//! The engine: commands to lines, as the access machine says: who reads what changes, and what readers are sent.
 //!
 //! `run_list` is on no path of the program: it is `apply` in turn, for whoever has a list, and its contract says what
 //! the lines of many commands add up to. Vectors grow by `with_capacity` and `push`: `collect` and `extend` ask for a

@@ -1,4 +1,4 @@
-//! The requests `grant_role` and `revoke_role`.
+//! `grant_role`, `revoke_role`: which readers a change of memberships concerns, and what they are told.
 //!
 //! Which readers a membership concerns is one flag for each circuit: a role reaches other roles than before exactly
 //! where it comes to reach the membership's role, or ceases to. That is a law of iv_access.

@@ -1,4 +1,4 @@
-//! The requests that change which rows readers see: `row_security`, `create_policy` and `drop_policy`.
+//! `row_security`, `create_policy`, `drop_policy`: what readers of the table and of views over it are told.
 ghost use Rattle.std.specs.Prelude.{IfOk, string_bytes};
 ghost use Rattle.iv_machine.specs.Act as machine;
 ghost use Rattle.iv_engine.specs.Answering.{IsStep};

@@ -1,4 +1,4 @@
-//! The request `revoke`.
+//! `revoke`: ends the subscriptions that may not be read any more.
 //!
 //! A revoke shows no row more or less: it ends the subscriptions whose role lacks select on what they need, and takes
 //! back what they showed. Each circuit is asked once, not each subscription.

@@ -1,4 +1,4 @@
-//! One step: a command to its lines.
+//! `Store::step`: from a command to its lines; `act` calls the function of each request.
 ghost use Rattle.std.specs.Prelude.{◌≡◌, IfOk, OnOk, map, option_map, string_bytes, true};
 ghost use Rattle.iv_machine.specs.Act as machine;
 ghost use Rattle.iv_machine.specs.Well.{is_well_act, is_well_command};

@@ -1,7 +1,7 @@
-//! All that the engine stores.
+//! `Store`: all that the engine stores: the database, subscriptions, circuits, and what was found for written tables.
 //!
-//! The invariant of requests says that the database is one, that each open subscription may be read and is within the limits (so what
-//! it showed can always be taken back), and that the circuits are those of open subscriptions and no others.
+//! The invariant of requests says that the database is one, that each open subscription may be read and is within the
+//! limits (so what it showed can always be taken back), and that the circuits are those of open subscriptions and no others.
 ghost use Rattle.std.specs.Prelude.{IfOk};
 ghost use Rattle.iv_zset.specs.RowLimit.{IsRowLimit};
 ghost use Rattle.iv_machine.specs.State.{start};

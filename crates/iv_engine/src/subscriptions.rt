@@ -1,4 +1,4 @@
-//! Subscriptions: their order, and the requests `subscribe`, `unsubscribe` and `finish`.
+//! `Subscription`: their order; `subscribe`, `unsubscribe`, and `finish`, which closes a session.
 //!
 //! Nothing is sent for what these close.
 ghost use Rattle.std.specs.Prelude.{◌≡◌, [], ◌==◌, ◌≤◌, map, length, IfOk, OnOk, None, count_by, ◌<◌, true, ◌||◌, ◌+◌, ◌^◌, nat_le, string_bytes};

@@ -1,4 +1,4 @@
-//! The words after the program's name.
+//! `settings`, `asked_for`: reads the words after the program's name, with help, version and errors.
 //!
 //! `settings` promises ranges alone, since clap's clauses say nothing of a subcommand's values: a body that answers
 //! another number of the range, or an error, meets its contract. Words and texts are shown by tests. A word that is

@@ -1,4 +1,4 @@
-//! What the program is asked to do.
+//! `Settings`: what the program is asked to do: replay or serve, with how many lines, rows and connections.
 //!
 //! `Settings` and `settings` stand in two modules: names that differ only in case are refused in one.
 

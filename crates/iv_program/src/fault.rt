@@ -1,4 +1,4 @@
-//! Why the program gives up once its arguments are read.
+//! `Fault`: why the program gives up once its arguments are read, and its exit status.
 
 ghost use Rattle.std.specs.Prelude.{◌≡◌};
 ghost use Rattle.iv_program.specs.Statuses.{status_of};

@@ -1,4 +1,4 @@
-//! Request lines in, answer lines out, through a new engine.
+//! `work`: does what the settings ask; `replay`: request lines in, answer lines out, through a new engine.
 
 ghost use Rattle.std.specs.Prelude.{◌≡◌, ℕ, ◌≤◌, ◌+◌, ◌*◌, ◌||◌, OnOk, true, false};
 ghost use Rattle.iv_zset.specs.RowLimit.{IsRowLimit};

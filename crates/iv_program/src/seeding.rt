@@ -1,4 +1,4 @@
-//! The keys of the run's hashes.
+//! `random_seed`: the random keys of the run's hashes.
 
 ghost use Rattle.std.specs.Prelude.{◌≡◌, IfErr};
 

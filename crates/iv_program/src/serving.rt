@@ -1,4 +1,4 @@
-//! Connections, one after another, through one engine.
+//! `serve`, `serve_on`: listens on a port, and answers connections one after another through one engine.
 //!
 //! A failed engine is answered before an accept, which a test shows: no contract of a listener tells its accepts.
 //! After a run it is the engine that is asked whether it failed: of a run's faults the read and the write end the

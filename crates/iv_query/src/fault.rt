@@ -1,4 +1,4 @@
-//! Why a text has no tree.
+//! `QueryFault`, `Why`: why the text of a view or a policy has no tree, and at which place.
 
 ghost use Rattle.std.specs.Prelude.{◌≡◌};
 ghost use Rattle.iv_query.specs.declared.fault.QueryFault.TheVariants.{Memory};

@@ -1,4 +1,4 @@
-//! What the grammar promises of every text, as contracts of functions that do nothing.
+//! Laws of the grammar: each text has one tree or one fault; contracts of functions that do nothing.
 
 ghost use Rattle.std.specs.Prelude.{ℕ, List};
 ghost use Rattle.std.specs.Str.{IsUtf8};

@@ -1,4 +1,4 @@
-//! From bytes to tokens.
+//! `lexed`: from the bytes of a text to its tokens: words, numbers, quoted texts and signs.
 //!
 //! A letter is A to Z or a to z, also where a number must have none behind it. A text without its closing quote is
 //! one fault at its first quote, also where a shorter text could be cut from it.

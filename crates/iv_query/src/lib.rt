@@ -1,4 +1,4 @@
-//! Query and policy texts to trees.
+//! Reads the texts of views and policies: from bytes to tokens, and from tokens to trees.
 #![tactic(auto)]
 
 mod fault;

@@ -1,4 +1,4 @@
-//! The limits of texts.
+//! The limits of texts: bytes of a text, of a word and of a value, nesting, and sources of a query.
 
 /// Bytes of a text.
 pub const TEXT_BYTES: usize = 4_096;

@@ -1,4 +1,4 @@
-//! Lists: one item, and any number of further ones, each behind a sign.
+//! `list_of`: reads a list of a text: one item, and any number of further ones, each behind a sign.
 
 ghost use Rattle.std.specs.Prelude.{List, map};
 ghost use Rattle.iv_query.specs.declared.fault.Fault.{Fault};

@@ -1,4 +1,4 @@
-//! The parts that queries and predicates share.
+//! Reads the parts that queries and predicates share: names, columns, operands, comparison signs and needed symbols.
 
 ghost use Rattle.std.specs.Prelude.{◌≡◌, option_map};
 ghost use Rattle.iv_query.specs.Tokens.{after, toks, first_place, unexpected, deep, op_of, after_op};

@@ -1,4 +1,4 @@
-//! Predicates, from tokens to trees.
+//! `pred`: reads a predicate, from tokens to its tree: comparisons, conjunctions and disjunctions.
 //!
 //! A conjunction and a disjunction have the same loop of eight lines, one for each level of the grammar. One loop for
 //! both would need a type for the two words, and contracts by cases on the sign, the tree and the level below of

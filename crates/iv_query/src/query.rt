@@ -1,4 +1,4 @@
-//! Queries, from tokens to trees.
+//! `query`: reads a query, from tokens to its tree: selects, sources, joins, items, groups, set operations.
 
 ghost use Rattle.std.specs.Prelude.{◌≡◌, ◌-◌, map, option_map};
 ghost use Rattle.iv_query.specs.Tokens.{starts_name, toks};

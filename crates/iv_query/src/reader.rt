@@ -1,4 +1,4 @@
-//! From texts to trees.
+//! `read_query`, `read_pred`: from the text of a view or a policy to its tree, or its first fault.
 //!
 //! The end of the text is a fault that stands behind the tokens, so reading from the left gives the least place by
 //! itself.

@@ -1,4 +1,4 @@
-//! Tokens, each with its place.
+//! `Token`, `Lexeme`, `Symbol`: reserved words, signs, names and values of a text, each with its place.
 
 /// A reserved word or a sign.
 #[derive(Clone, Copy, Debug, PartialEq, Eq)]

@@ -1,4 +1,5 @@
-//! Trees of texts, by the rules of the grammar. Places are in bytes from 0; names are in lower case.
+//! `Query`, `Select`, `PredText` and the trees below them, by the rules of the grammar.
+//! Places are in bytes from 0; names are in lower case.
 //!
 //! A query is a select, or a query, an operation and a select: grouping from the right has no tree, so no wrong body can
 //! give it. An edit swaps the operands of a set operation instead.

@@ -1,4 +1,4 @@
-//! The columns of a table, of a JSON value.
+//! `columns_at`: the columns of a new table, from a JSON value.
 ghost use Rattle.std.specs.Prelude.{◌≡◌, IfOk, Some, None, option_map, option_and_then};
 ghost use Rattle.iv_request.specs.Documents.{value_data, items_data};
 ghost use Rattle.serde_json.specs.Find.{at, as_str};

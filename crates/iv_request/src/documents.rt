@@ -1,4 +1,4 @@
-//! JSON values whose texts are borrowed from the line.
+//! `read`: from a text to a JSON value whose texts are borrowed from the line; `number_of`: its numbers.
 //!
 //! What is read has the data that `serde_json` reads of the line: what nests deeper than 127, and a number beyond a
 //! float's range, are no JSON, and of a key that stands twice the last value stays, as one key. Names, texts and

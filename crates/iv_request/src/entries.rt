@@ -1,4 +1,4 @@
-//! The entries of a write, of a JSON value.
+//! `entries_at`: the entries of a write, with their rows and copies, from a JSON value.
 ghost use Rattle.std.specs.Prelude.{◌≡◌, IfOk, Some, None, option_map, option_and_then};
 ghost use Rattle.serde_json.specs.Find.{at};
 ghost use Rattle.iv_rows.specs.Cell as cell;

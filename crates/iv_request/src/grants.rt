@@ -1,4 +1,4 @@
-//! Grants and revokes, of a JSON value.
+//! `granting_of`: what a grant or a revoke names, from a JSON value: privileges, relation and grantee.
 ghost use Rattle.std.specs.Prelude.{◌≡◌, IfOk, option_map, string_bytes};
 ghost use Rattle.iv_request.specs.Documents.{value_data, items_data};
 ghost use Rattle.iv_command.specs.Views.{act_of};

@@ -1,4 +1,5 @@
-//! Laws of the shape rules, and requests worked out by them. Each is the contract of a function that does nothing.
+//! Laws of which command a JSON value asks for, and requests worked out.
+//! Each is the contract of a function that does nothing.
 ghost use Rattle.std.specs.Prelude.{◌≡◌, ◌∷◌, [], codes, Some, None, IfSome, true, false};
 ghost use Rattle.iv_machine.specs.Act as machine;
 ghost use Rattle.iv_machine.specs.Well.{is_well_command};

@@ -1,4 +1,4 @@
-//! Memberships that are granted and revoked, of a JSON value.
+//! `membership_of`: the role and the member that are named to grant or revoke a role, from a JSON value.
 ghost use Rattle.std.specs.Prelude.{◌≡◌, IfOk, option_map, string_bytes};
 ghost use Rattle.iv_machine.specs.Well.{is_group};
 ghost use Rattle.iv_request.specs.Documents.{value_data};

@@ -1,4 +1,4 @@
-//! Parts of a JSON value.
+//! Parts of a JSON value: the text, name, number, truth value or list at a key, and how many keys there are.
 //!
 //! "No further keys" is the number of keys, with each key there: an object has no key twice once it is read. Where
 //! some keys need not be there, it is the number of those that must be, and of those of the others that are.

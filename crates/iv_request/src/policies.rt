@@ -1,4 +1,4 @@
-//! Row security and policies, of a JSON value.
+//! `row_security_of`, `create_policy_of`, `drop_policy_of`: the requests on policies, from a JSON value.
 ghost use Rattle.std.specs.Prelude.{◌≡◌, IfOk, option_map, string_bytes};
 ghost use Rattle.iv_request.specs.Documents.{value_data, items_data};
 ghost use Rattle.iv_command.specs.Views.{act_of};

@@ -1,4 +1,4 @@
-//! A line as a command: the shape rules.
+//! `command_in`, `read_line`: from a line to its command, by the shape rules: which request a JSON value is.
 ghost use Rattle.std.specs.Prelude.{◌≡◌, IfOk, IsErrOf, bytes_eq, codes, false, option_map, true};
 ghost use Rattle.iv_machine.specs.Well.{is_well_command};
 ghost use Rattle.iv_command.specs.Views.{act_of, command_of};

@@ -1,4 +1,4 @@
-//! Values, rows with their order, and the schemas of tables.
+//! Values, rows with their order, names, and the schemas of tables.
 #![tactic(auto)]
 
 mod name;

@@ -1,4 +1,4 @@
-//! Names of roles, relations and columns.
+//! Whether a text may be a name of a role, relation or column (`name_ok`), and which words are reserved.
 //!
 //! A reserved word is looked for among those of its length alone.
 ghost use Rattle.std.specs.Prelude.{◌≡◌, bytes_eq, nat_le, length};

@@ -1,4 +1,4 @@
-//! Rows, their equality, order and hash.
+//! `Row`: values that its copies share; how rows are compared, ordered and hashed.
 //!
 //! A row never changes, so a copy of it shares its values: a row stands in memory once, however many tables, totals,
 //! indexes and lines have it. Comparisons of a row are written by hand over those that are derived for `Value`: a derive on a

@@ -1,4 +1,4 @@
-//! The columns of a table, and numbers of relations.
+//! `Schema`: the columns of a relation, their rules, and whether a row fits them; `Column`; `RelId`, a relation's number.
 ghost use Rattle.std.specs.Prelude.{◌≡◌, ◌↔◌, ◌&&◌, IfOk, not, true, false};
 ghost use Rattle.std.specs.Prelude.{bytes_eq};
 ghost use Rattle.std.specs.List.{list_all, list_any};

@@ -1,3 +1,4 @@
+//! Tests of rows, names and schemas: copies, the order of rows, reserved words, and which rows a table may hold.
 use super::{Column, Kind, RelId, Row, RowFault, Schema, Value, name_ok};
 use std::alloc::Global;
 use std::cmp::Ordering;

@@ -1,4 +1,4 @@
-//! Values and their kinds.
+//! `Value` and `Kind`: a value of a row and its kind, copies of values, and which texts a table may hold.
 ghost use Rattle.std.specs.Prelude.{◌≡◌, ◌==◌, IfOk, nat_le, length};
 ghost use Rattle.std.specs.List.{list_any};
 ghost use Rattle.iv_rows.specs.Columns.{is_kind};

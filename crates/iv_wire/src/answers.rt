@@ -1,5 +1,5 @@
-//! The texts of a command's lines, one behind another. Rows that come again, as they do for each reader who sees the same,
-//! are written once.
+//! `write_lines`: the texts of a command's lines, one behind another; `are_same`: rows that were written before.
+//! Rows that come again, as they do for each reader who sees the same, are written once.
 //!
 //! `ok` and `subscribed` are fixed parts with numbers between them, proved to be the text of their value; refusals
 //! and faults are written by `serde_json`. Where a line has the rows of the line before, compared value by value,

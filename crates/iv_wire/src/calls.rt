@@ -1,4 +1,4 @@
-//! A number of calls that takes no bytes.
+//! `Calls`: how many calls were made of an end of std, for contracts alone: it takes no bytes.
 ghost use Rattle.std.specs.Prelude.{◌≡◌, ◌+◌};
 
 use std::marker::Model;

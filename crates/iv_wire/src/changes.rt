@@ -1,4 +1,4 @@
-//! The text of the rows of a change, token by token.
+//! `write_rows`: the JSON text of the rows of a change with their weights, token by token.
 //!
 //! The token writer on which `serde_json` stands says that what it writes of a value's tokens is the value's compact
 //! text, so an answer is still what `serde_json` writes of its value.

@@ -1,4 +1,4 @@
-//! What bytes are read from and written to.
+//! `Source` and `Sink`: what bytes are read from and written to; `write_all`.
 ghost use Rattle.std.specs.Prelude.{◌≡◌, ◌≤◌, ◌<◌, ◌+◌, ◌||◌, ℕ, List, Bool, Option, true, length, take, IfOk, OnOk, OnErr, is_err};
 ghost use Rattle.std.specs.Io.KnownBytes.{Appends, Keeps, ReadConsumes, WriteAppends};
 

@@ -1,4 +1,5 @@
-//! Laws of the definitions, and cases computed from them. Each is the contract of a function that does nothing.
+//! Laws of lines and answers as bytes, and cases computed from them.
+//! Each is the contract of a function that does nothing.
 ghost use Rattle.std.specs.Prelude.{◌≡◌, ◌≢◌, ◌≤◌, ◌<◌, ◌∷◌, ◌++◌, [], ℕ, List, All, length, codes, pos, negsuc};
 ghost use Rattle.iv_machine.specs.Act as machine;
 ghost use Rattle.iv_machine.specs.Machine.{run};

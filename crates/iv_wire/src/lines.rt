@@ -1,4 +1,4 @@
-//! Bytes as lines.
+//! `next_line`: cuts bytes into lines; `End`, `RunFault`: how a run over lines ends.
 ghost use Rattle.std.specs.Prelude.{◌≡◌, ◌≤◌, ◌+◌, ◌||◌, ◌⊎◌, [], option_map, IfOk, IfErr, OnOk, IsErrOf};
 ghost use Rattle.iv_wire.specs.Cut.{is_blank, line_room};
 ghost use Rattle.iv_wire.specs.Ahead.{known};

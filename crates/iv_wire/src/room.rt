@@ -1,4 +1,4 @@
-//! Bytes that are read before they are asked for.
+//! `Room`: bytes that were read ahead, out of which lines are taken up to their newline.
 //!
 //! The reader is asked for 4,096 bytes at a time, and at most 65,537 times a line. Bytes up to the next newline,
 //! which `memchr` finds, are moved at once.

@@ -1,4 +1,4 @@
-//! Lines, each answered in turn.
+//! `run`: reads lines, answers each in turn through the engine, and writes and flushes each answer.
 //!
 //! The answer to bytes folds the machine's `run` over the commands among the lines. That the state is one that the
 //! machine reaches is no premise: the engine's invariant gives it. A flush at the end alone would meet the contract;

@@ -1,4 +1,4 @@
-//! The ends of std as a source and a sink.
+//! `FromRead`, `FromWrite`: a reader and a writer of std as a source and a sink.
 ghost use Rattle.std.specs.Prelude.{◌≡◌, ◌||◌, false};
 ghost use Rattle.iv_wire.specs.Calls.{unused};
 

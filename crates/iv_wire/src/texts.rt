@@ -1,4 +1,4 @@
-//! Refusals as texts.
+//! `write_refusal`, `write_fault`: the JSON texts of refusals, and of faults of lines that are no request.
 ghost use Rattle.std.specs.Prelude.{◌≡◌, false, IfOk};
 ghost use Rattle.serde_json.specs.View.{view};
 ghost use Rattle.serde_json.specs.Written.{has_float};

@@ -1,4 +1,4 @@
-//! Ends of std, each call of which is counted.
+//! `Watched`: an end of std, each read, write and flush of which is counted.
 //!
 //! The bound on reads speaks of a source that counts its reads. std's clauses do not say how often a reader or a
 //! writer is called, so no contract over `Read` and `Write` can: what calls twice meets whatever one call meets. Of the

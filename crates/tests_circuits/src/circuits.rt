@@ -1,4 +1,4 @@
-//! Circuits over the two tables, as `admin` reads them.
+//! Makes the circuits of plans over the two tables, as `admin` reads them.
 ghost use Rattle.std.specs.Prelude.{◌≡◌, [], ◌∷◌, IfSome};
 ghost use Rattle.iv_algebra.specs.Shapes.{Join, Scan, shape_of};
 ghost use Rattle.iv_circuit.specs.Nodes.{plan_of};

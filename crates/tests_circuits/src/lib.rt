@@ -1,5 +1,6 @@
-//! Tests of circuits. One counts: a batch over a join in which all left rows of a key go and right rows of it come. One holds
-//! whichever request for memory is refused.
+//! Tests of the circuits of iv_circuit.
+//! One counts: a batch over a join in which all left rows of a key go and right rows of it come. One holds whichever
+//! request for memory is refused.
 #![tactic(auto)]
 
 #[cfg(test)]

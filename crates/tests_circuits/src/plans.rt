@@ -1,4 +1,4 @@
-//! Plans over the two tables.
+//! Plans over the two tables: a scan, a join, and one with a node of each kind.
 ghost use Rattle.std.specs.Prelude.{◌≡◌, [], ◌∷◌, IfOk};
 ghost use Rattle.iv_algebra.specs.Shapes.{Join, Scan, shape_of};
 

@@ -1,4 +1,4 @@
-//! What the rows of a circuit are hashed with.
+//! A test that the circuit of each operator keeps the seed of its tables.
 
 use crate::circuits::planned;
 use crate::plans::{joined, scan};

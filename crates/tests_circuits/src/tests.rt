@@ -1,3 +1,4 @@
+//! The test of a batch over a join in which 200 left rows of a key go and as many right rows come.
 use crate::swaps::swapped;
 use crate::worlds::Entry;
 use std::alloc::{AllocError, Global};

@@ -1,4 +1,4 @@
-//! A large view, and many small batches that change it.
+//! Tests of a large view under many small batches, and of a batch that takes the left rows of a key and brings right ones.
 use crate::numbered::{between, list_of, numbered};
 use crate::replayed::{answers, writes};
 use std::alloc::{AllocError, Global};

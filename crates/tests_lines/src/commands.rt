@@ -1,5 +1,4 @@
-//! Commands through an engine, where no line shows it: numbers of copies, lists of commands, the rules on shape, and a
-//! failed engine.
+//! Tests of commands through an engine, where no line shows it: copies, lists of commands, the rules on shape, failed engines.
 ghost use Rattle.std.specs.Prelude.{◌≡◌, map};
 ghost use Rattle.std.specs.List.{list_all};
 ghost use Rattle.iv_machine.specs.Well.{is_well_command};

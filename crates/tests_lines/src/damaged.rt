@@ -1,4 +1,4 @@
-//! Lines that are no requests, and lines at the limits of their length.
+//! Tests of lines that are no requests, and of lines at the limits of their length.
 use crate::replayed::{ANSWERS, REQUESTS, joined, replayed, writes};
 use std::alloc::{AllocError, Global};
 use std::test::Fail;

@@ -1,4 +1,4 @@
-//! Readers and writers that fail, that give or take a byte a call, and that record flushes.
+//! Tests with readers and writers that fail, that give or take a byte a call, and that record flushes.
 ghost use Rattle.std.specs.Prelude.{◌≡◌, None};
 
 use crate::replayed::{ANSWERS, Ended, REQUESTS, ended, replayed, word_of};

@@ -1,5 +1,6 @@
-//! Readers and writers of std that fail once, and would then work: a run is over at the failure, and each of its reads, writes
-//! and flushes is one call. No clause sees how often an end of std is called; these tests count the calls.
+//! Tests with readers and writers of std that fail once, and would then work.
+//! A run is over at the failure, and each of its reads, writes and flushes is one call. No clause sees how often an end of
+//! std is called; these tests count the calls.
 
 use crate::replayed::{ANSWERS, Ended, REQUESTS, ended, word_of};
 use iv_wire::{FromRead, FromWrite};

@@ -1,4 +1,4 @@
-//! The refusals of each request and the limits, as lines.
+//! Tests of the refusals of each request, and of the row limit of tables and nodes, as lines.
 use crate::numbered::{between, list_of, numbered};
 use crate::replayed::answers;
 use iv_engine::Engine;

@@ -1,4 +1,4 @@
-//! Texts with a number in each place.
+//! `numbered`, `between`, `list_of`: texts for tests, with a number in each place.
 use std::alloc::{AllocError, Global};
 
 /// The text with the number at each mark `#`.

@@ -1,4 +1,4 @@
-//! What a new engine writes for lines.
+//! `replayed`, `writes`, `answers`: what a new engine writes for lines, for the other tests.
 use iv_engine::Engine;
 use iv_wire::{End, FromRead, FromWrite, RunFault, Sink, Source, run};
 use std::alloc::{AllocError, Global};

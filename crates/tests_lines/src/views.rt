@@ -1,4 +1,4 @@
-//! The worked examples of views, and of subscriptions that are closed, byte for byte.
+//! Tests of the worked examples of views, and of subscriptions that are closed, byte for byte.
 use crate::replayed::{answers, writes};
 use std::test::Fail;
 

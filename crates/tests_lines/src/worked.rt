@@ -1,4 +1,4 @@
-//! The worked examples, byte for byte.
+//! Tests of the worked examples, byte for byte, and of one line that is read or written.
 use crate::replayed::{ANSWERS, REQUESTS, answers, joined, replayed, writes};
 use iv_command::{Act, Line, Privilege, Refusal, Reply};
 use iv_request::read_line;

@@ -1,5 +1,6 @@
-//! Tests of serving over loopback: each client connects, sends all its bytes and shuts its writing side before the server
-//! accepts, and reads its answers behind it. The system keeps the bytes.
+//! Tests of serving over loopback: connections one after another, clients that leave, the port, a failed engine.
+//! Each client connects, sends all its bytes and shuts its writing side before the server accepts, and reads its answers
+//! behind it. The system keeps the bytes.
 
 use iv_engine::{Engine, Seed};
 use iv_program::{Fault, ServeFault, serve, serve_on};

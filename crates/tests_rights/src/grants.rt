@@ -1,3 +1,4 @@
+//! Tests of roles, relations, owners, grants and revokes, and of the order of their refusals.
 use iv_access::{ADMIN, Access, AccessFault, Missing, Privilege, RoleId};
 use iv_rows::{Kind, RelId};
 use std::alloc::{AllocError, Global};

@@ -1,3 +1,4 @@
+//! Tests of memberships: chains of roles, direct members that are revoked, loops, and the order of refusals.
 use iv_access::{ADMIN, Access, AccessFault, Privilege, RoleId};
 use iv_rows::{Kind, RelId};
 use std::alloc::{AllocError, Global};

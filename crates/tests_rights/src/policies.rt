@@ -1,3 +1,4 @@
+//! Tests of row security and policies: verdicts, filters, their order by name, and the order of refusals.
 ghost use Rattle.std.specs.Prelude.{◌<◌, OnOk, length};
 
 use iv_access::{ADMIN, Access, AccessFault, Check, Policy, PolicyCommand, RoleId, Verdict};

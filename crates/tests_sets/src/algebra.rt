@@ -1,3 +1,4 @@
+//! Tests of tables, predicates and plans of iv_algebra: `eval` with each operator, limits, and which plans fit.
 use iv_algebra::{Agg, AlgFault, Comparison, Operand, Plan, Pred, Tables, eval};
 use iv_rows::{Column, Kind, RelId, Row, Schema, Value};
 use iv_zset::{Meter, ZFault, ZSet};

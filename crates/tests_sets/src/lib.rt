@@ -1,4 +1,4 @@
-//! Tests of the public calls of the crates of Z-sets and of plans over them.
+//! Tests of the public calls of iv_zset and iv_algebra: Z-sets, and plans over them.
 #![tactic(auto)]
 
 #[cfg(test)]

@@ -1,4 +1,4 @@
-//! The step of a join over indexes by key.
+//! Cases of `step_join` over key indexes, and of what indexes hold at a key.
 ghost use Rattle.std.specs.Prelude.{◌≡◌, ◌≤ℤ◌, ◌+ℤ◌, ◌*ℤ◌, true, false, pos, [], ◌∷◌, ◌++◌, length, IfOk};
 ghost use Rattle.iv_zset.specs.Weights.{SameZ, InRange};
 ghost use Rattle.iv_delta.specs.Sizes.{OfRows};

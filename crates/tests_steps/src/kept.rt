@@ -1,4 +1,4 @@
-//! The step of groups over kept sums, on small Z-sets.
+//! Cases of the step of groups over kept sums, on small Z-sets.
 ghost use Rattle.std.specs.Prelude.{[], ◌∷◌, ◌++◌};
 ghost use Rattle.iv_zset.specs.Weights.{AllInRange, IsBag};
 ghost use Rattle.iv_algebra.specs.declared.plan.Agg.TheVariants.{Sum};

@@ -1,4 +1,4 @@
-//! Steps of bilinear operators and of groups, on Z-sets of one row or two.
+//! Cases of `step_bilinear` and `step_group`, on Z-sets of one row or two.
 ghost use Rattle.std.specs.Prelude.{◌≡◌, ◌≤ℤ◌, ◌+ℤ◌, ◌*ℤ◌, ℤ, pos, [], ◌∷◌, map, IfOk};
 ghost use Rattle.iv_rows.specs.Cell.{num};
 ghost use Rattle.iv_zset.specs.Weights.{InRange};

@@ -1,4 +1,4 @@
-//! What an index hashes with.
+//! A test that an index keeps the seed of its rows.
 use crate::sets::row;
 use iv_delta::KeyIndex;
 use iv_zset::{Meter, Seed, ZSet};

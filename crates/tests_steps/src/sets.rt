@@ -1,4 +1,4 @@
-//! Z-sets of few rows, and what is seen of an answer.
+//! Z-sets of few rows for cases, and what is seen of an answer.
 ghost use Rattle.std.specs.Prelude.{◌≡◌, ◌≤ℤ◌, true, pos, IfOk, OnOk, [], ◌∷◌, ◌++◌, map};
 ghost use Rattle.iv_rows.specs.Cell.{num};
 ghost use Rattle.iv_rows.specs.View.{cell_of, cells_of};

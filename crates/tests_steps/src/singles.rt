@@ -1,4 +1,4 @@
-//! Steps of linear operators, of unions and of sets, on small Z-sets.
+//! Cases of the steps of linear operators, of unions and of sets, on small Z-sets.
 ghost use Rattle.std.specs.Prelude.{◌≡◌, ◌<◌, [], ◌∷◌, IfOk, length};
 ghost use Rattle.std.specs.List.{All};
 ghost use Rattle.iv_zset.specs.Weights.{IsBag};

@@ -1,3 +1,4 @@
+//! Tests of the steps of operators: each a table of cases with what is seen of their answers.
 use crate::indexed::{emptied_key, joined_by_key, kept_sums, moved};
 use crate::kept::regrouped;
 use crate::pairs::{counted, emptied, joined, multiplied, replaced, summed};

@@ -1,3 +1,4 @@
+//! Tests of binding: tables of queries with their columns or fault, views of views, the catalog, policies.
 use iv_algebra::Pred;
 use iv_bind::{BindFault, BindWhy, Bound, Catalog, bind, bind_pred};
 use iv_query::{QueryFault, Why, read_pred, read_query};

@@ -1,4 +1,4 @@
-//! Tests of the public calls of the crates that read and bind texts.
+//! Tests of the public calls of iv_query and iv_bind, which read and bind texts.
 #![tactic(auto)]
 
 #[cfg(test)]

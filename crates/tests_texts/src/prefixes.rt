@@ -1,7 +1,7 @@
-//! Each text that begins a query of the worked examples or of the cases. Each line has a query, ` => `, and what its beginnings
-//! are read as, each outcome with the last length that has it: `read`, `ends` where the text ends too soon, or the place and
-//! the reason of the fault. They follow from the grammar: `select id from not` has a word that is kept, and is no query, and
-//! `select id from no` is one.
+//! A test of each text that begins a query of the worked examples or of the cases.
+//! Each line has a query, ` => `, and what its beginnings are read as, each outcome with the last length that has it:
+//! `read`, `ends` where the text ends too soon, or the place and the reason of the fault. They follow from the grammar:
+//! `select id from not` has a word that is kept, and is no query, and `select id from no` is one.
 
 use iv_query::{QueryFault, Why, read_query};
 use std::alloc::Global;

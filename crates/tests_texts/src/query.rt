@@ -1,4 +1,4 @@
-//! Reading queries and policies: tables with a text a line, ` => `, and the tree with all places or the fault.
+//! Tests of reading queries and policies: tables with a text a line, ` => `, and the tree with all places or the fault.
 
 use crate::shown::{Kind, shown};
 use iv_query::{read_pred, read_query};

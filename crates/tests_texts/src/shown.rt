@@ -1,4 +1,4 @@
-//! Trees written out with all places, for tests.
+//! `shown`: writes out the tree of a text with all places, for tests.
 
 use iv_query::{
     Column, Columns, Item, Join, Name, Op, Operand, Pred, Query, QueryFault, Select, SetOp, Source,
