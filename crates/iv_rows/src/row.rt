@@ -156,16 +156,12 @@ impl Ord for Row {
     }
 }
 
-/// What makes a text's bytes whole words.
-const PADDING: [u8; 8] = [0; 8];
-
-/// Feeds a hasher the number of a text's bytes, and the bytes in whole words.
+/// Feeds a hasher the number of a text's bytes, and the bytes.
 fn feed_text<H: Hasher>(bytes: &[u8], state: &mut H)
     ensures { state.new ≡ fold H.write state.old (text_fed bytes.now) }
 {
     state.write_usize(bytes.len());
     state.write(bytes);
-    state.write(&PADDING[bytes.len() % 8..]);
 }
 
 /// Feeds a hasher a value.
@@ -188,8 +184,8 @@ fn feed_all<H: Hasher>(values: &[Value], state: &mut H)
     }
 }
 
-/// Rows that meet in one collection have the same kinds in the same columns, so neither these nor their number are fed; and
-/// all that is fed are whole words, since SipHash takes a word in less time than a byte of one.
+/// Rows that meet in one collection have the same kinds in the same columns, so neither these nor their number are fed; and all that
+/// is fed but a text's bytes are whole words.
 impl Hash for Row {
     ghost hash_input = { row_fed };
 
