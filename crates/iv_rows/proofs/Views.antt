@@ -1,5 +1,8 @@
 -- The derived comparisons of values are those of what they stand for.
-use Rattle.std.proofs.Common.{◌≡◌, ◌∙◌, ℕ, ◌++◌, refl, sym, ap, List, [], ◌∷◌}
+use Rattle.std.proofs.Common.{◌≡◌, ◌∙◌, ◌&&◌, ℕ, suc, ◌++◌, false, length, refl, sym, ap, List, [], ◌∷◌}
+use Rattle.std.proofs.Common.{get_or, drop, ◌+◌, ◌<◌}
+use Rattle.std.proofs.Math.Bool.{and-false}
+use Rattle.std.proofs.lemmas.List.{drop_more}
 use Rattle.std.specs.Ordering.{ordering_then, is_eq}
 use Rattle.std.specs.Cmp.Lexicographic.{pointwise, slice_cmp, lists_ties}
 use Rattle.iv_rows.specs.declared.value.Value.{Value}
@@ -44,3 +47,22 @@ fed_more write s [] c = fold_then write s (cell_fed c) []
 fed_more write s (d ∷ cs) c =
     fold_then write s (cell_fed d) (row_fed (cs ++ c ∷ [])) ∙ fed_more write (fold write s (cell_fed d)) cs c
     ∙ ap (λ t. fold write t (cell_fed c)) (sym (fold_then write s (cell_fed d) (row_fed cs)))
+
+-- rows of as many values are equal where their first values and the others are
+pub equal_more : (v w : Value) (vs ws : List Value) → row_eq (cells_of (v ∷ vs)) (cells_of (w ∷ ws)) ≡ (eq-value.it v w && row_eq (cells_of vs) (cells_of ws))
+equal_more v w vs ws = sym (same_row_eq (v ∷ vs) (w ∷ ws)) ∙ ap (λ b. eq-value.it v w && b) (same_row_eq vs ws)
+
+-- rows of different lengths are not equal
+pub equal_long : (vs ws : List Value) → (length vs ≡ length ws → ⊥) → false ≡ row_eq (cells_of vs) (cells_of ws)
+equal_long [] [] h = absurd (h refl)
+equal_long [] (w ∷ ws) h = refl
+equal_long (v ∷ vs) [] h = refl
+equal_long (v ∷ vs) (w ∷ ws) h = sym (equal_more v w vs ws ∙ ap (λ b. eq-value.it v w && b) (sym (equal_long vs ws (λ e. h (ap suc e)))) ∙ and-false (eq-value.it v w))
+
+-- from a place on, by the values at it
+pub equal_from : (vs ws : List Value) (i : ℕ) (v w : Value) → v ≡ get_or vs i v → w ≡ get_or ws i w → i < length vs → i < length ws
+    → row_eq (cells_of (drop i vs)) (cells_of (drop i ws)) ≡ (eq-value.it v w && row_eq (cells_of (drop (i + 1) vs)) (cells_of (drop (i + 1) ws)))
+equal_from vs ws i v w at to p q =
+    let l : drop i vs ≡ v ∷ drop (i + 1) vs = drop_more vs i v p ∙ ap (λ x. x ∷ drop (i + 1) vs) (sym at) in
+    let r : drop i ws ≡ w ∷ drop (i + 1) ws = drop_more ws i w q ∙ ap (λ x. x ∷ drop (i + 1) ws) (sym to) in
+    (λ j. row_eq (cells_of (l j)) (cells_of (r j))) ∙ equal_more v w (drop (i + 1) vs) (drop (i + 1) ws)

@@ -118,13 +118,28 @@ fn are_well(values: &[Value]) -> bool
     values.iter().all(Value::well)
 }
 
+/// Whether the values are equal, column by column. std's comparison of slices takes twice the instructions.
+fn are_equal(left: &[Value], right: &[Value]) -> bool
+    ensures { result ≡ row_eq (cells_of left.now) (cells_of right.now) }
+{
+    if left.len() != right.len() {
+        return false;
+    }
+    for place in 0..left.len() {
+        if left[place] != right[place] {
+            return false;
+        }
+    }
+    true
+}
+
 impl PartialEq for Row {
     ghost eq = { row_eq };
 
     ghost laws = { partial_equiv_from_equiv row_eq_equiv };
 
     fn eq(&self, other: &Row) -> bool {
-        self.values() == other.values()
+        are_equal(self.values(), other.values())
     }
 }
 
