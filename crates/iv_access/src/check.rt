@@ -19,16 +19,6 @@ fn place_of(policies: &[Stored], name: &str) -> Option<usize>
     policies.iter().position(|policy| policy.is_named(name))
 }
 
-/// The name of the policy at a place.
-fn name_at(policies: &[Stored], place: usize) -> Option<&str>
-    ensures { option_map (λ n. n.now) result ≡ option_map (λ p. p.name) (slice_get policies.now place) }
-{
-    match policies.get(place) {
-        Some(policy) => Some(policy.name.as_str()),
-        None => None,
-    }
-}
-
 impl Access {
     /// The name of a role, which policies see as the user.
     pub(crate) fn user(&self, role: RoleId) -> &str
@@ -162,7 +152,10 @@ impl Access {
         ensures { option_map (λ n. n.now) result ≡ policy_name self.now.rights table.0 place }
     {
         match self.guard(table) {
-            Some(guard) => name_at(&guard.policies, place),
+            Some(guard) => match guard.policies.get(place) {
+                Some(policy) => Some(policy.name.as_str()),
+                None => None,
+            },
             None => None,
         }
     }
