@@ -5,10 +5,10 @@ use Rattle.std.proofs.lemmas.List.Quantifiers.{position-Some}
 use Rattle.std.specs.Prelude.{◌==◌, is_some, nat_lt, position, slice_get}
 use Rattle.std.specs.List.{position_or_len}
 use Rattle.iv_circuit.specs.Circuits.{Running}
-use Rattle.iv_engine.specs.Each.{Each}
+use Rattle.iv_readers.specs.Each.{Each}
 use Rattle.iv_engine.specs.Found.{beside}
-use Rattle.iv_engine.specs.Held.{come_to}
-use Rattle.iv_engine.specs.Kept.{RoleCircuit, is_for}
+use Rattle.iv_readers.specs.Held.{come_to}
+use Rattle.iv_readers.specs.Readers.{RoleCircuit, is_for}
 
 two : (a b c d : ℕ) → ((a == b) && (c == d)) ≡ true → (a ≡ b) × (c ≡ d)
 two a b c d h = (grind (arith, nat_tests), grind (arith, nat_tests))

@@ -18,7 +18,8 @@ use Rattle.iv_engine.specs.Answering.{IsAccepted, seen}
 use Rattle.iv_engine.specs.Counting.{AreCounted}
 use Rattle.iv_engine.specs.Finished.{without_session, without_subscription, without_unread}
 use Rattle.iv_database.proofs.Stored.{sessions_stored}
-use Rattle.iv_engine.specs.Kept.{database_of, IsOpen, IsRoleCircuit, IsSound, IsWithin, Kept, at, frame_of, is_for, may_read, place_of}
+use Rattle.iv_engine.specs.Kept.{database_of, IsOpen, IsRoleCircuit, IsSound, IsWithin, Kept, at, frame_of, may_read, place_of}
+use Rattle.iv_readers.specs.Readers.{is_for}
 use Rattle.iv_engine.specs.Rounds.{beside_number, rounds, rounds_of}
 use Rattle.iv_engine.specs.Seen.{IsBehind}
 use Rattle.iv_database.specs.Stands.{Stands}
@@ -28,7 +29,8 @@ use Rattle.iv_command.specs.declared.command.Reply.TheVariants.{Ok}
 use Rattle.iv_engine.proofs.Counted.{IsBeside, all_beside, left_rounds, same_rounds, those_counted}
 use Rattle.iv_engine.proofs.Dropped.{left_have, left_read, left_there}
 use Rattle.iv_engine.proofs.Showing.{difference_none, each_found}
-use Rattle.iv_engine.proofs.Sound.{all_zip, circuits_stay}
+use Rattle.iv_readers.proofs.Lists.{all_zip}
+use Rattle.iv_engine.proofs.Sound.{circuits_stay}
 use Rattle.iv_engine.proofs.Stepping.{no_lines, no_refusal, none_ends, none_settled}
 use Rattle.iv_engine.proofs.Unmoved.{IsUnmoved, other_sessions, still_read, still_shown, still_within}
 

@@ -6,11 +6,12 @@ use Rattle.std.specs.List.{AllByRecursion, list_any}
 use Rattle.iv_machine.specs.Reached.{AreGiven}
 use Rattle.iv_machine.specs.State.{Subscription, actor, is_open, subscription_of}
 use Rattle.iv_engine.specs.Finished.{without_unread}
-use Rattle.iv_engine.specs.Kept.{IsOpen, IsStored, Kept, RoleCircuit, frame_of, is_for, is_read}
+use Rattle.iv_engine.specs.Kept.{IsOpen, IsStored, Kept, frame_of, is_read}
+use Rattle.iv_readers.specs.Readers.{RoleCircuit, is_for}
 use Rattle.iv_engine.specs.Rounds.{beside_number, by_number, of_number, rounds, rounds_in, rounds_of, rounds_since}
 use Rattle.iv_engine.proofs.Beside.{for_is}
 use Rattle.iv_engine.proofs.Showing.{each_found}
-use Rattle.iv_engine.proofs.Sound.{all_map, all_zip}
+use Rattle.iv_readers.proofs.Lists.{all_map, all_zip}
 use Rattle.iv_engine.proofs.Unread.{reads_own}
 
 same_nat : (m n : ℕ) → (m == n) ≡ true → m ≡ n

@@ -5,9 +5,10 @@ use Rattle.std.specs.List.{AllByRecursion}
 use Rattle.iv_machine.specs.State.{Subscription, actor, is_open}
 use Rattle.iv_machine.proofs.Placing.{all_kept}
 use Rattle.iv_engine.specs.Finished.{without_unread}
-use Rattle.iv_engine.specs.Kept.{IsOpen, Kept, RoleCircuit, frame_of, is_read, place_of}
+use Rattle.iv_engine.specs.Kept.{IsOpen, Kept, frame_of, is_read, place_of}
+use Rattle.iv_readers.specs.Readers.{RoleCircuit}
 use Rattle.iv_engine.proofs.Beside.{for_is}
-use Rattle.iv_engine.proofs.Sound.{all_map, all_zip}
+use Rattle.iv_readers.proofs.Lists.{all_map, all_zip}
 use Rattle.iv_engine.proofs.Unread.{kept_place, reads_own}
 
 module _ (e : Kept) where

@@ -10,7 +10,8 @@ use Rattle.iv_database.specs.Database as database
 use Rattle.iv_database.specs.Database.{Database}
 use Rattle.iv_database.specs.Next.{database_after}
 use Rattle.iv_engine.specs.Answering.{IsAccepted}
-use Rattle.iv_engine.specs.Concerned.{differing, reaching}
+use Rattle.iv_readers.specs.Flags.{differing}
+use Rattle.iv_engine.specs.Concerned.{reaching}
 use Rattle.iv_engine.specs.Kept.{IsSound, Kept, database_of, frame_of, with_database}
 use Rattle.iv_engine.specs.Next.{kept_after}
 use Rattle.iv_engine.specs.Turned.{AreReadersTold, AreWaiting}

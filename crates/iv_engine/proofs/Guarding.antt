@@ -22,7 +22,8 @@ use Rattle.iv_engine.specs.Answering.{IsAccepted, IsStep}
 use Rattle.iv_engine.specs.Concerned.{scanning}
 use Rattle.iv_engine.specs.Counting.{scans_at}
 use Rattle.iv_engine.specs.Next.{kept_after}
-use Rattle.iv_engine.specs.Kept.{database_of, with_database, IsRoleCircuit, IsSound, IsStored, Kept, RoleCircuit, frame_of, with_rights}
+use Rattle.iv_engine.specs.Kept.{database_of, with_database, IsRoleCircuit, IsSound, IsStored, Kept, frame_of, with_rights}
+use Rattle.iv_readers.specs.Readers.{RoleCircuit}
 use Rattle.iv_engine.specs.Turned.{AreReadersTold, AreWaiting}
 use Rattle.iv_command.specs.declared.answer.Answer.{Answer}
 use Rattle.iv_engine.proofs.Circling.{seen_circuit}

@@ -15,9 +15,11 @@ use Rattle.iv_machine.specs.Act.{Act, Refusal, grant_role, revoke_role}
 use Rattle.iv_machine.specs.Refusing.{first, frame_refusal, known_role, or_else, test}
 use Rattle.iv_machine.specs.State.{Subscription, actor, is_open, plan_at}
 use Rattle.iv_engine.specs.Answering.{IsAccepted}
-use Rattle.iv_engine.specs.Concerned.{differ, differing, reaches_some, reaching}
+use Rattle.iv_readers.specs.Flags.{differ, differing}
+use Rattle.iv_engine.specs.Concerned.{reaches_some, reaching}
 use Rattle.iv_engine.specs.Counting.{IsRebuiltByReach}
-use Rattle.iv_engine.specs.Kept.{IsSound, IsStored, Kept, RoleCircuit, frame_of, with_rights}
+use Rattle.iv_engine.specs.Kept.{IsSound, IsStored, Kept, frame_of, with_rights}
+use Rattle.iv_readers.specs.Readers.{RoleCircuit}
 use Rattle.iv_engine.specs.Next.{kept_after}
 use Rattle.iv_engine.specs.Seen.{Seen}
 use Rattle.iv_engine.specs.Turned.{AreReadersTold, AreWaiting}

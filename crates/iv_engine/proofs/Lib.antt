@@ -1,4 +1,3 @@
-pub mod Held
 mod Showing
 mod Sound
 mod Unmoved
@@ -8,7 +7,6 @@ mod Opening
 mod Settling
 pub mod Scanning
 mod Viewing
-mod Differing
 mod Running
 mod Passing
 mod Flagging
@@ -16,7 +14,6 @@ mod Righting
 mod Ending
 mod Joining
 mod Seeing
-mod Listing
 mod Turned
 mod Turning
 mod Guarding
@@ -25,7 +22,6 @@ mod Hanging
 mod Standing
 mod Beside
 mod Unread
-mod Becoming
 mod Replaced
 mod Totals
 mod Shared
@@ -41,6 +37,4 @@ mod Applying
 mod Opened
 mod Touched
 mod Spreading
-mod Partly
-mod Placing
 pub mod Enrolled

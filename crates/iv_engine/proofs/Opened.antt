@@ -4,9 +4,8 @@ use Rattle.std.proofs.lemmas.Bool.Decides.{nat_tests}
 use Rattle.std.proofs.lemmas.List.Quantifiers.{position-Some}
 use Rattle.std.specs.Prelude.{◌==◌, position}
 use Rattle.std.specs.List.{AllByRecursion}
-use Rattle.iv_engine.specs.Each.{Each}
-use Rattle.iv_engine.specs.Kept.{RoleCircuit, is_for, opened_to}
-use Rattle.iv_engine.specs.Openable.{opened_at}
+use Rattle.iv_readers.specs.Each.{Each}
+use Rattle.iv_readers.specs.Readers.{RoleCircuit, is_for, opened_to, opened_at}
 use Rattle.iv_engine.specs.Rounds.{beside_or, rounds_in, rounds_since}
 use Rattle.iv_engine.proofs.Replaced.{IsSameReader}
 

@@ -20,15 +20,17 @@ use Rattle.iv_machine.specs.Machine.{changes, line_for, line_of as machine_line,
 use Rattle.iv_machine.specs.Reached.{AreNumbersUnique}
 use Rattle.iv_machine.proofs.Reached.{after_numbers, next_is_new}
 use Rattle.iv_engine.specs.Answering.{IsAccepted, IsRefused, IsStep, seen, sent}
-use Rattle.iv_engine.specs.Built.{AreInOrder, IsBeyond}
+use Rattle.iv_readers.specs.Rows.{AreInOrder}
+use Rattle.iv_engine.specs.Built.{IsBeyond}
 use Rattle.iv_engine.specs.Counting.{AreCounted}
-use Rattle.iv_engine.specs.Each.{Each}
+use Rattle.iv_readers.specs.Each.{Each}
 use Rattle.iv_engine.specs.Found.{total_at}
-use Rattle.iv_engine.specs.Held.{HasComeTo, come_to}
-use Rattle.iv_engine.specs.Kept.{Kept, database_of, IsCircuitFor, IsOpen, IsRoleCircuit, IsSound, IsWithin, RoleCircuit, WereOpened, at, frame_of, is_for, is_read, may_read, opened_to, place_of, shown_rows}
+use Rattle.iv_readers.specs.Held.{HasComeTo, come_to}
+use Rattle.iv_engine.specs.Kept.{Kept, database_of, IsCircuitFor, IsOpen, IsRoleCircuit, IsSound, IsWithin, at, frame_of, is_read, may_read, place_of, shown_rows}
+use Rattle.iv_readers.specs.Readers.{RoleCircuit, WereOpened, is_for, opened_to, IsServed}
 use Rattle.iv_database.specs.Database.{acts_as}
 use Rattle.iv_database.specs.Target.{IsActingOn}
-use Rattle.iv_engine.specs.Openable.{AreFirstLines, HasCircuitAt, IsLike, IsNewFor, IsOpenable, IsServed, MayOpen, with_subscription}
+use Rattle.iv_engine.specs.Openable.{AreFirstLines, HasCircuitAt, IsLike, IsNewFor, IsOpenable, MayOpen, with_subscription}
 use Rattle.iv_engine.specs.Rounds.{beside_number, rounds, rounds_of}
 use Rattle.iv_engine.specs.Seen.{IsBehind}
 use Rattle.iv_database.specs.Stands.{Stands}
@@ -41,12 +43,12 @@ use Rattle.iv_command.specs.declared.stop.Stop.TheVariants.{Refused, Memory}
 use Rattle.iv_engine.proofs.Beside.{is_own, place_pushed, slot_is}
 use Rattle.iv_engine.proofs.Circling.{same_circuit, serves_circuit}
 use Rattle.iv_engine.proofs.Counted.{all_beside, all_given, next_none, now_counted, rounds_more}
-use Rattle.iv_engine.proofs.Listing.{from_none}
+use Rattle.iv_readers.proofs.Listing.{from_none}
 use Rattle.iv_engine.proofs.Pairing.{all_at}
 use Rattle.iv_engine.proofs.Opened.{opened_have, opened_same, others_rounds, own_rounds}
 use Rattle.iv_engine.proofs.Replaced.{IsSameReader, place_same, read_still}
 use Rattle.iv_engine.proofs.Showing.{difference_none, shown_is}
-use Rattle.iv_engine.proofs.Sound.{all_map, all_zip}
+use Rattle.iv_readers.proofs.Lists.{all_map, all_zip}
 use Rattle.iv_engine.proofs.Stepping.{IsShown, each_shown, no_lines, none_ends, none_settled, refused_step}
 use Rattle.iv_engine.proofs.Totals.{circuits_within, total_counts}
 use Rattle.iv_engine.proofs.Unread.{place_found, place_more, reads_it}

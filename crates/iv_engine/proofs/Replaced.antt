@@ -3,8 +3,9 @@ use Rattle.std.proofs.Common.{◌≡◌, ℕ, suc, ◌+◌, cond, ◌&&◌, not,
 use Rattle.std.specs.Prelude.{◌==◌, nat_lt, position}
 use Rattle.std.specs.List.{AllByRecursion, list_any, position_or_len}
 use Rattle.iv_machine.specs.State.{Frame}
-use Rattle.iv_engine.specs.Each.{Each, HaveBecome}
-use Rattle.iv_engine.specs.Kept.{RoleCircuit, is_for, is_read}
+use Rattle.iv_readers.specs.Each.{Each, HaveBecome}
+use Rattle.iv_readers.specs.Readers.{RoleCircuit, is_for}
+use Rattle.iv_engine.specs.Kept.{is_read}
 use Rattle.iv_database.specs.Database.{acts_as}
 
 -- the same role and relation

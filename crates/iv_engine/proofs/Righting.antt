@@ -20,10 +20,11 @@ use Rattle.iv_machine.specs.declared.Cause.{Cause}
 use Rattle.iv_machine.proofs.Reached.{given_kept, unique_kept}
 use Rattle.iv_engine.specs.Answering.{IsAccepted, seen, sent}
 use Rattle.iv_engine.specs.Counting.{TurnsRounds}
-use Rattle.iv_engine.specs.Each.{Each}
+use Rattle.iv_readers.specs.Each.{Each}
 use Rattle.iv_engine.specs.Found.{beside_of, total_at}
 use Rattle.iv_database.proofs.Stored.{rights_stored}
-use Rattle.iv_engine.specs.Kept.{database_of, IsOpen, IsRoleCircuit, IsSound, IsStored, IsWithin, Kept, RoleCircuit, at, frame_of, is_read, may_read, place_of, role_reads, shown_rows, with_rights}
+use Rattle.iv_engine.specs.Kept.{database_of, IsOpen, IsRoleCircuit, IsSound, IsStored, IsWithin, Kept, at, frame_of, is_read, may_read, place_of, role_reads, shown_rows, with_rights}
+use Rattle.iv_readers.specs.Readers.{RoleCircuit}
 use Rattle.iv_engine.specs.Rounds.{rounds_of}
 use Rattle.iv_engine.specs.Seen.{IsBehind}
 use Rattle.iv_database.specs.Stands.{Stands}
@@ -35,7 +36,8 @@ use Rattle.iv_engine.proofs.Circling.{bag_for, same_circuit}
 use Rattle.iv_engine.proofs.Counted.{IsBeside, all_beside, those_counted}
 use Rattle.iv_engine.proofs.Passing.{all_kept, all_pass}
 use Rattle.iv_engine.proofs.Showing.{each_found, kept_found, kept_one, lists_behind, shown_is, stands_behind}
-use Rattle.iv_engine.proofs.Sound.{all_map, all_zip, has_same}
+use Rattle.iv_readers.proofs.Lists.{all_map, all_zip}
+use Rattle.iv_engine.proofs.Sound.{has_same}
 use Rattle.iv_engine.proofs.Stepping.{no_refusal, same_lines}
 use Rattle.iv_engine.proofs.Totals.{total_counts}
 use Rattle.iv_engine.proofs.Unread.{read_has}

@@ -21,7 +21,8 @@ use Rattle.iv_circuit.specs.Circuits.{Running}
 use Rattle.iv_machine.specs.State.{Session, Subscription, actor, plan_at, rel_of, session_of}
 use Rattle.iv_machine.specs.Act.{begin, create_role, create_table, create_view, grant}
 use Rattle.iv_machine.specs.Refusing.{frame_refusal, test}
-use Rattle.iv_engine.specs.Kept.{database_of, with_database, IsCircuitFor, IsOpen, IsRoleCircuit, IsSound, IsWithin, Kept, RoleCircuit, frame_of, is_for as is_circuit_for, is_read, may_read, place_of, shown_rows}
+use Rattle.iv_engine.specs.Kept.{database_of, with_database, IsCircuitFor, IsOpen, IsRoleCircuit, IsSound, IsWithin, Kept, frame_of, is_read, may_read, place_of, shown_rows}
+use Rattle.iv_readers.specs.Readers.{RoleCircuit, is_for as is_circuit_for}
 use Rattle.iv_engine.specs.Next.{kept_after}
 use Rattle.iv_database.specs.Next as database
 use Rattle.iv_database.specs.Next.{database_after}
@@ -32,20 +33,7 @@ use Rattle.iv_engine.proofs.Seeing.{for_same, rows_same, sees_same}
 use Rattle.iv_database.proofs.Tables.{known_at}
 use Rattle.iv_engine.proofs.Unread.{read_has, read_same}
 use Rattle.iv_engine.proofs.Unmoved.{IsUnmoved, other_sessions, sees_before, sight_before, still_circuit, still_numbered, still_read, still_shown, still_there, still_within}
-
--- ---- lists
-
-pub all_map : {X : Type 0} (P Q : X → Type 0) (xs : List X) → ((x : X) → P x → Q x) → AllByRecursion P xs → AllByRecursion Q xs
-all_map P Q [] h a = tt
-all_map P Q (x ∷ xs) h a = (h x a.0, all_map P Q xs h a.1)
-
-pub all_zip : {X : Type 0} (P Q R : X → Type 0) (xs : List X) → ((x : X) → P x → Q x → R x) → AllByRecursion P xs → AllByRecursion Q xs → AllByRecursion R xs
-all_zip P Q R [] h a b = tt
-all_zip P Q R (x ∷ xs) h a b = (h x a.0 b.0, all_zip P Q R xs h a.1 b.1)
-
-pub all_push : {X : Type 0} (P : X → Type 0) (xs : List X) (x : X) → AllByRecursion P xs → P x → AllByRecursion P (xs ++ x ∷ [])
-all_push P [] x a p = (p, tt)
-all_push P (y ∷ ys) x a p = (a.0, all_push P ys x a.1 p)
+use Rattle.iv_readers.proofs.Lists.{all_map, all_zip}
 
 -- ---- more rights
 

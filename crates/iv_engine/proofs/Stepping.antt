@@ -38,7 +38,8 @@ use Rattle.iv_engine.proofs.Counted.{all_beside, same_rounds, those_counted}
 use Rattle.iv_database.proofs.Owning.{err_is}
 use Rattle.iv_database.proofs.Tabled.{rows_with}
 use Rattle.iv_engine.proofs.Showing.{cause_for, difference_none, each_found, ending_is, shown_is}
-use Rattle.iv_engine.proofs.Sound.{all_map, all_shown, all_zip, begin_sound, begin_unmoved, grant_sound, grant_unmoved, role_sound, role_unmoved, table_sound, table_unmoved, view_sound, view_unmoved}
+use Rattle.iv_readers.proofs.Lists.{all_map, all_zip}
+use Rattle.iv_engine.proofs.Sound.{all_shown, begin_sound, begin_unmoved, grant_sound, grant_unmoved, role_sound, role_unmoved, table_sound, table_unmoved, view_sound, view_unmoved}
 use Rattle.iv_engine.proofs.Unmoved.{IsUnmoved}
 
 -- ---- lists of subscriptions

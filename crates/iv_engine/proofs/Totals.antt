@@ -10,7 +10,8 @@ use Rattle.iv_bind.specs.Faults.{if_some}
 use Rattle.iv_circuit.specs.Nodes.{total_of}
 use Rattle.iv_machine.specs.State.{Subscription, actor, view_for}
 use Rattle.iv_engine.specs.Found.{total_at}
-use Rattle.iv_engine.specs.Kept.{IsRoleCircuit, IsWithin, IsWithinFor, Kept, RoleCircuit, at, frame_of, is_for, place_of, shown_rows}
+use Rattle.iv_engine.specs.Kept.{IsRoleCircuit, IsWithin, IsWithinFor, Kept, at, frame_of, place_of, shown_rows}
+use Rattle.iv_readers.specs.Readers.{RoleCircuit, is_for}
 use Rattle.iv_database.specs.Stands.{Stands}
 use Rattle.iv_engine.proofs.Beside.{for_is, place_there}
 use Rattle.iv_engine.proofs.Circling.{shows_for, within_for}

@@ -20,7 +20,8 @@ use Rattle.iv_access.specs.Rights.{Guard, Name, Rights}
 use Rattle.iv_machine.specs.Changing.{with_held}
 use Rattle.iv_machine.specs.State.{Session, Subscription, actor, is_within, needs_at, next_rel, plan_at, session_of}
 use Rattle.iv_machine.proofs.Placing.{find_kept}
-use Rattle.iv_engine.specs.Kept.{IsCircuitOf, Kept, RoleCircuit, at, frame_of, may_read, shown_rows}
+use Rattle.iv_engine.specs.Kept.{IsCircuitOf, Kept, at, frame_of, may_read, shown_rows}
+use Rattle.iv_readers.specs.Readers.{RoleCircuit}
 use Rattle.iv_database.specs.Database.{kinds_at}
 use Rattle.iv_database.specs.Stands.{Stands}
 use Rattle.iv_database.proofs.Holding.{to_list}

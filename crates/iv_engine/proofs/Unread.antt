@@ -5,7 +5,8 @@ use Rattle.std.specs.Prelude.{◌==◌, filter, is_some, nat_lt, option_map, pos
 use Rattle.std.specs.List.{AllByRecursion, list_any, position_or_len}
 use Rattle.iv_bind.specs.Faults.{if_some}
 use Rattle.iv_machine.specs.State.{Frame, Session, Subscription, actor, is_open, session_of}
-use Rattle.iv_engine.specs.Kept.{RoleCircuit, is_for, is_read}
+use Rattle.iv_readers.specs.Readers.{RoleCircuit, is_for}
+use Rattle.iv_engine.specs.Kept.{is_read}
 use Rattle.iv_database.specs.Database.{acts_as}
 
 -- ---- sessions

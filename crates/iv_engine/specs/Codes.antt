@@ -7,13 +7,12 @@ use Rattle.iv_bind.specs.Codes.{entries_code}
 use Rattle.iv_access.specs.Codes.{known_code, rights_code}
 use Rattle.iv_access.specs.Known.{Known}
 use Rattle.iv_access.specs.Rights.{Rights}
-use Rattle.iv_circuit.specs.Circuits.{Running}
-use Rattle.iv_circuit.specs.Codes.{running_code}
 use Rattle.iv_machine.specs.State.{Frame, Session, Subscription}
 use Rattle.iv_database.specs.Codes.{session_code, table_code}
-use Rattle.iv_engine.specs.Held.{Reading}
-use Rattle.iv_engine.specs.Kept.{Kept, RoleCircuit}
+use Rattle.iv_engine.specs.Kept.{Kept}
+use Rattle.iv_readers.specs.Readers.{RoleCircuit}
 use Rattle.iv_engine.specs.Seen.{Seen}
+use Rattle.iv_readers.specs.Codes.{role_circuit_code}
 
 abbrev pub subscription_code : Coded Subscription
 subscription_code =
@@ -26,20 +25,6 @@ frame_code =
     (coded× (coded× coded_ℕ rights_code) (coded× (coded× entries_code (coded_list session_code)) (coded× (coded_list subscription_code) coded_ℕ)))
     (λ f. ((f.cap, f.rights), ((f.catalog, f.sessions), (f.subscriptions, f.last))))
     (λ p. record { cap = p.0.0; rights = p.0.1; catalog = p.1.0.0; sessions = p.1.0.1; subscriptions = p.1.1.0; last = p.1.1.1 }) (λ _. refl)
-
-abbrev pub reader_code : Coded Reading
-reader_code =
-    code_by ((ℕ × ℕ) × (ℕ × (ℕ × List (ℕ × ℕ)))) (coded× (coded× coded_ℕ coded_ℕ) (coded× coded_ℕ (coded× coded_ℕ (coded_list (coded× coded_ℕ coded_ℕ)))))
-    (λ r. ((r.role, r.rel), (r.at, (r.since, r.opened)))) (λ p. record { role = p.0.0; rel = p.0.1; at = p.1.0; since = p.1.1.0; opened = p.1.1.1 }) (λ _. refl)
-
-abbrev pub role_circuit_code : Coded RoleCircuit
-role_circuit_code =
-    code_by ((ℕ × (ℕ × ℕ)) × (Running × (ℕ × List (ℕ × ℕ)))) (coded× (coded× coded_ℕ (coded× coded_ℕ coded_ℕ)) (coded× running_code (coded× coded_ℕ (coded_list (coded× coded_ℕ coded_ℕ)))))
-    (λ k. ((k.role, (k.rel, k.at)), (k.circuit, (k.since, k.opened))))
-    (λ p. record { role = p.0.0; rel = p.0.1.0; at = p.0.1.1; circuit = p.1.0; since = p.1.1.0; opened = p.1.1.1 }) (λ _. refl)
-
-abbrev pub circuits_code : Coded (List RoleCircuit)
-circuits_code = coded_list role_circuit_code
 
 abbrev pub kept_code : Coded Kept
 kept_code =

@@ -1,6 +1,5 @@
 -- Which circuits a change of rights concerns: a flag beside each.
-use Rattle.std.specs.Bool.{beq}
-use Rattle.std.specs.Prelude.{ℕ, Bool, false, not, List, [], ◌∷◌, map, Option}
+use Rattle.std.specs.Prelude.{ℕ, Bool, false, not, List, map, Option}
 use Rattle.iv_bind.specs.Faults.{if_some}
 use Rattle.iv_access.specs.Memberships.{reaches}
 use Rattle.iv_access.specs.Rights.{Rights}
@@ -23,13 +22,3 @@ reaches_some r role other = if_some other false (λ o. reaches r.members role o.
 -- whether its role reaches the other
 abbrev pub reaching : Kept → Option RoleId → List Bool
 reaching e other = map (λ k. reaches_some e.known.rights k.role other) e.circuits
-
--- the flags differ
-abbrev pub differ : Bool → Bool → Bool
-differ b a = not (beq b a)
-
--- whether the flags of two lists differ, at each place
-abbrev pub differing : (before after : List Bool) → List Bool
-differing [] xs = []
-differing (b ∷ bs) [] = []
-differing (b ∷ bs) (x ∷ xs) = differ b x ∷ differing bs xs

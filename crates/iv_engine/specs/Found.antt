@@ -4,7 +4,8 @@ use Rattle.iv_zset.specs.Weights.{Weighed}
 use Rattle.iv_bind.specs.Faults.{if_some}
 use Rattle.iv_circuit.specs.Nodes.{total_of}
 use Rattle.iv_machine.specs.State.{Subscription, actor}
-use Rattle.iv_engine.specs.Kept.{Kept, RoleCircuit, frame_of, is_for}
+use Rattle.iv_engine.specs.Kept.{Kept, frame_of}
+use Rattle.iv_readers.specs.Readers.{RoleCircuit, is_for}
 use Rattle.iv_engine.specs.declared.circuits.Found.{Found}
 
 -- the place for the role of the session and the relation

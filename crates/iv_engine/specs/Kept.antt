@@ -1,5 +1,5 @@
 -- What the engine keeps, and the machine's frame that it stands for.
-use Rattle.std.specs.Prelude.{◌≡◌, ℕ, ◌<◌, ◌≤◌, ◌==◌, ◌&&◌, Bool, true, not, List, [], ◌∷◌, Option, filter, length, is_some, position}
+use Rattle.std.specs.Prelude.{◌≡◌, ℕ, ◌<◌, ◌==◌, ◌&&◌, Bool, true, not, List, Option, filter, length, is_some, position}
 use Rattle.std.specs.List.{All, AllByRecursion, list_any}
 use Rattle.iv_algebra.specs.declared.tables.Table.{Table}
 use Rattle.iv_algebra.specs.Plans.{Lists}
@@ -16,30 +16,7 @@ use Rattle.iv_machine.specs.State.{Frame, State, Session, Subscription, actor, i
 use Rattle.iv_machine.specs.Reached.{AreNumbersUnique}
 use Rattle.iv_database.specs.Database.{Database, IsDatabase, acts_as, kinds_at}
 use Rattle.iv_database.specs.Stands.{Stands}
-
--- the circuit of what a relation shows to a role, and its place among all circuits, which others have too who read it; how
--- many rounds it had when the role came to it; and the numbers of the role's subscriptions that were opened on it since, the
--- last first, each with the rounds that it had then
-pub record RoleCircuit : Type 0 where
-  pub role : ℕ
-  pub rel : ℕ
-  pub at : ℕ
-  pub circuit : Running
-  pub since : ℕ
-  pub opened : List (ℕ × ℕ)
-
--- the circuit, opened to the subscription of the number now
-abbrev pub opened_to : (number : ℕ) → RoleCircuit → RoleCircuit
-opened_to n k = record k { opened = (n, k.circuit.rounds) ∷ k.opened }
-
--- the circuit of the place for the role now, which is opened to none of its subscriptions
-abbrev pub moved_to : (at : ℕ) → Running → RoleCircuit → RoleCircuit
-moved_to at c k = record k { at = at; circuit = c; since = c.rounds; opened = [] }
-
--- those of one place are one circuit
-pub record AreShared (ks : List RoleCircuit) : Type 0 where
-  pub held : ℕ → Running
-  pub are : AllByRecursion (λ k. k.circuit ≡ held k.at) ks
+use Rattle.iv_readers.specs.Readers.{RoleCircuit, WereOpened, is_for}
 
 -- what the database holds, with the subscriptions, their circuits and the last number that was given
 pub record Kept : Type 0 where
@@ -132,11 +109,6 @@ pub record IsCircuitFor (e : Kept) (role : ℕ) (p : Shape) (c : Running) : Type
 abbrev pub IsCircuitOf : Kept → Subscription → Running → Type 0
 IsCircuitOf e s c = IsCircuitFor e (actor (frame_of e) s.session) (plan_at e.catalog s.rel) c
 
--- the role did not come to it, nor was any opened, at more rounds than the circuit has
-pub record WereOpened (k : RoleCircuit) : Type 0 where
-  pub came : k.since ≤ k.circuit.rounds
-  pub each : AllByRecursion (λ x. x.1 ≤ k.circuit.rounds) k.opened
-
 -- the circuit of what the relation shows to the role
 pub record IsRoleCircuit (e : Kept) (k : RoleCircuit) : Type 0 where
   pub known : k.rel < length e.catalog
@@ -144,10 +116,6 @@ pub record IsRoleCircuit (e : Kept) (k : RoleCircuit) : Type 0 where
   pub opened : WereOpened k
 
 -- ---- which circuit a subscription reads
-
--- it is for the role and the relation
-abbrev pub is_for : (role rel : ℕ) → RoleCircuit → Bool
-is_for role rel k = (k.role == role) && (k.rel == rel)
 
 -- the place of the first that is for the subscription
 abbrev pub place_of : Kept → Subscription → Option ℕ

@@ -1,14 +1,11 @@
 pub mod Seen
-pub mod Openings
 pub mod Kept
-pub mod Held
 pub mod Rounds
 pub mod Counting
 pub mod Applied
 pub mod Codes
 pub mod Next
 pub mod Answering
-pub mod Each
 pub mod Found
 pub mod Built
 pub mod Moved

@@ -1,10 +1,9 @@
 -- The relation that a subscription may be opened to.
-use Rattle.std.specs.Prelude.{◌≡◌, ◌<◌, ◌-◌, ◌^◌, ℕ, zero, suc, true, List, [], ◌∷◌, ◌++◌, get_or, length, Option, None, Some, is_some, position, Result, Ok, Err}
+use Rattle.std.specs.Prelude.{◌≡◌, ◌<◌, ◌-◌, ◌^◌, ℕ, true, List, [], ◌++◌, get_or, length, Option, None, Some, is_some, position, Result, Ok, Err}
 use Rattle.std.specs.List.{AllByRecursion}
 use Rattle.iv_rows.specs.Cell.{Cell}
 use Rattle.iv_rows.specs.declared.schema.RelId.{RelId}
-use Rattle.iv_access.specs.Rights.{Name, Rights}
-use Rattle.iv_circuit.specs.Circuits.{Serves}
+use Rattle.iv_access.specs.Rights.{Name}
 use Rattle.iv_zset.specs.Limits.{Counts}
 use Rattle.iv_zset.specs.Weights.{Weighed}
 use Rattle.iv_machine.specs.Act as machine
@@ -14,7 +13,8 @@ use Rattle.iv_machine.specs.Machine.{difference, line_of as machine_line}
 use Rattle.iv_machine.specs.Refusing.{frame_refusal}
 use Rattle.iv_machine.specs.State.{Subscription, actor, is_open, missing_for, plan_at, rel_of}
 use Rattle.iv_engine.specs.Built.{IsBeyond}
-use Rattle.iv_engine.specs.Kept.{IsCircuitFor, Kept, RoleCircuit, frame_of, is_for, opened_to}
+use Rattle.iv_engine.specs.Kept.{IsCircuitFor, Kept, frame_of}
+use Rattle.iv_readers.specs.Readers.{RoleCircuit, is_for, opened_at}
 use Rattle.iv_command.specs.Views.{refusal_of}
 use Rattle.iv_command.specs.declared.stop.Stop.{Stop}
 use Rattle.iv_command.specs.declared.stop.Stop.TheVariants.{Refused, Memory}
@@ -38,12 +38,6 @@ MayOpen e n name (Err Memory) = Unit {0}
 abbrev pub AreFirstLines : Subscription → Weighed → List machine.Line → Type 0
 AreFirstLines s showed lines = (rows : List (List Cell)) → Counts showed rows → lines ≡ machine_line None s (difference [] rows)
 
--- the circuits, of which that at the place is opened to the subscription of the number
-abbrev pub opened_at : (place number : ℕ) → List RoleCircuit → List RoleCircuit
-opened_at place n [] = []
-opened_at zero n (k ∷ ks) = opened_to n k ∷ ks
-opened_at (suc place) n (k ∷ ks) = k ∷ opened_at place n ks
-
 -- with the subscription, which has the last number given and reads the circuit at the place
 abbrev pub with_subscription : Subscription → (place : ℕ) → Kept → Kept
 with_subscription s place e = record e {
@@ -51,12 +45,6 @@ with_subscription s place e = record e {
   circuits = opened_at place s.number e.circuits;
   last = s.number;
 }
-
--- a reader of the relation whose circuit lets through what the role may see
-pub record IsServed (ks : List RoleCircuit) (r : Rights) (role rel place : ℕ) : Type 0 where
-  pub low : place < length ks
-  pub shows : (k : RoleCircuit) → k ≡ get_or ks place k → k.rel ≡ rel
-  pub serves : (k : RoleCircuit) → k ≡ get_or ks place k → Serves r role k.circuit.node
 
 -- a reader of the relation whose circuit is one of the role, too
 pub record IsLike (e : Kept) (role rel place : ℕ) : Type 0 where

@@ -2,7 +2,8 @@
 -- built anew.
 use Rattle.std.specs.Prelude.{ℕ, zero, suc, ◌-◌, ◌==◌, cond, List, [], ◌∷◌, ◌++◌, filter, map}
 use Rattle.iv_machine.specs.State.{Subscription, actor}
-use Rattle.iv_engine.specs.Kept.{Kept, RoleCircuit, frame_of, is_for}
+use Rattle.iv_engine.specs.Kept.{Kept, frame_of}
+use Rattle.iv_readers.specs.Readers.{RoleCircuit, is_for}
 
 -- what stands beside the number; 0 where it is not there
 abbrev pub beside_number : ℕ → List (ℕ × ℕ) → ℕ

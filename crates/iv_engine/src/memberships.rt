@@ -5,14 +5,15 @@
 ghost use Rattle.std.specs.Prelude.{◌≡◌, IfOk, length, string_bytes};
 ghost use Rattle.iv_machine.specs.Act as machine;
 ghost use Rattle.iv_engine.specs.Answering.{IsStep};
-ghost use Rattle.iv_engine.specs.Concerned.{differing, reaching};
+ghost use Rattle.iv_readers.specs.Flags.{differing};
+ghost use Rattle.iv_engine.specs.Concerned.{reaching};
 ghost use Rattle.iv_engine.specs.Kept.{IsSound};
 ghost use Rattle.iv_engine.specs.Turned.{AreReadersTold, AreWaiting};
 
-use crate::concerned::differing;
 use crate::store::Store;
 use iv_access::RoleId;
 use iv_command::{Answer, Stop};
+use iv_readers::differing;
 use std::alloc::AllocError;
 
 impl Store {

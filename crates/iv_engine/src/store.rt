@@ -9,10 +9,10 @@ ghost use Rattle.iv_engine.specs.Answering.{seen};
 ghost use Rattle.iv_engine.specs.Kept.{IsSound};
 ghost use Rattle.iv_engine.specs.Seen.{IsBehind};
 
-use crate::circuits::Circuits;
 use crate::subscriptions::Subscription;
 use crate::touching::Touched;
 use iv_database::Database;
+use iv_readers::Circuits;
 use iv_zset::Seed;
 use std::alloc::{AllocError, Global};
 use std::marker::Model;

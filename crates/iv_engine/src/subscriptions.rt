@@ -15,11 +15,11 @@ ghost use Rattle.iv_engine.specs.Openable.{AreFirstLines, MayOpen, with_subscrip
 ghost use Rattle.iv_machine.specs.Refusing.{has_subscription};
 ghost use Rattle.iv_engine.specs.Finished.{without_session, without_subscription};
 
-use crate::circuits::Circuits;
-use crate::lines::{in_order, push_change};
+use crate::lines::push_change;
 use crate::store::Store;
 use iv_access::{Privilege, RoleId};
 use iv_command::{Answer, LAST_NUMBER, Line, Refusal, Reply, Stop};
+use iv_readers::{Circuits, in_order};
 use iv_rows::RelId;
 use std::alloc::AllocError;
 use std::marker::Model;

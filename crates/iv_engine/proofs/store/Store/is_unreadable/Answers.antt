@@ -1,10 +1,11 @@
 use Rattle.std.proofs.Common.{◌≡◌, ◌∙◌, ◌<◌, List, ap, get_or, length, subst, sym}
-use Rattle.iv_engine.specs.Kept.{Kept, RoleCircuit, frame_of}
+use Rattle.iv_engine.specs.Kept.{Kept, frame_of}
+use Rattle.iv_readers.specs.Readers.{RoleCircuit}
 use Rattle.iv_engine.specs.Turned.{WasRead}
 use Rattle.iv_database.specs.Database.{select_from}
 use Rattle.iv_machine.specs.State.{missing_for}
 use Rattle.iv_engine.proofs.Flagging.{missing_flag}
-use Rattle.iv_engine.proofs.Held.{reader_at}
+use Rattle.iv_readers.proofs.Held.{reader_at}
 use Rattle.iv_engine.proofs.Pairing.{all_at}
 use Rattle.iv_engine.proofs.store.Store.is_unreadable.Goals as goal
 

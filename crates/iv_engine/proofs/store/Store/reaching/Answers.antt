@@ -1,7 +1,8 @@
 use Rattle.std.proofs.Common.{◌≡◌, ◌∙◌, ◌<◌, ◌≤◌, List, ap, get_or, length, subst, sym}
 use Rattle.iv_engine.specs.Concerned.{reaches_some}
-use Rattle.iv_engine.specs.Kept.{Kept, RoleCircuit}
-use Rattle.iv_engine.proofs.Held.{reader_at}
+use Rattle.iv_engine.specs.Kept.{Kept}
+use Rattle.iv_readers.specs.Readers.{RoleCircuit}
+use Rattle.iv_readers.proofs.Held.{reader_at}
 use Rattle.iv_engine.proofs.Pairing.{map_more, map_whole}
 use Rattle.iv_engine.proofs.store.Store.reaching.Goals as goal
 

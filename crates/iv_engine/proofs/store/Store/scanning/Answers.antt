@@ -4,10 +4,11 @@ use Rattle.std.specs.List.{list_any}
 use Rattle.iv_circuit.specs.Circuits.{Running}
 use Rattle.iv_circuit.specs.Nodes.{scans_of}
 use Rattle.iv_engine.specs.Counting.{scans_at}
-use Rattle.iv_engine.specs.Kept.{Kept, RoleCircuit}
+use Rattle.iv_engine.specs.Kept.{Kept}
+use Rattle.iv_readers.specs.Readers.{RoleCircuit}
 use Rattle.iv_engine.specs.Turned.{WasRead}
 use Rattle.iv_engine.proofs.Flagging.{scan_flag}
-use Rattle.iv_engine.proofs.Held.{reader_at}
+use Rattle.iv_readers.proofs.Held.{reader_at}
 use Rattle.iv_engine.proofs.Pairing.{all_at, map_more, map_whole}
 use Rattle.iv_engine.proofs.store.Store.scanning.Goals as goal
 

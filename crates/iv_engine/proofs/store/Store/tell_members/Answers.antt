@@ -1,6 +1,7 @@
 use Rattle.std.proofs.Common.{◌∙◌, Bool, List, ap, length, subst, sym}
 use Rattle.std.proofs.lemmas.Result.{IfOk-weaker}
-use Rattle.iv_engine.specs.Concerned.{differing, reaching}
+use Rattle.iv_readers.specs.Flags.{differing}
+use Rattle.iv_engine.specs.Concerned.{reaching}
 use Rattle.iv_engine.specs.Turned.{AreReadersTold, AreWaiting}
 use Rattle.iv_engine.proofs.Joining.{many_flags}
 use Rattle.iv_engine.proofs.store.Store.tell_members.Goals as goal

@@ -1,6 +1,7 @@
 use Rattle.std.proofs.Common.{◌≡◌, ◌∙◌, ◌<◌, ◌≤◌, List, ap, length, not, subst}
-use Rattle.iv_engine.specs.Kept.{Kept, RoleCircuit, role_reads}
-use Rattle.iv_engine.proofs.Held.{reader_at}
+use Rattle.iv_engine.specs.Kept.{Kept, role_reads}
+use Rattle.iv_readers.specs.Readers.{RoleCircuit}
+use Rattle.iv_readers.proofs.Held.{reader_at}
 use Rattle.iv_engine.proofs.Pairing.{map_more, map_whole}
 use Rattle.iv_engine.proofs.store.Store.unreadable.Goals as goal
 

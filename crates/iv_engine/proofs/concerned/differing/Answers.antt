@@ -1,6 +1,0 @@
-use Rattle.iv_engine.proofs.Flagging.{differing_more}
-use Rattle.iv_engine.proofs.concerned.differing.Goals as goal
-
-pub loop-place-preserved : goal.loop-place-preserved
-loop-place-preserved c =
-    differing_more c.args.before.now c.args.after.now c.loop-place.place c.loop-place.flags.items c.push.new.self.items c.requires c.loop-place-test.true c.loop-place.invariant c.in_ok-push.ensures.items

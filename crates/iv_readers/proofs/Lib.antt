@@ -1,0 +1,9 @@
+pub mod Lists
+pub mod Becoming
+pub mod Held
+pub mod Listing
+pub mod Bags
+pub mod Partly
+pub mod Placing
+pub mod Turning
+pub mod Flagging

@@ -1,0 +1,10 @@
+pub mod Readers
+pub mod Openings
+pub mod Held
+pub mod Codes
+pub mod Each
+pub mod Rows
+pub mod Touching
+pub mod Changes
+pub mod Turning
+pub mod Flags

@@ -1,0 +1,20 @@
+//! Which role reads which circuit of a relation: circuits that roles share, what a change makes of them, and readers that turn.
+//!
+//! Nothing here knows of subscriptions, sessions or the database: that is the crate above, iv_engine. Vectors grow by
+//! `with_capacity` and `push`: `collect` and `extend` ask for a smaller size after a refusal, which would hide it from
+//! tests that refuse memory.
+#![tactic(auto)]
+
+mod changes;
+mod circuits;
+mod flags;
+mod rows;
+mod touching;
+mod turns;
+
+pub use changes::{Prepared, add_delta, prepared_of};
+pub use circuits::Circuits;
+pub use flags::differing;
+pub use rows::{difference, in_order, more_rows, shared};
+pub use touching::{places_of, rels_of};
+pub use turns::{Outcome, anew};
