@@ -15,6 +15,6 @@ mod turns;
 pub use changes::{Prepared, add_delta, prepared_of};
 pub use circuits::Circuits;
 pub use flags::differing;
-pub use rows::{difference, in_order, more_rows, shared};
+pub use rows::{in_order, more_rows, shared};
 pub use touching::{places_of, rels_of};
 pub use turns::{Outcome, anew};

@@ -19,8 +19,8 @@ use iv_rows::Row;
 use std::alloc::{AllocError, Global};
 use std::mem;
 
-/// The room that a text is begun with, in bytes: an answer of one line has fewer.
-const SHORT_TEXT: usize = 64;
+/// The room that a text is begun with, in bytes: few answers of a write with a reader or two have more.
+const SHORT_TEXT: usize = 256;
 
 /// The rows that were written last, and their text; no text before the first. With them the front of the line of their
 /// change in a session, up to the number of the subscription; none before the first.
@@ -54,8 +54,7 @@ impl<'a> Written<'a> {
             return Ok(());
         }
         self.front.clear();
-        let mut room = mem::replace(&mut self.text, Vec::new(alloc));
-        room.clear();
+        let room = emptied(alloc, &mut self.text)?;
         self.text = write_rows(room, rows)?;
         self.rows = rows;
         Ok(())
@@ -76,13 +75,22 @@ impl<'a> Written<'a> {
             return Ok(());
         }
         self.write(alloc, rows)?;
-        let mut room = mem::replace(&mut self.front, Vec::new(alloc));
-        room.clear();
+        let mut room = emptied(alloc, &mut self.front)?;
         push_front(&mut room, session, &self.text)?;
         self.front = room;
         self.session = session;
         Ok(())
     }
+}
+
+/// The memory of a text, emptied, with room for a short one.
+fn emptied(alloc: Global, text: &mut Vec<u8>) -> Result<Vec<u8>, AllocError>
+    ensures { IfOk result (λ room. room.items ≡ []) }
+{
+    let mut room = mem::replace(text, Vec::new(alloc));
+    room.clear();
+    room.reserve(SHORT_TEXT)?;
+    Ok(room)
 }
 
 /// Whether the two are the same rows with the same weights, in one order.
