@@ -29,13 +29,6 @@ fn fill(access: &mut Access, alloc: Global) -> Result<(), AccessFault> {
     Ok(())
 }
 
-/// New rights with these.
-fn filled(alloc: Global) -> Result<Access, AccessFault> {
-    let mut access = Access::new(alloc)?;
-    fill(&mut access, alloc)?;
-    Ok(access)
-}
-
 fn roles(access: &Access) -> [Option<RoleId>; 3] {
     [
         access.role("admin"),
@@ -61,16 +54,22 @@ fn owners(access: &Access) -> [bool; 6] {
 }
 
 /// The roles, the relations and the owners that are found.
-fn found(
-    alloc: Global,
-) -> Result<([Option<RoleId>; 3], [Option<RelId>; 2], [bool; 6]), AccessFault> {
-    let access = filled(alloc)?;
-    Ok((roles(&access), relations(&access), owners(&access)))
+type Found = ([Option<RoleId>; 3], [Option<RelId>; 2], [bool; 6]);
+
+fn found(access: &mut Access, alloc: Global) -> Result<Found, AccessFault> {
+    fill(access, alloc)?;
+    Ok((roles(access), relations(access), owners(access)))
+}
+
+/// The same in new rights.
+fn found_anew(alloc: Global) -> Result<Found, AccessFault> {
+    let mut access = Access::new(alloc)?;
+    found(&mut access, alloc)
 }
 
 #[test]
 fn finds_by_name_and_by_number(rt: HostRuntime) -> Result<(), Fail> {
-    let (roles, relations, owners) = found(rt.alloc())?;
+    let (roles, relations, owners) = found_anew(rt.alloc())?;
     assert_eq!(rt; roles, [Some(ADMIN), Some(BOB), None]);
     assert_eq!(rt; relations, [Some(MINE), None]);
     assert_eq!(rt; owners, [true, true, true, true, false, false]);
@@ -101,15 +100,21 @@ fn regranted(access: &mut Access) -> Result<[[bool; 4]; 5], AccessFault> {
 }
 
 /// The same, and whether ann owns her view then.
-fn revoked(alloc: Global) -> Result<([[bool; 4]; 5], bool), AccessFault> {
-    let mut access = filled(alloc)?;
-    let rights = regranted(&mut access)?;
+fn revoked(access: &mut Access, alloc: Global) -> Result<([[bool; 4]; 5], bool), AccessFault> {
+    fill(access, alloc)?;
+    let rights = regranted(access)?;
     Ok((rights, access.owns(ANN, MINE)))
+}
+
+/// The same in new rights.
+fn revoked_anew(alloc: Global) -> Result<([[bool; 4]; 5], bool), AccessFault> {
+    let mut access = Access::new(alloc)?;
+    revoked(&mut access, alloc)
 }
 
 #[test]
 fn a_revoke_takes_from_its_grantee_alone(rt: HostRuntime) -> Result<(), Fail> {
-    let (rights, owns) = revoked(rt.alloc())?;
+    let (rights, owns) = revoked_anew(rt.alloc())?;
     assert_eq!(rt;
         rights,
         [
@@ -137,15 +142,24 @@ fn missing(access: &Access) -> [Option<Missing>; 2] {
     ]
 }
 
-/// What they lack in new rights.
-fn missing_at_first(alloc: Global) -> Result<[Option<Missing>; 2], AccessFault> {
-    let access = filled(alloc)?;
-    Ok(missing(&access))
+/// What they lack at first.
+fn missing_at_first(
+    access: &mut Access,
+    alloc: Global,
+) -> Result<[Option<Missing>; 2], AccessFault> {
+    fill(access, alloc)?;
+    Ok(missing(access))
+}
+
+/// The same in new rights.
+fn missing_anew(alloc: Global) -> Result<[Option<Missing>; 2], AccessFault> {
+    let mut access = Access::new(alloc)?;
+    missing_at_first(&mut access, alloc)
 }
 
 #[test]
 fn tells_the_first_that_is_missing(rt: HostRuntime) -> Result<(), Fail> {
-    let missing = missing_at_first(rt.alloc())?;
+    let missing = missing_anew(rt.alloc())?;
     let select = Missing {
         privilege: Privilege::Select,
         rel: NOTES,
@@ -181,6 +195,7 @@ fn created(
     access: &mut Access,
     alloc: Global,
 ) -> Result<([Option<AccessFault>; 3], [Option<RoleId>; 3]), AccessFault> {
+    fill(access, alloc)?;
     fill_roles(access, alloc)?;
     let faults = creating(access);
     Ok((faults, found_roles(access)))
@@ -190,7 +205,7 @@ fn created(
 fn created_anew(
     alloc: Global,
 ) -> Result<([Option<AccessFault>; 3], [Option<RoleId>; 3]), AccessFault> {
-    let mut access = filled(alloc)?;
+    let mut access = Access::new(alloc)?;
     created(&mut access, alloc)
 }
 
@@ -239,6 +254,7 @@ fn added(
     access: &mut Access,
     alloc: Global,
 ) -> Result<([Option<AccessFault>; 4], [Option<RelId>; 2], RelId), AccessFault> {
+    fill(access, alloc)?;
     fill_views(access, alloc)?;
     let faults = adding(access);
     let found = [access.relation("notes"), access.relation("new")];
@@ -249,7 +265,7 @@ fn added(
 fn added_anew(
     alloc: Global,
 ) -> Result<([Option<AccessFault>; 4], [Option<RelId>; 2], RelId), AccessFault> {
-    let mut access = filled(alloc)?;
+    let mut access = Access::new(alloc)?;
     added(&mut access, alloc)
 }
 
@@ -282,16 +298,25 @@ fn granting(access: &mut Access) -> [Option<AccessFault>; 5] {
 }
 
 /// These faults, and the rights before them and behind them.
-fn granted(alloc: Global) -> Result<([Option<AccessFault>; 5], [[bool; 4]; 2]), AccessFault> {
-    let mut access = filled(alloc)?;
-    let before = rights(&access);
-    let faults = granting(&mut access);
-    Ok((faults, [before, rights(&access)]))
+fn granted(
+    access: &mut Access,
+    alloc: Global,
+) -> Result<([Option<AccessFault>; 5], [[bool; 4]; 2]), AccessFault> {
+    fill(access, alloc)?;
+    let before = rights(access);
+    let faults = granting(access);
+    Ok((faults, [before, rights(access)]))
+}
+
+/// The same in new rights.
+fn granted_anew(alloc: Global) -> Result<([Option<AccessFault>; 5], [[bool; 4]; 2]), AccessFault> {
+    let mut access = Access::new(alloc)?;
+    granted(&mut access, alloc)
 }
 
 #[test]
 fn grants_and_revokes_are_refused_in_order(rt: HostRuntime) -> Result<(), Fail> {
-    let (faults, [before, after]) = granted(rt.alloc())?;
+    let (faults, [before, after]) = granted_anew(rt.alloc())?;
     assert_eq!(rt;
         faults,
         [

@@ -38,18 +38,10 @@ fn join(access: &mut Access) -> Result<(), AccessFault> {
     access.grant_role(ADMIN, "crew", "ann")
 }
 
-/// New rights with these.
-fn filled(alloc: Global) -> Result<Access, AccessFault> {
-    let mut access = Access::new(alloc)?;
-    fill(&mut access, alloc)?;
-    Ok(access)
-}
-
-/// New rights in which they are members, too.
-fn filled_and_joined(alloc: Global) -> Result<Access, AccessFault> {
-    let mut access = filled(alloc)?;
-    join(&mut access)?;
-    Ok(access)
+/// Both.
+fn fill_joined(access: &mut Access, alloc: Global) -> Result<(), AccessFault> {
+    fill(access, alloc)?;
+    join(access)
 }
 
 /// Which of the four roles a role reaches.
@@ -81,25 +73,30 @@ fn seen(access: &Access) -> ([[bool; 4]; 4], [bool; 2]) {
     (reached, held(access))
 }
 
-/// The same before any role is a member of another.
-fn seen_alone(alloc: Global) -> Result<([[bool; 4]; 4], [bool; 2]), AccessFault> {
-    let access = filled(alloc)?;
-    Ok(seen(&access))
+/// The same before any role is a member of another, and behind it.
+fn seen_twice(
+    access: &mut Access,
+    alloc: Global,
+) -> Result<[([[bool; 4]; 4], [bool; 2]); 2], AccessFault> {
+    fill(access, alloc)?;
+    let alone = seen(access);
+    join(access)?;
+    Ok([alone, seen(access)])
 }
 
-/// The same behind it.
-fn seen_joined(alloc: Global) -> Result<([[bool; 4]; 4], [bool; 2]), AccessFault> {
-    let access = filled_and_joined(alloc)?;
-    Ok(seen(&access))
+/// The same in new rights.
+fn seen_anew(alloc: Global) -> Result<[([[bool; 4]; 4], [bool; 2]); 2], AccessFault> {
+    let mut access = Access::new(alloc)?;
+    seen_twice(&mut access, alloc)
 }
 
 #[test]
 fn chains_are_followed(rt: HostRuntime) -> Result<(), Fail> {
-    let ([ann, _, org, _], before) = seen_alone(rt.alloc())?;
+    let [([ann, _, org, _], before), behind] = seen_anew(rt.alloc())?;
     assert_eq!(rt; ann, [true, false, false, false]);
     assert_eq!(rt; org, [false, false, true, false]);
     assert_eq!(rt; before, [false, false]);
-    let ([ann, team, org, admin], after) = seen_joined(rt.alloc())?;
+    let ([ann, team, org, admin], after) = behind;
     assert_eq!(rt; ann, [true, true, true, true]);
     assert_eq!(rt; team, [false, true, true, false]);
     assert_eq!(rt; org, [false, false, true, false]);
@@ -123,7 +120,11 @@ fn repeat(access: &mut Access) -> Result<(), AccessFault> {
 }
 
 /// What ann has, and which roles she reaches then: at first, and behind what changes nothing.
-fn left(access: &mut Access) -> Result<([[bool; 2]; 2], [[bool; 4]; 2]), AccessFault> {
+fn left(
+    access: &mut Access,
+    alloc: Global,
+) -> Result<([[bool; 2]; 2], [[bool; 4]; 2]), AccessFault> {
+    fill_joined(access, alloc)?;
     let held = parted(access)?;
     let left = reached(access, ANN);
     repeat(access)?;
@@ -132,8 +133,8 @@ fn left(access: &mut Access) -> Result<([[bool; 2]; 2], [[bool; 4]; 2]), AccessF
 
 /// The same of new rights.
 fn left_anew(alloc: Global) -> Result<([[bool; 2]; 2], [[bool; 4]; 2]), AccessFault> {
-    let mut access = filled_and_joined(alloc)?;
-    left(&mut access)
+    let mut access = Access::new(alloc)?;
+    left(&mut access, alloc)
 }
 
 #[test]
@@ -158,15 +159,24 @@ fn faults(access: &mut Access) -> [Option<AccessFault>; 6] {
 }
 
 /// These faults, and which roles ann and org reach then.
-fn refused(alloc: Global) -> Result<([Option<AccessFault>; 6], [[bool; 4]; 2]), AccessFault> {
-    let mut access = filled_and_joined(alloc)?;
-    let faults = faults(&mut access);
-    Ok((faults, [reached(&access, ANN), reached(&access, ORG)]))
+fn refused(
+    access: &mut Access,
+    alloc: Global,
+) -> Result<([Option<AccessFault>; 6], [[bool; 4]; 2]), AccessFault> {
+    fill_joined(access, alloc)?;
+    let faults = faults(access);
+    Ok((faults, [reached(access, ANN), reached(access, ORG)]))
+}
+
+/// The same in new rights.
+fn refused_anew(alloc: Global) -> Result<([Option<AccessFault>; 6], [[bool; 4]; 2]), AccessFault> {
+    let mut access = Access::new(alloc)?;
+    refused(&mut access, alloc)
 }
 
 #[test]
 fn memberships_are_refused_in_order(rt: HostRuntime) -> Result<(), Fail> {
-    let (faults, after) = refused(rt.alloc())?;
+    let (faults, after) = refused_anew(rt.alloc())?;
     assert_eq!(rt;
         faults,
         [

@@ -185,13 +185,21 @@ fn restricted(access: &mut Access, alloc: Global) -> Result<[Verdict; 3], Access
     Ok([first, none, other])
 }
 
-/// The same in new rights, and where the policies stand then.
+/// The same, and where the policies stand then.
+fn restricted_and_left(
+    access: &mut Access,
+    alloc: Global,
+) -> Result<([Verdict; 3], ([Option<usize>; 3], [bool; 2])), AccessFault> {
+    let said = restricted(access, alloc)?;
+    Ok((said, places(access)))
+}
+
+/// The same in new rights.
 fn restricted_anew(
     alloc: Global,
 ) -> Result<([Verdict; 3], ([Option<usize>; 3], [bool; 2])), AccessFault> {
     let mut access = Access::new(alloc)?;
-    let said = restricted(&mut access, alloc)?;
-    Ok((said, places(&access)))
+    restricted_and_left(&mut access, alloc)
 }
 
 #[test]
@@ -210,15 +218,23 @@ fn the_first_restrictive_by_name_is_told(rt: HostRuntime) -> Result<(), Fail> {
 }
 
 /// Where the policies stand by name, in whatever order they came.
-fn ordered(alloc: Global) -> Result<([Option<usize>; 3], [bool; 2]), AccessFault> {
+fn ordered(
+    access: &mut Access,
+    alloc: Global,
+) -> Result<([Option<usize>; 3], [bool; 2]), AccessFault> {
+    fill_restricted(access, alloc)?;
+    Ok(places(access))
+}
+
+/// The same in new rights.
+fn ordered_anew(alloc: Global) -> Result<([Option<usize>; 3], [bool; 2]), AccessFault> {
     let mut access = Access::new(alloc)?;
-    fill_restricted(&mut access, alloc)?;
-    Ok(places(&access))
+    ordered(&mut access, alloc)
 }
 
 #[test]
 fn policies_stand_by_name(rt: HostRuntime) -> Result<(), Fail> {
-    let places = ordered(rt.alloc());
+    let places = ordered_anew(rt.alloc());
     assert_eq!(rt; places, Ok(([Some(0), Some(1), Some(2)], [true, false])));
     Ok(())
 }
@@ -374,13 +390,21 @@ fn creating(
     Ok(([foreign, unknown, taken, many], access.policy(NOTES, "new")))
 }
 
-/// The same in new rights, and whether ann sees 999 then.
+/// The same, and whether ann sees 999 then.
+fn created(
+    access: &mut Access,
+    alloc: Global,
+) -> Result<([Option<AccessFault>; 4], Option<usize>, bool), AccessFault> {
+    let (faults, place) = creating(access, alloc)?;
+    Ok((faults, place, is_seen(access, alloc, ANN, 999)?))
+}
+
+/// The same in new rights.
 fn created_anew(
     alloc: Global,
 ) -> Result<([Option<AccessFault>; 4], Option<usize>, bool), AccessFault> {
     let mut access = Access::new(alloc)?;
-    let (faults, place) = creating(&mut access, alloc)?;
-    Ok((faults, place, is_seen(&access, alloc, ANN, 999)?))
+    created(&mut access, alloc)
 }
 
 #[test]
@@ -410,7 +434,24 @@ fn changing(access: &mut Access, alloc: Global) -> Result<[Option<AccessFault>; 
     Ok([switched, foreign, unknown, other])
 }
 
-/// The same in new rights, where the policies stand then, and what they say of 200.
+/// The same, where the policies stand then, and what they say of 200.
+fn changed(
+    access: &mut Access,
+    alloc: Global,
+) -> Result<
+    (
+        [Option<AccessFault>; 4],
+        ([Option<usize>; 3], [bool; 2]),
+        Verdict,
+    ),
+    AccessFault,
+> {
+    let faults = changing(access, alloc)?;
+    let said = verdict_of(access, alloc, ANN, Check::Insert, 200)?;
+    Ok((faults, places(access), said))
+}
+
+/// The same in new rights.
 fn changed_anew(
     alloc: Global,
 ) -> Result<
@@ -422,9 +463,7 @@ fn changed_anew(
     AccessFault,
 > {
     let mut access = Access::new(alloc)?;
-    let faults = changing(&mut access, alloc)?;
-    let said = verdict_of(&access, alloc, ANN, Check::Insert, 200)?;
-    Ok((faults, places(&access), said))
+    changed(&mut access, alloc)
 }
 
 #[test]
