@@ -21,15 +21,20 @@ fn command(alloc: Global, line: &str) -> Result<Command, Fail> {
     }
 }
 
-/// The command of a line, with this number of copies of the first entry of a write.
-fn command_of_copies(alloc: Global, line: &str, copies: i64) -> Result<Command, Fail> {
-    let mut command = command(alloc, line)?;
+/// Gives the first entry of a write this number of copies.
+fn set_copies(command: &mut Command, copies: i64) {
     if let Act::Write { entries } = &mut command.act {
         if !entries.is_empty() {
             let entry = &mut entries[0];
             entry.copies = copies;
         }
     }
+}
+
+/// The command of a line, with this number of copies of the first entry of a write.
+fn command_of_copies(alloc: Global, line: &str, copies: i64) -> Result<Command, Fail> {
+    let mut command = command(alloc, line)?;
+    set_copies(&mut command, copies);
     Ok(command)
 }
 
@@ -42,21 +47,27 @@ fn texts(alloc: Global, lines: &[Line]) -> Result<Vec<u8>, AllocError> {
     Ok(text)
 }
 
-/// What a command that keeps the rules on shape is answered.
-fn applied(alloc: Global, engine: &mut Engine, command: Command) -> Result<Vec<u8>, Fail> {
-    if !command.well() {
-        return Err(Fail::new("the command breaks the rules on shape"));
+/// The lines that a command is answered, where it keeps the rules on shape and the engine gives an answer.
+fn applied(engine: &mut Engine, command: Command) -> Option<Vec<Line>> {
+    if command.well() {
+        engine.apply(command).ok()
+    } else {
+        None
     }
-    match engine.apply(command) {
-        Ok(lines) => Ok(texts(alloc, &lines)?),
-        Err(_) => Err(Fail::new("the engine gave no answer")),
+}
+
+/// Their texts.
+fn texts_of(alloc: Global, lines: Option<Vec<Line>>) -> Result<Vec<u8>, Fail> {
+    match lines {
+        Some(lines) => Ok(texts(alloc, &lines)?),
+        None => Err(Fail::new("the engine gave no answer")),
     }
 }
 
 /// The text of what the line is answered, the first entry of a write with this number of copies.
 fn told(alloc: Global, engine: &mut Engine, line: &str, copies: i64) -> Result<Vec<u8>, Fail> {
     let command = command_of_copies(alloc, line, copies)?;
-    applied(alloc, engine, command)
+    texts_of(alloc, applied(engine, command))
 }
 
 /// What the lines are answered, each with its number of copies.
@@ -77,10 +88,15 @@ fn tell_first(alloc: Global, engine: &mut Engine) -> Result<(), Fail> {
 }
 
 /// What the lines are answered behind `first_change`.
+fn told_behind(alloc: Global, engine: &mut Engine, lines: &[(&str, i64)]) -> Result<Vec<u8>, Fail> {
+    tell_first(alloc, engine)?;
+    all_told(alloc, engine, lines)
+}
+
+/// The same by a new engine.
 fn answered(alloc: Global, lines: &[(&str, i64)]) -> Result<Vec<u8>, Fail> {
     let mut engine = Engine::new(alloc, 1_024)?;
-    tell_first(alloc, &mut engine)?;
-    all_told(alloc, &mut engine, lines)
+    told_behind(alloc, &mut engine, lines)
 }
 
 const SUBSCRIBE: &str = r#"{"do":"subscribe","on":"notes","session":1}"#;
@@ -152,28 +168,44 @@ pub fn are_well(commands: &[Command]) -> bool
     true
 }
 
-/// The commands of `first_change`.
-fn first_commands(alloc: Global) -> Result<Vec<Command>, Fail> {
-    let mut commands = Vec::new(alloc);
+/// Adds the commands of `first_change`.
+fn add_first(alloc: Global, commands: &mut Vec<Command>) -> Result<(), Fail> {
     for line in REQUESTS.split('\n').take(7) {
         commands.push(command(alloc, line)?)?;
     }
+    Ok(())
+}
+
+/// The commands of `first_change`.
+fn first_commands(alloc: Global) -> Result<Vec<Command>, Fail> {
+    let mut commands = Vec::new(alloc);
+    add_first(alloc, &mut commands)?;
     Ok(commands)
 }
 
-/// What a list of commands is answered, where they keep the rules on shape, or why it is not.
+/// The lines that a list of commands is answered, or why it is not; none where a command breaks the rules on shape.
+pub fn ran_list(
+    engine: &mut Engine,
+    commands: Vec<Command>,
+) -> Option<Result<Vec<Line>, EngineFault>> {
+    if are_well(&commands) {
+        Some(engine.run_list(commands))
+    } else {
+        None
+    }
+}
+
+/// The texts of the lines that a list of commands is answered, or why it is not.
 fn listed(
     alloc: Global,
     engine: &mut Engine,
     commands: Vec<Command>,
 ) -> Result<Vec<u8>, AllocError> {
-    if !are_well(&commands) {
-        return Vec::from_slice(alloc, b"not well");
-    }
-    match engine.run_list(commands) {
-        Ok(lines) => texts(alloc, &lines),
-        Err(EngineFault::Memory) => Vec::from_slice(alloc, b"memory"),
-        Err(EngineFault::Failed) => Vec::from_slice(alloc, b"failed"),
+    match ran_list(engine, commands) {
+        Some(Ok(lines)) => texts(alloc, &lines),
+        Some(Err(EngineFault::Memory)) => Vec::from_slice(alloc, b"memory"),
+        Some(Err(EngineFault::Failed)) => Vec::from_slice(alloc, b"failed"),
+        None => Vec::from_slice(alloc, b"not well"),
     }
 }
 
@@ -183,11 +215,16 @@ fn first_listed(alloc: Global, engine: &mut Engine) -> Result<Vec<u8>, Fail> {
     Ok(listed(alloc, engine, commands)?)
 }
 
-/// What a new engine answers to it, and whether the engine has failed then.
+/// The same, and whether the engine has failed then.
+fn first_run_by(alloc: Global, engine: &mut Engine) -> Result<(Vec<u8>, bool), Fail> {
+    let text = first_listed(alloc, engine)?;
+    Ok((text, engine.is_failed()))
+}
+
+/// The same by a new engine.
 fn first_run(alloc: Global) -> Result<(Vec<u8>, bool), Fail> {
     let mut engine = Engine::new(alloc, 1_024)?;
-    let text = first_listed(alloc, &mut engine)?;
-    Ok((text, engine.is_failed()))
+    first_run_by(alloc, &mut engine)
 }
 
 #[test]
@@ -200,20 +237,29 @@ fn first_change_as_a_list(rt: HostRuntime) -> Result<(), Fail> {
 
 /// What an engine answers to a command, where the command keeps the rules on shape.
 pub fn fault_of(engine: &mut Engine, command: Command) -> Option<EngineFault> {
-    if !command.well() {
-        return None;
+    if command.well() {
+        engine.apply(command).err()
+    } else {
+        None
     }
-    engine.apply(command).err()
 }
 
-/// What an engine that has failed answers to a command, and to a list of none.
-fn answered_after_failure(alloc: Global) -> Result<(Option<EngineFault>, Vec<u8>), Fail> {
+/// What an engine answers to a command, and to a list of none.
+fn answered_to_both(
+    alloc: Global,
+    engine: &mut Engine,
+) -> Result<(Option<EngineFault>, Vec<u8>), Fail> {
     let begin = command(alloc, r#"{"do":"begin","role":"admin","session":1}"#)?;
+    let fault = fault_of(engine, begin);
+    let text = listed(alloc, engine, Vec::new(alloc))?;
+    Ok((fault, text))
+}
+
+/// The same of an engine that has failed.
+fn answered_after_failure(alloc: Global) -> Result<(Option<EngineFault>, Vec<u8>), Fail> {
     let mut engine = Engine::new(alloc, 1_024)?;
     engine.fail();
-    let fault = fault_of(&mut engine, begin);
-    let text = listed(alloc, &mut engine, Vec::new(alloc))?;
-    Ok((fault, text))
+    answered_to_both(alloc, &mut engine)
 }
 
 #[test]
@@ -224,12 +270,17 @@ fn nothing_is_answered_after_a_failure(rt: HostRuntime) -> Result<(), Fail> {
     Ok(())
 }
 
+/// Whether a new engine has failed, and whether it has behind a failure.
+fn failed_by_turns(alloc: Global) -> Result<[bool; 2], AllocError> {
+    let mut engine = Engine::new(alloc, 1_024)?;
+    let before = engine.is_failed();
+    engine.fail();
+    Ok([before, engine.is_failed()])
+}
+
 #[test]
 fn an_engine_fails(rt: HostRuntime) -> Result<(), Fail> {
-    let mut engine = Engine::new(rt.alloc(), 1_024)?;
-    assert!(rt; !engine.is_failed());
-    engine.fail();
-    assert!(rt; engine.is_failed());
+    assert_eq!(rt; failed_by_turns(rt.alloc())?, [false, true]);
     Ok(())
 }
 
@@ -245,13 +296,18 @@ fn column(alloc: Global, name: &str, kind: Kind) -> Result<Column, AllocError> {
     Ok(Column { name, kind })
 }
 
-/// Whether a table of a number `id` and a text `who` does.
+/// A number `id` and a text `who`.
+fn columns(alloc: Global) -> Result<Vec<Column>, AllocError> {
+    let id = column(alloc, "id", Kind::Int)?;
+    let who = column(alloc, "who", Kind::Text)?;
+    Ok(Vec::from_array(alloc, [id, who])?)
+}
+
+/// Whether a table of these columns does.
 fn is_table(alloc: Global, name: &str) -> Result<bool, AllocError> {
     let name = String::from_str(alloc, name)?;
     let owner = String::from_str(alloc, "admin")?;
-    let mut columns = Vec::new(alloc);
-    columns.push(column(alloc, "id", Kind::Int)?)?;
-    columns.push(column(alloc, "who", Kind::Text)?)?;
+    let columns = columns(alloc)?;
     let act = Act::CreateTable {
         name,
         owner,
@@ -260,23 +316,36 @@ fn is_table(alloc: Global, name: &str) -> Result<bool, AllocError> {
     Ok(Command { session: 1, act }.well())
 }
 
+fn note(alloc: Global, who: &str) -> Result<Row, AllocError> {
+    let who = Value::Text(String::from_str(alloc, who)?);
+    Row::new(Vec::from_array(alloc, [Value::Int(1), who])?)
+}
+
 /// An insert of a note.
 fn entry(alloc: Global, who: &str, copies: i64) -> Result<Entry, AllocError> {
     let rel = String::from_str(alloc, "notes")?;
-    let who = String::from_str(alloc, who)?;
-    let mut values = Vec::new(alloc);
-    values.push(Value::Int(1))?;
-    values.push(Value::Text(who))?;
-    let op = Op::Insert(Row::new(values)?);
+    let op = Op::Insert(note(alloc, who)?);
     Ok(Entry { rel, op, copies })
+}
+
+/// Adds so many of them.
+fn add_entries(
+    alloc: Global,
+    entries: &mut Vec<Entry>,
+    who: &str,
+    copies: i64,
+    count: u32,
+) -> Result<(), AllocError> {
+    for _ in 0..count {
+        entries.push(entry(alloc, who, copies)?)?;
+    }
+    Ok(())
 }
 
 /// Whether a write of so many equal entries does.
 fn is_write(alloc: Global, who: &str, copies: i64, count: u32) -> Result<bool, AllocError> {
     let mut entries = Vec::new(alloc);
-    for _ in 0..count {
-        entries.push(entry(alloc, who, copies)?)?;
-    }
+    add_entries(alloc, &mut entries, who, copies, count)?;
     let act = Act::Write { entries };
     Ok(Command { session: 1, act }.well())
 }

@@ -168,44 +168,63 @@ fn requests_in(front: &[u8], bytes: &[u8]) -> usize {
     }
 }
 
+/// Whether a reader that ends behind the front ends the run with the answers to what stands whole in it.
+fn ends(alloc: Global, front: &[u8], bytes: &[u8]) -> Result<bool, AllocError> {
+    let end = if is_damaged(front, bytes) {
+        "{\"error\":1}\nend of input"
+    } else {
+        "end of input"
+    };
+    let wanted = answers_to(alloc, requests_in(front, bytes), end)?;
+    Ok(replayed(alloc, front, 100)?.as_slice() == wanted.as_slice())
+}
+
 #[test]
 fn readers_end(rt: HostRuntime) -> Result<(), Fail> {
     let bytes = REQUESTS.as_bytes();
     for k in 0..bytes.len() + 1 {
         let (front, _) = bytes.split_at(k);
-        let end = if is_damaged(front, bytes) {
-            "{\"error\":1}\nend of input"
-        } else {
-            "end of input"
-        };
-        let wanted = answers_to(rt.alloc(), requests_in(front, bytes), end)?;
-        assert_eq!(rt; replayed(rt.alloc(), front, 100)?, wanted, "{k}");
+        assert!(rt; ends(rt.alloc(), front, bytes)?, "{k}");
     }
     Ok(())
 }
 
 /// What is written for `first_change` by a reader that once fails, and then by another run over it and the same engine.
-fn stumbled(alloc: Global, step: usize, fails_at: u64) -> Result<Vec<u8>, AllocError> {
-    let mut engine = Engine::new(alloc, 1_024)?;
-    let stumbler = Stumbler {
+fn run_twice(
+    alloc: Global,
+    engine: &mut Engine,
+    step: usize,
+    fails_at: u64,
+    written: &mut Vec<u8>,
+) -> Result<(), AllocError> {
+    let mut stumbler = Stumbler {
         bytes: REQUESTS.as_bytes(),
         step,
         fails_at,
         reads: 0,
     };
-    run_twice(alloc, &mut engine, stumbler)
-}
-
-fn run_twice(
-    alloc: Global,
-    engine: &mut Engine,
-    mut stumbler: Stumbler<'_>,
-) -> Result<Vec<u8>, AllocError> {
-    let mut written: Vec<u8> = Vec::new(alloc);
     for _ in 0..2 {
-        let ended = run_on(alloc, engine, &mut stumbler, &mut written);
+        let ended = run_on(alloc, engine, &mut stumbler, written);
         written.extend_from_slice(word_of(ended).as_bytes())?;
     }
+    Ok(())
+}
+
+/// The same by a new engine.
+fn run_twice_anew(
+    alloc: Global,
+    step: usize,
+    fails_at: u64,
+    written: &mut Vec<u8>,
+) -> Result<(), AllocError> {
+    let mut engine = Engine::new(alloc, 1_024)?;
+    run_twice(alloc, &mut engine, step, fails_at, written)
+}
+
+/// What is written then.
+fn stumbled(alloc: Global, step: usize, fails_at: u64) -> Result<Vec<u8>, AllocError> {
+    let mut written: Vec<u8> = Vec::new(alloc);
+    run_twice_anew(alloc, step, fails_at, &mut written)?;
     Ok(written)
 }
 
@@ -231,13 +250,25 @@ fn answers_in_two(alloc: Global, requests: usize) -> Result<Vec<u8>, AllocError>
     Ok(text)
 }
 
+/// Whether a reader that once fails, behind so many requests, has them answered by the first run, and the others by the second.
+fn stumbles(
+    alloc: Global,
+    step: usize,
+    fails_at: u64,
+    requests: usize,
+) -> Result<bool, AllocError> {
+    let wanted = answers_in_two(alloc, requests)?;
+    Ok(stumbled(alloc, step, fails_at)?.as_slice() == wanted.as_slice())
+}
+
 #[test]
 fn a_reader_fails_once(rt: HostRuntime) -> Result<(), Fail> {
-    let alloc = rt.alloc();
     // at its first read, behind the first line of 42 bytes, and behind all
     for (step, fails_at, requests) in [(4096, 1, 0), (42, 2, 1), (4096, 2, 7)] {
-        let wanted = answers_in_two(alloc, requests)?;
-        assert_eq!(rt; stumbled(alloc, step, fails_at)?, wanted, "{requests}");
+        assert!(rt;
+            stumbles(rt.alloc(), step, fails_at, requests)?,
+            "{requests}"
+        );
     }
     Ok(())
 }
@@ -263,12 +294,17 @@ fn ended_into<W: Write + Drop>(alloc: Global, writer: W) -> Result<Ended, AllocE
     )
 }
 
-/// What the writer has when `first_change` has been run, with how the run ended, and its flushes.
-fn taken(alloc: Global, mut taker: Taker) -> Result<(Vec<u8>, Vec<usize>), AllocError> {
-    let ended = ended_into(alloc, &mut taker)?;
-    let mut written = taker.kept;
-    written.extend_from_slice(word_of(ended).as_bytes())?;
-    Ok((written, taker.flushes))
+/// Runs `first_change` into the writer, and adds how the run ended.
+fn take(alloc: Global, taker: &mut Taker) -> Result<(), AllocError> {
+    let ended = ended_into(alloc, &mut *taker)?;
+    taker.kept.extend_from_slice(word_of(ended).as_bytes())
+}
+
+/// The writer then.
+fn taken(alloc: Global, room: usize, step: usize, breaks: bool) -> Result<Taker, AllocError> {
+    let mut taker = with_room(alloc, room, step, breaks);
+    take(alloc, &mut taker)?;
+    Ok(taker)
 }
 
 /// The first so many bytes of the answers, and then the end of the text.
@@ -281,14 +317,18 @@ fn front_of_answers(alloc: Global, len: usize, end: &str) -> Result<Vec<u8>, All
     Ok(text)
 }
 
+/// Whether a writer that fails behind so many bytes, `step` of them a write, has just these.
+fn is_filled(alloc: Global, room: usize, step: usize) -> Result<bool, AllocError> {
+    let wanted = front_of_answers(alloc, room, "write failed")?;
+    let taker = taken(alloc, room, step, false)?;
+    Ok(taker.kept.as_slice() == wanted.as_slice())
+}
+
 #[test]
 fn writers_break_off(rt: HostRuntime) -> Result<(), Fail> {
-    let alloc = rt.alloc();
     for k in 0..ANSWERS.len() {
-        let wanted = front_of_answers(alloc, k, "write failed")?;
         for step in [1usize, 4096] {
-            let (written, _) = taken(alloc, with_room(alloc, k, step, false))?;
-            assert!(rt; written.as_slice() == wanted.as_slice(), "{k}");
+            assert!(rt; is_filled(rt.alloc(), k, step)?, "{k}");
         }
     }
     Ok(())
@@ -325,53 +365,88 @@ fn ended_between(
     )
 }
 
-/// What is written by a reader and a writer of `step` bytes a call, with how the run ended, the writer's flushes, and the
-/// number of reads.
-fn by_steps(alloc: Global, step: usize) -> Result<(Vec<u8>, Vec<usize>, u64), AllocError> {
+/// Runs `first_change` from a reader of `step` bytes a call, adds how the run ended, and tells the number of reads.
+fn take_by_steps(alloc: Global, taker: &mut Taker, step: usize) -> Result<u64, AllocError> {
     let mut stumbler = Stumbler {
         bytes: REQUESTS.as_bytes(),
         step,
         fails_at: 0,
         reads: 0,
     };
+    let ended = ended_between(alloc, &mut stumbler, taker)?;
+    taker.kept.extend_from_slice(word_of(ended).as_bytes())?;
+    Ok(stumbler.reads)
+}
+
+/// How many bytes are written behind each answer, of which the last has two lines.
+fn add_ends(alloc: Global, ends: &mut Vec<usize>) -> Result<(), AllocError> {
+    for requests in 1..8usize {
+        ends.push(answers_to(alloc, requests, "")?.len())?;
+    }
+    Ok(())
+}
+
+/// Whether the writer is flushed there, and nowhere else.
+fn is_flushed_at_ends(alloc: Global, flushes: &[usize]) -> Result<bool, AllocError> {
+    let mut ends = Vec::new(alloc);
+    add_ends(alloc, &mut ends)?;
+    Ok(flushes == ends.as_slice())
+}
+
+/// Whether so many requests are answered, and the run ends so.
+fn is_written(
+    alloc: Global,
+    written: &[u8],
+    requests: usize,
+    end: &str,
+) -> Result<bool, AllocError> {
+    Ok(written == answers_to(alloc, requests, end)?.as_slice())
+}
+
+/// Whether all is written where reader and writer have `step` bytes a call, whether the writer is flushed behind each answer, and
+/// the number of reads.
+fn by_steps(
+    alloc: Global,
+    taker: &mut Taker,
+    step: usize,
+) -> Result<(bool, bool, u64), AllocError> {
+    let reads = take_by_steps(alloc, taker, step)?;
+    let whole = is_written(alloc, &taker.kept, 7, "end of input")?;
+    Ok((whole, is_flushed_at_ends(alloc, &taker.flushes)?, reads))
+}
+
+/// The same of a new writer.
+fn by_steps_anew(alloc: Global, step: usize) -> Result<(bool, bool, u64), AllocError> {
     let mut taker = with_room(alloc, 4096, step, false);
-    let ended = ended_between(alloc, &mut stumbler, &mut taker)?;
-    let mut written = taker.kept;
-    written.extend_from_slice(word_of(ended).as_bytes())?;
-    Ok((written, taker.flushes, stumbler.reads))
+    by_steps(alloc, &mut taker, step)
 }
 
 #[test]
 fn a_few_bytes_a_call_and_flushes(rt: HostRuntime) -> Result<(), Fail> {
-    let alloc = rt.alloc();
-    let whole = answers_to(alloc, 7, "end of input")?;
-    // behind each answer, of which the last has two lines
-    let mut ends = Vec::new(alloc);
-    for requests in 1..8usize {
-        ends.push(answers_to(alloc, requests, "")?.len())?;
-    }
     for (step, most) in [(1, 1000), (2, 1000), (3, 1000), (4096, 2)] {
-        let (written, flushes, reads) = by_steps(alloc, step)?;
-        assert_eq!(rt; written, whole, "{step}");
-        assert_eq!(rt; flushes, ends, "{step}");
+        let (whole, flushed, reads) = by_steps_anew(rt.alloc(), step)?;
+        assert!(rt; whole, "{step}");
+        assert!(rt; flushed, "{step}");
         assert!(rt; reads <= most, "{step}");
     }
     Ok(())
 }
 
+/// Whether a writer that fails at its first flush has the first answer, and how often it was flushed.
+fn unflushed(alloc: Global) -> Result<(bool, usize), AllocError> {
+    let taker = taken(alloc, 4096, 4096, true)?;
+    let first = is_written(alloc, &taker.kept, 1, "write failed")?;
+    Ok((first, taker.flushes.len()))
+}
+
 #[test]
 fn a_flush_fails(rt: HostRuntime) -> Result<(), Fail> {
-    let alloc = rt.alloc();
-    let (written, flushes) = taken(alloc, with_room(alloc, 4096, 4096, true))?;
-    assert_eq!(rt; written, answers_to(alloc, 1, "write failed")?);
-    assert_eq!(rt; flushes.len(), 0);
+    assert_eq!(rt; unflushed(rt.alloc())?, (true, 0));
     Ok(())
 }
 
-/// How a run of a failed engine ends, the number of its reads, and how much it wrote.
-fn ended_failed(alloc: Global) -> Result<(Ended, u64, usize), AllocError> {
-    let mut engine = Engine::new(alloc, 1_024)?;
-    engine.fail();
+/// How a run of the engine ends, the number of its reads, and how much it wrote.
+fn ended_of(alloc: Global, engine: &mut Engine) -> (Ended, u64, usize) {
     let mut reader = Giver {
         bytes: b"{\n",
         step: 1,
@@ -381,12 +456,19 @@ fn ended_failed(alloc: Global) -> Result<(Ended, u64, usize), AllocError> {
     let mut written: Vec<u8> = Vec::new(alloc);
     let ended = run(
         alloc,
-        &mut engine,
+        engine,
         &mut reader,
         &mut FromWrite::new(&mut written),
         100,
     );
-    Ok((ended, reader.reads, written.len()))
+    (ended, reader.reads, written.len())
+}
+
+/// The same of an engine that has failed.
+fn ended_failed(alloc: Global) -> Result<(Ended, u64, usize), AllocError> {
+    let mut engine = Engine::new(alloc, 1_024)?;
+    engine.fail();
+    Ok(ended_of(alloc, &mut engine))
 }
 
 #[test]

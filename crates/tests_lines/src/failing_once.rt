@@ -73,28 +73,23 @@ fn ended_between(
     ended(alloc, &mut reader, &mut writer, 100)
 }
 
-/// What a run of `first_change` comes to: what was written, then how it ended; the calls of the writer; how many of the reader.
-fn calls_of(
+/// Runs `first_change` from a reader of `step` bytes a call, of which one fails, adds how the run ended, and tells the number of
+/// the reader's calls.
+fn take(
     alloc: Global,
+    taker: &mut Taker,
     step: usize,
     read_fails_at: usize,
-    call_fails_at: usize,
-) -> Result<(Vec<u8>, Vec<usize>, usize), AllocError> {
+) -> Result<usize, AllocError> {
     let mut giver = Giver {
         bytes: REQUESTS.as_bytes(),
         step,
         fails_at: read_fails_at,
         calls: 0,
     };
-    let mut taker = Taker {
-        kept: Vec::new(alloc),
-        calls: Vec::new(alloc),
-        fails_at: call_fails_at,
-    };
-    let ended = ended_between(alloc, &mut giver, &mut taker)?;
-    let mut written = taker.kept;
-    written.extend_from_slice(word_of(ended).as_bytes())?;
-    Ok((written, taker.calls, giver.calls))
+    let ended = ended_between(alloc, &mut giver, taker)?;
+    taker.kept.extend_from_slice(word_of(ended).as_bytes())?;
+    Ok(giver.calls)
 }
 
 /// The answers to the first so many requests, of which the seventh has two lines.
@@ -128,18 +123,80 @@ fn answers_then(alloc: Global, bytes: usize, end: &str) -> Result<Vec<u8>, Alloc
     Ok(text)
 }
 
+/// Whether the calls are the first so many.
+fn are_first_calls(alloc: Global, calls: &[usize], count: usize) -> Result<bool, AllocError> {
+    Ok(calls == first_calls(alloc, count)?.as_slice())
+}
+
+/// Whether these are the first so many bytes of the answers, and then how a run ends.
+fn is_written(alloc: Global, written: &[u8], bytes: usize, end: &str) -> Result<bool, AllocError> {
+    Ok(written == answers_then(alloc, bytes, end)?.as_slice())
+}
+
+/// Which call of a reader of `step` bytes a call fails, and which of the writer; none where it is 0.
+#[derive(Clone, Copy)]
+struct Failing {
+    step: usize,
+    read: usize,
+    call: usize,
+}
+
+/// What a run comes to: how many bytes of the answers are written, how it ends, and how many calls the writer has.
+#[derive(Clone, Copy)]
+struct Wanted {
+    bytes: usize,
+    end: &'static str,
+    calls: usize,
+}
+
+/// Whether a run into the writer writes so, whether the calls of the writer are the first ones, and how many the reader has.
+fn come_to(
+    alloc: Global,
+    taker: &mut Taker,
+    failing: Failing,
+    wanted: Wanted,
+) -> Result<(bool, bool, usize), AllocError> {
+    let read = take(alloc, taker, failing.step, failing.read)?;
+    let written = is_written(alloc, &taker.kept, wanted.bytes, wanted.end)?;
+    Ok((
+        written,
+        are_first_calls(alloc, &taker.calls, wanted.calls)?,
+        read,
+    ))
+}
+
+/// The same of a new writer.
+fn comes_to(
+    alloc: Global,
+    failing: Failing,
+    wanted: Wanted,
+) -> Result<(bool, bool, usize), AllocError> {
+    let mut taker = Taker {
+        kept: Vec::new(alloc),
+        calls: Vec::new(alloc),
+        fails_at: failing.call,
+    };
+    come_to(alloc, &mut taker, failing, wanted)
+}
+
 /// The 425 bytes of the requests come in one read of up to 4,096, and the next read tells their end.
 #[test]
 fn each_call_is_made_once(rt: HostRuntime) -> Result<(), Fail> {
-    let alloc = rt.alloc();
+    let wanted = Wanted {
+        bytes: ANSWERS.len(),
+        end: "end of input",
+        calls: 14,
+    };
     for (step, reads) in [(4096usize, 2usize), (425, 2), (424, 3), (85, 6), (1, 426)] {
-        let (written, calls, read) = calls_of(alloc, step, 0, 0)?;
-        assert_eq!(rt;
-            written,
-            answers_then(alloc, ANSWERS.len(), "end of input")?
+        let failing = Failing {
+            step,
+            read: 0,
+            call: 0,
+        };
+        assert!(rt;
+            comes_to(rt.alloc(), failing, wanted)? == (true, true, reads),
+            "{step}"
         );
-        assert_eq!(rt; calls, first_calls(alloc, 14)?);
-        assert_eq!(rt; read, reads);
     }
     Ok(())
 }
@@ -147,17 +204,21 @@ fn each_call_is_made_once(rt: HostRuntime) -> Result<(), Fail> {
 /// No call is made behind a write or a flush that failed, and what the failing write was given is not taken.
 #[test]
 fn a_writer_fails_once(rt: HostRuntime) -> Result<(), Fail> {
-    let alloc = rt.alloc();
-    for fails_at in 1..15usize {
-        let (written, calls, read) = calls_of(alloc, 4096, 0, fails_at)?;
-        let taken = front(fails_at / 2);
-        assert_eq!(rt;
-            written,
-            answers_then(alloc, taken, "write failed")?,
-            "{fails_at}"
+    for call in 1..15usize {
+        let failing = Failing {
+            step: 4096,
+            read: 0,
+            call,
+        };
+        let wanted = Wanted {
+            bytes: front(call / 2),
+            end: "write failed",
+            calls: call,
+        };
+        assert!(rt;
+            comes_to(rt.alloc(), failing, wanted)? == (true, true, 1),
+            "{call}"
         );
-        assert_eq!(rt; calls, first_calls(alloc, fails_at)?, "{fails_at}");
-        assert_eq!(rt; read, 1, "{fails_at}");
     }
     Ok(())
 }
@@ -165,15 +226,21 @@ fn a_writer_fails_once(rt: HostRuntime) -> Result<(), Fail> {
 /// No call is made behind a read that failed. The first line has 42 bytes.
 #[test]
 fn a_read_fails_once(rt: HostRuntime) -> Result<(), Fail> {
-    let alloc = rt.alloc();
-    for (step, fails_at, requests) in [(4096, 1, 0), (42, 2, 1), (4096, 2, 7)] {
-        let (written, calls, read) = calls_of(alloc, step, fails_at, 0)?;
-        assert_eq!(rt;
-            written,
-            answers_then(alloc, front(requests), "read failed")?
+    for (step, read, requests) in [(4096, 1, 0), (42, 2, 1), (4096, 2, 7usize)] {
+        let failing = Failing {
+            step,
+            read,
+            call: 0,
+        };
+        let wanted = Wanted {
+            bytes: front(requests),
+            end: "read failed",
+            calls: requests.saturating_add(requests),
+        };
+        assert!(rt;
+            comes_to(rt.alloc(), failing, wanted)? == (true, true, read),
+            "{requests}"
         );
-        assert_eq!(rt; calls.len(), requests.saturating_add(requests));
-        assert_eq!(rt; read, fails_at);
     }
     Ok(())
 }

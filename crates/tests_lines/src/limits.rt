@@ -1,5 +1,5 @@
 //! Tests of the refusals of each request, and of the row limit of tables and nodes, as lines.
-use crate::numbered::{between, list_of, numbered};
+use crate::numbered::{add_list, add_numbered, between};
 use crate::replayed::answers;
 use iv_engine::Engine;
 use iv_wire::{FromRead, FromWrite, run};
@@ -191,12 +191,12 @@ fn refusals_of_subscribe(rt: HostRuntime) -> Result<(), Fail> {
     Ok(())
 }
 
-/// A write of the notes with the numbers from `low` on, before `high`, which are some.
-fn notes(alloc: Global, low: u64, high: u64) -> Result<String, AllocError> {
+/// Adds a write of the notes with these numbers, which are some.
+fn add_notes(alloc: Global, lines: &mut String, numbers: (u64, u64)) -> Result<(), AllocError> {
     let front =
         "{\"do\":\"write\",\"session\":1,\"entries\":[{\"on\":\"notes\",\"insert\":[#,\"x\"]}";
     let more = ",{\"on\":\"notes\",\"insert\":[#,\"x\"]}";
-    list_of(alloc, [front, more, "]}\n"], (low, high))
+    add_list(alloc, lines, [front, more, "]}\n"], numbers)
 }
 
 /// Runs an engine with the least row limit, 1,024, over the bytes.
@@ -224,36 +224,49 @@ fn writes_the_least(alloc: Global, lines: &str, text: &str) -> Result<bool, Allo
     Ok(written_by_the_least(alloc, lines)?.as_slice() == text.as_bytes())
 }
 
-#[test]
-fn cap_in_a_table(rt: HostRuntime) -> Result<(), Fail> {
-    let alloc = rt.alloc();
-    let mut lines = String::from_str(
-        alloc,
+/// Adds a table, and writes up to the row limit and one row beyond it.
+fn add_writes(alloc: Global, lines: &mut String) -> Result<(), AllocError> {
+    lines.push_str(
         r#"{"do":"begin","role":"admin","session":1}
 {"do":"create_role","name":"ann","session":1}
 {"do":"create_table","name":"notes","owner":"admin","columns":[["id","int"],["who","text"]],"session":1}
 "#,
     )?;
-    for (low, high) in [(1, 1001), (1001, 1025), (1025, 1026), (1024, 1025)] {
-        lines.push_str(&notes(alloc, low, high)?)?;
+    for numbers in [(1, 1001), (1001, 1025), (1025, 1026), (1024, 1025)] {
+        add_notes(alloc, lines, numbers)?;
     }
-    let done = "{\"ok\":true,\"session\":1}\n";
-    let mut text = numbered(alloc, done, 0, 5)?;
-    text.push_str("{\"error\":17,\"session\":1}\n")?;
-    text.push_str(done)?;
-    assert!(rt; writes_the_least(alloc, &lines, &text)?);
     Ok(())
 }
 
-/// A write of the rows with one key and the numbers from 1 to 32.
-fn thirty_two(alloc: Global, front: &str, more: &str) -> Result<String, AllocError> {
-    list_of(alloc, [front, more, "],\"session\":1}\n"], (1, 33))
+/// Whether they are answered so.
+fn writes_answer(alloc: Global, lines: &mut String, text: &str) -> Result<bool, AllocError> {
+    add_writes(alloc, lines)?;
+    writes_the_least(alloc, lines, text)
 }
 
-/// A view of two tables with 32 rows each, which ann reads, and a row more.
-fn join_of_32(alloc: Global) -> Result<String, AllocError> {
-    let mut lines = String::from_str(
-        alloc,
+#[test]
+fn cap_in_a_table(rt: HostRuntime) -> Result<(), Fail> {
+    let text = r#"{"ok":true,"session":1}
+{"ok":true,"session":1}
+{"ok":true,"session":1}
+{"ok":true,"session":1}
+{"ok":true,"session":1}
+{"error":17,"session":1}
+{"ok":true,"session":1}
+"#;
+    let mut lines = String::new(rt.alloc());
+    assert!(rt; writes_answer(rt.alloc(), &mut lines, text)?);
+    Ok(())
+}
+
+/// Adds a write of the rows with one key and the numbers from 1 to 32.
+fn add_32(alloc: Global, lines: &mut String, front: &str, more: &str) -> Result<(), AllocError> {
+    add_list(alloc, lines, [front, more, "],\"session\":1}\n"], (1, 33))
+}
+
+/// Adds a view of two tables with 32 rows each, which ann reads, and a row more.
+fn add_join_of_32(alloc: Global, lines: &mut String) -> Result<(), AllocError> {
+    lines.push_str(
         r#"{"do":"begin","role":"admin","session":1}
 {"do":"create_role","name":"ann","session":1}
 {"do":"create_role","name":"bob","session":1}
@@ -268,34 +281,35 @@ fn join_of_32(alloc: Global) -> Result<String, AllocError> {
 "#,
     )?;
     let front = r#"{"do":"write","entries":[{"on":"a","insert":[1,#]}"#;
-    lines.push_str(&thirty_two(alloc, front, r#",{"on":"a","insert":[1,#]}"#)?)?;
+    add_32(alloc, lines, front, r#",{"on":"a","insert":[1,#]}"#)?;
     let front = r#"{"do":"write","entries":[{"on":"b","insert":[1,#]}"#;
-    lines.push_str(&thirty_two(alloc, front, r#",{"on":"b","insert":[1,#]}"#)?)?;
+    add_32(alloc, lines, front, r#",{"on":"b","insert":[1,#]}"#)?;
     lines.push_str(
         r#"{"do":"subscribe","on":"j","session":2}
 {"do":"write","entries":[{"on":"a","insert":[1,33]}],"session":1}
 "#,
-    )?;
-    Ok(lines)
+    )
 }
 
-/// The line with 32 rows for each of the numbers from 1 to 32.
-fn shown_32(alloc: Global) -> Result<String, AllocError> {
+/// Adds 32 rows of a number.
+fn add_rows(alloc: Global, text: &mut String, x: u64) -> Result<(), AllocError> {
+    let row = format!(in alloc; ",[1,[{x},#]]")?;
+    add_numbered(alloc, text, &row, (1, 33))
+}
+
+/// Adds the line with 32 rows for each of the numbers from 1 to 32.
+fn add_shown_32(alloc: Global, text: &mut String) -> Result<(), AllocError> {
     let front = "{\"changes\":[[1,[1,#]]";
-    let mut text = list_of(alloc, [front, ",[1,[1,#]]", ""], (1, 33))?;
+    add_list(alloc, text, [front, ",[1,[1,#]]", ""], (1, 33))?;
     for x in 2..33u64 {
-        let row = format!(in alloc; ",[1,[{x},#]]")?;
-        text.push_str(&numbered(alloc, &row, 1, 33)?)?;
+        add_rows(alloc, text, x)?;
     }
-    text.push_str("],\"session\":2,\"sub\":1}\n")?;
-    Ok(text)
+    text.push_str("],\"session\":2,\"sub\":1}\n")
 }
 
-#[test]
-fn cap_at_a_node(rt: HostRuntime) -> Result<(), Fail> {
-    let alloc = rt.alloc();
-    let lines = join_of_32(alloc)?;
-    let mut text = numbered(alloc, "{\"ok\":true,\"session\":1}\n", 0, 9)?;
+/// Adds what the lines are answered.
+fn add_answers(alloc: Global, text: &mut String) -> Result<(), AllocError> {
+    add_numbered(alloc, text, "{\"ok\":true,\"session\":1}\n", (0, 9))?;
     text.push_str(
         r#"{"ok":true,"session":2}
 {"ok":true,"session":3}
@@ -304,8 +318,22 @@ fn cap_at_a_node(rt: HostRuntime) -> Result<(), Fail> {
 {"ok":true,"session":2,"sub":1}
 "#,
     )?;
-    text.push_str(&shown_32(alloc)?)?;
-    text.push_str("{\"error\":17,\"session\":1}\n")?;
-    assert!(rt; writes_the_least(alloc, &lines, &text)?);
+    add_shown_32(alloc, text)?;
+    text.push_str("{\"error\":17,\"session\":1}\n")
+}
+
+/// Whether they are answered so.
+fn join_answers(alloc: Global, lines: &mut String, text: &mut String) -> Result<bool, AllocError> {
+    add_join_of_32(alloc, lines)?;
+    add_answers(alloc, text)?;
+    writes_the_least(alloc, lines, text)
+}
+
+#[test]
+fn cap_at_a_node(rt: HostRuntime) -> Result<(), Fail> {
+    let alloc = rt.alloc();
+    let mut lines = String::new(alloc);
+    let mut text = String::new(alloc);
+    assert!(rt; join_answers(alloc, &mut lines, &mut text)?);
     Ok(())
 }

@@ -1,5 +1,5 @@
 //! Queries, plans and policies at their limits, and one step beyond them, as lines behind `first_change`.
-use crate::numbered::numbered;
+use crate::numbered::add_numbered;
 use crate::replayed::answers;
 use std::alloc::{AllocError, Global};
 use std::test::Fail;
@@ -85,6 +85,18 @@ fn text_of(alloc: Global, front: &str, spaces: usize, back: &str) -> Result<Stri
     Ok(text)
 }
 
+/// Whether the view of a query of so many bytes is answered so.
+fn view_answers(alloc: Global, bytes: usize, text: &str) -> Result<bool, AllocError> {
+    let lines = view_of(alloc, bytes)?;
+    answers(alloc, &lines, text)
+}
+
+/// Whether the policy of a predicate of so many bytes is.
+fn policy_answers(alloc: Global, bytes: usize, text: &str) -> Result<bool, AllocError> {
+    let line = policy_of(alloc, bytes)?;
+    answers(alloc, &line, text)
+}
+
 #[test]
 fn texts_have_4096_bytes(rt: HostRuntime) -> Result<(), Fail> {
     let alloc = rt.alloc();
@@ -97,37 +109,56 @@ fn texts_have_4096_bytes(rt: HostRuntime) -> Result<(), Fail> {
     let unknown = r#"{"error":10,"place":4096,"session":1,"why":"too long"}
 {"error":7,"session":1}
 "#;
-    assert!(rt; answers(alloc, &view_of(alloc, 4096)?, opened)?);
-    assert!(rt; answers(alloc, &view_of(alloc, 4097)?, unknown)?);
-    assert!(rt;
-        answers(
-            alloc,
-            &policy_of(alloc, 4096)?,
-            "{\"ok\":true,\"session\":1}\n"
-        )?
-    );
-    assert!(rt; answers(alloc, &policy_of(alloc, 4097)?, refused)?);
+    let done = "{\"ok\":true,\"session\":1}\n";
+    assert!(rt; view_answers(alloc, 4096, opened)?);
+    assert!(rt; view_answers(alloc, 4097, unknown)?);
+    assert!(rt; policy_answers(alloc, 4096, done)?);
+    assert!(rt; policy_answers(alloc, 4097, refused)?);
     Ok(())
+}
+
+/// Adds 33 policies, and then takes two away that may be there, and adds them.
+fn add_policies(alloc: Global, lines: &mut String) -> Result<(), AllocError> {
+    let policy =
+        "{\"do\":\"create_policy\",\"on\":\"notes\",\"name\":\"p#\",\"using\":\"id = #\",\"session\":1}\n";
+    let drop = "{\"do\":\"drop_policy\",\"on\":\"notes\",\"name\":\"p#\",\"session\":1}\n";
+    add_numbered(alloc, lines, policy, (1, 34))?;
+    add_numbered(alloc, lines, drop, (33, 34))?;
+    add_numbered(alloc, lines, drop, (32, 33))?;
+    add_numbered(alloc, lines, policy, (33, 34))?;
+    add_numbered(alloc, lines, policy, (32, 33))
+}
+
+/// Adds what they are answered.
+fn add_answers(alloc: Global, text: &mut String) -> Result<(), AllocError> {
+    add_numbered(alloc, text, "{\"ok\":true,\"session\":1}\n", (1, 33))?;
+    text.push_str(
+        r#"{"error":20,"session":1}
+{"error":18,"session":1}
+{"ok":true,"session":1}
+{"ok":true,"session":1}
+{"error":20,"session":1}
+"#,
+    )
+}
+
+/// Whether they are answered so.
+fn policies_answer(
+    alloc: Global,
+    lines: &mut String,
+    text: &mut String,
+) -> Result<bool, AllocError> {
+    add_policies(alloc, lines)?;
+    add_answers(alloc, text)?;
+    answers(alloc, lines, text)
 }
 
 /// The 33rd policy is refused, and is not there: another one has to go before it is added.
 #[test]
 fn tables_have_32_policies(rt: HostRuntime) -> Result<(), Fail> {
     let alloc = rt.alloc();
-    let policy =
-        "{\"do\":\"create_policy\",\"on\":\"notes\",\"name\":\"p#\",\"using\":\"id = #\",\"session\":1}\n";
-    let drop = "{\"do\":\"drop_policy\",\"on\":\"notes\",\"name\":\"p#\",\"session\":1}\n";
-    let mut lines = numbered(alloc, policy, 1, 34)?;
-    for (line, number) in [(drop, 33), (drop, 32), (policy, 33), (policy, 32)] {
-        lines.push_str(&numbered(alloc, line, number, number.saturating_add(1))?)?;
-    }
-    let done = "{\"ok\":true,\"session\":1}\n";
-    let full = "{\"error\":20,\"session\":1}\n";
-    let unknown = "{\"error\":18,\"session\":1}\n";
-    let mut text = numbered(alloc, done, 1, 33)?;
-    for line in [full, unknown, done, done, full] {
-        text.push_str(line)?;
-    }
-    assert!(rt; answers(alloc, &lines, &text)?);
+    let mut lines = String::new(alloc);
+    let mut text = String::new(alloc);
+    assert!(rt; policies_answer(alloc, &mut lines, &mut text)?);
     Ok(())
 }

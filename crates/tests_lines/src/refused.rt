@@ -2,7 +2,7 @@
 //! what came of it: `refused` where some request was.
 ghost use Rattle.std.specs.Prelude.{◌≡◌, ◌≤◌, ◌<◌, None, true};
 
-use crate::commands::{are_well, fault_of};
+use crate::commands::{fault_of, ran_list};
 use crate::examples::{
     EXCEPT_UNDER_POLICY, Example, FIRST_CHANGE, GROUPED_SUMS, REVOKE_TAKES_BACK,
     ROW_SECURITY_THEN_POLICY,
@@ -107,10 +107,7 @@ fn finish() -> Command {
 /// What a list of one command is answered.
 fn fault_of_list(alloc: Global, engine: &mut Engine) -> Option<EngineFault> {
     let commands = Vec::from_array(alloc, [finish()]).ok()?;
-    if !are_well(&commands) {
-        return None;
-    }
-    engine.run_list(commands).err()
+    ran_list(engine, commands)?.err()
 }
 
 /// How a run of `first_change` ends.
@@ -142,6 +139,15 @@ fn has_failed_for_good(alloc: Global, engine: &mut Engine) -> bool {
     engine.is_failed() && has_failed(alloc, engine)
 }
 
+/// What comes of an engine that was refused memory.
+fn refused_by(alloc: Global, engine: &mut Engine) -> Word {
+    if has_failed_for_good(alloc, engine) {
+        REFUSED
+    } else {
+        "the engine goes on"
+    }
+}
+
 /// How a run of the example ends.
 fn ended_of(alloc: Global, engine: &mut Engine, example: Example, writer: &mut Kept) -> Ended {
     let [first, second] = example.requests;
@@ -157,8 +163,7 @@ fn run_through(alloc: Global, engine: &mut Engine, example: Example) -> Word {
         Err(RunFault::Memory) if !is_of_whole_commands(writer.bytes(), example.answers) => {
             "the answers are not those of whole commands"
         }
-        Err(RunFault::Memory) if has_failed_for_good(alloc, engine) => REFUSED,
-        Err(RunFault::Memory) => "the engine goes on",
+        Err(RunFault::Memory) => refused_by(alloc, engine),
         _ => "other answers",
     }
 }
@@ -235,14 +240,11 @@ fn compared(alloc: Global, lines: &[Line], answers: [&str; 2]) -> Word {
 
 /// What comes of commands as a list, which a new engine is asked.
 fn listed(alloc: Global, engine: &mut Engine, commands: Vec<Command>, answers: [&str; 2]) -> Word {
-    if !are_well(&commands) {
-        return "the commands break the rules on shape";
-    }
-    match engine.run_list(commands) {
-        Ok(lines) => compared(alloc, &lines, answers),
-        Err(EngineFault::Memory) if has_failed_for_good(alloc, engine) => REFUSED,
-        Err(EngineFault::Memory) => "the engine goes on",
-        Err(EngineFault::Failed) => "the engine had failed",
+    match ran_list(engine, commands) {
+        Some(Ok(lines)) => compared(alloc, &lines, answers),
+        Some(Err(EngineFault::Memory)) => refused_by(alloc, engine),
+        Some(Err(EngineFault::Failed)) => "the engine had failed",
+        None => "the commands break the rules on shape",
     }
 }
 
@@ -254,18 +256,24 @@ fn listed_by_new(alloc: Global, commands: Vec<Command>, answers: [&str; 2]) -> W
     }
 }
 
+/// Adds the commands of both parts of the requests.
+fn read_both(
+    alloc: Global,
+    requests: [&str; 2],
+    commands: &mut Vec<Command>,
+) -> Result<(), WireFault> {
+    read_commands(alloc, requests[0], commands)?;
+    read_commands(alloc, requests[1], commands)
+}
+
 /// What comes of the example's requests as a list of commands.
 fn ran_as_list(alloc: Global, example: Example) -> Word {
     let mut commands = Vec::new(alloc);
-    let [first, second] = example.requests;
-    for lines in [first, second] {
-        match read_commands(alloc, lines, &mut commands) {
-            Ok(()) => {}
-            Err(WireFault::Memory) => return REFUSED,
-            Err(_) => return "a line is no command",
-        }
+    match read_both(alloc, example.requests, &mut commands) {
+        Ok(()) => listed_by_new(alloc, commands, example.answers),
+        Err(WireFault::Memory) => REFUSED,
+        Err(_) => "a line is no command",
     }
-    listed_by_new(alloc, commands, example.answers)
 }
 
 #[test]

@@ -43,7 +43,23 @@ pub fn word_of(ended: Ended) -> &'static str {
 /// How a run ends.
 pub type Ended = Result<End, RunFault>;
 
-/// How a run of a new engine ends, `Failed` where the engine has failed.
+/// How a run of the engine ends, `Failed` where the engine has failed.
+fn ended_by<R: Source, W: Sink>(
+    alloc: Global,
+    engine: &mut Engine,
+    reader: &mut R,
+    writer: &mut W,
+    lines: u32,
+) -> Ended {
+    let ended = run(alloc, engine, reader, writer, lines);
+    if engine.is_failed() {
+        Err(RunFault::Failed)
+    } else {
+        ended
+    }
+}
+
+/// The same of a new engine.
 pub fn ended<R: Source, W: Sink>(
     alloc: Global,
     reader: &mut R,
@@ -51,11 +67,7 @@ pub fn ended<R: Source, W: Sink>(
     lines: u32,
 ) -> Result<Ended, AllocError> {
     let mut engine = Engine::new(alloc, ROW_LIMIT)?;
-    let ended = run(alloc, &mut engine, reader, writer, lines);
-    if engine.is_failed() {
-        return Ok(Err(RunFault::Failed));
-    }
-    Ok(ended)
+    Ok(ended_by(alloc, &mut engine, reader, writer, lines))
 }
 
 /// How a run over the bytes ends, of which this was written.
