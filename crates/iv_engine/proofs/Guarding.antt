@@ -184,17 +184,17 @@ module _ (e u : Kept) (d : Database) (n : ℕ) (act : Act) (rel : Name) (is : u 
     passed : frame_refusal (frame_of e) n act ≡ None
     passed = ap (λ (v : Kept). frame_refusal (frame_of v) n act) (sym is) ∙ sym (g.same u) ∙ told.0
 
-    was : with_database d u ≡ kept_after e n act
-    was = ap (λ x. with_database x u) told.2 ∙ ap (λ (v : Kept). kept_after v n act) is
+    pub guard_is : with_database d u ≡ kept_after e n act
+    guard_is = ap (λ x. with_database x u) told.2 ∙ ap (λ (v : Kept). kept_after v n act) is
 
     flags : scanning (with_database d u) table.0 ≡ scanning e (rel_of e.catalog rel)
-    flags = ap (λ (v : Kept). scanning v table.0) was ∙ g.scans table.0 ∙ ap (scanning e) (sym told.1 ∙ ap (λ (v : Kept). rel_of v.catalog rel) is)
+    flags = ap (λ (v : Kept). scanning v table.0) guard_is ∙ g.scans table.0 ∙ ap (scanning e) (sym told.1 ∙ ap (λ (v : Kept). rel_of v.catalog rel) is)
 
     pub guard_waits : AreWaiting (with_database d u) (scanning (with_database d u) table.0)
-    guard_waits = waiting_as (with_database d u) (kept_after e n act) _ _ was flags (g.waits h)
+    guard_waits = waiting_as (with_database d u) (kept_after e n act) _ _ guard_is flags (g.waits h)
 
     pub guard_steps : (new : Kept) (a : Answer) → AreReadersTold (with_database d u) (scanning (with_database d u) table.0) a new → IsAccepted e n act a new
-    guard_steps new a readers = g.steps new a h passed (told_as (with_database d u) (kept_after e n act) _ _ a new was flags readers)
+    guard_steps new a readers = g.steps new a h passed (told_as (with_database d u) (kept_after e n act) _ _ a new guard_is flags readers)
 
   pub guard_stops : (stop : Stop) → IsGuarded (database_of u) n act rel (Err stop) d → IsStep e n act (Err stop) (with_database d u)
   guard_stops (Refused r) told = refused_step e (with_database d u) n act r (ap (λ (v : Kept). frame_refusal (frame_of v) n act) (sym is) ∙ sym (g.same u) ∙ told.0) (ap (λ x. with_database x u) told.1 ∙ is)

@@ -1,3 +1,4 @@
+mod Narrowing
 mod Showing
 mod Sound
 mod Unmoved

@@ -13,7 +13,7 @@ use Rattle.iv_machine.specs.Machine.{difference, ending, line_of as machine_line
 use Rattle.iv_machine.specs.State.{Subscription, plan_at}
 use Rattle.iv_machine.specs.declared.Cause.{Cause}
 use Rattle.iv_machine.specs.declared.Cause.TheVariants as cause
-use Rattle.iv_engine.specs.Built.{IsBeyond}
+use Rattle.iv_engine.specs.Built.{IsBeyond, IsWider}
 use Rattle.iv_readers.specs.Each.{Each}
 use Rattle.iv_engine.specs.Found.{beside_of, total_at}
 use Rattle.iv_engine.specs.Kept.{IsCircuitFor, IsRoleCircuit, IsStored, Kept, at, frame_of, is_read, place_of, role_reads, shown_rows, with_rights}
@@ -55,6 +55,10 @@ pub record AreWaiting (e : Kept) (concerned : List Bool) : Type 0 where
   pub were : AllByRecursion (WasRead e) e.circuits
   pub others : Each (IsOther e) e.circuits concerned
   pub there : AllByRecursion (λ s. is_some (place_of e s) ≡ true) e.subscriptions
+
+-- it is that of what was shown before rights changed, by which its role saw of each table all that it may see now
+abbrev pub IsNarrowed : Kept → RoleCircuit → Type 0
+IsNarrowed e k = IsWider e k.role (plan_at e.catalog k.rel) k.circuit
 
 -- its role may read it; the circuit is one of what is shown now, and the rows are what that shows more and less
 pub record IsAnew (e : Kept) (k : RoleCircuit) (c : Running) (rows : Weighed) : Type 0 where

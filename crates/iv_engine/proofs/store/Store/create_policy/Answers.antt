@@ -1,8 +1,9 @@
-use Rattle.std.proofs.Common.{subst, sym}
-use Rattle.iv_machine.specs.Act.{create_policy}
+use Rattle.std.proofs.Common.{◌∙◌, ap, subst, sym}
+use Rattle.iv_machine.specs.Act.{PolicyText, create_policy}
 use Rattle.iv_database.specs.Database.{IsDatabase}
 use Rattle.iv_engine.specs.Kept.{Kept, database_of}
 use Rattle.iv_engine.proofs.Guarding.{guard_steps, guard_stops, guard_waits, policy_guards}
+use Rattle.iv_engine.proofs.Narrowing.{policy_narrows}
 use Rattle.iv_engine.proofs.Stepping.{goes_up}
 use Rattle.iv_engine.proofs.store.Store.create_policy.Goals as goal
 
@@ -16,8 +17,13 @@ returns-in_err-table c =
     c.in_err-table.ensures.guarded)
     c.from_residual.result c.from_residual.ensures.1
 
-pub tell_of-requires : goal.tell_of-requires
-tell_of-requires c =
+pub tell_of-requires-clause-narrows : goal.tell_of-requires-clause-narrows
+tell_of-requires-clause-narrows c = λ restrictive.
+    policy_narrows c.args.self.now _ c.create_policy.new.self c.args.session c.args.policy c.self.view_is c.requires c.in_ok-table.table c.in_ok-table.ensures.guarded
+    (ap (λ (p : PolicyText). p.restrictive) (sym c.policy.view_is) ∙ restrictive)
+
+pub tell_of-requires-clause-waiting : goal.tell_of-requires-clause-waiting
+tell_of-requires-clause-waiting c =
     guard_waits c.args.self.now _ c.create_policy.new.self c.args.session (create_policy c.args.policy) c.args.policy.rel c.self.view_is (policy_guards c.args.self.now c.args.session c.args.policy) c.requires c.in_ok-table.table
     c.in_ok-table.ensures.guarded
 

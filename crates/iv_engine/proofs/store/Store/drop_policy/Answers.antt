@@ -19,8 +19,8 @@ returns-in_err-table c =
     (subst (λ (x : Name). IsGuarded c.self.inside.database c.args.session (drop_policy x c.args.name.now) x (Err c.in_err-table.field-0.0) c.drop_policy.new.self) c.as_str.ensures.value c.in_err-table.ensures.guarded))
     c.from_residual.result c.from_residual.ensures.1
 
-pub tell_of-requires : goal.tell_of-requires
-tell_of-requires c =
+pub tell_of-requires-clause-waiting : goal.tell_of-requires-clause-waiting
+tell_of-requires-clause-waiting c =
     guard_waits c.args.self.now _ c.drop_policy.new.self c.args.session (drop_policy (string_bytes c.args.rel) c.args.name.now) (string_bytes c.args.rel) c.self.view_is (drop_guards c.args.self.now c.args.session (string_bytes c.args.rel) c.args.name.now) c.requires c.in_ok-table.table
     (subst (λ (x : Name). IsGuarded c.self.inside.database c.args.session (drop_policy x c.args.name.now) x (Ok c.in_ok-table.table) c.drop_policy.new.self) c.as_str.ensures.value c.in_ok-table.ensures.guarded)
 

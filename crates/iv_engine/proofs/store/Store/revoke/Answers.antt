@@ -23,8 +23,8 @@ unreadable-requires c =
     let ready = revoke_waits c.args.self.now _ c.revoke.new.self c.args.session (string_bytes c.args.rel) c.args.privileges.now (named c.args.grantee) c.self.view_is c.requires c.in_ok-revoke.ensures.done _ refl in
     record { stored = ready.stored; circuits = ready.were }
 
-pub tell_readers-requires : goal.tell_readers-requires
-tell_readers-requires c =
+pub tell_readers-requires-clause-waiting : goal.tell_readers-requires-clause-waiting
+tell_readers-requires-clause-waiting c =
     revoke_waits c.args.self.now _ c.revoke.new.self c.args.session (string_bytes c.args.rel) c.args.privileges.now (named c.args.grantee) c.self.view_is c.requires c.in_ok-revoke.ensures.done c.deref.result.now (c.deref.ensures.value ∙ c.in_ok-concerned.ensures)
 
 pub returns : goal.returns

@@ -19,8 +19,8 @@ returns-in_err-table c =
     (subst (λ (x : Name). IsGuarded c.self.inside.database c.args.session (row_security x c.args.enable c.args.force) x (Err c.in_err-table.field-0.0) c.row_security.new.self) c.as_str.ensures.value c.in_err-table.ensures.guarded))
     c.from_residual.result c.from_residual.ensures.1
 
-pub tell_of-requires : goal.tell_of-requires
-tell_of-requires c =
+pub tell_of-requires-clause-waiting : goal.tell_of-requires-clause-waiting
+tell_of-requires-clause-waiting c =
     guard_waits c.args.self.now _ c.row_security.new.self c.args.session (row_security (string_bytes c.args.rel) c.args.enable c.args.force) (string_bytes c.args.rel) c.self.view_is (security_guards c.args.self.now c.args.session (string_bytes c.args.rel) c.args.enable c.args.force) c.requires c.in_ok-table.table
     (subst (λ (x : Name). IsGuarded c.self.inside.database c.args.session (row_security x c.args.enable c.args.force) x (Ok c.in_ok-table.table) c.row_security.new.self) c.as_str.ensures.value c.in_ok-table.ensures.guarded)
 

@@ -10,8 +10,8 @@ pub differing-requires : goal.differing-requires
 differing-requires c =
     c.requires.long ∙ sym (many_flags c.args.self.now c.args.group) ∙ sym (ap (λ bs. length bs) (c.deref.ensures.value ∙ c.in_ok-after.ensures))
 
-pub tell_readers-requires : goal.tell_readers-requires
-tell_readers-requires c =
+pub tell_readers-requires-clause-waiting : goal.tell_readers-requires-clause-waiting
+tell_readers-requires-clause-waiting c =
     let flags = c.deref-2.ensures.value ∙ c.in_ok-concerned.ensures ∙ ap (differing c.args.before.now) (c.deref.ensures.value ∙ c.in_ok-after.ensures) in
     subst (λ (bs : List Bool). AreWaiting c.args.self.now bs) (sym flags) c.requires.waiting
 
