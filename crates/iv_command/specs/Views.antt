@@ -66,5 +66,5 @@ reply_of (said.Refused r) = machine.refused (refusal_of r)
 
 abbrev pub line_of : Line → machine.Line
 line_of (line.Reply n r) = machine.reply n (reply_of r)
-line_of (line.Change n k rows) = machine.change n k rows.value.items
-line_of (line.Ended n k cause rows) = machine.ended n k cause rows.items
+line_of (line.Change n k rows) = machine.change n k rows.value
+line_of (line.Ended n k cause rows) = machine.ended n k cause rows

@@ -1,5 +1,6 @@
 //! `Command`, `Act`, `Entry`: what a session asks; `Refusal`, `Reply`, `Line`: what it is answered.
 
+use crate::rows::SentRows;
 use iv_access::{Check, PolicyCommand, Privilege};
 use iv_bind::BindWhy;
 use iv_machine::Cause;
@@ -249,7 +250,7 @@ pub enum Reply {
 }
 
 /// Rows with their weights, which several lines may share.
-pub type SharedRows = Rc<Vec<(Row, i64)>>;
+pub type SharedRows = Rc<SentRows>;
 
 /// A line of the answer.
 #[derive(Drop)]
@@ -272,6 +273,6 @@ pub enum Line {
         session: u32,
         sub: u64,
         cause: Cause,
-        rows: Vec<(Row, i64)>,
+        rows: SentRows,
     },
 }

@@ -3,6 +3,7 @@
 
 mod answer;
 mod command;
+mod rows;
 mod stop;
 mod well;
 
@@ -12,5 +13,6 @@ pub use iv_access::{Check, PolicyCommand, Privilege};
 pub use iv_bind::BindWhy;
 pub use iv_machine::Cause;
 pub use iv_query::Why;
+pub use rows::SentRows;
 pub use stop::Stop;
 pub use well::{LAST_NUMBER, has_texts};

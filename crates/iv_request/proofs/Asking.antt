@@ -21,7 +21,7 @@ use Rattle.iv_access.specs.declared.privilege.Privilege.{Privilege}
 use Rattle.iv_access.specs.declared.privilege.Privilege.TheVariants.{Select, Insert, Update, Delete}
 use Rattle.iv_request.specs.Asked.{column_data, privilege_data, entry_data, grantee_text, grantee_data, policy_command_text, act_data, command_data, is_small, is_small_entry, is_small_act}
 use Rattle.iv_request.specs.Request.{each, cell_of, column_of, privilege_of, entry, entry_of, grantee_named, grantee_of, policy_command_named, Scope, scope, policy, is_schema, is_session, command, request}
-use Rattle.iv_request.specs.Values.{cell_data}
+use Rattle.iv_command.specs.RowTexts.{cell_data}
 
 left_true : (a b : Bool) → (a && b) ≡ true → a ≡ true
 left_true true b h = refl

@@ -12,7 +12,8 @@ use Rattle.iv_access.specs.declared.policy.PolicyCommand.TheVariants as command
 use Rattle.iv_access.specs.declared.privilege.Privilege.{Privilege}
 use Rattle.serde_json.specs.Data.{Data, boolean, string, array, object, item, no_items, Members, member, no_members}
 use Rattle.serde_json.specs.View.{items_of}
-use Rattle.iv_request.specs.Values.{natural, privilege_text, row_data}
+use Rattle.iv_command.specs.RowTexts.{row_data}
+use Rattle.iv_request.specs.Values.{natural, privilege_text}
 
 abbrev pub kind_text : Kind → List ℕ
 kind_text Int = codes "int"

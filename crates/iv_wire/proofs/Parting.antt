@@ -1,20 +1,14 @@
 -- Lines that are put together of parts.
-use Rattle.std.proofs.Common.{◌≡◌, ℕ, ℤ, Bool, true, false, ◌&&◌, List, [], ◌++◌, ap, ◌∙◌, refl, sym, subst, append_assoc}
-use Rattle.std.specs.Bool.{Decides}
-use Rattle.std.specs.Cmp.{signed_Decides}
-use Rattle.std.specs.Ordering.{int_eq}
+use Rattle.std.proofs.Common.{◌≡◌, ℕ, List, [], ◌++◌, ap, ◌∙◌, append_assoc}
 use Rattle.std.specs.Prelude.{codes, decimal, Result, Ok, Err, OnOk}
-use Rattle.iv_rows.specs.Cell.{Cell}
-use Rattle.iv_rows.specs.Order.{row_eq}
-use Rattle.iv_rows.specs.OrderLaws.{row_eq_decides}
 use Rattle.json.proofs.OnLiterals.{json_on_literals}
 use Rattle.iv_zset.specs.Weights.{Weighed}
 use Rattle.iv_machine.specs.Act.{reply, done, subscribed, change, ended}
 use Rattle.iv_machine.specs.declared.Cause.{Cause}
 use Rattle.iv_machine.specs.declared.Cause.TheVariants as cause
-use Rattle.serde_json.specs.Written.{compact_text}
-use Rattle.iv_wire.specs.Parts.{behind_front, change_text, ended_text, done_text, front_text, subscribed_text}
-use Rattle.iv_wire.specs.Texts.{line_text, rows_data}
+use Rattle.iv_wire.specs.Parts.{change_text, ended_text, done_text, subscribed_text}
+use Rattle.iv_command.specs.RowTexts.{rows_text}
+use Rattle.iv_wire.specs.Texts.{line_text}
 
 -- a line ends in `}` and a newline
 ends_so : (r a n b k : List ℕ) → r ++ ((a ++ n) ++ ((b ++ k) ++ codes "}\n")) ≡ (r ++ (a ++ (n ++ (b ++ (k ++ codes "}"))))) ++ codes "\n"
@@ -23,22 +17,14 @@ ends_so r a n b k = simp append_assoc
 ends_so_with : (r c a n b k : List ℕ) → r ++ (c ++ ((a ++ n) ++ ((b ++ k) ++ codes "}\n"))) ≡ (r ++ (c ++ (a ++ (n ++ (b ++ (k ++ codes "}")))))) ++ codes "\n"
 ends_so_with r c a n b k = simp append_assoc
 
-pub change_line_text : (n k : ℕ) (es : Weighed) → change_text n k (compact_text (rows_data es)) ≡ line_text (change n k es)
+pub change_line_text : (n k : ℕ) (es : Weighed) → change_text n k (rows_text es) ≡ line_text (change n k es)
 unfolding json_on_literals
-change_line_text n k es = ap (λ v. codes "{\"changes\":" ++ v) (ends_so (compact_text (rows_data es)) (codes ",\"session\":") (decimal n) (codes ",\"sub\":") (decimal k))
+change_line_text n k es = ap (λ v. codes "{\"changes\":" ++ v) (ends_so (rows_text es) (codes ",\"session\":") (decimal n) (codes ",\"sub\":") (decimal k))
 
-behind_parts : (a r s u d e : List ℕ) → ((a ++ (r ++ (s ++ u))) ++ d) ++ e ≡ a ++ (r ++ (s ++ ((u ++ d) ++ e)))
-behind_parts a r s u d e =
-    append_assoc (a ++ (r ++ (s ++ u))) d e ∙ (append_assoc a (r ++ (s ++ u)) (d ++ e)
-    ∙ ap (λ v. a ++ v) (append_assoc r (s ++ u) (d ++ e) ∙ ap (λ v. r ++ v) (append_assoc s u (d ++ e) ∙ ap (λ v. s ++ v) (sym (append_assoc u d e)))))
-
-pub front_line_text : (n k : ℕ) (rows : List ℕ) → behind_front (front_text n rows) k ≡ change_text n k rows
-front_line_text n k rows = behind_parts (codes "{\"changes\":") rows (codes ",\"session\":" ++ decimal n) (codes ",\"sub\":") (decimal k) (codes "}\n")
-
-pub ended_line_text : (n k : ℕ) (why : Cause) (es : Weighed) → ended_text n k why (compact_text (rows_data es)) ≡ line_text (ended n k why es)
+pub ended_line_text : (n k : ℕ) (why : Cause) (es : Weighed) → ended_text n k why (rows_text es) ≡ line_text (ended n k why es)
 unfolding json_on_literals
-ended_line_text n k cause.Privilege es = ap (λ v. codes "{\"changes\":" ++ v) (ends_so_with (compact_text (rows_data es)) (codes ",\"ended\":\"privilege\"") (codes ",\"session\":") (decimal n) (codes ",\"sub\":") (decimal k))
-ended_line_text n k cause.Limit es = ap (λ v. codes "{\"changes\":" ++ v) (ends_so_with (compact_text (rows_data es)) (codes ",\"ended\":\"limit\"") (codes ",\"session\":") (decimal n) (codes ",\"sub\":") (decimal k))
+ended_line_text n k cause.Privilege es = ap (λ v. codes "{\"changes\":" ++ v) (ends_so_with (rows_text es) (codes ",\"ended\":\"privilege\"") (codes ",\"session\":") (decimal n) (codes ",\"sub\":") (decimal k))
+ended_line_text n k cause.Limit es = ap (λ v. codes "{\"changes\":" ++ v) (ends_so_with (rows_text es) (codes ",\"ended\":\"limit\"") (codes ",\"session\":") (decimal n) (codes ",\"sub\":") (decimal k))
 
 pub done_line_text : (n : ℕ) → done_text n ≡ line_text (reply n done)
 unfolding json_on_literals
@@ -67,19 +53,6 @@ then_three r t a b c l m n h k e = then_two r t a (b ++ c) l n h (then_two r l b
 
 pub then_four : {E : Type 0} (r : Result (Unit {0}) E) (t a b c d k l m n : List ℕ) → k ≡ t ++ a → l ≡ k ++ b → m ≡ l ++ c → OnOk r (n ≡ m ++ d) → OnOk r (n ≡ t ++ (a ++ (b ++ (c ++ d))))
 then_four r t a b c d k l m n h i j e = then_two r t a (b ++ (c ++ d)) k n h (then_three r k b c d l m n i j e)
-
--- ---- the same rows
-
-both_true : (a b : Bool) → (a && b) ≡ true → (a ≡ true) × (b ≡ true)
-both_true true true h = (refl, refl)
-both_true true false h = cc
-both_true false b h = cc
-
-pub entry_decides : (x y : List Cell × ℤ) → Decides (row_eq x.0 y.0 && int_eq x.1 y.1) (x ≡ y)
-entry_decides x y = (
-  λ h. let p = both_true (row_eq x.0 y.0) (int_eq x.1 y.1) h in λ i. ((row_eq_decides x.0 y.0).0 p.0 i, (signed_Decides x.1 y.1).0 p.1 i),
-  λ e. subst (λ (z : List Cell × ℤ). (row_eq x.0 z.0 && int_eq x.1 z.1) ≡ true) e (rw ((row_eq_decides x.0 x.0).1 refl, (signed_Decides x.1 x.1).1 refl) refl),
-)
 
 -- what a call appends is the text of the line
 pub then_same : {E : Type 0} (r : Result (Unit {0}) E) (t a b n : List ℕ) → OnOk r (n ≡ t ++ a) → a ≡ b → OnOk r (n ≡ t ++ b)

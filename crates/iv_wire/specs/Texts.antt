@@ -1,5 +1,5 @@
 -- The texts of lines: compact JSON with keys in the order of their bytes, and a newline.
-use Rattle.std.specs.Prelude.{ℕ, ℤ, true, List, [], ◌∷◌, ◌++◌, map, codes}
+use Rattle.std.specs.Prelude.{ℕ, ℤ, true, List, [], ◌∷◌, ◌++◌, codes}
 use Rattle.iv_rows.specs.Cell.{Cell}
 use Rattle.iv_query.specs.declared.fault.Why.{Why}
 use Rattle.iv_query.specs.declared.fault.Why.TheVariants as reading
@@ -12,10 +12,10 @@ use Rattle.iv_machine.specs.Act as machine
 use Rattle.iv_machine.specs.Act.{Refusal, Reply, done, subscribed, refused, Line, reply, change, ended}
 use Rattle.iv_machine.specs.declared.Cause.{Cause}
 use Rattle.iv_machine.specs.declared.Cause.TheVariants as cause
-use Rattle.serde_json.specs.Data.{Data, string, boolean, array, object, item, no_items, member, no_members}
-use Rattle.serde_json.specs.View.{items_of}
+use Rattle.serde_json.specs.Data.{Data, string, boolean, object, member, no_members}
 use Rattle.serde_json.specs.Written.{compact_text}
-use Rattle.iv_request.specs.Values.{natural, whole, privilege_text, row_data}
+use Rattle.iv_command.specs.RowTexts.{rows_data}
+use Rattle.iv_request.specs.Values.{natural, privilege_text}
 
 abbrev pub check_text : Check → List ℕ
 check_text check.Select = codes "select"
@@ -109,13 +109,6 @@ reply_data n (subscribed k) = object (member (codes "ok") (boolean true) (member
 reply_data n (refused r) = refused_data n r
 
 -- ---- changes
-
--- [weight, row]
-abbrev pub entry_data : List Cell × ℤ → Data
-entry_data e = array (item (whole e.1) (item (row_data e.0) no_items))
-
-abbrev pub rows_data : List (List Cell × ℤ) → Data
-rows_data es = array (items_of (map entry_data es))
 
 abbrev pub change_data : ℕ → ℕ → List (List Cell × ℤ) → Data
 change_data n k es = object (member (codes "changes") (rows_data es) (member (codes "session") (natural n) (member (codes "sub") (natural k) no_members)))

@@ -3,7 +3,6 @@
 
 mod answers;
 mod calls;
-mod changes;
 mod ends;
 pub mod laws;
 mod lines;

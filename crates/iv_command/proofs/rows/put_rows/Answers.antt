@@ -1,7 +1,7 @@
 use Rattle.std.proofs.Common.{arith}
-use Rattle.iv_wire.specs.Texts.{entry_data}
-use Rattle.iv_wire.proofs.Writing.{adds_item, adds_items}
-use Rattle.iv_wire.proofs.changes.put_rows.Goals as goal
+use Rattle.iv_command.specs.RowTexts.{entry_data}
+use Rattle.iv_command.proofs.Writing.{adds_item, adds_items}
+use Rattle.iv_command.proofs.rows.put_rows.Goals as goal
 
 pub loop-entry-preserved : goal.loop-entry-preserved
 loop-entry-preserved c = adds_item entry_data c.args.rows.now c.args.out.now c.loop-entry.out c.put_entry.new.out c.loop-entry.entry-index c.entry-item.result c.loop-entry.invariant (omega arith) c.entry-item.is c.in_ok-put_entry.ensures

@@ -2,11 +2,11 @@ use Rattle.std.proofs.Common.{subst, sym, arith}
 use Rattle.std.specs.Prelude.{OnOk}
 use Rattle.serde_json.specs.Data.{array}
 use Rattle.serde_json.specs.View.{items_of}
-use Rattle.iv_request.specs.Values.{cell_data}
+use Rattle.iv_command.specs.RowTexts.{cell_data}
 use Rattle.iv_rows.specs.View.{cell_of}
-use Rattle.iv_wire.specs.Tokens.{AddsValue}
-use Rattle.iv_wire.proofs.Writing.{adds_item, adds_items, map-map}
-use Rattle.iv_wire.proofs.changes.put_cells.Goals as goal
+use Rattle.iv_command.specs.Tokens.{AddsValue}
+use Rattle.iv_command.proofs.Writing.{adds_item, adds_items, map-map}
+use Rattle.iv_command.proofs.rows.put_cells.Goals as goal
 
 pub loop-cell-preserved : goal.loop-cell-preserved
 loop-cell-preserved c = adds_item (λ x. cell_data (cell_of x)) c.args.cells.now c.args.out.now c.loop-cell.out c.put_cell.new.out c.loop-cell.cell-index c.cell-item.result c.loop-cell.invariant (omega arith) c.cell-item.is c.in_ok-put_cell.ensures
