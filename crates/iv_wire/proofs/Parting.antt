@@ -1,12 +1,12 @@
 -- Lines that are put together of parts.
-use Rattle.std.proofs.Common.{◌≡◌, ℕ, List, [], ◌++◌, ap, ◌∙◌, append_assoc}
+use Rattle.std.proofs.Common.{◌≡◌, ℕ, List, [], ◌++◌, ap, ◌∙◌, sym, append_assoc}
 use Rattle.std.specs.Prelude.{codes, decimal, Result, Ok, Err, OnOk}
 use Rattle.json.proofs.OnLiterals.{json_on_literals}
 use Rattle.iv_zset.specs.Weights.{Weighed}
 use Rattle.iv_machine.specs.Act.{reply, done, subscribed, change, ended}
 use Rattle.iv_machine.specs.declared.Cause.{Cause}
 use Rattle.iv_machine.specs.declared.Cause.TheVariants as cause
-use Rattle.iv_wire.specs.Parts.{change_text, ended_text, done_text, subscribed_text}
+use Rattle.iv_wire.specs.Parts.{change_behind, change_text, ended_text, done_text, session_part, subscribed_text}
 use Rattle.iv_command.specs.RowTexts.{rows_text}
 use Rattle.iv_wire.specs.Texts.{line_text}
 
@@ -20,6 +20,13 @@ ends_so_with r c a n b k = simp append_assoc
 pub change_line_text : (n k : ℕ) (es : Weighed) → change_text n k (rows_text es) ≡ line_text (change n k es)
 unfolding json_on_literals
 change_line_text n k es = ap (λ v. codes "{\"changes\":" ++ v) (ends_so (rows_text es) (codes ",\"session\":") (decimal n) (codes ",\"sub\":") (decimal k))
+
+behind_parts : (a d b k e : List ℕ) → (((a ++ d) ++ b) ++ k) ++ e ≡ (a ++ d) ++ ((b ++ k) ++ e)
+behind_parts a d b k e = append_assoc ((a ++ d) ++ b) k e ∙ (append_assoc (a ++ d) b (k ++ e) ∙ ap (λ v. (a ++ d) ++ v) (sym (append_assoc b k e)))
+
+pub change_behind_text : (n k : ℕ) (rows : List ℕ) → change_behind (session_part n) k rows ≡ change_text n k rows
+change_behind_text n k rows =
+    ap (λ v. codes "{\"changes\":" ++ (rows ++ v)) (behind_parts (codes ",\"session\":") (decimal n) (codes ",\"sub\":") (decimal k) (codes "}\n"))
 
 pub ended_line_text : (n k : ℕ) (why : Cause) (es : Weighed) → ended_text n k why (rows_text es) ≡ line_text (ended n k why es)
 unfolding json_on_literals
@@ -42,6 +49,9 @@ two_appended t a b m n h k = k ∙ (ap (λ v. v ++ b) h ∙ append_assoc t a b)
 
 pub three_appended : (t a b c l m n : List ℕ) → l ≡ t ++ a → m ≡ l ++ b → n ≡ m ++ c → n ≡ t ++ (a ++ (b ++ c))
 three_appended t a b c l m n h k e = two_appended t a (b ++ c) l n h (two_appended l b c m n k e)
+
+pub four_appended : (t a b c d k l m n : List ℕ) → k ≡ t ++ a → l ≡ k ++ b → m ≡ l ++ c → n ≡ m ++ d → n ≡ t ++ (a ++ (b ++ (c ++ d)))
+four_appended t a b c d k l m n h i j e = two_appended t a (b ++ (c ++ d)) k n h (three_appended k b c d l m n i j e)
 
 -- what a call appends behind them, where it succeeds
 pub then_two : {E : Type 0} (r : Result (Unit {0}) E) (t a b m n : List ℕ) → m ≡ t ++ a → OnOk r (n ≡ m ++ b) → OnOk r (n ≡ t ++ (a ++ b))

@@ -1,11 +1,12 @@
 //! `write_lines`: the texts of a command's lines, one behind another.
 //!
 //! `ok`, `subscribed` and changes are fixed parts with numbers and the text of their rows between them, proved to be the text of their
-//! value; refusals and faults are written by `serde_json`. The text of rows is written once, where the rows are listed (iv_command).
+//! value; refusals and faults are written by `serde_json`. The text of rows is written once, where the rows are listed (iv_command), and
+//! the part that names a session once for the changes of the session that stand together.
 ghost use Rattle.std.specs.Prelude.{◌≡◌, ◌++◌, map, flat_map, decimal, IfOk, OnOk};
 ghost use Rattle.iv_machine.specs.Act as machine;
 ghost use Rattle.iv_command.specs.Views.{line_of, reply_of};
-ghost use Rattle.iv_wire.specs.Parts.{cause_part, change_text, done_text, ended_text, rest_text, subscribed_text};
+ghost use Rattle.iv_wire.specs.Parts.{IsPart, cause_part, change_behind, done_text, ended_text, rest_text, session_part, subscribed_text};
 ghost use Rattle.iv_wire.specs.Texts.{line_text};
 
 use crate::texts::write_refusal;
@@ -15,6 +16,41 @@ use std::alloc::{AllocError, Global};
 
 /// The room that a text is begun with, in bytes: few answers of a write with a reader or two have more.
 const SHORT_TEXT: usize = 256;
+
+/// The part of a line that names its session, up to the number of the subscription: that of the last change, and no text
+/// before the first.
+#[derive(Drop)]
+struct SessionPart {
+    session: u32,
+    text: Vec<u8>,
+}
+
+impl SessionPart {
+    fn new(alloc: Global) -> SessionPart
+        ensures { IsPart result }
+    {
+        SessionPart {
+            session: 0,
+            text: Vec::new(alloc),
+        }
+    }
+
+    /// Names the session, unless it was named last.
+    fn name(&mut self, session: u32) -> Result<(), AllocError>
+        requires { IsPart self.old }
+        ensures text { OnOk result (self.new.text.items ≡ session_part session) }
+        ensures part { OnOk result (IsPart self.new) }
+    {
+        if !self.text.is_empty() && session == self.session {
+            return Ok(());
+        }
+        self.session = session;
+        self.text.clear();
+        push_number(&mut self.text, b",\"session\":", session as u64)?;
+        self.text.extend_from_slice(b",\"sub\":")?;
+        Ok(())
+    }
+}
 
 /// Appends a text, and a number behind it.
 fn push_number(text: &mut Vec<u8>, before: &[u8], number: u64) -> Result<(), AllocError>
@@ -35,18 +71,15 @@ fn push_rest(text: &mut Vec<u8>, session: u32, sub: u64) -> Result<(), AllocErro
     Ok(())
 }
 
-/// Appends the line of a change, by the text of its rows.
-fn push_change(
-    text: &mut Vec<u8>,
-    session: u32,
-    sub: u64,
-    rows: &[u8],
-) -> Result<(), AllocError>
-    ensures { OnOk result (text.new.items ≡ text.old.items ++ change_text session sub rows.now) }
+/// Appends the line of a change, by the part that names its session and the text of its rows.
+fn push_change(text: &mut Vec<u8>, part: &[u8], sub: u64, rows: &[u8]) -> Result<(), AllocError>
+    ensures { OnOk result (text.new.items ≡ text.old.items ++ change_behind part.now sub rows.now) }
 {
     text.extend_from_slice(b"{\"changes\":")?;
     text.extend_from_slice(rows)?;
-    push_rest(text, session, sub)
+    push_number(text, part, sub)?;
+    text.extend_from_slice(b"}\n")?;
+    Ok(())
 }
 
 fn cause_part(cause: Cause) -> &'static [u8]
@@ -110,12 +143,22 @@ fn push_reply(
 }
 
 /// Appends a line.
-fn push_line(alloc: Global, text: &mut Vec<u8>, line: &Line) -> Result<(), AllocError>
-    ensures { OnOk result (text.new.items ≡ text.old.items ++ line_text (line_of line.now)) }
+fn push_line(
+    alloc: Global,
+    text: &mut Vec<u8>,
+    part: &mut SessionPart,
+    line: &Line,
+) -> Result<(), AllocError>
+    requires { IsPart part.old }
+    ensures text { OnOk result (text.new.items ≡ text.old.items ++ line_text (line_of line.now)) }
+    ensures part { OnOk result (IsPart part.new) }
 {
     match line {
         Line::Reply { session, reply } => push_reply(alloc, text, *session, reply),
-        Line::Change { session, sub, rows } => push_change(text, *session, *sub, rows.text()),
+        Line::Change { session, sub, rows } => {
+            part.name(*session)?;
+            push_change(text, &part.text, *sub, rows.text())
+        }
         Line::Ended {
             session,
             sub,
@@ -130,8 +173,9 @@ pub fn write_lines(alloc: Global, lines: &[Line]) -> Result<Vec<u8>, AllocError>
     ensures { IfOk result (λ text. text.items ≡ flat_map line_text (map line_of lines.now)) }
 {
     let mut text = Vec::with_capacity(alloc, SHORT_TEXT)?;
+    let mut part = SessionPart::new(alloc);
     for line in lines {
-        push_line(alloc, &mut text, line)?;
+        push_line(alloc, &mut text, &mut part, line)?;
     }
     Ok(text)
 }
@@ -146,6 +190,6 @@ pub fn write_line(alloc: Global, line: &Line) -> Result<Vec<u8>, AllocError>
     ensures { IfOk result (λ text. text.items ≡ line_text (line_of line.now)) }
 {
     let mut text = Vec::new(alloc);
-    push_line(alloc, &mut text, line)?;
+    push_line(alloc, &mut text, &mut SessionPart::new(alloc), line)?;
     Ok(text)
 }
