@@ -6,6 +6,11 @@ them. What changes shared state is in the journal, on disk, before a line that s
 
 Behind a journal that gateways share, one engine decides. The others take in what it accepted, in its order, and a request
 of their clients that changes something goes to it by a name: it stands in the journal once, however often it was sent.
+
+A fence makes two lines of each request, so viewd ends twice as soon: behind 24 days at 1,000 requests a second. Without it the end
+of a request would be the next reply (a quiet server never settles), a timer (a guess), or a request without effect (one of 256
+sessions). Answers are taken and lines are sent in two tasks: one task that waits between two sendings would take in a hundred
+entries a second. An administrator is sent the shape at the entry and after each change, so two see each other's changes.
 """
 import asyncio
 import collections
@@ -244,7 +249,8 @@ class Engine:
 
     async def tables(self) -> dict | None:
         """A digest of tables, roles, grants and policies as they are at a place; the rows as viewd tells them to an
-        administrator. All questions are written at once, so nothing comes between. None where no session is free."""
+        administrator. All questions are written at once, so nothing comes between. All rows are written for it, so it is made only
+        where it is asked for. None where no session is free."""
         async with self.looking:
             child = self.child
             while True:

@@ -4,6 +4,10 @@
 A browser sends its token, and then one request a message, without `session`: each client has a session of viewd in the
 role of its token, which the gateway numbers, begins and finishes. viewd begins empty and is told the journal: when
 either process dies, nothing that was acknowledged is lost.
+
+A token is 256 random bits, so its plain SHA-256 in a file is enough. A key of that file that is no SHA-256 stops the gateway, since
+somebody wrote tokens into it. A token that is taken away ends no open connection. Not taken: passwords, and cookies, which need tests
+of where a page comes from. Pings are the gateway's own: those of aiohttp drop a browser that takes a long answer on a slow line.
 """
 import argparse
 import asyncio

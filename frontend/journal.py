@@ -3,6 +3,10 @@
 A line is the request without its session and with the role that made it: `{"as":"mia","do":"write","entries":[..]}`.
 A viewd that begins empty and is told these lines is in the state that they lead to, and refuses none of them.
 
+The key is `as`, which no request has: viewd refuses by 2 what has it. `role`, which it was, is a key of `grant_role` too. A line
+is measured with the longest role and the longest session, so it fits in any other viewd behind the same journal. It has no checksum,
+which would make it no request. The shape has the query of a view and not its columns, which viewd does not tell.
+
 What the engine asks of a journal is `Log`. Here is the file, for one machine; stream.py has one for several.
 """
 import abc
@@ -22,7 +26,7 @@ from typing import NamedTuple
 LINE = 65_536  # bytes of a line without its newline: viewd ends behind a longer one
 # What is left of a line for a request, whoever tells it: by the longest number of a session, or the longest role.
 BODY = LINE - max(len('{"session":4294967295,}'), len('{"as":"",}') + 63)
-FOLLOW = 0.05  # seconds between two looks at a file that another gateway writes
+FOLLOW = 0.05  # seconds between two looks at a file that another gateway writes: Python's library has no inotify
 PIECE = 1000  # entries that are read at a time
 PRIVILEGES = ("select", "insert", "update", "delete")
 SHARED = frozenset(("create_role", "create_table", "create_view", "grant", "revoke", "grant_role", "revoke_role", "row_security",

@@ -7,7 +7,8 @@ so what a writer appends after its lease has passed is refused, whatever it beli
 
 Where NAME is the stream, these keys stand beside it: NAME:lease, NAME:term (how often it was taken), NAME:snapshot (where
 the last one is) and NAME:snapshot:PLACE (its lines). Requests go to the writer by the channel NAME:asks, and refusals back by
-NAME:to:GATEWAY.
+NAME:to:GATEWAY. A channel keeps nothing, so it is not synced: what is lost is sent again after a second. A snapshot leaves as
+many entries behind it as there are names that are known, so a fresh gateway knows as many.
 """
 import asyncio
 import contextlib

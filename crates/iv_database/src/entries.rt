@@ -1,6 +1,7 @@
 //! `placed`: the entries of a write at the numbers of their tables, and whether their rows have the right kinds.
 //!
-//! Each name is looked up once; all that comes behind goes by number.
+//! Each name is looked up once; all that comes behind goes by number. `place` takes no memory, so it answers a bare `Refusal`, and
+//! its caller makes the stop.
 ghost use Rattle.std.specs.Prelude.{◌≡◌, ◌+◌, ◌<◌, IfOk, IfErr, OnOk, None, Some};
 ghost use Rattle.std.specs.List.{list_all};
 ghost use Rattle.iv_rows.specs.Columns.{accepts, kinds_of};

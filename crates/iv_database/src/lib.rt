@@ -3,6 +3,9 @@
 //! All requests but those on subscriptions are tested here, and change what is theirs to change. Who reads, and what
 //! readers are sent, is the crate above: iv_engine. Vectors grow by `with_capacity` and `push`: `collect` and `extend` ask for a
 //! smaller size after a refusal, which would hide it from tests that refuse memory.
+//!
+//! Contracts see the machine's frame with no subscription, so a clause here is the machine's own test. Subscriptions add to the tests of
+//! a write alone. Sessions stand here, since each test begins with who acts.
 #![tactic(auto)]
 
 mod changes;

@@ -3,6 +3,9 @@
 //! What is read has the data that `serde_json` reads of the line: what nests deeper than 127, and a number beyond a
 //! float's range, are no JSON, and of a key that stands twice the last value stays, as one key. Names, texts and
 //! values of rows are copied out once, each into memory of its own.
+//!
+//! `json`, on which `serde_json` stands, reads a line in room that is kept from line to line. The value that `serde_json` builds, which
+//! was the first form, took 18 of the 22 requests for memory of an insert of one row. Cost: the proof that both have the same data.
 ghost use Rattle.std.specs.Prelude.{◌≡◌, ◌==◌, ◌<◌, false, true, length, slice_index, IfOk, IsTrue, is_some, option_map};
 ghost use Rattle.json.specs.Value.{value_view, items_view, members_view};
 ghost use Rattle.serde_json.specs.Read as serde_json;
