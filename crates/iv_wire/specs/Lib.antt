@@ -8,5 +8,4 @@ pub mod Ran
 pub mod Reads
 pub mod Sums
 pub mod Texts
-pub mod Tokens
 pub mod Worked
