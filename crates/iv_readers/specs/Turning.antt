@@ -1,8 +1,7 @@
 -- What a change of rights makes of what a role reads.
-use Rattle.std.specs.Prelude.{◌≡◌, ℕ, ℤ, ◌≤◌, ◌==◌, Bool, true, false, List, [], get_or, map, slice_get, Option}
-use Rattle.std.specs.Global.{Global, Vec}
+use Rattle.std.specs.Prelude.{◌≡◌, ℕ, ◌≤◌, ◌==◌, Bool, true, false, List, [], get_or, map, slice_get, Option}
+use Rattle.std.specs.Global.{Global}
 use Rattle.std.specs.declared.rc.Rc.{Rc}
-use Rattle.iv_rows.specs.Cell.{Cell}
 use Rattle.iv_bind.specs.Faults.{if_some}
 use Rattle.iv_readers.specs.Held.{HasMovedTo, no_circuit}
 use Rattle.iv_zset.specs.Weights.{Weighed}
@@ -19,7 +18,7 @@ use Rattle.iv_readers.specs.declared.turns.Outcome.TheVariants as code
 -- as from now on, with the rows that its readers see more; none any more, for want of a privilege or for the limits
 pub data Turn : Type 0 where
   Same : Turn
-  Anew : Running → Option (Rc (Vec (List Cell × ℤ)) Global) → Turn
+  Anew : Running → Option (Rc Weighed Global) → Turn
   Lost : Turn
   Beyond : Turn
 
