@@ -1,6 +1,6 @@
 //! Tests of the worked examples, byte for byte, and of one line that is read or written.
 use crate::replayed::{ANSWERS, REQUESTS, answers, joined, replayed, writes};
-use iv_command::{Act, Command, Line, Privilege, Refusal, Reply};
+use iv_command::{Act, Command, Line, Privilege, Refusal, Reply, SentRows};
 use iv_request::read_line;
 use iv_rows::{Row, Value};
 use iv_wire::write_line;
@@ -210,7 +210,8 @@ fn rows_changed(alloc: Global) -> Result<Vec<(Row, i64)>, AllocError> {
 
 /// The text of their change.
 fn change_written(alloc: Global) -> Result<Vec<u8>, AllocError> {
-    let rows = Rc::new(alloc, rows_changed(alloc)?)?;
+    let rows = SentRows::new(alloc, rows_changed(alloc)?)?;
+    let rows = Rc::new(alloc, rows)?;
     let change = Line::Change {
         session: 4294967295,
         sub: 9223372036854775807,
