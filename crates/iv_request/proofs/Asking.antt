@@ -22,14 +22,7 @@ use Rattle.iv_access.specs.declared.privilege.Privilege.TheVariants.{Select, Ins
 use Rattle.iv_request.specs.Asked.{column_data, privilege_data, entry_data, grantee_text, grantee_data, policy_command_text, act_data, command_data, is_small, is_small_entry, is_small_act}
 use Rattle.iv_request.specs.Request.{each, cell_of, column_of, privilege_of, entry, entry_of, grantee_named, grantee_of, policy_command_named, Scope, scope, policy, is_schema, is_session, command, request}
 use Rattle.iv_command.specs.RowTexts.{cell_data}
-
-left_true : (a b : Bool) → (a && b) ≡ true → a ≡ true
-left_true true b h = refl
-left_true false b h = h
-
-right_true : (a b : Bool) → (a && b) ≡ true → b ≡ true
-right_true true b h = h
-right_true false b h = cc
+use Rattle.iv_request.proofs.Keys.{left_true, right_true}
 
 each_asked : {X : Type 0} (p : X → Bool) (f : Data → Option X) (g : X → Data) → ((x : X) → p x ≡ true → f (g x) ≡ Some x) → (xs : List X) → list_all p xs ≡ true → each f (items_of (map g xs)) ≡ Some xs
 each_asked p f g k [] h = refl

@@ -14,10 +14,11 @@ use Rattle.iv_machine.specs.Well.{is_grantee, is_group, is_positive, is_well_ent
 use Rattle.iv_access.specs.declared.privilege.Privilege.{Privilege}
 use Rattle.iv_access.specs.declared.policy.PolicyCommand.{PolicyCommand}
 use Rattle.iv_access.specs.declared.policy.PolicyCommand.TheVariants as policy_command
-use Rattle.iv_request.specs.Request.{passing, each, list_at, name_at, text_at, is_schema, columns_at, column_of, privileges_at, privilege_of, cell_of, bool_at, given_or, found_or, has, list_of, row_of, update_of, op_at, positive_of, copies_at, entry, entry_of, row_security_of, policy_command_of, grantee_of, grantees_of, everyone, text_if_at, Scope, scope, scope_at, policy, policy_at, policy_of, has_its_texts, create_policy_of, drop_policy_of, entries_at, begin_of, finish_of, create_role_of, create_table_of, create_view_of, grantee_named, grantee_at, Granting, granting, granting_of, grant_by, revoke_by, group_at, Membership, membership, membership_of, grant_role_by, revoke_role_by, write_of, subscribe_of, unsubscribe_of, rights_for, act_for, asked_act, is_session, session_of, command, request}
-
-both : (a b : Bool) → a ≡ true → b ≡ true → (a && b) ≡ true
-both a b p q = rw (p, q) refl
+use Rattle.iv_request.specs.declared.forms.Word.{Word}
+use Rattle.iv_request.specs.declared.forms.Word.TheVariants.{Begin, Finish, CreateRole, CreateTable, CreateView, Grant, Revoke, GrantRole, RevokeRole, RowSecurity, CreatePolicy, DropPolicy, Write, Subscribe, Unsubscribe}
+use Rattle.iv_request.specs.Forms.{Form, form_of, has, has_its_keys}
+use Rattle.iv_request.specs.Request.{passing, each, list_at, name_at, text_at, is_schema, columns_at, column_of, privileges_at, privilege_of, cell_of, bool_at, given_or, found_or, list_of, row_of, update_of, op_at, positive_of, copies_at, entry, entry_of, row_security_of, policy_command_of, grantee_of, grantees_of, everyone, text_if_at, Scope, scope, scope_at, policy, policy_at, policy_of, has_its_texts, create_policy_of, drop_policy_of, entries_at, begin_of, create_role_of, create_table_of, create_view_of, grantee_named, grantee_at, Granting, granting, granting_of, grant_by, revoke_by, group_at, Membership, membership, membership_of, grant_role_by, revoke_role_by, write_of, subscribe_of, unsubscribe_of, act_for, act_of_form, asked_act, is_session, session_of, command, request}
+use Rattle.iv_request.proofs.Keys.{both_true}
 
 -- ---- what holds of a value that there may be
 
@@ -53,7 +54,7 @@ each_passes : {X : Type 0} (p : X → Bool) (f : Data → Option X) → ((d : Da
 each_passes p f h no_items = refl
 each_passes {X} p f h (item d ds) =
     bound (λ (x : X). p x ≡ true) (λ (xs : List X). list_all p xs ≡ true) (λ x. option_map (λ xs. x ∷ xs) (each f ds)) (f d) (h d)
-    (λ x px. mapped (λ (xs : List X). list_all p xs ≡ true) (λ (xs : List X). list_all p xs ≡ true) (λ xs. x ∷ xs) (each f ds) (each_passes p f h ds) (λ xs q. both (p x) (list_all p xs) px q))
+    (λ x px. mapped (λ (xs : List X). list_all p xs ≡ true) (λ (xs : List X). list_all p xs ≡ true) (λ xs. x ∷ xs) (each f ds) (each_passes p f h ds) (λ xs q. both_true (p x) (list_all p xs) px q))
 
 given_well : {X : Type 0} (P : X → Type 0) (x : X) (f : Data → Option X) (o : Option Data) → P x → ((v : Data) → IfSome (f v) P) → IfSome (given_or x f o) P
 given_well P x f None p h = p
@@ -104,13 +105,13 @@ update_well d =
     chosen IsWellOp _ _ None
     (bound (λ (row : List Cell). is_well row ≡ true) IsWellOp (λ old. option_map (machine.update old) (option_and_then row_of (at 1 d))) (option_and_then row_of (at 0 d)) (row_there (at 0 d))
     (λ old p. mapped (λ (row : List Cell). is_well row ≡ true) IsWellOp (machine.update old) (option_and_then row_of (at 1 d)) (row_there (at 1 d))
-    (λ new q. both (is_well old) (is_well new && true) p (both (is_well new) true q refl))))
+    (λ new q. both_true (is_well old) (is_well new && true) p (both_true (is_well new) true q refl))))
     tt
 
 op_well : (d : Data) → IfSome (op_at d) IsWellOp
 op_well d =
-    chosen IsWellOp (has (codes "insert") d) _ _ (mapped (λ (row : List Cell). is_well row ≡ true) IsWellOp machine.insert (option_and_then row_of (get (codes "insert") d)) (row_there (get (codes "insert") d)) (λ row p. both (is_well row) true p refl))
-    (chosen IsWellOp (has (codes "delete") d) _ _ (mapped (λ (row : List Cell). is_well row ≡ true) IsWellOp machine.delete (option_and_then row_of (get (codes "delete") d)) (row_there (get (codes "delete") d)) (λ row p. both (is_well row) true p refl))
+    chosen IsWellOp (has (codes "insert") d) _ _ (mapped (λ (row : List Cell). is_well row ≡ true) IsWellOp machine.insert (option_and_then row_of (get (codes "insert") d)) (row_there (get (codes "insert") d)) (λ row p. both_true (is_well row) true p refl))
+    (chosen IsWellOp (has (codes "delete") d) _ _ (mapped (λ (row : List Cell). is_well row ≡ true) IsWellOp machine.delete (option_and_then row_of (get (codes "delete") d)) (row_there (get (codes "delete") d)) (λ row p. both_true (is_well row) true p refl))
     (bound (λ (x : Data). Unit {0}) IsWellOp update_of (get (codes "update") d) (nothing_more (get (codes "update") d)) (λ x _. update_well x)))
 
 -- a value at a key that need not be there
@@ -128,7 +129,7 @@ entry_well d =
     (bound (λ (s : List ℕ). is_name s ≡ true) (λ (e : machine.Entry). is_well_entry e ≡ true) (λ rel. option_and_then (λ op. option_map (entry rel op) (copies_at d)) (op_at d)) (name_at (codes "on") d) (name_well (codes "on") d)
     (λ rel p. bound IsWellOp (λ (e : machine.Entry). is_well_entry e ≡ true) (λ op. option_map (entry rel op) (copies_at d)) (op_at d) (op_well d)
     (λ op q. mapped (λ (n : ℕ). is_positive n ≡ true) (λ (e : machine.Entry). is_well_entry e ≡ true) (entry rel op) (copies_at d) (found_well (λ (n : ℕ). is_positive n ≡ true) 1 positive_of (codes "copies") d refl positive_well)
-    (λ n r. both (is_name rel) (list_all is_well (rows_in op) && is_positive n) p (both (list_all is_well (rows_in op)) (is_positive n) q r)))))
+    (λ n r. both_true (is_name rel) (list_all is_well (rows_in op) && is_positive n) p (both_true (list_all is_well (rows_in op)) (is_positive n) q r)))))
     tt
 
 entries_well : (d : Data) → IfSome (entries_at d) (λ es. (is_between 1 1000 (length es) ≡ true) × (list_all is_well_entry es ≡ true))
@@ -140,31 +141,24 @@ abbrev IsWellAct : machine.Act → Type 0
 IsWellAct a = is_well_act a ≡ true
 
 begin_well : (d : Data) → IfSome (begin_of d) IsWellAct
-begin_well d = chosen IsWellAct _ _ None (mapped (λ (s : List ℕ). is_name s ≡ true) IsWellAct machine.begin (name_at (codes "role") d) (name_well (codes "role") d) (λ s h. h)) tt
-
-finish_well : (d : Data) → IfSome (finish_of d) IsWellAct
-finish_well d = chosen IsWellAct _ (Some machine.finish) None refl tt
+begin_well d = mapped (λ (s : List ℕ). is_name s ≡ true) IsWellAct machine.begin (name_at (codes "role") d) (name_well (codes "role") d) (λ s h. h)
 
 create_role_well : (d : Data) → IfSome (create_role_of d) IsWellAct
-create_role_well d = chosen IsWellAct _ _ None (mapped (λ (s : List ℕ). is_name s ≡ true) IsWellAct machine.create_role (name_at (codes "name") d) (name_well (codes "name") d) (λ s h. h)) tt
+create_role_well d = mapped (λ (s : List ℕ). is_name s ≡ true) IsWellAct machine.create_role (name_at (codes "name") d) (name_well (codes "name") d) (λ s h. h)
 
 create_table_well : (d : Data) → IfSome (create_table_of d) IsWellAct
 create_table_well d =
-    chosen IsWellAct _ _ None
-    (bound (λ (s : List ℕ). is_name s ≡ true) IsWellAct (λ name. option_and_then (λ owner. option_map (machine.create_table name owner) (columns_at d)) (name_at (codes "owner") d)) (name_at (codes "name") d) (name_well (codes "name") d)
+    bound (λ (s : List ℕ). is_name s ≡ true) IsWellAct (λ name. option_and_then (λ owner. option_map (machine.create_table name owner) (columns_at d)) (name_at (codes "owner") d)) (name_at (codes "name") d) (name_well (codes "name") d)
     (λ name p. bound (λ (s : List ℕ). is_name s ≡ true) IsWellAct (λ owner. option_map (machine.create_table name owner) (columns_at d)) (name_at (codes "owner") d) (name_well (codes "owner") d)
     (λ owner q. mapped (λ (cs : List Column). is_schema cs ≡ true) IsWellAct (machine.create_table name owner) (columns_at d) (columns_well d)
-    (λ cs r. both (is_name name) (is_name owner && is_schema cs) p (both (is_name owner) (is_schema cs) q r)))))
-    tt
+    (λ cs r. both_true (is_name name) (is_name owner && is_schema cs) p (both_true (is_name owner) (is_schema cs) q r))))
 
 create_view_well : (d : Data) → IfSome (create_view_of d) IsWellAct
 create_view_well d =
     let t : Option (List ℕ) = text_at (codes "query") d in
-    chosen IsWellAct _ _ None
-    (bound (λ (s : List ℕ). is_name s ≡ true) IsWellAct (λ name. option_and_then (λ owner. option_map (machine.create_view name owner) t) (name_at (codes "owner") d)) (name_at (codes "name") d) (name_well (codes "name") d)
+    bound (λ (s : List ℕ). is_name s ≡ true) IsWellAct (λ name. option_and_then (λ owner. option_map (machine.create_view name owner) t) (name_at (codes "owner") d)) (name_at (codes "name") d) (name_well (codes "name") d)
     (λ name p. bound (λ (s : List ℕ). is_name s ≡ true) IsWellAct (λ owner. option_map (machine.create_view name owner) t) (name_at (codes "owner") d) (name_well (codes "owner") d)
-    (λ owner q. mapped (λ (s : List ℕ). Unit {0}) IsWellAct (machine.create_view name owner) t (nothing_more t) (λ query _. both (is_name name) (is_name owner) p q))))
-    tt
+    (λ owner q. mapped (λ (s : List ℕ). Unit {0}) IsWellAct (machine.create_view name owner) t (nothing_more t) (λ query _. both_true (is_name name) (is_name owner) p q)))
 
 abbrev IsWellGrantee : Option (List ℕ) → Type 0
 IsWellGrantee to = is_grantee to ≡ true
@@ -183,12 +177,10 @@ IsWellGranting g = is_well_act (grant_by g) ≡ true
 
 granting_well : (d : Data) → IfSome (granting_of d) IsWellGranting
 granting_well d =
-    chosen IsWellGranting _ _ None
-    (bound (λ (s : List ℕ). is_name s ≡ true) IsWellGranting (λ rel. option_and_then (λ to. option_map (granting rel to) (privileges_at d)) (grantee_at d)) (name_at (codes "on") d) (name_well (codes "on") d)
+    bound (λ (s : List ℕ). is_name s ≡ true) IsWellGranting (λ rel. option_and_then (λ to. option_map (granting rel to) (privileges_at d)) (grantee_at d)) (name_at (codes "on") d) (name_well (codes "on") d)
     (λ rel p. bound IsWellGrantee IsWellGranting (λ to. option_map (granting rel to) (privileges_at d)) (grantee_at d) (grantee_well d)
     (λ to q. mapped (λ (ps : List Privilege). is_between 1 4 (length ps) ≡ true) IsWellGranting (granting rel to) (privileges_at d) (privileges_well d)
-    (λ ps r. both (is_name rel) (is_between 1 4 (length ps) && is_grantee to) p (both (is_between 1 4 (length ps)) (is_grantee to) r q)))))
-    tt
+    (λ ps r. both_true (is_name rel) (is_between 1 4 (length ps) && is_grantee to) p (both_true (is_between 1 4 (length ps)) (is_grantee to) r q))))
 
 grant_well : (d : Data) → IfSome (option_map grant_by (granting_of d)) IsWellAct
 grant_well d = mapped IsWellGranting IsWellAct grant_by (granting_of d) (granting_well d) (λ g h. h)
@@ -202,10 +194,8 @@ IsWellMembership m = is_well_act (grant_role_by m) ≡ true
 
 membership_well : (d : Data) → IfSome (membership_of d) IsWellMembership
 membership_well d =
-    chosen IsWellMembership _ _ None
-    (bound (λ (s : List ℕ). is_group s ≡ true) IsWellMembership (λ role. option_map (membership role) (name_at (codes "to") d)) (group_at (codes "role") d) (group_well (codes "role") d)
-    (λ role p. mapped (λ (s : List ℕ). is_name s ≡ true) IsWellMembership (membership role) (name_at (codes "to") d) (name_well (codes "to") d) (λ to q. both (is_group role) (is_name to) p q)))
-    tt
+    bound (λ (s : List ℕ). is_group s ≡ true) IsWellMembership (λ role. option_map (membership role) (name_at (codes "to") d)) (group_at (codes "role") d) (group_well (codes "role") d)
+    (λ role p. mapped (λ (s : List ℕ). is_name s ≡ true) IsWellMembership (membership role) (name_at (codes "to") d) (name_well (codes "to") d) (λ to q. both_true (is_group role) (is_name to) p q))
 
 grant_role_well : (d : Data) → IfSome (option_map grant_role_by (membership_of d)) IsWellAct
 grant_role_well d = mapped IsWellMembership IsWellAct grant_role_by (membership_of d) (membership_well d) (λ m h. h)
@@ -215,11 +205,9 @@ revoke_role_well d = mapped IsWellMembership IsWellAct revoke_role_by (membershi
 
 row_security_well : (d : Data) → IfSome (row_security_of d) IsWellAct
 row_security_well d =
-    chosen IsWellAct _ _ None
-    (bound (λ (s : List ℕ). is_name s ≡ true) IsWellAct (λ rel. option_and_then (λ enable. option_map (machine.row_security rel enable) (bool_at (codes "force") d)) (bool_at (codes "enable") d)) (name_at (codes "on") d) (name_well (codes "on") d)
+    bound (λ (s : List ℕ). is_name s ≡ true) IsWellAct (λ rel. option_and_then (λ enable. option_map (machine.row_security rel enable) (bool_at (codes "force") d)) (bool_at (codes "enable") d)) (name_at (codes "on") d) (name_well (codes "on") d)
     (λ rel p. bound (λ (b : Bool). Unit {0}) IsWellAct (λ enable. option_map (machine.row_security rel enable) (bool_at (codes "force") d)) (bool_at (codes "enable") d) (nothing_more (bool_at (codes "enable") d))
-    (λ enable _. mapped (λ (b : Bool). Unit {0}) IsWellAct (machine.row_security rel enable) (bool_at (codes "force") d) (nothing_more (bool_at (codes "force") d)) (λ force _. p))))
-    tt
+    (λ enable _. mapped (λ (b : Bool). Unit {0}) IsWellAct (machine.row_security rel enable) (bool_at (codes "force") d) (nothing_more (bool_at (codes "force") d)) (λ force _. p)))
 
 -- 1 to 16 grantees, each of them PUBLIC or a name
 abbrev AreGrantees : List (Option (List ℕ)) → Type 0
@@ -259,77 +247,54 @@ policy_at_well s d h =
     (λ using _. mapped (λ (t : Option (List ℕ)). Unit {0}) IsWellBut (policy rel name s using) k (nothing_more k) (λ check _. (p, (q, h))))))
 
 policy_well : (d : Data) → IfSome (policy_of d) IsWellBut
-policy_well d = chosen IsWellBut _ _ None (bound IsWellScope IsWellBut (λ s. policy_at s d) (scope_at d) (scope_well d) (λ s h. policy_at_well s d h)) tt
+policy_well d = bound IsWellScope IsWellBut (λ s. policy_at s d) (scope_at d) (scope_well d) (λ s h. policy_at_well s d h)
 
 create_policy_well : (d : Data) → IfSome (create_policy_of d) IsWellAct
 create_policy_well d =
     mapped (λ (p : machine.PolicyText). (has_its_texts p ≡ true) × IsWellBut p) IsWellAct machine.create_policy (option_and_then (passing has_its_texts) (policy_of d)) (passes IsWellBut has_its_texts (policy_of d) (policy_well d))
-    (λ p h. both (is_name p.rel) _ h.1.0 (both (is_name p.name) _ h.1.1.0 (both (is_between 1 16 (length p.to)) _ h.1.1.1.0 (both (list_all is_grantee p.to) (has_its_texts p) h.1.1.1.1 h.0))))
+    (λ p h. both_true (is_name p.rel) _ h.1.0 (both_true (is_name p.name) _ h.1.1.0 (both_true (is_between 1 16 (length p.to)) _ h.1.1.1.0 (both_true (list_all is_grantee p.to) (has_its_texts p) h.1.1.1.1 h.0))))
 
 drop_policy_well : (d : Data) → IfSome (drop_policy_of d) IsWellAct
 drop_policy_well d =
-    chosen IsWellAct _ _ None
-    (bound (λ (s : List ℕ). is_name s ≡ true) IsWellAct (λ rel. option_map (machine.drop_policy rel) (name_at (codes "name") d)) (name_at (codes "on") d) (name_well (codes "on") d)
-    (λ rel p. mapped (λ (s : List ℕ). is_name s ≡ true) IsWellAct (machine.drop_policy rel) (name_at (codes "name") d) (name_well (codes "name") d) (λ name q. both (is_name rel) (is_name name) p q)))
-    tt
+    bound (λ (s : List ℕ). is_name s ≡ true) IsWellAct (λ rel. option_map (machine.drop_policy rel) (name_at (codes "name") d)) (name_at (codes "on") d) (name_well (codes "on") d)
+    (λ rel p. mapped (λ (s : List ℕ). is_name s ≡ true) IsWellAct (machine.drop_policy rel) (name_at (codes "name") d) (name_well (codes "name") d) (λ name q. both_true (is_name rel) (is_name name) p q))
 
 write_well : (d : Data) → IfSome (write_of d) IsWellAct
 write_well d =
-    chosen IsWellAct _ _ None
-    (mapped (λ (es : List machine.Entry). (is_between 1 1000 (length es) ≡ true) × (list_all is_well_entry es ≡ true)) IsWellAct machine.write (entries_at d) (entries_well d)
-    (λ es h. both (is_between 1 1000 (length es)) (list_all is_well_entry es) h.0 h.1))
-    tt
+    mapped (λ (es : List machine.Entry). (is_between 1 1000 (length es) ≡ true) × (list_all is_well_entry es ≡ true)) IsWellAct machine.write (entries_at d) (entries_well d)
+    (λ es h. both_true (is_between 1 1000 (length es)) (list_all is_well_entry es) h.0 h.1)
 
 subscribe_well : (d : Data) → IfSome (subscribe_of d) IsWellAct
-subscribe_well d = chosen IsWellAct _ _ None (mapped (λ (s : List ℕ). is_name s ≡ true) IsWellAct machine.subscribe (name_at (codes "on") d) (name_well (codes "on") d) (λ s h. h)) tt
+subscribe_well d = mapped (λ (s : List ℕ). is_name s ≡ true) IsWellAct machine.subscribe (name_at (codes "on") d) (name_well (codes "on") d) (λ s h. h)
 
 unsubscribe_well : (d : Data) → IfSome (unsubscribe_of d) IsWellAct
 unsubscribe_well d =
     let o : Option Data = get (codes "sub") d in
-    chosen IsWellAct _ _ None
-    (mapped (λ (n : ℕ). is_positive n ≡ true) IsWellAct machine.unsubscribe (option_and_then positive_of o)
-    (bound (λ (x : Data). Unit {0}) (λ (n : ℕ). is_positive n ≡ true) positive_of o (nothing_more o) (λ x _. positive_well x)) (λ n h. h))
-    tt
+    mapped (λ (n : ℕ). is_positive n ≡ true) IsWellAct machine.unsubscribe (option_and_then positive_of o)
+    (bound (λ (x : Data). Unit {0}) (λ (n : ℕ). is_positive n ≡ true) positive_of o (nothing_more o) (λ x _. positive_well x)) (λ n h. h)
 
-rights_well : (word : List ℕ) (d : Data) → IfSome (rights_for word d) IsWellAct
-rights_well word d =
-    let is : List ℕ → Bool = λ w. bytes_eq word w in
-    let from_drop_policy : Option machine.Act = cond (is (codes "drop_policy")) (drop_policy_of d) None in
-    let from_create_policy : Option machine.Act = cond (is (codes "create_policy")) (create_policy_of d) from_drop_policy in
-    let from_row_security : Option machine.Act = cond (is (codes "row_security")) (row_security_of d) from_create_policy in
-    let from_revoke_role : Option machine.Act = cond (is (codes "revoke_role")) (option_map revoke_role_by (membership_of d)) from_row_security in
-    let from_grant_role : Option machine.Act = cond (is (codes "grant_role")) (option_map grant_role_by (membership_of d)) from_revoke_role in
-    let from_revoke : Option machine.Act = cond (is (codes "revoke")) (option_map revoke_by (granting_of d)) from_grant_role in
-    chosen IsWellAct (is (codes "grant")) (option_map grant_by (granting_of d)) from_revoke (grant_well d)
-    (chosen IsWellAct (is (codes "revoke")) (option_map revoke_by (granting_of d)) from_grant_role (revoke_well d)
-    (chosen IsWellAct (is (codes "grant_role")) (option_map grant_role_by (membership_of d)) from_revoke_role (grant_role_well d)
-    (chosen IsWellAct (is (codes "revoke_role")) (option_map revoke_role_by (membership_of d)) from_row_security (revoke_role_well d)
-    (chosen IsWellAct (is (codes "row_security")) (row_security_of d) from_create_policy (row_security_well d)
-    (chosen IsWellAct (is (codes "create_policy")) (create_policy_of d) from_drop_policy (create_policy_well d)
-    (chosen IsWellAct (is (codes "drop_policy")) (drop_policy_of d) None (drop_policy_well d) tt))))))
-
-act_well : (word : List ℕ) (d : Data) → IfSome (act_for word d) IsWellAct
-act_well word d =
-    let is : List ℕ → Bool = λ w. bytes_eq word w in
-    let rights : Option machine.Act = rights_for word d in
-    let from_unsubscribe : Option machine.Act = cond (is (codes "unsubscribe")) (unsubscribe_of d) rights in
-    let from_subscribe : Option machine.Act = cond (is (codes "subscribe")) (subscribe_of d) from_unsubscribe in
-    let from_write : Option machine.Act = cond (is (codes "write")) (write_of d) from_subscribe in
-    let from_create_view : Option machine.Act = cond (is (codes "create_view")) (create_view_of d) from_write in
-    let from_create_table : Option machine.Act = cond (is (codes "create_table")) (create_table_of d) from_create_view in
-    let from_create_role : Option machine.Act = cond (is (codes "create_role")) (create_role_of d) from_create_table in
-    let from_finish : Option machine.Act = cond (is (codes "finish")) (finish_of d) from_create_role in
-    chosen IsWellAct (is (codes "begin")) (begin_of d) from_finish (begin_well d)
-    (chosen IsWellAct (is (codes "finish")) (finish_of d) from_create_role (finish_well d)
-    (chosen IsWellAct (is (codes "create_role")) (create_role_of d) from_create_table (create_role_well d)
-    (chosen IsWellAct (is (codes "create_table")) (create_table_of d) from_create_view (create_table_well d)
-    (chosen IsWellAct (is (codes "create_view")) (create_view_of d) from_write (create_view_well d)
-    (chosen IsWellAct (is (codes "write")) (write_of d) from_subscribe (write_well d)
-    (chosen IsWellAct (is (codes "subscribe")) (subscribe_of d) from_unsubscribe (subscribe_well d)
-    (chosen IsWellAct (is (codes "unsubscribe")) (unsubscribe_of d) rights (unsubscribe_well d) (rights_well word d))))))))
+act_well : (word : Word) (d : Data) → IfSome (act_for word d) IsWellAct
+act_well Begin d = begin_well d
+act_well Finish d = refl
+act_well CreateRole d = create_role_well d
+act_well CreateTable d = create_table_well d
+act_well CreateView d = create_view_well d
+act_well Grant d = grant_well d
+act_well Revoke d = revoke_well d
+act_well GrantRole d = grant_role_well d
+act_well RevokeRole d = revoke_role_well d
+act_well RowSecurity d = row_security_well d
+act_well CreatePolicy d = create_policy_well d
+act_well DropPolicy d = drop_policy_well d
+act_well Write d = write_well d
+act_well Subscribe d = subscribe_well d
+act_well Unsubscribe d = unsubscribe_well d
 
 asked_well : (d : Data) → IfSome (asked_act d) IsWellAct
-asked_well d = bound (λ _. Unit {0}) IsWellAct (λ word. act_for word d) (text_at (codes "do") d) (nothing_more (text_at (codes "do") d)) (λ word _. act_well word d)
+asked_well d =
+    let o : Option Form = option_and_then form_of (text_at (codes "do") d) in
+    bound (λ (f : Form). Unit {0}) IsWellAct (act_of_form d) o (nothing_more o)
+    (λ f _. chosen IsWellAct (has_its_keys f d) (act_for f.word d) None (act_well f.word d) tt)
 
 session_well : (d : Data) → IfSome (session_of d) (λ n. is_session n ≡ true)
 session_well d =
@@ -339,7 +304,7 @@ session_well d =
 pub request_well : (d : Data) → IfSome (request d) (λ c. is_well_command c ≡ true)
 request_well d =
     bound (λ (n : ℕ). is_session n ≡ true) (λ (c : machine.Command). is_well_command c ≡ true) (λ n. option_map (command n) (asked_act d)) (session_of d) (session_well d)
-    (λ n p. mapped IsWellAct (λ (c : machine.Command). is_well_command c ≡ true) (command n) (asked_act d) (asked_well d) (λ a q. both (is_session n) (is_well_act a) p q))
+    (λ n p. mapped IsWellAct (λ (c : machine.Command). is_well_command c ≡ true) (command n) (asked_act d) (asked_well d) (λ a q. both_true (is_session n) (is_well_act a) p q))
 
 -- the command that was read
 pub well_by : (d : Data) (c : machine.Command) → Some c ≡ request d → is_well_command c ≡ true

@@ -1,6 +1,8 @@
 pub mod Asked
 pub mod Documents
+pub mod Forms
 pub mod Names
+pub mod Order
 pub mod Reading
 pub mod Request
 pub mod Values

@@ -1,5 +1,5 @@
 -- The shape rules: which command a JSON value is.
-use Rattle.std.specs.Prelude.{ℕ, ◌^◌, ◌==◌, ◌&&◌, Bool, false, List, [], ◌∷◌, ◌+◌, codes, length, nat_le, nat_lt, bytes_eq, count_by, is_some, Option, Some, None, option_map, option_and_then, if◌then◌else◌}
+use Rattle.std.specs.Prelude.{ℕ, ◌^◌, ◌==◌, ◌&&◌, Bool, false, List, [], ◌∷◌, codes, length, nat_le, nat_lt, bytes_eq, Option, Some, None, option_map, option_and_then, if◌then◌else◌}
 use Rattle.iv_rows.specs.Cell.{Cell, num, text, flag}
 use Rattle.iv_rows.specs.Columns.{Column, has_columns, has_distinct_names}
 use Rattle.iv_rows.specs.Names.{is_name}
@@ -12,19 +12,14 @@ use Rattle.iv_access.specs.declared.privilege.Privilege.{Privilege}
 use Rattle.iv_access.specs.declared.privilege.Privilege.TheVariants.{Select, Insert, Update, Delete}
 use Rattle.iv_access.specs.declared.policy.PolicyCommand.{PolicyCommand}
 use Rattle.iv_access.specs.declared.policy.PolicyCommand.TheVariants as policy_command
-use Rattle.serde_json.specs.Data.{Data, null, boolean, number, string, array, object, Items, no_items, item, Members}
-use Rattle.serde_json.specs.Events.{members_len, items_len}
-use Rattle.serde_json.specs.Find.{get, at, as_bool, as_str, as_number, as_u64, as_i64, as_array, as_object}
+use Rattle.serde_json.specs.Data.{Data, null, boolean, number, string, array, object, Items, no_items, item}
+use Rattle.serde_json.specs.Events.{items_len}
+use Rattle.serde_json.specs.Find.{get, at, as_bool, as_str, as_number, as_u64, as_i64, as_array}
+use Rattle.iv_request.specs.Forms.{Form, form_of, has, has_only, has_its_keys}
+use Rattle.iv_request.specs.declared.forms.Word.{Word}
+use Rattle.iv_request.specs.declared.forms.Word.TheVariants.{Begin, Finish, CreateRole, CreateTable, CreateView, Grant, Revoke, GrantRole, RevokeRole, RowSecurity, CreatePolicy, DropPolicy, Write, Subscribe, Unsubscribe}
 
 -- ---- parts of a value
-
-abbrev pub size_of : Option Members → ℕ
-size_of None = 0
-size_of (Some ms) = members_len ms
-
--- how many keys an object has; no key stands twice
-abbrev pub size : Data → ℕ
-size d = size_of (as_object d)
 
 abbrev pub count_of : Option Items → ℕ
 count_of None = 0
@@ -73,13 +68,6 @@ given_or x f (Some d) = f d
 -- what the value at a key is, and x where the key is not there
 abbrev pub found_or : {X : Type 0} → X → (Data → Option X) → List ℕ → Data → Option X
 found_or x f key d = given_or x f (get key d)
-
-abbrev pub has : List ℕ → Data → Bool
-has key d = is_some (get key d)
-
--- how many of the keys are there
-abbrev pub present : List (List ℕ) → Data → ℕ
-present keys d = count_by (λ key. has key d) keys
 
 -- ---- the parts of requests
 
@@ -156,10 +144,14 @@ copies_at d = found_or 1 positive_of (codes "copies") d
 abbrev pub entry : List ℕ → machine.Op → ℕ → machine.Entry
 entry rel op copies = record { rel = rel; op = op; copies = copies }
 
--- the keys are `on`, one of what it does, and `copies` where that is there
+-- the key of what the entry does: the first of these that is there
+abbrev pub does_at : Data → List ℕ
+does_at d = if has (codes "insert") d then codes "insert" else if has (codes "delete") d then codes "delete" else codes "update"
+
+-- the keys are `on`, what it does, and `copies` where that is there
 abbrev pub entry_of : Data → Option machine.Entry
 entry_of d =
-    if size d == 2 + present (codes "copies" ∷ []) d
+    if has_only (codes "on" ∷ does_at d ∷ codes "copies" ∷ []) d
     then option_and_then (λ rel. option_and_then (λ op. option_map (entry rel op) (copies_at d)) (op_at d)) (name_at (codes "on") d)
     else None
 
@@ -167,33 +159,26 @@ entry_of d =
 abbrev pub entries_at : Data → Option (List machine.Entry)
 entries_at d = option_and_then (passing (λ es. is_between 1 1000 (length es))) (list_at entry_of (codes "entries") d)
 
--- ---- requests: the keys are `do`, `session` and the ones that are looked for; each is there, and there are no more
+-- ---- requests, once their keys are those of their form
 
 abbrev pub begin_of : Data → Option machine.Act
-begin_of d = if size d == 3 then option_map machine.begin (name_at (codes "role") d) else None
-
-abbrev pub finish_of : Data → Option machine.Act
-finish_of d = if size d == 2 then Some machine.finish else None
+begin_of d = option_map machine.begin (name_at (codes "role") d)
 
 abbrev pub create_role_of : Data → Option machine.Act
-create_role_of d = if size d == 3 then option_map machine.create_role (name_at (codes "name") d) else None
+create_role_of d = option_map machine.create_role (name_at (codes "name") d)
 
 abbrev pub create_table_of : Data → Option machine.Act
 create_table_of d =
-    if size d == 5
-    then option_and_then
+    option_and_then
     (λ name. option_and_then (λ owner. option_map (machine.create_table name owner) (columns_at d))
     (name_at (codes "owner") d)) (name_at (codes "name") d)
-    else None
 
 -- the query may be any text
 abbrev pub create_view_of : Data → Option machine.Act
 create_view_of d =
-    if size d == 5
-    then option_and_then
+    option_and_then
     (λ name. option_and_then (λ owner. option_map (machine.create_view name owner) (text_at (codes "query") d))
     (name_at (codes "owner") d)) (name_at (codes "name") d)
-    else None
 
 -- no role where it is `public`; that word is no name
 abbrev pub grantee_named : List ℕ → Option (Option (List ℕ))
@@ -212,10 +197,7 @@ abbrev pub granting : List ℕ → Option (List ℕ) → List Privilege → Gran
 granting rel to ps = record { rel = rel; privileges = ps; to = to }
 
 abbrev pub granting_of : Data → Option Granting
-granting_of d =
-    if size d == 5
-    then option_and_then (λ rel. option_and_then (λ to. option_map (granting rel to) (privileges_at d)) (grantee_at d)) (name_at (codes "on") d)
-    else None
+granting_of d = option_and_then (λ rel. option_and_then (λ to. option_map (granting rel to) (privileges_at d)) (grantee_at d)) (name_at (codes "on") d)
 
 abbrev pub grant_by : Granting → machine.Act
 grant_by g = machine.grant g.rel g.privileges g.to
@@ -236,10 +218,7 @@ abbrev pub membership : List ℕ → List ℕ → Membership
 membership role to = record { role = role; to = to }
 
 abbrev pub membership_of : Data → Option Membership
-membership_of d =
-    if size d == 4
-    then option_and_then (λ role. option_map (membership role) (name_at (codes "to") d)) (group_at (codes "role") d)
-    else None
+membership_of d = option_and_then (λ role. option_map (membership role) (name_at (codes "to") d)) (group_at (codes "role") d)
 
 abbrev pub grant_role_by : Membership → machine.Act
 grant_role_by m = machine.grant_role m.role m.to
@@ -249,11 +228,9 @@ revoke_role_by m = machine.revoke_role m.role m.to
 
 abbrev pub row_security_of : Data → Option machine.Act
 row_security_of d =
-    if size d == 5
-    then option_and_then
+    option_and_then
     (λ rel. option_and_then (λ enable. option_map (machine.row_security rel enable) (bool_at (codes "force") d)) (bool_at (codes "enable") d))
     (name_at (codes "on") d)
-    else None
 
 abbrev pub policy_command_named : List ℕ → Option PolicyCommand
 policy_command_named s =
@@ -333,12 +310,8 @@ policy_at s d =
     (name_at (codes "name") d))
     (name_at (codes "on") d)
 
--- the keys that need not be there
-abbrev pub policy_keys : List (List ℕ)
-policy_keys = codes "restrictive" ∷ codes "command" ∷ codes "to" ∷ codes "using" ∷ codes "check" ∷ []
-
 abbrev pub policy_of : Data → Option machine.PolicyText
-policy_of d = if size d == 4 + present policy_keys d then option_and_then (λ s. policy_at s d) (scope_at d) else None
+policy_of d = option_and_then (λ s. policy_at s d) (scope_at d)
 
 -- it has the texts that its command asks for, and no other
 abbrev pub has_its_texts : machine.PolicyText → Bool
@@ -348,43 +321,34 @@ abbrev pub create_policy_of : Data → Option machine.Act
 create_policy_of d = option_map machine.create_policy (option_and_then (passing has_its_texts) (policy_of d))
 
 abbrev pub drop_policy_of : Data → Option machine.Act
-drop_policy_of d =
-    if size d == 4
-    then option_and_then (λ rel. option_map (machine.drop_policy rel) (name_at (codes "name") d)) (name_at (codes "on") d)
-    else None
+drop_policy_of d = option_and_then (λ rel. option_map (machine.drop_policy rel) (name_at (codes "name") d)) (name_at (codes "on") d)
 
 abbrev pub write_of : Data → Option machine.Act
-write_of d = if size d == 3 then option_map machine.write (entries_at d) else None
+write_of d = option_map machine.write (entries_at d)
 
 abbrev pub subscribe_of : Data → Option machine.Act
-subscribe_of d = if size d == 3 then option_map machine.subscribe (name_at (codes "on") d) else None
+subscribe_of d = option_map machine.subscribe (name_at (codes "on") d)
 
 abbrev pub unsubscribe_of : Data → Option machine.Act
-unsubscribe_of d = if size d == 3 then option_map machine.unsubscribe (option_and_then positive_of (get (codes "sub") d)) else None
+unsubscribe_of d = option_map machine.unsubscribe (option_and_then positive_of (get (codes "sub") d))
 
--- what the words for privileges, memberships and policies ask
-abbrev pub rights_for : List ℕ → Data → Option machine.Act
-rights_for word d =
-    if bytes_eq word (codes "grant") then option_map grant_by (granting_of d)
-    else if bytes_eq word (codes "revoke") then option_map revoke_by (granting_of d)
-    else if bytes_eq word (codes "grant_role") then option_map grant_role_by (membership_of d)
-    else if bytes_eq word (codes "revoke_role") then option_map revoke_role_by (membership_of d)
-    else if bytes_eq word (codes "row_security") then row_security_of d
-    else if bytes_eq word (codes "create_policy") then create_policy_of d
-    else if bytes_eq word (codes "drop_policy") then drop_policy_of d
-    else None
-
-abbrev pub act_for : List ℕ → Data → Option machine.Act
-act_for word d =
-    if bytes_eq word (codes "begin") then begin_of d
-    else if bytes_eq word (codes "finish") then finish_of d
-    else if bytes_eq word (codes "create_role") then create_role_of d
-    else if bytes_eq word (codes "create_table") then create_table_of d
-    else if bytes_eq word (codes "create_view") then create_view_of d
-    else if bytes_eq word (codes "write") then write_of d
-    else if bytes_eq word (codes "subscribe") then subscribe_of d
-    else if bytes_eq word (codes "unsubscribe") then unsubscribe_of d
-    else rights_for word d
+-- what a request of this word asks
+abbrev pub act_for : Word → Data → Option machine.Act
+act_for Begin d = begin_of d
+act_for Finish d = Some machine.finish
+act_for CreateRole d = create_role_of d
+act_for CreateTable d = create_table_of d
+act_for CreateView d = create_view_of d
+act_for Grant d = option_map grant_by (granting_of d)
+act_for Revoke d = option_map revoke_by (granting_of d)
+act_for GrantRole d = option_map grant_role_by (membership_of d)
+act_for RevokeRole d = option_map revoke_role_by (membership_of d)
+act_for RowSecurity d = row_security_of d
+act_for CreatePolicy d = create_policy_of d
+act_for DropPolicy d = drop_policy_of d
+act_for Write d = write_of d
+act_for Subscribe d = subscribe_of d
+act_for Unsubscribe d = unsubscribe_of d
 
 -- 1 to 2^32 - 1
 abbrev pub is_session : ℕ → Bool
@@ -393,8 +357,12 @@ is_session n = nat_le 1 n && nat_lt n (2 ^ 32)
 abbrev pub session_of : Data → Option ℕ
 session_of d = option_and_then (passing is_session) (option_and_then as_u64 (option_and_then as_number (get (codes "session") d)))
 
+-- what a request of this form asks, where its keys are those of the form
+abbrev pub act_of_form : Data → Form → Option machine.Act
+act_of_form d f = if has_its_keys f d then act_for f.word d else None
+
 abbrev pub asked_act : Data → Option machine.Act
-asked_act d = option_and_then (λ word. act_for word d) (text_at (codes "do") d)
+asked_act d = option_and_then (act_of_form d) (option_and_then form_of (text_at (codes "do") d))
 
 abbrev pub command : ℕ → machine.Act → machine.Command
 command n act = record { session = n; act = act }

@@ -6,11 +6,10 @@ ghost use Rattle.iv_rows.specs.Texts.{is_well_cell};
 ghost use Rattle.iv_rows.specs.View as iv_rows;
 ghost use Rattle.iv_command.specs.Entries as entries;
 ghost use Rattle.iv_request.specs.Documents.{value_data, items_data};
-ghost use Rattle.iv_request.specs.Request.{cell_of, each, passing, row_of, update_of, op_at, positive_of, entry_of, entries_at};
+ghost use Rattle.iv_request.specs.Request.{cell_of, each, passing, row_of, update_of, op_at, positive_of, does_at, entry_of, entries_at};
 
-use crate::parts::{
-    count, get, has_size, i64_of, item_at, items_at, items_of, positive_of, string_at,
-};
+use crate::forms::has_only;
+use crate::parts::{count, get, has, i64_of, item_at, items_at, items_of, positive_of, string_at};
 use iv_command::{Entry, Op};
 use iv_rows::{Row, Value};
 use json::Value as Json;
@@ -119,18 +118,30 @@ fn copies_of(value: &Json<'_>) -> Option<i64>
     }
 }
 
+/// The key of what an entry does.
+fn does_at(value: &Json<'_>) -> &'static str
+    ensures { result.now ≡ does_at (value_data value.now) }
+{
+    if has(value, "insert") {
+        "insert"
+    } else if has(value, "delete") {
+        "delete"
+    } else {
+        "update"
+    }
+}
+
 /// The entry of a write that a JSON value is.
 fn entry_of(alloc: Global, value: &Json<'_>) -> Result<Option<Entry>, AllocError>
     ensures { IfOk result (λ found. found ≡ entry_of (value_data value.now)) }
 {
-    // Without `copies` the keys are `on` and what it does, for 1 copy.
-    let (keys, copies) = match get(value, "copies") {
-        None => (2, Some(1)),
-        Some(copies) => (3, copies_of(copies)),
-    };
-    if !has_size(value, keys) {
+    if !has_only(value, &["on"], &[does_at(value)], &["copies"]) {
         return Ok(None);
     }
+    let copies = match get(value, "copies") {
+        None => Some(1),
+        Some(copies) => copies_of(copies),
+    };
     let Some(rel) = string_at(alloc, value, "on")? else {
         return Ok(None);
     };

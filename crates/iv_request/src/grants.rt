@@ -4,7 +4,7 @@ ghost use Rattle.iv_request.specs.Documents.{value_data, items_data};
 ghost use Rattle.iv_command.specs.Views.{act_of};
 ghost use Rattle.iv_request.specs.Request.{each, privilege_named, privilege_of, privileges_at, grantee_named, grantee_at, granting_of, grant_by, revoke_by};
 
-use crate::parts::{has_size, items_at, string_at, text_at, text_of};
+use crate::parts::{items_at, string_at, text_at, text_of};
 use iv_command::{Act, Privilege};
 use iv_rows::name_ok;
 use json::Value as Json;
@@ -146,13 +146,10 @@ impl Granting {
     }
 }
 
-/// What the request names, where it has these keys alone.
+/// What the request names.
 pub fn granting_of(alloc: Global, value: &Json<'_>) -> Result<Option<Granting>, AllocError>
     ensures { IfOk result (λ found. found ≡ granting_of (value_data value.now)) }
 {
-    if !has_size(value, 5) {
-        return Ok(None);
-    }
     match string_at(alloc, value, "on")? {
         None => Ok(None),
         Some(rel) => match grantee_at(alloc, value)? {

@@ -1,10 +1,12 @@
 //! Laws of which command a JSON value asks for, and requests worked out.
 //! Each is the contract of a function that does nothing.
-ghost use Rattle.std.specs.Prelude.{◌≡◌, ◌∷◌, [], codes, Some, None, IfSome, true, false};
+ghost use Rattle.std.specs.Prelude.{◌≡◌, ℕ, List, ◌∷◌, [], codes, Some, None, IfSome, true, false};
 ghost use Rattle.iv_machine.specs.Act as machine;
 ghost use Rattle.iv_machine.specs.Well.{is_well_command};
 ghost use Rattle.iv_access.specs.declared.privilege.Privilege.TheVariants as privilege;
 ghost use Rattle.iv_request.specs.Asked.{command_data, is_small_act};
+ghost use Rattle.iv_request.specs.Order.{HaveTheSame, IsReordered};
+ghost use Rattle.iv_request.specs.Reading.{reading_of, value_of};
 ghost use Rattle.iv_request.specs.Request.{request};
 ghost use Rattle.iv_request.specs.Worked.{IsAsked, IsNotAsked, ann, notes, notes_columns, first_row, table_line, grant_line, revoke_line, write_line};
 ghost use Rattle.iv_request.specs.Worked.{membership_line, team};
@@ -80,6 +82,17 @@ pub fn unshapely_values_are_refused()
     ensures no_subscription { IsNotAsked (unsubscribe_line (codes "0")) }
     ensures beyond { IsNotAsked (unsubscribe_line (codes "9223372036854775808")) }
     ensures finish { IsNotAsked (codes "{\"do\":\"finish\",\"session\":1,\"sub\":1}") }
+{}
+
+/// The order of keys does not matter: two values in which each key has the same value, or is in neither, are the same
+/// request, and so are two that differ in the order of keys alone, also of the keys of the values in them, as of entries.
+/// Two lines of such values are read alike. Two lines whose keys stand in the reverse of the usual order are worked out.
+pub fn keys_stand_in_any_order()
+    ensures of_requests { (d e : Data) → HaveTheSame d e → request d ≡ request e }
+    ensures of_entries { (d e : Data) → IsReordered d e → request d ≡ request e }
+    ensures of_lines { (a b : List ℕ) (d e : Data) → value_of a ≡ Some d → value_of b ≡ Some e → IsReordered d e → reading_of a ≡ reading_of b }
+    ensures begin { IsAsked (codes "{\"session\":1,\"role\":\"admin\",\"do\":\"begin\"}") 1 (machine.begin (codes "admin")) }
+    ensures write { IsAsked (codes "{\"session\":1,\"entries\":[{\"copies\":7,\"insert\":[1,\"ann\"],\"on\":\"notes\"}],\"do\":\"write\"}") 1 (one_entry (machine.insert first_row) 7) }
 {}
 
 /// Each command that a JSON value is keeps the rules of commands.

@@ -4,6 +4,7 @@
 mod columns;
 mod documents;
 mod entries;
+mod forms;
 mod grants;
 pub mod laws;
 mod memberships;

@@ -5,7 +5,7 @@ ghost use Rattle.iv_request.specs.Documents.{value_data};
 ghost use Rattle.iv_command.specs.Views.{act_of};
 ghost use Rattle.iv_request.specs.Request.{group_at, membership_of, grant_role_by, revoke_role_by};
 
-use crate::parts::{has_size, string_at, text_at};
+use crate::parts::{string_at, text_at};
 use iv_command::Act;
 use iv_rows::name_ok;
 use json::Value as Json;
@@ -69,13 +69,10 @@ impl Membership {
     }
 }
 
-/// What the request names, where it has these keys alone.
+/// What the request names.
 pub fn membership_of(alloc: Global, value: &Json<'_>) -> Result<Option<Membership>, AllocError>
     ensures { IfOk result (λ found. found ≡ membership_of (value_data value.now)) }
 {
-    if !has_size(value, 4) {
-        return Ok(None);
-    }
     let Some(role) = group_at(alloc, value, "role")? else {
         return Ok(None);
     };

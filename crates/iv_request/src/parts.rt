@@ -1,15 +1,9 @@
-//! Parts of a JSON value: the text, name, number, truth value or list at a key, and how many keys there are.
-//!
-//! "No further keys" is the number of keys, with each key there: an object has no key twice once it is read. Where
-//! some keys need not be there, it is the number of those that must be, and of those of the others that are.
-ghost use Rattle.std.specs.Prelude.{◌≡◌, ◌==◌, ◌≤◌, IfOk, bytes_eq, false, length, map, option_map, option_and_then, string_bytes};
-ghost use Rattle.std.specs.List.{list_any};
-ghost use Rattle.json.specs.Value.{members_view};
-ghost use Rattle.serde_json.specs.Data.{no_members};
-ghost use Rattle.serde_json.specs.Events.{members_len};
+//! Parts of a JSON value: the text, name, number, truth value or list at a key, and whether a key is there.
+ghost use Rattle.std.specs.Prelude.{◌≡◌, IfOk, option_map, option_and_then, string_bytes};
 ghost use Rattle.serde_json.specs.Find.{get, at, as_array, as_bool, as_number, as_str, as_i64, as_u64};
-ghost use Rattle.iv_request.specs.Documents.{value_data, items_data, members_of};
-ghost use Rattle.iv_request.specs.Request.{size, count, text_at, name_at, bool_at, positive_of, has, present};
+ghost use Rattle.iv_request.specs.Documents.{value_data, items_data};
+ghost use Rattle.iv_request.specs.Forms.{has};
+ghost use Rattle.iv_request.specs.Request.{count, text_at, name_at, bool_at, positive_of};
 
 use crate::documents::number_of;
 use iv_rows::name_ok;
@@ -18,46 +12,6 @@ use std::alloc::{AllocError, Global};
 
 /// The greatest number that is read: a signed one of 64 bits.
 const MOST: u64 = 9_223_372_036_854_775_807;
-
-/// As many keys as a request may have: those of a policy.
-const MOST_KEYS: usize = 9;
-
-/// Whether a key is one of these.
-fn stands(keys: &[&str], key: &str) -> bool
-    ensures { result ≡ list_any (λ k. bytes_eq k.now key.now) keys.now }
-{
-    keys.iter().any(|k| *k == key)
-}
-
-/// Whether there are so many keys, where a key that stands twice is one.
-fn has_keys(members: &Vec<(&str, Json<'_>)>, size: usize) -> bool
-    requires { size ≤ 9 }
-    ensures { result ≡ (members_len (members_of (members_view members.now.items) no_members) == size) }
-{
-    let mut keys = [""; MOST_KEYS];
-    let mut count = 0;
-    for member in members {
-        if !stands(&keys[..count], member.0) {
-            if count == size {
-                return false;
-            }
-            keys[count] = member.0;
-            count += 1;
-        }
-    }
-    count == size
-}
-
-/// Whether the value has so many keys, 0 where it is no object.
-pub fn has_size(value: &Json<'_>, keys: usize) -> bool
-    requires { keys ≤ 9 }
-    ensures { result ≡ (size (value_data value.now) == keys) }
-{
-    match value {
-        Json::Object(members) => has_keys(members, keys),
-        _ => keys == 0,
-    }
-}
 
 /// How many items a list has, and 0 where it is none.
 pub fn count(value: &Json<'_>) -> usize
@@ -189,12 +143,4 @@ pub fn has(value: &Json<'_>, key: &str) -> bool
     ensures { result ≡ has key.now (value_data value.now) }
 {
     get(value, key).is_some()
-}
-
-/// How many of the keys are there.
-pub fn present(value: &Json<'_>, keys: &[&str]) -> usize
-    ensures present { result ≡ present (map (λ key. key.now) keys.now) (value_data value.now) }
-    ensures within { result ≤ length keys.now }
-{
-    keys.iter().filter(|key| has(value, key)).count()
 }

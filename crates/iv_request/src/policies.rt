@@ -7,7 +7,7 @@ ghost use Rattle.iv_request.specs.Request.{each, everyone, grantee_of, grantees_
 ghost use Rattle.iv_request.specs.Request.{restrictive_at, text_if_at, scope_at, policy_at, policy_of, row_security_of, create_policy_of, drop_policy_of};
 
 use crate::grants::grantee_named;
-use crate::parts::{bool_at, bool_of, get, has_size, items_of, present, string_at, text_of};
+use crate::parts::{bool_at, bool_of, get, items_of, string_at, text_of};
 use iv_command::{Act, PolicyCommand, PolicyText, has_texts};
 use json::Value as Json;
 use std::alloc::{AllocError, Global};
@@ -16,16 +16,10 @@ use std::marker::Model;
 /// The greatest number of grantees of a policy.
 const MOST_GRANTEES: usize = 16;
 
-/// The keys of a policy that need not be there.
-const POLICY_KEYS: [&str; 5] = ["restrictive", "command", "to", "using", "check"];
-
 /// The request that puts policies into effect or out of it.
 pub fn row_security_of(alloc: Global, value: &Json<'_>) -> Result<Option<Act>, AllocError>
     ensures { IfOk result (λ act. option_map act_of act ≡ row_security_of (value_data value.now)) }
 {
-    if !has_size(value, 5) {
-        return Ok(None);
-    }
     let Some(rel) = string_at(alloc, value, "on")? else {
         return Ok(None);
     };
@@ -242,9 +236,6 @@ fn policy_at(
 fn policy_of(alloc: Global, value: &Json<'_>) -> Result<Option<PolicyText>, AllocError>
     ensures { IfOk result (λ found. found ≡ policy_of (value_data value.now)) }
 {
-    if !has_size(value, 4 + present(value, &POLICY_KEYS)) {
-        return Ok(None);
-    }
     match scope_at(alloc, value)? {
         None => Ok(None),
         Some(scope) => policy_at(alloc, scope, value),
@@ -271,9 +262,6 @@ pub fn create_policy_of(alloc: Global, value: &Json<'_>) -> Result<Option<Act>, 
 pub fn drop_policy_of(alloc: Global, value: &Json<'_>) -> Result<Option<Act>, AllocError>
     ensures { IfOk result (λ act. option_map act_of act ≡ drop_policy_of (value_data value.now)) }
 {
-    if !has_size(value, 4) {
-        return Ok(None);
-    }
     let Some(rel) = string_at(alloc, value, "on")? else {
         return Ok(None);
     };

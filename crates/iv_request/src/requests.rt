@@ -1,17 +1,18 @@
 //! `command_in`, `read_line`: from a line to its command, by the shape rules: which request a JSON value is.
-ghost use Rattle.std.specs.Prelude.{◌≡◌, IfOk, IsErrOf, bytes_eq, codes, false, option_map, true};
+ghost use Rattle.std.specs.Prelude.{◌≡◌, IfOk, IsErrOf, option_map, true};
 ghost use Rattle.iv_machine.specs.Well.{is_well_command};
 ghost use Rattle.iv_command.specs.Views.{act_of, command_of};
-ghost use Rattle.iv_request.specs.Request.{session_of, begin_of, finish_of, create_role_of, create_table_of, create_view_of, write_of, subscribe_of, unsubscribe_of, rights_for, act_for, asked_act, request};
+ghost use Rattle.iv_request.specs.Request.{session_of, begin_of, create_role_of, create_table_of, create_view_of, write_of, subscribe_of, unsubscribe_of, act_for, asked_act, request};
 ghost use Rattle.iv_request.specs.Documents.{value_data};
 ghost use Rattle.iv_request.specs.Reading.{bad_json, bad_request, asked, reading_of, value_of};
 
 use crate::columns::columns_at;
 use crate::documents::read;
 use crate::entries::entries_at;
+use crate::forms::{Word, form_of, has_its_keys};
 use crate::grants::{Granting, granting_of};
 use crate::memberships::{Membership, membership_of};
-use crate::parts::{get, has_size, positive_of, string_at, text_at, u64_of};
+use crate::parts::{get, positive_of, string_at, text_at, u64_of};
 use crate::policies::{create_policy_of, drop_policy_of, row_security_of};
 use iv_command::{Act, Command};
 use json::{Scratch, Value as Json};
@@ -57,31 +58,15 @@ fn session_of(value: &Json<'_>) -> Option<u32>
 fn begin_of(alloc: Global, value: &Json<'_>) -> Result<Option<Act>, AllocError>
     ensures { IfOk result (λ act. option_map act_of act ≡ begin_of (value_data value.now)) }
 {
-    if !has_size(value, 3) {
-        return Ok(None);
-    }
     match string_at(alloc, value, "role")? {
         None => Ok(None),
         Some(role) => Ok(Some(Act::Begin { role })),
     }
 }
 
-fn finish_of(value: &Json<'_>) -> Option<Act>
-    ensures { option_map act_of result ≡ finish_of (value_data value.now) }
-{
-    if has_size(value, 2) {
-        Some(Act::Finish)
-    } else {
-        None
-    }
-}
-
 fn create_role_of(alloc: Global, value: &Json<'_>) -> Result<Option<Act>, AllocError>
     ensures { IfOk result (λ act. option_map act_of act ≡ create_role_of (value_data value.now)) }
 {
-    if !has_size(value, 3) {
-        return Ok(None);
-    }
     match string_at(alloc, value, "name")? {
         None => Ok(None),
         Some(name) => Ok(Some(Act::CreateRole { name })),
@@ -91,9 +76,6 @@ fn create_role_of(alloc: Global, value: &Json<'_>) -> Result<Option<Act>, AllocE
 fn create_table_of(alloc: Global, value: &Json<'_>) -> Result<Option<Act>, AllocError>
     ensures { IfOk result (λ act. option_map act_of act ≡ create_table_of (value_data value.now)) }
 {
-    if !has_size(value, 5) {
-        return Ok(None);
-    }
     match string_at(alloc, value, "name")? {
         None => Ok(None),
         Some(name) => match string_at(alloc, value, "owner")? {
@@ -113,9 +95,6 @@ fn create_table_of(alloc: Global, value: &Json<'_>) -> Result<Option<Act>, Alloc
 fn create_view_of(alloc: Global, value: &Json<'_>) -> Result<Option<Act>, AllocError>
     ensures { IfOk result (λ act. option_map act_of act ≡ create_view_of (value_data value.now)) }
 {
-    if !has_size(value, 5) {
-        return Ok(None);
-    }
     let Some(name) = string_at(alloc, value, "name")? else {
         return Ok(None);
     };
@@ -135,9 +114,6 @@ fn create_view_of(alloc: Global, value: &Json<'_>) -> Result<Option<Act>, AllocE
 fn write_of(alloc: Global, value: &Json<'_>) -> Result<Option<Act>, AllocError>
     ensures { IfOk result (λ act. option_map act_of act ≡ write_of (value_data value.now)) }
 {
-    if !has_size(value, 3) {
-        return Ok(None);
-    }
     match entries_at(alloc, value)? {
         None => Ok(None),
         Some(entries) => Ok(Some(Act::Write { entries })),
@@ -147,9 +123,6 @@ fn write_of(alloc: Global, value: &Json<'_>) -> Result<Option<Act>, AllocError>
 fn subscribe_of(alloc: Global, value: &Json<'_>) -> Result<Option<Act>, AllocError>
     ensures { IfOk result (λ act. option_map act_of act ≡ subscribe_of (value_data value.now)) }
 {
-    if !has_size(value, 3) {
-        return Ok(None);
-    }
     match string_at(alloc, value, "on")? {
         None => Ok(None),
         Some(rel) => Ok(Some(Act::Subscribe { rel })),
@@ -159,59 +132,32 @@ fn subscribe_of(alloc: Global, value: &Json<'_>) -> Result<Option<Act>, AllocErr
 fn unsubscribe_of(value: &Json<'_>) -> Option<Act>
     ensures { option_map act_of result ≡ unsubscribe_of (value_data value.now) }
 {
-    if !has_size(value, 3) {
-        return None;
-    }
     match get(value, "sub").and_then(positive_of) {
         None => None,
         Some(sub) => Some(Act::Unsubscribe { sub }),
     }
 }
 
-/// What a word for privileges, memberships and policies asks.
-fn rights_for(alloc: Global, word: &str, value: &Json<'_>) -> Result<Option<Act>, AllocError>
-    ensures { IfOk result (λ act. option_map act_of act ≡ rights_for word.now (value_data value.now)) }
+/// What a request of this word asks, once its keys are those of its form.
+fn act_for(alloc: Global, word: Word, value: &Json<'_>) -> Result<Option<Act>, AllocError>
+    ensures { IfOk result (λ act. option_map act_of act ≡ act_for word (value_data value.now)) }
 {
-    if word == "grant" {
-        Ok(granting_of(alloc, value)?.map(Granting::grant))
-    } else if word == "revoke" {
-        Ok(granting_of(alloc, value)?.map(Granting::revoke))
-    } else if word == "grant_role" {
-        Ok(membership_of(alloc, value)?.map(Membership::grant))
-    } else if word == "revoke_role" {
-        Ok(membership_of(alloc, value)?.map(Membership::revoke))
-    } else if word == "row_security" {
-        row_security_of(alloc, value)
-    } else if word == "create_policy" {
-        create_policy_of(alloc, value)
-    } else if word == "drop_policy" {
-        drop_policy_of(alloc, value)
-    } else {
-        Ok(None)
-    }
-}
-
-/// What a word other than `write` asks.
-fn act_for(alloc: Global, word: &str, value: &Json<'_>) -> Result<Option<Act>, AllocError>
-    requires { bytes_eq word.now (codes "write") ≡ false }
-    ensures { IfOk result (λ act. option_map act_of act ≡ act_for word.now (value_data value.now)) }
-{
-    if word == "begin" {
-        begin_of(alloc, value)
-    } else if word == "finish" {
-        Ok(finish_of(value))
-    } else if word == "create_role" {
-        create_role_of(alloc, value)
-    } else if word == "create_table" {
-        create_table_of(alloc, value)
-    } else if word == "create_view" {
-        create_view_of(alloc, value)
-    } else if word == "subscribe" {
-        subscribe_of(alloc, value)
-    } else if word == "unsubscribe" {
-        Ok(unsubscribe_of(value))
-    } else {
-        rights_for(alloc, word, value)
+    match word {
+        Word::Begin => begin_of(alloc, value),
+        Word::Finish => Ok(Some(Act::Finish)),
+        Word::CreateRole => create_role_of(alloc, value),
+        Word::CreateTable => create_table_of(alloc, value),
+        Word::CreateView => create_view_of(alloc, value),
+        Word::Grant => Ok(granting_of(alloc, value)?.map(Granting::grant)),
+        Word::Revoke => Ok(granting_of(alloc, value)?.map(Granting::revoke)),
+        Word::GrantRole => Ok(membership_of(alloc, value)?.map(Membership::grant)),
+        Word::RevokeRole => Ok(membership_of(alloc, value)?.map(Membership::revoke)),
+        Word::RowSecurity => row_security_of(alloc, value),
+        Word::CreatePolicy => create_policy_of(alloc, value),
+        Word::DropPolicy => drop_policy_of(alloc, value),
+        Word::Write => write_of(alloc, value),
+        Word::Subscribe => subscribe_of(alloc, value),
+        Word::Unsubscribe => Ok(unsubscribe_of(value)),
     }
 }
 
@@ -219,13 +165,13 @@ fn act_for(alloc: Global, word: &str, value: &Json<'_>) -> Result<Option<Act>, A
 fn asked_act(alloc: Global, value: &Json<'_>) -> Result<Option<Act>, AllocError>
     ensures { IfOk result (λ act. option_map act_of act ≡ asked_act (value_data value.now)) }
 {
-    match text_at(value, "do") {
+    match text_at(value, "do").and_then(form_of) {
         None => Ok(None),
-        Some(word) => {
-            if word == "write" {
-                write_of(alloc, value)
+        Some(form) => {
+            if has_its_keys(form, value) {
+                act_for(alloc, form.word, value)
             } else {
-                act_for(alloc, word, value)
+                Ok(None)
             }
         }
     }
