@@ -12,3 +12,4 @@ pub mod Looping
 pub mod Long
 pub mod Alike
 pub mod Further
+pub mod Alone

@@ -1,5 +1,5 @@
 -- What policies say of a row (PostgreSQL 16, Row Security Policies, and CREATE POLICY).
-use Rattle.std.specs.Prelude.{ℕ, ◌&&◌, ◌||◌, Bool, true, false, not, if◌then◌else◌, List, [], Option, Some, None, option_map, position, bytes_eq, slice_get}
+use Rattle.std.specs.Prelude.{◌≡◌, ℕ, ◌&&◌, ◌||◌, Bool, true, false, not, if◌then◌else◌, List, [], Option, Some, None, option_map, position, bytes_eq, slice_get}
 use Rattle.std.specs.List.{list_any, filter}
 use Rattle.iv_algebra.specs.Rows.{Cells}
 use Rattle.iv_algebra.specs.Plans.{Lists}
@@ -93,6 +93,10 @@ policy_of r table name = position (is_named name) (policies_of (slice_get r.guar
 -- the name of the table's policy at a place
 abbrev pub policy_name : Rights → ℕ → ℕ → Option Name
 policy_name r table place = option_map (λ p. p.name) (slice_get (policies_of (slice_get r.guards table)) place)
+
+-- if the policy has the name, it is restrictive, and the condition is that of rows that are there
+abbrev pub IsRestriction : Name → Condition → Policy → Type 0
+IsRestriction name c p = is_named name p ≡ true → (p.restrictive ≡ true) × (p.using ≡ Some c)
 
 -- ---- the rows that a reader sees
 

@@ -1,8 +1,9 @@
 //! What policies say of a row (`Access::check`): which of them apply (`applies`), permit and forbid; policies by name.
-ghost use Rattle.std.specs.Prelude.{◌≡◌, Some, option_map, position, slice_get};
-ghost use Rattle.std.specs.List.{list_any};
+ghost use Rattle.std.specs.Prelude.{◌≡◌, IfSome, Some, option_map, position, slice_get};
+ghost use Rattle.std.specs.List.{AllByRecursion, count_by, find, list_any};
+ghost use Rattle.iv_algebra.specs.Shapes.{condition_of};
 ghost use Rattle.iv_access.specs.Grants.{seen};
-ghost use Rattle.iv_access.specs.Policies.{applies, permits, forbids, is_exempt, by_policies, verdict, is_named, policy_of, policy_name};
+ghost use Rattle.iv_access.specs.Policies.{applies, permits, forbids, is_exempt, by_policies, verdict, is_named, IsRestriction, policies_of, policy_of, policy_name};
 ghost use Rattle.iv_access.specs.Privileges.{is_for, role_name};
 
 use crate::access::Access;
@@ -10,13 +11,24 @@ use crate::grant::Grantee;
 use crate::guard::Guard;
 use crate::policy::{Check, Stored, Verdict, covers};
 use crate::role::RoleId;
+use iv_algebra::Pred;
 use iv_rows::{RelId, Row};
 
-/// The place of the first policy of the name.
-fn place_of(policies: &[Stored], name: &str) -> Option<usize>
-    ensures { result ≡ position (is_named name.now) policies.now }
+/// The first policy of the name.
+fn named<'a>(policies: &'a [Stored], name: &str) -> Option<&'a Stored>
+    ensures { option_map (λ p. p.now) result ≡ find (is_named name.now) policies.now }
 {
-    policies.iter().position(|policy| policy.is_named(name))
+    policies.iter().find(|policy| policy.is_named(name))
+}
+
+/// How many policies have the name.
+fn count_of(policies: &[Stored], name: &str) -> usize
+    ensures { result ≡ count_by (is_named name.now) policies.now }
+{
+    policies
+        .iter()
+        .filter(|policy| policy.is_named(name))
+        .count()
 }
 
 impl Access {
@@ -137,12 +149,29 @@ impl Access {
         }
     }
 
+    /// The predicate of rows that are there, where one policy alone of the table has that name, and it is restrictive. It takes no
+    /// memory.
+    pub fn restriction(&self, table: RelId, name: &str) -> Option<&Pred>
+        ensures { IfSome result (λ pred. AllByRecursion (IsRestriction name.now (condition_of pred.now)) (policies_of (slice_get self.now.rights.guards table.0))) }
+    {
+        let policies = &self.guard(table)?.policies;
+        let policy = named(policies, name)?;
+        if policy.restrictive && count_of(policies, name) == 1 {
+            policy.using.as_ref()
+        } else {
+            None
+        }
+    }
+
     /// The place of the table's policy of that name. It takes no memory.
     pub fn policy(&self, table: RelId, name: &str) -> Option<usize>
         ensures { result ≡ policy_of self.now.rights table.0 name.now }
     {
         match self.guard(table) {
-            Some(guard) => place_of(&guard.policies, name),
+            Some(guard) => guard
+                .policies
+                .iter()
+                .position(|policy| policy.is_named(name)),
             None => None,
         }
     }

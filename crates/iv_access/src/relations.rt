@@ -1,5 +1,5 @@
 //! `Relations` of the rights: adds tables and views (`push`), finds them by name and number; how many there may be.
-ghost use Rattle.std.specs.Prelude.{◌≡◌, ◌<◌, ◌≤◌, ◌∷◌, [], ◌++◌, None, OnOk, OnErr, is_some, count_by, length, slice_get, option_map};
+ghost use Rattle.std.specs.Prelude.{◌≡◌, ◌<◌, ◌≤◌, ◌∷◌, [], ◌++◌, None, OnOk, OnErr, is_some, count_by, length, option_map};
 ghost use Rattle.std.specs.Bool.{beq};
 ghost use Rattle.indexmap.specs.IndexMap.{values};
 ghost use Rattle.iv_access.specs.Known.{relation_of, relation_name, relation_with};
@@ -39,18 +39,14 @@ impl Model for Relations {
     ghost invariant = { λ r. (count_like true (map relation_at r.kinds.entries) ≤ 64) × (count_like false (map relation_at r.kinds.entries) ≤ 64) };
 }
 
-/// Whether kinds stand for a table, or whether they stand for a view.
-fn is_like(kinds: &Option<Vec<Kind>>, table: bool) -> bool
-    ensures { result ≡ beq table (is_some kinds.now) }
-{
-    kinds.is_some() == table
-}
-
 /// How many tables there are, or how many views.
 fn count_like(kinds: &IndexMap<String, Option<Vec<Kind>>, Seed>, table: bool) -> usize
     ensures { result ≡ count_by (λ ks. beq table (is_some ks)) (values kinds.now) }
 {
-    kinds.values().filter(|kinds| is_like(kinds, table)).count()
+    kinds
+        .values()
+        .filter(|kinds| kinds.is_some() == table)
+        .count()
 }
 
 impl Relations {

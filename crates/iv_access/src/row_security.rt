@@ -106,13 +106,6 @@ impl Access {
         None
     }
 
-    /// Why the policy is refused.
-    fn policy_fault(&self, acting: RoleId, table: RelId, policy: &Policy) -> Option<AccessFault>
-        ensures { result ≡ create_policy_fault self.now.rights acting.0 table.0 policy.now.name policy.now.to }
-    {
-        self.name_fault(acting, table, policy.name.as_str(), &policy.to)
-    }
-
     /// To whom the name goes: all roles where there is none. Nothing asks for a name that no role has.
     fn grantee_of(&self, to: &Option<String>) -> Grantee
         ensures { seen result ≡ grantee_of self.now.rights (option_map string_bytes to.now) }
@@ -170,7 +163,8 @@ impl Access {
         ensures err_when { IfErr result (λ e. (e ≡ Memory) ⊎ (create_policy_fault self.old.rights acting.0 table.0 policy.name policy.to ≡ Some e)) }
         ensures unchanged { OnErr result (self.new ≡ self.old) }
     {
-        if let Some(fault) = self.policy_fault(acting, table, &policy) {
+        let name = policy.name.as_str();
+        if let Some(fault) = self.name_fault(acting, table, name, &policy.to) {
             return Err(fault);
         }
         let stored = self.stored(policy)?;

@@ -29,9 +29,8 @@ pub fn lines_of(
 {
     match answer {
         Ok(Answer { reply, mut changes }) => {
-            let mut lines = one_line(alloc, Line::Reply { session, reply })?;
-            lines.append(&mut changes)?;
-            Ok(lines)
+            changes.insert(0, Line::Reply { session, reply })?;
+            Ok(changes)
         }
         Err(Stop::Refused(refusal)) => {
             let reply = Reply::Refused(refusal);

@@ -10,6 +10,7 @@ pub mod Owning
 pub mod Needing
 pub mod Checking
 pub mod Sums
+pub mod Rising
 pub mod TablesOf
 pub mod Fitting
 pub mod Gathering

@@ -15,7 +15,8 @@ use Rattle.iv_machine.specs.Changing.{policy_for}
 use Rattle.iv_access.specs.Asked.{policy_from}
 use Rattle.iv_access.specs.Changing.{with_policy}
 use Rattle.iv_database.specs.Next.{IsDone, database_after}
-use Rattle.iv_machine.specs.Refusing.{bad_policy_text, first, frame_refusal, full, known_grantee, or_else, owner_alone, policy_refusal, table_alone, test}
+use Rattle.iv_machine.specs.Refusing.{bad_policy_text, first, full, known_grantee, or_else, owner_alone, table_alone, test}
+use Rattle.iv_machine.specs.Split.{frame_refusal, policy_refusal}
 use Rattle.iv_machine.specs.State.{Frame, actor, columns_at, rel_of, session_of, table_columns}
 use Rattle.iv_database.specs.Database.{Database, frame_of, with_rights}
 use Rattle.iv_database.specs.Owned.{AreBound, IsChecked, IsGuarded, IsOwned, IsOwner, IsReady, asked, has_room, name_tests, owner_tests, text_tests, with_asked}

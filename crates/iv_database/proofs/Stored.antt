@@ -15,7 +15,8 @@ use Rattle.iv_access.specs.Rights.{Guard, Name, Rights}
 use Rattle.iv_machine.specs.State.{Session, actor, is_open}
 use Rattle.iv_machine.specs.Act.{begin, create_role, create_table, create_view, no_session}
 use Rattle.iv_machine.specs.Changing.{view_held, with_held}
-use Rattle.iv_machine.specs.Refusing.{administrator, bad_text, frame_refusal, free_relation, known_role, role_refusal, test}
+use Rattle.iv_machine.specs.Refusing.{administrator, bad_text, free_relation, known_role, test}
+use Rattle.iv_machine.specs.Split.{frame_refusal, role_refusal}
 use Rattle.iv_machine.proofs.Placing.{roles_after}
 use Rattle.iv_machine.proofs.Serving.{or_none}
 use Rattle.iv_database.specs.Database.{Database, HoldsKinds, IsDatabase, at_start, frame_of, relation_in, with_rights}

@@ -16,7 +16,8 @@ use Rattle.iv_access.specs.declared.fault.AccessFault.{AccessFault}
 use Rattle.iv_access.specs.declared.fault.AccessFault.TheVariants as fault
 use Rattle.iv_machine.specs.Act as machine
 use Rattle.iv_machine.specs.Act.{Act, create_table, Refusal}
-use Rattle.iv_machine.specs.Refusing.{test, or_else, role_refusal, frame_refusal}
+use Rattle.iv_machine.specs.Refusing.{test, or_else}
+use Rattle.iv_machine.specs.Split.{role_refusal, frame_refusal}
 use Rattle.iv_machine.specs.State.{Session, session_of, name_of, table_columns, rel_of, next_rel, is_open, actor}
 use Rattle.std.proofs.lemmas.List.{length-map}
 use Rattle.iv_database.specs.Database.{Database, IsDatabase, frame_of, relation_in}

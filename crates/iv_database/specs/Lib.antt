@@ -3,6 +3,7 @@ pub mod Target
 pub mod Changes
 pub mod Database
 pub mod Codes
+pub mod Held
 pub mod Next
 pub mod Telling
 pub mod Summed

@@ -17,6 +17,7 @@ mod policies;
 mod privileges;
 mod relations;
 mod roles;
+mod row_sums;
 mod sessions;
 mod summing;
 mod write;

@@ -132,13 +132,6 @@ others_stay (s ∷ ss) n k h = by (n == s.number) refl (others_stay ss n k h)
         apart k n m is h = grind (arith, nat_tests)
     by false is go = ap (λ o. cond (k == s.number) (Some s) o) go
 
-passes : (b : Bool) (r : machine.Refusal) → b ≡ true → test (not b) r ≡ None
-passes b r h = ap (λ x. test (not x) r) h
-
-or_nothing : (o : Option machine.Refusal) → or_else o None ≡ o
-or_nothing None = refl
-or_nothing (Some r) = refl
-
 module _ (e new : Kept) (n : ℕ) (lines : Vec Line) (h : IsSound e) (none : lines.items ≡ []) (opened : is_open (frame_of e) n ≡ true) where
   pub finished_step : new ≡ without_unread (without_session n e) → IsAccepted e n finish (record { reply = Ok; changes = lines }) new
   finished_step k =
@@ -148,7 +141,7 @@ module _ (e new : Kept) (n : ℕ) (lines : Vec Line) (h : IsSound e) (none : lin
       let same = λ (s : Subscription) (x : p s ≡ true). others_stay e.sessions n s.session (stays (n == s.session) x) in
       record {
         answer = λ T s. (
-          ap (λ b. or_else (or_else (test (not b) machine.no_session) None) None) opened,
+          ap (λ b. or_else (test (not b) machine.no_session) None) opened,
           refl,
           ap (map line_of) none ∙ sym (left_sent e h ss p roles same T s),
         );
@@ -167,7 +160,7 @@ module _ (e new : Kept) (n : ℕ) (lines : Vec Line) (h : IsSound e) (none : lin
       let same = λ (s : Subscription) (x : p s ≡ true). refl in
       record {
         answer = λ T s. (
-          (λ i. or_else (or_else (test (not (opened i)) machine.no_session) (test (not (has i)) machine.unknown_subscription)) None),
+          (λ i. or_else (test (not (opened i)) machine.no_session) (or_else (test (not (has i)) machine.unknown_subscription) None)),
           refl,
           ap (map line_of) none ∙ sym (left_sent e h e.sessions p h.stored.database.roles same T s),
         );

@@ -1,4 +1,5 @@
 mod Narrowing
+mod Widening
 mod Showing
 mod Sound
 mod Unmoved

@@ -1,5 +1,5 @@
 -- A further restrictive policy: a role sees of each table what it saw before, or less.
-use Rattle.std.proofs.Common.{◌≡◌, ℕ, Bool, true, false, cond, ap, arith, sym, subst, refl, ◌∙◌}
+use Rattle.std.proofs.Common.{◌≡◌, ℕ, Bool, true, false, cond, ap, arith, sym, subst, refl, None, ◌∙◌}
 use Rattle.std.proofs.lemmas.Bool.Decides.{nat_tests}
 use Rattle.std.specs.Prelude.{◌==◌, ◌≢◌, Ok, slice_get}
 use Rattle.std.specs.List.{AllByRecursion}
@@ -45,12 +45,21 @@ module _ (r : Rights) (p : Policy) (t role : ℕ) (row : Cells) (restrictive : p
       part true e = subst (λ n. may_see r role n row ≡ true) (sym (same_number k t e)) (own (subst (λ n. may_see (with_policy t p r) role n row ≡ true) (same_number k t e) h))
       part false e = other k (other_number k t e) h
 
-narrowed : (e : Kept) (t : ℕ) (p : Policy) → p.restrictive ≡ true → IsSound e → AllByRecursion (IsNarrowed (guarded t (further p) e)) e.circuits
-narrowed e t p restrictive h = all_map (IsRoleCircuit e) (IsNarrowed (guarded t (further p) e)) e.circuits
-    (λ k i. record { rights = e.known.rights; is = i.is; more = λ table row sees. sees_less e.known.rights p t k.role row restrictive table sees }) h.circuits
+neither_way : {A : Type 0} (b : Bool) → b ≡ true → b ≡ false → A
+neither_way true h g = cc
+neither_way false h g = cc
+
+narrowed : (e : Kept) (t : ℕ) (p : Policy) → p.restrictive ≡ true → IsSound e → AllByRecursion (IsNarrowed (guarded t (further p) e) None) e.circuits
+narrowed e t p restrictive h = all_map (IsRoleCircuit e) (IsNarrowed (guarded t (further p) e) None) e.circuits
+    (λ k i. record {
+      rights = e.known.rights;
+      is = i.is;
+      more = λ table row sees was. neither_way (may_see e.known.rights k.role table row) (sees_less e.known.rights p t k.role row restrictive table sees) was;
+      kept = λ some. let no : false ≡ true = some in cc;
+    }) h.circuits
 
 pub policy_narrows : (e u : Kept) (d : Database) (n : ℕ) (p : PolicyText) (is : u ≡ e) (h : IsSound e) (table : RelId) → IsGuarded (database_of u) n (create_policy p) p.rel (Ok table) d
-    → p.restrictive ≡ true → AllByRecursion (IsNarrowed (with_database d u)) (with_database d u).circuits
+    → p.restrictive ≡ true → AllByRecursion (IsNarrowed (with_database d u) None) (with_database d u).circuits
 policy_narrows e u d n p is h table told restrictive =
-    subst (λ (v : Kept). AllByRecursion (IsNarrowed v) v.circuits) (sym (guard_is e u d n (create_policy p) p.rel is (policy_guards e n p) h table told))
+    subst (λ (v : Kept). AllByRecursion (IsNarrowed v None) v.circuits) (sym (guard_is e u d n (create_policy p) p.rel is (policy_guards e n p) h table told))
     (narrowed e (rel_of e.catalog p.rel) (policy_for (frame_of e) p) restrictive h)

@@ -8,6 +8,7 @@ pub mod Next
 pub mod Answering
 pub mod Found
 pub mod Built
+pub mod Restricted
 pub mod Moved
 pub mod Touching
 pub mod Turned

@@ -6,7 +6,7 @@ use Rattle.iv_zset.specs.Limits.{Counts}
 use Rattle.iv_zset.specs.Weights.{IsBag, Weighed}
 use Rattle.iv_algebra.specs.Rows.{Cells}
 use Rattle.iv_algebra.specs.Plans.{Lists}
-use Rattle.iv_circuit.specs.Circuits.{Running}
+use Rattle.iv_circuit.specs.Circuits.{HiddenRows, Running}
 use Rattle.iv_circuit.specs.Nodes.{total_of}
 use Rattle.iv_machine.specs.Act as machine
 use Rattle.iv_machine.specs.Machine.{difference, ending, line_of as machine_line}
@@ -56,9 +56,9 @@ pub record AreWaiting (e : Kept) (concerned : List Bool) : Type 0 where
   pub others : Each (IsOther e) e.circuits concerned
   pub there : AllByRecursion (λ s. is_some (place_of e s) ≡ true) e.subscriptions
 
--- it is that of what was shown before rights changed, by which its role saw of each table all that it may see now
-abbrev pub IsNarrowed : Kept → RoleCircuit → Type 0
-IsNarrowed e k = IsWider e k.role (plan_at e.catalog k.rel) k.circuit
+-- it is that of what was shown before rights changed, and its role may see no other row now than those that it saw and the hidden ones
+abbrev pub IsNarrowed : Kept → Option HiddenRows → RoleCircuit → Type 0
+IsNarrowed e hidden k = IsWider e k.role hidden (plan_at e.catalog k.rel) k.circuit
 
 -- its role may read it; the circuit is one of what is shown now, and the rows are what that shows more and less
 pub record IsAnew (e : Kept) (k : RoleCircuit) (c : Running) (rows : Weighed) : Type 0 where

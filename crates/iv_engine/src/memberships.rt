@@ -26,7 +26,7 @@ impl Store {
     {
         let after = self.reaching(group)?;
         let concerned = differing(self.alloc, before, &after)?;
-        self.tell_readers(&concerned, false)
+        self.tell_readers(&concerned, false, None)
     }
 
     /// Makes the role `to` a member of a role. Readers who reach other roles than before are told what they see more and

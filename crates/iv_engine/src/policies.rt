@@ -1,27 +1,56 @@
 //! `row_security`, `create_policy`, `drop_policy`: what readers of the table and of views over it are told.
-ghost use Rattle.std.specs.Prelude.{◌≡◌, IfOk, string_bytes, true};
+//!
+//! A row that comes back when a restrictive policy goes is one of those of which its predicate does not hold. They are found by one pass
+//! over the table for all readers, unless the predicate reads the name of the user.
+ghost use Rattle.std.specs.Prelude.{◌≡◌, IfOk, IfSome, option_map, string_bytes, true};
 ghost use Rattle.std.specs.List.{AllByRecursion};
+ghost use Rattle.iv_algebra.specs.Shapes.{condition_of};
 ghost use Rattle.iv_machine.specs.Act as machine;
 ghost use Rattle.iv_engine.specs.Answering.{IsStep};
 ghost use Rattle.iv_engine.specs.Concerned.{scanning};
-ghost use Rattle.iv_engine.specs.Kept.{IsSound};
+ghost use Rattle.iv_engine.specs.Kept.{IsSound, IsStored};
+ghost use Rattle.iv_engine.specs.Restricted.{names_user, IsHidden, IsRestricted};
 ghost use Rattle.iv_engine.specs.Turned.{AreReadersTold, AreWaiting, IsNarrowed};
 
 use crate::store::Store;
+use iv_algebra::{Operand, Pred};
+use iv_circuit::Hidden;
 use iv_command::{Answer, PolicyText, Stop};
 use iv_rows::RelId;
+use iv_zset::Meter;
 use std::alloc::AllocError;
 
+/// Whether the predicate reads the name of the user.
+fn names_user(pred: &Pred) -> bool
+    ensures { result ≡ names_user (condition_of pred.now) }
+{
+    match pred {
+        Pred::True => false,
+        Pred::False => false,
+        Pred::Compare(Operand::User, _, _) => true,
+        Pred::Compare(_, _, Operand::User) => true,
+        Pred::Compare(_, _, _) => false,
+        Pred::And(a, b) => names_user(a) || names_user(b),
+        Pred::Or(a, b) => names_user(a) || names_user(b),
+        Pred::Not(a) => names_user(a),
+    }
+}
+
 impl Store {
-    /// Tells readers of a table and of views over it what they see more and less, once its policies are others; `narrows` tells whether
-    /// each may only see less.
-    fn tell_of(&mut self, table: RelId, narrows: bool) -> Result<Answer, AllocError>
+    /// Tells readers of a table and of views over it what they see more and less, once its policies are others; `within` tells whether
+    /// each may see no other row than those that it saw and the hidden ones.
+    fn tell_of(
+        &mut self,
+        table: RelId,
+        within: bool,
+        hidden: Option<&Hidden>,
+    ) -> Result<Answer, AllocError>
         requires waiting { AreWaiting self.old (scanning self.old table.0) }
-        requires narrows { narrows ≡ true → AllByRecursion (IsNarrowed self.old) self.old.circuits }
+        requires within { within ≡ true → AllByRecursion (IsNarrowed self.old (option_map (λ h. h.now) hidden)) self.old.circuits }
         ensures { IfOk result (λ answer. AreReadersTold self.old (scanning self.old table.0) answer self.new) }
     {
         let concerned = self.scanning(table)?;
-        self.tell_readers(&concerned, narrows)
+        self.tell_readers(&concerned, within, hidden)
     }
 
     /// Switches row security of a table, and tells readers of it and of views over it what they see more and less.
@@ -38,7 +67,7 @@ impl Store {
         let table = self
             .database
             .row_security(session, rel.as_str(), enable, force)?;
-        let answer = self.tell_of(table, false)?;
+        let answer = self.tell_of(table, false, None)?;
         Ok(answer)
     }
 
@@ -50,17 +79,49 @@ impl Store {
     {
         let narrows = policy.restrictive;
         let table = self.database.create_policy(session, policy)?;
-        let answer = self.tell_of(table, narrows)?;
+        let answer = self.tell_of(table, narrows, None)?;
         Ok(answer)
     }
 
-    /// Takes a policy of a table away, and tells readers of it and of views over it what they see more and less.
+    /// The predicate of the table's policy of the name, where it is restrictive and does not read the name of the user.
+    fn restriction(&self, session: u32, rel: &str, name: &str) -> Result<Option<Pred>, AllocError>
+        requires { IsStored self.now }
+        ensures { IfOk result (λ pred. IfSome pred (λ p. IsRestricted self.now rel.now name.now (condition_of p))) }
+    {
+        let Ok((_, table)) = self.database.acting_on(session, rel) else {
+            return Ok(None);
+        };
+        let Some(pred) = self.database.access().restriction(table, name) else {
+            return Ok(None);
+        };
+        if names_user(pred) {
+            return Ok(None);
+        }
+        Ok(Some(pred.copy(self.alloc)?))
+    }
+
+    /// The rows of the table of which the predicate does not hold, if there is one.
+    fn hidden(&self, table: RelId, pred: &Option<Pred>) -> Result<Option<Hidden>, AllocError>
+        ensures { IfOk result (λ hidden. IfSome hidden (IsHidden self.now table.0 (option_map condition_of pred.now))) }
+    {
+        let Some(pred) = pred else {
+            return Ok(None);
+        };
+        let tables = self.database.tables();
+        let hidden = Hidden::new(self.alloc, table, pred, tables, &mut Meter::new())?;
+        Ok(Some(hidden))
+    }
+
+    /// Takes a policy of a table away, and tells readers of it and of views over it what they see more and less: more alone, where it is
+    /// restrictive.
     pub fn drop_policy(&mut self, session: u32, rel: String, name: &str) -> Result<Answer, Stop>
         requires { IsSound self.old }
         ensures { IsStep self.old session (machine.drop_policy (string_bytes rel) name.now) result self.new }
     {
+        let restriction = self.restriction(session, rel.as_str(), name)?;
         let table = self.database.drop_policy(session, rel.as_str(), name)?;
-        let answer = self.tell_of(table, false)?;
+        let hidden = self.hidden(table, &restriction)?;
+        let answer = self.tell_of(table, hidden.is_some(), hidden.as_ref())?;
         Ok(answer)
     }
 }

@@ -26,7 +26,7 @@ impl Store {
     {
         self.database.revoke(session, rel, privileges, grantee)?;
         let concerned = self.unreadable()?;
-        let answer = self.tell_readers(&concerned, false)?;
+        let answer = self.tell_readers(&concerned, false, None)?;
         Ok(answer)
     }
 }

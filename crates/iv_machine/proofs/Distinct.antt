@@ -13,7 +13,8 @@ use Rattle.iv_access.specs.Known.{role_number}
 use Rattle.iv_access.specs.Rights.{Name}
 use Rattle.iv_machine.specs.Act.{Act, begin, finish, create_role, create_table, create_view, session_in_use, no_session, name_taken, Refusal}
 use Rattle.iv_machine.specs.State.{Frame, Session, is_open, actor, next_rel, start_frame}
-use Rattle.iv_machine.specs.Refusing.{test, administrator, known_role, free_role, free_relation, or_else, role_refusal, frame_refusal}
+use Rattle.iv_machine.specs.Refusing.{test, administrator, known_role, free_role, free_relation, or_else}
+use Rattle.iv_machine.specs.Split.{role_refusal, frame_refusal}
 use Rattle.iv_machine.specs.Changing.{with_held, view_held, after_frame}
 use Rattle.iv_machine.specs.Sound.{AreNamesDistinct}
 use Rattle.iv_machine.proofs.Serving.{or_none}

@@ -16,7 +16,8 @@ use Rattle.iv_bind.specs.Faults.{if_some}
 use Rattle.iv_access.specs.Rights.{Name}
 use Rattle.iv_machine.specs.Act.{Act, create_table, create_view, write, Op, insert, delete, update, Entry, no_session, unknown_relation, not_a_table, bad_row, limit}
 use Rattle.iv_machine.specs.State.{State, Frame, actor, columns_at, is_open, is_within, next_rel, rel_of, table_columns}
-use Rattle.iv_machine.specs.Refusing.{test, each_entry, entry_shape, rows_in, known_relation, table_alone, entries_present, all_within, role_refusal, frame_refusal, rows_refusal}
+use Rattle.iv_machine.specs.Refusing.{test, each_entry, entry_shape, rows_in, known_relation, table_alone, entries_present, all_within}
+use Rattle.iv_machine.specs.Split.{role_refusal, frame_refusal, rows_refusal}
 use Rattle.iv_machine.specs.Changing.{times, without, changed_by, after_entry, written, with_held, view_held, after}
 use Rattle.iv_machine.specs.Numbered.{IsNumbered}
 use Rattle.iv_machine.specs.Sound.{HasKinds}

@@ -7,6 +7,7 @@ pub mod Alike
 pub mod Counting
 pub mod Numbering
 pub mod Order
+pub mod Splitting
 pub mod Reached
 pub mod Rising
 pub mod Sending

@@ -11,7 +11,8 @@ use Rattle.iv_access.specs.Known.{role_number}
 use Rattle.iv_access.specs.Rights.{Name}
 use Rattle.iv_machine.specs.Act.{Act, begin, finish, create_role, create_table, create_view, subscribe, unsubscribe, no_session, session_in_use, unknown_role, unknown_relation}
 use Rattle.iv_machine.specs.State.{Frame, Session, Subscription, is_open, actor, next_rel, rel_of}
-use Rattle.iv_machine.specs.Refusing.{test, known_role, known_relation, role_refusal, frame_refusal}
+use Rattle.iv_machine.specs.Refusing.{test, known_role, known_relation}
+use Rattle.iv_machine.specs.Split.{role_refusal, frame_refusal}
 use Rattle.iv_machine.specs.Changing.{with_held, view_held, opened_by, insert_subscription, after_frame}
 use Rattle.iv_machine.specs.Numbered.{AreNumbered, IsNumbered}
 use Rattle.iv_machine.proofs.Serving.{or_none, passed}

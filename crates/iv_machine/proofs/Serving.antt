@@ -1,14 +1,16 @@
 -- Every open subscription may be read and is within the limits.
-use Rattle.std.proofs.Common.{◌≡◌, ℕ, Bool, true, false, cond, not, ◌&&◌, List, [], ◌∷◌, Option, Some, None, refl}
+use Rattle.std.proofs.Common.{◌≡◌, ℕ, Bool, true, false, cond, not, ◌&&◌, List, [], ◌∷◌, Option, Some, None, ◌∙◌, sym, refl}
 use Rattle.std.specs.Prelude.{filter, is_some}
 use Rattle.std.specs.List.{list_all, AllByRecursion}
 use Rattle.iv_machine.specs.Act.{Act, write, Command, Refusal, limit, Entry}
 use Rattle.iv_machine.specs.State.{State, Subscription, actor, missing_for, is_within}
-use Rattle.iv_machine.specs.Refusing.{test, or_else, all_within, entries_present, frame_refusal, rows_refusal, refusal}
+use Rattle.iv_machine.specs.Refusing.{test, or_else, all_within, entries_present, refusal}
+use Rattle.iv_machine.specs.Split.{frame_refusal, rows_refusal}
 use Rattle.iv_machine.specs.Changing.{after_frame, after}
 use Rattle.iv_machine.specs.Machine.{first_cause, ending, settled, outcome, step, run}
 use Rattle.iv_machine.specs.Served.{AreServed}
 use Rattle.iv_machine.specs.declared.Cause.{Cause}
+use Rattle.iv_machine.proofs.Splitting.{split}
 
 none_is : (o : Option Cause) → is_some o ≡ false → o ≡ None
 none_is None h = refl
@@ -27,6 +29,10 @@ filter_served s (e ∷ es) = kept_served s (is_some (ending s e)) e (filter (λ 
 pub or_none : (o p : Option Refusal) → or_else o p ≡ None → (o ≡ None) × (p ≡ None)
 or_none None p h = (refl, h)
 or_none (Some r) p h = cc
+
+-- neither the tests that look at no row nor those that do refuse it
+pub none_refuses : (s : State) (n : ℕ) (act : Act) → refusal s n act ≡ None → (frame_refusal s.frame n act ≡ None) × (rows_refusal s n act ≡ None)
+none_refuses s n act h = or_none (frame_refusal s.frame n act) (rows_refusal s n act) (sym (split s n act) ∙ h)
 
 pub passed : (b : Bool) (r : Refusal) → test (not b) r ≡ None → b ≡ true
 passed true r h = refl
@@ -56,7 +62,7 @@ write_served s n es (f ∷ fs) a w =
 
 all_served : (s : State) (n : ℕ) (es : List Entry) → AreServed s → refusal s n (write es) ≡ None → AllByRecursion (λ f. ending (after s n (write es)) f ≡ None) s.frame.subscriptions
 all_served s n es a h =
-    let r = (or_none (frame_refusal s.frame n (write es)) (rows_refusal s n (write es)) h).1 in
+    let r = (none_refuses s n (write es) h).1 in
     let l = (or_none (entries_present s.frame.catalog 1 es s.rows) _ r).1 in
     let t = (or_none (test (not (all_within (after s n (write es)))) limit) None l).0 in
     let w = passed (all_within (after s n (write es))) limit t in

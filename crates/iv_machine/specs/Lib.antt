@@ -2,6 +2,7 @@ pub mod Act
 pub mod State
 pub mod Changing
 pub mod Refusing
+pub mod Split
 pub mod Machine
 pub mod Held
 pub mod Reached

@@ -18,7 +18,7 @@ use Rattle.iv_access.specs.Policies.{policies_of, policy_name, policy_of, verdic
 use Rattle.iv_access.specs.Known.{role_number}
 use Rattle.iv_access.specs.Privileges.{acts_as, first_missing, is_admin, owns, role_of}
 use Rattle.iv_access.specs.Rights.{Name}
-use Rattle.iv_machine.specs.Act.{Act, begin, finish, create_role, create_table, create_view, grant, revoke, grant_role, revoke_role, row_security, create_policy, drop_policy, subscribe, unsubscribe, write, PolicyText, Op, insert, delete, update, Entry, Refusal, no_session, session_in_use, unknown_role, name_taken, unknown_relation, not_a_table, bad_row, bad_query, not_administrator, not_owner, missing_privilege, no_permissive, restrictive_failed, no_such_row, limit, unknown_policy, unknown_subscription, too_many, membership_loop}
+use Rattle.iv_machine.specs.Act.{Act, begin, finish, create_role, create_table, create_view, grant, revoke, grant_role, revoke_role, row_security, create_policy, drop_policy, subscribe, unsubscribe, write, Op, insert, delete, update, Entry, Refusal, no_session, session_in_use, unknown_role, name_taken, unknown_relation, not_a_table, bad_row, bad_query, not_administrator, not_owner, missing_privilege, no_permissive, restrictive_failed, no_such_row, limit, unknown_policy, unknown_subscription, too_many, membership_loop}
 use Rattle.iv_machine.specs.State.{State, Frame, rel_of, name_of, table_columns, columns_at, is_open, actor, is_within, is_within_for, missing_for}
 use Rattle.iv_machine.specs.Changing.{after_entry, after}
 
@@ -41,6 +41,10 @@ each_entry f n [] = None
 each_entry f n (e ∷ es) = or_else (f n e) (each_entry f (n + 1) es)
 
 -- ---- tests that several requests have
+
+-- session n is open
+abbrev pub opened : Frame → ℕ → Option Refusal
+opened f n = test (not (is_open f n)) no_session
 
 abbrev pub administrator : ℕ → Option Refusal
 administrator role = test (not (is_admin role)) not_administrator
@@ -169,119 +173,108 @@ views f = count_by (λ e. is_some (view_in e.held)) f.catalog
 abbrev pub has_subscription : Frame → ℕ → ℕ → Bool
 has_subscription f n k = list_any (λ e. (n == e.session) && (k == e.number)) f.subscriptions
 
--- the names that a new policy gives, its texts, and the number of policies
-abbrev pub policy_refusal : Frame → PolicyText → Option Refusal
-policy_refusal f p = first (
-    first (map (known_grantee f) p.to)
-    ∷ test (has_policy f p.rel p.name) name_taken
-    ∷ bad_policy_text (columns_at f.catalog p.rel) p.using_text
-    ∷ bad_policy_text (columns_at f.catalog p.rel) p.check_text
-    ∷ full 32 (policies f p.rel)
-    ∷ [])
-
--- the tests that look at no row, of a request of a role in its open session n
-abbrev pub role_refusal : Frame → ℕ → ℕ → Act → Option Refusal
-role_refusal f n role (create_role name) = first (
-    administrator role
+-- the tests of each request, in their order: f is the frame of s, and role acts in session n
+abbrev pub tests_by : State → Frame → (n role : ℕ) → Act → List (Option Refusal)
+tests_by s f n role (begin name) =
+    test (is_open f n) session_in_use
+    ∷ known_role f name
+    ∷ full 256 (length f.sessions)
+    ∷ []
+tests_by s f n role finish = opened f n ∷ []
+tests_by s f n role (create_role name) =
+    opened f n
+    ∷ administrator role
     ∷ free_role f name
     ∷ full 256 (length f.rights.roles)
-    ∷ [])
-role_refusal f n role (create_table name owner columns) = first (
-    administrator role
+    ∷ []
+tests_by s f n role (create_table name owner columns) =
+    opened f n
+    ∷ administrator role
     ∷ known_role f owner
     ∷ free_relation f name
     ∷ full 64 (tables f)
-    ∷ [])
-role_refusal f n role (create_view name owner query) = first (
-    administrator role
+    ∷ []
+tests_by s f n role (create_view name owner query) =
+    opened f n
+    ∷ administrator role
     ∷ known_role f owner
     ∷ free_relation f name
     ∷ bad_text (bound_query f.catalog query)
     ∷ full 64 (views f)
-    ∷ [])
-role_refusal f n role (grant rel privileges to) = first (
-    known_relation f rel
+    ∷ []
+tests_by s f n role (grant rel privileges to) =
+    opened f n
+    ∷ known_relation f rel
     ∷ owner_alone f role rel
     ∷ known_grantee f to
-    ∷ [])
-role_refusal f n role (revoke rel privileges to) = first (
-    known_relation f rel
+    ∷ []
+tests_by s f n role (revoke rel privileges to) =
+    opened f n
+    ∷ known_relation f rel
     ∷ owner_alone f role rel
     ∷ known_grantee f to
-    ∷ [])
-role_refusal f n role (grant_role group to) = first (
-    administrator role
+    ∷ []
+tests_by s f n role (grant_role group to) =
+    opened f n
+    ∷ administrator role
     ∷ known_role f group
     ∷ known_role f to
     ∷ test (acts_as f.rights (role_number f.rights group) (role_number f.rights to)) membership_loop
-    ∷ [])
-role_refusal f n role (revoke_role group to) = first (
-    administrator role
+    ∷ []
+tests_by s f n role (revoke_role group to) =
+    opened f n
+    ∷ administrator role
     ∷ known_role f group
     ∷ known_role f to
-    ∷ [])
-role_refusal f n role (row_security rel enable force) = first (
-    known_relation f rel
+    ∷ []
+tests_by s f n role (row_security rel enable force) =
+    opened f n
+    ∷ known_relation f rel
     ∷ table_alone f rel
     ∷ owner_alone f role rel
-    ∷ [])
-role_refusal f n role (create_policy p) = first (
-    known_relation f p.rel
+    ∷ []
+tests_by s f n role (create_policy p) =
+    opened f n
+    ∷ known_relation f p.rel
     ∷ table_alone f p.rel
     ∷ owner_alone f role p.rel
-    ∷ policy_refusal f p
-    ∷ [])
-role_refusal f n role (drop_policy rel name) = first (
-    known_relation f rel
+    ∷ first (map (known_grantee f) p.to)
+    ∷ test (has_policy f p.rel p.name) name_taken
+    ∷ bad_policy_text (columns_at f.catalog p.rel) p.using_text
+    ∷ bad_policy_text (columns_at f.catalog p.rel) p.check_text
+    ∷ full 32 (policies f p.rel)
+    ∷ []
+tests_by s f n role (drop_policy rel name) =
+    opened f n
+    ∷ known_relation f rel
     ∷ table_alone f rel
     ∷ owner_alone f role rel
     ∷ test (not (has_policy f rel name)) unknown_policy
-    ∷ [])
-role_refusal f n role (subscribe rel) = first (
-    known_relation f rel
+    ∷ []
+tests_by s f n role (subscribe rel) =
+    opened f n
+    ∷ known_relation f rel
     ∷ missing f (missing_for f role (rel_of f.catalog rel))
     ∷ full 16 (count_by (λ e. n == e.session) f.subscriptions)
     ∷ full (2 ^ 63) (f.last + 1)
-    ∷ [])
-role_refusal f n role (unsubscribe k) = test (not (has_subscription f n k)) unknown_subscription
-role_refusal f n role (write entries) = first (
-    each_entry (entry_shape f) 1 entries
+    ∷ test (not (is_within_for s role (rel_of f.catalog rel))) limit
+    ∷ []
+tests_by s f n role (unsubscribe k) =
+    opened f n
+    ∷ test (not (has_subscription f n k)) unknown_subscription
+    ∷ []
+tests_by s f n role (write entries) =
+    opened f n
+    ∷ each_entry (entry_shape f) 1 entries
     ∷ each_entry (entry_privileges f role) 1 entries
     ∷ each_entry (entry_policies f role) 1 entries
-    ∷ [])
-role_refusal f n role (begin name) = None
-role_refusal f n role finish = None
-
--- the tests that look at no row
-abbrev pub frame_refusal : Frame → ℕ → Act → Option Refusal
-frame_refusal f n (begin role) = first (
-    test (is_open f n) session_in_use
-    ∷ known_role f role
-    ∷ full 256 (length f.sessions)
-    ∷ [])
-frame_refusal f n act = or_else (test (not (is_open f n)) no_session) (role_refusal f n (actor f n) act)
-
--- the tests that look at rows
-abbrev pub rows_refusal : State → ℕ → Act → Option Refusal
-rows_refusal s n (subscribe rel) = test (not (is_within_for s (actor s.frame n) (rel_of s.frame.catalog rel))) limit
-rows_refusal s n (write entries) = first (
-    entries_present s.frame.catalog 1 entries s.rows
+    ∷ entries_present f.catalog 1 entries s.rows
     ∷ test (not (all_within (after s n (write entries)))) limit
-    ∷ [])
-rows_refusal s n (begin role) = None
-rows_refusal s n finish = None
-rows_refusal s n (create_role name) = None
-rows_refusal s n (create_table name owner columns) = None
-rows_refusal s n (create_view name owner query) = None
-rows_refusal s n (grant rel privileges to) = None
-rows_refusal s n (revoke rel privileges to) = None
-rows_refusal s n (grant_role role to) = None
-rows_refusal s n (revoke_role role to) = None
-rows_refusal s n (row_security rel enable force) = None
-rows_refusal s n (create_policy p) = None
-rows_refusal s n (drop_policy rel name) = None
-rows_refusal s n (unsubscribe k) = None
+    ∷ []
 
--- in each request the tests that look at rows come last
+abbrev pub tests : State → ℕ → Act → List (Option Refusal)
+tests s n act = tests_by s s.frame n (actor s.frame n) act
+
+-- the first test that fails gives its refusal
 abbrev pub refusal : State → ℕ → Act → Option Refusal
-refusal s n act = or_else (frame_refusal s.frame n act) (rows_refusal s n act)
+refusal s n act = first (tests s n act)

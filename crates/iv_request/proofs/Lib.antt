@@ -1,4 +1,5 @@
 pub mod Asking
+pub mod Digits
 pub mod Each
 pub mod Keys
 pub mod Looking

@@ -6,7 +6,13 @@
 //!
 //! `json`, on which `serde_json` stands, reads a line in room that is kept from line to line. The value that `serde_json` builds, which
 //! was the first form, took 18 of the 22 requests for memory of an insert of one row. Cost: the proof that both have the same data.
-ghost use Rattle.std.specs.Prelude.{◌≡◌, ◌==◌, ◌<◌, false, true, length, slice_index, IfOk, IsTrue, is_some, option_map};
+//!
+//! Nearly all numbers of requests are short whole ones, and each is read twice: by `fits`, and for its value. `few_digits` takes 9
+//! instructions a digit; `fast_float`, which reads any number, took 115 more for each of one to five digits.
+ghost use Rattle.std.specs.Prelude.{◌≡◌, ◌==◌, ◌<◌, ◌≤◌, ◌^◌, false, true, length, slice_index, IfOk, IfSome, IsTrue, is_some, option_map};
+ghost use Rattle.std.specs.Option.{SomeIff};
+ghost use Rattle.std.specs.Str.Parse.{digits_value, IsNumeral};
+ghost use Rattle.fast_float.specs.Text.{scan};
 ghost use Rattle.json.specs.Value.{value_view, items_view, members_view};
 ghost use Rattle.serde_json.specs.Read as serde_json;
 ghost use Rattle.serde_json.specs.Read.{float_of, number_from, number_of};
@@ -21,6 +27,29 @@ use std::alloc::{AllocError, Global};
 /// How deep arrays and objects may nest.
 const MOST_DEPTH: usize = 127;
 
+/// How many digits are read one by one: so many that their number is below 2 ^ 63.
+const MOST_DIGITS: usize = 18;
+
+/// The number that a text of one to eighteen digits, and nothing else, writes.
+#[inline]
+fn few_digits(bytes: &[u8]) -> Option<u64>
+    ensures number { SomeIff result (IsNumeral 10 bytes.now × (length bytes.now ≤ 18)) (digits_value 10 bytes.now) }
+    ensures below { IfSome result (λ n. n < 10 ^ 18) }
+{
+    if bytes.is_empty() || bytes.len() > MOST_DIGITS {
+        return None;
+    }
+    let mut number = 0;
+    for byte in bytes {
+        let digit = byte.wrapping_sub(b'0');
+        if digit > 9 {
+            return None;
+        }
+        number = number * 10 + digit as u64;
+    }
+    Some(number)
+}
+
 /// The nearest float, where it is finite.
 fn float_of(negative: bool, numeral: &Numeral<'_>) -> Option<Number>
     ensures { option_map number_view result ≡ float_of negative numeral.now }
@@ -33,21 +62,27 @@ fn unsigned_of(numeral: &Numeral<'_>) -> Option<Number>
     ensures { option_map number_view result ≡ number_from false numeral.now }
 {
     match numeral.to_u64() {
-        Some(n) => Number::from_u128(n as u128),
+        Some(n) => Some(Number::from(n)),
         None => float_of(false, numeral),
     }
 }
 
 /// The number with a minus.
-fn negative_of(numeral: &Numeral<'_>) -> Option<Number>
-    ensures { option_map number_view result ≡ number_from true numeral.now }
+fn negative_of(bytes: &[u8]) -> Option<Number>
+    ensures { option_map number_view result ≡ number_from true (scan bytes.now) }
 {
-    if let Some(n) = numeral.to_i64(true) {
-        if n < 0 {
-            return Number::from_i128(n as i128);
+    if let Some(n) = few_digits(bytes) {
+        if n > 0 {
+            return Some(Number::from(-(n as i64)));
         }
     }
-    float_of(true, numeral)
+    let numeral = Numeral::scan(bytes);
+    if let Some(n) = numeral.to_i64(true) {
+        if n < 0 {
+            return Some(Number::from(n));
+        }
+    }
+    float_of(true, &numeral)
 }
 
 /// Whether the number begins with a minus.
@@ -58,15 +93,28 @@ fn has_minus(bytes: &[u8]) -> bool
     !bytes.is_empty() && bytes[0] == b'-'
 }
 
+/// The number that the text is, whatever its length and form. It stands apart, so that its callers take in the short way alone.
+#[inline(never)]
+fn scanned(bytes: &[u8]) -> Option<Number>
+    ensures { option_map number_view result ≡ number_of bytes.now }
+{
+    if has_minus(bytes) {
+        negative_of(&bytes[1..])
+    } else {
+        unsigned_of(&Numeral::scan(bytes))
+    }
+}
+
 /// The number that a text of JSON's grammar is: a whole one of 64 bits, or the nearest float where that is finite.
+#[tactic(auto, using(crate::proofs::Digits::unsigned_is))]
+#[inline]
 pub fn number_of(text: &str) -> Option<Number>
     ensures { option_map number_view result ≡ number_of text.now }
 {
     let bytes = text.as_bytes();
-    if has_minus(bytes) {
-        negative_of(&Numeral::scan(&bytes[1..]))
-    } else {
-        unsigned_of(&Numeral::scan(bytes))
+    match few_digits(bytes) {
+        Some(n) => Some(Number::from(n)),
+        None => scanned(bytes),
     }
 }
 

@@ -14,9 +14,6 @@ use itoa::Buffer;
 use iv_command::{Cause, Line, Reply};
 use std::alloc::{AllocError, Global};
 
-/// The room that a text is begun with, in bytes: few answers of a write with a reader or two have more.
-const SHORT_TEXT: usize = 256;
-
 /// The part of a line that names its session, up to the number of the subscription: that of the last change, and no text
 /// before the first.
 #[derive(Drop)]
@@ -168,11 +165,12 @@ fn push_line(
     }
 }
 
-/// The texts of the lines of a command.
-pub fn write_lines(alloc: Global, lines: &[Line]) -> Result<Vec<u8>, AllocError>
+/// The texts of the lines of a command, in the memory of a text that was sent.
+pub fn write_lines(alloc: Global, lines: &[Line], sent: Vec<u8>) -> Result<Vec<u8>, AllocError>
     ensures { IfOk result (λ text. text.items ≡ flat_map line_text (map line_of lines.now)) }
 {
-    let mut text = Vec::with_capacity(alloc, SHORT_TEXT)?;
+    let mut text = sent;
+    text.clear();
     let mut part = SessionPart::new(alloc);
     for line in lines {
         push_line(alloc, &mut text, &mut part, line)?;

@@ -3,6 +3,8 @@
 //! The answer to bytes folds the machine's `run` over the commands among the lines. That the state is one that the
 //! machine reaches is no premise: the engine's invariant gives it. A flush at the end alone would meet the contract;
 //! that each answer is flushed before the next line is read is shown by a dialogue over pipes (`.ci/examples`).
+//!
+//! A line is read, and its answer written, in the memory of the one before: so much stays as the longest answer took.
 ghost use Rattle.std.specs.Prelude.{◌≡◌, ◌≤◌, ◌+◌, ◌*◌, ◌||◌, ◌↔◌, ℕ, take, flat_map, true, false, IfOk, IfErr, IfSome, OnOk, OnErr, IsErrOf};
 ghost use Rattle.std.specs.Io.KnownBytes.{Appends};
 ghost use Rattle.iv_machine.specs.State.{State};
@@ -29,11 +31,12 @@ use iv_request::{WireFault, command_in};
 use json::Scratch;
 use std::alloc::{AllocError, Global};
 
-/// The text of the lines that answer a command.
+/// The text of the lines that answer a command, in the memory of a text that was sent.
 fn answer_command(
     alloc: Global,
     engine: &mut Engine,
     command: Command,
+    sent: Vec<u8>,
 ) -> Result<Vec<u8>, AllocError>
     requires { is_well_command (command_of command) ≡ true }
     ensures text { IfOk result (λ text. (s : State) → IsBehind s engine.old → text.items ≡ flat_map line_text (step s (command_of command)).lines) }
@@ -42,16 +45,17 @@ fn answer_command(
 {
     match engine.apply(command) {
         Err(_) => Err(AllocError),
-        Ok(lines) => write_lines(alloc, &lines),
+        Ok(lines) => write_lines(alloc, &lines, sent),
     }
 }
 
-/// Answers one line.
+/// Answers one line, in the memory of a text that was sent.
 fn answer_line(
     alloc: Global,
     engine: &mut Engine,
     line: &[u8],
     scratch: &mut Scratch,
+    sent: Vec<u8>,
 ) -> Result<Vec<u8>, AllocError>
     ensures text { IfOk result (λ text. (s : State) → IsBehind s engine.old → text.items ≡ (told s (readings_of line.now)).text) }
     ensures state { OnOk result ((s : State) → IsBehind s engine.old → IsBehind (told s (readings_of line.now)).state engine.new) }
@@ -64,7 +68,7 @@ fn answer_line(
         Err(WireFault::Memory) => Err(AllocError),
         Err(WireFault::BadJson) => write_fault(alloc, 1),
         Err(WireFault::BadRequest) => write_fault(alloc, 2),
-        Ok(command) => answer_command(alloc, engine, command),
+        Ok(command) => answer_command(alloc, engine, command, sent),
     }
 }
 
@@ -112,6 +116,7 @@ fn run_lines<R: Source, W: Sink>(
     let mut room = Room::new();
     let mut scratch = Scratch::new(alloc);
     let mut answered = Vec::new(alloc);
+    let mut sent = Vec::new(alloc);
     for _ in 0..lines {
         match next_line(answered, &mut room, reader)? {
             Next::Nothing => return Ok(End::Input),
@@ -121,9 +126,10 @@ fn run_lines<R: Source, W: Sink>(
                 return Ok(End::TooLong);
             }
             Next::Line(line) => {
-                let text = answer_line(alloc, engine, &line, &mut scratch)?;
+                let text = answer_line(alloc, engine, &line, &mut scratch, sent)?;
                 send_answer(writer, &text)?;
                 answered = line;
+                sent = text;
             }
         }
     }

@@ -17,8 +17,8 @@ returns-in_err-table c =
     c.in_err-table.ensures.guarded)
     c.from_residual.result c.from_residual.ensures.1
 
-pub tell_of-requires-clause-narrows : goal.tell_of-requires-clause-narrows
-tell_of-requires-clause-narrows c = λ restrictive.
+pub tell_of-requires-clause-within : goal.tell_of-requires-clause-within
+tell_of-requires-clause-within c = λ restrictive.
     policy_narrows c.args.self.now _ c.create_policy.new.self c.args.session c.args.policy c.self.view_is c.requires c.in_ok-table.table c.in_ok-table.ensures.guarded
     (ap (λ (p : PolicyText). p.restrictive) (sym c.policy.view_is) ∙ restrictive)
 
