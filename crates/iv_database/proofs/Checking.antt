@@ -1,7 +1,7 @@
 -- The tests of a write that look at no row of a table.
-use Rattle.std.proofs.Common.{◌≡◌, ℕ, zero, suc, ◌<◌, Bool, true, false, cond, not, ◌&&◌, List, [], ◌∷◌, length, map, get_or, Option, None, Some, refl, sym, ap, subst, ◌∙◌, arith}
+use Rattle.std.proofs.Common.{◌≡◌, ℕ, zero, suc, ◌-◌, ◌<◌, Bool, true, false, cond, not, ◌&&◌, List, [], ◌∷◌, length, map, get_or, Option, None, Some, refl, sym, ap, subst, ◌∙◌, arith}
 use Rattle.std.specs.Prelude.{Result, Err, is_some, option_map, slice_get, unwrap_or}
-use Rattle.std.specs.List.{list_all}
+use Rattle.std.specs.List.{AllByRecursion, list_all}
 use Rattle.iv_rows.specs.Cell.{Cell}
 use Rattle.iv_rows.specs.Columns.{Column, accepts, kinds_of}
 use Rattle.iv_bind.specs.Catalogs.{named}
@@ -99,3 +99,11 @@ module _ (e : Database) (a : ℕ) (n : ℕ) (es : List Entry) (acting : Some a �
 pub both : (b c : Bool) → (b && c) ≡ true → (b ≡ true) × (c ≡ true)
 both true c h = (refl, h)
 both false c h = cc
+
+-- what holds of all holds of the last
+pub last_of : {A : Type 0} (P : A → Type 0) (xs : List A) (d : A) → AllByRecursion P xs → 0 < length xs → d ≡ get_or xs (length xs - 1) d → P d
+last_of P [] d a l h = absurd (omega arith)
+last_of P (x ∷ []) d a l h = subst P (sym h) a.0
+last_of P (x ∷ y ∷ xs) d a l h =
+    let less : suc (suc (length xs)) - 1 ≡ suc (suc (length xs) - 1) = omega arith in
+    last_of P (y ∷ xs) d a.1 (omega arith) (h ∙ ap (λ k. get_or (x ∷ y ∷ xs) k d) less)

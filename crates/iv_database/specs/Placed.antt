@@ -5,14 +5,14 @@ use Rattle.iv_rows.specs.Cell.{Cell}
 use Rattle.iv_zset.specs.Weights.{weight_of}
 use Rattle.iv_algebra.specs.Plans.{Lists}
 use Rattle.iv_algebra.specs.declared.tables.Table.{Table}
-use Rattle.iv_bind.specs.Catalogs.{schema_of}
+use Rattle.iv_bind.specs.Catalogs.{named, schema_of}
 use Rattle.iv_access.specs.Rights.{Name}
 use Rattle.iv_access.specs.declared.policy.Check.{Check}
 use Rattle.iv_access.specs.declared.privilege.Privilege.{Privilege}
 use Rattle.iv_machine.specs.Act.{Entry, Op, Refusal}
 use Rattle.iv_machine.specs.Added.{adds}
 use Rattle.iv_machine.specs.Refusing.{first, is_present, privileges_for}
-use Rattle.iv_machine.specs.State.{Frame, name_of, rel_of}
+use Rattle.iv_machine.specs.State.{Frame, name_of, rel_of, table_columns}
 use Rattle.iv_database.specs.Changes.{Change, change_at}
 use Rattle.iv_database.specs.Summed.{LeadTo}
 
@@ -28,8 +28,10 @@ entry_of p = record { rel = p.name; op = p.op; copies = p.copies }
 
 -- the number is that of the name, and that of a table
 pub record IsPlaced (f : Frame) (p : Placed) : Type 0 where
+  pub known : is_some (named f.catalog p.name) ≡ true
   pub number : rel_of f.catalog p.name ≡ p.rel
   pub name : name_of f.catalog p.rel ≡ p.name
+  pub columns : table_columns f.catalog p.name ≡ schema_of f.catalog p.rel
   pub table : is_some (schema_of f.catalog p.rel) ≡ true
 
 -- the privileges that it needs, on its table

@@ -2,8 +2,10 @@
 //!
 //! Each name is looked up once; all that comes behind goes by number. `place` takes no memory, so it answers a bare `Refusal`, and
 //! its caller makes the stop.
-ghost use Rattle.std.specs.Prelude.{◌≡◌, ◌+◌, ◌<◌, IfOk, IfErr, OnOk, None, Some};
-ghost use Rattle.std.specs.List.{list_all};
+ghost use Rattle.std.specs.Prelude.{◌≡◌, ◌+◌, ◌<◌, IfOk, IfErr, IfSome, OnOk, None, Some, is_some, length};
+ghost use Rattle.std.specs.List.{AllByRecursion, list_all};
+ghost use Rattle.iv_bind.specs.Catalogs.{named, schema_of};
+ghost use Rattle.iv_machine.specs.State.{name_of, rel_of, table_columns};
 ghost use Rattle.iv_rows.specs.Columns.{accepts, kinds_of};
 ghost use Rattle.iv_machine.specs.Refusing.{entry_shape, rows_in};
 ghost use Rattle.iv_command.specs.Entries.{op_of};
@@ -48,27 +50,47 @@ fn accepts(schema: &Schema, op: &Op) -> bool
 }
 
 impl Database {
-    /// An entry at the number of its table, or the test that fails. Entries count from 1.
-    fn place(&self, number: usize, entry: Entry) -> Result<Placement, Refusal>
-        requires { IsDatabase self.now }
-        ensures ok { OnOk result (entry_shape (frame_of self.now) number entry ≡ None) }
+    /// The relation of a name. Where the entry before has the name, it is not looked up again.
+    fn relation_behind(&self, placed: &[Placement], name: &str) -> Option<RelId>
+        requires stored { IsDatabase self.now }
+        requires placed { AllByRecursion (IsPlaced (frame_of self.now)) placed.now }
+        ensures known { is_some result ≡ is_some (named (frame_of self.now).catalog name.now) }
+        ensures number { IfSome result (λ rel. rel_of (frame_of self.now).catalog name.now ≡ rel.0) }
+        ensures name { IfSome result (λ rel. name_of (frame_of self.now).catalog rel.0 ≡ name.now) }
+        ensures columns { IfSome result (λ rel. table_columns self.now.catalog name.now ≡ schema_of self.now.catalog rel.0) }
+    {
+        if let Some(last) = placed.last() {
+            if last.name.as_str() == name {
+                return Some(last.rel);
+            }
+        }
+        self.relation(name)
+    }
+
+    /// The next entry at the number of its table, or the test that fails. Entries count from 1.
+    fn place(&self, placed: &[Placement], entry: Entry) -> Result<Placement, Refusal>
+        requires stored { IsDatabase self.now }
+        requires placed { AllByRecursion (IsPlaced (frame_of self.now)) placed.now }
+        ensures ok { OnOk result (entry_shape (frame_of self.now) (length placed.now + 1) entry ≡ None) }
         ensures entry { IfOk result (λ p. entry ≡ entry_of p) }
         ensures placed { IfOk result (λ p. IsPlaced (frame_of self.now) p) }
-        ensures refused { IfErr result (λ r. entry_shape (frame_of self.now) number entry ≡ Some (refusal_of r)) }
+        ensures refused { IfErr result (λ r. entry_shape (frame_of self.now) (length placed.now + 1) entry ≡ Some (refusal_of r)) }
     {
         let Entry {
             rel: name,
             op,
             copies,
         } = entry;
-        let Some(rel) = self.relation(name.as_str()) else {
+        let Some(rel) = self.relation_behind(placed, name.as_str()) else {
             return Err(Refusal::UnknownRelation);
         };
         let Some(schema) = self.catalog.schema(rel) else {
             return Err(Refusal::NotATable);
         };
         if !accepts(schema, &op) {
-            return Err(Refusal::BadRow { entry: number });
+            return Err(Refusal::BadRow {
+                entry: placed.len() + 1,
+            });
         }
         Ok(Placement {
             rel,
@@ -86,9 +108,9 @@ impl Database {
         requires { IsDatabase self.now }
         ensures { AreEntries (frame_of self.now) entries.items result }
     {
-        let mut placed: Vec<Placement> = Vec::new(self.alloc);
+        let mut placed: Vec<Placement> = Vec::with_capacity(self.alloc, entries.len())?;
         for entry in entries {
-            match self.place(placed.len() + 1, entry) {
+            match self.place(&placed, entry) {
                 Ok(placement) => placed.push(placement)?,
                 Err(refusal) => return Err(Stop::Refused(refusal)),
             }

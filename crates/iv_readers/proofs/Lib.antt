@@ -2,6 +2,7 @@ pub mod Lists
 pub mod Becoming
 pub mod Held
 pub mod Listing
+pub mod Alike
 pub mod Bags
 pub mod Partly
 pub mod Placing

@@ -1,4 +1,4 @@
-use Rattle.std.proofs.Common.{◌≡◌, ◌∙◌, sym, ap, subst, ℕ, List, Some, None, true, not}
+use Rattle.std.proofs.Common.{◌≡◌, ◌∙◌, sym, ap, subst, ℕ, ◌+◌, length, List, Some, None, true, not}
 use Rattle.std.specs.Prelude.{is_some, string_bytes}
 use Rattle.iv_bind.specs.Catalogs.{named, schema_of}
 use Rattle.iv_machine.specs.Act as machine
@@ -15,11 +15,11 @@ returns-then-not-accepts-clause-refused c =
     let k = c.in-Some.rel.0 in
     let name = c.as_str.ensures.value in
     let rows = sym c.accepts.ensures ∙ c.if-not-accepts.true in
-    ap (entry_shape (frame_of e) c.args.number) (sym c.entry.view_is)
-    ∙ shape_is (frame_of e) c.args.number (string_bytes c.entry.inside.rel) (op_of c.entry.inside.op) (copies_of c.entry.inside.copies) c.in-Some-schema.schema.now
+    ap (entry_shape (frame_of e) (length c.args.placed.now + 1)) (sym c.entry.view_is)
+    ∙ shape_is (frame_of e) (length c.args.placed.now + 1) (string_bytes c.entry.inside.rel) (op_of c.entry.inside.op) (copies_of c.entry.inside.copies) c.in-Some-schema.schema.now
     (subst (λ (x : List ℕ). is_some (named (frame_of e).catalog x) ≡ true) name (sym c.in-Some.ensures.known))
     (subst (λ (x : List ℕ). table_columns (frame_of e).catalog x ≡ Some c.in-Some-schema.schema.now) name (c.in-Some.ensures.columns ∙ sym (c.in-Some-schema.ensures ∙ ap (λ (v : Database). schema_of v.catalog k) c.self.view_is)))
-    ∙ ap (λ b. or_else (test (not b) (machine.bad_row c.args.number)) None) rows
+    ∙ ap (λ b. or_else (test (not b) (machine.bad_row (length c.args.placed.now + 1))) None) rows
 
 pub returns-clause-ok : goal.returns-clause-ok
 returns-clause-ok c =
@@ -27,11 +27,11 @@ returns-clause-ok c =
     let k = c.in-Some.rel.0 in
     let name = c.as_str.ensures.value in
     let rows = sym c.accepts.ensures ∙ c.if-not-accepts.false in
-    ap (entry_shape (frame_of e) c.args.number) (sym c.entry.view_is)
-    ∙ shape_is (frame_of e) c.args.number (string_bytes c.entry.inside.rel) (op_of c.entry.inside.op) (copies_of c.entry.inside.copies) c.in-Some-schema.schema.now
+    ap (entry_shape (frame_of e) (length c.args.placed.now + 1)) (sym c.entry.view_is)
+    ∙ shape_is (frame_of e) (length c.args.placed.now + 1) (string_bytes c.entry.inside.rel) (op_of c.entry.inside.op) (copies_of c.entry.inside.copies) c.in-Some-schema.schema.now
     (subst (λ (x : List ℕ). is_some (named (frame_of e).catalog x) ≡ true) name (sym c.in-Some.ensures.known))
     (subst (λ (x : List ℕ). table_columns (frame_of e).catalog x ≡ Some c.in-Some-schema.schema.now) name (c.in-Some.ensures.columns ∙ sym (c.in-Some-schema.ensures ∙ ap (λ (v : Database). schema_of v.catalog k) c.self.view_is)))
-    ∙ ap (λ b. or_else (test (not b) (machine.bad_row c.args.number)) None) rows
+    ∙ ap (λ b. or_else (test (not b) (machine.bad_row (length c.args.placed.now + 1))) None) rows
 
 pub returns-clause-placed : goal.returns-clause-placed
 returns-clause-placed c =
@@ -39,7 +39,9 @@ returns-clause-placed c =
     let k = c.in-Some.rel.0 in
     let name = c.as_str.ensures.value in
     record {
+      known = ap (λ x. is_some (named (frame_of e).catalog x)) (sym name) ∙ sym c.in-Some.ensures.known;
       number = ap (rel_of (frame_of e).catalog) (sym name) ∙ c.in-Some.ensures.number;
       name = c.in-Some.ensures.name ∙ name;
+      columns = ap (table_columns (frame_of e).catalog) (sym name) ∙ c.in-Some.ensures.columns;
       table = ap (λ (v : Database). is_some (schema_of v.catalog k)) (sym c.self.view_is) ∙ ap (λ o. is_some o) (sym c.in-Some-schema.ensures);
     }
