@@ -152,7 +152,8 @@ impl Access {
     /// The predicate of rows that are there, where one policy alone of the table has that name, and it is restrictive. It takes no
     /// memory.
     pub fn restriction(&self, table: RelId, name: &str) -> Option<&Pred>
-        ensures { IfSome result (λ pred. AllByRecursion (IsRestriction name.now (condition_of pred.now)) (policies_of (slice_get self.now.rights.guards table.0))) }
+        ensures { IfSome result (λ pred. AllByRecursion (IsRestriction name.now (condition_of pred.now))
+            (policies_of (slice_get self.now.rights.guards table.0))) }
     {
         let policies = &self.guard(table)?.policies;
         let policy = named(policies, name)?;

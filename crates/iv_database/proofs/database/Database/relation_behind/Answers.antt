@@ -4,38 +4,11 @@ use Rattle.iv_database.specs.Placed.{IsPlaced}
 use Rattle.iv_database.proofs.Checking.{last_of}
 use Rattle.iv_database.proofs.database.Database.relation_behind.Goals as goal
 
-pub returns-then-eq-clause-known : goal.returns-then-eq-clause-known
-returns-then-eq-clause-known c =
+pub returns-then-eq : goal.returns-then-eq
+returns-then-eq c =
     let f = frame_of c.args.self.now in
     let some : 0 < length c.args.placed.now = search rules in
     let last : IsPlaced f c.in-Some.last.now = last_of (IsPlaced f) c.args.placed.now c.in-Some.last.now c.requires.placed some c.in-Some.ensures.item.1 in
     let seen = subst (IsPlaced f) (sym c.last-in-Some.view_is) last in
     let same : string_bytes c.last-in-Some.inside.name ≡ c.args.name.now = search rules in
-    sym (rw same at seen.known)
-
-pub returns-then-eq-clause-number : goal.returns-then-eq-clause-number
-returns-then-eq-clause-number c =
-    let f = frame_of c.args.self.now in
-    let some : 0 < length c.args.placed.now = search rules in
-    let last : IsPlaced f c.in-Some.last.now = last_of (IsPlaced f) c.args.placed.now c.in-Some.last.now c.requires.placed some c.in-Some.ensures.item.1 in
-    let seen = subst (IsPlaced f) (sym c.last-in-Some.view_is) last in
-    let same : string_bytes c.last-in-Some.inside.name ≡ c.args.name.now = search rules in
-    rw same at seen.number
-
-pub returns-then-eq-clause-name : goal.returns-then-eq-clause-name
-returns-then-eq-clause-name c =
-    let f = frame_of c.args.self.now in
-    let some : 0 < length c.args.placed.now = search rules in
-    let last : IsPlaced f c.in-Some.last.now = last_of (IsPlaced f) c.args.placed.now c.in-Some.last.now c.requires.placed some c.in-Some.ensures.item.1 in
-    let seen = subst (IsPlaced f) (sym c.last-in-Some.view_is) last in
-    let same : string_bytes c.last-in-Some.inside.name ≡ c.args.name.now = search rules in
-    rw same at seen.name
-
-pub returns-then-eq-clause-columns : goal.returns-then-eq-clause-columns
-returns-then-eq-clause-columns c =
-    let f = frame_of c.args.self.now in
-    let some : 0 < length c.args.placed.now = search rules in
-    let last : IsPlaced f c.in-Some.last.now = last_of (IsPlaced f) c.args.placed.now c.in-Some.last.now c.requires.placed some c.in-Some.ensures.item.1 in
-    let seen = subst (IsPlaced f) (sym c.last-in-Some.view_is) last in
-    let same : string_bytes c.last-in-Some.inside.name ≡ c.args.name.now = search rules in
-    rw same at seen.columns
+    record { known = sym (rw same at seen.known); number = rw same at seen.number; name = rw same at seen.name; columns = rw same at seen.columns }
