@@ -7,7 +7,7 @@ pub use Rattle.std.proofs.lemmas.Bool.{or_cases as one_of, and_parts as each_of,
 use Rattle.std.proofs.lemmas.List.Folds.{list_any-append}
 use Rattle.std.proofs.lemmas.Map.Views.{any-filter_same}
 use Rattle.iv_access.specs.Rights.{Membership}
-use Rattle.iv_access.specs.Memberships.{membership_eq, member_of, is_direct, Reaches, itself, through, further, reaches_by, reaches, joined, parted}
+use Rattle.iv_access.specs.Memberships.{membership_eq, member_of, is_direct, Reaches, itself, through, further, reaches_by, reaches, with_membership, without_membership}
 
 -- ---- two truth values
 
@@ -132,17 +132,17 @@ reaches_on ms a b c e f = (follows ms a c).1 (chained ((follows ms a b).0 e) ((f
 
 -- ---- one membership less
 
-among_left : (m n : Membership) (ms : List Membership) → is_direct (parted m ms) n ≡ (not (membership_eq m n) && is_direct ms n)
+among_left : (m n : Membership) (ms : List Membership) → is_direct (without_membership m ms) n ≡ (not (membership_eq m n) && is_direct ms n)
 among_left m n ms =
     any-filter_same (membership_eq n) (λ k. not (membership_eq m k)) (not (membership_eq m n))
     (λ k e. ap (λ x. not (membership_eq m x)) (sym (membership_same n k e))) ms
 
-pub among_fewer : (m n : Membership) (ms : List Membership) → is_direct (parted m ms) n ≡ true → is_direct ms n ≡ true
+pub among_fewer : (m n : Membership) (ms : List Membership) → is_direct (without_membership m ms) n ≡ true → is_direct ms n ≡ true
 among_fewer m n ms e = (each_of (not (membership_eq m n)) (is_direct ms n) (sym (among_left m n ms) ∙ e)).1
 
-left_or_same : (m n : Membership) (ms : List Membership) → is_direct ms n ≡ true → (is_direct (parted m ms) n ≡ true) ⊎ (n ≡ m)
+left_or_same : (m n : Membership) (ms : List Membership) → is_direct ms n ≡ true → (is_direct (without_membership m ms) n ≡ true) ⊎ (n ≡ m)
 left_or_same m n ms e =
-    elim (membership_eq m n) as (λ b. membership_eq m n ≡ b → (is_direct (parted m ms) n ≡ true) ⊎ (n ≡ m)) [
+    elim (membership_eq m n) as (λ b. membership_eq m n ≡ b → (is_direct (without_membership m ms) n ≡ true) ⊎ (n ≡ m)) [
       | true ↦ λ t. inr (sym (membership_same m n t))
       | false ↦ λ t. inl (among_left m n ms ∙ (λ i. not (t i) && e i))
     ] refl
@@ -156,8 +156,8 @@ unless false true false r e t = refl
 unless false true true true e t = sym (t refl refl)
 unless false true true false e t = e
 
-pub come_apart : (ms : List Membership) (role member a : ℕ) → reaches (joined (member_of role member) ms) a role ≡ reaches ms a role
-    → (b : ℕ) → reaches (joined (member_of role member) ms) a b ≡ reaches ms a b
+pub come_apart : (ms : List Membership) (role member a : ℕ) → reaches (with_membership (member_of role member) ms) a role ≡ reaches ms a role
+    → (b : ℕ) → reaches (with_membership (member_of role member) ms) a b ≡ reaches ms a b
 come_apart ms role member a e b =
     let m = member_of role member in
     elim (is_direct ms m) as (λ t. reaches (if t then ms else ms ++ m ∷ []) a role ≡ reaches ms a role → reaches (if t then ms else ms ++ m ∷ []) a b ≡ reaches ms a b) [
@@ -169,11 +169,11 @@ come_apart ms role member a e b =
           (reaches_on ms a role b)
     ] e
 
-pub gone_apart : (ms : List Membership) (role member a : ℕ) → reaches (parted (member_of role member) ms) a role ≡ reaches ms a role
-    → (b : ℕ) → reaches (parted (member_of role member) ms) a b ≡ reaches ms a b
+pub gone_apart : (ms : List Membership) (role member a : ℕ) → reaches (without_membership (member_of role member) ms) a role ≡ reaches ms a role
+    → (b : ℕ) → reaches (without_membership (member_of role member) ms) a b ≡ reaches ms a b
 gone_apart ms role member a e b =
     let m = member_of role member in
-    let ns = parted m ms in
+    let ns = without_membership m ms in
     let more : (x y : ℕ) → reaches ns x y ≡ true → reaches ms x y ≡ true = λ x y h. (follows ms x y).1 (kept ms (λ n d. among_fewer m n ms d) ((follows ns x y).0 h)) in
     let back : reaches ms a b ≡ true → reaches ns a b ≡ true = λ h.
     elim (one_of (reaches ns a b) (reaches ns a member && reaches ns role b) (found ns (reaches ns) m (follows ns) (λ n d. left_or_same m n ms d) ((follows ms a b).0 h))) [
@@ -220,12 +220,12 @@ apart_more ms m none h a b x y =
           ]
     ]
 
-pub apart_joined : (ms : List Membership) (m : Membership) → reaches ms m.role m.member ≡ false → AreApart ms → AreApart (joined m ms)
+pub apart_joined : (ms : List Membership) (m : Membership) → reaches ms m.role m.member ≡ false → AreApart ms → AreApart (with_membership m ms)
 apart_joined ms m none h =
     elim (is_direct ms m) as (λ t. AreApart (if t then ms else ms ++ m ∷ [])) [
       | true ↦ h
       | false ↦ apart_more ms m none h
     ]
 
-pub apart_parted : (ms : List Membership) (m : Membership) → AreApart ms → AreApart (parted m ms)
+pub apart_parted : (ms : List Membership) (m : Membership) → AreApart ms → AreApart (without_membership m ms)
 apart_parted ms m h a b x y = h a b (kept ms (λ n d. among_fewer m n ms d) x) (kept ms (λ n d. among_fewer m n ms d) y)

@@ -7,7 +7,7 @@ use Rattle.std.specs.Map.{values_of}
 use Rattle.std.proofs.lemmas.List.Sums.{sum_by-append}
 use Rattle.std.proofs.lemmas.List.{length-map}
 use Rattle.iv_rows.specs.declared.value.Kind.{Kind}
-use Rattle.iv_access.specs.Known.{Relation}
+use Rattle.iv_access.specs.Access.{Relation}
 use Rattle.iv_access.specs.Faults.{count_like}
 use Rattle.iv_access.specs.Stored.{relation_at}
 

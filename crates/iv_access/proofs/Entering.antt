@@ -8,7 +8,7 @@ use Rattle.indexmap.specs.IndexMap.{IndexMap, insert_entry}
 use Rattle.indexmap.proofs.CallerLemmas.{insert_entry-new}
 use Rattle.iv_rows.specs.declared.value.Kind.{Kind}
 use Rattle.iv_access.specs.Rights.{Name}
-use Rattle.iv_access.specs.Known.{relation_of}
+use Rattle.iv_access.specs.Access.{relation_of}
 use Rattle.iv_access.specs.Stored.{relation_at}
 use Rattle.iv_access.proofs.Lists.{absent_map, no_value}
 

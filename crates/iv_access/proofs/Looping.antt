@@ -1,14 +1,14 @@
 -- No two roles reach each other in rights that changes lead to.
 use Rattle.std.proofs.Common.{◌≡◌, [], ◌∷◌, Bool, true, false, refl, None}
 use Rattle.iv_access.specs.declared.fault.AccessFault.TheVariants as fault
-use Rattle.iv_access.specs.Faults.{first}
-use Rattle.iv_access.specs.Known.{role_number}
+use Rattle.iv_access.specs.Faults.{first_fault}
+use Rattle.iv_access.specs.Access.{role_number}
 use Rattle.iv_access.specs.Memberships.{member_of}
 use Rattle.iv_access.specs.Reached.{IsReached, at_start, role_created, role_granted, role_revoked, relation_added, privileges_granted, privileges_revoked, security_switched, policy_created, policy_dropped}
 use Rattle.iv_access.specs.Rights.{Rights}
 use Rattle.iv_access.proofs.Chains.{AreApart, apart_none, apart_joined, apart_parted}
 
-no_loop : (a b c d : Bool) → first ((a, fault.NotAdmin) ∷ (b, fault.Role) ∷ (c, fault.Role) ∷ (d, fault.Loop) ∷ []) ≡ None → d ≡ false
+no_loop : (a b c d : Bool) → first_fault ((a, fault.NotAdmin) ∷ (b, fault.Role) ∷ (c, fault.Role) ∷ (d, fault.Loop) ∷ []) ≡ None → d ≡ false
 no_loop true b c d e = cc
 no_loop false true c d e = cc
 no_loop false false true d e = cc
@@ -24,5 +24,5 @@ reached_apart (relation_added r owner h) = reached_apart h
 reached_apart (privileges_granted r rel ps to h) = reached_apart h
 reached_apart (privileges_revoked r rel ps to h) = reached_apart h
 reached_apart (security_switched r n enabled forced h) = reached_apart h
-reached_apart (policy_created r acting n p free h) = reached_apart h
+reached_apart (policy_created r n p free h) = reached_apart h
 reached_apart (policy_dropped r n name h) = reached_apart h

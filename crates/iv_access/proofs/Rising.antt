@@ -1,6 +1,6 @@
 -- A table's policies stand in the order of their names, and no two have one name.
 use Rattle.std.proofs.Common.{◌≡◌, ℕ, zero, suc, ◌<◌, List, [], ◌∷◌, ◌++◌, Bool, true, false, refl, ◌∙◌, Option, Some, None, length, get_or, inl, inr, subst, bytes_eq, arith}
-use Rattle.std.specs.Prelude.{All, is_some, slice_get, if◌then◌else◌}
+use Rattle.std.specs.Prelude.{◌&&◌, All, is_some, not, slice_get, if◌then◌else◌}
 use Rattle.std.specs.List.{list_any, position}
 use Rattle.std.specs.declared.cmp.Ordering.{Ordering}
 use Rattle.std.specs.declared.cmp.Ordering.TheVariants.{Less, Equal, Greater}
@@ -13,13 +13,11 @@ use Rattle.std.proofs.lemmas.List.Kept.{AllPairs-cons, AllPairs-filter}
 use Rattle.std.proofs.lemmas.List.Quantifiers.{position-Some}
 use Rattle.std.proofs.lemmas.Map.Text.{is_eq-slice_cmp}
 use Rattle.std.proofs.lemmas.Option.{slice_get-get_or}
-use Rattle.iv_access.specs.declared.fault.AccessFault.TheVariants as fault
 use Rattle.iv_access.specs.declared.policy.PolicyCommand.TheVariants as command
 use Rattle.iv_access.specs.declared.policy.Verdict.TheVariants.{Pass, NoPermissive, Restrictive}
 use Rattle.iv_access.specs.Rights.{Name, Guard, Policy, Rights}
-use Rattle.iv_access.specs.Asked.{policy_from}
+use Rattle.iv_access.specs.NewPolicies.{policy_from}
 use Rattle.iv_access.specs.Changing.{changed_at, insert_policy, remove_policy}
-use Rattle.iv_access.specs.Faults.{first}
 use Rattle.iv_access.specs.Policies.{failed_at, is_named, policies_of, policy_of}
 use Rattle.iv_access.specs.Reached.{IsReached, at_start, role_created, role_granted, role_revoked, relation_added, privileges_granted, privileges_revoked, security_switched, policy_created, policy_dropped, ComesBefore, Rise, IsFirstByName}
 use Rattle.iv_access.proofs.Lists.{absent, or_left, or_right}
@@ -83,13 +81,12 @@ rise_pushed [] g e h (suc m) = h zero
 rise_pushed (x ∷ xs) g e h zero = h zero
 rise_pushed (x ∷ xs) g e h (suc m) = rise_pushed xs g e (λ k. h (suc k)) m
 
--- ---- where a policy is not refused
+-- ---- where a policy may come
 
-not_taken : (a b c d : Bool) → first ((a, fault.NotOwner) ∷ (b, fault.Role) ∷ (c, fault.Taken) ∷ (d, fault.TooMany) ∷ []) ≡ None → c ≡ false
-not_taken true b c d e = cc
-not_taken false true c d e = cc
-not_taken false false true d e = cc
-not_taken false false false d e = refl
+not_taken : (a b c : Bool) → (a && (not b && not c)) ≡ true → b ≡ false
+not_taken false b c e = cc
+not_taken true true c e = cc
+not_taken true false c e = refl
 
 no_place : (o : Option ℕ) → is_some o ≡ false → o ≡ None
 no_place None e = refl
@@ -110,9 +107,9 @@ reached_rise (privileges_revoked r rel ps to h) table = reached_rise h table
 reached_rise (security_switched r n enabled forced h) table =
     rise_changed n (λ g. record g { enabled = enabled; forced = forced }) r.guards
     (λ g e. subst (λ o. Rise (policies_of o)) e (reached_rise h n)) (reached_rise h) table
-reached_rise (policy_created r acting n p free h) table =
+reached_rise (policy_created r n p free h) table =
     let none : list_any (is_named p.name) (policies_of (slice_get r.guards n)) ≡ false =
-    absent (is_named p.name) (policies_of (slice_get r.guards n)) (no_place (policy_of r n p.name) (not_taken _ _ _ _ free)) in
+    absent (is_named p.name) (policies_of (slice_get r.guards n)) (no_place (policy_of r n p.name) (not_taken _ _ _ free)) in
     rise_changed n (λ g. record g { policies = insert_policy (policy_from r p) g.policies }) r.guards
     (λ g e. subst (λ o. Rise (insert_policy (policy_from r p) (policies_of o))) e (rise_inserted (policy_from r p) (policies_of (slice_get r.guards n)) none (reached_rise h n))) (reached_rise h) table
 reached_rise (policy_dropped r n name h) table =

@@ -6,7 +6,7 @@ use Rattle.std.specs.Cmp.Lexicographic.{slice_cmp}
 use Rattle.iv_access.specs.declared.privilege.Privilege.{Privilege}
 use Rattle.iv_access.specs.declared.privilege.Privilege.TheVariants.{Select, Insert, Update, Delete}
 use Rattle.iv_access.specs.Rights.{Name, Grantee, Public, Role, Grant, Guard, Policy, Rights}
-use Rattle.iv_access.specs.Memberships.{member_of, joined, parted}
+use Rattle.iv_access.specs.Memberships.{member_of, with_membership, without_membership}
 use Rattle.iv_access.specs.Privileges.{privilege_eq}
 use Rattle.iv_access.specs.Policies.{is_named}
 
@@ -19,10 +19,10 @@ with_role name r = record r { roles = r.roles ++ name ∷ [] }
 
 -- the member becomes a member of the role
 abbrev pub with_member : ℕ → ℕ → Rights → Rights
-with_member role member r = record r { members = joined (member_of role member) r.members }
+with_member role member r = record r { members = with_membership (member_of role member) r.members }
 
 abbrev pub without_member : ℕ → ℕ → Rights → Rights
-without_member role member r = record r { members = parted (member_of role member) r.members }
+without_member role member r = record r { members = without_membership (member_of role member) r.members }
 
 -- ---- grants
 

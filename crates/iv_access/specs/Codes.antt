@@ -11,10 +11,10 @@ use Rattle.iv_access.specs.declared.privilege.Privilege.TheVariants.{Select, Ins
 use Rattle.iv_access.specs.declared.policy.PolicyCommand.{PolicyCommand}
 use Rattle.iv_access.specs.declared.policy.PolicyCommand.TheVariants as command
 use Rattle.iv_access.specs.Rights.{Name, Membership, Grantee, Public, Role, Grant, Guard, Policy, Rights}
-use Rattle.iv_access.specs.Known.{Relation, Known}
-use Rattle.iv_access.specs.Asked.{Asked}
+use Rattle.iv_access.specs.Access.{Relation, Access}
+use Rattle.iv_access.specs.NewPolicies.{NewPolicy}
 use Rattle.iv_access.specs.Filters.{Filter}
-use Rattle.iv_access.specs.Grants.{Held}
+use Rattle.iv_access.specs.Grants.{HeldGrants}
 
 -- ---- grants
 
@@ -56,7 +56,7 @@ grant_code =
     code_by (Grantee × (Privilege × ℕ)) (coded× grantee_code (coded× privilege_code coded_ℕ))
     (λ g. (g.grantee, (g.privilege, g.rel))) (λ c. record { grantee = c.0; privilege = c.1.0; rel = c.1.1 }) (λ _. refl)
 
-abbrev pub held_code : Coded Held
+abbrev pub held_code : Coded HeldGrants
 held_code =
     code_by (List Grant × (ℕ × ℕ)) (coded× (coded_list grant_code) (coded× coded_ℕ coded_ℕ))
     (λ h. (h.list, (h.spare, h.relations))) (λ c. record { list = c.0; spare = c.1.0; relations = c.1.1 }) (λ _. refl)
@@ -96,7 +96,7 @@ policy_code =
     (λ p. ((p.name, p.restrictive), ((p.command, p.to), (p.using, p.check))))
     (λ c. record { name = c.0.0; restrictive = c.0.1; command = c.1.0.0; to = c.1.0.1; using = c.1.1.0; check = c.1.1.1 }) (λ _. refl)
 
-abbrev pub asked_code : Coded Asked
+abbrev pub asked_code : Coded NewPolicy
 asked_code =
     code_by ((Name × Bool) × ((PolicyCommand × List (Option Name)) × (Option Condition × Option Condition)))
     (coded× (coded× name_code coded_bool) (coded× (coded× command_code (coded_list (coded_option name_code))) conditions_code))
@@ -149,7 +149,7 @@ relation_code =
     code_by (Name × Option (List Kind)) (coded× name_code (coded_option (coded_list kind_code)))
     (λ r. (r.name, r.kinds)) (λ c. record { name = c.0; kinds = c.1 }) (λ _. refl)
 
-abbrev pub known_code : Coded Known
+abbrev pub known_code : Coded Access
 known_code =
     code_by (List Relation × Rights) (coded× (coded_list relation_code) rights_code)
     (λ k. (k.relations, k.rights)) (λ c. record { relations = c.0; rights = c.1 }) (λ _. refl)

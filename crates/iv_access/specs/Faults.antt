@@ -1,5 +1,5 @@
--- When a change of rights is refused, and why: the tests in their order.
-use Rattle.std.specs.Prelude.{ℕ, Bool, true, not, if◌then◌else◌, List, [], ◌∷◌, length, Option, Some, None, is_some, nat_le, slice_get, count_by}
+-- When a change of rights is refused, and why: the tests in their order; when a table takes a policy.
+use Rattle.std.specs.Prelude.{ℕ, Bool, true, not, if◌then◌else◌, List, [], ◌∷◌, ◌&&◌, length, Option, Some, None, is_some, nat_le, slice_get, count_by}
 use Rattle.std.specs.Bool.{beq}
 use Rattle.std.specs.List.{list_all}
 use Rattle.iv_access.specs.declared.fault.AccessFault.{AccessFault}
@@ -7,12 +7,12 @@ use Rattle.iv_access.specs.declared.fault.AccessFault.TheVariants as fault
 use Rattle.iv_access.specs.Rights.{Name, Rights}
 use Rattle.iv_access.specs.Privileges.{role_of, acts_as, is_admin, owns}
 use Rattle.iv_access.specs.Policies.{policies_of, policy_of}
-use Rattle.iv_access.specs.Known.{Known, Relation, relation_of, role_number}
+use Rattle.iv_access.specs.Access.{Access, Relation, relation_of, role_number}
 
 -- the first fault whose test is true
-abbrev pub first : List (Bool × AccessFault) → Option AccessFault
-first [] = None
-first (t ∷ ts) = if t.0 then Some t.1 else first ts
+abbrev pub first_fault : List (Bool × AccessFault) → Option AccessFault
+first_fault [] = None
+first_fault (t ∷ ts) = if t.0 then Some t.1 else first_fault ts
 
 abbrev pub is_role : Rights → Name → Bool
 is_role r name = is_some (role_of r name)
@@ -27,12 +27,12 @@ is_grantee r (Some name) = is_role r name
 -- at most 256 roles, with `admin`
 abbrev pub create_role_fault : Rights → ℕ → Name → Option AccessFault
 create_role_fault r acting name =
-    first ((not (is_admin acting), fault.NotAdmin) ∷ (is_role r name, fault.Taken) ∷ (nat_le 256 (length r.roles), fault.TooMany) ∷ [])
+    first_fault ((not (is_admin acting), fault.NotAdmin) ∷ (is_role r name, fault.Taken) ∷ (nat_le 256 (length r.roles), fault.TooMany) ∷ [])
 
 -- `to` would become a member of `role`, and may not reach itself so
 abbrev pub grant_role_fault : Rights → ℕ → Name → Name → Option AccessFault
 grant_role_fault r acting role to =
-    first (
+    first_fault (
     (not (is_admin acting), fault.NotAdmin)
     ∷ (not (is_role r role), fault.Role)
     ∷ (not (is_role r to), fault.Role)
@@ -41,16 +41,16 @@ grant_role_fault r acting role to =
 
 abbrev pub revoke_role_fault : Rights → ℕ → Name → Name → Option AccessFault
 revoke_role_fault r acting role to =
-    first ((not (is_admin acting), fault.NotAdmin) ∷ (not (is_role r role), fault.Role) ∷ (not (is_role r to), fault.Role) ∷ [])
+    first_fault ((not (is_admin acting), fault.NotAdmin) ∷ (not (is_role r role), fault.Role) ∷ (not (is_role r to), fault.Role) ∷ [])
 
 -- how many tables there are, or how many views
 abbrev pub count_like : Bool → List Relation → ℕ
 count_like table rs = count_by (λ r. beq table (is_some r.kinds)) rs
 
 -- at most 64 tables, and at most 64 views
-abbrev pub add_relation_fault : Known → ℕ → Name → Name → Bool → Option AccessFault
+abbrev pub add_relation_fault : Access → ℕ → Name → Name → Bool → Option AccessFault
 add_relation_fault k acting name owner table =
-    first (
+    first_fault (
     (not (is_admin acting), fault.NotAdmin)
     ∷ (not (is_role k.rights owner), fault.Role)
     ∷ (is_some (relation_of k.relations name), fault.Taken)
@@ -60,22 +60,11 @@ add_relation_fault k acting name owner table =
 -- ---- grants
 
 abbrev pub grant_fault : Rights → ℕ → ℕ → Option Name → Option AccessFault
-grant_fault r acting rel to = first ((not (owns r acting rel), fault.NotOwner) ∷ (not (is_grantee r to), fault.Role) ∷ [])
+grant_fault r acting rel to = first_fault ((not (owns r acting rel), fault.NotOwner) ∷ (not (is_grantee r to), fault.Role) ∷ [])
 
--- ---- row security and policies
+-- ---- policies
 
-abbrev pub row_security_fault : Rights → ℕ → ℕ → Option AccessFault
-row_security_fault r acting table = first ((not (owns r acting table), fault.NotOwner) ∷ [])
-
--- at most 32 policies on a table
-abbrev pub create_policy_fault : Rights → ℕ → ℕ → Name → List (Option Name) → Option AccessFault
-create_policy_fault r acting table name to =
-    first (
-    (not (owns r acting table), fault.NotOwner)
-    ∷ (not (list_all (is_grantee r) to), fault.Role)
-    ∷ (is_some (policy_of r table name), fault.Taken)
-    ∷ (nat_le 32 (length (policies_of (slice_get r.guards table))), fault.TooMany)
-    ∷ [])
-
-abbrev pub drop_policy_fault : Rights → ℕ → ℕ → Name → Option AccessFault
-drop_policy_fault r acting table name = first ((not (owns r acting table), fault.NotOwner) ∷ (not (is_some (policy_of r table name)), fault.Policy) ∷ [])
+-- the roles of a policy are there, none of the table's has its name, and there are fewer than 32
+abbrev pub takes_policy : Rights → ℕ → Name → List (Option Name) → Bool
+takes_policy r table name to =
+    list_all (is_grantee r) to && (not (is_some (policy_of r table name)) && not (nat_le 32 (length (policies_of (slice_get r.guards table)))))

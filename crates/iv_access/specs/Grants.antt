@@ -17,7 +17,7 @@ seen named.Public = Public
 seen (named.Role id) = Role id.0
 
 -- the grants in the order of granting, room for how many more there is, and how many relations have flags
-pub record Held : Type 0 where
+pub record HeldGrants : Type 0 where
   pub list : List Grant
   pub spare : ℕ
   pub relations : ℕ

@@ -4,12 +4,12 @@ pub mod Rows
 pub mod Privileges
 pub mod Policies
 pub mod Changing
-pub mod Known
+pub mod Access
 pub mod Faults
 pub mod Codes
 pub mod Grants
 pub mod Stored
-pub mod Asked
+pub mod NewPolicies
 pub mod Filters
 pub mod Views
 pub mod Given

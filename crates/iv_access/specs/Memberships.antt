@@ -38,8 +38,8 @@ chain_of (suc n) = chain_of n ++ member_of n (suc n) ∷ []
 -- ---- how memberships change
 
 -- one that is held is not added again
-abbrev pub joined : Membership → List Membership → List Membership
-joined m ms = if is_direct ms m then ms else ms ++ m ∷ []
+abbrev pub with_membership : Membership → List Membership → List Membership
+with_membership m ms = if is_direct ms m then ms else ms ++ m ∷ []
 
-abbrev pub parted : Membership → List Membership → List Membership
-parted m ms = filter (λ n. not (membership_eq m n)) ms
+abbrev pub without_membership : Membership → List Membership → List Membership
+without_membership m ms = filter (λ n. not (membership_eq m n)) ms

@@ -30,16 +30,16 @@ covers _ _ = false
 abbrev pub applies : Rights → ℕ → Check → Policy → Bool
 applies r role test p = covers p.command test && list_any (is_for r role) p.to
 
-abbrev pub or_else : Option Condition → Option Condition → Option Condition
-or_else None later = later
-or_else (Some c) later = Some c
+abbrev pub or_later : Option Condition → Option Condition → Option Condition
+or_later None later = later
+or_later (Some c) later = Some c
 
 -- a row that is added is checked, by `using` where there is no `check`
 abbrev pub predicate : Check → Policy → Option Condition
 predicate Select p = p.using
-predicate Insert p = or_else p.check p.using
+predicate Insert p = or_later p.check p.using
 predicate UpdateOld p = p.using
-predicate UpdateNew p = or_else p.check p.using
+predicate UpdateNew p = or_later p.check p.using
 predicate Delete p = p.using
 
 -- no policy lacks the predicate of a test that it applies to

@@ -4,15 +4,15 @@ use Rattle.std.specs.declared.cmp.Ordering.TheVariants.{Less}
 use Rattle.std.specs.Ordering.{nat_cmp}
 use Rattle.std.specs.Cmp.Lexicographic.{slice_cmp}
 use Rattle.iv_access.specs.declared.privilege.Privilege.{Privilege}
-use Rattle.iv_access.specs.Rights.{Name, Grantee, Policy, Rights, start}
-use Rattle.iv_access.specs.Asked.{Asked, policy_from}
+use Rattle.iv_access.specs.Rights.{Name, Grantee, Policy, Rights, rights_at_start}
+use Rattle.iv_access.specs.NewPolicies.{NewPolicy, policy_from}
 use Rattle.iv_access.specs.Changing.{with_role, with_relation, with_grants, without_grants, with_member, without_member, with_security, with_policy, without_policy}
-use Rattle.iv_access.specs.Known.{role_number}
-use Rattle.iv_access.specs.Faults.{create_policy_fault, grant_role_fault}
+use Rattle.iv_access.specs.Access.{role_number}
+use Rattle.iv_access.specs.Faults.{grant_role_fault, takes_policy}
 
--- those at the start, and those after a change of such; a policy and a membership come where they are not refused
+-- those at the start, and those after a change of such; a policy and a membership come where they may
 pub data IsReached : Rights → Type 0 where
-  at_start : IsReached start
+  at_start : IsReached rights_at_start
   role_created : (r : Rights) (name : Name) → IsReached r → IsReached (with_role name r)
   role_granted : (r : Rights) (acting : ℕ) (role to : Name) → grant_role_fault r acting role to ≡ None
       → IsReached r → IsReached (with_member (role_number r role) (role_number r to) r)
@@ -21,7 +21,7 @@ pub data IsReached : Rights → Type 0 where
   privileges_granted : (r : Rights) (rel : ℕ) (ps : List Privilege) (to : Grantee) → IsReached r → IsReached (with_grants rel ps to r)
   privileges_revoked : (r : Rights) (rel : ℕ) (ps : List Privilege) (to : Grantee) → IsReached r → IsReached (without_grants rel ps to r)
   security_switched : (r : Rights) (table : ℕ) (enabled forced : Bool) → IsReached r → IsReached (with_security table enabled forced r)
-  policy_created : (r : Rights) (acting table : ℕ) (p : Asked) → create_policy_fault r acting table p.name p.to ≡ None
+  policy_created : (r : Rights) (table : ℕ) (p : NewPolicy) → takes_policy r table p.name p.to ≡ true
       → IsReached r → IsReached (with_policy table (policy_from r p) r)
   policy_dropped : (r : Rights) (table : ℕ) (name : Name) → IsReached r → IsReached (without_policy table name r)
 

@@ -50,5 +50,5 @@ pub record Rights : Type 0 where
   pub grants : List Grant
 
 -- the one superuser is the first role
-abbrev pub start : Rights
-start = record { roles = codes "admin" ∷ []; members = []; guards = []; grants = [] }
+abbrev pub rights_at_start : Rights
+rights_at_start = record { roles = codes "admin" ∷ []; members = []; guards = []; grants = [] }

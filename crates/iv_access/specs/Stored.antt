@@ -9,7 +9,7 @@ use Rattle.iv_algebra.specs.Rows.{Cells}
 use Rattle.iv_algebra.specs.Shapes.{condition_of}
 use Rattle.iv_algebra.specs.declared.pred.Pred.{Pred}
 use Rattle.iv_rows.specs.declared.value.Kind.{Kind}
-use Rattle.iv_access.specs.Known.{Relation}
+use Rattle.iv_access.specs.Access.{Relation}
 use Rattle.iv_access.specs.Rights.{Name, Policy, Rights}
 use Rattle.iv_access.specs.Privileges.{role_name}
 use Rattle.iv_access.specs.declared.policy.Check.TheVariants.{Select}

@@ -2,14 +2,14 @@
 use Rattle.std.specs.Prelude.{map, option_map, string_bytes}
 use Rattle.iv_algebra.specs.Shapes.{condition_of}
 use Rattle.iv_access.specs.declared.filter.ReaderFilter.TheInside.{Inside as OfFilter}
+use Rattle.iv_access.specs.declared.policy.NewPolicy.TheInside.{Inside as OfNewPolicy}
 use Rattle.iv_access.specs.declared.policy.Policy.TheInside.{Inside as OfPolicy}
-use Rattle.iv_access.specs.declared.policy.Stored.TheInside.{Inside as OfStored}
 use Rattle.iv_access.specs.Rights.{Policy}
-use Rattle.iv_access.specs.Asked.{Asked}
+use Rattle.iv_access.specs.NewPolicies.{NewPolicy}
 use Rattle.iv_access.specs.Filters.{Filter}
 use Rattle.iv_access.specs.Grants.{seen}
 
-abbrev pub asked_of : OfPolicy → Asked
+abbrev pub asked_of : OfNewPolicy → NewPolicy
 asked_of p = record {
   name = string_bytes p.name;
   restrictive = p.restrictive;
@@ -19,7 +19,7 @@ asked_of p = record {
   check = option_map condition_of p.check;
 }
 
-abbrev pub policy_kept : OfStored → Policy
+abbrev pub policy_kept : OfPolicy → Policy
 policy_kept p = record {
   name = string_bytes p.name;
   restrictive = p.restrictive;

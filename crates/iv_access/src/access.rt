@@ -6,7 +6,7 @@
 //! side: of the roles that the role reaches, and of those that were granted the privilege.
 ghost use Rattle.std.specs.Prelude.{◌≡◌, ◌&&◌, true, false, IfOk, map, option_map};
 ghost use Rattle.iv_access.specs.Given.{IsInherited, IsNotInherited};
-ghost use Rattle.iv_access.specs.Known.{known_at_start, relation_of, relation_name};
+ghost use Rattle.iv_access.specs.Access.{access_at_start, relation_of, relation_name};
 ghost use Rattle.iv_access.specs.Privileges.{acts_as, has, first_missing, owns, role_of};
 
 use crate::grants::Grants;
@@ -35,10 +35,10 @@ pub struct Access {
 }
 
 impl Model for Access {
-    ghost use Rattle.iv_access.specs.Known.{Known};
+    ghost use Rattle.iv_access.specs.Access.{Access};
     ghost use Rattle.iv_access.specs.Codes.{known_code};
 
-    ghost Value = { Known };
+    ghost Value = { Access };
 
     ghost coded = { known_code };
 
@@ -55,7 +55,7 @@ impl Access {
     /// # Errors
     /// `AllocError` where a growth of memory was refused.
     pub fn new(alloc: Global) -> Result<Access, AllocError>
-        ensures { IfOk result (λ access. access ≡ known_at_start) }
+        ensures { IfOk result (λ access. access ≡ access_at_start) }
     {
         Access::with_seed(alloc, Seed::known())
     }
@@ -65,7 +65,7 @@ impl Access {
     /// # Errors
     /// `AllocError` where a growth of memory was refused.
     pub fn with_seed(alloc: Global, seed: Seed) -> Result<Access, AllocError>
-        ensures { IfOk result (λ access. access ≡ known_at_start) }
+        ensures { IfOk result (λ access. access ≡ access_at_start) }
     {
         let mut roles = Roles::with_seed(alloc, seed);
         roles.push("admin")?;

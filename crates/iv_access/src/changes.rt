@@ -4,7 +4,7 @@ ghost use Rattle.iv_access.specs.declared.fault.AccessFault.TheVariants.{Memory}
 ghost use Rattle.iv_access.specs.Changing.{with_role, with_member, without_member, with_relation, with_grants, without_grants};
 ghost use Rattle.iv_access.specs.Faults.{count_like, create_role_fault, grant_role_fault, revoke_role_fault, add_relation_fault, grant_fault};
 ghost use Rattle.iv_access.specs.Grants.{HasPlace, seen};
-ghost use Rattle.iv_access.specs.Known.{relation_of, relation_with, role_number, grantee_of, named};
+ghost use Rattle.iv_access.specs.Access.{relation_of, relation_with, role_number, grantee_of, name_given};
 
 use crate::access::Access;
 use crate::fault::AccessFault;
@@ -172,10 +172,10 @@ impl Access {
     /// To whom privileges on the relation go where the role may grant and revoke them, or why it is refused: all roles where
     /// there is no name.
     fn grantee(&self, acting: RoleId, rel: RelId, to: Option<&str>) -> Result<Grantee, AccessFault>
-        ensures grantee { IfOk result (λ g. seen g ≡ grantee_of self.now.rights (named to.entry)) }
+        ensures grantee { IfOk result (λ g. seen g ≡ grantee_of self.now.rights (name_given to.entry)) }
         ensures place { IfOk result (λ g. HasPlace (seen g)) }
-        ensures ok_when { OnOk result (grant_fault self.now.rights acting.0 rel.0 (named to.entry) ≡ None) }
-        ensures err_when { IfErr result (λ e. grant_fault self.now.rights acting.0 rel.0 (named to.entry) ≡ Some e) }
+        ensures ok_when { OnOk result (grant_fault self.now.rights acting.0 rel.0 (name_given to.entry) ≡ None) }
+        ensures err_when { IfErr result (λ e. grant_fault self.now.rights acting.0 rel.0 (name_given to.entry) ≡ Some e) }
     {
         if !self.owns(acting, rel) {
             return Err(AccessFault::NotOwner);
@@ -200,10 +200,10 @@ impl Access {
         privileges: &[Privilege],
         to: Option<&str>,
     ) -> Result<(), AccessFault>
-        ensures ok { OnOk result (self.new.rights ≡ with_grants rel.0 privileges.now (grantee_of self.old.rights (named to.entry)) self.old.rights) }
+        ensures ok { OnOk result (self.new.rights ≡ with_grants rel.0 privileges.now (grantee_of self.old.rights (name_given to.entry)) self.old.rights) }
         ensures relations { self.new.relations ≡ self.old.relations }
-        ensures ok_when { OnOk result (grant_fault self.old.rights acting.0 rel.0 (named to.entry) ≡ None) }
-        ensures err_when { IfErr result (λ e. (e ≡ Memory) ⊎ (grant_fault self.old.rights acting.0 rel.0 (named to.entry) ≡ Some e)) }
+        ensures ok_when { OnOk result (grant_fault self.old.rights acting.0 rel.0 (name_given to.entry) ≡ None) }
+        ensures err_when { IfErr result (λ e. (e ≡ Memory) ⊎ (grant_fault self.old.rights acting.0 rel.0 (name_given to.entry) ≡ Some e)) }
         ensures unchanged { OnErr result (self.new ≡ self.old) }
     {
         let grantee = self.grantee(acting, rel, to)?;
@@ -224,10 +224,10 @@ impl Access {
         privileges: &[Privilege],
         to: Option<&str>,
     ) -> Result<(), AccessFault>
-        ensures ok { OnOk result (self.new.rights ≡ without_grants rel.0 privileges.now (grantee_of self.old.rights (named to.entry)) self.old.rights) }
+        ensures ok { OnOk result (self.new.rights ≡ without_grants rel.0 privileges.now (grantee_of self.old.rights (name_given to.entry)) self.old.rights) }
         ensures relations { self.new.relations ≡ self.old.relations }
-        ensures ok_when { OnOk result (grant_fault self.old.rights acting.0 rel.0 (named to.entry) ≡ None) }
-        ensures err_when { IfErr result (λ e. grant_fault self.old.rights acting.0 rel.0 (named to.entry) ≡ Some e) }
+        ensures ok_when { OnOk result (grant_fault self.old.rights acting.0 rel.0 (name_given to.entry) ≡ None) }
+        ensures err_when { IfErr result (λ e. grant_fault self.old.rights acting.0 rel.0 (name_given to.entry) ≡ Some e) }
         ensures unchanged { OnErr result (self.new ≡ self.old) }
     {
         let grantee = self.grantee(acting, rel, to)?;

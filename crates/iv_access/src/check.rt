@@ -9,20 +9,20 @@ ghost use Rattle.iv_access.specs.Privileges.{is_for, role_name};
 use crate::access::Access;
 use crate::grant::Grantee;
 use crate::guard::Guard;
-use crate::policy::{Check, Stored, Verdict, covers};
+use crate::policy::{Check, Policy, Verdict, covers};
 use crate::role::RoleId;
 use iv_algebra::Pred;
 use iv_rows::{RelId, Row};
 
 /// The first policy of the name.
-fn named<'a>(policies: &'a [Stored], name: &str) -> Option<&'a Stored>
+fn named<'a>(policies: &'a [Policy], name: &str) -> Option<&'a Policy>
     ensures { option_map (λ p. p.now) result ≡ find (is_named name.now) policies.now }
 {
     policies.iter().find(|policy| policy.is_named(name))
 }
 
 /// How many policies have the name.
-fn count_of(policies: &[Stored], name: &str) -> usize
+fn count_of(policies: &[Policy], name: &str) -> usize
     ensures { result ≡ count_by (is_named name.now) policies.now }
 {
     policies
@@ -60,14 +60,14 @@ impl Access {
     }
 
     /// Whether the policy applies to the role and the test.
-    pub(crate) fn applies(&self, role: RoleId, test: Check, policy: &Stored) -> bool
+    pub(crate) fn applies(&self, role: RoleId, test: Check, policy: &Policy) -> bool
         ensures { result ≡ applies self.now.rights role.0 test policy.now }
     {
         covers(policy.command, test) && self.goes_to(&policy.to, role)
     }
 
     /// Whether it is a permissive policy that applies and passes.
-    fn permits(&self, role: RoleId, test: Check, row: &Row, policy: &Stored) -> bool
+    fn permits(&self, role: RoleId, test: Check, row: &Row, policy: &Policy) -> bool
         ensures { result ≡ permits self.now.rights role.0 test row.now policy.now }
     {
         !policy.restrictive
@@ -75,7 +75,7 @@ impl Access {
     }
 
     /// Whether it is a restrictive policy that applies and fails.
-    fn forbids(&self, role: RoleId, test: Check, row: &Row, policy: &Stored) -> bool
+    fn forbids(&self, role: RoleId, test: Check, row: &Row, policy: &Policy) -> bool
         ensures { result ≡ forbids self.now.rights role.0 test row.now policy.now }
     {
         policy.restrictive
@@ -83,7 +83,7 @@ impl Access {
     }
 
     /// Whether some permissive policy applies and passes.
-    fn is_permitted(&self, role: RoleId, test: Check, row: &Row, policies: &[Stored]) -> bool
+    fn is_permitted(&self, role: RoleId, test: Check, row: &Row, policies: &[Policy]) -> bool
         ensures { result ≡ list_any (permits self.now.rights role.0 test row.now) policies.now }
     {
         policies
@@ -97,7 +97,7 @@ impl Access {
         role: RoleId,
         test: Check,
         row: &Row,
-        policies: &[Stored],
+        policies: &[Policy],
     ) -> Option<usize>
         ensures { result ≡ position (forbids self.now.rights role.0 test row.now) policies.now }
     {
@@ -107,7 +107,7 @@ impl Access {
     }
 
     /// What the policies say of the row: some permissive one has to pass, and then each restrictive one.
-    fn by_policies(&self, role: RoleId, test: Check, row: &Row, policies: &[Stored]) -> Verdict
+    fn by_policies(&self, role: RoleId, test: Check, row: &Row, policies: &[Policy]) -> Verdict
         ensures { result ≡ by_policies self.now.rights role.0 test row.now policies.now }
     {
         if !self.is_permitted(role, test, row, policies) {

@@ -12,9 +12,7 @@ pub enum AccessFault {
     NotAdmin,
     /// The acting role is neither the relation's owner nor `admin`.
     NotOwner,
-    /// The table has no policy of that name.
-    Policy,
-    /// There are as many as there may be: 256 roles, 64 tables, 64 views, 32 policies on a table.
+    /// There are as many as there may be: 256 roles, 64 tables, 64 views.
     TooMany,
     /// The role is the member, or a member of it, directly or through others.
     Loop,

@@ -46,9 +46,9 @@ pub(crate) struct Grants {
 impl Model for Grants {
     ghost use Rattle.std.specs.Prelude.{◌-◌, vec_capacity, vec_len};
     ghost use Rattle.iv_access.specs.Codes.{held_code};
-    ghost use Rattle.iv_access.specs.Grants.{AreFlags, Held};
+    ghost use Rattle.iv_access.specs.Grants.{AreFlags, HeldGrants};
 
-    ghost Value = { Held };
+    ghost Value = { HeldGrants };
 
     ghost coded = { held_code };
 

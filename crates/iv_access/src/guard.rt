@@ -7,7 +7,7 @@ ghost use Rattle.std.specs.List.{position_or_len};
 ghost use Rattle.iv_access.specs.Changing.{insert_policy, remove_policy};
 ghost use Rattle.iv_access.specs.Stored.{is_before};
 
-use crate::policy::Stored;
+use crate::policy::Policy;
 use crate::role::RoleId;
 use std::alloc::{AllocError, Global};
 use std::marker::Model;
@@ -18,7 +18,7 @@ pub(crate) struct Guard {
     pub(crate) owner: RoleId,
     pub(crate) enabled: bool,
     pub(crate) forced: bool,
-    pub(crate) policies: Vec<Stored>,
+    pub(crate) policies: Vec<Policy>,
 }
 
 impl Model for Guard {
@@ -54,7 +54,7 @@ impl Guard {
     }
 
     /// Adds a policy, before the first whose name comes later. After an error nothing has changed.
-    pub(crate) fn insert(&mut self, policy: Stored) -> Result<(), AllocError>
+    pub(crate) fn insert(&mut self, policy: Policy) -> Result<(), AllocError>
         ensures ok { OnOk result (self.new ≡ record self.old { policies = insert_policy policy self.old.policies }) }
         ensures err { OnErr result (self.new ≡ self.old) }
     {
@@ -72,14 +72,14 @@ impl Guard {
 }
 
 /// Whether the name stands before the policy's.
-fn is_before(name: &str, policy: &Stored) -> bool
+fn is_before(name: &str, policy: &Policy) -> bool
     ensures { result ≡ is_before name.now policy.now }
 {
     name.cmp(policy.name.as_str()).is_lt()
 }
 
 /// The place of the first policy before whose name the name stands.
-fn first_after(policies: &[Stored], name: &str) -> Option<usize>
+fn first_after(policies: &[Policy], name: &str) -> Option<usize>
     ensures { result ≡ position (is_before name.now) policies.now }
 {
     policies.iter().position(|policy| is_before(name, policy))
@@ -87,7 +87,7 @@ fn first_after(policies: &[Stored], name: &str) -> Option<usize>
 
 /// The place at which a policy of the name goes.
 #[tactic(auto, using(crate::proofs::Lists::place_none, crate::proofs::Lists::place_some, crate::proofs::Lists::prefix_short))]
-fn place_for(policies: &[Stored], name: &str) -> usize
+fn place_for(policies: &[Policy], name: &str) -> usize
     ensures place { result ≡ position_or_len (is_before name.now) policies.now }
     ensures within { result ≤ length policies.now }
 {

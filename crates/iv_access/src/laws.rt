@@ -5,7 +5,7 @@
 //! role, the table's number, the test and the row, and no table. So it is with each look-up of a privilege.
 ghost use Rattle.std.specs.Prelude.{ℕ, List};
 ghost use Rattle.iv_access.specs.Rights.{Membership};
-ghost use Rattle.iv_access.specs.Memberships.{member_of, joined, parted};
+ghost use Rattle.iv_access.specs.Memberships.{member_of, with_membership, without_membership};
 ghost use Rattle.iv_access.specs.Laws.{GrantsGive, RevokesTake, HeldGrantsChangeNothing, RolesHaveTheirOwn, OwnersHaveAll};
 ghost use Rattle.iv_access.specs.Laws.{FollowsChains, HasByReach, MembersHold, NoLoops, ReachAlongChains, SeesByReach, StaysUnless};
 ghost use Rattle.iv_access.specs.Laws.{RowsPassWherePermitted, NothingPassesWithoutPermissive, PoliciesRise, FirstByNameIsTold};
@@ -53,8 +53,8 @@ pub fn memberships_do_not_loop()
 
 /// A role reaches the same roles after a membership comes or goes, unless it comes to reach its role or ceases to.
 pub fn few_reach_others()
-    ensures come { (ms : List Membership) (role member : ℕ) → StaysUnless ms (joined (member_of role member) ms) role }
-    ensures gone { (ms : List Membership) (role member : ℕ) → StaysUnless ms (parted (member_of role member) ms) role }
+    ensures come { (ms : List Membership) (role member : ℕ) → StaysUnless ms (with_membership (member_of role member) ms) role }
+    ensures gone { (ms : List Membership) (role member : ℕ) → StaysUnless ms (without_membership (member_of role member) ms) role }
 {}
 
 /// What a role has and what it sees stay as they are where it reaches the same roles.

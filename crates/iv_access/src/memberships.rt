@@ -8,7 +8,7 @@
 //! be no superuser.
 ghost use Rattle.std.specs.Prelude.{◌≡◌, ℕ, ◌<◌, ◌≤◌, ◌==◌, ◌&&◌, ◌||◌, [], false, length, get_or, OnOk, OnErr};
 ghost use Rattle.std.specs.List.{All};
-ghost use Rattle.iv_access.specs.Memberships.{further, is_direct, joined, member_of, membership_eq, parted, reaches};
+ghost use Rattle.iv_access.specs.Memberships.{further, is_direct, with_membership, member_of, membership_eq, without_membership, reaches};
 ghost use Rattle.iv_access.specs.Rows.{IsWithin, leads};
 
 use crate::role::RoleId;
@@ -200,7 +200,7 @@ impl Memberships {
     pub(crate) fn add(&mut self, role: RoleId, member: RoleId) -> Result<(), AllocError>
         requires role { role.0 < 256 }
         requires member { member.0 < 256 }
-        ensures ok { OnOk result (self.new ≡ joined (member_of role.0 member.0) self.old) }
+        ensures ok { OnOk result (self.new ≡ with_membership (member_of role.0 member.0) self.old) }
         ensures err { OnErr result (self.new ≡ self.old) }
     {
         if self.is_direct(role, member) {
@@ -215,7 +215,7 @@ impl Memberships {
 
     /// The member ceases to be a direct member of the role. It takes no memory.
     pub(crate) fn remove(&mut self, role: RoleId, member: RoleId)
-        ensures { self.new ≡ parted (member_of role.0 member.0) self.old }
+        ensures { self.new ≡ without_membership (member_of role.0 member.0) self.old }
     {
         self.direct
             .retain(|membership| !membership.is(role, member));

@@ -1,7 +1,7 @@
-//! `Policy`, as asked for and as stored; `PolicyCommand`, `Check`, `Verdict`; whether a row passes one policy.
+//! `NewPolicy`, as it is asked for, and `Policy`, as it is kept; `PolicyCommand`, `Check`, `Verdict`; whether a row passes one policy.
 ghost use Rattle.std.specs.Prelude.{◌≡◌, option_map};
 ghost use Rattle.iv_algebra.specs.Shapes.{condition_of};
-ghost use Rattle.iv_access.specs.Policies.{covers, is_met, is_named, or_else, passes};
+ghost use Rattle.iv_access.specs.Policies.{covers, is_met, is_named, or_later, passes};
 
 use crate::grant::Grantee;
 use iv_algebra::Pred;
@@ -51,7 +51,7 @@ pub enum Verdict {
 
 /// A policy as it is asked for (PostgreSQL 16, CREATE POLICY).
 #[derive(Drop)]
-pub struct Policy {
+pub struct NewPolicy {
     /// Its name, unique on its table.
     pub name: String,
     /// Whether it is restrictive, and not permissive.
@@ -66,11 +66,11 @@ pub struct Policy {
     pub check: Option<Pred>,
 }
 
-impl Model for Policy {
-    ghost use Rattle.iv_access.specs.Asked.{Asked};
+impl Model for NewPolicy {
+    ghost use Rattle.iv_access.specs.NewPolicies.{NewPolicy};
     ghost use Rattle.iv_access.specs.Codes.{asked_code};
 
-    ghost Value = { Asked };
+    ghost Value = { NewPolicy };
 
     ghost coded = { asked_code };
 
@@ -81,7 +81,7 @@ impl Model for Policy {
 
 /// A policy as a table keeps it, with its roles by number.
 #[derive(Drop)]
-pub(crate) struct Stored {
+pub(crate) struct Policy {
     pub(crate) name: String,
     pub(crate) restrictive: bool,
     pub(crate) command: PolicyCommand,
@@ -90,7 +90,7 @@ pub(crate) struct Stored {
     pub(crate) check: Option<Pred>,
 }
 
-impl Model for Stored {
+impl Model for Policy {
     ghost use Rattle.iv_access.specs.Rights.{Policy};
     ghost use Rattle.iv_access.specs.Codes.{policy_code};
 
@@ -128,7 +128,7 @@ fn is_met(pred: &Option<Pred>, user: &str, row: &Row) -> bool
 
 /// Whether the check is met, or the other predicate where there is no check.
 fn is_checked(check: &Option<Pred>, otherwise: &Option<Pred>, user: &str, row: &Row) -> bool
-    ensures { result ≡ is_met (or_else (option_map condition_of check.now) (option_map condition_of otherwise.now)) user.now row.now }
+    ensures { result ≡ is_met (or_later (option_map condition_of check.now) (option_map condition_of otherwise.now)) user.now row.now }
 {
     match check {
         Some(check) => check.holds(row, user),
@@ -136,7 +136,7 @@ fn is_checked(check: &Option<Pred>, otherwise: &Option<Pred>, user: &str, row: &
     }
 }
 
-impl Stored {
+impl Policy {
     /// Whether the policy has the name.
     pub(crate) fn is_named(&self, name: &str) -> bool
         ensures { result ≡ is_named name.now self.now }

@@ -2,7 +2,7 @@
 ghost use Rattle.std.specs.Prelude.{◌≡◌, ◌<◌, ◌≤◌, ◌∷◌, [], ◌++◌, None, OnOk, OnErr, is_some, count_by, length, option_map};
 ghost use Rattle.std.specs.Bool.{beq};
 ghost use Rattle.indexmap.specs.IndexMap.{values};
-ghost use Rattle.iv_access.specs.Known.{relation_of, relation_name, relation_with};
+ghost use Rattle.iv_access.specs.Access.{relation_of, relation_name, relation_with};
 ghost use Rattle.iv_access.specs.Faults.{count_like};
 ghost use Rattle.iv_access.specs.Stored.{relation_at};
 
@@ -24,7 +24,7 @@ pub(crate) struct Relations {
 impl Model for Relations {
     ghost use Rattle.std.specs.Prelude.{◌≤◌, List, map, true, false};
     ghost use Rattle.std.specs.Coded.{coded_list};
-    ghost use Rattle.iv_access.specs.Known.{Relation};
+    ghost use Rattle.iv_access.specs.Access.{Relation};
     ghost use Rattle.iv_access.specs.Codes.{relation_code};
 
     ghost Value = { List Relation };

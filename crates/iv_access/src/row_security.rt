@@ -1,18 +1,16 @@
-//! Changes of row security and policies: `row_security`, `create_policy`, `drop_policy`, and why they are refused.
-ghost use Rattle.std.specs.Prelude.{◌≡◌, ◌⊎◌, ◌<◌, None, Some, IfOk, IfErr, OnOk, OnErr, length, map, slice_get, option_map, string_bytes};
+//! Changes of row security and policies: `row_security`, `create_policy`, `drop_policy`, and the tests before them: `are_grantees`, `policies`.
+ghost use Rattle.std.specs.Prelude.{◌≡◌, ◌<◌, true, IfOk, OnOk, OnErr, length, map, slice_get, option_map, string_bytes};
 ghost use Rattle.std.specs.List.{list_all};
-ghost use Rattle.iv_access.specs.declared.fault.AccessFault.TheVariants.{Memory};
-ghost use Rattle.iv_access.specs.Asked.{policy_from};
+ghost use Rattle.iv_access.specs.NewPolicies.{policy_from};
 ghost use Rattle.iv_access.specs.Changing.{with_security, with_policy, without_policy};
-ghost use Rattle.iv_access.specs.Faults.{is_grantee, row_security_fault, create_policy_fault, drop_policy_fault};
+ghost use Rattle.iv_access.specs.Faults.{is_grantee, takes_policy};
 ghost use Rattle.iv_access.specs.Grants.{seen};
-ghost use Rattle.iv_access.specs.Known.{grantee_of};
+ghost use Rattle.iv_access.specs.Access.{grantee_of};
 ghost use Rattle.iv_access.specs.Policies.{policies_of};
 
 use crate::access::Access;
-use crate::fault::AccessFault;
 use crate::grant::Grantee;
-use crate::policy::{Policy, Stored};
+use crate::policy::{NewPolicy, Policy};
 use crate::role::RoleId;
 use iv_rows::RelId;
 use std::alloc::AllocError;
@@ -21,32 +19,16 @@ use std::alloc::AllocError;
 pub const MOST_POLICIES: usize = 32;
 
 impl Access {
-    /// Switches row security of a table (PostgreSQL 16, ALTER TABLE: ENABLE and FORCE ROW LEVEL SECURITY). It takes no
-    /// memory. After an error nothing has changed.
-    ///
-    /// # Errors
-    /// `NotOwner`.
-    pub fn row_security(
-        &mut self,
-        acting: RoleId,
-        table: RelId,
-        enabled: bool,
-        forced: bool,
-    ) -> Result<(), AccessFault>
+    /// Switches row security of a table (PostgreSQL 16, ALTER TABLE: ENABLE and FORCE ROW LEVEL SECURITY). Whoever asks for it has to own
+    /// the table (`owns`). It takes no memory.
+    pub fn row_security(&mut self, table: RelId, enabled: bool, forced: bool)
         requires { table.0 < length self.old.rights.guards }
-        ensures ok { OnOk result (self.new.rights ≡ with_security table.0 enabled forced self.old.rights) }
+        ensures rights { self.new.rights ≡ with_security table.0 enabled forced self.old.rights }
         ensures relations { self.new.relations ≡ self.old.relations }
         ensures guards { length self.new.rights.guards ≡ length self.old.rights.guards }
-        ensures ok_when { OnOk result (row_security_fault self.old.rights acting.0 table.0 ≡ None) }
-        ensures err_when { IfErr result (λ e. row_security_fault self.old.rights acting.0 table.0 ≡ Some e) }
-        ensures unchanged { OnErr result (self.new ≡ self.old) }
     {
-        if !self.owns(acting, table) {
-            return Err(AccessFault::NotOwner);
-        }
         let guard = &mut self.guards[table.0 as usize];
         guard.switch(enabled, forced);
-        Ok(())
     }
 
     /// How many policies a relation has. It takes no memory.
@@ -69,8 +51,8 @@ impl Access {
         }
     }
 
-    /// Whether each name is a role's, or stands for all roles.
-    fn are_grantees(&self, to: &[Option<String>]) -> bool
+    /// Whether each name is a role's, or stands for all roles. It takes no memory.
+    pub fn are_grantees(&self, to: &[Option<String>]) -> bool
         ensures { result ≡ list_all (is_grantee self.now.rights) (map (option_map string_bytes) to.now) }
     {
         for name in to {
@@ -79,31 +61,6 @@ impl Access {
             }
         }
         true
-    }
-
-    /// Why a policy of the name for the roles is refused.
-    fn name_fault(
-        &self,
-        acting: RoleId,
-        table: RelId,
-        name: &str,
-        to: &[Option<String>],
-    ) -> Option<AccessFault>
-        ensures { result ≡ create_policy_fault self.now.rights acting.0 table.0 name.now (map (option_map string_bytes) to.now) }
-    {
-        if !self.owns(acting, table) {
-            return Some(AccessFault::NotOwner);
-        }
-        if !self.are_grantees(to) {
-            return Some(AccessFault::Role);
-        }
-        if self.policy(table, name).is_some() {
-            return Some(AccessFault::Taken);
-        }
-        if self.policies(table) >= MOST_POLICIES {
-            return Some(AccessFault::TooMany);
-        }
-        None
     }
 
     /// To whom the name goes: all roles where there is none. Nothing asks for a name that no role has.
@@ -131,11 +88,11 @@ impl Access {
     }
 
     /// The policy with its roles by number.
-    fn stored(&self, policy: Policy) -> Result<Stored, AllocError>
+    fn stored(&self, policy: NewPolicy) -> Result<Policy, AllocError>
         ensures { IfOk result (λ p. p ≡ policy_from self.now.rights policy) }
     {
         let to = self.grantees(&policy.to)?;
-        Ok(Stored {
+        Ok(Policy {
             name: policy.name,
             restrictive: policy.restrictive,
             command: policy.command,
@@ -145,60 +102,34 @@ impl Access {
         })
     }
 
-    /// Adds a policy to a table. After an error nothing has changed.
+    /// Adds a policy to a table: each of its roles is there (`are_grantees`), none of the table's has its name (`policy`), and there are fewer
+    /// than `MOST_POLICIES` (`policies`). Whoever asks for it has to own the table (`owns`). After an error nothing has changed.
     ///
     /// # Errors
-    /// In this order: `NotOwner`, `Role`, `Taken`, `TooMany`; `Memory` where a growth was refused.
-    pub fn create_policy(
-        &mut self,
-        acting: RoleId,
-        table: RelId,
-        policy: Policy,
-    ) -> Result<(), AccessFault>
-        requires { table.0 < length self.old.rights.guards }
+    /// `AllocError` where a growth of memory was refused.
+    pub fn create_policy(&mut self, table: RelId, policy: NewPolicy) -> Result<(), AllocError>
+        requires table { table.0 < length self.old.rights.guards }
+        requires tested { takes_policy self.old.rights table.0 policy.name policy.to ≡ true }
         ensures ok { OnOk result (self.new.rights ≡ with_policy table.0 (policy_from self.old.rights policy) self.old.rights) }
         ensures relations { self.new.relations ≡ self.old.relations }
         ensures guards { length self.new.rights.guards ≡ length self.old.rights.guards }
-        ensures ok_when { OnOk result (create_policy_fault self.old.rights acting.0 table.0 policy.name policy.to ≡ None) }
-        ensures err_when { IfErr result (λ e. (e ≡ Memory) ⊎ (create_policy_fault self.old.rights acting.0 table.0 policy.name policy.to ≡ Some e)) }
         ensures unchanged { OnErr result (self.new ≡ self.old) }
     {
-        let name = policy.name.as_str();
-        if let Some(fault) = self.name_fault(acting, table, name, &policy.to) {
-            return Err(fault);
-        }
         let stored = self.stored(policy)?;
         let guard = &mut self.guards[table.0 as usize];
         guard.insert(stored)?;
         Ok(())
     }
 
-    /// Takes a policy out of a table. It takes no memory. After an error nothing has changed.
-    ///
-    /// # Errors
-    /// In this order: `NotOwner`, `Policy`.
-    pub fn drop_policy(
-        &mut self,
-        acting: RoleId,
-        table: RelId,
-        name: &str,
-    ) -> Result<(), AccessFault>
+    /// Takes the policy of that name out of a table, if it has one (`policy`). Whoever asks for it has to own the table (`owns`). It takes no
+    /// memory.
+    pub fn drop_policy(&mut self, table: RelId, name: &str)
         requires { table.0 < length self.old.rights.guards }
-        ensures ok { OnOk result (self.new.rights ≡ without_policy table.0 name.now self.old.rights) }
+        ensures rights { self.new.rights ≡ without_policy table.0 name.now self.old.rights }
         ensures relations { self.new.relations ≡ self.old.relations }
         ensures guards { length self.new.rights.guards ≡ length self.old.rights.guards }
-        ensures ok_when { OnOk result (drop_policy_fault self.old.rights acting.0 table.0 name.now ≡ None) }
-        ensures err_when { IfErr result (λ e. drop_policy_fault self.old.rights acting.0 table.0 name.now ≡ Some e) }
-        ensures unchanged { OnErr result (self.new ≡ self.old) }
     {
-        if !self.owns(acting, table) {
-            return Err(AccessFault::NotOwner);
-        }
-        if self.policy(table, name).is_none() {
-            return Err(AccessFault::Policy);
-        }
         let guard = &mut self.guards[table.0 as usize];
         guard.remove(name);
-        Ok(())
     }
 }

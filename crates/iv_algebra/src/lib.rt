@@ -5,6 +5,7 @@
 #![tactic(auto)]
 
 mod accumulate;
+mod aggregate;
 mod each;
 mod evaluation;
 mod except;
@@ -19,8 +20,9 @@ mod pred;
 mod rows;
 mod tables;
 
+pub use aggregate::{share_of, small_of, value_in};
 pub use evaluation::eval;
-pub use group::{group as group_rows, share_of, small_of, value_in};
+pub use group::group as group_rows;
 pub use iv_zset::LimitFault as AlgFault;
 pub use laws::{copies_are_counted, operators_count_rows, results_depend_on_counts};
 pub use plan::{Agg, Plan};

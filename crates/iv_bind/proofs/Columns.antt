@@ -3,7 +3,7 @@ use Rattle.std.proofs.Common.{◌≡◌, ℕ, suc, ◌-◌, ◌≤◌, Bool, tru
 use Rattle.std.specs.Prelude.{slice_get}
 use Rattle.iv_rows.specs.declared.value.Kind.{Kind}
 use Rattle.iv_query.specs.Trees.{ColumnTree}
-use Rattle.iv_bind.specs.Binding.{Named, place_of, is_meant, meant, only, column_at}
+use Rattle.iv_bind.specs.Binding.{Named, column_place, is_meant, meant, only, column_bound}
 
 abbrev pub kinds_in : List Named → List Kind
 kinds_in = map (λ n. n.kind)
@@ -38,9 +38,9 @@ only_one p (y ∷ []) x h = let e : y ≡ x = cc in ap (λ z. z ∷ []) e
 only_one p (y ∷ z ∷ ys) x h = cc
 
 -- a column that is found has its kind at its place
-pub found : (scope : List Named) (c : ColumnTree) (x : ℕ × Kind) → column_at scope c ≡ Ok x → slice_get (kinds_in scope) x.0 ≡ Some x.1
-unfolding column_at
+pub found : (scope : List Named) (c : ColumnTree) (x : ℕ × Kind) → column_bound scope c ≡ Ok x → slice_get (kinds_in scope) x.0 ≡ Some x.1
+unfolding column_bound
 found scope c x h =
-    let m = first_meant c 0 scope x [] (only_one (place_of c) (meant c 0 scope) x h) in
+    let m = first_meant c 0 scope x [] (only_one (column_place c) (meant c 0 scope) x h) in
     let e : x.0 - 0 ≡ x.0 = omega arith in
     ap (slice_get (kinds_in scope)) (sym e) ∙ m.1

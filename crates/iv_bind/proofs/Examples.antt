@@ -1,36 +1,36 @@
 -- The worked examples, by computing.
 use Rattle.std.proofs.Common.{refl}
-use Rattle.iv_bind.specs.Binding.{bound, finished, query_at, select_at, from_at, source_at, join_at, joined_at, pairs_at, pair_at, column_at, filter_at, pred_at, compare_at, operand_at, output_of, keys_at, list_at, star_at, item_at, output_at}
+use Rattle.iv_bind.specs.Binding.{bound, finished, query_bound, select_bound, from_bound, source_bound, join_bound, joined_bound, pairs_bound, pair_bound, column_bound, filter_bound, pred_bound, compare_bound, operand_bound, output_of, keys_bound, list_bound, star_bound, item_bound, output_bound}
 use Rattle.iv_bind.specs.Examples.{JoinedTables, GroupedSums, ViewInUnion, UnknownColumn, OneSide, DuplicateName, NoSuchColumn, NoGroup}
 
 pub joined_tables : JoinedTables
-unfolding bound finished query_at select_at from_at source_at join_at joined_at pairs_at pair_at column_at filter_at output_of keys_at list_at item_at output_at
+unfolding bound finished query_bound select_bound from_bound source_bound join_bound joined_bound pairs_bound pair_bound column_bound filter_bound output_of keys_bound list_bound item_bound output_bound
 joined_tables = refl
 
 pub grouped_sums : GroupedSums
-unfolding bound finished query_at select_at from_at source_at join_at joined_at pairs_at pair_at column_at filter_at pred_at compare_at operand_at output_of keys_at list_at item_at output_at
+unfolding bound finished query_bound select_bound from_bound source_bound join_bound joined_bound pairs_bound pair_bound column_bound filter_bound pred_bound compare_bound operand_bound output_of keys_bound list_bound item_bound output_bound
 grouped_sums = refl
 
 pub view_in_union : ViewInUnion
-unfolding bound finished query_at select_at from_at source_at filter_at column_at output_of keys_at list_at star_at item_at output_at
+unfolding bound finished query_bound select_bound from_bound source_bound filter_bound column_bound output_of keys_bound list_bound star_bound item_bound output_bound
 view_in_union = refl
 
 pub unknown_column : UnknownColumn
-unfolding bound finished query_at select_at from_at source_at join_at joined_at pairs_at pair_at column_at
+unfolding bound finished query_bound select_bound from_bound source_bound join_bound joined_bound pairs_bound pair_bound column_bound
 unknown_column = refl
 
 pub one_side : OneSide
-unfolding bound finished query_at select_at from_at source_at join_at joined_at pairs_at pair_at column_at
+unfolding bound finished query_bound select_bound from_bound source_bound join_bound joined_bound pairs_bound pair_bound column_bound
 one_side = refl
 
 pub duplicate_name : DuplicateName
-unfolding bound finished query_at select_at from_at source_at join_at joined_at pairs_at pair_at column_at filter_at output_of keys_at list_at star_at output_at
+unfolding bound finished query_bound select_bound from_bound source_bound join_bound joined_bound pairs_bound pair_bound column_bound filter_bound output_of keys_bound list_bound star_bound output_bound
 duplicate_name = refl
 
 pub no_such_column : NoSuchColumn
-unfolding bound finished query_at select_at from_at source_at column_at filter_at output_of keys_at list_at item_at
+unfolding bound finished query_bound select_bound from_bound source_bound column_bound filter_bound output_of keys_bound list_bound item_bound
 no_such_column = refl
 
 pub no_group : NoGroup
-unfolding bound finished query_at select_at from_at source_at filter_at output_of keys_at
+unfolding bound finished query_bound select_bound from_bound source_bound filter_bound output_of keys_bound
 no_group = refl

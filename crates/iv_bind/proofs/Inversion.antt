@@ -2,7 +2,8 @@
 use Rattle.std.proofs.Common.{◌≡◌, suc, arith, Bool, true, false, List, [], ◌∷◌, Option, Some, None, Result, Ok, Err, refl, subst}
 use Rattle.std.specs.Prelude.{if◌then◌else◌}
 use Rattle.std.specs.List.{All}
-use Rattle.iv_bind.specs.Faults.{Fault, ◌>>=◌, if_some, through}
+use Rattle.iv_bind.specs.Faults.{Fault, ◌>>=◌, through}
+use Rattle.iv_rows.specs.Options.{if_some}
 
 -- both steps went well
 pub both_ok : {A B : Type 0} (r : Result A Fault) (f : A → Result B Fault) (y : B) → (r >>= f) ≡ Ok y → (x : A) × (r ≡ Ok x) × (f x ≡ Ok y)

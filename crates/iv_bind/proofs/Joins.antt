@@ -14,13 +14,14 @@ use Rattle.iv_query.specs.Trees.{PairTree, PairOf, SourceTree, JoinTree, JoinOf,
 use Rattle.iv_algebra.specs.Predicates.{kind_eq, same_kind}
 use Rattle.iv_algebra.specs.Fits.{Heads, pair_fits, if_fits, condition_fits, type_of}
 use Rattle.iv_bind.specs.declared.fault.BindWhy.TheVariants as why
-use Rattle.iv_bind.specs.Faults.{FaultAt, ◌>>=◌, if_some, through}
+use Rattle.iv_bind.specs.Faults.{FaultAt, ◌>>=◌, through}
+use Rattle.iv_rows.specs.Options.{if_some}
 use Rattle.iv_algebra.specs.Shapes.{Shape, Scan, Filter, scans}
-use Rattle.iv_bind.specs.Catalogs.{Held, Table, View, Entry, AreAmong, named, columns_of, plan_of, reached_by}
-use Rattle.iv_bind.specs.Binding.{Named, From, place_of, place_of_name, text_of, relation_name, called, under, is_used, source_of, column_at, sides, pair_at, pairs_at, joined, joined_at, source_at, join_at, from_at, filter_at, pred_at}
+use Rattle.iv_bind.specs.Catalogs.{Held, Table, View, CatalogEntry, AreAmong, named, columns_of, plan_of, reached_by}
+use Rattle.iv_bind.specs.Binding.{Named, From, column_place, place_of_name, name_text, source_relation, called, under, is_used, source_of, column_bound, sides, pair_bound, pairs_bound, joined_sources, joined_bound, source_bound, join_bound, from_bound, filter_bound, pred_bound}
 use Rattle.iv_query.specs.declared.tree.Dialect.TheVariants.{Query}
 use Rattle.iv_query.specs.Well.{IsWellPred}
-use Rattle.iv_bind.specs.Sound.{held_agrees, Agrees, is_schema, HeldIsSound, AreSound, IsSound}
+use Rattle.iv_bind.specs.Sound.{held_agrees, Agrees, is_schema, HeldIsSound, AreSound, IsSoundCatalog}
 use Rattle.iv_bind.proofs.Inversion.{both_ok, then_ok, else_ok, some_ok, kept}
 use Rattle.iv_bind.proofs.Columns.{kinds_in, found}
 use Rattle.iv_bind.proofs.Needs.{among_behind, among_both}
@@ -28,7 +29,7 @@ use Rattle.iv_bind.proofs.Predicates.{and_parts, and_whole, bound_fits}
 
 -- over all tables of the catalog's kinds the plan fits and its rows have the columns' kinds; the names are names, there is a column,
 -- and the tables that the plan scans are reached
-pub record IsFrom (catalog : List Entry) (f : From) : Type 0 where
+pub record IsFrom (catalog : List CatalogEntry) (f : From) : Type 0 where
   pub typed : (heads : Heads) → Agrees catalog heads → type_of heads f.plan ≡ Some (kinds_in f.scope)
   pub names : list_all (λ n. is_name n.name) f.scope ≡ true
   pub some : 1 ≤ length f.scope
@@ -36,17 +37,17 @@ pub record IsFrom (catalog : List Entry) (f : From) : Type 0 where
 
 -- ---- a source
 
-abbrev pub EntryKeeps : List Entry → List Entry → Entry → Type 0
+abbrev pub EntryKeeps : List CatalogEntry → List CatalogEntry → CatalogEntry → Type 0
 EntryKeeps catalog es e = HeldIsSound catalog e.held × ((heads : Heads) → Agrees es heads → held_agrees heads e.rel e.held)
 
-entry_case : (catalog : List Entry) (x : Entry) (es : List Entry) (e : Entry) (rest : Option Entry) (b : Bool) → AreSound catalog (x ∷ es) → (rest ≡ Some e → EntryKeeps catalog es e) → cond b (Some x) rest ≡ Some e → EntryKeeps catalog (x ∷ es) e
+entry_case : (catalog : List CatalogEntry) (x : CatalogEntry) (es : List CatalogEntry) (e : CatalogEntry) (rest : Option CatalogEntry) (b : Bool) → AreSound catalog (x ∷ es) → (rest ≡ Some e → EntryKeeps catalog es e) → cond b (Some x) rest ≡ Some e → EntryKeeps catalog (x ∷ es) e
 entry_case catalog x es e rest true s later h =
     let q : x ≡ e = cc in
-    let P : Entry → Type 0 = λ y. EntryKeeps catalog (x ∷ es) y in
+    let P : CatalogEntry → Type 0 = λ y. EntryKeeps catalog (x ∷ es) y in
     subst P q (s.0, λ heads a. a.0)
 entry_case catalog x es e rest false s later h = let l = later h in (l.0, λ heads a. l.1 heads a.1)
 
-pub entry_keeps : (catalog : List Entry) (test : Entry → Bool) (es : List Entry) (e : Entry) → AreSound catalog es → find test es ≡ Some e → EntryKeeps catalog es e
+pub entry_keeps : (catalog : List CatalogEntry) (test : CatalogEntry → Bool) (es : List CatalogEntry) (e : CatalogEntry) → AreSound catalog es → find test es ≡ Some e → EntryKeeps catalog es e
 entry_keeps catalog test [] e s h = cc
 entry_keeps catalog test (x ∷ es) e s h = entry_case catalog x es e (find test es) (test x) s (entry_keeps catalog test es e s.1) h
 
@@ -62,7 +63,7 @@ same_length : (name : List ℕ) (cs : List Column) → length (under name cs) �
 same_length name [] = refl
 same_length name (c ∷ cs) = ap suc (same_length name cs)
 
-from_schema : (catalog : List Entry) (plan : Shape) (reached : List ℕ) (name : List ℕ) (cs : List Column) → is_schema cs ≡ true
+from_schema : (catalog : List CatalogEntry) (plan : Shape) (reached : List ℕ) (name : List ℕ) (cs : List Column) → is_schema cs ≡ true
     → ((heads : Heads) → Agrees catalog heads → type_of heads plan ≡ Some (kinds_of cs)) → AreAmong (scans plan) reached → IsFrom catalog (record { plan = plan; scope = under name cs; reached = reached })
 from_schema catalog plan reached name cs s t r =
     let a = and_parts (has_columns cs) (has_distinct_names cs) s in
@@ -76,21 +77,21 @@ from_schema catalog plan reached name cs s t r =
       scanned = r;
     }
 
-held_from : (catalog : List Entry) (rel : ℕ) (held : Held) (name : List ℕ) → HeldIsSound catalog held → ((heads : Heads) → Agrees catalog heads → held_agrees heads rel held)
+held_from : (catalog : List CatalogEntry) (rel : ℕ) (held : Held) (name : List ℕ) → HeldIsSound catalog held → ((heads : Heads) → Agrees catalog heads → held_agrees heads rel held)
     → IsFrom catalog (record { plan = plan_of rel held; scope = under name (columns_of held); reached = reached_by rel held })
 held_from catalog rel (Table cs) name s a = from_schema catalog (Scan rel) (rel ∷ []) name cs s a (λ n c. c)
 held_from catalog rel (View v) name s a = from_schema catalog v.plan (rel ∷ v.needs) name v.schema s.schema s.typed (among_behind rel (scans v.plan) v.needs s.scanned)
 
-pub source_keeps : (catalog : List Entry) (scope : List Named) (s : SourceTree) (f : From) → IsSound catalog → source_at catalog scope s ≡ Ok f → IsFrom catalog f
-unfolding source_at
+pub source_keeps : (catalog : List CatalogEntry) (scope : List Named) (s : SourceTree) (f : From) → IsSoundCatalog catalog → source_bound catalog scope s ≡ Ok f → IsFrom catalog f
+unfolding source_bound
 source_keeps catalog scope s f sound h =
-    let e = some_ok (named catalog (text_of (relation_name s))) (FaultAt (place_of_name (relation_name s)) why.UnknownRelation)
-    (λ e. if is_used scope (text_of (called s)) then Err (FaultAt (place_of_name (called s)) why.DuplicateName) else Ok (source_of e (text_of (called s)))) f h in
-    let u = else_ok (is_used scope (text_of (called s))) (FaultAt (place_of_name (called s)) why.DuplicateName) (Ok (source_of e.0 (text_of (called s)))) f e.2 in
-    let q : source_of e.0 (text_of (called s)) ≡ f = cc in
-    let k = entry_keeps catalog (λ x. bytes_eq (text_of (relation_name s)) x.name) catalog e.0 sound e.1 in
+    let e = some_ok (named catalog (name_text (source_relation s))) (FaultAt (place_of_name (source_relation s)) why.UnknownRelation)
+    (λ e. if is_used scope (name_text (called s)) then Err (FaultAt (place_of_name (called s)) why.DuplicateName) else Ok (source_of e (name_text (called s)))) f h in
+    let u = else_ok (is_used scope (name_text (called s))) (FaultAt (place_of_name (called s)) why.DuplicateName) (Ok (source_of e.0 (name_text (called s)))) f e.2 in
+    let q : source_of e.0 (name_text (called s)) ≡ f = cc in
+    let k = entry_keeps catalog (λ x. bytes_eq (name_text (source_relation s)) x.name) catalog e.0 sound e.1 in
     let P : From → Type 0 = λ g. IsFrom catalog g in
-    subst P q (held_from catalog e.0.rel e.0.held (text_of (called s)) k.0 k.1)
+    subst P q (held_from catalog e.0.rel e.0.held (name_text (called s)) k.0 k.1)
 
 -- ---- pairs
 
@@ -142,17 +143,17 @@ sides_fit : (left right : List Named) (x y : ℕ × Kind) (pr : ℕ × ℕ) → 
 sides_fit left right x y pr fx fy k (inl h) = let P : ℕ × ℕ → Type 0 = λ p. pair_fits (kinds_in left) (kinds_in right) p ≡ true in subst P h.1 (side_fits left right x.0 y.0 x.1 y.1 h.0 fx fy k)
 sides_fit left right x y pr fx fy k (inr h) = let P : ℕ × ℕ → Type 0 = λ p. pair_fits (kinds_in left) (kinds_in right) p ≡ true in subst P h.1 (side_fits left right y.0 x.0 y.1 x.1 h.0 fy fx (kind_eq_sym y.1 x.1 ∙ k))
 
-pair_keeps : (left right : List Named) (p : PairTree) (pr : ℕ × ℕ) → pair_at (length left) (left ++ right) p ≡ Ok pr → pair_fits (kinds_in left) (kinds_in right) pr ≡ true
-unfolding pair_at
+pair_keeps : (left right : List Named) (p : PairTree) (pr : ℕ × ℕ) → pair_bound (length left) (left ++ right) p ≡ Ok pr → pair_fits (kinds_in left) (kinds_in right) pr ≡ true
+unfolding pair_bound
 pair_keeps left right (PairOf a b) pr h =
     let n = length left in
     let scope = left ++ right in
-    let s = both_ok (column_at scope a) (λ x. column_at scope b >>= λ y. if_some (sides n x.0 y.0) (Err (FaultAt (place_of b) why.UnknownColumn)) (λ pair. if kind_eq x.1 y.1 then Ok pair else Err (FaultAt (place_of b) why.KindMismatch))) pr h in
+    let s = both_ok (column_bound scope a) (λ x. column_bound scope b >>= λ y. if_some (sides n x.0 y.0) (Err (FaultAt (column_place b) why.UnknownColumn)) (λ pair. if kind_eq x.1 y.1 then Ok pair else Err (FaultAt (column_place b) why.KindMismatch))) pr h in
     let x = s.0 in
-    let t = both_ok (column_at scope b) (λ y. if_some (sides n x.0 y.0) (Err (FaultAt (place_of b) why.UnknownColumn)) (λ pair. if kind_eq x.1 y.1 then Ok pair else Err (FaultAt (place_of b) why.KindMismatch))) pr s.2 in
+    let t = both_ok (column_bound scope b) (λ y. if_some (sides n x.0 y.0) (Err (FaultAt (column_place b) why.UnknownColumn)) (λ pair. if kind_eq x.1 y.1 then Ok pair else Err (FaultAt (column_place b) why.KindMismatch))) pr s.2 in
     let y = t.0 in
-    let o = some_ok (sides n x.0 y.0) (FaultAt (place_of b) why.UnknownColumn) (λ pair. if kind_eq x.1 y.1 then Ok pair else Err (FaultAt (place_of b) why.KindMismatch)) pr t.2 in
-    let u = then_ok (kind_eq x.1 y.1) (Ok o.0) (FaultAt (place_of b) why.KindMismatch) pr o.2 in
+    let o = some_ok (sides n x.0 y.0) (FaultAt (column_place b) why.UnknownColumn) (λ pair. if kind_eq x.1 y.1 then Ok pair else Err (FaultAt (column_place b) why.KindMismatch)) pr t.2 in
+    let u = then_ok (kind_eq x.1 y.1) (Ok o.0) (FaultAt (column_place b) why.KindMismatch) pr o.2 in
     let q : o.0 ≡ pr = cc in
     let c = sides_case (nat_lt x.0 n && nat_le n y.0) (nat_lt y.0 n && nat_le n x.0) (x.0, y.0 - n) (y.0, x.0 - n) o.0 o.1 in
     let P : ℕ × ℕ → Type 0 = λ p. pair_fits (kinds_in left) (kinds_in right) p ≡ true in
@@ -161,12 +162,12 @@ pair_keeps left right (PairOf a b) pr h =
 pub all_push : {A : Type 0} (t : A → Bool) (xs : List A) (x : A) → list_all t xs ≡ true → t x ≡ true → list_all t (xs ++ x ∷ []) ≡ true
 all_push t xs x h g = list_all-append t xs (x ∷ []) ∙ and_whole (list_all t xs) (list_all t (x ∷ [])) h (and_whole (t x) true g refl)
 
-pairs_keep : (left right : List Named) (on : List PairTree) (pairs : List (ℕ × ℕ)) → pairs_at (length left) (left ++ right) on ≡ Ok pairs → list_all (pair_fits (kinds_in left) (kinds_in right)) pairs ≡ true
-unfolding pairs_at
+pairs_keep : (left right : List Named) (on : List PairTree) (pairs : List (ℕ × ℕ)) → pairs_bound (length left) (left ++ right) on ≡ Ok pairs → list_all (pair_fits (kinds_in left) (kinds_in right)) pairs ≡ true
+unfolding pairs_bound
 pairs_keep left right on pairs h =
-    kept (λ ps. list_all (pair_fits (kinds_in left) (kinds_in right)) ps ≡ true) (λ ps p. pair_at (length left) (left ++ right) p >>= λ pair. Ok (ps ++ pair ∷ []))
+    kept (λ ps. list_all (pair_fits (kinds_in left) (kinds_in right)) ps ≡ true) (λ ps p. pair_bound (length left) (left ++ right) p >>= λ pair. Ok (ps ++ pair ∷ []))
     (λ ps p qs g step.
-    let s = both_ok (pair_at (length left) (left ++ right) p) (λ pair. Ok (ps ++ pair ∷ [])) qs step in
+    let s = both_ok (pair_bound (length left) (left ++ right) p) (λ pair. Ok (ps ++ pair ∷ [])) qs step in
     let e : ps ++ s.0 ∷ [] ≡ qs = cc in
     let P : List (ℕ × ℕ) → Type 0 = λ rs. list_all (pair_fits (kinds_in left) (kinds_in right)) rs ≡ true in
     subst P e (all_push (pair_fits (kinds_in left) (kinds_in right)) ps s.0 g (pair_keeps left right p s.0 s.1)))
@@ -174,11 +175,11 @@ pairs_keep left right on pairs h =
 
 -- ---- joins
 
-joined_keeps : (catalog : List Entry) (left right : From) (on : List PairTree) (f : From) → IsFrom catalog left → IsFrom catalog right → joined_at left right on ≡ Ok f → IsFrom catalog f
-unfolding joined_at
+joined_keeps : (catalog : List CatalogEntry) (left right : From) (on : List PairTree) (f : From) → IsFrom catalog left → IsFrom catalog right → joined_bound left right on ≡ Ok f → IsFrom catalog f
+unfolding joined_bound
 joined_keeps catalog left right on f l r h =
-    let s = both_ok (pairs_at (length left.scope) (left.scope ++ right.scope) on) (λ pairs. Ok (joined left right pairs)) f h in
-    let e : joined left right s.0 ≡ f = cc in
+    let s = both_ok (pairs_bound (length left.scope) (left.scope ++ right.scope) on) (λ pairs. Ok (joined_sources left right pairs)) f h in
+    let e : joined_sources left right s.0 ≡ f = cc in
     let fit = pairs_keep left.scope right.scope on s.0 s.1 in
     let P : From → Type 0 = λ g. IsFrom catalog g in
     subst P e (record {
@@ -191,23 +192,23 @@ joined_keeps catalog left right on f l r h =
       scanned = among_both (scans left.plan) (scans right.plan) left.reached right.reached l.scanned r.scanned;
     })
 
-join_keeps : (catalog : List Entry) (left : From) (j : JoinTree) (f : From) → IsSound catalog → IsFrom catalog left → join_at catalog left j ≡ Ok f → IsFrom catalog f
-unfolding join_at
+join_keeps : (catalog : List CatalogEntry) (left : From) (j : JoinTree) (f : From) → IsSoundCatalog catalog → IsFrom catalog left → join_bound catalog left j ≡ Ok f → IsFrom catalog f
+unfolding join_bound
 join_keeps catalog left (JoinOf s on) f sound l h =
-    let t = both_ok (source_at catalog left.scope s) (λ right. joined_at left right on) f h in
+    let t = both_ok (source_bound catalog left.scope s) (λ right. joined_bound left right on) f h in
     joined_keeps catalog left t.0 on f l (source_keeps catalog left.scope s t.0 sound t.1) t.2
 
-pub from_keeps : (catalog : List Entry) (s : SourceTree) (joins : List JoinTree) (f : From) → IsSound catalog → from_at catalog s joins ≡ Ok f → IsFrom catalog f
-unfolding from_at
+pub from_keeps : (catalog : List CatalogEntry) (s : SourceTree) (joins : List JoinTree) (f : From) → IsSoundCatalog catalog → from_bound catalog s joins ≡ Ok f → IsFrom catalog f
+unfolding from_bound
 from_keeps catalog s joins f sound h =
-    let t = both_ok (source_at catalog [] s) (λ first. through (join_at catalog) first joins) f h in
-    kept (λ g. IsFrom catalog g) (join_at catalog) (λ a j c p step. join_keeps catalog a j c sound p step) t.0 joins f (source_keeps catalog [] s t.0 sound t.1) t.2
+    let t = both_ok (source_bound catalog [] s) (λ first. through (join_bound catalog) first joins) f h in
+    kept (λ g. IsFrom catalog g) (join_bound catalog) (λ a j c p step. join_keeps catalog a j c sound p step) t.0 joins f (source_keeps catalog [] s t.0 sound t.1) t.2
 
-pub filter_keeps : (catalog : List Entry) (from : From) (filter : Option PredTree) (f : From) → IsFrom catalog from → IfSome filter (IsWellPred Query) → filter_at from filter ≡ Ok f → IsFrom catalog f
-unfolding filter_at
+pub filter_keeps : (catalog : List CatalogEntry) (from : From) (filter : Option PredTree) (f : From) → IsFrom catalog from → IfSome filter (IsWellPred Query) → filter_bound from filter ≡ Ok f → IsFrom catalog f
+unfolding filter_bound
 filter_keeps catalog from None f k w h = let e : from ≡ f = cc in let P : From → Type 0 = λ g. IsFrom catalog g in subst P e k
 filter_keeps catalog from (Some p) f k w h =
-    let s = both_ok (pred_at from.scope p) (λ c. Ok (record from { plan = Filter c from.plan })) f h in
+    let s = both_ok (pred_bound from.scope p) (λ c. Ok (record from { plan = Filter c from.plan })) f h in
     let e : record from { plan = Filter s.0 from.plan } ≡ f = cc in
     let fit = bound_fits Query from.scope p s.0 w s.1 in
     let P : From → Type 0 = λ g. IsFrom catalog g in

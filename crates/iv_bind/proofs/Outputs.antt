@@ -18,8 +18,9 @@ use Rattle.iv_algebra.specs.declared.plan.Agg.TheVariants.{Sum, Count}
 use Rattle.iv_algebra.specs.Predicates.{kind_eq, same_kind}
 use Rattle.iv_algebra.specs.Fits.{or_flag, kind_at, are_there, agg_fits, group_kinds}
 use Rattle.iv_bind.specs.declared.fault.BindWhy.TheVariants as why
-use Rattle.iv_bind.specs.Faults.{FaultAt, ◌>>=◌, if_some, through}
-use Rattle.iv_bind.specs.Binding.{Named, Out, place_of, column_at, keys_at, first_aggregate, nothing, output_at, within_group, output_name, text_of, aggregated, item_at, star_at}
+use Rattle.iv_bind.specs.Faults.{FaultAt, ◌>>=◌, through}
+use Rattle.iv_rows.specs.Options.{if_some}
+use Rattle.iv_bind.specs.Binding.{Named, Out, column_place, column_bound, keys_bound, first_aggregate, nothing, output_bound, within_group, output_name, name_text, aggregated, item_bound, star_bound}
 use Rattle.iv_query.specs.Well.{IsWellName, IsWellItem}
 use Rattle.iv_bind.proofs.Inversion.{both_ok, then_ok, else_ok, some_ok, kept, all_head, all_tail}
 use Rattle.iv_bind.proofs.Columns.{kinds_in, found}
@@ -110,8 +111,8 @@ nothing_is kinds keys = record { columns = tt; aggs = refl; names = refl; distin
 abbrev with_column : Out → ℕ → List ℕ → Kind → Out
 with_column out k name kind = record out { columns = out.columns ++ k ∷ []; schema = out.schema ++ (record { name = name; kind = kind }) ∷ [] }
 
-pub output_keeps : (kinds : List Kind) (keys : List ℕ) (p : ℕ) (out : Out) (k : ℕ) (name : List ℕ) (kd : Kind) (o : Out) → IsOut kinds keys out → slice_get (below kinds keys out.aggs) k ≡ Some kd → is_name name ≡ true → output_at p out k name kd ≡ Ok o → IsOut kinds keys o × (1 ≤ length o.schema) × (length o.columns ≡ length out.columns + 1)
-unfolding output_at
+pub output_keeps : (kinds : List Kind) (keys : List ℕ) (p : ℕ) (out : Out) (k : ℕ) (name : List ℕ) (kd : Kind) (o : Out) → IsOut kinds keys out → slice_get (below kinds keys out.aggs) k ≡ Some kd → is_name name ≡ true → output_bound p out k name kd ≡ Ok o → IsOut kinds keys o × (1 ≤ length o.schema) × (length o.columns ≡ length out.columns + 1)
+unfolding output_bound
 output_keeps kinds keys p out k name kd o is at n h =
     let s = else_ok (list_any (λ c. bytes_eq name c.name) out.schema) (FaultAt p why.DuplicateName) (Ok (with_column out k name kd)) o h in
     let e : with_column out k name kd ≡ o = cc in
@@ -202,37 +203,37 @@ name_well (ColumnAt None name p) None h = h.0
 name_well (ColumnAt (Some source) name p) None h = h.0.1
 name_well (ColumnAt source name p) (Some (Called s q)) h = h.1
 
-called_well : (n : NameTree) → IsWellName n → is_name (text_of n) ≡ true
+called_well : (n : NameTree) → IsWellName n → is_name (name_text n) ≡ true
 called_well (Called s p) h = h
 
 abbrev Keeps : List Kind → List ℕ → Out → Type 0
 Keeps kinds keys o = IsOut kinds keys o × (1 ≤ length o.schema)
 
-column_item : (scope : List Named) (keys : List ℕ) (out : Out) (c : ColumnTree) (alias : Option NameTree) (o : Out) → IsOut (kinds_in scope) keys out → IsWellItem (ItemOf c alias) → item_at scope keys out (ItemOf c alias) ≡ Ok o → Keeps (kinds_in scope) keys o
-unfolding item_at
+column_item : (scope : List Named) (keys : List ℕ) (out : Out) (c : ColumnTree) (alias : Option NameTree) (o : Out) → IsOut (kinds_in scope) keys out → IsWellItem (ItemOf c alias) → item_bound scope keys out (ItemOf c alias) ≡ Ok o → Keeps (kinds_in scope) keys o
+unfolding item_bound
 column_item scope keys out c alias o is w h =
-    let s = both_ok (column_at scope c) (λ x. if_some (within_group keys x.0) (Err (FaultAt (place_of c) why.NotGrouped)) (λ k. output_at (place_of c) out k (output_name c alias) x.1)) o h in
+    let s = both_ok (column_bound scope c) (λ x. if_some (within_group keys x.0) (Err (FaultAt (column_place c) why.NotGrouped)) (λ k. output_bound (column_place c) out k (output_name c alias) x.1)) o h in
     let x = s.0 in
-    let t = some_ok (within_group keys x.0) (FaultAt (place_of c) why.NotGrouped) (λ k. output_at (place_of c) out k (output_name c alias) x.1) o s.2 in
-    let r = output_keeps (kinds_in scope) keys (place_of c) out t.0 (output_name c alias) x.1 o is (within_kind (kinds_in scope) keys out.aggs x.0 t.0 x.1 (found scope c x s.1) t.1) (name_well c alias w) t.2 in
+    let t = some_ok (within_group keys x.0) (FaultAt (column_place c) why.NotGrouped) (λ k. output_bound (column_place c) out k (output_name c alias) x.1) o s.2 in
+    let r = output_keeps (kinds_in scope) keys (column_place c) out t.0 (output_name c alias) x.1 o is (within_kind (kinds_in scope) keys out.aggs x.0 t.0 x.1 (found scope c x s.1) t.1) (name_well c alias w) t.2 in
     (r.0, r.1)
 
 behind_keys : (kinds : List Kind) (key : ℕ) (keys : List ℕ) (p : ℕ) (out : Out) (a : Agg) (n : NameTree) (o : Out) → IsOut kinds (key ∷ keys) out → agg_fits kinds a ≡ true → IsWellName n
-    → output_at p (aggregated out a) (length (key ∷ keys) + length out.aggs) (text_of n) kind.Int ≡ Ok o → Keeps kinds (key ∷ keys) o
+    → output_bound p (aggregated out a) (length (key ∷ keys) + length out.aggs) (name_text n) kind.Int ≡ Ok o → Keeps kinds (key ∷ keys) o
 behind_keys kinds key keys p out a n o is f w h =
-    let r = output_keeps kinds (key ∷ keys) p (aggregated out a) (length (key ∷ keys) + length out.aggs) (text_of n) kind.Int o (aggregated_keeps kinds key keys out a is f) (agg_kind kinds key keys out.aggs a) (called_well n w) h in
+    let r = output_keeps kinds (key ∷ keys) p (aggregated out a) (length (key ∷ keys) + length out.aggs) (name_text n) kind.Int o (aggregated_keeps kinds key keys out a is f) (agg_kind kinds key keys out.aggs a) (called_well n w) h in
     (r.0, r.1)
 
-item_keeps : (scope : List Named) (keys : List ℕ) (out : Out) (i : ItemTree) (o : Out) → IsOut (kinds_in scope) keys out → Goes keys i → IsWellItem i → item_at scope keys out i ≡ Ok o → Keeps (kinds_in scope) keys o
-unfolding item_at
+item_keeps : (scope : List Named) (keys : List ℕ) (out : Out) (i : ItemTree) (o : Out) → IsOut (kinds_in scope) keys out → Goes keys i → IsWellItem i → item_bound scope keys out i ≡ Ok o → Keeps (kinds_in scope) keys o
+unfolding item_bound
 item_keeps scope [] out (ItemOf c alias) o is g w h = column_item scope [] out c alias o is w h
 item_keeps scope [] out (SumOf p c alias) o is g w h = absurd g
 item_keeps scope [] out (CountOf p alias) o is g w h = absurd g
 item_keeps scope (key ∷ keys) out (ItemOf c alias) o is g w h = column_item scope (key ∷ keys) out c alias o is w h
 item_keeps scope (key ∷ keys) out (SumOf p c alias) o is g w h =
-    let s = both_ok (column_at scope c) (λ x. if kind_eq x.1 kind.Int then output_at p (aggregated out (Sum x.0)) (length (key ∷ keys) + length out.aggs) (text_of alias) kind.Int else Err (FaultAt (place_of c) why.KindMismatch)) o h in
+    let s = both_ok (column_bound scope c) (λ x. if kind_eq x.1 kind.Int then output_bound p (aggregated out (Sum x.0)) (length (key ∷ keys) + length out.aggs) (name_text alias) kind.Int else Err (FaultAt (column_place c) why.KindMismatch)) o h in
     let x = s.0 in
-    let t = then_ok (kind_eq x.1 kind.Int) (output_at p (aggregated out (Sum x.0)) (length (key ∷ keys) + length out.aggs) (text_of alias) kind.Int) (FaultAt (place_of c) why.KindMismatch) o s.2 in
+    let t = then_ok (kind_eq x.1 kind.Int) (output_bound p (aggregated out (Sum x.0)) (length (key ∷ keys) + length out.aggs) (name_text alias) kind.Int) (FaultAt (column_place c) why.KindMismatch) o s.2 in
     behind_keys (kinds_in scope) key keys p out (Sum x.0) alias o is (ap (λ k. same_kind k (Some kind.Int)) (found scope c x s.1) ∙ t.0) w.1 t.1
 item_keeps scope (key ∷ keys) out (CountOf p alias) o is g w h = behind_keys (kinds_in scope) key keys p out Count alias o is refl w h
 
@@ -251,32 +252,32 @@ all_go : (k : ℕ) (keys : List ℕ) (items : List ItemTree) → AllGo (k ∷ ke
 all_go k keys [] = tt
 all_go k keys (i ∷ items) = (tt, all_go k keys items)
 
-items_keep : (scope : List Named) (keys : List ℕ) (out : Out) (items : List ItemTree) (o : Out) → Keeps (kinds_in scope) keys out → AllGo keys items → All IsWellItem items → through (item_at scope keys) out items ≡ Ok o → Keeps (kinds_in scope) keys o
+items_keep : (scope : List Named) (keys : List ℕ) (out : Out) (items : List ItemTree) (o : Out) → Keeps (kinds_in scope) keys out → AllGo keys items → All IsWellItem items → through (item_bound scope keys) out items ≡ Ok o → Keeps (kinds_in scope) keys o
 items_keep scope keys out [] o is g w h = let e : out ≡ o = cc in let P : Out → Type 0 = λ x. Keeps (kinds_in scope) keys x in subst P e is
 items_keep scope keys out (i ∷ items) o is g w h =
-    let s = both_ok (item_at scope keys out i) (λ d. through (item_at scope keys) d items) o h in
+    let s = both_ok (item_bound scope keys out i) (λ d. through (item_bound scope keys) d items) o h in
     items_keep scope keys s.0 items o (item_keeps scope keys out i s.0 is.0 g.0 (all_head IsWellItem i items w) s.1) g.1 (all_tail IsWellItem i items w) s.2
 
-listed : (scope : List Named) (keys : List ℕ) (i : ItemTree) (items : List ItemTree) (o : Out) → AllGo keys (i ∷ items) → All IsWellItem (i ∷ items) → through (item_at scope keys) nothing (i ∷ items) ≡ Ok o → Keeps (kinds_in scope) keys o
+listed : (scope : List Named) (keys : List ℕ) (i : ItemTree) (items : List ItemTree) (o : Out) → AllGo keys (i ∷ items) → All IsWellItem (i ∷ items) → through (item_bound scope keys) nothing (i ∷ items) ≡ Ok o → Keeps (kinds_in scope) keys o
 listed scope keys i items o g w h =
-    let s = both_ok (item_at scope keys nothing i) (λ d. through (item_at scope keys) d items) o h in
+    let s = both_ok (item_bound scope keys nothing i) (λ d. through (item_bound scope keys) d items) o h in
     items_keep scope keys s.0 items o (item_keeps scope keys nothing i s.0 (nothing_is (kinds_in scope) keys) g.0 (all_head IsWellItem i items w) s.1) g.1 (all_tail IsWellItem i items w) s.2
 
-pub listed_keep : (scope : List Named) (keys : List ℕ) (i : ItemTree) (items : List ItemTree) (o : Out) → (keys ≡ [] → first_aggregate (i ∷ items) ≡ None) → All IsWellItem (i ∷ items) → through (item_at scope keys) nothing (i ∷ items) ≡ Ok o → Keeps (kinds_in scope) keys o
+pub listed_keep : (scope : List Named) (keys : List ℕ) (i : ItemTree) (items : List ItemTree) (o : Out) → (keys ≡ [] → first_aggregate (i ∷ items) ≡ None) → All IsWellItem (i ∷ items) → through (item_bound scope keys) nothing (i ∷ items) ≡ Ok o → Keeps (kinds_in scope) keys o
 listed_keep scope [] i items o a w h = listed scope [] i items o (none_left (i ∷ items) (a refl)) w h
 listed_keep scope (k ∷ keys) i items o a w h = listed scope (k ∷ keys) i items o (all_go k keys (i ∷ items)) w h
 
 -- ---- the star
 
 star_keeps : (done rest : List Named) (p : ℕ) (out o : Out) → length out.columns ≡ length done → list_all (λ n. is_name n.name) rest ≡ true → IsOut (kinds_in (done ++ rest)) [] out → (1 ≤ length rest) ⊎ (1 ≤ length out.schema)
-    → through (λ out n. output_at p out (length out.columns) n.name n.kind) out rest ≡ Ok o → Keeps (kinds_in (done ++ rest)) [] o
+    → through (λ out n. output_bound p out (length out.columns) n.name n.kind) out rest ≡ Ok o → Keeps (kinds_in (done ++ rest)) [] o
 star_keeps done [] p out o e names is (inl s) h = absurd (omega arith)
 star_keeps done [] p out o e names is (inr s) h =
     let q : out ≡ o = cc in
     let P : Out → Type 0 = λ x. Keeps (kinds_in (done ++ [])) [] x in
     subst P q (is, s)
 star_keeps done (n ∷ rest) p out o e names is some h =
-    let s = both_ok (output_at p out (length out.columns) n.name n.kind) (λ d. through (λ out n. output_at p out (length out.columns) n.name n.kind) d rest) o h in
+    let s = both_ok (output_bound p out (length out.columns) n.name n.kind) (λ d. through (λ out n. output_bound p out (length out.columns) n.name n.kind) d rest) o h in
     let w = and_parts (is_name n.name) (list_all (λ m. is_name m.name) rest) names in
     let split : kinds_in (done ++ n ∷ rest) ≡ kinds_in done ++ n.kind ∷ kinds_in rest = map-append (λ m. m.kind) done (n ∷ rest) in
     let many : length (kinds_in done) ≡ length out.columns = map_length (λ (m : Named). m.kind) done ∙ sym e in
@@ -291,8 +292,8 @@ star_keeps done (n ∷ rest) p out o e names is some h =
     let P : List Named → Type 0 = λ ns. Keeps (kinds_in ns) [] o in
     subst P again (star_keeps (done ++ n ∷ []) rest p s.0 o (r.2 ∙ ap (λ m. m + 1) e ∙ sym (length-append done (n ∷ []))) w.1 (subst Q (sym again) r.0) (inr r.1) s.2)
 
-pub starred_keep : (scope : List Named) (p : ℕ) (o : Out) → list_all (λ n. is_name n.name) scope ≡ true → 1 ≤ length scope → star_at scope p ≡ Ok o → Keeps (kinds_in scope) [] o
-unfolding star_at
+pub starred_keep : (scope : List Named) (p : ℕ) (o : Out) → list_all (λ n. is_name n.name) scope ≡ true → 1 ≤ length scope → star_bound scope p ≡ Ok o → Keeps (kinds_in scope) [] o
+unfolding star_bound
 starred_keep scope p o names some h = star_keeps [] scope p nothing o refl names (nothing_is (kinds_in scope) []) (inl some) h
 
 -- ---- keys
@@ -304,12 +305,12 @@ key_there : (kinds : List Kind) (keys : List ℕ) (k : ℕ) (b : Bool) → are_t
 key_there kinds keys k true h g = h
 key_there kinds keys k false h g = all_push (λ j. nat_lt j (length kinds)) keys k h g
 
-pub keys_keep : (scope : List Named) (group : List ColumnTree) (keys : List ℕ) → keys_at scope group ≡ Ok keys → are_there (kinds_in scope) keys ≡ true
-unfolding keys_at
+pub keys_keep : (scope : List Named) (group : List ColumnTree) (keys : List ℕ) → keys_bound scope group ≡ Ok keys → are_there (kinds_in scope) keys ≡ true
+unfolding keys_bound
 keys_keep scope group keys h =
-    kept (λ ks. are_there (kinds_in scope) ks ≡ true) (λ ks c. column_at scope c >>= λ x. Ok (with_key ks x.0))
+    kept (λ ks. are_there (kinds_in scope) ks ≡ true) (λ ks c. column_bound scope c >>= λ x. Ok (with_key ks x.0))
     (λ ks c js g step.
-    let s = both_ok (column_at scope c) (λ x. Ok (with_key ks x.0)) js step in
+    let s = both_ok (column_bound scope c) (λ x. Ok (with_key ks x.0)) js step in
     let e : with_key ks s.0.0 ≡ js = cc in
     let P : List ℕ → Type 0 = λ rs. are_there (kinds_in scope) rs ≡ true in
     subst P e (key_there (kinds_in scope) ks s.0.0 (stands ◌==◌ s.0.0 ks) g (lt-ltb s.0.0 (length (kinds_in scope)) (slice_get_within (kinds_in scope) s.0.0 s.0.1 (found scope c s.0 s.1)))))

@@ -6,7 +6,7 @@ use Rattle.iv_query.specs.declared.fault.Fault as reading
 use Rattle.iv_bind.specs.declared.fault.BindWhy.{BindWhy}
 use Rattle.iv_bind.specs.Faults as binding
 use Rattle.iv_algebra.specs.Shapes.{Condition}
-use Rattle.iv_bind.specs.Catalogs.{Answer, Entry}
+use Rattle.iv_bind.specs.Catalogs.{BoundQuery, CatalogEntry}
 use Rattle.iv_bind.specs.Binding.{bound, bound_pred}
 use Rattle.iv_query.specs.Trees.{QueryTree}
 use Rattle.iv_query.specs.Well.{IsWellQuery}
@@ -35,7 +35,7 @@ abbrev pub ReadsWell : List ℕ → Type 0
 ReadsWell text = (q : QueryTree) → read_query text ≡ Ok q → IsWellQuery q
 
 -- the plan, columns and needs of a view's text
-abbrev pub bound_query : List Entry → List ℕ → Result Answer TextFault
+abbrev pub bound_query : List CatalogEntry → List ℕ → Result BoundQuery TextFault
 bound_query catalog text = then_bound (bound catalog) (read_query text)
 
 -- the condition of a policy's text over the columns of its table

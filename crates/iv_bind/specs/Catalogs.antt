@@ -3,20 +3,20 @@ use Rattle.std.specs.Prelude.{ℕ, ◌==◌, List, [], ◌∷◌, ◌++◌, map,
 use Rattle.iv_rows.specs.Columns.{Column}
 use Rattle.iv_rows.specs.declared.schema.RelId.{RelId}
 use Rattle.iv_bind.specs.declared.bound.Bound.{Bound}
-use Rattle.iv_bind.specs.Faults.{if_some}
+use Rattle.iv_rows.specs.Options.{if_some}
 use Rattle.iv_algebra.specs.Shapes.{Shape, Scan, shape_of}
 
 -- a query that is bound: its plan, its columns, and the relations that it reaches
-pub record Answer : Type 0 where
+pub record BoundQuery : Type 0 where
   pub plan : Shape
   pub schema : List Column
   pub needs : List ℕ
 
 pub data Held : Type 0 where
   Table : List Column → Held
-  View : Answer → Held
+  View : BoundQuery → Held
 
-pub record Entry : Type 0 where
+pub record CatalogEntry : Type 0 where
   pub name : List ℕ
   pub rel : ℕ
   pub held : Held
@@ -24,15 +24,15 @@ pub record Entry : Type 0 where
 abbrev pub numbers : List RelId → List ℕ
 numbers = map (λ r. r.0)
 
-abbrev pub answer_of : Bound → Answer
-answer_of b = record { plan = shape_of b.plan; schema = b.schema; needs = numbers b.needs.items }
+abbrev pub bound_of : Bound → BoundQuery
+bound_of b = record { plan = shape_of b.plan; schema = b.schema; needs = numbers b.needs.items }
 
 -- the relation of a name
-abbrev pub named : List Entry → List ℕ → Option Entry
+abbrev pub named : List CatalogEntry → List ℕ → Option CatalogEntry
 named catalog name = find (λ e. bytes_eq name e.name) catalog
 
 -- the relation of a number
-abbrev pub numbered : List Entry → ℕ → Option Entry
+abbrev pub numbered : List CatalogEntry → ℕ → Option CatalogEntry
 numbered catalog n = find (λ e. n == e.rel) catalog
 
 -- each of the numbers is one of the others
@@ -57,18 +57,18 @@ abbrev pub table_in : Held → Option (List Column)
 table_in (Table columns) = Some columns
 table_in (View answer) = None
 
-abbrev pub view_in : Held → Option Answer
+abbrev pub view_in : Held → Option BoundQuery
 view_in (Table columns) = None
 view_in (View answer) = Some answer
 
 -- a catalog with one relation more, behind the others
-abbrev pub extended : List Entry → List ℕ → ℕ → Held → List Entry
+abbrev pub extended : List CatalogEntry → List ℕ → ℕ → Held → List CatalogEntry
 extended catalog name rel held = catalog ++ (record { name = name; rel = rel; held = held }) ∷ []
 
 -- the columns of the table of a number
-abbrev pub schema_of : List Entry → ℕ → Option (List Column)
+abbrev pub schema_of : List CatalogEntry → ℕ → Option (List Column)
 schema_of catalog n = if_some (numbered catalog n) None (λ e. table_in e.held)
 
 -- the view of a number
-abbrev pub view_of : List Entry → ℕ → Option Answer
+abbrev pub view_of : List CatalogEntry → ℕ → Option BoundQuery
 view_of catalog n = if_some (numbered catalog n) None (λ e. view_in e.held)

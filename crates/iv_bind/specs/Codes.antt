@@ -7,7 +7,7 @@ use Rattle.iv_rows.specs.declared.value.Kind.{Kind}
 use Rattle.iv_rows.specs.declared.value.Kind.TheVariants.{Int, Text, Flag}
 use Rattle.iv_algebra.specs.Codes.{shape_code}
 use Rattle.iv_algebra.specs.Shapes.{Shape}
-use Rattle.iv_bind.specs.Catalogs.{Answer, Held, Table, View, Entry}
+use Rattle.iv_bind.specs.Catalogs.{BoundQuery, Held, Table, View, CatalogEntry}
 
 abbrev kind_number : Kind → ℕ
 kind_number Int = 0
@@ -28,16 +28,16 @@ kind_code = code_by ℕ coded_ℕ kind_number kind_from kind_from-kind_number
 abbrev pub column_code : Coded Column
 column_code = code_by (List ℕ × Kind) (coded× (coded_list coded_ℕ) kind_code) (λ c. (c.name, c.kind)) (λ p. record { name = p.0; kind = p.1 }) (λ _. refl)
 
-abbrev pub answer_code : Coded Answer
+abbrev pub answer_code : Coded BoundQuery
 answer_code =
     code_by (Shape × (List Column × List ℕ)) (coded× shape_code (coded× (coded_list column_code) (coded_list coded_ℕ)))
     (λ a. (a.plan, (a.schema, a.needs))) (λ p. record { plan = p.0; schema = p.1.0; needs = p.1.1 }) (λ _. refl)
 
-abbrev held_parts : Held → List Column ⊎ Answer
+abbrev held_parts : Held → List Column ⊎ BoundQuery
 held_parts (Table columns) = inl columns
 held_parts (View answer) = inr answer
 
-abbrev held_from : List Column ⊎ Answer → Held
+abbrev held_from : List Column ⊎ BoundQuery → Held
 held_from (inl columns) = Table columns
 held_from (inr answer) = View answer
 
@@ -46,10 +46,10 @@ held_from-held_parts (Table columns) = refl
 held_from-held_parts (View answer) = refl
 
 abbrev pub held_code : Coded Held
-held_code = code_by (List Column ⊎ Answer) (coded⊎ (coded_list column_code) answer_code) held_parts held_from held_from-held_parts
+held_code = code_by (List Column ⊎ BoundQuery) (coded⊎ (coded_list column_code) answer_code) held_parts held_from held_from-held_parts
 
 -- what a catalog holds
-abbrev pub entries_code : Coded (List Entry)
+abbrev pub entries_code : Coded (List CatalogEntry)
 entries_code =
     coded_list (code_by (List ℕ × (ℕ × Held)) (coded× (coded_list coded_ℕ) (coded× coded_ℕ held_code))
     (λ e. (e.name, (e.rel, e.held))) (λ p. record { name = p.0; rel = p.1.0; held = p.1.1 }) (λ _. refl))

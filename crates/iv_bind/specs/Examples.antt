@@ -13,16 +13,16 @@ use Rattle.iv_bind.specs.declared.fault.BindWhy.TheVariants as why
 use Rattle.iv_bind.specs.Faults.{FaultAt}
 use Rattle.iv_algebra.specs.Shapes.{Shape, Scan, Filter, Project, Join, Union, Distinct, Except, Group}
 use Rattle.iv_algebra.specs.Shapes as shape
-use Rattle.iv_bind.specs.Catalogs.{Entry, Table, View}
+use Rattle.iv_bind.specs.Catalogs.{CatalogEntry, Table, View}
 use Rattle.iv_bind.specs.Binding.{bound}
 
 abbrev pub column : List ℕ → Kind → Column
 column name kind = record { name = name; kind = kind }
 
-abbrev pub table : List ℕ → ℕ → List Column → Entry
+abbrev pub table : List ℕ → ℕ → List Column → CatalogEntry
 table name rel columns = record { name = name; rel = rel; held = Table columns }
 
-abbrev pub catalog : List Entry
+abbrev pub catalog : List CatalogEntry
 catalog = table (codes "a") 1 (column (codes "k") Int ∷ column (codes "x") Int ∷ [])
     ∷ table (codes "b") 2 (column (codes "k") Int ∷ column (codes "y") Int ∷ [])
     ∷ table (codes "notes") 3 (column (codes "id") Int ∷ column (codes "who") Text ∷ [])

@@ -1,5 +1,5 @@
 -- Steps that may fail, one after the other, and what a function that takes such steps answers.
-use Rattle.std.specs.Prelude.{◌≡◌, ℕ, List, [], ◌∷◌, Option, Some, None, Result, Ok, Err}
+use Rattle.std.specs.Prelude.{◌≡◌, ℕ, List, [], ◌∷◌, Result, Ok, Err}
 use Rattle.iv_bind.specs.declared.fault.BindWhy.{BindWhy}
 use Rattle.iv_bind.specs.declared.fault.BindFault.{BindFault}
 use Rattle.iv_bind.specs.declared.fault.BindFault.TheVariants as faults
@@ -12,10 +12,6 @@ infixl 10 ◌>>=◌
 abbrev pub ◌>>=◌ : {A B : Type 0} → Result A Fault → (A → Result B Fault) → Result B Fault
 (Ok x) >>= f = f x
 (Err e) >>= f = Err e
-
-abbrev pub if_some : {A B : Type 0} → Option A → B → (A → B) → B
-if_some None b f = b
-if_some (Some a) b f = f a
 
 -- a step for each item, from the left
 abbrev pub through : {A B : Type 0} → (A → B → Result A Fault) → A → List B → Result A Fault

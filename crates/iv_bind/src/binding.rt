@@ -13,7 +13,7 @@ ghost use Rattle.iv_rows.specs.Columns.{kinds_of};
 ghost use Rattle.iv_algebra.specs.Fits.{condition_fits};
 ghost use Rattle.iv_bind.specs.Faults.{Gives};
 ghost use Rattle.iv_algebra.specs.Shapes.{shape_of, condition_of, nodes, scans};
-ghost use Rattle.iv_bind.specs.Catalogs.{AreAmong, numbers, answer_of};
+ghost use Rattle.iv_bind.specs.Catalogs.{AreAmong, numbers, bound_of};
 ghost use Rattle.iv_bind.specs.Parts.{part_of};
 ghost use Rattle.iv_bind.specs.Sound.{is_schema, IsTyped};
 ghost use Rattle.iv_bind.specs.Binding.{once, finished, bound, bound_pred};
@@ -86,22 +86,11 @@ fn is_small(plan: &Plan) -> bool
     after_nodes(plan, NODES).is_some()
 }
 
-// The schema of columns that are one.
-fn schema_of(columns: Vec<Column>) -> Schema
-    requires { is_schema columns.items ≡ true }
-    ensures { result ≡ columns.items }
-{
-    match Schema::try_new(columns) {
-        Ok(schema) => schema,
-        Err(_) => unreachable!(),
-    }
-}
-
 // What is left to do behind the last select.
 #[tactic(auto, unfolding(crate::specs::Binding::finished))]
 fn finished(alloc: Global, part: Part) -> Result<Bound, BindFault>
     requires { is_schema part.schema.items ≡ true }
-    ensures { Gives answer_of result (finished (part_of part)) }
+    ensures { Gives bound_of result (finished (part_of part)) }
 {
     if !is_small(&part.plan) {
         return Err(fault(0, BindWhy::TooManyNodes));
@@ -109,7 +98,7 @@ fn finished(alloc: Global, part: Part) -> Result<Bound, BindFault>
     let needs = once(alloc, &part.reached)?;
     Ok(Bound {
         plan: part.plan,
-        schema: schema_of(part.schema),
+        schema: Schema::new(part.schema),
         needs,
     })
 }
@@ -125,11 +114,11 @@ fn finished(alloc: Global, part: Part) -> Result<Bound, BindFault>
 pub fn bind(alloc: Global, tree: &Query, catalog: &Catalog) -> Result<Bound, BindFault>
     requires { IsWellQuery (query_tree tree.now) }
     // The answer is the query's over the catalog, and a fault that is told is its first one; unless memory runs out.
-    ensures bound { Gives answer_of result (bound catalog.now (query_tree tree.now)) }
+    ensures bound { Gives bound_of result (bound catalog.now (query_tree tree.now)) }
     // Over all tables of the catalog's kinds the plan fits, and its rows have the kinds of the columns.
-    ensures typed { IfOk result (λ b. IsTyped catalog.now (answer_of b)) }
+    ensures typed { IfOk result (λ b. IsTyped catalog.now (bound_of b)) }
     // Each table that the plan scans is among the needs.
-    ensures scanned { IfOk result (λ b. AreAmong (scans (answer_of b).plan) (answer_of b).needs) }
+    ensures scanned { IfOk result (λ b. AreAmong (scans (bound_of b).plan) (bound_of b).needs) }
 {
     catalog.keeps();
     let part = query(alloc, catalog, tree)?;

@@ -6,9 +6,9 @@
 
 ghost use Rattle.std.specs.Prelude.{◌≡◌, ◌&&◌, [], None, is_none, option_map, IfSome, OnOk, OnErr};
 ghost use Rattle.iv_algebra.specs.Shapes.{scans};
-ghost use Rattle.iv_bind.specs.Catalogs.{Table, View, AreAmong, answer_of, named, numbered, schema_of, view_of, extended};
+ghost use Rattle.iv_bind.specs.Catalogs.{Table, View, AreAmong, bound_of, named, numbered, schema_of, view_of, extended};
 ghost use Rattle.iv_bind.specs.Held.{entry_of, held_of, entries};
-ghost use Rattle.iv_bind.specs.Sound.{IsSound, HeldIsSound, IsTyped};
+ghost use Rattle.iv_bind.specs.Sound.{IsSoundCatalog, HeldIsSound, IsTyped};
 
 use crate::bound::Bound;
 use iv_rows::{RelId, Schema};
@@ -38,10 +38,10 @@ pub struct Catalog {
 
 impl Model for Catalog {
     ghost use Rattle.std.specs.Prelude.{List};
-    ghost use Rattle.iv_bind.specs.Catalogs.{Entry};
+    ghost use Rattle.iv_bind.specs.Catalogs.{CatalogEntry};
     ghost use Rattle.iv_bind.specs.Codes.{entries_code};
 
-    ghost Value = { List Entry };
+    ghost Value = { List CatalogEntry };
 
     ghost coded = { entries_code };
 
@@ -49,9 +49,9 @@ impl Model for Catalog {
 
     ghost view = { λ c. entries c.relations.items };
 
-    ghost use Rattle.iv_bind.specs.Sound.{IsSound};
+    ghost use Rattle.iv_bind.specs.Sound.{IsSoundCatalog};
 
-    ghost invariant = { λ c. IsSound (entries c.relations.items) };
+    ghost invariant = { λ c. IsSoundCatalog (entries c.relations.items) };
 }
 
 // The first relation of a name.
@@ -90,7 +90,7 @@ impl Catalog {
 
     /// What the relations keep, for proofs alone.
     pub(crate) fn keeps(&self)
-        ensures { IsSound self.now }
+        ensures { IsSoundCatalog self.now }
     {
         let _ = &self.relations;
     }
@@ -135,9 +135,9 @@ impl Catalog {
         requires name { named self.old name.now ≡ None }
         requires number { numbered self.old rel.0 ≡ None }
         // Over all tables of the catalog's kinds the plan fits, and its rows have the kinds of the columns.
-        requires typed { IsTyped self.old (answer_of bound) }
-        requires scanned { AreAmong (scans (answer_of bound).plan) (answer_of bound).needs }
-        ensures added { OnOk result (self.new ≡ extended self.old name.now rel.0 (View (answer_of bound))) }
+        requires typed { IsTyped self.old (bound_of bound) }
+        requires scanned { AreAmong (scans (bound_of bound).plan) (bound_of bound).needs }
+        ensures added { OnOk result (self.new ≡ extended self.old name.now rel.0 (View (bound_of bound))) }
         ensures unchanged { OnErr result (self.new ≡ self.old) }
     {
         let _ = bound.schema.columns();
@@ -166,10 +166,10 @@ impl Catalog {
 
     /// The view of a number; none where there is no view of it. It takes no memory.
     pub fn view(&self, rel: RelId) -> Option<&Bound>
-        ensures found { option_map (λ b. answer_of b.now) result ≡ view_of self.now rel.0 }
+        ensures found { option_map (λ b. bound_of b.now) result ≡ view_of self.now rel.0 }
         // Over all tables of the catalog's kinds the plan fits, and its rows have the kinds of the columns.
-        ensures typed { IfSome result (λ b. IsTyped self.now (answer_of b.now)) }
-        ensures scanned { IfSome result (λ b. AreAmong (scans (answer_of b.now).plan) (answer_of b.now).needs) }
+        ensures typed { IfSome result (λ b. IsTyped self.now (bound_of b.now)) }
+        ensures scanned { IfSome result (λ b. AreAmong (scans (bound_of b.now).plan) (bound_of b.now).needs) }
     {
         match numbered(&self.relations, rel) {
             Some(relation) => match &relation.held {

@@ -8,7 +8,7 @@ ghost use Rattle.iv_query.specs.Trees.{ItemOf, SumOf, CountOf, ItemsOf};
 ghost use Rattle.std.specs.Prelude.{option_map};
 ghost use Rattle.iv_bind.specs.Faults.{Gives};
 ghost use Rattle.iv_bind.specs.Parts.{out_of};
-ghost use Rattle.iv_bind.specs.Binding.{nothing, keys_at, first_aggregate, ungrouped, output_at, within_group, output_name, aggregated, item_at, star_at, list_at};
+ghost use Rattle.iv_bind.specs.Binding.{nothing, keys_bound, first_aggregate, ungrouped, output_bound, within_group, output_name, aggregated, item_bound, star_bound, list_bound};
 
 use crate::fault::{BindFault, BindWhy};
 use crate::predicate::is_same;
@@ -49,13 +49,13 @@ fn stands(keys: &[usize], k: usize) -> bool
 }
 
 /// The columns of a group, each once.
-#[tactic(auto, unfolding(crate::specs::Binding::keys_at))]
+#[tactic(auto, unfolding(crate::specs::Binding::keys_bound))]
 pub(crate) fn keys(
     alloc: Global,
     scope: &[Named],
     group: &[Column],
 ) -> Result<Vec<usize>, BindFault>
-    ensures { Gives (λ keys. keys.items) result (keys_at scope.now (map column_tree group.now)) }
+    ensures { Gives (λ keys. keys.items) result (keys_bound scope.now (map column_tree group.now)) }
 {
     let mut keys = Vec::new(alloc);
     for text in group {
@@ -105,7 +105,7 @@ fn is_output(schema: &[iv_rows::Column], name: &str) -> bool
 }
 
 // One column more, of the place `k` in the rows below, for the item at `place`.
-#[tactic(auto, unfolding(crate::specs::Binding::output_at))]
+#[tactic(auto, unfolding(crate::specs::Binding::output_bound))]
 fn output(
     alloc: Global,
     place: usize,
@@ -114,7 +114,7 @@ fn output(
     name: &str,
     kind: Kind,
 ) -> Result<Out, BindFault>
-    ensures { Gives out_of result (output_at place (out_of out) k name.now kind) }
+    ensures { Gives out_of result (output_bound place (out_of out) k name.now kind) }
 {
     if is_output(&out.schema, name) {
         return Err(fault(place, BindWhy::DuplicateName));
@@ -176,7 +176,7 @@ fn aggregated(out: Out, agg: Agg) -> Result<Out, AllocError>
     })
 }
 
-#[tactic(auto, unfolding(crate::specs::Binding::item_at))]
+#[tactic(auto, unfolding(crate::specs::Binding::item_bound))]
 fn column_item(
     alloc: Global,
     scope: &[Named],
@@ -185,7 +185,7 @@ fn column_item(
     text: &Column,
     alias: &Option<Name>,
 ) -> Result<Out, BindFault>
-    ensures { Gives out_of result (item_at scope.now keys.now (out_of out) (ItemOf (column_tree text.now) (option_map name_tree alias.now))) }
+    ensures { Gives out_of result (item_bound scope.now keys.now (out_of out) (ItemOf (column_tree text.now) (option_map name_tree alias.now))) }
 {
     let (k, kind) = column(scope, text)?;
     let Some(k) = within_group(keys, k) else {
@@ -195,7 +195,7 @@ fn column_item(
 }
 
 // The sum of a column, for the item at `place`.
-#[tactic(auto, unfolding(crate::specs::Binding::item_at))]
+#[tactic(auto, unfolding(crate::specs::Binding::item_bound))]
 fn sum_item(
     alloc: Global,
     scope: &[Named],
@@ -205,7 +205,7 @@ fn sum_item(
     text: &Column,
     alias: &Name,
 ) -> Result<Out, BindFault>
-    ensures { Gives out_of result (item_at scope.now keys.now (out_of out) (SumOf place (column_tree text.now) (name_tree alias.now))) }
+    ensures { Gives out_of result (item_bound scope.now keys.now (out_of out) (SumOf place (column_tree text.now) (name_tree alias.now))) }
 {
     let (k, kind) = column(scope, text)?;
     if !is_same(kind, Kind::Int) {
@@ -216,7 +216,7 @@ fn sum_item(
     output(alloc, place, out, behind, alias.text.as_str(), Kind::Int)
 }
 
-#[tactic(auto, unfolding(crate::specs::Binding::item_at))]
+#[tactic(auto, unfolding(crate::specs::Binding::item_bound))]
 fn item(
     alloc: Global,
     scope: &[Named],
@@ -224,7 +224,7 @@ fn item(
     out: Out,
     item: &Item,
 ) -> Result<Out, BindFault>
-    ensures { Gives out_of result (item_at scope.now keys.now (out_of out) (item_tree item.now)) }
+    ensures { Gives out_of result (item_bound scope.now keys.now (out_of out) (item_tree item.now)) }
 {
     match item {
         Item::Column { column, alias } => column_item(alloc, scope, keys, out, column, alias),
@@ -242,9 +242,9 @@ fn item(
 }
 
 // Each column, for the star at `place`.
-#[tactic(auto, unfolding(crate::specs::Binding::star_at))]
+#[tactic(auto, unfolding(crate::specs::Binding::star_bound))]
 fn star(alloc: Global, scope: &[Named], place: usize) -> Result<Out, BindFault>
-    ensures { Gives out_of result (star_at scope.now place) }
+    ensures { Gives out_of result (star_bound scope.now place) }
 {
     let mut out = nothing(alloc);
     for named in scope {
@@ -255,14 +255,14 @@ fn star(alloc: Global, scope: &[Named], place: usize) -> Result<Out, BindFault>
 }
 
 // Each item, from the left.
-#[tactic(auto, unfolding(crate::specs::Binding::list_at))]
+#[tactic(auto, unfolding(crate::specs::Binding::list_bound))]
 fn all_items(
     alloc: Global,
     scope: &[Named],
     keys: &[usize],
     items: &[Item],
 ) -> Result<Out, BindFault>
-    ensures { Gives out_of result (list_at scope.now keys.now (ItemsOf (map item_tree items.now))) }
+    ensures { Gives out_of result (list_bound scope.now keys.now (ItemsOf (map item_tree items.now))) }
 {
     let mut out = nothing(alloc);
     for next in items {
@@ -272,14 +272,14 @@ fn all_items(
 }
 
 /// The output columns of a select.
-#[tactic(auto, unfolding(crate::specs::Binding::list_at))]
+#[tactic(auto, unfolding(crate::specs::Binding::list_bound))]
 pub(crate) fn list(
     alloc: Global,
     scope: &[Named],
     keys: &[usize],
     columns: &Columns,
 ) -> Result<Out, BindFault>
-    ensures { Gives out_of result (list_at scope.now keys.now (list_tree columns.now)) }
+    ensures { Gives out_of result (list_bound scope.now keys.now (list_tree columns.now)) }
 {
     match columns {
         Columns::All { place } => star(alloc, scope, *place),

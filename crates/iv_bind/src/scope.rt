@@ -3,7 +3,7 @@
 ghost use Rattle.std.specs.Prelude.{◌≡◌};
 ghost use Rattle.iv_query.specs.Trees.{column_tree};
 ghost use Rattle.iv_bind.specs.Faults.{Gives};
-ghost use Rattle.iv_bind.specs.Binding.{is_meant, is_used, column_at};
+ghost use Rattle.iv_bind.specs.Binding.{is_meant, is_used, column_bound};
 
 use crate::fault::{BindFault, BindWhy};
 use iv_query::Column;
@@ -60,9 +60,9 @@ pub(crate) fn is_used(scope: &[Named], name: &str) -> bool
 ///
 /// # Errors
 /// `UnknownColumn` where no column is meant, `AmbiguousColumn` where two are.
-#[tactic(auto, unfolding(crate::specs::Binding::column_at))]
+#[tactic(auto, unfolding(crate::specs::Binding::column_bound))]
 pub(crate) fn column(scope: &[Named], column: &Column) -> Result<(usize, Kind), BindFault>
-    ensures { Gives (λ x. x) result (column_at scope.now (column_tree column.now)) }
+    ensures { Gives (λ x. x) result (column_bound scope.now (column_tree column.now)) }
 {
     let mut found = None;
     for place in 0..scope.len() {

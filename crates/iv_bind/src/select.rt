@@ -8,7 +8,7 @@ ghost use Rattle.iv_bind.specs.Faults.{Gives};
 ghost use Rattle.iv_algebra.specs.Shapes.{shape_of};
 ghost use Rattle.iv_bind.specs.Held.{entries};
 ghost use Rattle.iv_bind.specs.Parts.{from_of, out_of, part_of, output_by};
-ghost use Rattle.iv_bind.specs.Binding.{grouped, distinctly, selected, select_at, combined_plan, combined, query_at};
+ghost use Rattle.iv_bind.specs.Binding.{grouped_shape, distinctly, selected, select_bound, combined_plan, combined, query_bound};
 
 use crate::catalog::Catalog;
 use crate::fault::{BindFault, BindWhy};
@@ -35,7 +35,7 @@ pub(crate) struct Part {
 
 // The groups of a plan's rows, where there are keys.
 fn grouped(alloc: Global, keys: Vec<usize>, aggs: Vec<Agg>, plan: Plan) -> Result<Plan, AllocError>
-    ensures { IfOk result (λ p. shape_of p ≡ grouped keys.items aggs.items (shape_of plan)) }
+    ensures { IfOk result (λ p. shape_of p ≡ grouped_shape keys.items aggs.items (shape_of plan)) }
 {
     if keys.is_empty() {
         return Ok(plan);
@@ -88,9 +88,9 @@ fn output_of(alloc: Global, select: &Select, from: From) -> Result<Part, BindFau
     Ok(selected(alloc, select.distinct, from, keys, out)?)
 }
 
-#[tactic(auto, unfolding(crate::specs::Binding::select_at))]
+#[tactic(auto, unfolding(crate::specs::Binding::select_bound))]
 fn select(alloc: Global, catalog: &Catalog, select: &Select) -> Result<Part, BindFault>
-    ensures { Gives part_of result (select_at catalog.now (select_tree select.now)) }
+    ensures { Gives part_of result (select_bound catalog.now (select_tree select.now)) }
 {
     let all = all_sources(alloc, catalog, &select.source, &select.joins)?;
     let from = filter(alloc, all, &select.filter)?;
@@ -143,9 +143,9 @@ fn combined(alloc: Global, op: SetOp, left: Part, right: Part) -> Result<Part, A
 }
 
 /// A query, from the left.
-#[tactic(auto, unfolding(crate::specs::Binding::query_at))]
+#[tactic(auto, unfolding(crate::specs::Binding::query_bound))]
 pub(crate) fn query(alloc: Global, catalog: &Catalog, tree: &Query) -> Result<Part, BindFault>
-    ensures { Gives part_of result (query_at catalog.now (query_tree tree.now)) }
+    ensures { Gives part_of result (query_bound catalog.now (query_tree tree.now)) }
 {
     match tree {
         Query::Select(only) => select(alloc, catalog, only),

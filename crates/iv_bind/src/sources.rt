@@ -9,7 +9,7 @@ ghost use Rattle.iv_algebra.specs.Shapes.{shape_of};
 ghost use Rattle.iv_bind.specs.Catalogs.{numbers, columns_of, plan_of, reached_by};
 ghost use Rattle.iv_bind.specs.Held.{held_of, entry_of, entries};
 ghost use Rattle.iv_bind.specs.Parts.{from_of};
-ghost use Rattle.iv_bind.specs.Binding.{called, under, source_of, source_at, sides, pair_at, pairs_at, joined_at, join_at, from_at, filter_at};
+ghost use Rattle.iv_bind.specs.Binding.{called, under, source_of, source_bound, sides, pair_bound, pairs_bound, joined_bound, join_bound, from_bound, filter_bound};
 
 use crate::catalog::{Catalog, Held, Relation};
 use crate::copy::copy_plan;
@@ -102,14 +102,14 @@ fn called(source: &Source) -> &Name
 }
 
 // A source behind those that have the columns of `scope`.
-#[tactic(auto, unfolding(crate::specs::Binding::source_at))]
+#[tactic(auto, unfolding(crate::specs::Binding::source_bound))]
 fn source(
     alloc: Global,
     catalog: &Catalog,
     scope: &[Named],
     source: &Source,
 ) -> Result<From, BindFault>
-    ensures { Gives from_of result (source_at catalog.now scope.now (source_tree source.now)) }
+    ensures { Gives from_of result (source_bound catalog.now scope.now (source_tree source.now)) }
 {
     let Some(relation) = catalog.named(source.name.text.as_str()) else {
         return Err(fault(source.name.place, BindWhy::UnknownRelation));
@@ -134,9 +134,9 @@ fn sides(n: usize, i: usize, j: usize) -> Option<(usize, usize)>
     None
 }
 
-#[tactic(auto, unfolding(crate::specs::Binding::pair_at))]
+#[tactic(auto, unfolding(crate::specs::Binding::pair_bound))]
 fn pair(n: usize, scope: &[Named], pair: &Pair) -> Result<(usize, usize), BindFault>
-    ensures { Gives (λ x. x) result (pair_at n scope.now (pair_tree pair.now)) }
+    ensures { Gives (λ x. x) result (pair_bound n scope.now (pair_tree pair.now)) }
 {
     let (i, kind) = column(scope, &pair.left)?;
     let (j, other) = column(scope, &pair.right)?;
@@ -149,14 +149,14 @@ fn pair(n: usize, scope: &[Named], pair: &Pair) -> Result<(usize, usize), BindFa
     Ok(sides)
 }
 
-#[tactic(auto, unfolding(crate::specs::Binding::pairs_at))]
+#[tactic(auto, unfolding(crate::specs::Binding::pairs_bound))]
 fn pairs(
     alloc: Global,
     n: usize,
     scope: &[Named],
     on: &[Pair],
 ) -> Result<Vec<(usize, usize)>, BindFault>
-    ensures { Gives (λ pairs. pairs.items) result (pairs_at n scope.now (map pair_tree on.now)) }
+    ensures { Gives (λ pairs. pairs.items) result (pairs_bound n scope.now (map pair_tree on.now)) }
 {
     let mut pairs = Vec::new(alloc);
     for text in on {
@@ -167,9 +167,9 @@ fn pairs(
 }
 
 // Two plans, joined by pairs of columns.
-#[tactic(auto, unfolding(crate::specs::Binding::joined_at))]
+#[tactic(auto, unfolding(crate::specs::Binding::joined_bound))]
 fn joined(alloc: Global, left: From, right: From, on: &[Pair]) -> Result<From, BindFault>
-    ensures { Gives from_of result (joined_at (from_of left) (from_of right) (map pair_tree on.now)) }
+    ensures { Gives from_of result (joined_bound (from_of left) (from_of right) (map pair_tree on.now)) }
 {
     let a = Box::new(alloc, left.plan);
     let b = Box::new(alloc, right.plan);
@@ -192,23 +192,23 @@ fn joined(alloc: Global, left: From, right: From, on: &[Pair]) -> Result<From, B
 }
 
 // The sources so far and one more.
-#[tactic(auto, unfolding(crate::specs::Binding::join_at))]
+#[tactic(auto, unfolding(crate::specs::Binding::join_bound))]
 fn join(alloc: Global, catalog: &Catalog, left: From, join: &Join) -> Result<From, BindFault>
-    ensures { Gives from_of result (join_at catalog.now (from_of left) (join_tree join.now)) }
+    ensures { Gives from_of result (join_bound catalog.now (from_of left) (join_tree join.now)) }
 {
     let right = source(alloc, catalog, &left.scope, &join.source)?;
     joined(alloc, left, right, &join.on)
 }
 
 /// The sources of a select, joined.
-#[tactic(auto, unfolding(crate::specs::Binding::from_at))]
+#[tactic(auto, unfolding(crate::specs::Binding::from_bound))]
 pub(crate) fn all_sources(
     alloc: Global,
     catalog: &Catalog,
     first: &Source,
     joins: &[Join],
 ) -> Result<From, BindFault>
-    ensures { Gives from_of result (from_at catalog.now (source_tree first.now) (map join_tree joins.now)) }
+    ensures { Gives from_of result (from_bound catalog.now (source_tree first.now) (map join_tree joins.now)) }
 {
     let mut all = source(alloc, catalog, &[], first)?;
     for next in joins {
@@ -218,9 +218,9 @@ pub(crate) fn all_sources(
 }
 
 /// The rows that a select's predicate lets through.
-#[tactic(auto, unfolding(crate::specs::Binding::filter_at))]
+#[tactic(auto, unfolding(crate::specs::Binding::filter_bound))]
 pub(crate) fn filter(alloc: Global, from: From, filter: &Option<Pred>) -> Result<From, BindFault>
-    ensures { Gives from_of result (filter_at (from_of from) (option_map pred_tree filter.now)) }
+    ensures { Gives from_of result (filter_bound (from_of from) (option_map pred_tree filter.now)) }
 {
     let Some(tree) = filter else {
         return Ok(from);

@@ -5,9 +5,9 @@ use Rattle.std.specs.Bool.{beq}
 use Rattle.std.proofs.lemmas.List.Sums.{sum_by-cons}
 use Rattle.iv_rows.specs.Columns.{kinds_of}
 use Rattle.iv_bind.specs.BoundTexts.{TextFault, bound_query}
-use Rattle.iv_bind.specs.Catalogs.{Answer, Entry, Held, Table, View, named, table_in, view_in}
-use Rattle.iv_access.specs.Faults.{add_relation_fault, count_like, first as first_fault}
-use Rattle.iv_access.specs.Known.{Relation, relation_of}
+use Rattle.iv_bind.specs.Catalogs.{BoundQuery, CatalogEntry, Held, Table, View, named, table_in, view_in}
+use Rattle.iv_access.specs.Faults.{add_relation_fault, count_like, first_fault}
+use Rattle.iv_access.specs.Access.{Relation, relation_of}
 use Rattle.iv_access.specs.Privileges.{is_admin, role_of}
 use Rattle.iv_access.specs.Rights.{Name}
 use Rattle.iv_access.specs.declared.fault.AccessFault.{AccessFault}
@@ -64,10 +64,10 @@ one_view : (h : Held) → beq false (is_some (option_map kinds_of (table_in h)))
 one_view (Table c) = refl
 one_view (View a) = refl
 
-all_views : (es : List Entry) → count_like false (map relation_in es) ≡ count_by (λ x. is_some (view_in x.held)) es
+all_views : (es : List CatalogEntry) → count_like false (map relation_in es) ≡ count_by (λ x. is_some (view_in x.held)) es
 all_views [] = refl
 all_views (x ∷ es) = sum_by-cons (λ (r : Relation). cond (beq false (is_some r.kinds)) 1 0) (relation_in x) (map relation_in es)
-    ∙ (λ i. cond (one_view x.held i) 1 0 + all_views es i) ∙ sym (sum_by-cons (λ (y : Entry). cond (is_some (view_in y.held)) 1 0) x es)
+    ∙ (λ i. cond (one_view x.held i) 1 0 + all_views es i) ∙ sym (sum_by-cons (λ (y : CatalogEntry). cond (is_some (view_in y.held)) 1 0) x es)
 
 views_are : (e : Database) → IsDatabase e → count_like false e.known.relations ≡ views (frame_of e)
 views_are e h = ap (count_like false) h.relations ∙ all_views e.catalog
@@ -90,7 +90,7 @@ has_room false false false false h = refl
 -- where the other tests pass, the number of views alone can refuse it
 module _ (e : Database) (h : IsDatabase e) (acting : ℕ) (name owner : Name) (admin : is_admin acting ≡ true) (known : is_some (role_of e.known.rights owner) ≡ true) (free : named e.catalog name ≡ None) where
   not_taken : is_some (relation_of e.known.relations name) ≡ false
-  not_taken = named_known e h name ∙ ap (λ (o : Option Entry). is_some o) free
+  not_taken = named_known e h name ∙ ap (λ (o : Option CatalogEntry). is_some o) free
 
   views_full : (b : Bool) → nat_le 64 (count_like false e.known.relations) ≡ b → has_view_room e ≡ not b
   views_full b f = ap not (ap (nat_le 64) (sym (views_are e h)) ∙ f)
@@ -108,7 +108,7 @@ module _ (e : Database) (h : IsDatabase e) (acting : ℕ) (name owner : Name) (a
   same_refusal r h = let t : machine.too_many ≡ r = cc in sym t
 
   -- the fault tells that there are too many views, or is want of memory
-  pub view_stops : (x : AccessFault) (stop : Stop) (a : Answer) (new : Database) → (x ≡ fault.Memory) ⊎ (add_relation_fault e.known acting name owner false ≡ Some x) → IsStopOf x name stop → new ≡ e
+  pub view_stops : (x : AccessFault) (stop : Stop) (a : BoundQuery) (new : Database) → (x ≡ fault.Memory) ⊎ (add_relation_fault e.known acting name owner false ≡ Some x) → IsStopOf x name stop → new ≡ e
       → IsViewAdded e name owner a (Err stop) new
   view_stops x (Refused r) a new h' told same = ⊎_elim
       (λ m. absurd (memory_is_none x name (refusal_of r) m told))
@@ -129,9 +129,9 @@ module _ (e : Database) (n : ℕ) (name owner : Name) (query : List ℕ) (acting
   pub text_refused : (r : machine.Refusal) → bad_text (bound_query e.catalog query) ≡ Some r → frame_refusal (frame_of e) n (create_view name owner query) ≡ Some r
   text_refused r h = text_tests ∙ ap (λ o. or_else o (or_else (full 64 (views (frame_of e))) None)) h
 
-  module _ (a : Answer) (bound : bound_query e.catalog query ≡ Ok a) where
+  module _ (a : BoundQuery) (bound : bound_query e.catalog query ≡ Ok a) where
     room_tests : frame_refusal (frame_of e) n (create_view name owner query) ≡ or_else (full 64 (views (frame_of e))) None
-    room_tests = text_tests ∙ ap (λ (b : Result Answer TextFault). or_else (bad_text b) (or_else (full 64 (views (frame_of e))) None)) bound
+    room_tests = text_tests ∙ ap (λ (b : Result BoundQuery TextFault). or_else (bad_text b) (or_else (full 64 (views (frame_of e))) None)) bound
 
     full_by : (b : Bool) → not b ≡ false → or_else (test b machine.too_many) None ≡ Some machine.too_many
     full_by true h = refl
@@ -148,7 +148,7 @@ module _ (e : Database) (n : ℕ) (name owner : Name) (query : List ℕ) (acting
     view_passes h = room_tests ∙ room_by (nat_le 64 (views (frame_of e))) h
 
     pub view_kept : database_after e n (create_view name owner query) ≡ with_relation_of name owner (View a) e
-    view_kept = ap (λ (b : Result Answer TextFault). record (with_relation_of name owner (View a) e) { catalog = with_held name (view_held b) e.catalog }) bound
+    view_kept = ap (λ (b : Result BoundQuery TextFault). record (with_relation_of name owner (View a) e) { catalog = with_held name (view_held b) e.catalog }) bound
 
     -- the view is added, or there are too many
     pub view_done : (x : Result Unit Stop) (new : Database) → IsViewAdded e name owner a x new → IsDone e n (create_view name owner query) x new

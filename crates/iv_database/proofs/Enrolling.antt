@@ -2,8 +2,8 @@
 use Rattle.std.proofs.Common.{◌≡◌, ℕ, Bool, true, false, not, [], ◌∷◌, Option, None, Some, refl, sym, ap, subst, ◌∙◌, ⊎_elim, ◌⊎◌, inr}
 use Rattle.std.specs.Prelude.{Result, Ok, Err, IfErr, OnErr, OnOk, is_some, option_map}
 use Rattle.iv_access.specs.Changing.{with_member, without_member}
-use Rattle.iv_access.specs.Faults.{first, grant_role_fault, revoke_role_fault}
-use Rattle.iv_access.specs.Known.{Known, role_number}
+use Rattle.iv_access.specs.Faults.{first_fault, grant_role_fault, revoke_role_fault}
+use Rattle.iv_access.specs.Access.{Access, role_number}
 use Rattle.iv_access.specs.Privileges.{acts_as, is_admin, role_of}
 use Rattle.iv_access.specs.Rights.{Name, Rights}
 use Rattle.iv_access.specs.declared.fault.AccessFault.{AccessFault}
@@ -21,7 +21,7 @@ use Rattle.iv_command.specs.declared.stop.Stop.{Stop}
 use Rattle.iv_command.specs.declared.stop.Stop.TheVariants.{Refused, Memory}
 use Rattle.iv_database.proofs.Telling.{Tells, acts}
 
-four : (a b c d : Bool) (name : Name) → Tells (first ((a, fault.NotAdmin) ∷ (b, fault.Role) ∷ (c, fault.Role) ∷ (d, fault.Loop) ∷ [])) name
+four : (a b c d : Bool) (name : Name) → Tells (first_fault ((a, fault.NotAdmin) ∷ (b, fault.Role) ∷ (c, fault.Role) ∷ (d, fault.Loop) ∷ [])) name
     (or_else (test a machine.not_administrator) (or_else (test b machine.unknown_role) (or_else (test c machine.unknown_role) (or_else (test d machine.membership_loop) None))))
 four true b c d name = record { none = λ h. cc; some = λ x h. let e : fault.NotAdmin ≡ x = cc in (machine.not_administrator, (refl, ap (λ y. told y name) e)) }
 four false true c d name = record { none = λ h. cc; some = λ x h. let e : fault.Role ≡ x = cc in (machine.unknown_role, (refl, ap (λ y. told y name) e)) }
@@ -29,7 +29,7 @@ four false false true d name = record { none = λ h. cc; some = λ x h. let e : 
 four false false false true name = record { none = λ h. cc; some = λ x h. let e : fault.Loop ≡ x = cc in (machine.membership_loop, (refl, ap (λ y. told y name) e)) }
 four false false false false name = record { none = λ h. refl; some = λ x h. cc }
 
-three : (a b c : Bool) (name : Name) → Tells (first ((a, fault.NotAdmin) ∷ (b, fault.Role) ∷ (c, fault.Role) ∷ [])) name
+three : (a b c : Bool) (name : Name) → Tells (first_fault ((a, fault.NotAdmin) ∷ (b, fault.Role) ∷ (c, fault.Role) ∷ [])) name
     (or_else (test a machine.not_administrator) (or_else (test b machine.unknown_role) (or_else (test c machine.unknown_role) None)))
 three true b c name = record { none = λ h. cc; some = λ x h. let e : fault.NotAdmin ≡ x = cc in (machine.not_administrator, (refl, ap (λ y. told y name) e)) }
 three false true c name = record { none = λ h. cc; some = λ x h. let e : fault.Role ≡ x = cc in (machine.unknown_role, (refl, ap (λ y. told y name) e)) }
@@ -37,7 +37,7 @@ three false false true name = record { none = λ h. cc; some = λ x h. let e : f
 three false false false name = record { none = λ h. refl; some = λ x h. cc }
 
 -- what became of a change of rights: as what is known was in u, K is known now, with the rights R where it was accepted
-pub record HasTurned (u : Database) (K : Known) (R : Rights) (f : Option AccessFault) (x : Result Unit AccessFault) : Type 0 where
+pub record HasTurned (u : Database) (K : Access) (R : Rights) (f : Option AccessFault) (x : Result Unit AccessFault) : Type 0 where
   pub rights : OnOk x (K.rights ≡ R)
   pub relations : K.relations ≡ u.known.relations
   pub ok_when : OnOk x (f ≡ None)
@@ -48,7 +48,7 @@ pub record HasTurned (u : Database) (K : Known) (R : Rights) (f : Option AccessF
 pub memory_is_none : (y : AccessFault) (name : Name) (r : Refusal) → y ≡ fault.Memory → told y name ≡ Some r → ⊥
 memory_is_none y name r is t = let e : None ≡ Some r = sym (ap (λ z. told z name) is) ∙ t in cc
 
-pub done_by : (u : Database) (K : Known) (R : Rights) (n : ℕ) (act : Act) (f : Option AccessFault) (name : Name) (o : Option Refusal) (x : Result Unit AccessFault) (y : Result Unit Stop)
+pub done_by : (u : Database) (K : Access) (R : Rights) (n : ℕ) (act : Act) (f : Option AccessFault) (name : Name) (o : Option Refusal) (x : Result Unit AccessFault) (y : Result Unit Stop)
     → Tells f name o → o ≡ frame_refusal (frame_of u) n act → with_rights R u ≡ database_after u n act → HasTurned u K R f x → IsTold x name y → IsDone u n act y (record u { known = K })
 done_by u K R n act f name o (Ok i) (Ok v) tells is left h t =
     (sym is ∙ tells.none h.ok_when, (λ j. record u { known = record { relations = h.relations j; rights = h.rights j } }) ∙ left)
@@ -59,7 +59,7 @@ done_by u K R n act f name o (Err x) (Err (Refused r)) tells is left h t = ⊎_e
     (λ s. let z = tells.some x s in (sym is ∙ z.1.0 ∙ z.1.1 ∙ t, ap (λ k. record u { known = k }) h.unchanged)) h.err_when
 done_by u K R n act f name o (Err x) (Err Memory) tells is left h t = tt
 
-module _ (u e : Database) (K : Known) (n a : ℕ) (called role to : Name) (x : Result Unit AccessFault) (y : Result Unit Stop)
+module _ (u e : Database) (K : Access) (n a : ℕ) (called role to : Name) (x : Result Unit AccessFault) (y : Result Unit Stop)
     (is : u ≡ e) (same : called ≡ role) (acting : Some a ≡ option_map (λ s. s.role) (session_of e.sessions n)) (t : IsTold x role y) where
   acts_here : Some a ≡ option_map (λ s. s.role) (session_of u.sessions n)
   acts_here = acting ∙ sym (ap (λ (v : Database). option_map (λ s. s.role) (session_of v.sessions n)) is)

@@ -3,9 +3,9 @@ use Rattle.std.proofs.Common.{◌≡◌, ℕ, Bool, true, false, not, List, [], 
 use Rattle.std.specs.Prelude.{Result, is_some}
 use Rattle.iv_bind.specs.Catalogs.{named}
 use Rattle.iv_access.specs.Changing.{with_grants, without_grants}
-use Rattle.iv_access.specs.Known.{grantee_of}
-use Rattle.iv_access.specs.Faults.{first, grant_fault, is_grantee}
-use Rattle.iv_access.specs.Known.{Known}
+use Rattle.iv_access.specs.Access.{grantee_of}
+use Rattle.iv_access.specs.Faults.{first_fault, grant_fault, is_grantee}
+use Rattle.iv_access.specs.Access.{Access}
 use Rattle.iv_access.specs.Privileges.{owns}
 use Rattle.iv_access.specs.Rights.{Name}
 use Rattle.iv_access.specs.declared.fault.AccessFault.{AccessFault}
@@ -24,12 +24,12 @@ use Rattle.iv_command.specs.declared.stop.Stop.{Stop}
 use Rattle.iv_database.proofs.Enrolling.{HasTurned, done_by}
 use Rattle.iv_database.proofs.Telling.{Tells, acts}
 
-two : (a b : Bool) (name : Name) → Tells (first ((a, fault.NotOwner) ∷ (b, fault.Role) ∷ [])) name (or_else (test a (machine.not_owner name)) (or_else (test b machine.unknown_role) None))
+two : (a b : Bool) (name : Name) → Tells (first_fault ((a, fault.NotOwner) ∷ (b, fault.Role) ∷ [])) name (or_else (test a (machine.not_owner name)) (or_else (test b machine.unknown_role) None))
 two true b name = record { none = λ h. cc; some = λ x h. let e : fault.NotOwner ≡ x = cc in (machine.not_owner name, (refl, ap (λ y. told y name) e)) }
 two false true name = record { none = λ h. cc; some = λ x h. let e : fault.Role ≡ x = cc in (machine.unknown_role, (refl, ap (λ y. told y name) e)) }
 two false false name = record { none = λ h. refl; some = λ x h. cc }
 
-module _ (u e : Database) (K : Known) (n a number : ℕ) (called rel : Name) (privileges : List Privilege) (to : Option Name) (x : Result Unit AccessFault) (y : Result Unit Stop)
+module _ (u e : Database) (K : Access) (n a number : ℕ) (called rel : Name) (privileges : List Privilege) (to : Option Name) (x : Result Unit AccessFault) (y : Result Unit Stop)
     (is : u ≡ e) (same : called ≡ rel) (target : IsTarget e n called a number) (t : IsTold x rel y) where
   here : IsTarget u n called a number
   here = subst (λ v. IsTarget v n called a number) (sym is) target

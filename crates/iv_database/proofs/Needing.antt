@@ -5,11 +5,11 @@ use Rattle.std.specs.Prelude.{◌==◌, IfOk, Result, Ok, Err, is_some, option_m
 use Rattle.std.specs.Borrow.{Bor}
 use Rattle.iv_rows.specs.declared.schema.RelId.{RelId}
 use Rattle.iv_bind.specs.Catalogs as catalogs
-use Rattle.iv_bind.specs.Catalogs.{Answer, Entry, Held, numbered, numbers, reached_by, view_in, view_of}
-use Rattle.iv_bind.specs.Faults.{if_some}
+use Rattle.iv_bind.specs.Catalogs.{BoundQuery, CatalogEntry, Held, numbered, numbers, reached_by, view_in, view_of}
+use Rattle.iv_rows.specs.Options.{if_some}
 use Rattle.iv_access.specs.declared.privilege.Privilege.{Privilege}
 use Rattle.iv_access.specs.declared.privilege.Privilege.TheVariants.{Select}
-use Rattle.iv_access.specs.Known.{relation_name}
+use Rattle.iv_access.specs.Access.{relation_name}
 use Rattle.iv_access.specs.Privileges.{first_missing, has}
 use Rattle.iv_access.specs.Rights.{Name}
 use Rattle.iv_machine.specs.Numbered.{AreNumbered}
@@ -21,27 +21,27 @@ use Rattle.iv_database.proofs.Tables.{found_rel}
 
 -- ---- a relation, and those that it reaches
 
-held_needs : (h : Held) (m : ℕ) → reached_by m h ≡ m ∷ if_some (view_in h) [] (λ (a : Answer). a.needs)
+held_needs : (h : Held) (m : ℕ) → reached_by m h ≡ m ∷ if_some (view_in h) [] (λ (a : BoundQuery). a.needs)
 held_needs (catalogs.Table columns) m = refl
 held_needs (catalogs.View a) m = refl
 
-needs_by : (o : Option Entry) (k : ℕ) → is_some o ≡ true → ((x : Entry) → o ≡ Some x → k ≡ x.rel)
-    → if_some o [] (λ e. reached_by e.rel e.held) ≡ k ∷ if_some (if_some o None (λ e. view_in e.held)) [] (λ (a : Answer). a.needs)
+needs_by : (o : Option CatalogEntry) (k : ℕ) → is_some o ≡ true → ((x : CatalogEntry) → o ≡ Some x → k ≡ x.rel)
+    → if_some o [] (λ e. reached_by e.rel e.held) ≡ k ∷ if_some (if_some o None (λ e. view_in e.held)) [] (λ (a : BoundQuery). a.needs)
 needs_by None k t r = cc
-needs_by (Some x) k t r = held_needs x.held x.rel ∙ ap (λ m. m ∷ if_some (view_in x.held) [] (λ (a : Answer). a.needs)) (sym (r x refl))
+needs_by (Some x) k t r = held_needs x.held x.rel ∙ ap (λ m. m ∷ if_some (view_in x.held) [] (λ (a : BoundQuery). a.needs)) (sym (r x refl))
 
 module _ (e : Database) (h : IsDatabase e) (role k : ℕ) (low : k < length e.catalog) where
-  needs_are : needs_at e.catalog k ≡ k ∷ if_some (view_of e.catalog k) [] (λ (a : Answer). a.needs)
+  needs_are : needs_at e.catalog k ≡ k ∷ if_some (view_of e.catalog k) [] (λ (a : BoundQuery). a.needs)
   needs_are = needs_by (numbered e.catalog k) k (numbered_there 0 e.catalog k h.numbered (omega arith) (omega (arith, low))) (found_rel e.catalog k)
 
-  missing_is : missing_for (frame_of e) role k ≡ cond (has e.known.rights role Select k) (first_missing e.known.rights role (map (λ r. (Select, r)) (if_some (view_of e.catalog k) [] (λ (a : Answer). a.needs)))) (Some (Select, k))
+  missing_is : missing_for (frame_of e) role k ≡ cond (has e.known.rights role Select k) (first_missing e.known.rights role (map (λ r. (Select, r)) (if_some (view_of e.catalog k) [] (λ (a : BoundQuery). a.needs)))) (Some (Select, k))
   missing_is = ap (λ ns. first_missing e.known.rights role (map (λ r. (Select, r)) ns)) needs_are
 
   pub lacks_own : has e.known.rights role Select k ≡ false → Some (Select, k) ≡ missing_for (frame_of e) role k
-  lacks_own f = sym (missing_is ∙ ap (λ b. cond b (first_missing e.known.rights role (map (λ r. (Select, r)) (if_some (view_of e.catalog k) [] (λ (a : Answer). a.needs)))) (Some (Select, k))) f)
+  lacks_own f = sym (missing_is ∙ ap (λ b. cond b (first_missing e.known.rights role (map (λ r. (Select, r)) (if_some (view_of e.catalog k) [] (λ (a : BoundQuery). a.needs)))) (Some (Select, k))) f)
 
-  rest : has e.known.rights role Select k ≡ true → (o : Option Answer) → view_of e.catalog k ≡ o → missing_for (frame_of e) role k ≡ first_missing e.known.rights role (map (λ r. (Select, r)) (if_some o [] (λ (a : Answer). a.needs)))
-  rest t o v = missing_is ∙ (λ i. cond (t i) (first_missing e.known.rights role (map (λ r. (Select, r)) (if_some (v i) [] (λ (a : Answer). a.needs)))) (Some (Select, k)))
+  rest : has e.known.rights role Select k ≡ true → (o : Option BoundQuery) → view_of e.catalog k ≡ o → missing_for (frame_of e) role k ≡ first_missing e.known.rights role (map (λ r. (Select, r)) (if_some o [] (λ (a : BoundQuery). a.needs)))
+  rest t o v = missing_is ∙ (λ i. cond (t i) (first_missing e.known.rights role (map (λ r. (Select, r)) (if_some (v i) [] (λ (a : BoundQuery). a.needs)))) (Some (Select, k)))
 
   pub lacks_none : has e.known.rights role Select k ≡ true → view_of e.catalog k ≡ None → None ≡ missing_for (frame_of e) role k
   lacks_none t v = sym (rest t None v)
@@ -50,19 +50,19 @@ module _ (e : Database) (h : IsDatabase e) (role k : ℕ) (low : k < length e.ca
   numbered_needs [] = refl
   numbered_needs (r ∷ rs) = ap (λ xs. select_from r ∷ xs) (numbered_needs rs)
 
-  pub lacks_reached : (a : Answer) (rs : List RelId) (o : Option (Privilege × ℕ)) → has e.known.rights role Select k ≡ true → view_of e.catalog k ≡ Some a → a.needs ≡ numbers rs
+  pub lacks_reached : (a : BoundQuery) (rs : List RelId) (o : Option (Privilege × ℕ)) → has e.known.rights role Select k ≡ true → view_of e.catalog k ≡ Some a → a.needs ≡ numbers rs
       → o ≡ first_missing e.known.rights role (map select_from rs) → o ≡ missing_for (frame_of e) role k
   lacks_reached a rs o t v needs is = is ∙ sym (rest t (Some a) v ∙ ap (λ ns. first_missing e.known.rights role (map (λ r. (Select, r)) ns)) needs ∙ ap (first_missing e.known.rights role) (numbered_needs rs))
 
 -- ---- the name of a relation
 
-name_from : (n : ℕ) (es : List Entry) (k : ℕ) → AreNumbered n es → unwrap_or (relation_name (map relation_in es) k) [] ≡ name_of es (n + k)
+name_from : (n : ℕ) (es : List CatalogEntry) (k : ℕ) → AreNumbered n es → unwrap_or (relation_name (map relation_in es) k) [] ≡ name_of es (n + k)
 name_from n [] k u = refl
-name_from n (e ∷ es) zero u = ap (λ b. if_some (cond b (Some e) (numbered es (n + 0))) [] (λ (x : Entry). x.name)) (sym (here u.0))
+name_from n (e ∷ es) zero u = ap (λ b. if_some (cond b (Some e) (numbered es (n + 0))) [] (λ (x : CatalogEntry). x.name)) (sym (here u.0))
   where
     here : e.rel ≡ n → (n + 0 == e.rel) ≡ true
     here is = grind (arith, nat_tests)
-name_from n (e ∷ es) (suc k) u = name_from (suc n) es k u.1 ∙ ap (name_of es) next ∙ ap (λ b. if_some (cond b (Some e) (numbered es (n + suc k))) [] (λ (x : Entry). x.name)) (sym (there u.0))
+name_from n (e ∷ es) (suc k) u = name_from (suc n) es k u.1 ∙ ap (name_of es) next ∙ ap (λ b. if_some (cond b (Some e) (numbered es (n + suc k))) [] (λ (x : CatalogEntry). x.name)) (sym (there u.0))
   where
     next : suc n + k ≡ n + suc k
     next = omega arith

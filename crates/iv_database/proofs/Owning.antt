@@ -4,6 +4,7 @@ use Rattle.std.specs.Prelude.{◌&&◌, Result, Ok as OkResult, Err, is_some, na
 use Rattle.std.specs.Result.{IsErrAnd}
 use Rattle.std.specs.List.{list_all}
 use Rattle.iv_rows.specs.Columns.{Column}
+use Rattle.iv_rows.specs.declared.schema.RelId.{RelId}
 use Rattle.iv_bind.specs.Catalogs.{schema_of}
 use Rattle.iv_access.specs.Faults.{is_grantee}
 use Rattle.iv_access.specs.Policies.{policies_of, policy_of}
@@ -12,43 +13,40 @@ use Rattle.iv_access.specs.Rights.{Name, Rights}
 use Rattle.iv_machine.specs.Act as machine
 use Rattle.iv_machine.specs.Act.{Act, PolicyText, create_policy, drop_policy}
 use Rattle.iv_machine.specs.Changing.{policy_for}
-use Rattle.iv_access.specs.Asked.{policy_from}
+use Rattle.iv_access.specs.NewPolicies.{policy_from}
 use Rattle.iv_access.specs.Changing.{with_policy}
 use Rattle.iv_database.specs.Next.{IsDone, database_after}
 use Rattle.iv_machine.specs.Refusing.{bad_policy_text, first, full, known_grantee, or_else, owner_alone, table_alone, test}
 use Rattle.iv_machine.specs.Split.{frame_refusal, policy_refusal}
-use Rattle.iv_machine.specs.State.{Frame, actor, columns_at, rel_of, session_of, table_columns}
+use Rattle.iv_machine.specs.State.{Frame, actor, columns_at, rel_of, table_columns}
 use Rattle.iv_database.specs.Database.{Database, frame_of, with_rights}
 use Rattle.iv_database.specs.Owned.{AreBound, IsChecked, IsGuarded, IsOwned, IsOwner, IsReady, asked, has_room, name_tests, owner_tests, text_tests, with_asked}
 use Rattle.iv_database.specs.Target.{IsActingOn, target_tests}
 use Rattle.iv_command.specs.Stops.{IsTested}
 use Rattle.iv_command.specs.Views.{refusal_of}
-use Rattle.iv_database.specs.declared.policies.Owned.{Owned}
 use Rattle.iv_database.specs.declared.policies.Predicates.{Predicates}
 use Rattle.iv_command.specs.declared.stop.Stop.{Stop}
 use Rattle.iv_command.specs.declared.stop.Stop.TheVariants.{Refused, Memory}
-use Rattle.iv_database.proofs.Telling.{opened}
 
 -- ---- the owner
 
-module _ (e : Database) (n : ℕ) (rel : Name) (owned : Owned) (o : IsOwner e n rel owned) where
+module _ (e : Database) (n : ℕ) (rel : Name) (t : RelId) (o : IsOwner e n rel t) where
   abbrev f : Frame
   f = frame_of e
 
   pub owner_passes : (more : List (Option machine.Refusal)) → owner_tests f n rel more ≡ first more
   owner_passes more =
-      let x = opened (session_of e.sessions n) owned.acting.0 (length e.known.rights.roles) o.role in
       let table : is_some (table_columns f.catalog rel) ≡ true = ap (λ (y : Option (List Column)). is_some y) o.columns ∙ o.table in
-      let own : owns e.known.rights (actor f n) (rel_of f.catalog rel) ≡ true = (λ i. owns e.known.rights (x.1 i) (o.number i)) ∙ o.owns in
-      λ i. or_else (test (not (x.0 i)) machine.no_session) (first (test (not (o.known i)) machine.unknown_relation ∷ test (not (table i)) machine.not_a_table ∷ test (not (own i)) (machine.not_owner rel) ∷ more))
+      let own : owns e.known.rights (actor f n) (rel_of f.catalog rel) ≡ true = (λ i. owns e.known.rights (actor f n) (o.number i)) ∙ o.owns in
+      λ i. or_else (test (not (o.session i)) machine.no_session) (first (test (not (o.known i)) machine.unknown_relation ∷ test (not (table i)) machine.not_a_table ∷ test (not (own i)) (machine.not_owner rel) ∷ more))
 
 -- the owner's tests refuse, whatever follows
 pub drop_refused : (e : Database) (n : ℕ) (rel name : Name) (x : machine.Refusal) → ((more : List (Option machine.Refusal)) → owner_tests (frame_of e) n rel more ≡ Some x) → frame_refusal (frame_of e) n (drop_policy rel name) ≡ Some x
 drop_refused e n rel name x h = h (test (not (is_some (policy_of e.known.rights (rel_of (frame_of e).catalog rel) name))) machine.unknown_policy ∷ [])
 
-pub drop_tests : (e : Database) (n : ℕ) (rel name : Name) (owned : Owned) (there : Bool) → IsOwner e n rel owned → is_some (policy_of e.known.rights owned.table.0 name) ≡ there
+pub drop_tests : (e : Database) (n : ℕ) (rel name : Name) (t : RelId) (there : Bool) → IsOwner e n rel t → is_some (policy_of e.known.rights t.0 name) ≡ there
     → frame_refusal (frame_of e) n (drop_policy rel name) ≡ or_else (test (not there) machine.unknown_policy) None
-drop_tests e n rel name owned there o is = owner_passes e n rel owned o (test (not (is_some (policy_of e.known.rights (rel_of (frame_of e).catalog rel) name))) machine.unknown_policy ∷ [])
+drop_tests e n rel name t there o is = owner_passes e n rel t o (test (not (is_some (policy_of e.known.rights (rel_of (frame_of e).catalog rel) name))) machine.unknown_policy ∷ [])
     ∙ (λ i. or_else (test (not (is_some (policy_of e.known.rights (o.number i) name))) machine.unknown_policy) None)
     ∙ ap (λ b. or_else (test (not b) machine.unknown_policy) None) is
 
@@ -63,15 +61,15 @@ roles_known e (Some name ∷ to) = by (is_some (role_of e.known.rights name)) (l
     by true d h = h
     by false d h = refl
 
-abbrev pub with_owner : Owned → Result Predicates Stop → Result (Owned × Predicates) Stop
-with_owner owned (OkResult preds) = OkResult (owned, preds)
-with_owner owned (Err stop) = Err stop
+abbrev pub with_table : RelId → Result Predicates Stop → Result (RelId × Predicates) Stop
+with_table t (OkResult preds) = OkResult (t, preds)
+with_table t (Err stop) = Err stop
 
 grouped : (a b rest : Option machine.Refusal) → or_else a (or_else b rest) ≡ or_else (or_else a b) rest
 grouped None b rest = refl
 grouped (Some r) b rest = refl
 
-module _ (e : Database) (n : ℕ) (p : PolicyText) (owned : Owned) (o : IsOwner e n p.rel owned) where
+module _ (e : Database) (n : ℕ) (p : PolicyText) (t : RelId) (o : IsOwner e n p.rel t) where
   abbrev r : Rights
   r = e.known.rights
 
@@ -79,44 +77,44 @@ module _ (e : Database) (n : ℕ) (p : PolicyText) (owned : Owned) (o : IsOwner 
   columns = columns_at (frame_of e).catalog p.rel
 
   abbrev many : Option machine.Refusal
-  many = full 32 (length (policies_of (slice_get r.guards owned.table.0)))
+  many = full 32 (length (policies_of (slice_get r.guards t.0)))
 
-  pub policy_tests : frame_refusal (frame_of e) n (create_policy p) ≡ or_else (or_else (name_tests r owned.table.0 p) (or_else (text_tests columns p) (or_else many None))) None
+  pub policy_tests : frame_refusal (frame_of e) n (create_policy p) ≡ or_else (or_else (name_tests r t.0 p) (or_else (text_tests columns p) (or_else many None))) None
   policy_tests =
       let using = bad_policy_text columns p.using_text in
       let check = bad_policy_text columns p.check_text in
       let roles = test (not (list_all (is_grantee r) p.to)) machine.unknown_role in
-      let free = test (is_some (policy_of r owned.table.0 p.name)) machine.name_taken in
-      owner_passes e n p.rel owned o (policy_refusal (frame_of e) p ∷ [])
+      let free = test (is_some (policy_of r t.0 p.name)) machine.name_taken in
+      owner_passes e n p.rel t o (policy_refusal (frame_of e) p ∷ [])
       ∙ (λ i. or_else (first (roles_known e p.to i ∷ test (is_some (policy_of r (o.number i) p.name)) machine.name_taken ∷ using ∷ check ∷ full 32 (length (policies_of (slice_get r.guards (o.number i)))) ∷ [])) None)
       ∙ ap (λ x. or_else (or_else roles (or_else free x)) None) (grouped using check (or_else many None))
       ∙ ap (λ x. or_else x None) (grouped roles free (or_else (text_tests columns p) (or_else many None)))
 
-  names_refuse : (x : machine.Refusal) → name_tests r owned.table.0 p ≡ Some x → frame_refusal (frame_of e) n (create_policy p) ≡ Some x
+  names_refuse : (x : machine.Refusal) → name_tests r t.0 p ≡ Some x → frame_refusal (frame_of e) n (create_policy p) ≡ Some x
   names_refuse x h = policy_tests ∙ ap (λ t. or_else (or_else t (or_else (text_tests columns p) (or_else many None))) None) h
 
-  pub names_stop : (stop : Stop) → IsTested (name_tests r owned.table.0 p) (Err stop) → IsChecked e n p (Err stop)
+  pub names_stop : (stop : Stop) → IsTested (name_tests r t.0 p) (Err stop) → IsChecked e n p (Err stop)
   names_stop (Refused x) h = names_refuse (refusal_of x) h
   names_stop Memory h = tt
 
-  pub texts_refuse : (x : machine.Refusal) → name_tests r owned.table.0 p ≡ None → text_tests columns p ≡ Some x → frame_refusal (frame_of e) n (create_policy p) ≡ Some x
+  pub texts_refuse : (x : machine.Refusal) → name_tests r t.0 p ≡ None → text_tests columns p ≡ Some x → frame_refusal (frame_of e) n (create_policy p) ≡ Some x
   texts_refuse x h k = policy_tests ∙ (λ i. or_else (or_else (h i) (or_else (k i) (or_else many None))) None)
 
-  pub columns_are : (c : List Column) → Some c ≡ schema_of e.catalog owned.table.0 → columns ≡ c
+  pub columns_are : (c : List Column) → Some c ≡ schema_of e.catalog t.0 → columns ≡ c
   columns_are c h = ap (λ (x : Option (List Column)). unwrap_or x []) (o.columns ∙ sym h)
 
   -- the texts are refused, or all is ready
-  pub checked : (c : List Column) (bound : Result Predicates Stop) → Some c ≡ schema_of e.catalog owned.table.0 → name_tests r owned.table.0 p ≡ None → AreBound c p bound → IsChecked e n p (with_owner owned bound)
+  pub checked : (c : List Column) (bound : Result Predicates Stop) → Some c ≡ schema_of e.catalog t.0 → name_tests r t.0 p ≡ None → AreBound c p bound → IsChecked e n p (with_table t bound)
   checked c (OkResult preds) at names bound = record { owner = o; names = names; texts = subst (λ (k : List Column). AreBound k p (OkResult preds)) (sym (columns_are c at)) bound }
   checked c (Err (Refused x)) at names bound = texts_refuse (refusal_of x) names (ap (λ (k : List Column). text_tests k p) (columns_are c at) ∙ bound)
   checked c (Err Memory) at names bound = tt
 
-module _ (e : Database) (n : ℕ) (p : PolicyText) (owned : Owned) (preds : Predicates) (ready : IsReady e n p owned preds) where
+module _ (e : Database) (n : ℕ) (p : PolicyText) (t : RelId) (preds : Predicates) (ready : IsReady e n p t preds) where
   abbrev rights : Rights
   rights = e.known.rights
 
-  ready_tests : frame_refusal (frame_of e) n (create_policy p) ≡ or_else (or_else (full 32 (length (policies_of (slice_get rights.guards owned.table.0)))) None) None
-  ready_tests = policy_tests e n p owned ready.owner ∙ (λ i. or_else (or_else (ready.names i) (or_else (ready.texts.0 i) (or_else (full 32 (length (policies_of (slice_get rights.guards owned.table.0)))) None))) None)
+  ready_tests : frame_refusal (frame_of e) n (create_policy p) ≡ or_else (or_else (full 32 (length (policies_of (slice_get rights.guards t.0)))) None) None
+  ready_tests = policy_tests e n p t ready.owner ∙ (λ i. or_else (or_else (ready.names i) (or_else (ready.texts.0 i) (or_else (full 32 (length (policies_of (slice_get rights.guards t.0)))) None))) None)
 
   room_by : (b : Bool) → not b ≡ true → or_else (or_else (test b machine.too_many) None) None ≡ None
   room_by true h = cc
@@ -126,11 +124,11 @@ module _ (e : Database) (n : ℕ) (p : PolicyText) (owned : Owned) (preds : Pred
   full_by true h = refl
   full_by false h = cc
 
-  pub has_passed : has_room rights owned.table.0 ≡ true → frame_refusal (frame_of e) n (create_policy p) ≡ None
-  has_passed h = ready_tests ∙ room_by (nat_le 32 (length (policies_of (slice_get rights.guards owned.table.0)))) h
+  pub has_passed : has_room rights t.0 ≡ true → frame_refusal (frame_of e) n (create_policy p) ≡ None
+  has_passed h = ready_tests ∙ room_by (nat_le 32 (length (policies_of (slice_get rights.guards t.0)))) h
 
-  pub is_full : has_room rights owned.table.0 ≡ false → frame_refusal (frame_of e) n (create_policy p) ≡ Some machine.too_many
-  is_full h = ready_tests ∙ full_by (nat_le 32 (length (policies_of (slice_get rights.guards owned.table.0)))) h
+  pub is_full : has_room rights t.0 ≡ false → frame_refusal (frame_of e) n (create_policy p) ≡ Some machine.too_many
+  is_full h = ready_tests ∙ full_by (nat_le 32 (length (policies_of (slice_get rights.guards t.0)))) h
 
 pub err_is : {A E : Type 0} (r : Result A E) (P : E → Type 0) (Q : Result A E → Type 0) → IsErrAnd r P → ((x : E) → P x → Q (Err x)) → Q r
 err_is (OkResult a) P Q h k = absurd h
@@ -159,9 +157,9 @@ checked_refused d n p (Refused r) h = (h, refl)
 checked_refused d n p Memory h = tt
 
 -- the policy is added as the machine adds it
-module _ (d : Database) (n : ℕ) (p : PolicyText) (owned : Owned) (preds : Predicates) (ready : IsReady d n p owned preds) where
+module _ (d : Database) (n : ℕ) (p : PolicyText) (t : RelId) (preds : Predicates) (ready : IsReady d n p t preds) where
   policy_is : policy_for (frame_of d) p ≡ policy_from d.known.rights (asked p preds)
   policy_is = λ i. record (policy_for (frame_of d) p) { using = ready.texts.1 i; check = ready.texts.2 i }
 
-  pub asked_after : with_asked owned.table.0 (asked p preds) d ≡ database_after d n (create_policy p)
+  pub asked_after : with_asked t.0 (asked p preds) d ≡ database_after d n (create_policy p)
   asked_after = λ i. with_rights (with_policy (sym ready.owner.number i) (sym policy_is i) d.known.rights) d

@@ -3,15 +3,15 @@ use Rattle.std.proofs.Common.{◌≡◌, ℕ, suc, ◌+◌, ◌<◌, ◌≤◌, 
 use Rattle.std.proofs.lemmas.Bool.Decides.{nat_tests}
 use Rattle.std.specs.Prelude.{◌==◌, is_some}
 use Rattle.iv_bind.specs.Catalogs as catalogs
-use Rattle.iv_bind.specs.Catalogs.{Entry, Held, table_in, view_in, view_of}
-use Rattle.iv_bind.specs.Faults.{if_some}
+use Rattle.iv_bind.specs.Catalogs.{CatalogEntry, Held, table_in, view_in, view_of}
+use Rattle.iv_rows.specs.Options.{if_some}
 use Rattle.iv_machine.specs.Numbered.{AreNumbered}
 use Rattle.iv_database.proofs.Tables.{IsATable}
 
 farther : (m n : ℕ) → (m == n) ≡ false → n ≤ m → suc n ≤ m
 farther m n h l = grind (arith, nat_tests)
 
-pub numbered_there : (n : ℕ) (es : List Entry) (k : ℕ) → AreNumbered n es → n ≤ k → k < n + length es → is_some (catalogs.numbered es k) ≡ true
+pub numbered_there : (n : ℕ) (es : List CatalogEntry) (k : ℕ) → AreNumbered n es → n ≤ k → k < n + length es → is_some (catalogs.numbered es k) ≡ true
 numbered_there n [] k u l h = absurd (omega arith)
 numbered_there n (e ∷ es) k u l h = by (k == e.rel) refl (λ f. numbered_there (suc n) es k u.1 (farther k n (subst (λ m. (k == m) ≡ false) u.0 f) l) (omega arith))
   where
@@ -19,7 +19,7 @@ numbered_there n (e ∷ es) k u l h = by (k == e.rel) refl (λ f. numbered_there
     by true f go = refl
     by false f go = go f
 
-no_view : (o : Option Entry) → is_some o ≡ true → is_some (if_some o None (λ x. view_in x.held)) ≡ false → is_some (if_some o None (λ x. table_in x.held)) ≡ true
+no_view : (o : Option CatalogEntry) → is_some o ≡ true → is_some (if_some o None (λ x. view_in x.held)) ≡ false → is_some (if_some o None (λ x. table_in x.held)) ≡ true
 no_view None s h = cc
 no_view (Some x) s h = by x.held h
   where
@@ -27,5 +27,5 @@ no_view (Some x) s h = by x.held h
     by (catalogs.Table columns) k = refl
     by (catalogs.View a) k = cc
 
-pub table_if_no_view : (catalog : List Entry) (rel : ℕ) → AreNumbered 0 catalog → rel < length catalog → is_some (view_of catalog rel) ≡ false → IsATable catalog rel
+pub table_if_no_view : (catalog : List CatalogEntry) (rel : ℕ) → AreNumbered 0 catalog → rel < length catalog → is_some (view_of catalog rel) ≡ false → IsATable catalog rel
 table_if_no_view catalog rel u l h = no_view (catalogs.numbered catalog rel) (numbered_there 0 catalog rel u (omega arith) (omega arith)) h

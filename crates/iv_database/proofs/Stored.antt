@@ -9,8 +9,8 @@ use Rattle.iv_zset.specs.Weights.{Weighed, IsBag, IsZSet}
 use Rattle.iv_rows.specs.Columns.{Column, kinds_of}
 use Rattle.iv_algebra.specs.Contents.{rows_of}
 use Rattle.iv_bind.specs.BoundTexts.{FaultAt, TextFault, bound_query}
-use Rattle.iv_bind.specs.Catalogs.{Answer, Entry, Held, Table, View, schema_of, table_in}
-use Rattle.iv_access.specs.Known.{Relation, role_number}
+use Rattle.iv_bind.specs.Catalogs.{BoundQuery, CatalogEntry, Held, Table, View, schema_of, table_in}
+use Rattle.iv_access.specs.Access.{Relation, role_number}
 use Rattle.iv_access.specs.Rights.{Guard, Name, Rights}
 use Rattle.iv_machine.specs.State.{Session, actor, is_open}
 use Rattle.iv_machine.specs.Act.{begin, create_role, create_table, create_view, no_session}
@@ -36,7 +36,7 @@ from_zero n = omega arith
 -- ---- a new relation, which has no row
 
 module _ (d : Database) (h : IsDatabase d) (name owner : Name) (held : Held) where
-  abbrev x : Entry
+  abbrev x : CatalogEntry
   x = record { name = name; rel = length d.catalog; held = held }
 
   abbrev g : Guard
@@ -57,7 +57,7 @@ module _ (d : Database) (h : IsDatabase d) (name owner : Name) (held : Held) whe
   }
 
 -- the text of a view that passes
-text_bound : (r : Result Answer TextFault) → bad_text r ≡ None → (a : Answer) × (r ≡ Ok a)
+text_bound : (r : Result BoundQuery TextFault) → bad_text r ≡ None → (a : BoundQuery) × (r ≡ Ok a)
 text_bound (Ok a) h = (a, refl)
 text_bound (Err (FaultAt place why)) h = cc
 
@@ -115,11 +115,11 @@ module _ (d : Database) (h : IsDatabase d) where
   table_stored n name owner columns = relation_stored d h name owner (Table columns)
 
   module _ (n : ℕ) (name owner query : Name) (passed : frame_refusal (frame_of d) n (create_view name owner query) ≡ None) where
-    abbrev o : Result Answer TextFault
+    abbrev o : Result BoundQuery TextFault
     o = bound_query d.catalog query
 
     -- its text is bound
-    view_bound : (a : Answer) × (o ≡ Ok a)
+    view_bound : (a : BoundQuery) × (o ≡ Ok a)
     view_bound =
         let f = frame_of d in
         let s = or_none (test (not (is_open f n)) no_session) (role_refusal f n (actor f n) (create_view name owner query)) passed in
@@ -128,8 +128,8 @@ module _ (d : Database) (h : IsDatabase d) where
         let c = or_none (free_relation f name) _ b.1 in
         text_bound o (or_none (bad_text o) _ c.1).0
 
-    pub view_is : (a : Answer) × (database_after d n (create_view name owner query) ≡ with_relation_of name owner (View a) d)
-    view_is = (view_bound.0, ap (λ (r : Result Answer TextFault). record (database_after d n (create_view name owner query)) { catalog = with_held name (view_held r) d.catalog }) view_bound.1)
+    pub view_is : (a : BoundQuery) × (database_after d n (create_view name owner query) ≡ with_relation_of name owner (View a) d)
+    view_is = (view_bound.0, ap (λ (r : Result BoundQuery TextFault). record (database_after d n (create_view name owner query)) { catalog = with_held name (view_held r) d.catalog }) view_bound.1)
 
 -- ---- the start
 

@@ -7,8 +7,8 @@ use Rattle.iv_rows.specs.declared.value.Kind.{Kind}
 use Rattle.iv_algebra.specs.Contents.{heads_of, rows_of, rows_or_none, table_of}
 use Rattle.iv_algebra.specs.declared.tables.Table.{Table}
 use Rattle.iv_bind.specs.Catalogs as catalogs
-use Rattle.iv_bind.specs.Catalogs.{Entry, Held, numbered, schema_of, table_in}
-use Rattle.iv_bind.specs.Faults.{if_some}
+use Rattle.iv_bind.specs.Catalogs.{CatalogEntry, Held, numbered, schema_of, table_in}
+use Rattle.iv_rows.specs.Options.{if_some}
 use Rattle.iv_access.specs.Rights.{Name}
 use Rattle.iv_machine.specs.Numbered.{AreNumbered}
 use Rattle.iv_database.specs.Database.{HoldsKinds, IsDatabase, Database, kinds_at}
@@ -53,7 +53,7 @@ rows_with (catalogs.View a) rel tables t = refl
 
 -- ---- kinds
 
-abbrev kinds_in : Option Entry → Option (List Kind)
+abbrev kinds_in : Option CatalogEntry → Option (List Kind)
 kinds_in o = option_map kinds_of (if_some o None (λ e. table_in e.held))
 
 abbrev kinds_held : Option Table → Option (List Kind)
@@ -63,8 +63,8 @@ no_table : (o : Option Table) → kinds_held o ≡ None → o ≡ None
 no_table None h = refl
 no_table (Some t) h = cc
 
-module _ (catalog : List Entry) (tables : List Table) (u : AreNumbered 0 catalog) (h : (t : ℕ) → heads_of tables t ≡ kinds_at catalog t) (name : Name) where
-  abbrev entry : Held → Entry
+module _ (catalog : List CatalogEntry) (tables : List Table) (u : AreNumbered 0 catalog) (h : (t : ℕ) → heads_of tables t ≡ kinds_at catalog t) (name : Name) where
+  abbrev entry : Held → CatalogEntry
   entry held = record { name = name; rel = length catalog; held = held }
 
   fresh : (t : ℕ) → (t == length catalog) ≡ true → numbered catalog t ≡ None
@@ -77,10 +77,10 @@ module _ (catalog : List Entry) (tables : List Table) (u : AreNumbered 0 catalog
   heads_with held t = by held (t == length catalog) refl
     where
       entry_here : (held : Held) → (t == length catalog) ≡ true → kinds_at (catalog ++ entry held ∷ []) t ≡ kinds_in (Some (entry held))
-      entry_here held k = ap kinds_in (this_more (λ (x : Entry). t == x.rel) catalog (entry held) (fresh t k) k)
+      entry_here held k = ap kinds_in (this_more (λ (x : CatalogEntry). t == x.rel) catalog (entry held) (fresh t k) k)
 
       entry_else : (held : Held) → (t == length catalog) ≡ false → kinds_at (catalog ++ entry held ∷ []) t ≡ kinds_at catalog t
-      entry_else held k = ap kinds_in (other_more (λ (x : Entry). t == x.rel) catalog (entry held) k)
+      entry_else held k = ap kinds_in (other_more (λ (x : CatalogEntry). t == x.rel) catalog (entry held) k)
 
       by : (held : Held) (b : Bool) → (t == length catalog) ≡ b → heads_of (with_table held (length catalog) tables) t ≡ kinds_at (catalog ++ entry held ∷ []) t
       by (catalogs.Table columns) true k =

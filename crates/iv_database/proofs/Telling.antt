@@ -6,10 +6,10 @@ use Rattle.std.proofs.lemmas.Iterator.Adapters.{position_from-zero}
 use Rattle.std.proofs.lemmas.List.Quantifiers.{position-Some}
 use Rattle.iv_rows.specs.Columns.{Column}
 use Rattle.iv_rows.specs.declared.schema.RelId.{RelId}
-use Rattle.iv_bind.specs.Faults.{if_some}
-use Rattle.iv_bind.specs.Catalogs.{Entry, named, numbered, schema_of, table_in}
-use Rattle.iv_access.specs.Faults.{first, add_relation_fault, count_like}
-use Rattle.iv_access.specs.Known.{Relation, relation_of}
+use Rattle.iv_rows.specs.Options.{if_some}
+use Rattle.iv_bind.specs.Catalogs.{CatalogEntry, named, numbered, schema_of, table_in}
+use Rattle.iv_access.specs.Faults.{first_fault, add_relation_fault, count_like}
+use Rattle.iv_access.specs.Access.{Relation, relation_of}
 use Rattle.iv_access.specs.Privileges.{is_admin, role_of}
 use Rattle.iv_access.specs.Rights.{Name}
 use Rattle.iv_access.specs.declared.fault.AccessFault.{AccessFault}
@@ -50,7 +50,7 @@ pub record Tells (f : Option AccessFault) (name : Name) (r : Option Refusal) : T
   pub none : f ≡ None → r ≡ None
   pub some : (x : AccessFault) → f ≡ Some x → (y : Refusal) × ((r ≡ Some y) × (Some y ≡ told x name))
 
-four : (a d b c : Bool) (name : Name) → Tells (first ((a, fault.NotAdmin) ∷ (d, fault.Role) ∷ (b, fault.Taken) ∷ (c, fault.TooMany) ∷ [])) name
+four : (a d b c : Bool) (name : Name) → Tells (first_fault ((a, fault.NotAdmin) ∷ (d, fault.Role) ∷ (b, fault.Taken) ∷ (c, fault.TooMany) ∷ [])) name
     (or_else (test a machine.not_administrator) (or_else (test d machine.unknown_role) (or_else (test b machine.name_taken) (or_else (test c machine.too_many) None))))
 four true d b c name = record { none = λ h. cc; some = λ x h. let e : fault.NotAdmin ≡ x = cc in (machine.not_administrator, (refl, ap (λ y. told y name) e)) }
 four false true b c name = record { none = λ h. cc; some = λ x h. let e : fault.Role ≡ x = cc in (machine.unknown_role, (refl, ap (λ y. told y name) e)) }
@@ -67,7 +67,7 @@ module _ (e : Database) (h : IsDatabase e) where
   pub unknown : (name : Name) → relation_of e.known.relations name ≡ None → named e.catalog name ≡ None
   unknown name n = none_named 0 e.catalog name (sym (place name) ∙ n)
 
-  pub known : (name : Name) (k : ℕ) → relation_of e.known.relations name ≡ Some k → (x : Entry) × IsNamed e.catalog x name k
+  pub known : (name : Name) (k : ℕ) → relation_of e.known.relations name ≡ Some k → (x : CatalogEntry) × IsNamed e.catalog x name k
   known name k n = relation_is 0 e.catalog name k h.numbered (sym (place name) ∙ n)
 
   pub as_long : length e.known.relations ≡ length e.catalog
@@ -102,7 +102,7 @@ module _ (e : Database) (h : IsDatabase e) where
 
 -- ---- a relation that may be added is new
 
-free_by : (a d b c : Bool) → first ((a, fault.NotAdmin) ∷ (d, fault.Role) ∷ (b, fault.Taken) ∷ (c, fault.TooMany) ∷ []) ≡ None → b ≡ false
+free_by : (a d b c : Bool) → first_fault ((a, fault.NotAdmin) ∷ (d, fault.Role) ∷ (b, fault.Taken) ∷ (c, fault.TooMany) ∷ []) ≡ None → b ≡ false
 free_by true d b c h = cc
 free_by false true b c h = cc
 free_by false false true c h = cc

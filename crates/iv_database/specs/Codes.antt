@@ -5,10 +5,10 @@ use Rattle.iv_zset.specs.Weights.{Weighed}
 use Rattle.iv_rows.specs.Columns.{Column}
 use Rattle.iv_algebra.specs.Codes.{cell_code}
 use Rattle.iv_algebra.specs.declared.tables.Table.{Table}
-use Rattle.iv_bind.specs.Catalogs.{Entry}
+use Rattle.iv_bind.specs.Catalogs.{CatalogEntry}
 use Rattle.iv_bind.specs.Codes.{column_code, entries_code}
 use Rattle.iv_access.specs.Codes.{known_code}
-use Rattle.iv_access.specs.Known.{Known}
+use Rattle.iv_access.specs.Access.{Access}
 use Rattle.iv_machine.specs.State.{Session}
 use Rattle.iv_database.specs.Database.{Database}
 
@@ -25,7 +25,7 @@ table_code =
 
 abbrev pub database_code : Coded Database
 database_code =
-    code_by ((ℕ × (Known × List Entry)) × (List Session × List Table))
+    code_by ((ℕ × (Access × List CatalogEntry)) × (List Session × List Table))
     (coded× (coded× coded_ℕ (coded× known_code entries_code)) (coded× (coded_list session_code) (coded_list table_code)))
     (λ d. ((d.cap, (d.known, d.catalog)), (d.sessions, d.tables)))
     (λ p. record { cap = p.0.0; known = p.0.1.0; catalog = p.0.1.1; sessions = p.1.0; tables = p.1.1 }) (λ _. refl)

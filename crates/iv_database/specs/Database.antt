@@ -9,9 +9,9 @@ use Rattle.iv_algebra.specs.Contents.{AreOf, heads_of, rows_of}
 use Rattle.iv_algebra.specs.Fits.{Heads}
 use Rattle.iv_algebra.specs.Plans.{Lists}
 use Rattle.iv_algebra.specs.declared.tables.Table.{Table}
-use Rattle.iv_bind.specs.Catalogs.{Entry, schema_of, table_in}
-use Rattle.iv_bind.specs.Faults.{if_some}
-use Rattle.iv_access.specs.Known.{Known, Relation, known_at_start}
+use Rattle.iv_bind.specs.Catalogs.{CatalogEntry, schema_of, table_in}
+use Rattle.iv_rows.specs.Options.{if_some}
+use Rattle.iv_access.specs.Access.{Access, Relation, access_at_start}
 use Rattle.iv_access.specs.Rights.{Rights}
 use Rattle.iv_access.specs.declared.privilege.Privilege.{Privilege}
 use Rattle.iv_access.specs.declared.privilege.Privilege.TheVariants.{Select}
@@ -22,17 +22,17 @@ use Rattle.iv_machine.specs.Numbered.{AreNumbered}
 -- number of different rows of a table, and of a node of a circuit
 pub record Database : Type 0 where
   pub cap : ℕ
-  pub known : Known
-  pub catalog : List Entry
+  pub known : Access
+  pub catalog : List CatalogEntry
   pub sessions : List Session
   pub tables : List Table
 
 -- one role, `admin`, and nothing else
 abbrev pub at_start : (cap : ℕ) → Database
-at_start cap = record { cap = cap; known = known_at_start; catalog = []; sessions = []; tables = [] }
+at_start cap = record { cap = cap; known = access_at_start; catalog = []; sessions = []; tables = [] }
 
 -- the kinds of each table's columns, by its number; none of what is no table
-abbrev pub kinds_at : List Entry → Heads
+abbrev pub kinds_at : List CatalogEntry → Heads
 kinds_at catalog n = option_map kinds_of (schema_of catalog n)
 
 -- with other rights
@@ -40,7 +40,7 @@ abbrev pub with_rights : Rights → Database → Database
 with_rights r d = record d { known = record { relations = d.known.relations; rights = r } }
 
 -- what Access knows of a relation: a table's kinds are those of its columns
-abbrev pub relation_in : Entry → Relation
+abbrev pub relation_in : CatalogEntry → Relation
 relation_in x = record { name = x.name; kinds = option_map kinds_of (table_in x.held) }
 
 -- the frame, in which nothing is subscribed to
@@ -52,8 +52,8 @@ abbrev pub at : Database → Lists → State
 at d T = record { frame = frame_of d; rows = T }
 
 -- the session is open, and acts for the role
-abbrev pub acts_as : Frame → (session role : ℕ) → Bool
-acts_as f n role = if_some (session_of f.sessions n) false (λ s. s.role == role)
+abbrev pub session_acts_as : Frame → (session role : ℕ) → Bool
+session_acts_as f n role = if_some (session_of f.sessions n) false (λ s. s.role == role)
 
 -- without the session
 abbrev pub without_session : (session : ℕ) → Database → Database

@@ -1,7 +1,7 @@
 -- A new view: the tests of its names and of its text, and what is kept with it.
 use Rattle.std.specs.Prelude.{◌≡◌, ℕ, Bool, not, nat_le, true, false, List, ◌∷◌, Option, Some, None, option_map, is_some, Result, Ok, Err}
 use Rattle.iv_bind.specs.BoundTexts.{TextFault}
-use Rattle.iv_bind.specs.Catalogs.{Answer, View, answer_of, named}
+use Rattle.iv_bind.specs.Catalogs.{BoundQuery, View, bound_of, named}
 use Rattle.iv_bind.specs.declared.bound.Bound.{Bound}
 use Rattle.iv_access.specs.Privileges.{is_admin, role_of}
 use Rattle.iv_access.specs.Rights.{Name}
@@ -16,8 +16,8 @@ use Rattle.iv_command.specs.declared.stop.Stop.{Stop}
 use Rattle.iv_command.specs.declared.stop.Stop.TheVariants.{Refused, Memory}
 
 -- the plan of a text, or the refusal that tells its first fault, unless memory runs out
-abbrev pub IsBoundView : Result Answer TextFault → Result Bound Stop → Type 0
-IsBoundView bound (Ok b) = bound ≡ Ok (answer_of b)
+abbrev pub IsBoundView : Result BoundQuery TextFault → Result Bound Stop → Type 0
+IsBoundView bound (Ok b) = bound ≡ Ok (bound_of b)
 IsBoundView bound (Err (Refused r)) = bad_text bound ≡ Some (refusal_of r)
 IsBoundView bound (Err Memory) = Unit {0}
 
@@ -44,7 +44,7 @@ abbrev pub has_view_room : Database → Bool
 has_view_room e = not (nat_le 64 (views (frame_of e)))
 
 -- the view is added; or there may be no other, and nothing has changed
-abbrev pub IsViewAdded : Database → (name owner : Name) → Answer → Result Unit Stop → Database → Type 0
+abbrev pub IsViewAdded : Database → (name owner : Name) → BoundQuery → Result Unit Stop → Database → Type 0
 IsViewAdded e name owner a (Ok u) new = (has_view_room e ≡ true) × (new ≡ with_relation_of name owner (View a) e)
 IsViewAdded e name owner a (Err (Refused r)) new = (has_view_room e ≡ false) × (refusal_of r ≡ too_many) × (new ≡ e)
 IsViewAdded e name owner a (Err Memory) new = Unit {0}

@@ -5,7 +5,7 @@ use Rattle.iv_algebra.specs.declared.tables.Table.{Table}
 use Rattle.iv_bind.specs.Catalogs as catalogs
 use Rattle.iv_bind.specs.Catalogs.{Held, extended, table_in}
 use Rattle.iv_access.specs.Changing.{with_relation}
-use Rattle.iv_access.specs.Known.{Relation, role_number}
+use Rattle.iv_access.specs.Access.{Relation, role_number}
 use Rattle.iv_access.specs.Rights.{Name}
 use Rattle.iv_machine.specs.Act.{Act, create_table, create_view}
 use Rattle.iv_machine.specs.Split.{frame_refusal}

@@ -6,7 +6,7 @@ use Rattle.iv_access.specs.Faults.{add_relation_fault}
 use Rattle.iv_access.specs.Rights.{Name}
 use Rattle.iv_access.specs.declared.fault.AccessFault.{AccessFault}
 use Rattle.iv_access.specs.declared.fault.AccessFault.TheVariants as fault
-use Rattle.iv_machine.specs.Act.{Refusal, unknown_role, name_taken, not_administrator, not_owner, unknown_policy, too_many, membership_loop}
+use Rattle.iv_machine.specs.Act.{Refusal, unknown_role, name_taken, not_administrator, not_owner, too_many, membership_loop}
 use Rattle.iv_command.specs.Views.{refusal_of}
 use Rattle.iv_command.specs.declared.stop.Stop.{Stop}
 use Rattle.iv_command.specs.declared.stop.Stop.TheVariants.{Refused, Memory}
@@ -20,7 +20,6 @@ told fault.Taken rel = Some name_taken
 told fault.NotAdmin rel = Some not_administrator
 told fault.NotOwner rel = Some (not_owner rel)
 told fault.TooMany rel = Some too_many
-told fault.Policy rel = Some unknown_policy
 told fault.Loop rel = Some membership_loop
 told fault.Memory rel = None
 

@@ -1,37 +1,25 @@
 //! `row_security`, `create_policy`, `drop_policy`: their tests, what they change of rights, and the texts of policies.
-ghost use Rattle.std.specs.Prelude.{◌≡◌, ◌<◌, None, OnOk, is_some, length, map, nat_le, option_map, slice_get, string_bytes, true};
-ghost use Rattle.std.specs.List.{list_all};
-ghost use Rattle.iv_access.specs.Changing.{with_security, without_policy};
-ghost use Rattle.iv_access.specs.Faults.{is_grantee};
-ghost use Rattle.iv_access.specs.Policies.{policies_of, policy_of};
-ghost use Rattle.iv_access.specs.Privileges.{owns};
+ghost use Rattle.std.specs.Prelude.{◌≡◌, option_map, string_bytes};
 ghost use Rattle.iv_machine.specs.Act as machine;
 ghost use Rattle.iv_command.specs.Stops.{IsTested};
-ghost use Rattle.iv_database.specs.Database.{IsDatabase, with_rights};
-ghost use Rattle.iv_database.specs.Owned.{IsChecked, IsGuarded, IsOwned, asked, has_room, name_tests, named_tests, with_asked, AreBound, IsBound, IsBoundText};
+ghost use Rattle.iv_database.specs.Database.{IsDatabase};
+ghost use Rattle.iv_database.specs.Owned.{IsChecked, IsGuarded, IsOwned, asked, name_tests, AreBound, IsBound, IsBoundText};
 ghost use Rattle.iv_bind.specs.BoundTexts.{bound_policy};
 
 use crate::database::Database;
-use iv_access::{AccessFault, MOST_POLICIES, Policy, RoleId};
+use iv_access::{MOST_POLICIES, NewPolicy};
 use iv_algebra::Pred;
 use iv_bind::bind_pred;
 use iv_command::{PolicyText, Refusal, Stop};
 use iv_query::read_pred;
 use iv_rows::{RelId, Schema};
-use std::alloc::{AllocError, Global};
-
-/// The acting role, and a table that it owns.
-#[derive(Clone, Copy)]
-struct Owned {
-    acting: RoleId,
-    table: RelId,
-}
+use std::alloc::Global;
 
 /// The policy that is asked for, with its predicates.
-fn asked(policy: PolicyText, predicates: Predicates) -> Policy
+fn asked(policy: PolicyText, predicates: Predicates) -> NewPolicy
     ensures { result ≡ asked policy predicates }
 {
-    Policy {
+    NewPolicy {
         name: policy.name,
         restrictive: policy.restrictive,
         command: policy.command,
@@ -42,8 +30,8 @@ fn asked(policy: PolicyText, predicates: Predicates) -> Policy
 }
 
 impl Database {
-    /// The acting role and the table of a name, where the role may change the table's policies.
-    fn owned(&self, session: u32, rel: &str) -> Result<Owned, Stop>
+    /// The table of a name, where the role of the session may change the table's policies.
+    fn owned(&self, session: u32, rel: &str) -> Result<RelId, Stop>
         requires { IsDatabase self.now }
         ensures { IsOwned self.now session rel.now result }
     {
@@ -55,36 +43,14 @@ impl Database {
             let rel = String::from_str(self.alloc, rel)?;
             return Err(Stop::Refused(Refusal::NotOwner { rel }));
         }
-        Ok(Owned { acting, table })
-    }
-
-    /// Whether the name is a role's, or stands for all roles.
-    fn is_known(&self, grantee: &Option<String>) -> bool
-        ensures { result ≡ is_grantee self.now.known.rights (option_map string_bytes grantee.now) }
-    {
-        match grantee {
-            Some(name) => self.access.role(name.as_str()).is_some(),
-            None => true,
-        }
-    }
-
-    /// Whether each name is a role's, or stands for all roles.
-    fn are_known(&self, grantees: &[Option<String>]) -> bool
-        ensures { result ≡ list_all (is_grantee self.now.known.rights) (map (option_map string_bytes) grantees.now) }
-    {
-        for grantee in grantees {
-            if !self.is_known(grantee) {
-                return false;
-            }
-        }
-        true
+        Ok(table)
     }
 
     /// Whether the names of a policy may stand.
     fn check_names(&self, table: RelId, policy: &PolicyText) -> Result<(), Stop>
         ensures { IsTested (name_tests self.now.known.rights table.0 policy.now) result }
     {
-        if !self.are_known(&policy.grantee) {
+        if !self.access.are_grantees(&policy.grantee) {
             return Err(Stop::Refused(Refusal::UnknownRole));
         }
         if self.access.policy(table, policy.name.as_str()).is_some() {
@@ -94,65 +60,15 @@ impl Database {
     }
 
     /// The table of a policy and its predicates, where all tests pass but that of the number of policies.
-    fn check_policy(&self, session: u32, policy: &PolicyText) -> Result<(Owned, Predicates), Stop>
+    fn check_policy(&self, session: u32, policy: &PolicyText) -> Result<(RelId, Predicates), Stop>
         requires { IsDatabase self.now }
         ensures { IsChecked self.now session policy.now result }
     {
-        let owned = self.owned(session, policy.rel.as_str())?;
-        self.check_names(owned.table, policy)?;
-        let schema = self.schema(owned.table);
+        let table = self.owned(session, policy.rel.as_str())?;
+        self.check_names(table, policy)?;
+        let schema = self.schema(table);
         let predicates = bound_texts(self.alloc, schema, policy)?;
-        Ok((owned, predicates))
-    }
-
-    /// Switches row security of the table.
-    fn switch(&mut self, owned: Owned, enable: bool, force: bool)
-        requires below { owned.table.0 < length self.old.known.rights.guards }
-        requires owns { owns self.old.known.rights owned.acting.0 owned.table.0 ≡ true }
-        ensures { self.new ≡ with_rights (with_security owned.table.0 enable force self.old.known.rights) self.old }
-    {
-        let change = self
-            .access
-            .row_security(owned.acting, owned.table, enable, force);
-        if change.is_err() {
-            unreachable!()
-        }
-    }
-
-    /// Takes a policy of the table away.
-    fn remove(&mut self, owned: Owned, name: &str)
-        requires below { owned.table.0 < length self.old.known.rights.guards }
-        requires owns { owns self.old.known.rights owned.acting.0 owned.table.0 ≡ true }
-        requires there { is_some (policy_of self.old.known.rights owned.table.0 name.now) ≡ true }
-        ensures { self.new ≡ with_rights (without_policy owned.table.0 name.now self.old.known.rights) self.old }
-    {
-        let change = self.access.drop_policy(owned.acting, owned.table, name);
-        if change.is_err() {
-            unreachable!()
-        }
-    }
-
-    /// Whether the table has as many policies as it may have.
-    fn has_most_policies(&self, table: RelId) -> bool
-        ensures { result ≡ nat_le 32 (length (policies_of (slice_get self.now.known.rights.guards table.0))) }
-    {
-        self.access.policies(table) >= MOST_POLICIES
-    }
-
-    /// Adds a policy to the table.
-    fn add(&mut self, owned: Owned, policy: Policy) -> Result<(), AllocError>
-        requires below { owned.table.0 < length self.old.known.rights.guards }
-        requires owns { owns self.old.known.rights owned.acting.0 owned.table.0 ≡ true }
-        requires names { named_tests self.old.known.rights owned.table.0 policy.name policy.to ≡ None }
-        requires room { has_room self.old.known.rights owned.table.0 ≡ true }
-        ensures added { OnOk result (self.new ≡ with_asked owned.table.0 policy self.old) }
-        ensures sessions { self.new.sessions ≡ self.old.sessions }
-    {
-        match self.access.create_policy(owned.acting, owned.table, policy) {
-            Ok(()) => Ok(()),
-            Err(AccessFault::Memory) => Err(AllocError),
-            Err(_) => unreachable!(),
-        }
+        Ok((table, predicates))
     }
 
     /// Switches row security of a table, and says which; else the first test that fails, and nothing has changed.
@@ -170,9 +86,9 @@ impl Database {
         ensures guarded { IsGuarded self.old session (machine.row_security rel.now enable force) rel.now result self.new }
         ensures sessions { self.new.sessions ≡ self.old.sessions }
     {
-        let owned = self.owned(session, rel)?;
-        self.switch(owned, enable, force);
-        Ok(owned.table)
+        let table = self.owned(session, rel)?;
+        self.access.row_security(table, enable, force);
+        Ok(table)
     }
 
     /// Adds a policy to a table, and says to which; else the first test that fails, and nothing has changed.
@@ -184,12 +100,12 @@ impl Database {
         ensures guarded { IsGuarded self.old session (machine.create_policy policy) policy.rel result self.new }
         ensures sessions { self.new.sessions ≡ self.old.sessions }
     {
-        let (owned, predicates) = self.check_policy(session, &policy)?;
-        if self.has_most_policies(owned.table) {
+        let (table, predicates) = self.check_policy(session, &policy)?;
+        if self.access.policies(table) >= MOST_POLICIES {
             return Err(Stop::Refused(Refusal::TooMany));
         }
-        self.add(owned, asked(policy, predicates))?;
-        Ok(owned.table)
+        self.access.create_policy(table, asked(policy, predicates))?;
+        Ok(table)
     }
 
     /// Takes a policy of a table away, and says of which; else the first test that fails, and nothing has changed.
@@ -201,12 +117,12 @@ impl Database {
         ensures guarded { IsGuarded self.old session (machine.drop_policy rel.now name.now) rel.now result self.new }
         ensures sessions { self.new.sessions ≡ self.old.sessions }
     {
-        let owned = self.owned(session, rel)?;
-        if self.access.policy(owned.table, name).is_none() {
+        let table = self.owned(session, rel)?;
+        if self.access.policy(table, name).is_none() {
             return Err(Stop::Refused(Refusal::UnknownPolicy));
         }
-        self.remove(owned, name);
-        Ok(owned.table)
+        self.access.drop_policy(table, name);
+        Ok(table)
     }
 }
 

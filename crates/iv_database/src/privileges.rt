@@ -1,6 +1,6 @@
 //! `grant`, `revoke`; the refusal for a fault of rights (`stop_of`, `outcome`); what a reader lacks (`missing_for`).
 ghost use Rattle.std.specs.Prelude.{◌≡◌, ◌<◌, length, map, option_map, string_bytes};
-ghost use Rattle.iv_access.specs.Known.{named};
+ghost use Rattle.iv_access.specs.Access.{name_given};
 ghost use Rattle.iv_machine.specs.Act as machine;
 ghost use Rattle.iv_database.specs.Database.{IsDatabase, frame_of, select_from};
 ghost use Rattle.iv_database.specs.Next.{IsDone};
@@ -23,7 +23,6 @@ pub(crate) fn stop_of(fault: AccessFault, rel: String) -> Stop
         AccessFault::NotAdmin => Stop::Refused(Refusal::NotAdministrator),
         AccessFault::NotOwner => Stop::Refused(Refusal::NotOwner { rel }),
         AccessFault::TooMany => Stop::Refused(Refusal::TooMany),
-        AccessFault::Policy => Stop::Refused(Refusal::UnknownPolicy),
         AccessFault::Loop => Stop::Refused(Refusal::MembershipLoop),
         AccessFault::Memory => Stop::Memory,
     }
@@ -52,7 +51,7 @@ impl Database {
         grantee: Option<&str>,
     ) -> Result<(), Stop>
         requires { IsDatabase self.old }
-        ensures done { IsDone self.old session (machine.grant (string_bytes rel) privileges.now (named grantee.entry)) result self.new }
+        ensures done { IsDone self.old session (machine.grant (string_bytes rel) privileges.now (name_given grantee.entry)) result self.new }
         ensures sessions { self.new.sessions ≡ self.old.sessions }
     {
         let (acting, number) = self.acting_on(session, rel.as_str())?;
@@ -72,7 +71,7 @@ impl Database {
         grantee: Option<&str>,
     ) -> Result<(), Stop>
         requires { IsDatabase self.old }
-        ensures done { IsDone self.old session (machine.revoke (string_bytes rel) privileges.now (named grantee.entry)) result self.new }
+        ensures done { IsDone self.old session (machine.revoke (string_bytes rel) privileges.now (name_given grantee.entry)) result self.new }
         ensures sessions { self.new.sessions ≡ self.old.sessions }
     {
         let (acting, number) = self.acting_on(session, rel.as_str())?;

@@ -1,6 +1,6 @@
 //! `create_table`, `create_view`: tests and effects; relations by name, and who acts on one (`acting_on`).
 ghost use Rattle.std.specs.Prelude.{◌≡◌, ◌<◌, IfOk, IfSome, is_some, length, string_bytes, true, Some, ◌&&◌, None};
-ghost use Rattle.iv_bind.specs.Catalogs.{named, schema_of, AreAmong, answer_of};
+ghost use Rattle.iv_bind.specs.Catalogs.{named, schema_of, AreAmong, bound_of};
 ghost use Rattle.iv_machine.specs.State.{name_of, rel_of, table_columns};
 ghost use Rattle.iv_database.specs.Database.{IsDatabase, frame_of};
 ghost use Rattle.iv_database.specs.Target.{IsActingOn};
@@ -20,7 +20,7 @@ use iv_access::{AccessFault, RoleId};
 use iv_bind::{Bound, Catalog, bind};
 use iv_command::{Refusal, Stop};
 use iv_query::read_query;
-use iv_rows::{Column, Kind, RelId, RowFault, Schema};
+use iv_rows::{Column, Kind, RelId, Schema};
 use std::alloc::{AllocError, Global};
 
 impl Database {
@@ -73,24 +73,6 @@ impl Database {
             Some(schema) => schema,
             None => unreachable!(),
         }
-    }
-}
-
-/// The same columns.
-pub(crate) fn copy_schema(alloc: Global, schema: &Schema) -> Result<Schema, AllocError>
-    ensures { IfOk result (λ copy. copy ≡ schema.now) }
-{
-    let mut columns = Vec::with_capacity(alloc, schema.columns().len())?;
-    for column in schema.columns() {
-        columns.push(Column {
-            name: String::from_str(alloc, column.name.as_str())?,
-            kind: column.kind,
-        })?;
-    }
-    match Schema::try_new(columns) {
-        Ok(copy) => Ok(copy),
-        Err(RowFault::Columns) => unreachable!(),
-        Err(RowFault::Duplicate) => unreachable!(),
     }
 }
 
@@ -149,10 +131,8 @@ impl Database {
             Ok(rel) => rel,
             Err(fault) => return Err(stop_of(fault, name)),
         };
-        let Ok(schema) = Schema::try_new(columns) else {
-            unreachable!()
-        };
-        let columns = copy_schema(self.alloc, &schema)?;
+        let schema = Schema::new(columns);
+        let columns = schema.copy(self.alloc)?;
         self.catalog.add_table(name.as_str(), rel, schema)?;
         self.tables.add_table(rel, columns)?;
         Ok(())
@@ -162,8 +142,8 @@ impl Database {
 /// What the text of a view is bound to over the catalog.
 fn bound_view(alloc: Global, catalog: &Catalog, query: &str) -> Result<Bound, Stop>
     ensures bound { IsBoundView (bound_query catalog.now query.now) result }
-    ensures typed { IfOk result (λ b. IsTyped catalog.now (answer_of b)) }
-    ensures scanned { IfOk result (λ b. AreAmong (scans (answer_of b).plan) (answer_of b).needs) }
+    ensures typed { IfOk result (λ b. IsTyped catalog.now (bound_of b)) }
+    ensures scanned { IfOk result (λ b. AreAmong (scans (bound_of b).plan) (bound_of b).needs) }
 {
     let tree = read_query(alloc, query)?;
     let bound = bind(alloc, &tree, catalog)?;
@@ -203,9 +183,9 @@ impl Database {
         requires admin { is_admin acting.0 ≡ true }
         requires owner { is_some (role_of self.old.known.rights owner.now) ≡ true }
         requires free { named self.old.catalog (string_bytes name) ≡ None }
-        requires typed { IsTyped self.old.catalog (answer_of bound) }
-        requires scanned { AreAmong (scans (answer_of bound).plan) (answer_of bound).needs }
-        ensures added { IsViewAdded self.old (string_bytes name) owner.now (answer_of bound) result self.new }
+        requires typed { IsTyped self.old.catalog (bound_of bound) }
+        requires scanned { AreAmong (scans (bound_of bound).plan) (bound_of bound).needs }
+        ensures added { IsViewAdded self.old (string_bytes name) owner.now (bound_of bound) result self.new }
         ensures sessions { self.new.sessions ≡ self.old.sessions }
     {
         let added = self.access.add_relation(acting, name.as_str(), owner, None);

@@ -1,7 +1,7 @@
 //! Sessions and the roles that act in them: `begin`, `actor`, `end_session`.
 ghost use Rattle.std.specs.Prelude.{◌≡◌, option_map, []};
 ghost use Rattle.iv_machine.specs.State.{session_of};
-ghost use Rattle.iv_database.specs.Database.{acts_as, frame_of, without_session};
+ghost use Rattle.iv_database.specs.Database.{session_acts_as, frame_of, without_session};
 ghost use Rattle.iv_machine.specs.Act as machine;
 ghost use Rattle.iv_database.specs.Next.{IsDone};
 
@@ -45,7 +45,7 @@ impl Database {
 
     /// Whether the session acts for the role.
     pub fn acts_as(&self, session: u32, role: RoleId) -> bool
-        ensures { result ≡ acts_as (frame_of self.now) session role.0 }
+        ensures { result ≡ session_acts_as (frame_of self.now) session role.0 }
     {
         match find_session(&self.sessions, session) {
             Some(found) => found.role == role,

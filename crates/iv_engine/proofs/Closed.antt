@@ -5,23 +5,23 @@ use Rattle.std.specs.Prelude.{◌==◌, filter, flat_map, is_some, option_map, p
 use Rattle.std.specs.Global.{Vec}
 use Rattle.std.specs.List.{AllByRecursion}
 use Rattle.iv_algebra.specs.Plans.{Lists}
-use Rattle.iv_bind.specs.Faults.{if_some}
+use Rattle.iv_rows.specs.Options.{if_some}
 use Rattle.iv_access.specs.declared.role.RoleId.{RoleId}
 use Rattle.iv_machine.specs.Act as machine
 use Rattle.iv_machine.specs.Act.{finish, unsubscribe}
-use Rattle.iv_machine.specs.Machine.{difference, ending, line_for, line_of as machine_line}
+use Rattle.iv_machine.specs.Machine.{difference, ending, line_for, lines_told as machine_line}
 use Rattle.iv_machine.specs.Refusing.{has_subscription, or_else, test}
-use Rattle.iv_machine.specs.State.{Session, State, Subscription, is_open, session_of, shown, subscription_of, view_of}
+use Rattle.iv_machine.specs.State.{Session, State, Subscription, is_open, session_of, shown, subscription_of, view_shown}
 use Rattle.iv_machine.proofs.Placing.{all_kept}
 use Rattle.iv_machine.proofs.Reached.{given_kept, unique_kept}
 use Rattle.iv_engine.specs.Answering.{IsAccepted, seen}
 use Rattle.iv_engine.specs.Counting.{AreCounted}
 use Rattle.iv_engine.specs.Finished.{without_session, without_subscription, without_unread}
 use Rattle.iv_database.proofs.Stored.{sessions_stored}
-use Rattle.iv_engine.specs.Kept.{database_of, IsOpen, IsRoleCircuit, IsSound, IsWithin, Kept, at, frame_of, may_read, place_of}
+use Rattle.iv_engine.specs.Store.{database_of, IsOpen, IsRoleCircuit, IsSoundStore, IsWithin, Store, at, frame_of, may_read, place_of}
 use Rattle.iv_readers.specs.Readers.{is_for}
 use Rattle.iv_engine.specs.Rounds.{beside_number, rounds, rounds_of}
-use Rattle.iv_engine.specs.Seen.{IsBehind}
+use Rattle.iv_engine.specs.Engine.{IsBehind}
 use Rattle.iv_database.specs.Stands.{Stands}
 use Rattle.iv_command.specs.Views.{line_of}
 use Rattle.iv_command.specs.declared.command.Line.{Line}
@@ -36,13 +36,13 @@ use Rattle.iv_engine.proofs.Unmoved.{IsUnmoved, other_sessions, still_read, stil
 
 -- ---- what is left of the subscriptions, whose sessions are as before
 
-module _ (e : Kept) (h : IsSound e) (ss : List Session) (p : Subscription → Bool) (roles : AllByRecursion (λ s. s.role < length e.known.rights.roles) ss)
+module _ (e : Store) (h : IsSoundStore e) (ss : List Session) (p : Subscription → Bool) (roles : AllByRecursion (λ s. s.role < length e.known.rights.roles) ss)
     (same : (s : Subscription) → p s ≡ true → session_of ss s.session ≡ session_of e.sessions s.session) where
   -- before circuits are dropped, and afterwards
-  abbrev b : Kept
+  abbrev b : Store
   b = record e { sessions = ss; subscriptions = filter p e.subscriptions }
 
-  abbrev c : Kept
+  abbrev c : Store
   c = without_unread b
 
   unmoved : (s : Subscription) → p s ≡ true → IsUnmoved e c s
@@ -61,7 +61,7 @@ module _ (e : Kept) (h : IsSound e) (ss : List Session) (p : Subscription → Bo
   all_there : AllByRecursion (λ s. is_some (place_of b s) ≡ true) (filter p e.subscriptions)
   all_there = left (λ s. is_some (place_of e s) ≡ true) (λ s. is_some (place_of b s) ≡ true) (λ s k t. (λ i. is_some (position (is_for ((unmoved s k).acts i) s.rel) e.circuits)) ∙ t) h.there
 
-  pub left_sound : IsSound c
+  pub left_sound : IsSoundStore c
   left_sound = record {
     stored = record {
       numbers = record { unique = unique_kept p e.subscriptions h.stored.numbers.unique; given = given_kept e.last p e.subscriptions h.stored.numbers.given };
@@ -89,7 +89,7 @@ module _ (e : Kept) (h : IsSound e) (ss : List Session) (p : Subscription → Bo
     each_left = left (λ s. subscription_of e.subscriptions s.number ≡ Some s) IsLeft (λ s k f. (k, f)) (each_found e.subscriptions h.stored.numbers.unique)
 
     still : (s : Subscription) → IsLeft s → subscription_of (filter p e.subscriptions) s.number ≡ Some s → shown (at c T) s.number ≡ shown (at e T) s.number
-    still s x f = ap (λ o. if_some o [] (view_of (at c T))) f ∙ still_shown e c s (unmoved s x.0) T stands ∙ sym (ap (λ o. if_some o [] (view_of (at e T))) x.1)
+    still s x f = ap (λ o. if_some o [] (view_shown (at c T))) f ∙ still_shown e c s (unmoved s x.0) T stands ∙ sym (ap (λ o. if_some o [] (view_shown (at e T))) x.1)
 
     quiet : (s : Subscription) → shown (at c T) s.number ≡ shown (at e T) s.number → ending (at c T) s ≡ None → line_for (at e T) (at c T) (ending (at c T)) s ≡ []
     quiet s v k = (λ i. machine_line (k i) s (difference (shown (at e T) s.number) (v i))) ∙ ap (machine_line None s) (difference_none (shown (at e T) s.number))
@@ -132,7 +132,7 @@ others_stay (s ∷ ss) n k h = by (n == s.number) refl (others_stay ss n k h)
         apart k n m is h = grind (arith, nat_tests)
     by false is go = ap (λ o. cond (k == s.number) (Some s) o) go
 
-module _ (e new : Kept) (n : ℕ) (lines : Vec Line) (h : IsSound e) (none : lines.items ≡ []) (opened : is_open (frame_of e) n ≡ true) where
+module _ (e new : Store) (n : ℕ) (lines : Vec Line) (h : IsSoundStore e) (none : lines.items ≡ []) (opened : is_open (frame_of e) n ≡ true) where
   pub finished_step : new ≡ without_unread (without_session n e) → IsAccepted e n finish (record { reply = Ok; changes = lines }) new
   finished_step k =
       let ss = filter (λ (s : Session). not (n == s.number)) e.sessions in
@@ -146,10 +146,10 @@ module _ (e new : Kept) (n : ℕ) (lines : Vec Line) (h : IsSound e) (none : lin
           ap (map line_of) none ∙ sym (left_sent e h ss p roles same T s),
         );
         left = λ T s. subst (λ (t : State). IsBehind t (seen new)) (sym (left_settled e h ss p roles same T s))
-            (subst (λ (v : Kept). IsBehind (at (without_unread (without_session n e)) T) (seen v)) (sym k) (record { frame = refl; rows = s }));
+            (subst (λ (v : Store). IsBehind (at (without_unread (without_session n e)) T) (seen v)) (sym k) (record { frame = refl; rows = s }));
         accepts = no_refusal Ok refl;
-        rounds = subst (λ (v : Kept). AreCounted (seen e) finish (seen v)) (sym k) (left_counted e h ss p roles same);
-        sound = subst IsSound (sym k) (left_sound e h ss p roles same);
+        rounds = subst (λ (v : Store). AreCounted (seen e) finish (seen v)) (sym k) (left_counted e h ss p roles same);
+        sound = subst IsSoundStore (sym k) (left_sound e h ss p roles same);
       }
 
   -- ---- a subscription
@@ -165,10 +165,10 @@ module _ (e new : Kept) (n : ℕ) (lines : Vec Line) (h : IsSound e) (none : lin
           ap (map line_of) none ∙ sym (left_sent e h e.sessions p h.stored.database.roles same T s),
         );
         left = λ T s. subst (λ (t : State). IsBehind t (seen new)) (sym (left_settled e h e.sessions p h.stored.database.roles same T s))
-            (subst (λ (v : Kept). IsBehind (at (without_unread (without_subscription number e)) T) (seen v)) (sym k) (record { frame = refl; rows = s }));
+            (subst (λ (v : Store). IsBehind (at (without_unread (without_subscription number e)) T) (seen v)) (sym k) (record { frame = refl; rows = s }));
         accepts = no_refusal Ok refl;
-        rounds = subst (λ (v : Kept). AreCounted (seen e) (unsubscribe number) (seen v)) (sym k) (left_counted e h e.sessions p h.stored.database.roles same);
-        sound = subst IsSound (sym k) (left_sound e h e.sessions p h.stored.database.roles same);
+        rounds = subst (λ (v : Store). AreCounted (seen e) (unsubscribe number) (seen v)) (sym k) (left_counted e h e.sessions p h.stored.database.roles same);
+        sound = subst IsSoundStore (sym k) (left_sound e h e.sessions p h.stored.database.roles same);
       }
 
 -- ---- the tests

@@ -6,7 +6,7 @@ use Rattle.std.specs.List.{AllByRecursion, list_any}
 use Rattle.iv_machine.specs.Reached.{AreGiven}
 use Rattle.iv_machine.specs.State.{Subscription, actor, is_open, subscription_of}
 use Rattle.iv_engine.specs.Finished.{without_unread}
-use Rattle.iv_engine.specs.Kept.{IsOpen, IsStored, Kept, frame_of, is_read}
+use Rattle.iv_engine.specs.Store.{IsOpen, IsStored, Store, frame_of, is_read}
 use Rattle.iv_readers.specs.Readers.{RoleCircuit, is_for}
 use Rattle.iv_engine.specs.Rounds.{beside_number, by_number, of_number, rounds, rounds_in, rounds_of, rounds_since}
 use Rattle.iv_engine.proofs.Beside.{for_is}
@@ -78,20 +78,20 @@ all_given last [] a = tt
 all_given last (s ∷ ss) a = (a.0, all_given last ss a.1)
 
 -- its rounds stand beside its number
-abbrev pub IsBeside : Kept → Subscription → Type 0
+abbrev pub IsBeside : Store → Subscription → Type 0
 IsBeside e s = beside_number s.number (rounds e) ≡ rounds_of e s
 
-pub all_beside : (e : Kept) → IsStored e → AllByRecursion (IsBeside e) e.subscriptions
+pub all_beside : (e : Store) → IsStored e → AllByRecursion (IsBeside e) e.subscriptions
 all_beside e h = all_zip (λ s. subscription_of e.subscriptions s.number ≡ Some s) (λ s. s.number ≤ e.last) (IsBeside e) e.subscriptions
     (λ s found low. beside_from (rounds_of e) s e.subscriptions s.number 0 (suc e.last) found (omega arith) (omega (arith, low)))
     (each_found e.subscriptions h.numbers.unique) (all_given e.last e.subscriptions h.numbers.given)
 
 -- and none stands there of the next number
-pub next_none : (e : Kept) → beside_number (e.last + 1) (rounds e) ≡ 0
+pub next_none : (e : Store) → beside_number (e.last + 1) (rounds e) ≡ 0
 next_none e = beside_none (rounds_of e) (e.last + 1) e.subscriptions 0 (suc e.last) (omega arith)
 
 -- what holds of the rounds that circuits have holds of those that stand in the lists
-module _ (e d : Kept) (stored : IsStored d) (R : Subscription → (was now : ℕ) → Type 0) where
+module _ (e d : Store) (stored : IsStored d) (R : Subscription → (was now : ℕ) → Type 0) where
   pub now_counted : AllByRecursion (λ s. R s (beside_number s.number (rounds e)) (rounds_of d s)) d.subscriptions
       → AllByRecursion (λ s. R s (beside_number s.number (rounds e)) (beside_number s.number (rounds d))) d.subscriptions
   now_counted a = all_zip (IsBeside d) (λ s. R s (beside_number s.number (rounds e)) (rounds_of d s)) (λ s. R s (beside_number s.number (rounds e)) (beside_number s.number (rounds d))) d.subscriptions
@@ -105,7 +105,7 @@ module _ (e d : Kept) (stored : IsStored d) (R : Subscription → (was now : ℕ
 -- ---- what leaves them
 
 -- where its reader is the same, and the circuits are
-pub same_rounds : (e d : Kept) (s : Subscription) → d.circuits ≡ e.circuits → actor (frame_of d) s.session ≡ actor (frame_of e) s.session → rounds_of d s ≡ rounds_of e s
+pub same_rounds : (e d : Store) (s : Subscription) → d.circuits ≡ e.circuits → actor (frame_of d) s.session ≡ actor (frame_of e) s.session → rounds_of d s ≡ rounds_of e s
 same_rounds e d s circuits acts = λ i. rounds_in (acts i) s.rel s.number (circuits i)
 
 module _ (role rel n : ℕ) where
@@ -132,7 +132,7 @@ module _ (role rel n : ℕ) where
       by false t go = go t
 
 -- circuits that are dropped because nobody reads them
-pub left_rounds : (b : Kept) → AllByRecursion (IsOpen b) b.subscriptions → AllByRecursion (λ s. rounds_of (without_unread b) s ≡ rounds_of b s) b.subscriptions
+pub left_rounds : (b : Store) → AllByRecursion (IsOpen b) b.subscriptions → AllByRecursion (λ s. rounds_of (without_unread b) s ≡ rounds_of b s) b.subscriptions
 left_rounds b shows =
     let f = frame_of b in
     all_map (λ s. (k : RoleCircuit) → k.role ≡ actor f s.session → k.rel ≡ s.rel → is_read f k ≡ true) (λ s. rounds_of (without_unread b) s ≡ rounds_of b s) b.subscriptions

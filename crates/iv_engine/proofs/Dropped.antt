@@ -5,13 +5,13 @@ use Rattle.std.specs.List.{AllByRecursion}
 use Rattle.iv_machine.specs.State.{Subscription, actor, is_open}
 use Rattle.iv_machine.proofs.Placing.{all_kept}
 use Rattle.iv_engine.specs.Finished.{without_unread}
-use Rattle.iv_engine.specs.Kept.{IsOpen, Kept, frame_of, is_read, place_of}
+use Rattle.iv_engine.specs.Store.{IsOpen, Store, frame_of, is_read, place_of}
 use Rattle.iv_readers.specs.Readers.{RoleCircuit}
 use Rattle.iv_engine.proofs.Beside.{for_is}
 use Rattle.iv_readers.proofs.Lists.{all_map, all_zip}
 use Rattle.iv_engine.proofs.Unread.{kept_place, reads_own}
 
-module _ (e : Kept) where
+module _ (e : Store) where
   -- those that are left have what all had, and are read
   pub left_have : (P : RoleCircuit → Type 0) → AllByRecursion P e.circuits → AllByRecursion P (filter (is_read (frame_of e)) e.circuits)
   left_have P a = all_kept P P (is_read (frame_of e)) (λ k b h. h) e.circuits a

@@ -1,7 +1,7 @@
 -- What a revoke takes back.
 use Rattle.std.proofs.Common.{◌≡◌, ℕ, Bool, true, false, cond, not, List, Option, None, refl, ap, ◌∙◌, get_or}
 use Rattle.iv_access.specs.Changing.{without_grants}
-use Rattle.iv_access.specs.Known.{grantee_of}
+use Rattle.iv_access.specs.Access.{grantee_of}
 use Rattle.iv_access.specs.Rights.{Grant, Name, Rights}
 use Rattle.iv_access.specs.declared.privilege.Privilege.{Privilege}
 use Rattle.iv_circuit.specs.Nodes.{scans_of}
@@ -13,7 +13,7 @@ use Rattle.iv_database.specs.Database.{Database}
 use Rattle.iv_database.specs.Next.{database_after}
 use Rattle.iv_engine.specs.Answering.{IsAccepted}
 use Rattle.iv_engine.specs.Concerned.{unreadable}
-use Rattle.iv_engine.specs.Kept.{IsSound, IsStored, Kept, database_of, frame_of, role_reads, with_database, with_rights}
+use Rattle.iv_engine.specs.Store.{IsSoundStore, IsStored, Store, database_of, frame_of, role_reads, with_database, with_rights}
 use Rattle.iv_engine.specs.Next.{kept_after}
 use Rattle.iv_engine.specs.Turned.{AreReadersTold, AreWaiting}
 use Rattle.iv_command.specs.declared.answer.Answer.{Answer}
@@ -30,8 +30,8 @@ same_rounds : (b : Bool) (was now : ℕ) → b ≡ true → now ≡ cond (not b)
 same_rounds true was now r h = h
 same_rounds false was now r h = cc
 
-module _ (e : Kept) (n : ℕ) (name : Name) (ps : List Privilege) (to : Option Name) where
-  abbrev pub revoked : Kept
+module _ (e : Store) (n : ℕ) (name : Name) (ps : List Privilege) (to : Option Name) where
+  abbrev pub revoked : Store
   revoked = kept_after e n (revoke name ps to)
 
   abbrev gs : List Grant
@@ -55,10 +55,10 @@ module _ (e : Kept) (n : ℕ) (name : Name) (ps : List Privilege) (to : Option N
   revoked_stored : IsStored e → IsStored revoked
   revoked_stored h = righted_stored e e.known.rights.members e.known.rights.guards gs h.database.guards h
 
-  pub revoked_waiting : IsSound e → AreWaiting revoked (unreadable revoked)
+  pub revoked_waiting : IsSoundStore e → AreWaiting revoked (unreadable revoked)
   revoked_waiting h = waiting e e.known.rights.members e.known.rights.guards gs lost revoke_still (revoked_stored h.stored) h
 
-  pub revoked_step : (new : Kept) (a : Answer) → IsSound e → frame_refusal (frame_of e) n (revoke name ps to) ≡ None → AreReadersTold revoked (unreadable revoked) a new → IsAccepted e n (revoke name ps to) a new
+  pub revoked_step : (new : Store) (a : Answer) → IsSoundStore e → frame_refusal (frame_of e) n (revoke name ps to) ≡ None → AreReadersTold revoked (unreadable revoked) a new → IsAccepted e n (revoke name ps to) a new
   revoked_step new a h passed told =
       righted_step e e.known.rights.members e.known.rights.guards gs n (revoke name ps to) (unreadable revoked)
       (record {
@@ -73,7 +73,7 @@ module _ (e : Kept) (n : ℕ) (name : Name) (ps : List Privilege) (to : Option N
 
 -- ---- what the database says of it
 
-module _ (e u : Kept) (d : Database) (n : ℕ) (name : Name) (ps : List Privilege) (to : Option Name) (is : u ≡ e) (h : IsSound e)
+module _ (e u : Store) (d : Database) (n : ℕ) (name : Name) (ps : List Privilege) (to : Option Name) (is : u ≡ e) (h : IsSoundStore e)
     (told : (frame_refusal (database.frame_of (database_of u)) n (revoke name ps to) ≡ None) × (d ≡ database_after (database_of u) n (revoke name ps to))) where
   was : with_database d u ≡ kept_after e n (revoke name ps to)
   was = has_become e u d n (revoke name ps to) is refl told.0 told.1
@@ -81,6 +81,6 @@ module _ (e u : Kept) (d : Database) (n : ℕ) (name : Name) (ps : List Privileg
   pub revoke_waits : (flags : List Bool) → flags ≡ unreadable (with_database d u) → AreWaiting (with_database d u) flags
   revoke_waits flags same = waiting_as (with_database d u) (kept_after e n (revoke name ps to)) _ _ was (same ∙ ap unreadable was) (revoked_waiting e n name ps to h)
 
-  pub revoke_steps : (flags : List Bool) → flags ≡ unreadable (with_database d u) → (new : Kept) (a : Answer) → AreReadersTold (with_database d u) flags a new → IsAccepted e n (revoke name ps to) a new
+  pub revoke_steps : (flags : List Bool) → flags ≡ unreadable (with_database d u) → (new : Store) (a : Answer) → AreReadersTold (with_database d u) flags a new → IsAccepted e n (revoke name ps to) a new
   revoke_steps flags same new a readers = revoked_step e n name ps to new a h (has_passed e u d n (revoke name ps to) is refl told.0)
       (told_as (with_database d u) (kept_after e n (revoke name ps to)) _ _ a new was (same ∙ ap unreadable was) readers)

@@ -12,7 +12,7 @@ use Rattle.iv_database.specs.Next.{database_after}
 use Rattle.iv_engine.specs.Answering.{IsAccepted}
 use Rattle.iv_readers.specs.Flags.{differing}
 use Rattle.iv_engine.specs.Concerned.{reaching}
-use Rattle.iv_engine.specs.Kept.{IsSound, Kept, database_of, frame_of, with_database}
+use Rattle.iv_engine.specs.Store.{IsSoundStore, Store, database_of, frame_of, with_database}
 use Rattle.iv_engine.specs.Next.{kept_after}
 use Rattle.iv_engine.specs.Turned.{AreReadersTold, AreWaiting}
 use Rattle.iv_command.specs.declared.answer.Answer.{Answer}
@@ -21,25 +21,25 @@ use Rattle.iv_engine.proofs.Righting.{told_as, waiting_as}
 use Rattle.iv_engine.proofs.Stepping.{TestsAlike, has_become, has_passed}
 
 -- of each circuit, whether its role reaches the role as it did not before
-abbrev pub turned : Kept → ℕ → Act → Option RoleId → List Bool
+abbrev pub turned : Store → ℕ → Act → Option RoleId → List Bool
 turned e n act g = differing (reaching e g) (reaching (kept_after e n act) g)
 
 -- readers can be told of the request, where it passes, and that is its step
-pub record IsEnrolling (e : Kept) (n : ℕ) (act : Act) (role : Name) : Type 0 where
-  pub same : (v : Kept) → TestsAlike v n act
+pub record IsEnrolling (e : Store) (n : ℕ) (act : Act) (role : Name) : Type 0 where
+  pub same : (v : Store) → TestsAlike v n act
   pub waits : (g : Option RoleId) → option_map (λ r. r.0) g ≡ role_of e.known.rights role → frame_refusal (frame_of e) n act ≡ None
       → AreWaiting (kept_after e n act) (turned e n act g)
-  pub steps : (g : Option RoleId) → option_map (λ r. r.0) g ≡ role_of e.known.rights role → (new : Kept) (a : Answer) → frame_refusal (frame_of e) n act ≡ None
+  pub steps : (g : Option RoleId) → option_map (λ r. r.0) g ≡ role_of e.known.rights role → (new : Store) (a : Answer) → frame_refusal (frame_of e) n act ≡ None
       → AreReadersTold (kept_after e n act) (turned e n act g) a new → IsAccepted e n act a new
 
-pub joins : (e : Kept) (n : ℕ) (role to : Name) → IsSound e → IsEnrolling e n (grant_role role to) role
+pub joins : (e : Store) (n : ℕ) (role to : Name) → IsSoundStore e → IsEnrolling e n (grant_role role to) role
 joins e n role to h = record { same = λ v. refl; waits = λ g found. joined_waiting e n role to h g found; steps = λ g found. joined_step e n role to h g found }
 
-pub parts : (e : Kept) (n : ℕ) (role to : Name) → IsSound e → IsEnrolling e n (revoke_role role to) role
+pub parts : (e : Store) (n : ℕ) (role to : Name) → IsSoundStore e → IsEnrolling e n (revoke_role role to) role
 parts e n role to h = record { same = λ v. refl; waits = λ g found. parted_waiting e n role to h g found; steps = λ g found. parted_step e n role to h g found }
 
 -- it has passed, and flags were told of the circuits before
-module _ (e u : Kept) (d : Database) (n : ℕ) (act : Act) (role : Name) (is : u ≡ e) (q : IsEnrolling e n act role)
+module _ (e u : Store) (d : Database) (n : ℕ) (act : Act) (role : Name) (is : u ≡ e) (q : IsEnrolling e n act role)
     (told : (frame_refusal (database.frame_of (database_of u)) n act ≡ None) × (d ≡ database_after (database_of u) n act))
     (g : Option RoleId) (before : List Bool) (flags : before ≡ reaching e g) where
   passed : frame_refusal (frame_of e) n act ≡ None
@@ -52,11 +52,11 @@ module _ (e u : Kept) (d : Database) (n : ℕ) (act : Act) (role : Name) (is : u
   same_flags = λ i. differing (flags i) (reaching (was i) g)
 
   pub enrolled_long : length before ≡ length (with_database d u).circuits
-  enrolled_long = ap (λ (bs : List Bool). length bs) flags ∙ many_flags e g ∙ sym (ap (λ (v : Kept). length v.circuits) was)
+  enrolled_long = ap (λ (bs : List Bool). length bs) flags ∙ many_flags e g ∙ sym (ap (λ (v : Store). length v.circuits) was)
 
   module _ (found : option_map (λ r. r.0) g ≡ role_of e.known.rights role) where
     pub enrolled_waits : AreWaiting (with_database d u) (differing before (reaching (with_database d u) g))
     enrolled_waits = waiting_as (with_database d u) (kept_after e n act) _ _ was same_flags (q.waits g found passed)
 
-    pub enrolled_steps : (new : Kept) (a : Answer) → AreReadersTold (with_database d u) (differing before (reaching (with_database d u) g)) a new → IsAccepted e n act a new
+    pub enrolled_steps : (new : Store) (a : Answer) → AreReadersTold (with_database d u) (differing before (reaching (with_database d u) g)) a new → IsAccepted e n act a new
     enrolled_steps new a readers = q.steps g found new a passed (told_as (with_database d u) (kept_after e n act) _ _ a new was same_flags readers)

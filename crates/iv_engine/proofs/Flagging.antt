@@ -5,13 +5,13 @@ use Rattle.std.specs.List.{list_any}
 use Rattle.iv_algebra.specs.Shapes.{scans as shape_scans}
 use Rattle.iv_circuit.specs.Nodes.{scans_of}
 use Rattle.iv_engine.specs.Counting.{scans_at}
-use Rattle.iv_engine.specs.Kept.{Kept}
+use Rattle.iv_engine.specs.Store.{Store}
 use Rattle.iv_readers.specs.Readers.{RoleCircuit}
 use Rattle.iv_engine.specs.Turned.{WasRead}
 use Rattle.iv_engine.proofs.Touched.{scans_alike}
 
 -- a circuit scans the table where its plan does
-pub scan_flag : (e : Kept) (k : RoleCircuit) (table : ℕ) → WasRead e k → list_any (λ s. s.table == table) (scans_of k.circuit.node) ≡ scans_at e.catalog k.rel table
+pub scan_flag : (e : Store) (k : RoleCircuit) (table : ℕ) → WasRead e k → list_any (λ s. s.table == table) (scans_of k.circuit.node) ≡ scans_at e.catalog k.rel table
 scan_flag e k table was = sym (scans_alike (λ t. t == table) k.circuit.node) ∙ ap (λ p. list_any (λ t. t == table) (shape_scans p)) was.is.plan
 
 -- none is missing where none was found

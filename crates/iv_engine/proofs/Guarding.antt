@@ -22,7 +22,7 @@ use Rattle.iv_engine.specs.Answering.{IsAccepted, IsStep}
 use Rattle.iv_engine.specs.Concerned.{scanning}
 use Rattle.iv_engine.specs.Counting.{scans_at}
 use Rattle.iv_engine.specs.Next.{kept_after}
-use Rattle.iv_engine.specs.Kept.{database_of, with_database, IsRoleCircuit, IsSound, IsStored, Kept, frame_of, with_rights}
+use Rattle.iv_engine.specs.Store.{database_of, with_database, IsRoleCircuit, IsSoundStore, IsStored, Store, frame_of, with_rights}
 use Rattle.iv_readers.specs.Readers.{RoleCircuit}
 use Rattle.iv_engine.specs.Turned.{AreReadersTold, AreWaiting}
 use Rattle.iv_command.specs.declared.answer.Answer.{Answer}
@@ -51,15 +51,15 @@ other_guard change (suc n) (suc k) (g ∷ gs) h = other_guard change n k gs (apa
 
 -- ---- what is kept
 
-abbrev pub guarded : ℕ → (Guard → Guard) → Kept → Kept
+abbrev pub guarded : ℕ → (Guard → Guard) → Store → Store
 guarded table change e = with_rights (record e.known.rights { guards = changed_at table change e.known.rights.guards }) e
 
 -- the relations that are read from the table
-abbrev pub by_table : Kept → (table : ℕ) → (role rel : ℕ) → Bool
+abbrev pub by_table : Store → (table : ℕ) → (role rel : ℕ) → Bool
 by_table e table role rel = scans_at e.catalog rel table
 
-module _ (e : Kept) (table : ℕ) (change : Guard → Guard) where
-  abbrev c : Kept
+module _ (e : Store) (table : ℕ) (change : Guard → Guard) where
+  abbrev c : Store
   c = guarded table change e
 
   abbrev us : List Guard
@@ -90,16 +90,16 @@ module _ (e : Kept) (table : ℕ) (change : Guard → Guard) where
     reads = reads_same e c.known.rights k.role k.rel (λ o. refl) refl ∙ reads;
   }
 
-  pub guard_waiting : IsSound e → AreWaiting c (scanning e table)
+  pub guard_waiting : IsSoundStore e → AreWaiting c (scanning e table)
   guard_waiting h = waiting e e.known.rights.members us e.known.rights.grants (by_table e table) guard_still (guarded_stored h.stored) h
 
 -- ---- the requests
 
 -- the rounds of those that read the table begin anew
-anew_where : (e : Kept) (table k was now : ℕ) (b : Bool) → b ≡ scans_at e.catalog k table → now ≡ cond b 0 was → now ≡ cond (scans_at e.catalog k table) 0 was
+anew_where : (e : Store) (table k was now : ℕ) (b : Bool) → b ≡ scans_at e.catalog k table → now ≡ cond b 0 was → now ≡ cond (scans_at e.catalog k table) 0 was
 anew_where e table k was now b flag is = is ∙ ap (λ x. cond x 0 was) flag
 
-module _ (e : Kept) (n : ℕ) (h : IsSound e) (new : Kept) (a : Answer) where
+module _ (e : Store) (n : ℕ) (h : IsSoundStore e) (new : Store) (a : Answer) where
   pub security_step : (rel : Name) (enable force : Bool) → frame_refusal (frame_of e) n (row_security rel enable force) ≡ None
       → AreReadersTold (kept_after e n (row_security rel enable force)) (scanning e (rel_of e.catalog rel)) a new → IsAccepted e n (row_security rel enable force) a new
   security_step rel enable force passed told =
@@ -146,14 +146,14 @@ module _ (e : Kept) (n : ℕ) (h : IsSound e) (new : Kept) (a : Answer) where
       }) h new a passed told
 
 -- the request has changed the guard of a table of the name
-pub record IsGuarding (e : Kept) (n : ℕ) (act : Act) (rel : Name) : Type 0 where
-  pub same : (v : Kept) → frame_refusal (database.frame_of (database_of v)) n act ≡ frame_refusal (frame_of v) n act
+pub record IsGuarding (e : Store) (n : ℕ) (act : Act) (rel : Name) : Type 0 where
+  pub same : (v : Store) → frame_refusal (database.frame_of (database_of v)) n act ≡ frame_refusal (frame_of v) n act
   pub scans : (t : ℕ) → scanning (kept_after e n act) t ≡ scanning e t
-  pub waits : IsSound e → AreWaiting (kept_after e n act) (scanning e (rel_of e.catalog rel))
-  pub steps : (new : Kept) (a : Answer) → IsSound e → frame_refusal (frame_of e) n act ≡ None
+  pub waits : IsSoundStore e → AreWaiting (kept_after e n act) (scanning e (rel_of e.catalog rel))
+  pub steps : (new : Store) (a : Answer) → IsSoundStore e → frame_refusal (frame_of e) n act ≡ None
       → AreReadersTold (kept_after e n act) (scanning e (rel_of e.catalog rel)) a new → IsAccepted e n act a new
 
-pub security_guards : (e : Kept) (n : ℕ) (rel : Name) (enable force : Bool) → IsGuarding e n (row_security rel enable force) rel
+pub security_guards : (e : Store) (n : ℕ) (rel : Name) (enable force : Bool) → IsGuarding e n (row_security rel enable force) rel
 security_guards e n rel enable force = record {
   same = λ v. refl;
   scans = λ t. refl;
@@ -161,7 +161,7 @@ security_guards e n rel enable force = record {
   steps = λ new a h. security_step e n h new a rel enable force;
 }
 
-pub drop_guards : (e : Kept) (n : ℕ) (rel name : Name) → IsGuarding e n (drop_policy rel name) rel
+pub drop_guards : (e : Store) (n : ℕ) (rel name : Name) → IsGuarding e n (drop_policy rel name) rel
 drop_guards e n rel name = record {
   same = λ v. refl;
   scans = λ t. refl;
@@ -169,7 +169,7 @@ drop_guards e n rel name = record {
   steps = λ new a h. drop_step e n h new a rel name;
 }
 
-pub policy_guards : (e : Kept) (n : ℕ) (p : PolicyText) → IsGuarding e n (create_policy p) p.rel
+pub policy_guards : (e : Store) (n : ℕ) (p : PolicyText) → IsGuarding e n (create_policy p) p.rel
 policy_guards e n p = record {
   same = λ v. refl;
   scans = λ t. refl;
@@ -179,23 +179,23 @@ policy_guards e n p = record {
 
 -- ---- what the database says of such a request
 
-module _ (e u : Kept) (d : Database) (n : ℕ) (act : Act) (rel : Name) (is : u ≡ e) (g : IsGuarding e n act rel) (h : IsSound e) where
+module _ (e u : Store) (d : Database) (n : ℕ) (act : Act) (rel : Name) (is : u ≡ e) (g : IsGuarding e n act rel) (h : IsSoundStore e) where
   module _ (table : RelId) (told : IsGuarded (database_of u) n act rel (Ok table) d) where
     passed : frame_refusal (frame_of e) n act ≡ None
-    passed = ap (λ (v : Kept). frame_refusal (frame_of v) n act) (sym is) ∙ sym (g.same u) ∙ told.0
+    passed = ap (λ (v : Store). frame_refusal (frame_of v) n act) (sym is) ∙ sym (g.same u) ∙ told.0
 
     pub guard_is : with_database d u ≡ kept_after e n act
-    guard_is = ap (λ x. with_database x u) told.2 ∙ ap (λ (v : Kept). kept_after v n act) is
+    guard_is = ap (λ x. with_database x u) told.2 ∙ ap (λ (v : Store). kept_after v n act) is
 
     flags : scanning (with_database d u) table.0 ≡ scanning e (rel_of e.catalog rel)
-    flags = ap (λ (v : Kept). scanning v table.0) guard_is ∙ g.scans table.0 ∙ ap (scanning e) (sym told.1 ∙ ap (λ (v : Kept). rel_of v.catalog rel) is)
+    flags = ap (λ (v : Store). scanning v table.0) guard_is ∙ g.scans table.0 ∙ ap (scanning e) (sym told.1 ∙ ap (λ (v : Store). rel_of v.catalog rel) is)
 
     pub guard_waits : AreWaiting (with_database d u) (scanning (with_database d u) table.0)
     guard_waits = waiting_as (with_database d u) (kept_after e n act) _ _ guard_is flags (g.waits h)
 
-    pub guard_steps : (new : Kept) (a : Answer) → AreReadersTold (with_database d u) (scanning (with_database d u) table.0) a new → IsAccepted e n act a new
+    pub guard_steps : (new : Store) (a : Answer) → AreReadersTold (with_database d u) (scanning (with_database d u) table.0) a new → IsAccepted e n act a new
     guard_steps new a readers = g.steps new a h passed (told_as (with_database d u) (kept_after e n act) _ _ a new guard_is flags readers)
 
   pub guard_stops : (stop : Stop) → IsGuarded (database_of u) n act rel (Err stop) d → IsStep e n act (Err stop) (with_database d u)
-  guard_stops (Refused r) told = refused_step e (with_database d u) n act r (ap (λ (v : Kept). frame_refusal (frame_of v) n act) (sym is) ∙ sym (g.same u) ∙ told.0) (ap (λ x. with_database x u) told.1 ∙ is)
+  guard_stops (Refused r) told = refused_step e (with_database d u) n act r (ap (λ (v : Store). frame_refusal (frame_of v) n act) (sym is) ∙ sym (g.same u) ∙ told.0) (ap (λ x. with_database x u) told.1 ∙ is)
   guard_stops Memory told = tt

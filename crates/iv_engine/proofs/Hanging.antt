@@ -4,24 +4,24 @@ use Rattle.std.proofs.Common.{◌≡◌, ◌∙◌, Bool, [], suc, ap, subst, sy
 use Rattle.iv_machine.specs.Machine.{hung}
 use Rattle.iv_machine.specs.State.{Frame, State}
 use Rattle.iv_database.proofs.Stored.{sessions_stored}
-use Rattle.iv_engine.specs.Kept.{database_of, IsSound, Kept}
+use Rattle.iv_engine.specs.Store.{database_of, IsSoundStore, Store}
 use Rattle.iv_engine.specs.Rounds.{rounds_of}
-use Rattle.iv_engine.specs.Seen.{Seen, IsBehind, closed}
+use Rattle.iv_engine.specs.Engine.{Engine, IsBehind, hung_up}
 use Rattle.iv_engine.proofs.Counted.{none_listed}
 use Rattle.iv_engine.proofs.Running.{shown_by}
 
-pub closed_behind : (s : State) (e new : Seen) → new ≡ closed e → IsBehind s e → IsBehind (hung s) new
-closed_behind s e new h b = subst (λ (v : Seen). IsBehind (hung s) v) (sym h) (record { frame = ap (λ (f : Frame). record f { sessions = []; subscriptions = [] }) b.frame; rows = b.rows })
+pub closed_behind : (s : State) (e new : Engine) → new ≡ hung_up e → IsBehind s e → IsBehind (hung s) new
+closed_behind s e new h b = subst (λ (v : Engine). IsBehind (hung s) v) (sym h) (record { frame = ap (λ (f : Frame). record f { sessions = []; subscriptions = [] }) b.frame; rows = b.rows })
 
-abbrev pub without_sessions : Kept → Kept
+abbrev pub without_sessions : Store → Store
 without_sessions e = record e { sessions = []; subscriptions = []; circuits = [] }
 
 -- what is shown of it
-pub closed_shown : (e k : Kept) (failed : Bool) → k ≡ without_sessions e → shown_by k failed ≡ closed (shown_by e failed)
-closed_shown e k failed h = ap (λ (v : Kept). shown_by v failed) h
+pub closed_shown : (e k : Store) (failed : Bool) → k ≡ without_sessions e → shown_by k failed ≡ hung_up (shown_by e failed)
+closed_shown e k failed h = ap (λ (v : Store). shown_by v failed) h
     ∙ ap (λ xs. record (shown_by (without_sessions e) failed) { rounds = xs }) (none_listed (rounds_of (without_sessions e)) 0 (suc e.last))
 
-pub all_closed : (e : Kept) → IsSound e → IsSound (without_sessions e)
+pub all_closed : (e : Store) → IsSoundStore e → IsSoundStore (without_sessions e)
 all_closed e h = record {
   stored = record {
     numbers = record { unique = tt; given = tt };

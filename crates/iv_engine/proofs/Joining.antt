@@ -2,9 +2,9 @@
 use Rattle.std.proofs.Common.{◌≡◌, ℕ, Bool, true, false, cond, not, List, [], ◌∷◌, length, map, get_or, Option, None, Some, refl, sym, ap, subst, ◌∙◌}
 use Rattle.std.proofs.lemmas.List.{length-map}
 use Rattle.std.specs.Prelude.{is_some, option_map, unwrap_or}
-use Rattle.iv_access.specs.Known.{role_number}
+use Rattle.iv_access.specs.Access.{role_number}
 use Rattle.iv_access.specs.Laws.{ReachesAlike, StaysUnless}
-use Rattle.iv_access.specs.Memberships.{joined, member_of, parted, reaches}
+use Rattle.iv_access.specs.Memberships.{with_membership, member_of, without_membership, reaches}
 use Rattle.iv_access.specs.Privileges.{acts_as, is_admin, role_of}
 use Rattle.iv_access.specs.Rights.{Membership, Name, Rights}
 use Rattle.iv_access.specs.declared.role.RoleId.{RoleId}
@@ -19,10 +19,10 @@ use Rattle.iv_engine.specs.Answering.{IsAccepted}
 use Rattle.iv_readers.specs.Flags.{differ, differing}
 use Rattle.iv_engine.specs.Concerned.{reaches_some, reaching}
 use Rattle.iv_engine.specs.Counting.{IsRebuiltByReach}
-use Rattle.iv_engine.specs.Kept.{IsSound, IsStored, Kept, frame_of, with_rights}
+use Rattle.iv_engine.specs.Store.{IsSoundStore, IsStored, Store, frame_of, with_rights}
 use Rattle.iv_readers.specs.Readers.{RoleCircuit}
 use Rattle.iv_engine.specs.Next.{kept_after}
-use Rattle.iv_engine.specs.Seen.{Seen}
+use Rattle.iv_engine.specs.Engine.{Engine}
 use Rattle.iv_engine.specs.Turned.{AreReadersTold, AreWaiting}
 use Rattle.iv_command.specs.declared.answer.Answer.{Answer}
 use Rattle.iv_engine.proofs.Circling.{seen_circuit}
@@ -48,16 +48,16 @@ differing_maps f g [] = refl
 differing_maps f g (k ∷ ks) = ap (λ bs. differ (f k) (g k) ∷ bs) (differing_maps f g ks)
 
 -- there is one for each circuit
-pub many_flags : (e : Kept) (g : Option RoleId) → length (reaching e g) ≡ length e.circuits
+pub many_flags : (e : Store) (g : Option RoleId) → length (reaching e g) ≡ length e.circuits
 many_flags e g = length-map e.circuits (λ k. reaches_some e.known.rights k.role g)
 
 -- ---- other memberships, by which a role stays as it is unless it comes to reach the group or ceases to
 
-module _ (e : Kept) (ms : List Membership) (group : ℕ) (few : StaysUnless e.known.rights.members ms group) where
+module _ (e : Store) (ms : List Membership) (group : ℕ) (few : StaysUnless e.known.rights.members ms group) where
   abbrev q : Rights
   q = record e.known.rights { members = ms }
 
-  abbrev c : Kept
+  abbrev c : Store
   c = with_rights q e
 
   -- the roles that come to reach the group, or cease to
@@ -80,7 +80,7 @@ module _ (e : Kept) (ms : List Membership) (group : ℕ) (few : StaysUnless e.kn
   member_stored h = righted_stored e ms e.known.rights.guards e.known.rights.grants h.database.guards h
 
   -- the rounds begin anew where the role reaches other roles than before
-  turned_by_flag : (old new : Seen) (role rel was now : ℕ) → old.frame.rights ≡ e.known.rights → new.frame.rights ≡ q → (b : Bool) → turns_reach role rel ≡ b → now ≡ cond b 0 was → IsRebuiltByReach old new role was now
+  turned_by_flag : (old new : Engine) (role rel was now : ℕ) → old.frame.rights ≡ e.known.rights → new.frame.rights ≡ q → (b : Bool) → turns_reach role rel ≡ b → now ≡ cond b 0 was → IsRebuiltByReach old new role was now
   turned_by_flag old new role rel was now a b true on is = record {
     changed = λ other. is;
     same = λ alike. absurd (other_flags (reaches e.known.rights.members role group) (reaches ms role group) on
@@ -91,8 +91,8 @@ module _ (e : Kept) (ms : List Membership) (group : ℕ) (few : StaysUnless e.kn
     same = λ alike. is;
   }
 
-  module _ (h : IsSound e) where
-    pub members_counted : (old new : Seen) (s : Subscription) (was now : ℕ) → old.frame.rights ≡ e.known.rights → new.frame.rights ≡ q → (b : Bool) → b ≡ turns_reach (actor (frame_of e) s.session) s.rel → now ≡ cond b 0 was
+  module _ (h : IsSoundStore e) where
+    pub members_counted : (old new : Engine) (s : Subscription) (was now : ℕ) → old.frame.rights ≡ e.known.rights → new.frame.rights ≡ q → (b : Bool) → b ≡ turns_reach (actor (frame_of e) s.session) s.rel → now ≡ cond b 0 was
         → IsRebuiltByReach old new (actor (frame_of e) s.session) was now
     members_counted old new s was now a b flag is at = turned_by_flag old new (actor (frame_of e) s.session) s.rel was now a b flag (sym is) at
 
@@ -110,7 +110,7 @@ found_number : (o : Option RoleId) (p : Option ℕ) (d : ℕ) → option_map (λ
 found_number None p d h k = let none : false ≡ true = ap (λ x. is_some x) h ∙ k in cc
 found_number (Some g) p d h k = (g, (refl, ap (λ x. unwrap_or x d) h))
 
-module _ (e : Kept) (n : ℕ) (role to : Name) (h : IsSound e) (group : Option RoleId) (found : option_map (λ r. r.0) group ≡ role_of e.known.rights role) where
+module _ (e : Store) (n : ℕ) (role to : Name) (h : IsSoundStore e) (group : Option RoleId) (found : option_map (λ r. r.0) group ≡ role_of e.known.rights role) where
   abbrev number : ℕ
   number = role_number e.known.rights role
 
@@ -121,7 +121,7 @@ module _ (e : Kept) (n : ℕ) (role to : Name) (h : IsSound e) (group : Option R
   r = e.known.rights
 
   module _ (act : Act) (ms : List Membership) (few : StaysUnless r.members ms number) (known : is_some (role_of r role) ≡ true) where
-    abbrev d : Kept
+    abbrev d : Store
     d = with_rights (record r { members = ms }) e
 
     concerned_is : differing (reaching e group) (reaching d group) ≡ flags_of (turns_reach e ms number few) e.circuits
@@ -134,7 +134,7 @@ module _ (e : Kept) (n : ℕ) (role to : Name) (h : IsSound e) (group : Option R
   -- ---- a membership that comes
 
   abbrev joined_members : List Membership
-  joined_members = joined (member_of number member) r.members
+  joined_members = with_membership (member_of number member) r.members
 
   few_join : StaysUnless r.members joined_members number
   few_join = λ x same other. come_apart r.members number member x same other
@@ -149,7 +149,7 @@ module _ (e : Kept) (n : ℕ) (role to : Name) (h : IsSound e) (group : Option R
       subst (AreWaiting (kept_after e n (grant_role role to))) (sym (concerned_is (grant_role role to) joined_members few_join known))
       (waiting e joined_members r.guards r.grants (turns_reach e joined_members number few_join) (member_still e joined_members number few_join) (member_stored e joined_members number few_join h.stored) h)
 
-  pub joined_step : (new : Kept) (a : Answer) → frame_refusal (frame_of e) n (grant_role role to) ≡ None
+  pub joined_step : (new : Store) (a : Answer) → frame_refusal (frame_of e) n (grant_role role to) ≡ None
       → AreReadersTold (kept_after e n (grant_role role to)) (differing (reaching e group) (reaching (kept_after e n (grant_role role to)) group)) a new → IsAccepted e n (grant_role role to) a new
   joined_step new a passed told =
       let ms = joined_members in
@@ -169,7 +169,7 @@ module _ (e : Kept) (n : ℕ) (role to : Name) (h : IsSound e) (group : Option R
   -- ---- one that goes
 
   abbrev parted_members : List Membership
-  parted_members = parted (member_of number member) r.members
+  parted_members = without_membership (member_of number member) r.members
 
   few_part : StaysUnless r.members parted_members number
   few_part = λ x same other. gone_apart r.members number member x same other
@@ -180,7 +180,7 @@ module _ (e : Kept) (n : ℕ) (role to : Name) (h : IsSound e) (group : Option R
       subst (AreWaiting (kept_after e n (revoke_role role to))) (sym (concerned_is (revoke_role role to) parted_members few_part known))
       (waiting e parted_members r.guards r.grants (turns_reach e parted_members number few_part) (member_still e parted_members number few_part) (member_stored e parted_members number few_part h.stored) h)
 
-  pub parted_step : (new : Kept) (a : Answer) → frame_refusal (frame_of e) n (revoke_role role to) ≡ None
+  pub parted_step : (new : Store) (a : Answer) → frame_refusal (frame_of e) n (revoke_role role to) ≡ None
       → AreReadersTold (kept_after e n (revoke_role role to)) (differing (reaching e group) (reaching (kept_after e n (revoke_role role to)) group)) a new → IsAccepted e n (revoke_role role to) a new
   parted_step new a passed told =
       let ms = parted_members in

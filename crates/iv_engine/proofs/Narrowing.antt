@@ -16,7 +16,7 @@ use Rattle.iv_database.specs.Owned.{IsGuarded}
 use Rattle.iv_machine.specs.Act.{PolicyText, create_policy}
 use Rattle.iv_machine.specs.Changing.{policy_for}
 use Rattle.iv_machine.specs.State.{rel_of}
-use Rattle.iv_engine.specs.Kept.{database_of, with_database, IsRoleCircuit, IsSound, Kept, frame_of}
+use Rattle.iv_engine.specs.Store.{database_of, with_database, IsRoleCircuit, IsSoundStore, Store, frame_of}
 use Rattle.iv_engine.specs.Turned.{IsNarrowed}
 use Rattle.iv_readers.proofs.Lists.{all_map}
 use Rattle.iv_engine.proofs.Guarding.{guard_is, guarded, policy_guards}
@@ -49,7 +49,7 @@ neither_way : {A : Type 0} (b : Bool) → b ≡ true → b ≡ false → A
 neither_way true h g = cc
 neither_way false h g = cc
 
-narrowed : (e : Kept) (t : ℕ) (p : Policy) → p.restrictive ≡ true → IsSound e → AllByRecursion (IsNarrowed (guarded t (further p) e) None) e.circuits
+narrowed : (e : Store) (t : ℕ) (p : Policy) → p.restrictive ≡ true → IsSoundStore e → AllByRecursion (IsNarrowed (guarded t (further p) e) None) e.circuits
 narrowed e t p restrictive h = all_map (IsRoleCircuit e) (IsNarrowed (guarded t (further p) e) None) e.circuits
     (λ k i. record {
       rights = e.known.rights;
@@ -58,8 +58,8 @@ narrowed e t p restrictive h = all_map (IsRoleCircuit e) (IsNarrowed (guarded t 
       kept = λ some. let no : false ≡ true = some in cc;
     }) h.circuits
 
-pub policy_narrows : (e u : Kept) (d : Database) (n : ℕ) (p : PolicyText) (is : u ≡ e) (h : IsSound e) (table : RelId) → IsGuarded (database_of u) n (create_policy p) p.rel (Ok table) d
+pub policy_narrows : (e u : Store) (d : Database) (n : ℕ) (p : PolicyText) (is : u ≡ e) (h : IsSoundStore e) (table : RelId) → IsGuarded (database_of u) n (create_policy p) p.rel (Ok table) d
     → p.restrictive ≡ true → AllByRecursion (IsNarrowed (with_database d u) None) (with_database d u).circuits
 policy_narrows e u d n p is h table told restrictive =
-    subst (λ (v : Kept). AllByRecursion (IsNarrowed v None) v.circuits) (sym (guard_is e u d n (create_policy p) p.rel is (policy_guards e n p) h table told))
+    subst (λ (v : Store). AllByRecursion (IsNarrowed v None) v.circuits) (sym (guard_is e u d n (create_policy p) p.rel is (policy_guards e n p) h table told))
     (narrowed e (rel_of e.catalog p.rel) (policy_for (frame_of e) p) restrictive h)

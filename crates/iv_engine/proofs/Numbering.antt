@@ -11,9 +11,9 @@ use Rattle.std.proofs.lemmas.Bool.Decides.{nat_tests}
 use Rattle.iv_machine.specs.Reached.{AreGiven, AreNumbersUnique, AreUnique}
 use Rattle.iv_machine.specs.State.{Frame, Subscription, start}
 use Rattle.iv_engine.specs.Answering.{seen}
-use Rattle.iv_engine.specs.Kept.{Kept, frame_of}
+use Rattle.iv_engine.specs.Store.{Store, frame_of}
 use Rattle.iv_engine.specs.Rounds.{by_number, of_number, rounds, rounds_of}
-use Rattle.iv_engine.specs.Seen.{HasRoundsOfOpen}
+use Rattle.iv_engine.specs.Engine.{HasRoundsOfOpen}
 use Rattle.iv_engine.proofs.Counted.{none_listed}
 use Rattle.iv_engine.proofs.Running.{shown_by}
 
@@ -172,16 +172,16 @@ module _ (f : Subscription → ℕ) where
 
 -- ---- of an engine
 
-pub rounds_of_open : (e : Kept) → AreNumbersUnique (frame_of e) → HasRoundsOfOpen (seen e)
+pub rounds_of_open : (e : Store) → AreNumbersUnique (frame_of e) → HasRoundsOfOpen (seen e)
 rounds_of_open e h = record {
   rising = rising (rounds_of e) e.subscriptions h.unique 0 (suc e.last);
   those = λ n. those_open (rounds_of e) n e.last e.subscriptions h.given;
 }
 
 -- whether it has failed or not
-pub rounds_shown : (e : Kept) (failed : Bool) → AreNumbersUnique (frame_of e) → HasRoundsOfOpen (shown_by e failed)
+pub rounds_shown : (e : Store) (failed : Bool) → AreNumbersUnique (frame_of e) → HasRoundsOfOpen (shown_by e failed)
 rounds_shown e failed h = let x = rounds_of_open e h in record { rising = x.rising; those = x.those }
 
 -- none at the start
-pub none_at_start : (cap : ℕ) (e : Kept) → (start cap).frame ≡ frame_of e → rounds e ≡ []
+pub none_at_start : (cap : ℕ) (e : Store) → (start cap).frame ≡ frame_of e → rounds e ≡ []
 none_at_start cap e h = ap (λ (f : Frame). by_number (rounds_of e) f.subscriptions 0 (suc e.last)) (sym h) ∙ none_listed (rounds_of e) 0 (suc e.last)

@@ -7,7 +7,7 @@ use Rattle.std.specs.Global.{Vec}
 use Rattle.iv_zset.specs.Limits.{Counts}
 use Rattle.iv_zset.specs.Weights.{Weighed}
 use Rattle.iv_algebra.specs.Plans.{Lists}
-use Rattle.iv_bind.specs.Faults.{if_some}
+use Rattle.iv_rows.specs.Options.{if_some}
 use Rattle.iv_access.specs.Rights.{Name}
 use Rattle.iv_circuit.specs.Circuits.{Running}
 use Rattle.iv_circuit.specs.Nodes.{total_of}
@@ -15,9 +15,9 @@ use Rattle.iv_machine.specs.Act as machine
 use Rattle.iv_machine.specs.Act.{subscribe}
 use Rattle.iv_machine.specs.Refusing.{full, missing, refusal, or_else, test}
 use Rattle.iv_machine.specs.Split.{rows_refusal}
-use Rattle.iv_machine.specs.State.{State, Subscription, actor, is_within, is_within_for, missing_for, plan_at, rel_of, subscription_of, shown, view_of}
+use Rattle.iv_machine.specs.State.{State, Subscription, actor, is_within, is_within_for, missing_for, plan_at, rel_of, subscription_of, shown, view_shown}
 use Rattle.iv_machine.specs.Changing.{after, insert_subscription}
-use Rattle.iv_machine.specs.Machine.{changes, line_for, line_of as machine_line, ending, settled, difference}
+use Rattle.iv_machine.specs.Machine.{changes, line_for, lines_told as machine_line, ending, settled, difference}
 use Rattle.iv_machine.specs.Reached.{AreNumbersUnique}
 use Rattle.iv_machine.proofs.Reached.{after_numbers, next_is_new}
 use Rattle.iv_machine.proofs.Splitting.{split}
@@ -28,13 +28,13 @@ use Rattle.iv_engine.specs.Counting.{AreCounted}
 use Rattle.iv_readers.specs.Each.{Each}
 use Rattle.iv_engine.specs.Found.{total_at}
 use Rattle.iv_readers.specs.Held.{HasComeTo, come_to}
-use Rattle.iv_engine.specs.Kept.{Kept, database_of, IsCircuitFor, IsOpen, IsRoleCircuit, IsSound, IsWithin, at, frame_of, is_read, may_read, place_of, shown_rows}
+use Rattle.iv_engine.specs.Store.{Store, database_of, IsCircuitFor, IsOpen, IsRoleCircuit, IsSoundStore, IsWithin, at, frame_of, is_read, may_read, place_of, shown_rows}
 use Rattle.iv_readers.specs.Readers.{RoleCircuit, WereOpened, is_for, opened_to, IsServed}
-use Rattle.iv_database.specs.Database.{acts_as}
+use Rattle.iv_database.specs.Database.{session_acts_as}
 use Rattle.iv_database.specs.Target.{IsActingOn}
 use Rattle.iv_engine.specs.Openable.{AreFirstLines, HasCircuitAt, IsLike, IsNewFor, IsOpenable, MayOpen, with_subscription}
 use Rattle.iv_engine.specs.Rounds.{beside_number, rounds, rounds_of}
-use Rattle.iv_engine.specs.Seen.{IsBehind}
+use Rattle.iv_engine.specs.Engine.{IsBehind}
 use Rattle.iv_database.specs.Stands.{Stands}
 use Rattle.iv_command.specs.Views.{line_of, reply_of}
 use Rattle.iv_command.specs.declared.command.Line.{Line}
@@ -58,11 +58,11 @@ use Rattle.iv_engine.proofs.Unread.{place_found, place_more, reads_it}
 -- ---- what is kept
 
 -- perhaps with a new circuit behind the others
-abbrev pub with_more : Kept → List RoleCircuit → Kept
+abbrev pub with_more : Store → List RoleCircuit → Store
 with_more e added = record e { circuits = e.circuits ++ added }
 
 -- and with the subscription, which reads the circuit at the place
-abbrev pub opened : Kept → List RoleCircuit → (place : ℕ) → Subscription → Kept
+abbrev pub opened : Store → List RoleCircuit → (place : ℕ) → Subscription → Store
 opened e added place s = with_subscription s place (with_more e added)
 
 -- what one subscription passes, one passes after another is inserted; and where that passes one does
@@ -136,11 +136,11 @@ self_le r = omega arith
 below_next : (m last : ℕ) → m ≤ last → (m == last + 1) ≡ false
 below_next m last h = grind (arith, nat_tests)
 
-abbrev pub asked : Kept → ℕ → ℕ → Subscription
+abbrev pub asked : Store → ℕ → ℕ → Subscription
 asked e n k = record { session = n; number = e.last + 1; rel = k }
 
 -- the test that looks at rows
-module _ (e : Kept) (n k : ℕ) (name : Name) (x : IsOpenable e n name k) (T : Lists) where
+module _ (e : Store) (n k : ℕ) (name : Name) (x : IsOpenable e n name k) (T : Lists) where
   rows_test : refusal (at e T) n (subscribe name) ≡ test (not (is_within (at e T) (asked e n k))) machine.limit
   rows_test = split (at e T) n (subscribe name)
       ∙ (λ i. or_else (x.passed i) (rows_refusal (at e T) n (subscribe name)))
@@ -152,12 +152,12 @@ module _ (e : Kept) (n k : ℕ) (name : Name) (x : IsOpenable e n name k) (T : L
   pub decided : is_within (at e T) (asked e n k) ≡ true → refusal (at e T) n (subscribe name) ≡ None
   decided w = rows_test ∙ ap (λ b. test (not b) machine.limit) w
 
-module _ (e : Kept) (n k : ℕ) (name : Name) (h : IsSound e) (x : IsOpenable e n name k) (fits : IsWithin e (asked e n k))
+module _ (e : Store) (n k : ℕ) (name : Name) (h : IsSoundStore e) (x : IsOpenable e n name k) (fits : IsWithin e (asked e n k))
     (added : List RoleCircuit) (are : AllByRecursion (IsNewFor e (actor (frame_of e) n) k) added) (place : ℕ) (first : position (is_for (actor (frame_of e) n) k) (e.circuits ++ added) ≡ Some place) where
   abbrev s : Subscription
   s = asked e n k
 
-  abbrev new : Kept
+  abbrev new : Store
   new = opened e added place s
 
   numbers : AreNumbersUnique (frame_of new)
@@ -177,10 +177,10 @@ module _ (e : Kept) (n k : ℕ) (name : Name) (h : IsSound e) (x : IsOpenable e 
   })
 
   old_read : (c : RoleCircuit) → is_read (frame_of e) c ≡ true → is_read (frame_of new) c ≡ true
-  old_read c r = any_inserted (λ y. (y.rel == c.rel) && acts_as (frame_of e) y.session c.role) s e.subscriptions r
+  old_read c r = any_inserted (λ y. (y.rel == c.rel) && session_acts_as (frame_of e) y.session c.role) s e.subscriptions r
 
   new_read : (c : RoleCircuit) → IsNewFor e (actor (frame_of e) n) k c → is_read (frame_of new) c ≡ true
-  new_read c i = own_inserted (λ y. (y.rel == c.rel) && acts_as (frame_of e) y.session c.role) s e.subscriptions (reads_it (frame_of e) s c x.opened i.acts i.shows)
+  new_read c i = own_inserted (λ y. (y.rel == c.rel) && session_acts_as (frame_of e) y.session c.role) s e.subscriptions (reads_it (frame_of e) s c x.opened i.acts i.shows)
 
   opens : (c : RoleCircuit) → IsRoleCircuit new c → IsRoleCircuit new (opened_to s.number c)
   opens c i = record { known = i.known; is = i.is; opened = record { came = i.opened.came; each = (self_le c.circuit.rounds, i.opened.each) } }
@@ -195,7 +195,7 @@ module _ (e : Kept) (n k : ℕ) (name : Name) (h : IsSound e) (x : IsOpenable e 
   new_place : is_some (place_of new s) ≡ true
   new_place = ap (λ (o : Option ℕ). is_some o) (place_same (actor (frame_of e) n) k (e.circuits ++ added) new.circuits readers ∙ first)
 
-  pub opened_sound : IsSound new
+  pub opened_sound : IsSoundStore new
   opened_sound = record {
     stored = record {
       numbers = numbers;
@@ -250,7 +250,7 @@ module _ (e : Kept) (n k : ℕ) (name : Name) (h : IsSound e) (x : IsOpenable e 
     P y = IsShown new y × (ending (at new T) y ≡ None)
 
     before : shown (at e T) (e.last + 1) ≡ []
-    before = ap (λ o. if_some o [] (view_of (at e T))) (not_found (e.last + 1) e.subscriptions (next_is_new e.last e.subscriptions h.stored.numbers.given))
+    before = ap (λ o. if_some o [] (view_shown (at e T))) (not_found (e.last + 1) e.subscriptions (next_is_new e.last e.subscriptions h.stored.numbers.given))
 
     pub opened_left : settled (subscribe name) (after (at e T) n (subscribe name)) ≡ at new T
     opened_left = ap (settled (subscribe name)) after_is ∙ ap (λ ss. at (record new { subscriptions = ss }) T) (none_settled new T opened_sound stands)
@@ -283,7 +283,7 @@ subscribed_no_refusal k r h = cc
 -- ---- its circuit, and its first lines
 
 -- a role comes to a circuit of what the relation shows to it
-pub come_at : (e new : Kept) (role rel place : ℕ) (c : Running) → position (is_for role rel) e.circuits ≡ None → IsCircuitFor e role (plan_at e.catalog rel) c → place ≡ length e.circuits
+pub come_at : (e new : Store) (role rel place : ℕ) (c : Running) → position (is_for role rel) e.circuits ≡ None → IsCircuitFor e role (plan_at e.catalog rel) c → place ≡ length e.circuits
     → (ks : List RoleCircuit) → HasComeTo e.circuits role rel c ks → new ≡ record e { circuits = ks } → HasCircuitAt e role rel place new
 come_at e d role rel place c none is at ks come state =
     let k = come_to role rel come.at c in
@@ -292,14 +292,14 @@ come_at e d role rel place c none is at ks come state =
       added = k ∷ [];
       is = (record { acts = refl; shows = refl; is = is; came = refl; opened = refl }, tt);
       shared = λ h. let no : false ≡ true = ap (λ (o : Option ℕ). is_some o) (sym none) ∙ h in cc;
-      first = ap (λ (v : Kept). position (is_for role rel) v.circuits) left
+      first = ap (λ (v : Store). position (is_for role rel) v.circuits) left
           ∙ place_pushed (is_for role rel) k (is_own role rel come.at c) e.circuits none
           ∙ ap (λ j. Some j) (sym at);
       state = left;
     }
 
 -- a circuit that lets through what the role may see is one of the role
-pub like_is : (e : Kept) → AllByRecursion (IsRoleCircuit e) e.circuits → (role rel : ℕ) (o : Option ℕ) → IfSome o (IsServed e.circuits e.known.rights role rel) → IfSome o (IsLike e role rel)
+pub like_is : (e : Store) → AllByRecursion (IsRoleCircuit e) e.circuits → (role rel : ℕ) (o : Option ℕ) → IfSome o (IsServed e.circuits e.known.rights role rel) → IfSome o (IsLike e role rel)
 like_is e are role rel None h = tt
 like_is e are role rel (Some place) h = record {
   low = h.low;
@@ -308,7 +308,7 @@ like_is e are role rel (Some place) h = record {
       subst (λ r. IsCircuitFor e role (plan_at e.catalog r) k.circuit) (h.shows k at) (serves_circuit e e.known.rights k.role role (plan_at e.catalog k.rel) k.circuit i.is (h.serves k at));
 }
 
-pub first_lines : (e : Kept) (place : ℕ) (k : RoleCircuit) → place < length e.circuits → k ≡ get_or e.circuits place k → (s : Subscription) (showed : Weighed) → showed ≡ total_of k.circuit.node
+pub first_lines : (e : Store) (place : ℕ) (k : RoleCircuit) → place < length e.circuits → k ≡ get_or e.circuits place k → (s : Subscription) (showed : Weighed) → showed ≡ total_of k.circuit.node
     → (rows : Weighed) → AreInOrder showed false rows → (lines : List machine.Line) → lines ≡ machine_line None s rows → AreFirstLines s (total_at e place) lines
 first_lines e place k low at s showed is rows order lines told all counts =
     let total = ap (λ o. if_some o [] (λ (c : RoleCircuit). total_of c.circuit.node)) (slot_is e.circuits place k low at) ∙ sym is in
@@ -317,26 +317,26 @@ first_lines e place k low at s showed is rows order lines told all counts =
 -- ---- the step
 
 -- the first tests refuse it
-pub not_acting : (e : Kept) (n : ℕ) (name : Name) (stop : Stop) → IsActingOn (database_of e) n name (Err stop) → MayOpen e n name (Err stop)
+pub not_acting : (e : Store) (n : ℕ) (name : Name) (stop : Stop) → IsActingOn (database_of e) n name (Err stop) → MayOpen e n name (Err stop)
 not_acting e n name (Refused r) told =
     let f = frame_of e in
     told (missing f (missing_for f (actor f n) (rel_of f.catalog name)) ∷ full 16 (count_by (λ s. n == s.session) f.subscriptions) ∷ full (2 ^ 63) (f.last + 1) ∷ [])
 not_acting e n name Memory told = tt
 
 -- all tests that look at no row
-pub not_opened : (e : Kept) (n : ℕ) (name : Name) (stop : Stop) → MayOpen e n name (Err stop) → IsStep e n (subscribe name) (Err stop) e
+pub not_opened : (e : Store) (n : ℕ) (name : Name) (stop : Stop) → MayOpen e n name (Err stop) → IsStep e n (subscribe name) (Err stop) e
 not_opened e n name (Refused r) told = refused_step e e n (subscribe name) r told refl
 not_opened e n name Memory told = tt
 
-module _ (e : Kept) (n k : ℕ) (name : Name) (h : IsSound e) (x : IsOpenable e n name k) (role : ℕ) (acts : role ≡ actor (frame_of e) n) where
+module _ (e : Store) (n k : ℕ) (name : Name) (h : IsSoundStore e) (x : IsOpenable e n name k) (role : ℕ) (acts : role ≡ actor (frame_of e) n) where
   -- where what it would show is beyond the limits
-  pub beyond_step : (new : Kept) → new ≡ e → IsBeyond e role (plan_at e.catalog k) → IsRefused e n (subscribe name) Limit new
+  pub beyond_step : (new : Store) → new ≡ e → IsBeyond e role (plan_at e.catalog k) → IsRefused e n (subscribe name) Limit new
   beyond_step d same past = record {
     told = λ T stands. beyond e n k name x T (subst (λ r. is_within_for (at e T) r k ≡ false) acts (past T stands));
     kept = same;
   }
 
-  module _ (place : ℕ) (mid : Kept) (got : HasCircuitAt e role k place mid) where
+  module _ (place : ℕ) (mid : Store) (got : HasCircuitAt e role k place mid) where
     abbrev added : List RoleCircuit
     added = got.added
 
@@ -344,7 +344,7 @@ module _ (e : Kept) (n k : ℕ) (name : Name) (h : IsSound e) (x : IsOpenable e 
     are = subst (λ r. AllByRecursion (IsNewFor e r k) added) acts got.is
 
     -- with the circuit, and without the subscription yet
-    abbrev joined : Kept
+    abbrev joined : Store
     joined = record e { circuits = e.circuits ++ added }
 
     first : position (is_for (actor (frame_of e) n) k) (e.circuits ++ added) ≡ Some place
@@ -367,15 +367,15 @@ module _ (e : Kept) (n k : ℕ) (name : Name) (h : IsSound e) (x : IsOpenable e 
     fits : IsWithin e (asked e n k)
     fits = circuits_within joined circuits (asked e n k) found
 
-    module _ (s : Subscription) (same : s ≡ asked e n k) (lines : Vec Line) (told : AreFirstLines s (total_at mid place) (map line_of lines.items)) (new : Kept) (left : new ≡ with_subscription s place mid) where
-      abbrev now : Kept
+    module _ (s : Subscription) (same : s ≡ asked e n k) (lines : Vec Line) (told : AreFirstLines s (total_at mid place) (map line_of lines.items)) (new : Store) (left : new ≡ with_subscription s place mid) where
+      abbrev now : Store
       now = opened e added place (asked e n k)
 
       now_is : new ≡ now
       now_is = left ∙ (λ i. with_subscription (same i) place (got.state i))
 
       counts : (T : Lists) → Stands T e.tables → Counts (total_at mid place) (shown_rows e T (asked e n k))
-      counts T stands = subst (λ (v : Kept). Counts (total_at v place) (shown_rows e T (asked e n k))) (sym got.state) (total_counts joined circuits T stands (asked e n k) place first)
+      counts T stands = subst (λ (v : Store). Counts (total_at v place) (shown_rows e T (asked e n k))) (sym got.state) (total_counts joined circuits T stands (asked e n k) place first)
 
       lines_sent : (T : Lists) (stands : Stands T e.tables) → map line_of lines.items ≡ sent e T n (subscribe name)
       lines_sent T stands = told (shown_rows e T (asked e n k)) (counts T stands)
@@ -387,8 +387,8 @@ module _ (e : Kept) (n k : ℕ) (name : Name) (h : IsSound e) (x : IsOpenable e 
       opened_step reply is = record {
         answer = λ T stands. (decided e n k name x T (fits T stands), is ∙ ap (λ (y : Subscription). machine.subscribed y.number) same, lines_sent T stands);
         left = λ T stands. subst (λ (t : State). IsBehind t (seen new)) (sym (opened_left e n k name h x fits added are place first T stands))
-            (subst (λ (v : Kept). IsBehind (at now T) (seen v)) (sym now_is) (record { frame = refl; rows = stands }));
+            (subst (λ (v : Store). IsBehind (at now T) (seen v)) (sym now_is) (record { frame = refl; rows = stands }));
         accepts = λ r no. subscribed_no_refusal s.number r (sym is ∙ no);
-        rounds = subst (λ (v : Kept). AreCounted (seen e) (subscribe name) (seen v)) (sym now_is) (opened_counted e n k name h x fits added are place first);
-        sound = subst IsSound (sym now_is) (opened_sound e n k name h x fits added are place first);
+        rounds = subst (λ (v : Store). AreCounted (seen e) (subscribe name) (seen v)) (sym now_is) (opened_counted e n k name h x fits added are place first);
+        sound = subst IsSoundStore (sym now_is) (opened_sound e n k name h x fits added are place first);
       }

@@ -5,8 +5,8 @@ use Rattle.std.specs.List.{AllByRecursion, list_any, position_or_len}
 use Rattle.iv_machine.specs.State.{Frame}
 use Rattle.iv_readers.specs.Each.{Each, HaveBecome}
 use Rattle.iv_readers.specs.Readers.{RoleCircuit, is_for}
-use Rattle.iv_engine.specs.Kept.{is_read}
-use Rattle.iv_database.specs.Database.{acts_as}
+use Rattle.iv_engine.specs.Store.{is_read}
+use Rattle.iv_database.specs.Database.{session_acts_as}
 
 -- the same role and relation
 pub record IsSameReader (k n : RoleCircuit) : Type 0 where
@@ -44,4 +44,4 @@ read_still f [] [] h a = tt
 read_still f [] (n ∷ ns) h a = absurd h
 read_still f (k ∷ ks) [] h a = absurd h
 read_still f (k ∷ ks) (n ∷ ns) h a =
-    ((λ i. list_any (λ s. (s.rel == h.0.rel i) && acts_as f s.session (h.0.role i)) f.subscriptions) ∙ a.0, read_still f ks ns h.1 a.1)
+    ((λ i. list_any (λ s. (s.rel == h.0.rel i) && session_acts_as f s.session (h.0.role i)) f.subscriptions) ∙ a.0, read_still f ks ns h.1 a.1)

@@ -4,7 +4,7 @@ use Rattle.std.specs.Prelude.{IfSome, filter, flat_map, is_some}
 use Rattle.std.specs.List.{AllByRecursion}
 use Rattle.iv_zset.specs.Limits.{Counts}
 use Rattle.iv_algebra.specs.Plans.{Lists}
-use Rattle.iv_bind.specs.Faults.{if_some}
+use Rattle.iv_rows.specs.Options.{if_some}
 use Rattle.iv_access.specs.Laws.{ReachesAlike}
 use Rattle.iv_access.specs.Privileges.{first_missing}
 use Rattle.iv_access.specs.Rights.{Grant, Guard, Membership, Rights}
@@ -13,10 +13,10 @@ use Rattle.iv_access.specs.declared.privilege.Privilege.TheVariants.{Select}
 use Rattle.iv_machine.specs.Act as machine
 use Rattle.iv_machine.specs.Act.{Act}
 use Rattle.iv_machine.specs.Changing.{after}
-use Rattle.iv_machine.specs.Machine.{changes, difference, ending, ending_by, first_cause, line_for, line_of as machine_line, reply_to, settled}
+use Rattle.iv_machine.specs.Machine.{changes, difference, ending, ending_by, first_cause, line_for, lines_told as machine_line, reply_to, settled}
 use Rattle.iv_machine.specs.Refusing.{or_else, refusal}
 use Rattle.iv_machine.specs.Split.{frame_refusal, rows_refusal}
-use Rattle.iv_machine.specs.State.{State, Subscription, actor, is_within, missing_for, needs_at, plan_at, subscription_of, view_of}
+use Rattle.iv_machine.specs.State.{State, Subscription, actor, is_within, missing_for, needs_at, plan_at, subscription_of, view_shown}
 use Rattle.iv_machine.specs.declared.Cause.{Cause}
 use Rattle.iv_machine.proofs.Reached.{given_kept, unique_kept}
 use Rattle.iv_machine.proofs.Splitting.{split}
@@ -25,10 +25,10 @@ use Rattle.iv_engine.specs.Counting.{TurnsRounds}
 use Rattle.iv_readers.specs.Each.{Each}
 use Rattle.iv_engine.specs.Found.{beside_of, total_at}
 use Rattle.iv_database.proofs.Stored.{rights_stored}
-use Rattle.iv_engine.specs.Kept.{database_of, IsOpen, IsRoleCircuit, IsSound, IsStored, IsWithin, Kept, at, frame_of, is_read, may_read, place_of, role_reads, shown_rows, with_rights}
+use Rattle.iv_engine.specs.Store.{database_of, IsOpen, IsRoleCircuit, IsSoundStore, IsStored, IsWithin, Store, at, frame_of, is_read, may_read, place_of, role_reads, shown_rows, with_rights}
 use Rattle.iv_readers.specs.Readers.{RoleCircuit}
 use Rattle.iv_engine.specs.Rounds.{rounds_of}
-use Rattle.iv_engine.specs.Seen.{IsBehind}
+use Rattle.iv_engine.specs.Engine.{IsBehind}
 use Rattle.iv_database.specs.Stands.{Stands}
 use Rattle.iv_engine.specs.Turned.{AreReadersTold, AreShowed, AreWaiting, IsOther, IsStill, WasRead, stays_open, turned_by, turned_line}
 use Rattle.iv_command.specs.Views.{line_of, reply_of}
@@ -51,11 +51,11 @@ first_same r q role reach [] h = refl
 first_same r q role reach (p ∷ ps) h = λ i. cond (has_same r q role reach p.0 p.1 h i) (first_same r q role reach ps h i) (Some p)
 
 -- the same where it reaches the same roles and the grants are the same
-pub reads_same : (e : Kept) (q : Rights) (role rel : ℕ) → ReachesAlike e.known.rights q.members role → q.grants ≡ e.known.rights.grants → role_reads (with_rights q e) role rel ≡ role_reads e role rel
+pub reads_same : (e : Store) (q : Rights) (role rel : ℕ) → ReachesAlike e.known.rights q.members role → q.grants ≡ e.known.rights.grants → role_reads (with_rights q e) role rel ≡ role_reads e role rel
 reads_same e q role rel reach grants = ap (λ o. not (is_some o)) (first_same q e.known.rights role reach (map (λ r. (Select, r)) (needs_at e.catalog rel)) grants)
 
 -- of a circuit that is read the role may read the relation
-circuits_read : (e : Kept) → (ss : List Subscription) → AllByRecursion (λ s. may_read e s ≡ true) e.subscriptions → (ks : List RoleCircuit)
+circuits_read : (e : Store) → (ss : List Subscription) → AllByRecursion (λ s. may_read e s ≡ true) e.subscriptions → (ks : List RoleCircuit)
     → AllByRecursion (λ k. is_read (frame_of e) k ≡ true) ks → AllByRecursion (λ k. role_reads e k.role k.rel ≡ true) ks
 circuits_read e ss served ks read = all_map (λ k. is_read (frame_of e) k ≡ true) (λ k. role_reads e k.role k.rel ≡ true) ks
     (λ k mine. read_has (frame_of e) k (λ role rel. role_reads e role rel ≡ true) mine served) read
@@ -72,7 +72,7 @@ module _ (F : ℕ → ℕ → Bool) where
   each_flag (k ∷ ks) = (refl, each_flag ks)
 
   -- what stands beside the circuit of a subscription
-  pub flag_beside : (e : Kept) (s : Subscription) → is_some (place_of e s) ≡ true → beside_of false e (flags_of e.circuits) s ≡ F (actor (frame_of e) s.session) s.rel
+  pub flag_beside : (e : Store) (s : Subscription) → is_some (place_of e s) ≡ true → beside_of false e (flags_of e.circuits) s ≡ F (actor (frame_of e) s.session) s.rel
   flag_beside e s there =
       let role = actor (frame_of e) s.session in
       beside_each role s.rel false (λ k b. b ≡ F k.role k.rel) (λ b. b ≡ F role s.rel) (λ k b x y is. is ∙ (λ i. F (x i) (y i))) e.circuits (flags_of e.circuits) (each_flag e.circuits) there
@@ -97,24 +97,24 @@ each_of P (s ∷ ss) go = (go s, each_of P ss go)
 
 -- ---- circuits before readers are told
 
-pub were_read_now : (e : Kept) → IsSound e → AllByRecursion (WasRead e) e.circuits
+pub were_read_now : (e : Store) → IsSoundStore e → AllByRecursion (WasRead e) e.circuits
 were_read_now e h = all_map (IsRoleCircuit e) (WasRead e) e.circuits
     (λ k i. record { known = i.known; bag = bag_for e k.role k.rel k.circuit i.is h.stored; rights = e.known.rights; is = i.is; opened = i.opened }) h.circuits
 
 -- in another state with other flags, where both are the same
-pub waiting_as : (v u : Kept) (bs cs : List Bool) → v ≡ u → bs ≡ cs → AreWaiting u cs → AreWaiting v bs
-waiting_as v u bs cs is same h = subst (λ (x : Kept). AreWaiting x bs) (sym is) (subst (AreWaiting u) (sym same) h)
+pub waiting_as : (v u : Store) (bs cs : List Bool) → v ≡ u → bs ≡ cs → AreWaiting u cs → AreWaiting v bs
+waiting_as v u bs cs is same h = subst (λ (x : Store). AreWaiting x bs) (sym is) (subst (AreWaiting u) (sym same) h)
 
-pub told_as : (v u : Kept) (bs cs : List Bool) (a : Answer) (new : Kept) → v ≡ u → bs ≡ cs → AreReadersTold v bs a new → AreReadersTold u cs a new
-told_as v u bs cs a new is same h = subst (λ (x : Kept). AreReadersTold x cs a new) is (subst (λ (xs : List Bool). AreReadersTold v xs a new) same h)
+pub told_as : (v u : Store) (bs cs : List Bool) (a : Answer) (new : Store) → v ≡ u → bs ≡ cs → AreReadersTold v bs a new → AreReadersTold u cs a new
+told_as v u bs cs a new is same h = subst (λ (x : Store). AreReadersTold x cs a new) is (subst (λ (xs : List Bool). AreReadersTold v xs a new) same h)
 
 -- ---- other memberships, grants and guards
 
-module _ (e : Kept) (ms : List Membership) (us : List Guard) (gs : List Grant) where
+module _ (e : Store) (ms : List Membership) (us : List Guard) (gs : List Grant) where
   abbrev q : Rights
   q = record e.known.rights { members = ms; guards = us; grants = gs }
 
-  abbrev pub c : Kept
+  abbrev pub c : Store
   c = with_rights q e
 
   -- what is stored, where each relation has its guard
@@ -130,13 +130,13 @@ module _ (e : Kept) (ms : List Membership) (us : List Guard) (gs : List Grant) w
   kept_stored p cs h = record {
     numbers = record { unique = unique_kept p e.subscriptions h.numbers.unique; given = given_kept e.last p e.subscriptions h.numbers.given };
     database = h.database;
-    shows = let new : Kept = record c { subscriptions = filter p e.subscriptions; circuits = cs } in
+    shows = let new : Store = record c { subscriptions = filter p e.subscriptions; circuits = cs } in
         all_kept (IsOpen new) p e.subscriptions (all_map (IsOpen c) (IsOpen new) e.subscriptions (λ s o. record { session = o.session; known = o.known }) h.shows);
   }
 
   -- ---- what is asked of the state in which readers are told
 
-  were_read : IsSound e → AllByRecursion (WasRead c) c.circuits
+  were_read : IsSoundStore e → AllByRecursion (WasRead c) c.circuits
   were_read h = all_map (IsRoleCircuit e) (WasRead c) e.circuits
       (λ k i. record { known = i.known; bag = bag_for e k.role k.rel k.circuit i.is h.stored; rights = e.known.rights; is = i.is; opened = i.opened }) h.circuits
 
@@ -148,20 +148,20 @@ module _ (e : Kept) (ms : List Membership) (us : List Guard) (gs : List Grant) w
   others_by F still [] a r = tt
   others_by F still (k ∷ ks) a r = ((λ off. still k off a.0 r.0), others_by F still ks a.1 r.1)
 
-  others : (F : ℕ → ℕ → Bool) → StaysStill F → IsSound e → Each (IsOther c) c.circuits (flags_of F e.circuits)
+  others : (F : ℕ → ℕ → Bool) → StaysStill F → IsSoundStore e → Each (IsOther c) c.circuits (flags_of F e.circuits)
   others F still h = others_by F still e.circuits h.circuits (circuits_read e e.subscriptions h.served e.circuits h.read)
 
-  pub waiting : (F : ℕ → ℕ → Bool) → StaysStill F → IsStored c → IsSound e → AreWaiting c (flags_of F e.circuits)
+  pub waiting : (F : ℕ → ℕ → Bool) → StaysStill F → IsStored c → IsSoundStore e → AreWaiting c (flags_of F e.circuits)
   waiting F still stored h = record { stored = stored; were = were_read h; others = others F still h; there = h.there }
 
   -- ---- those that stay, and the lines
 
-  module _ (h : IsSound e) where
+  module _ (h : IsSoundStore e) where
     module _ (T : Lists) where
-      abbrev left : Kept
+      abbrev left : Store
       left = record c { subscriptions = filter (stays_open c T) e.subscriptions }
 
-      line_by : (s : Subscription) (why : Option Cause) → machine_line why s (difference (shown_rows e T s) (if_some (cond (not (is_some why)) (Some s) None) [] (view_of (at left T)))) ≡ turned_by why s (shown_rows e T s) (shown_rows c T s)
+      line_by : (s : Subscription) (why : Option Cause) → machine_line why s (difference (shown_rows e T s) (if_some (cond (not (is_some why)) (Some s) None) [] (view_shown (at left T)))) ≡ turned_by why s (shown_rows e T s) (shown_rows c T s)
       line_by s None = refl
       line_by s (Some why) = refl
 
@@ -170,7 +170,7 @@ module _ (e : Kept) (ms : List Membership) (us : List Guard) (gs : List Grant) w
         after : subscription_of (filter (stays_open c T) e.subscriptions) s.number ≡ kept_one (stays_open c T) s
 
       line_is : (s : Subscription) → Found s → line_for (at e T) (at left T) (ending (at c T)) s ≡ turned_line c T s (shown_rows e T s)
-      line_is s x = (λ i. machine_line (ending (at c T) s) s (difference (shown_is e T s x.before i) (if_some (x.after i) [] (view_of (at left T))))) ∙ line_by s (ending (at c T) s)
+      line_is s x = (λ i. machine_line (ending (at c T) s) s (difference (shown_is e T s x.before i) (if_some (x.after i) [] (view_shown (at left T))))) ∙ line_by s (ending (at c T) s)
 
       found : AllByRecursion Found e.subscriptions
       found = all_zip (λ s. subscription_of e.subscriptions s.number ≡ Some s) (λ s. subscription_of (filter (stays_open c T) e.subscriptions) s.number ≡ kept_one (stays_open c T) s) Found e.subscriptions
@@ -191,7 +191,7 @@ module _ (e : Kept) (ms : List Membership) (us : List Guard) (gs : List Grant) w
 
     left_sound : (ks : List Subscription) (cs : List RoleCircuit) → IsStored c → ((T : Lists) → Stands T e.tables → ks ≡ filter (stays_open c T) e.subscriptions) → AllByRecursion (IsRoleCircuit c) cs
         → AllByRecursion (λ s. is_some (place_of (record c { subscriptions = ks; circuits = cs }) s) ≡ true) ks
-        → AllByRecursion (λ k. is_read (frame_of (record c { subscriptions = ks; circuits = cs })) k ≡ true) cs → IsSound (record c { subscriptions = ks; circuits = cs })
+        → AllByRecursion (λ k. is_read (frame_of (record c { subscriptions = ks; circuits = cs })) k ≡ true) cs → IsSoundStore (record c { subscriptions = ks; circuits = cs })
     left_sound ks cs stored keeps circuits there read =
         let T = lists_behind e in
         let is = keeps T (stands_behind e h.stored) in
@@ -219,9 +219,9 @@ module _ (e : Kept) (ms : List Membership) (us : List Guard) (gs : List Grant) w
     pub counts : (ss : List Subscription) (cs : List RoleCircuit) (s : Subscription) (was now : ℕ) → is_some (place_of e s) ≡ true → may_read c s ≡ true → now ≡ cond (beside_of false c concerned s) 0 was
         → TurnsRounds (seen e) (seen (record c { subscriptions = ss; circuits = cs })) act (actor (frame_of e) s.session) s.rel was now
 
-  module _ (n : ℕ) (act : Act) (concerned : List Bool) (g : IsRighting n act concerned) (h : IsSound e) where
+  module _ (n : ℕ) (act : Act) (concerned : List Bool) (g : IsRighting n act concerned) (h : IsSoundStore e) where
     module _ (T : Lists) (stands : Stands T e.tables) where
-      abbrev still : Kept
+      abbrev still : Store
       still = record c { subscriptions = filter (stays_open c T) e.subscriptions }
 
       act_left : settled act (after (at e T) n act) ≡ at still T
@@ -252,27 +252,27 @@ module _ (e : Kept) (ms : List Membership) (us : List Guard) (gs : List Grant) w
         (λ s there stays. record { there = there; reads = still_reads (is_some (missing_for (frame_of c) (actor (frame_of c) s.session) s.rel)) (is_within (at c T) s) stays })
         (all_kept (λ s. is_some (place_of e s) ≡ true) (stays_open c T) e.subscriptions h.there) (all_pass (stays_open c T) e.subscriptions))
 
-    pub righted_step : (new : Kept) (a : Answer) → frame_refusal (frame_of e) n act ≡ None → AreReadersTold c concerned a new → IsAccepted e n act a new
+    pub righted_step : (new : Store) (a : Answer) → frame_refusal (frame_of e) n act ≡ None → AreReadersTold c concerned a new → IsAccepted e n act a new
     righted_step new a passed told =
         let ks = new.subscriptions in
         let cs = new.circuits in
         let left : (T : Lists) → Stands T e.tables → ks ≡ filter (stays_open c T) e.subscriptions = told.left in
         let sent : (T : Lists) → Stands T e.tables → map line_of a.changes.items ≡ flat_map (λ s. turned_line c T s (shown_rows e T s)) e.subscriptions = λ T stands.
         told.told T stands (shown_rows e T) (all_showed T stands) in
-        let kept : IsSound new = subst IsSound (sym told.state) (left_sound h ks cs g.stored left told.circuits
-        (subst (λ (v : Kept). AllByRecursion (λ s. is_some (place_of v s) ≡ true) ks) told.state told.there)
-        (subst (λ (v : Kept). AllByRecursion (λ k. is_read (frame_of v) k ≡ true) cs) told.state told.read)) in
+        let kept : IsSoundStore new = subst IsSoundStore (sym told.state) (left_sound h ks cs g.stored left told.circuits
+        (subst (λ (v : Store). AllByRecursion (λ s. is_some (place_of v s) ≡ true) ks) told.state told.there)
+        (subst (λ (v : Store). AllByRecursion (λ k. is_read (frame_of v) k ≡ true) cs) told.state told.read)) in
         let T = lists_behind e in
         let were : AllByRecursion (IsBeside e) ks = subst (AllByRecursion (IsBeside e)) (sym (left T (stands_behind e h.stored))) (all_kept (IsBeside e) (stays_open c T) e.subscriptions (all_beside e h.stored)) in
         let was_there : AllByRecursion WasThere ks = kept_there T ks (left T (stands_behind e h.stored)) in
-        let R : (v : Kept) → Subscription → ℕ → ℕ → Type 0 = λ v s was now. TurnsRounds (seen e) (seen v) act (actor (frame_of v) s.session) s.rel was now in
+        let R : (v : Store) → Subscription → ℕ → ℕ → Type 0 = λ v s was now. TurnsRounds (seen e) (seen v) act (actor (frame_of v) s.session) s.rel was now in
         let counted : AllByRecursion (λ s. R new s (rounds_of e s) (rounds_of new s)) ks =
         all_zip WasThere (λ s. rounds_of new s ≡ cond (beside_of false c concerned s) 0 (rounds_of e s)) (λ s. R new s (rounds_of e s) (rounds_of new s)) ks
-        (λ s w r. subst (λ (v : Kept). R v s (rounds_of e s) (rounds_of new s)) (sym told.state) (g.counts ks cs s (rounds_of e s) (rounds_of new s) w.there w.reads r)) was_there told.rounds in
+        (λ s w r. subst (λ (v : Store). R v s (rounds_of e s) (rounds_of new s)) (sym told.state) (g.counts ks cs s (rounds_of e s) (rounds_of new s) w.there w.reads r)) was_there told.rounds in
         record {
           answer = λ T stands. (act_refusal T stands passed, ap reply_of told.done ∙ g.reply, sent T stands ∙ sym (act_sent T stands));
           left = λ T stands. subst (λ (t : State). IsBehind t (seen new)) (sym (act_left T stands))
-              (subst (λ (v : Kept). IsBehind (at (still T stands) T) (seen v)) (sym (told.state ∙ ap (λ (ss : List Subscription). record c { subscriptions = ss; circuits = cs }) (left T stands))) (record { frame = refl; rows = stands }));
+              (subst (λ (v : Store). IsBehind (at (still T stands) T) (seen v)) (sym (told.state ∙ ap (λ (ss : List Subscription). record c { subscriptions = ss; circuits = cs }) (left T stands))) (record { frame = refl; rows = stands }));
           accepts = no_refusal a.reply told.done;
           rounds = those_counted e new kept.stored (R new) were counted;
           sound = kept;

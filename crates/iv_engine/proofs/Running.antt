@@ -12,8 +12,8 @@ use Rattle.iv_machine.specs.Well.{is_well_act, is_well_command}
 use Rattle.iv_engine.specs.Answering.{IsCountedBy, IsNext, IsSaid, IsStep, seen}
 use Rattle.iv_command.specs.Answers.{AreLinesOfAnswer}
 use Rattle.iv_engine.specs.Counting.{AreCountedWhereAccepted}
-use Rattle.iv_engine.specs.Kept.{IsSound, Kept, at, frame_of}
-use Rattle.iv_engine.specs.Seen.{ChangesWhereAccepted, IsBehind, Seen}
+use Rattle.iv_engine.specs.Store.{IsSoundStore, Store, at, frame_of}
+use Rattle.iv_engine.specs.Engine.{ChangesWhereAccepted, IsBehind, Engine}
 use Rattle.iv_database.specs.Stands.{Stands}
 use Rattle.iv_command.specs.Views.{line_of, refusal_of, reply_of}
 use Rattle.iv_command.specs.declared.answer.Answer.{Answer}
@@ -22,7 +22,7 @@ use Rattle.iv_command.specs.declared.stop.Stop.TheVariants.{Refused, Memory}
 
 -- ---- one step
 
-module _ (e new : Kept) (n : ℕ) (act : machine.Act) (lines : List machine.Line) where
+module _ (e new : Store) (n : ℕ) (act : machine.Act) (lines : List machine.Line) where
   abbrev told : machine.Command
   told = record { session = n; act = act }
 
@@ -34,7 +34,7 @@ module _ (e new : Kept) (n : ℕ) (act : machine.Act) (lines : List machine.Line
   pub left_state : (a : Result Answer Stop) → IsStep e n act a new → AreLinesOfAnswer n a lines → IsNext e told new
   left_state (Ok a) h is = λ T s. subst (λ (t : State). IsBehind t (seen new)) (sym (ap (λ o. (outcome (at e T) told o).state) (h.answer T s).0)) (h.left T s)
   left_state (Err (Refused r)) h is = λ T s. subst (λ (t : State). IsBehind t (seen new)) (sym (ap (λ o. (outcome (at e T) told o).state) (h.told T s)))
-      (record { frame = ap frame_of (sym h.kept); rows = subst (λ (v : Kept). Stands T v.tables) (sym h.kept) s })
+      (record { frame = ap frame_of (sym h.kept); rows = subst (λ (v : Store). Stands T v.tables) (sym h.kept) s })
   left_state (Err Memory) h is = absurd is
 
   -- a refused one leaves all as it was
@@ -52,18 +52,18 @@ module _ (e new : Kept) (n : ℕ) (act : machine.Act) (lines : List machine.Line
   counted_by (Err (Refused r)) h is = λ accepted. absurd (accepted n (refusal_of r) is)
   counted_by (Err Memory) h is = absurd is
 
-  pub left_sound : (a : Result Answer Stop) → IsSound e → IsStep e n act a new → AreLinesOfAnswer n a lines → IsSound new
+  pub left_sound : (a : Result Answer Stop) → IsSoundStore e → IsStep e n act a new → AreLinesOfAnswer n a lines → IsSoundStore new
   left_sound (Ok a) sound h is = h.sound
-  left_sound (Err (Refused r)) sound h is = subst IsSound (sym h.kept) sound
+  left_sound (Err (Refused r)) sound h is = subst IsSoundStore (sym h.kept) sound
   left_sound (Err Memory) sound h is = absurd is
 
 -- what is seen of an engine with the store
-abbrev pub shown_by : Kept → (failed : Bool) → Seen
+abbrev pub shown_by : Store → (failed : Bool) → Engine
 shown_by e failed = record (seen e) { failed = failed }
 
-pub counted_seen : (e new : Kept) (old : Seen) (failed : Bool) (c : machine.Command) (lines : List machine.Line) → failed ≡ false → shown_by e failed ≡ old → IsCountedBy e c lines new
+pub counted_seen : (e new : Store) (old : Engine) (failed : Bool) (c : machine.Command) (lines : List machine.Line) → failed ≡ false → shown_by e failed ≡ old → IsCountedBy e c lines new
     → AreCountedWhereAccepted old c lines (shown_by new failed)
-counted_seen e new old failed c lines off is h = subst (λ (v : Seen). AreCountedWhereAccepted v c lines (shown_by new failed)) is
+counted_seen e new old failed c lines off is h = subst (λ (v : Engine). AreCountedWhereAccepted v c lines (shown_by new failed)) is
     (subst (λ b. AreCountedWhereAccepted (shown_by e b) c lines (shown_by new b)) (sym off) h)
 
 -- ---- commands that keep the rules on shape

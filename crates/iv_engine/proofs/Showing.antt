@@ -11,18 +11,18 @@ use Rattle.iv_zset.proofs.Limits.{within_is}
 use Rattle.iv_algebra.specs.Plans.{Lists}
 use Rattle.iv_algebra.specs.Evaluation.{eval, plan_within}
 use Rattle.iv_algebra.specs.Contents.{rows_of}
-use Rattle.iv_bind.specs.Faults.{if_some}
+use Rattle.iv_rows.specs.Options.{if_some}
 use Rattle.iv_access.specs.Rights.{Rights}
 use Rattle.iv_access.specs.Laws.{ReachesAlike}
 use Rattle.iv_access.specs.Privileges.{role_name}
 use Rattle.iv_access.specs.Policies.{allowed, may_see}
-use Rattle.iv_machine.specs.State.{Frame, Subscription, actor, plan_at, subscription_of, view_for, view_of, is_within, is_within_for, missing_for, shown}
+use Rattle.iv_machine.specs.State.{Frame, Subscription, actor, plan_at, subscription_of, view_for, view_shown, is_within, is_within_for, missing_for, shown}
 use Rattle.iv_machine.specs.Machine.{difference, is_change, weighted, rising_rows, first_cause, ending}
 use Rattle.iv_machine.specs.Reached.{AreUnique}
 use Rattle.iv_machine.specs.declared.Cause.{Cause}
 use Rattle.iv_machine.specs.declared.Cause.TheVariants as cause
 use Rattle.iv_database.proofs.Taken as taking
-use Rattle.iv_engine.specs.Kept.{database_of, Kept, IsStored, frame_of, at, may_read, shown_rows, table_rows}
+use Rattle.iv_engine.specs.Store.{database_of, Store, IsStored, frame_of, at, may_read, shown_rows, table_rows}
 use Rattle.iv_database.specs.Stands.{Stands}
 use Rattle.iv_engine.proofs.Seeing.{filter_within, rows_same}
 use Rattle.iv_database.proofs.Tables.{IsATable, plan_is}
@@ -32,7 +32,7 @@ nat_at_most m n h = grind (arith, nat_tests)
 
 -- ---- a view is the rows of its table that its reader sees
 
-module _ (e : Kept) (T : Lists) where
+module _ (e : Store) (T : Lists) where
   pub view_is : (role rel : ℕ) → IsATable e.catalog rel → view_for (at e T) role rel ≡ filter (may_see e.known.rights role rel) (T rel)
   view_is role rel t = ap (λ p. eval p (allowed e.known.rights role T)) (plan_is e.catalog rel t)
 
@@ -40,7 +40,7 @@ module _ (e : Kept) (T : Lists) where
   within_for role rel t = ap (λ p. plan_within e.cap p (allowed e.known.rights role T)) (plan_is e.catalog rel t)
 
   pub shown_is : (s : Subscription) → subscription_of e.subscriptions s.number ≡ Some s → shown (at e T) s.number ≡ shown_rows e T s
-  shown_is s found = ap (λ o. if_some o [] (view_of (at e T))) found
+  shown_is s found = ap (λ o. if_some o [] (view_shown (at e T))) found
 
   pub rows_are : (s : Subscription) → IsATable e.catalog s.rel → shown_rows e T s ≡ table_rows e T s
   rows_are s t = view_is (actor (frame_of e) s.session) s.rel t
@@ -68,10 +68,10 @@ limits_same f q role rel T reach name guards = λ i. plan_within f.cap (plan_at 
 
 -- ---- lists behind the tables
 
-abbrev pub lists_behind : Kept → Lists
+abbrev pub lists_behind : Store → Lists
 lists_behind e = taking.lists_behind (database_of e)
 
-pub stands_behind : (e : Kept) → IsStored e → Stands (lists_behind e) e.tables
+pub stands_behind : (e : Store) → IsStored e → Stands (lists_behind e) e.tables
 stands_behind e h = taking.stands_behind (database_of e) h.database
 
 -- ---- which subscriptions end
@@ -85,7 +85,7 @@ ends_by : (b w : Bool) → w ≡ true → first_cause b w ≡ cause_for (not b)
 ends_by true w h = refl
 ends_by false w h = ap (first_cause false) h
 
-pub ending_is : (e : Kept) (T : Lists) (s : Subscription) → is_within (at e T) s ≡ true → ending (at e T) s ≡ cause_for (may_read e s)
+pub ending_is : (e : Store) (T : Lists) (s : Subscription) → is_within (at e T) s ≡ true → ending (at e T) s ≡ cause_for (may_read e s)
 ending_is e T s w = ends_by (is_some (missing_for (frame_of e) (actor (frame_of e) s.session) s.rel)) (is_within (at e T) s) w
 
 -- ---- nothing changes

@@ -7,12 +7,12 @@ use Rattle.iv_zset.specs.Weights.{weight_of}
 use Rattle.iv_rows.specs.Columns.{Column, kinds_of}
 use Rattle.iv_algebra.specs.Plans.{Lists}
 use Rattle.iv_algebra.specs.Shapes.{Scan}
-use Rattle.iv_bind.specs.Catalogs.{Answer, Entry, Held, Table, View, plan_of, reached_by, table_in}
-use Rattle.iv_bind.specs.Faults.{if_some}
+use Rattle.iv_bind.specs.Catalogs.{BoundQuery, CatalogEntry, Held, Table, View, plan_of, reached_by, table_in}
+use Rattle.iv_rows.specs.Options.{if_some}
 use Rattle.iv_access.specs.Laws.{ReachesAlike}
 use Rattle.iv_access.specs.declared.privilege.Privilege.{Privilege}
 use Rattle.iv_access.specs.declared.privilege.Privilege.TheVariants.{Select}
-use Rattle.iv_access.specs.Known.{known_at_start, role_number, grantee_of}
+use Rattle.iv_access.specs.Access.{access_at_start, role_number, grantee_of}
 use Rattle.iv_access.specs.Policies.{allowed, may_see}
 use Rattle.iv_access.specs.Rights.{Grant, Grantee, Role, Guard, Name, Rights}
 use Rattle.iv_access.specs.Privileges.{has, is_admin, is_for, privilege_eq, role_name}
@@ -22,7 +22,7 @@ use Rattle.iv_machine.specs.State.{Session, Subscription, actor, plan_at, rel_of
 use Rattle.iv_machine.specs.Act.{begin, create_role, create_table, create_view, grant}
 use Rattle.iv_machine.specs.Refusing.{test}
 use Rattle.iv_machine.specs.Split.{frame_refusal}
-use Rattle.iv_engine.specs.Kept.{database_of, with_database, IsCircuitFor, IsOpen, IsRoleCircuit, IsSound, IsWithin, Kept, frame_of, is_read, may_read, place_of, shown_rows}
+use Rattle.iv_engine.specs.Store.{database_of, with_database, IsCircuitFor, IsOpen, IsRoleCircuit, IsSoundStore, IsWithin, Store, frame_of, is_read, may_read, place_of, shown_rows}
 use Rattle.iv_readers.specs.Readers.{RoleCircuit, is_for as is_circuit_for}
 use Rattle.iv_engine.specs.Next.{kept_after}
 use Rattle.iv_database.specs.Next as database
@@ -101,7 +101,7 @@ role_below (s ∷ ss) n k a h = by (n == s.number) h (role_below ss n k a.1)
 
 -- ---- subscriptions that are unmoved
 
-module _ (e d : Kept) (es : List Subscription) (u : AllByRecursion (IsUnmoved e d) es) where
+module _ (e d : Store) (es : List Subscription) (u : AllByRecursion (IsUnmoved e d) es) where
   pub all_read : AllByRecursion (λ s. may_read e s ≡ true) es → AllByRecursion (λ s. may_read d s ≡ true) es
   all_read a = all_zip (IsUnmoved e d) (λ s. may_read e s ≡ true) (λ s. may_read d s ≡ true) es (λ s v r. still_read e d s v r) u a
 
@@ -117,7 +117,7 @@ module _ (e d : Kept) (es : List Subscription) (u : AllByRecursion (IsUnmoved e 
 
 -- ---- circuits that subscriptions read which are unmoved
 
-module _ (e d : Kept) (back : (T : Lists) → Stands T d.tables → Stands T e.tables) (u : AllByRecursion (IsUnmoved e d) d.subscriptions) where
+module _ (e d : Store) (back : (T : Lists) → Stands T d.tables → Stands T e.tables) (u : AllByRecursion (IsUnmoved e d) d.subscriptions) where
   -- what is there of the role and the relation in e is there in d
   abbrev Stays : (role rel : ℕ) → Type 0
   Stays role rel = (c : Running) → rel < length e.catalog → IsCircuitFor e role (plan_at e.catalog rel) c → (rel < length d.catalog) × IsCircuitFor d role (plan_at d.catalog rel) c
@@ -139,14 +139,14 @@ module _ (e d : Kept) (back : (T : Lists) → Stands T d.tables → Stands T e.t
 
 -- ---- a new relation, which has no row
 
-abbrev pub with_relation_of : (name owner : Name) → Held → Kept → Kept
+abbrev pub with_relation_of : (name owner : Name) → Held → Store → Store
 with_relation_of name owner held e = with_database (database.with_relation_of name owner held (database_of e)) e
 
-module _ (e : Kept) (h : IsSound e) (name owner : Name) (held : Held) where
-  abbrev c : Kept
+module _ (e : Store) (h : IsSoundStore e) (name owner : Name) (held : Held) where
+  abbrev c : Store
   c = with_relation_of name owner held e
 
-  abbrev x : Entry
+  abbrev x : CatalogEntry
   x = record { name = name; rel = length e.catalog; held = held }
 
   abbrev g : Guard
@@ -158,14 +158,14 @@ module _ (e : Kept) (h : IsSound e) (name owner : Name) (held : Held) where
       let q = c.known.rights in
       let same = still_numbered name (Some held) e.catalog s.rel (known_at 0 e.catalog s.rel h.stored.database.numbered (omega arith) (let k = o.known in omega (arith, k))) in
       record {
-        plan = ap (λ (y : Option Entry). if_some y (Scan s.rel) (λ z. plan_of z.rel z.held)) same;
-        needs = ap (λ (y : Option Entry). if_some y [] (λ z. reached_by z.rel z.held)) same;
+        plan = ap (λ (y : Option CatalogEntry). if_some y (Scan s.rel) (λ z. plan_of z.rel z.held)) same;
+        needs = ap (λ (y : Option CatalogEntry). if_some y [] (λ z. reached_by z.rel z.held)) same;
         reads = λ rel k. has_more r q (actor (frame_of e) s.session) (λ o. refl) Select rel (length r.guards) all_privileges (Role (role_number e.known.rights owner)) refl k;
         sees = λ T k. sees_before r q (actor (frame_of e) s.session) g e.tables T (λ o. refl) refl refl (λ t l. none_beyond (database_of e) h.stored.database t (subst (λ m. m ≤ t) h.stored.database.guards l)) k;
         cap = refl;
         acts = refl;
         grows = let l = length-append e.catalog (x ∷ []) in omega (arith, l);
-        kinds = λ t l. ap (λ (y : Option Entry). option_map kinds_of (if_some y None (λ z. table_in z.held))) (still_numbered name (Some held) e.catalog t (known_at 0 e.catalog t h.stored.database.numbered (omega arith) (omega (arith, l))));
+        kinds = λ t l. ap (λ (y : Option CatalogEntry). option_map kinds_of (if_some y None (λ z. table_in z.held))) (still_numbered name (Some held) e.catalog t (known_at 0 e.catalog t h.stored.database.numbered (omega arith) (omega (arith, l))));
         sight = λ t l. sight_before r q (actor (frame_of e) s.session) g (λ o. refl) refl refl t (subst (λ m. t < m) (sym h.stored.database.guards) l);
       }
 
@@ -175,7 +175,7 @@ module _ (e : Kept) (h : IsSound e) (name owner : Name) (held : Held) where
   before : (T : Lists) → Stands T c.tables → Stands T e.tables
   before T k t q = ap (λ z. weight_of z q) (sym (rows_with held (length e.catalog) e.tables t)) ∙ k t q
 
-  pub relation_sound : IsSound c
+  pub relation_sound : IsSoundStore c
   relation_sound =
       record {
         stored = record {
@@ -192,9 +192,9 @@ module _ (e : Kept) (h : IsSound e) (name owner : Name) (held : Held) where
 
 -- ---- request by request
 
-module _ (e : Kept) (n : ℕ) (h : IsSound e) where
+module _ (e : Store) (n : ℕ) (h : IsSoundStore e) where
   module _ (role : Name) where
-    abbrev begun : Kept
+    abbrev begun : Store
     begun = kept_after e n (begin role)
 
     begin_same : (s : Subscription) → IsOpen e s → session_of begun.sessions s.session ≡ session_of e.sessions s.session
@@ -207,7 +207,7 @@ module _ (e : Kept) (n : ℕ) (h : IsSound e) where
     begin_read = all_map (λ k. is_read (frame_of e) k ≡ true) (λ k. is_read (frame_of begun) k ≡ true) e.circuits
         (λ k r. read_same (frame_of e) begun.sessions k e.subscriptions (all_map (IsOpen e) (λ s. session_of begun.sessions s.session ≡ session_of e.sessions s.session) e.subscriptions begin_same h.stored.shows) ∙ r) h.read
 
-    pub begin_sound : frame_refusal (frame_of e) n (begin role) ≡ None → IsSound begun
+    pub begin_sound : frame_refusal (frame_of e) n (begin role) ≡ None → IsSoundStore begun
     begin_sound passed = record {
       stored = record {
         numbers = record { unique = h.stored.numbers.unique; given = h.stored.numbers.given };
@@ -222,7 +222,7 @@ module _ (e : Kept) (n : ℕ) (h : IsSound e) where
     }
 
   module _ (name : Name) where
-    abbrev named : Kept
+    abbrev named : Store
     named = kept_after e n (create_role name)
 
     pub role_unmoved : AllByRecursion (IsUnmoved e named) e.subscriptions
@@ -244,7 +244,7 @@ module _ (e : Kept) (n : ℕ) (h : IsSound e) where
           sight = λ t l row. ap (λ role. may_see q role t row) a ∙ sees_same q r k t (λ o. refl) called refl row;
         }) h.stored.shows
 
-    pub role_sound : frame_refusal (frame_of e) n (create_role name) ≡ None → IsSound named
+    pub role_sound : frame_refusal (frame_of e) n (create_role name) ≡ None → IsSoundStore named
     role_sound passed = record {
       stored = record {
         numbers = record { unique = h.stored.numbers.unique; given = h.stored.numbers.given };
@@ -259,7 +259,7 @@ module _ (e : Kept) (n : ℕ) (h : IsSound e) where
     }
 
   module _ (rel : Name) (ps : List Privilege) (to : Option Name) where
-    abbrev given : Kept
+    abbrev given : Store
     given = kept_after e n (grant rel ps to)
 
     pub grant_unmoved : AllByRecursion (IsUnmoved e given) e.subscriptions
@@ -279,7 +279,7 @@ module _ (e : Kept) (n : ℕ) (h : IsSound e) where
           sight = λ t l row. sees_same q r k t (λ o. refl) refl refl row;
         }) h.stored.shows
 
-    pub grant_sound : IsSound given
+    pub grant_sound : IsSoundStore given
     grant_sound = record {
       stored = record {
         numbers = record { unique = h.stored.numbers.unique; given = h.stored.numbers.given };
@@ -297,28 +297,28 @@ module _ (e : Kept) (n : ℕ) (h : IsSound e) where
     pub table_unmoved : AllByRecursion (IsUnmoved e (kept_after e n (create_table name owner columns))) e.subscriptions
     table_unmoved = relation_unmoved e h name owner (Table columns)
 
-    pub table_sound : IsSound (kept_after e n (create_table name owner columns))
+    pub table_sound : IsSoundStore (kept_after e n (create_table name owner columns))
     table_sound = relation_sound e h name owner (Table columns)
 
   module _ (name owner : Name) (query : Name) (passed : frame_refusal (frame_of e) n (create_view name owner query) ≡ None) where
-    view : (a : Answer) × (database_after (database_of e) n (create_view name owner query) ≡ database.with_relation_of name owner (View a) (database_of e))
+    view : (a : BoundQuery) × (database_after (database_of e) n (create_view name owner query) ≡ database.with_relation_of name owner (View a) (database_of e))
     view = view_is (database_of e) h.stored.database n name owner query passed
 
     added : kept_after e n (create_view name owner query) ≡ with_relation_of name owner (View view.0) e
     added = ap (λ d. with_database d e) view.1
 
     pub view_unmoved : AllByRecursion (IsUnmoved e (kept_after e n (create_view name owner query))) e.subscriptions
-    view_unmoved = subst (λ (d : Kept). AllByRecursion (IsUnmoved e d) e.subscriptions) (sym added) (relation_unmoved e h name owner (View view.0))
+    view_unmoved = subst (λ (d : Store). AllByRecursion (IsUnmoved e d) e.subscriptions) (sym added) (relation_unmoved e h name owner (View view.0))
 
-    pub view_sound : IsSound (kept_after e n (create_view name owner query))
-    view_sound = subst IsSound (sym added) (relation_sound e h name owner (View view.0))
+    pub view_sound : IsSoundStore (kept_after e n (create_view name owner query))
+    view_sound = subst IsSoundStore (sym added) (relation_sound e h name owner (View view.0))
 
 -- ---- the start
 
-abbrev pub kept_at_start : (cap : ℕ) → Kept
-kept_at_start cap = record { cap = cap; known = known_at_start; catalog = []; sessions = []; subscriptions = []; circuits = []; last = 0; tables = [] }
+abbrev pub kept_at_start : (cap : ℕ) → Store
+kept_at_start cap = record { cap = cap; known = access_at_start; catalog = []; sessions = []; subscriptions = []; circuits = []; last = 0; tables = [] }
 
-pub start_sound : (cap : ℕ) → IsRowLimit cap → IsSound (kept_at_start cap)
+pub start_sound : (cap : ℕ) → IsRowLimit cap → IsSoundStore (kept_at_start cap)
 start_sound cap limit = record {
   stored = record {
     numbers = record { unique = tt; given = tt };

@@ -6,11 +6,11 @@ use Rattle.std.specs.List.{AllByRecursion}
 use Rattle.iv_zset.specs.Limits.{Counts}
 use Rattle.iv_zset.specs.Weights.{Weighed}
 use Rattle.iv_algebra.specs.Plans.{Lists}
-use Rattle.iv_bind.specs.Faults.{if_some}
+use Rattle.iv_rows.specs.Options.{if_some}
 use Rattle.iv_circuit.specs.Nodes.{total_of}
 use Rattle.iv_machine.specs.State.{Subscription, actor, view_for}
 use Rattle.iv_engine.specs.Found.{total_at}
-use Rattle.iv_engine.specs.Kept.{IsRoleCircuit, IsWithin, IsWithinFor, Kept, at, frame_of, place_of, shown_rows}
+use Rattle.iv_engine.specs.Store.{IsRoleCircuit, IsWithin, IsWithinFor, Store, at, frame_of, place_of, shown_rows}
 use Rattle.iv_readers.specs.Readers.{RoleCircuit, is_for}
 use Rattle.iv_database.specs.Stands.{Stands}
 use Rattle.iv_engine.proofs.Beside.{for_is, place_there}
@@ -38,14 +38,14 @@ place_within p [] i h = cc
 place_within p (k ∷ ks) i h = (position-Some p (k ∷ ks) i k h).0
 
 -- the place is one of the circuits
-pub place_in : (e : Kept) (s : Subscription) (i : ℕ) → place_of e s ≡ Some i → i < length e.circuits
+pub place_in : (e : Store) (s : Subscription) (i : ℕ) → place_of e s ≡ Some i → i < length e.circuits
 place_in e s i h = place_within (is_for (actor (frame_of e) s.session) s.rel) e.circuits i h
 
 -- the total there is that of the circuit that stands there
-pub total_is : (e : Kept) (i : ℕ) (k : RoleCircuit) → i < length e.circuits → k ≡ get_or e.circuits i k → total_at e i ≡ total_of k.circuit.node
+pub total_is : (e : Store) (i : ℕ) (k : RoleCircuit) → i < length e.circuits → k ≡ get_or e.circuits i k → total_at e i ≡ total_of k.circuit.node
 total_is e i k low is = ap (λ (o : Option RoleCircuit). if_some o [] (λ x. total_of x.circuit.node)) (slice_at e.circuits i k low is)
 
-module _ (e : Kept) (circuits : AllByRecursion (IsRoleCircuit e) e.circuits) where
+module _ (e : Store) (circuits : AllByRecursion (IsRoleCircuit e) e.circuits) where
   -- the limits hold
   pub circuits_within : (s : Subscription) → is_some (place_of e s) ≡ true → IsWithin e s
   circuits_within s there =

@@ -7,7 +7,7 @@ use Rattle.iv_algebra.specs.Evaluation.{eval, plan_within}
 use Rattle.iv_algebra.specs.Plans.{Lists}
 use Rattle.iv_algebra.specs.Contents.{rows_of}
 use Rattle.iv_algebra.specs.declared.tables.Table.{Table}
-use Rattle.iv_bind.specs.Catalogs.{Entry, Held, numbered}
+use Rattle.iv_bind.specs.Catalogs.{CatalogEntry, Held, numbered}
 use Rattle.iv_access.specs.Laws.{ReachesAlike}
 use Rattle.iv_access.specs.declared.privilege.Privilege.TheVariants.{Select}
 use Rattle.iv_access.specs.Policies.{allowed, may_see}
@@ -20,7 +20,7 @@ use Rattle.iv_access.specs.Rights.{Guard, Name, Rights}
 use Rattle.iv_machine.specs.Changing.{with_held}
 use Rattle.iv_machine.specs.State.{Session, Subscription, actor, is_within, needs_at, next_rel, plan_at, session_of}
 use Rattle.iv_machine.proofs.Placing.{find_kept}
-use Rattle.iv_engine.specs.Kept.{IsCircuitOf, Kept, at, frame_of, may_read, shown_rows}
+use Rattle.iv_engine.specs.Store.{IsCircuitOf, Store, at, frame_of, may_read, shown_rows}
 use Rattle.iv_readers.specs.Readers.{RoleCircuit}
 use Rattle.iv_database.specs.Database.{kinds_at}
 use Rattle.iv_database.specs.Stands.{Stands}
@@ -29,7 +29,7 @@ use Rattle.iv_engine.proofs.Seeing.{rows_same, sees_same}
 
 -- in d it has the plan and the needs that it has in e, and its reader may select what it might, and sees the same rows; the
 -- relations of e are those of d, and the reader is the same and sees the same of each table
-pub record IsUnmoved (e d : Kept) (s : Subscription) : Type 0 where
+pub record IsUnmoved (e d : Store) (s : Subscription) : Type 0 where
   pub plan : plan_at d.catalog s.rel ≡ plan_at e.catalog s.rel
   pub needs : needs_at d.catalog s.rel ≡ needs_at e.catalog s.rel
   pub reads : (rel : ℕ) → has e.known.rights (actor (frame_of e) s.session) Select rel ≡ true → has d.known.rights (actor (frame_of d) s.session) Select rel ≡ true
@@ -53,7 +53,7 @@ module _ (r q : Rights) (a b : ℕ) (go : (rel : ℕ) → has r a Select rel ≡
       by true k l rest = ap (λ c. not (is_some (cond c (first_missing q b (map (λ m. (Select, m)) ns)) (Some (Select, n))))) (go n k) ∙ rest l
       by false k l rest = cc
 
-module _ (e d : Kept) (s : Subscription) (u : IsUnmoved e d s) where
+module _ (e d : Store) (s : Subscription) (u : IsUnmoved e d s) where
   pub still_read : may_read e s ≡ true → may_read d s ≡ true
   still_read h = ap (λ ns. not (is_some (first_missing d.known.rights (actor (frame_of d) s.session) (map (λ n. (Select, n)) ns)))) u.needs
       ∙ reads_all e.known.rights d.known.rights (actor (frame_of e) s.session) (actor (frame_of d) s.session) u.reads (needs_at e.catalog s.rel) h
@@ -86,9 +86,9 @@ still_there (y ∷ xs) x zero l = refl
 still_there (y ∷ xs) x (suc k) l = still_there xs x k (omega arith)
 
 -- those before keep their plans and needs
-pub still_numbered : (name : Name) (o : Option Held) (es : List Entry) (rel : ℕ) → is_some (numbered es rel) ≡ true → numbered (with_held name o es) rel ≡ numbered es rel
+pub still_numbered : (name : Name) (o : Option Held) (es : List CatalogEntry) (rel : ℕ) → is_some (numbered es rel) ≡ true → numbered (with_held name o es) rel ≡ numbered es rel
 still_numbered name None es rel h = refl
-still_numbered name (Some held) es rel h = find_kept (λ (x : Entry). rel == x.rel) es (record { name = name; rel = next_rel es; held = held } ∷ []) h
+still_numbered name (Some held) es rel h = find_kept (λ (x : CatalogEntry). rel == x.rel) es (record { name = name; rel = next_rel es; held = held } ∷ []) h
 
 below : (m n : ℕ) → nat_lt m n ≡ true → m < n
 below m n h = grind (arith, nat_tests)
@@ -116,10 +116,10 @@ sight_before r q role g reach name guards t l = sees_same q r role t reach name 
 -- ---- other sessions
 
 -- where its session's role stays
-pub actor_same : (e : Kept) (ss : List Session) (n : ℕ) → session_of ss n ≡ session_of e.sessions n → actor (frame_of (record e { sessions = ss })) n ≡ actor (frame_of e) n
+pub actor_same : (e : Store) (ss : List Session) (n : ℕ) → session_of ss n ≡ session_of e.sessions n → actor (frame_of (record e { sessions = ss })) n ≡ actor (frame_of e) n
 actor_same e ss n h = ap (λ (o : Option Session). unwrap_or (option_map (λ x. x.role) o) (length e.known.rights.roles)) h
 
-pub other_sessions : (e : Kept) (ss : List Session) (es : List Subscription) (cs : List RoleCircuit) (s : Subscription) → session_of ss s.session ≡ session_of e.sessions s.session → IsUnmoved e (record e { sessions = ss; subscriptions = es; circuits = cs }) s
+pub other_sessions : (e : Store) (ss : List Session) (es : List Subscription) (cs : List RoleCircuit) (s : Subscription) → session_of ss s.session ≡ session_of e.sessions s.session → IsUnmoved e (record e { sessions = ss; subscriptions = es; circuits = cs }) s
 other_sessions e ss es cs s h = let a = actor_same e ss s.session h in record {
   plan = refl;
   needs = refl;

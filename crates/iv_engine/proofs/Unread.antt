@@ -3,11 +3,11 @@ use Rattle.std.proofs.Common.{◌≡◌, ℕ, suc, ◌+◌, ◌<◌, Bool, true,
 use Rattle.std.proofs.lemmas.Bool.Decides.{nat_tests}
 use Rattle.std.specs.Prelude.{◌==◌, filter, is_some, nat_lt, option_map, position, unwrap_or}
 use Rattle.std.specs.List.{AllByRecursion, list_any, position_or_len}
-use Rattle.iv_bind.specs.Faults.{if_some}
+use Rattle.iv_rows.specs.Options.{if_some}
 use Rattle.iv_machine.specs.State.{Frame, Session, Subscription, actor, is_open, session_of}
 use Rattle.iv_readers.specs.Readers.{RoleCircuit, is_for}
-use Rattle.iv_engine.specs.Kept.{is_read}
-use Rattle.iv_database.specs.Database.{acts_as}
+use Rattle.iv_engine.specs.Store.{is_read}
+use Rattle.iv_database.specs.Database.{session_acts_as}
 
 -- ---- sessions
 
@@ -22,10 +22,10 @@ role_is None role d h = cc
 role_is (Some s) role d h = same_nat s.role role h
 
 -- a session that acts for the role has it as its actor, and the other way round where it is open
-pub acts_is : (f : Frame) (n role : ℕ) → acts_as f n role ≡ true → actor f n ≡ role
+pub acts_is : (f : Frame) (n role : ℕ) → session_acts_as f n role ≡ true → actor f n ≡ role
 acts_is f n role h = role_is (session_of f.sessions n) role (length f.rights.roles) h
 
-pub is_acting : (f : Frame) (n : ℕ) → is_open f n ≡ true → acts_as f n (actor f n) ≡ true
+pub is_acting : (f : Frame) (n : ℕ) → is_open f n ≡ true → session_acts_as f n (actor f n) ≡ true
 is_acting f n h = by (session_of f.sessions n) (length f.rights.roles) h
   where
     by : (o : Option Session) (d : ℕ) → is_some o ≡ true → if_some o false (λ s. s.role == unwrap_or (option_map (λ x. x.role) o) d) ≡ true
@@ -40,17 +40,17 @@ pair false b h = cc
 
 -- what holds of the role and the relation of each subscription holds of those of a circuit that one reads
 module _ (f : Frame) (k : RoleCircuit) (P : (role rel : ℕ) → Type 0) where
-  one_read : (s : Subscription) → ((s.rel == k.rel) && acts_as f s.session k.role) ≡ true → P (actor f s.session) s.rel → P k.role k.rel
+  one_read : (s : Subscription) → ((s.rel == k.rel) && session_acts_as f s.session k.role) ≡ true → P (actor f s.session) s.rel → P k.role k.rel
   one_read s t h =
-      let b = pair (s.rel == k.rel) (acts_as f s.session k.role) t in
+      let b = pair (s.rel == k.rel) (session_acts_as f s.session k.role) t in
       subst (λ rel. P k.role rel) (same_nat s.rel k.rel b.0) (subst (λ role. P role s.rel) (acts_is f s.session k.role b.1) h)
 
-  read_among : (ss : List Subscription) → list_any (λ s. (s.rel == k.rel) && acts_as f s.session k.role) ss ≡ true → AllByRecursion (λ s. P (actor f s.session) s.rel) ss → P k.role k.rel
+  read_among : (ss : List Subscription) → list_any (λ s. (s.rel == k.rel) && session_acts_as f s.session k.role) ss ≡ true → AllByRecursion (λ s. P (actor f s.session) s.rel) ss → P k.role k.rel
   read_among [] t a = cc
-  read_among (s ∷ ss) t a = by ((s.rel == k.rel) && acts_as f s.session k.role) refl t (λ u. read_among ss u a.1)
+  read_among (s ∷ ss) t a = by ((s.rel == k.rel) && session_acts_as f s.session k.role) refl t (λ u. read_among ss u a.1)
     where
-      by : (b : Bool) → ((s.rel == k.rel) && acts_as f s.session k.role) ≡ b → (b || list_any (λ x. (x.rel == k.rel) && acts_as f x.session k.role) ss) ≡ true
-          → (list_any (λ x. (x.rel == k.rel) && acts_as f x.session k.role) ss ≡ true → P k.role k.rel) → P k.role k.rel
+      by : (b : Bool) → ((s.rel == k.rel) && session_acts_as f s.session k.role) ≡ b → (b || list_any (λ x. (x.rel == k.rel) && session_acts_as f x.session k.role) ss) ≡ true
+          → (list_any (λ x. (x.rel == k.rel) && session_acts_as f x.session k.role) ss ≡ true → P k.role k.rel) → P k.role k.rel
       by true e u later = one_read s e a.0
       by false e u later = later u
 
@@ -59,7 +59,7 @@ module _ (f : Frame) (k : RoleCircuit) (P : (role rel : ℕ) → Type 0) where
 
 -- with other sessions, where those of the subscriptions stay
 pub read_same : (f : Frame) (others : List Session) (k : RoleCircuit) (ss : List Subscription) → AllByRecursion (λ s. session_of others s.session ≡ session_of f.sessions s.session) ss
-    → list_any (λ s. (s.rel == k.rel) && acts_as (record f { sessions = others }) s.session k.role) ss ≡ list_any (λ s. (s.rel == k.rel) && acts_as f s.session k.role) ss
+    → list_any (λ s. (s.rel == k.rel) && session_acts_as (record f { sessions = others }) s.session k.role) ss ≡ list_any (λ s. (s.rel == k.rel) && session_acts_as f s.session k.role) ss
 read_same f others k [] a = refl
 read_same f others k (s ∷ ss) a = λ i. ((s.rel == k.rel) && if_some (a.0 i) false (λ x. x.role == k.role)) || read_same f others k ss a.1 i
 
@@ -129,19 +129,19 @@ place_more t ks more h = found_place t (ks ++ more) (any_more ks (place_found t 
     any_more (x ∷ xs) k = by (t x) (list_any t xs) (list_any t (xs ++ more)) k (any_more xs)
 
 -- a subscription reads what is for its role and relation
-pub reads_it : (f : Frame) (s : Subscription) (k : RoleCircuit) → is_open f s.session ≡ true → k.role ≡ actor f s.session → k.rel ≡ s.rel → ((s.rel == k.rel) && acts_as f s.session k.role) ≡ true
+pub reads_it : (f : Frame) (s : Subscription) (k : RoleCircuit) → is_open f s.session ≡ true → k.role ≡ actor f s.session → k.rel ≡ s.rel → ((s.rel == k.rel) && session_acts_as f s.session k.role) ≡ true
 reads_it f s k o r l =
-    (λ i. (s.rel == l i) && acts_as f s.session (r i)) ∙ ap (λ b. b && acts_as f s.session (actor f s.session)) (is_self s.rel) ∙ is_acting f s.session o
+    (λ i. (s.rel == l i) && session_acts_as f s.session (r i)) ∙ ap (λ b. b && session_acts_as f s.session (actor f s.session)) (is_self s.rel) ∙ is_acting f s.session o
 
 -- what it reads is read
-one_reads : (b : Bool) (ss : List Subscription) (k : RoleCircuit) (f : Frame) → b ≡ true → (b || list_any (λ s. (s.rel == k.rel) && acts_as f s.session k.role) ss) ≡ true
-one_reads b ss k f h = ap (λ x. x || list_any (λ s. (s.rel == k.rel) && acts_as f s.session k.role) ss) h
+one_reads : (b : Bool) (ss : List Subscription) (k : RoleCircuit) (f : Frame) → b ≡ true → (b || list_any (λ s. (s.rel == k.rel) && session_acts_as f s.session k.role) ss) ≡ true
+one_reads b ss k f h = ap (λ x. x || list_any (λ s. (s.rel == k.rel) && session_acts_as f s.session k.role) ss) h
 
 pub reads_own : (f : Frame) (ss : List Subscription) → AllByRecursion (λ s. is_open f s.session ≡ true) ss
-    → AllByRecursion (λ s. (k : RoleCircuit) → k.role ≡ actor f s.session → k.rel ≡ s.rel → list_any (λ x. (x.rel == k.rel) && acts_as f x.session k.role) ss ≡ true) ss
+    → AllByRecursion (λ s. (k : RoleCircuit) → k.role ≡ actor f s.session → k.rel ≡ s.rel → list_any (λ x. (x.rel == k.rel) && session_acts_as f x.session k.role) ss ≡ true) ss
 reads_own f [] a = tt
 reads_own f (s ∷ ss) a = (
-  λ k r l. one_reads ((s.rel == k.rel) && acts_as f s.session k.role) ss k f (reads_it f s k a.0 r l),
+  λ k r l. one_reads ((s.rel == k.rel) && session_acts_as f s.session k.role) ss k f (reads_it f s k a.0 r l),
   later (reads_own f ss a.1),
 )
   where
@@ -149,11 +149,11 @@ reads_own f (s ∷ ss) a = (
     or_true true c h = refl
     or_true false c h = h
 
-    later_among : (xs : List Subscription) → AllByRecursion (λ x. (k : RoleCircuit) → k.role ≡ actor f x.session → k.rel ≡ x.rel → list_any (λ y. (y.rel == k.rel) && acts_as f y.session k.role) ss ≡ true) xs
-        → AllByRecursion (λ x. (k : RoleCircuit) → k.role ≡ actor f x.session → k.rel ≡ x.rel → (((s.rel == k.rel) && acts_as f s.session k.role) || list_any (λ y. (y.rel == k.rel) && acts_as f y.session k.role) ss) ≡ true) xs
+    later_among : (xs : List Subscription) → AllByRecursion (λ x. (k : RoleCircuit) → k.role ≡ actor f x.session → k.rel ≡ x.rel → list_any (λ y. (y.rel == k.rel) && session_acts_as f y.session k.role) ss ≡ true) xs
+        → AllByRecursion (λ x. (k : RoleCircuit) → k.role ≡ actor f x.session → k.rel ≡ x.rel → (((s.rel == k.rel) && session_acts_as f s.session k.role) || list_any (λ y. (y.rel == k.rel) && session_acts_as f y.session k.role) ss) ≡ true) xs
     later_among [] h = tt
-    later_among (x ∷ xs) h = (λ k r l. or_true ((s.rel == k.rel) && acts_as f s.session k.role) (list_any (λ y. (y.rel == k.rel) && acts_as f y.session k.role) ss) (h.0 k r l), later_among xs h.1)
+    later_among (x ∷ xs) h = (λ k r l. or_true ((s.rel == k.rel) && session_acts_as f s.session k.role) (list_any (λ y. (y.rel == k.rel) && session_acts_as f y.session k.role) ss) (h.0 k r l), later_among xs h.1)
 
-    later : AllByRecursion (λ x. (k : RoleCircuit) → k.role ≡ actor f x.session → k.rel ≡ x.rel → list_any (λ y. (y.rel == k.rel) && acts_as f y.session k.role) ss ≡ true) ss
-        → AllByRecursion (λ x. (k : RoleCircuit) → k.role ≡ actor f x.session → k.rel ≡ x.rel → (((s.rel == k.rel) && acts_as f s.session k.role) || list_any (λ y. (y.rel == k.rel) && acts_as f y.session k.role) ss) ≡ true) ss
+    later : AllByRecursion (λ x. (k : RoleCircuit) → k.role ≡ actor f x.session → k.rel ≡ x.rel → list_any (λ y. (y.rel == k.rel) && session_acts_as f y.session k.role) ss ≡ true) ss
+        → AllByRecursion (λ x. (k : RoleCircuit) → k.role ≡ actor f x.session → k.rel ≡ x.rel → (((s.rel == k.rel) && session_acts_as f s.session k.role) || list_any (λ y. (y.rel == k.rel) && session_acts_as f y.session k.role) ss) ≡ true) ss
     later h = later_among ss h

@@ -10,14 +10,14 @@ use Rattle.iv_zset.specs.Weights.{SameZ, weight_of, Weighed}
 use Rattle.iv_zset.proofs.Rows.{row_tells}
 use Rattle.iv_algebra.specs.Contents.{rows_of}
 use Rattle.iv_algebra.specs.declared.tables.Table.{Table}
-use Rattle.iv_algebra.specs.Evaluation.{holds, value_of}
+use Rattle.iv_algebra.specs.Evaluation.{holds, term_value}
 use Rattle.iv_algebra.specs.Predicates.{agrees}
 use Rattle.iv_algebra.specs.Rows.{Cells}
 use Rattle.iv_algebra.specs.Shapes.{Condition, Constant, Compare, And, Or, Not, Term, Column, Literal, User}
 use Rattle.iv_access.specs.Changing.{changed_at, remove_policy, without_policy}
 use Rattle.iv_access.specs.Policies.{applies, by_policies, forbids, is_exempt, is_met, is_named, is_pass, IsRestriction, may_see, passes, permits, policies_of}
 use Rattle.iv_access.specs.Privileges.{role_name}
-use Rattle.iv_access.specs.Known.{Known}
+use Rattle.iv_access.specs.Access.{Access}
 use Rattle.iv_access.specs.Rights.{Guard, Name, Policy, Rights}
 use Rattle.iv_access.specs.declared.policy.Check.TheVariants.{Select}
 use Rattle.iv_access.specs.declared.policy.Verdict.TheVariants.{Pass}
@@ -28,7 +28,7 @@ use Rattle.iv_database.specs.Database.{Database}
 use Rattle.iv_database.specs.Owned.{IsGuarded}
 use Rattle.iv_machine.specs.Act.{drop_policy}
 use Rattle.iv_machine.specs.State.{rel_of}
-use Rattle.iv_engine.specs.Kept.{database_of, with_database, IsRoleCircuit, IsSound, Kept}
+use Rattle.iv_engine.specs.Store.{database_of, with_database, IsRoleCircuit, IsSoundStore, Store}
 use Rattle.iv_engine.specs.Restricted.{is_user, names_user, IsHidden, IsRestricted}
 use Rattle.iv_engine.specs.Turned.{IsNarrowed}
 use Rattle.iv_readers.proofs.Lists.{all_map}
@@ -40,7 +40,7 @@ neither : (a b : Bool) → (a || b) ≡ false → (a ≡ false) × (b ≡ false)
 neither true b h = cc
 neither false b h = (refl, h)
 
-same_value : (t : Term) (u v : Name) (row : Cells) → is_user t ≡ false → value_of t u row ≡ value_of t v row
+same_value : (t : Term) (u v : Name) (row : Cells) → is_user t ≡ false → term_value t u row ≡ term_value t v row
 same_value (Column k) u v row h = refl
 same_value (Literal x) u v row h = refl
 same_value User u v row h = cc
@@ -232,7 +232,7 @@ filter_weighs p (e ∷ es) q =
 
 -- ---- circuits
 
-module _ (e : Kept) (t : ℕ) (name : Name) (c : Condition) (each : AllByRecursion (IsRestriction name c) (policies_of (slice_get e.known.rights.guards t))) (plain : names_user c ≡ false)
+module _ (e : Store) (t : ℕ) (name : Name) (c : Condition) (each : AllByRecursion (IsRestriction name c) (policies_of (slice_get e.known.rights.guards t))) (plain : names_user c ≡ false)
     (h : HiddenRows) (here : h.table ≡ t) (rows : (q : Cells) → weight_of h.rows q ≡ weight_of (filter (λ x. not (holds c [] x.0)) (rows_of e.tables t)) q) where
   there : (k : ℕ) (q : Cells) → k ≡ t → holds c [] q ≡ false → weight_of (given_by h k) q ≡ weight_of (rows_of e.tables k) q
   there k q is fails =
@@ -244,7 +244,7 @@ module _ (e : Kept) (t : ℕ) (name : Name) (c : Condition) (each : AllByRecursi
       self : (n : ℕ) → (n == n) ≡ true
       self n = grind (arith, nat_tests)
 
-  pub widened : IsSound e → AllByRecursion (IsNarrowed (guarded t (dropped name) e) (Some h)) e.circuits
+  pub widened : IsSoundStore e → AllByRecursion (IsNarrowed (guarded t (dropped name) e) (Some h)) e.circuits
   widened sound = all_map (IsRoleCircuit e) (IsNarrowed (guarded t (dropped name) e) (Some h)) e.circuits
       (λ k i. record {
         rights = e.known.rights;
@@ -256,14 +256,14 @@ module _ (e : Kept) (t : ℕ) (name : Name) (c : Condition) (each : AllByRecursi
       }) sound.circuits
 
 -- where the rows were found that the policy of the name hid, each role sees what it saw, and of them more
-pub policy_widens : (e u : Kept) (d : Database) (n : ℕ) (rel name : Name) (is : u ≡ e) (s : IsSound e) (table : RelId) → IsGuarded (database_of u) n (drop_policy rel name) rel (Ok table) d
+pub policy_widens : (e u : Store) (d : Database) (n : ℕ) (rel name : Name) (is : u ≡ e) (s : IsSoundStore e) (table : RelId) → IsGuarded (database_of u) n (drop_policy rel name) rel (Ok table) d
     → (c : Condition) → IsRestricted e rel name c → (h : HiddenRows) → IsHidden (with_database d u) table.0 (Some c) h
     → AllByRecursion (IsNarrowed (with_database d u) (Some h)) (with_database d u).circuits
 policy_widens e u d n rel name is s table told c asked h found =
     let after = guard_is e u d n (drop_policy rel name) rel is (drop_guards e n rel name) s table told in
-    let t : rel_of e.catalog rel ≡ table.0 = ap (λ (v : Kept). rel_of v.catalog rel) (sym is) ∙ told.1 in
+    let t : rel_of e.catalog rel ≡ table.0 = ap (λ (v : Store). rel_of v.catalog rel) (sym is) ∙ told.1 in
     let same : found.condition ≡ c = own c found.condition found.asked in
-    subst (λ (v : Kept). AllByRecursion (IsNarrowed v (Some h)) v.circuits) (sym after)
+    subst (λ (v : Store). AllByRecursion (IsNarrowed v (Some h)) v.circuits) (sym after)
     (widened e (rel_of e.catalog rel) name c asked.each asked.plain h (found.table ∙ sym t)
     (λ q. found.rows q
     ∙ (λ i. weight_of (filter (λ x. not (holds (same i) [] x.0)) (rows_of (after i).tables (sym t i))) q)) s)
@@ -272,7 +272,7 @@ policy_widens e u d n rel name is s table told c asked h found =
     own c x e = cc
 
 -- the same of what was found, if rows were found
-pub policy_brings : (e u : Kept) (d : Database) (n : ℕ) (rel name : Name) (is : u ≡ e) (s : IsSound e) (table : RelId) → IsGuarded (database_of u) n (drop_policy rel name) rel (Ok table) d
+pub policy_brings : (e u : Store) (d : Database) (n : ℕ) (rel name : Name) (is : u ≡ e) (s : IsSoundStore e) (table : RelId) → IsGuarded (database_of u) n (drop_policy rel name) rel (Ok table) d
     → (asked : Option Condition) → IfSome asked (IsRestricted e rel name) → (o : Option HiddenRows) → IfSome o (IsHidden (with_database d u) table.0 asked)
     → is_some o ≡ true → AllByRecursion (IsNarrowed (with_database d u) o) (with_database d u).circuits
 policy_brings e u d n rel name is s table told asked r None h some = cc
@@ -285,7 +285,7 @@ if_some_as f P (Some x) h = h
 
 -- the same by the predicate that was found, and of rows that are lent
 pub rows_brought : {A B : Type 0} (now : B → HiddenRows) (l : Option B) (condition : A → Condition) (found : Option A) (hidden : Option HiddenRows) → option_map now l ≡ hidden
-    → (e u : Kept) (d : Database) (n : ℕ) (rel name : Name) (is : u ≡ e) (s : IsSound e) (table : RelId) → IsGuarded (database_of u) n (drop_policy rel name) rel (Ok table) d
+    → (e u : Store) (d : Database) (n : ℕ) (rel name : Name) (is : u ≡ e) (s : IsSoundStore e) (table : RelId) → IsGuarded (database_of u) n (drop_policy rel name) rel (Ok table) d
     → IfSome found (λ p. IsRestricted e rel name (condition p)) → IfSome hidden (IsHidden (with_database d u) table.0 (option_map condition found))
     → is_some hidden ≡ true → AllByRecursion (IsNarrowed (with_database d u) (option_map now l)) (with_database d u).circuits
 rows_brought now l condition found hidden lent e u d n rel name is s table told r h some =
@@ -294,16 +294,16 @@ rows_brought now l condition found hidden lent e u d n rel name is s table told 
 
 -- ---- the condition, and the rows, by what calls answered
 
-pub restricted_by : (e : Kept) (k : Known) (rel name : Name) (t : ℕ) (u c : Condition) → k ≡ e.known → rel_of e.catalog rel ≡ t → c ≡ u
+pub restricted_by : (e : Store) (k : Access) (rel name : Name) (t : ℕ) (u c : Condition) → k ≡ e.known → rel_of e.catalog rel ≡ t → c ≡ u
     → AllByRecursion (IsRestriction name u) (policies_of (slice_get k.rights.guards t)) → names_user u ≡ false → IsRestricted e rel name c
 restricted_by e k rel name t u c known number same each plain = record {
   each = subst (λ (x : Condition). AllByRecursion (IsRestriction name x) (policies_of (slice_get e.known.rights.guards (rel_of e.catalog rel)))) (sym same)
       (subst (λ (n : ℕ). AllByRecursion (IsRestriction name u) (policies_of (slice_get e.known.rights.guards n))) (sym number)
-      (subst (λ (x : Known). AllByRecursion (IsRestriction name u) (policies_of (slice_get x.rights.guards t))) known each));
+      (subst (λ (x : Access). AllByRecursion (IsRestriction name u) (policies_of (slice_get x.rights.guards t))) known each));
   plain = ap names_user same ∙ plain;
 }
 
-pub hidden_by : (e : Kept) (ts : List Table) (t : ℕ) (h : HiddenRows) (asked : Option Condition) (c : Condition) → ts ≡ e.tables → h.table ≡ t → asked ≡ Some c
+pub hidden_by : (e : Store) (ts : List Table) (t : ℕ) (h : HiddenRows) (asked : Option Condition) (c : Condition) → ts ≡ e.tables → h.table ≡ t → asked ≡ Some c
     → SameZ h.rows (filter (λ x. not (holds c [] x.0)) (rows_of ts t)) → IsHidden e t asked h
 hidden_by e ts t h asked c tables here is rows = record {
   table = here;

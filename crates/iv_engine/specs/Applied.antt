@@ -2,10 +2,10 @@
 use Rattle.std.specs.Prelude.{◌≡◌, List, [], ◌∷◌, ◌++◌}
 use Rattle.iv_machine.specs.Act.{Command, Line}
 use Rattle.iv_engine.specs.Counting.{AreCountedWhereAccepted}
-use Rattle.iv_engine.specs.Seen.{AreLinesOf, ChangesWhereAccepted, HasKnownRows, IsLeftBy, Seen}
+use Rattle.iv_engine.specs.Engine.{AreLinesOf, ChangesWhereAccepted, HasKnownRows, IsLeftBy, Engine}
 
 -- a command, as one `apply` answers it
-pub record IsApplied (old : Seen) (c : Command) (said : List Line) (new : Seen) : Type 0 where
+pub record IsApplied (old : Engine) (c : Command) (said : List Line) (new : Engine) : Type 0 where
   pub lines : AreLinesOf old c said
   pub state : IsLeftBy old c new
   pub known_rows : HasKnownRows old c said
@@ -13,7 +13,7 @@ pub record IsApplied (old : Seen) (c : Command) (said : List Line) (new : Seen) 
   pub rounds : AreCountedWhereAccepted old c said new
 
 -- the commands in their order, each on what the one before it left, and their lines one after another
-abbrev pub AreApplied : Seen → List Command → List Line → Seen → Type 0
+abbrev pub AreApplied : Engine → List Command → List Line → Engine → Type 0
 AreApplied old [] lines new = (lines ≡ []) × (new ≡ old)
 AreApplied old (c ∷ cs) lines new =
-    (first : List Line) × (others : List Line) × (between : Seen) × (lines ≡ first ++ others) × IsApplied old c first between × AreApplied between cs others new
+    (first : List Line) × (others : List Line) × (between : Engine) × (lines ≡ first ++ others) × IsApplied old c first between × AreApplied between cs others new

@@ -1,5 +1,5 @@
-pub mod Seen
-pub mod Kept
+pub mod Engine
+pub mod Store
 pub mod Rounds
 pub mod Counting
 pub mod Applied

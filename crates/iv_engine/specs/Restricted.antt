@@ -9,7 +9,7 @@ use Rattle.iv_access.specs.Policies.{IsRestriction, policies_of}
 use Rattle.iv_access.specs.Rights.{Name}
 use Rattle.iv_circuit.specs.Circuits.{HiddenRows}
 use Rattle.iv_machine.specs.State.{rel_of}
-use Rattle.iv_engine.specs.Kept.{Kept}
+use Rattle.iv_engine.specs.Store.{Store}
 
 -- the term is the name of the user
 abbrev pub is_user : Term → Bool
@@ -26,12 +26,12 @@ names_user (Or a b) = names_user a || names_user b
 names_user (Not a) = names_user a
 
 -- what policies of the name ask of the table's rows that are there; whoever reads, they hide the same rows
-pub record IsRestricted (e : Kept) (rel name : Name) (c : Condition) : Type 0 where
+pub record IsRestricted (e : Store) (rel name : Name) (c : Condition) : Type 0 where
   pub each : AllByRecursion (IsRestriction name c) (policies_of (slice_get e.known.rights.guards (rel_of e.catalog rel)))
   pub plain : names_user c ≡ false
 
 -- the rows of the table of which the condition does not hold
-pub record IsHidden (e : Kept) (t : ℕ) (o : Option Condition) (h : HiddenRows) : Type 0 where
+pub record IsHidden (e : Store) (t : ℕ) (o : Option Condition) (h : HiddenRows) : Type 0 where
   pub table : h.table ≡ t
   pub condition : Condition
   pub asked : o ≡ Some condition

@@ -2,7 +2,7 @@
 -- built anew.
 use Rattle.std.specs.Prelude.{ℕ, zero, suc, ◌-◌, ◌==◌, cond, List, [], ◌∷◌, ◌++◌, filter, map}
 use Rattle.iv_machine.specs.State.{Subscription, actor}
-use Rattle.iv_engine.specs.Kept.{Kept, frame_of}
+use Rattle.iv_engine.specs.Store.{Store, frame_of}
 use Rattle.iv_readers.specs.Readers.{RoleCircuit, is_for}
 
 -- what stands beside the number; 0 where it is not there
@@ -25,7 +25,7 @@ rounds_in role rel n [] = 0
 rounds_in role rel n (k ∷ ks) = cond (is_for role rel k) (rounds_since n k) (rounds_in role rel n ks)
 
 -- those of the circuit that the subscription reads
-abbrev pub rounds_of : Kept → Subscription → ℕ
+abbrev pub rounds_of : Store → Subscription → ℕ
 rounds_of e s = rounds_in (actor (frame_of e) s.session) s.rel s.number e.circuits
 
 -- the subscriptions of the number, each with what belongs to it
@@ -38,5 +38,5 @@ by_number f ss n zero = []
 by_number f ss n (suc k) = of_number f ss n ++ by_number f ss (suc n) k
 
 -- the open subscriptions by rising number, each with its rounds
-abbrev pub rounds : Kept → List (ℕ × ℕ)
+abbrev pub rounds : Store → List (ℕ × ℕ)
 rounds e = by_number (rounds_of e) e.subscriptions 0 (suc e.last)

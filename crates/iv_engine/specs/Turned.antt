@@ -9,14 +9,14 @@ use Rattle.iv_algebra.specs.Plans.{Lists}
 use Rattle.iv_circuit.specs.Circuits.{HiddenRows, Running}
 use Rattle.iv_circuit.specs.Nodes.{total_of}
 use Rattle.iv_machine.specs.Act as machine
-use Rattle.iv_machine.specs.Machine.{difference, ending, line_of as machine_line}
+use Rattle.iv_machine.specs.Machine.{difference, ending, lines_told as machine_line}
 use Rattle.iv_machine.specs.State.{Subscription, plan_at}
 use Rattle.iv_machine.specs.declared.Cause.{Cause}
 use Rattle.iv_machine.specs.declared.Cause.TheVariants as cause
 use Rattle.iv_engine.specs.Built.{IsBeyond, IsWider}
 use Rattle.iv_readers.specs.Each.{Each}
 use Rattle.iv_engine.specs.Found.{beside_of, total_at}
-use Rattle.iv_engine.specs.Kept.{IsCircuitFor, IsRoleCircuit, IsStored, Kept, at, frame_of, is_read, place_of, role_reads, shown_rows, with_rights}
+use Rattle.iv_engine.specs.Store.{IsCircuitFor, IsRoleCircuit, IsStored, Store, at, frame_of, is_read, place_of, role_reads, shown_rows, with_rights}
 use Rattle.iv_readers.specs.Readers.{RoleCircuit, WereOpened}
 use Rattle.iv_readers.specs.Rows.{IsBagDifference, shared_rows}
 use Rattle.iv_engine.specs.Rounds.{rounds_of}
@@ -33,7 +33,7 @@ use Rattle.iv_readers.specs.Turning.{Turn, Same, Anew, whole_at, circuit_after, 
 -- ---- circuits
 
 -- it is that of what was shown before rights changed
-pub record WasRead (e : Kept) (k : RoleCircuit) : Type 0 where
+pub record WasRead (e : Store) (k : RoleCircuit) : Type 0 where
   pub known : k.rel < length e.catalog
   pub bag : IsBag (total_of k.circuit.node)
   pub rights : Rights
@@ -41,38 +41,38 @@ pub record WasRead (e : Kept) (k : RoleCircuit) : Type 0 where
   pub opened : WereOpened k
 
 -- it is that of what is shown now, and its role may still read that
-pub record IsStill (e : Kept) (k : RoleCircuit) : Type 0 where
+pub record IsStill (e : Store) (k : RoleCircuit) : Type 0 where
   pub is : IsCircuitFor e k.role (plan_at e.catalog k.rel) k.circuit
   pub reads : role_reads e k.role k.rel ≡ true
 
 -- so it is with one that the change does not concern
-abbrev pub IsOther : Kept → RoleCircuit → (concerned : Bool) → Type 0
+abbrev pub IsOther : Store → RoleCircuit → (concerned : Bool) → Type 0
 IsOther e k concerned = concerned ≡ false → IsStill e k
 
 -- after a change of rights and before readers are told: each subscription has its circuit, which shows what it showed before
-pub record AreWaiting (e : Kept) (concerned : List Bool) : Type 0 where
+pub record AreWaiting (e : Store) (concerned : List Bool) : Type 0 where
   pub stored : IsStored e
   pub were : AllByRecursion (WasRead e) e.circuits
   pub others : Each (IsOther e) e.circuits concerned
   pub there : AllByRecursion (λ s. is_some (place_of e s) ≡ true) e.subscriptions
 
 -- it is that of what was shown before rights changed, and its role may see no other row now than those that it saw and the hidden ones
-abbrev pub IsNarrowed : Kept → Option HiddenRows → RoleCircuit → Type 0
+abbrev pub IsNarrowed : Store → Option HiddenRows → RoleCircuit → Type 0
 IsNarrowed e hidden k = IsWider e k.role hidden (plan_at e.catalog k.rel) k.circuit
 
 -- its role may read it; the circuit is one of what is shown now, and the rows are what that shows more and less
-pub record IsAnew (e : Kept) (k : RoleCircuit) (c : Running) (rows : Weighed) : Type 0 where
+pub record IsAnew (e : Store) (k : RoleCircuit) (c : Running) (rows : Weighed) : Type 0 where
   pub reads : role_reads e k.role k.rel ≡ true
   pub is : IsCircuitFor e k.role (plan_at e.catalog k.rel) c
   pub moves : IsBagDifference (total_of k.circuit.node) (total_of c.node) rows
 
 -- its role may read it, and a new one would break the limits
-pub record IsPast (e : Kept) (k : RoleCircuit) : Type 0 where
+pub record IsPast (e : Store) (k : RoleCircuit) : Type 0 where
   pub reads : role_reads e k.role k.rel ≡ true
   pub beyond : IsBeyond e k.role (plan_at e.catalog k.rel)
 
 -- what a change of rights makes of it
-abbrev pub IsTurn : Kept → RoleCircuit → Turn → Type 0
+abbrev pub IsTurn : Store → RoleCircuit → Turn → Type 0
 IsTurn e k Same = IsStill e k
 IsTurn e k (Anew c rows) = IsAnew e k c (shared_rows rows)
 IsTurn e k Lost = role_reads e k.role k.rel ≡ false
@@ -81,31 +81,31 @@ IsTurn e k Beyond = IsPast e k
 -- ---- as the code has it
 
 -- of these outcomes, what becomes of the reader at a place
-pub record IsTurnIn (e : Kept) (os : List Outcome) (place : ℕ) (k : RoleCircuit) (o : Outcome) : Type 0 where
+pub record IsTurnIn (e : Store) (os : List Outcome) (place : ℕ) (k : RoleCircuit) (o : Outcome) : Type 0 where
   pub joined : IsJoinedAt os place o
   pub is : IsTurn e k (fate e.circuits os o)
 
 -- the outcomes so far, of the first of all readers
-pub record AreTurns (e : Kept) (os : List Outcome) : Type 0 where
+pub record AreTurns (e : Store) (os : List Outcome) : Type 0 where
   pub long : length os ≤ length e.circuits
   pub each : (i : ℕ) (k : RoleCircuit) (o : Outcome) → i < length os → k ≡ get_or e.circuits i k → o ≡ get_or os i o → IsTurnIn e os i k o
 
 -- and the next one
-abbrev pub IsTurnAt : Kept → List Outcome → (place : ℕ) → Outcome → Type 0
+abbrev pub IsTurnAt : Store → List Outcome → (place : ℕ) → Outcome → Type 0
 IsTurnAt e os place o = (k : RoleCircuit) → k ≡ get_or e.circuits place k → IsTurnIn e (os ++ o ∷ []) place k o
 
 -- what one reader's circuit, before, shows less than another's, afterwards
-abbrev pub IsBetween : Kept → List Outcome → (place like : ℕ) → Weighed → Type 0
+abbrev pub IsBetween : Store → List Outcome → (place like : ℕ) → Weighed → Type 0
 IsBetween e os i j rows = IsBagDifference (total_at e i) (total_of (circuit_after e.circuits os j).node) rows
 
 -- the circuit of the reader, after these outcomes, is one of the role, too
-pub record IsLikeAfter (e : Kept) (os : List Outcome) (role rel place : ℕ) : Type 0 where
+pub record IsLikeAfter (e : Store) (os : List Outcome) (role rel place : ℕ) : Type 0 where
   pub low : place < length os
   pub whole : whole_at os place ≡ true
   pub is : IsCircuitFor e role (plan_at e.catalog rel) (circuit_after e.circuits os place)
 
 -- a circuit for the role and the relation is new, or would break the limits
-abbrev pub IsRebuilt : Kept → (role rel : ℕ) → Weighed → Outcome → Type 0
+abbrev pub IsRebuilt : Store → (role rel : ℕ) → Weighed → Outcome → Type 0
 IsRebuilt e role rel before code.Same = ⊥
 IsRebuilt e role rel before (code.Built c rows) = IsCircuitFor e role (plan_at e.catalog rel) c × IsBagDifference before (total_of c.node) (shared_rows rows)
 IsRebuilt e role rel before (code.Joined like rows) = ⊥
@@ -144,17 +144,17 @@ pub record IsToldTurn (s : Subscription) (showed : Weighed) (turn : Turn) (stays
 -- ---- all subscriptions
 
 -- the rows are those that the circuit of each shows
-abbrev pub AreShowed : Kept → (Subscription → List Cells) → Type 0
+abbrev pub AreShowed : Store → (Subscription → List Cells) → Type 0
 AreShowed e showed = AllByRecursion (λ s. IfSome (place_of e s) (λ place. Counts (total_at e place) (showed s))) e.subscriptions
 
 -- the subscriptions that stay open, and the lines of all, each by what became of its circuit
-pub record AreSettled (e : Kept) (turns : List Turn) (kept : List Subscription) (lines : List Line) : Type 0 where
+pub record AreSettled (e : Store) (turns : List Turn) (kept : List Subscription) (lines : List Line) : Type 0 where
   pub left : kept ≡ filter (λ s. leaves_open (beside_of Same e turns s)) e.subscriptions
   pub told : (showed : Subscription → List Cells) → AreShowed e showed
       → map line_of lines ≡ flat_map (λ s. line_by_turn s (showed s) (beside_of Same e turns s)) e.subscriptions
 
 -- nothing ends it
-abbrev pub stays_open : Kept → Lists → Subscription → Bool
+abbrev pub stays_open : Store → Lists → Subscription → Bool
 stays_open e T s = not (is_some (ending (at e T) s))
 
 -- the line of what it shows more and less; where it ends, the last, which takes all back
@@ -162,12 +162,12 @@ abbrev pub turned_by : Option Cause → Subscription → (old new : List Cells) 
 turned_by None s old new = machine_line None s (difference old new)
 turned_by (Some why) s old new = machine_line (Some why) s (difference old [])
 
-abbrev pub turned_line : Kept → Lists → Subscription → List Cells → List machine.Line
+abbrev pub turned_line : Store → Lists → Subscription → List Cells → List machine.Line
 turned_line e T s rows = turned_by (ending (at e T) s) s rows (shown_rows e T s)
 
 -- the subscriptions that nothing ends are left, each has its line, and the circuits are those that they read; those that the
 -- change concerns have taken in no change yet
-pub record AreReaders (e : Kept) (concerned : List Bool) (reply : Reply) (lines : List Line) (new : Kept) : Type 0 where
+pub record AreReaders (e : Store) (concerned : List Bool) (reply : Reply) (lines : List Line) (new : Store) : Type 0 where
   pub done : reply ≡ Ok
   pub left : (T : Lists) → Stands T e.tables → new.subscriptions ≡ filter (stays_open e T) e.subscriptions
   pub told : (T : Lists) → Stands T e.tables → (showed : Subscription → List Cells) → AreShowed e showed
@@ -179,5 +179,5 @@ pub record AreReaders (e : Kept) (concerned : List Bool) (reply : Reply) (lines 
   pub state : new ≡ record e { subscriptions = new.subscriptions; circuits = new.circuits }
 
 -- the answer has the lines
-abbrev pub AreReadersTold : Kept → (concerned : List Bool) → Answer → Kept → Type 0
+abbrev pub AreReadersTold : Store → (concerned : List Bool) → Answer → Store → Type 0
 AreReadersTold e concerned a new = AreReaders e concerned a.reply a.changes.items new

@@ -12,7 +12,7 @@ ghost use Rattle.iv_machine.specs.State.{State, start};
 ghost use Rattle.iv_machine.specs.Well.{is_well_command};
 ghost use Rattle.iv_engine.specs.Applied.{AreApplied};
 ghost use Rattle.iv_engine.specs.Counting.{AreCountedWhereAccepted};
-ghost use Rattle.iv_engine.specs.Seen.{AreLinesOf, AreLinesOfAll, ChangesWhereAccepted, HasKnownRows, HasRoundsOfOpen, IsBehind, IsLeftBy, IsLeftByAll, LinesAddUpBehind, closed};
+ghost use Rattle.iv_engine.specs.Engine.{AreLinesOf, AreLinesOfAll, ChangesWhereAccepted, HasKnownRows, HasRoundsOfOpen, IsBehind, IsLeftBy, IsLeftByAll, LinesAddUpBehind, hung_up};
 ghost use Rattle.iv_command.specs.Views.{command_of, line_of};
 
 use crate::store::Store;
@@ -51,17 +51,17 @@ pub struct Engine {
 impl Model for Engine {
     ghost use Rattle.std.specs.Prelude.{◌≡◌, false};
     ghost use Rattle.iv_engine.specs.Codes.{seen_code};
-    ghost use Rattle.iv_engine.specs.Kept.{IsSound, frame_of};
+    ghost use Rattle.iv_engine.specs.Store.{IsSoundStore, frame_of};
     ghost use Rattle.iv_engine.specs.Rounds.{rounds};
-    ghost use Rattle.iv_engine.specs.Seen.{Seen};
+    ghost use Rattle.iv_engine.specs.Engine.{Engine};
 
-    ghost Value = { Seen };
+    ghost Value = { Engine };
 
     ghost coded = { seen_code };
 
     ghost view = { λ e. record { frame = frame_of e.store; tables = e.store.tables; rounds = rounds e.store; failed = e.failed } };
 
-    ghost invariant = { λ e. e.failed ≡ false → IsSound e.store };
+    ghost invariant = { λ e. e.failed ≡ false → IsSoundStore e.store };
 }
 
 impl Engine {
@@ -118,7 +118,7 @@ impl Engine {
     /// given again. An engine that has failed stays as it was.
     pub fn hang_up(&mut self)
         ensures hung { self.old.failed ≡ false → (s : State) → IsBehind s self.old → IsBehind (hung s) self.new }
-        ensures closed { self.old.failed ≡ false → self.new ≡ closed self.old }
+        ensures closed { self.old.failed ≡ false → self.new ≡ hung_up self.old }
         ensures failed_unchanged { self.old.failed ≡ true → self.new ≡ self.old }
     {
         if !self.failed {

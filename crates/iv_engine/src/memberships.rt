@@ -7,7 +7,7 @@ ghost use Rattle.iv_machine.specs.Act as machine;
 ghost use Rattle.iv_engine.specs.Answering.{IsStep};
 ghost use Rattle.iv_readers.specs.Flags.{differing};
 ghost use Rattle.iv_engine.specs.Concerned.{reaching};
-ghost use Rattle.iv_engine.specs.Kept.{IsSound};
+ghost use Rattle.iv_engine.specs.Store.{IsSoundStore};
 ghost use Rattle.iv_engine.specs.Turned.{AreReadersTold, AreWaiting};
 
 use crate::store::Store;
@@ -32,7 +32,7 @@ impl Store {
     /// Makes the role `to` a member of a role. Readers who reach other roles than before are told what they see more and
     /// less.
     pub fn grant_role(&mut self, session: u32, role: String, to: &str) -> Result<Answer, Stop>
-        requires { IsSound self.old }
+        requires { IsSoundStore self.old }
         ensures { IsStep self.old session (machine.grant_role (string_bytes role) to.now) result self.new }
     {
         let group = self.database.access().role(role.as_str());
@@ -45,7 +45,7 @@ impl Store {
     /// Takes the role `to` out of the direct members of a role. Readers who reach other roles than before are told what they
     /// see more and less, and subscriptions that may not be read any more end.
     pub fn revoke_role(&mut self, session: u32, role: String, to: &str) -> Result<Answer, Stop>
-        requires { IsSound self.old }
+        requires { IsSoundStore self.old }
         ensures { IsStep self.old session (machine.revoke_role (string_bytes role) to.now) result self.new }
     {
         let group = self.database.access().role(role.as_str());

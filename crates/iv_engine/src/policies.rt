@@ -8,7 +8,7 @@ ghost use Rattle.iv_algebra.specs.Shapes.{condition_of};
 ghost use Rattle.iv_machine.specs.Act as machine;
 ghost use Rattle.iv_engine.specs.Answering.{IsStep};
 ghost use Rattle.iv_engine.specs.Concerned.{scanning};
-ghost use Rattle.iv_engine.specs.Kept.{IsSound, IsStored};
+ghost use Rattle.iv_engine.specs.Store.{IsSoundStore, IsStored};
 ghost use Rattle.iv_engine.specs.Restricted.{names_user, IsHidden, IsRestricted};
 ghost use Rattle.iv_engine.specs.Turned.{AreReadersTold, AreWaiting, IsNarrowed};
 
@@ -61,7 +61,7 @@ impl Store {
         enable: bool,
         force: bool,
     ) -> Result<Answer, Stop>
-        requires { IsSound self.old }
+        requires { IsSoundStore self.old }
         ensures { IsStep self.old session (machine.row_security (string_bytes rel) enable force) result self.new }
     {
         let table = self
@@ -74,7 +74,7 @@ impl Store {
     /// Adds a policy to a table, and tells readers of it and of views over it what they see more and less: less alone, where it is
     /// restrictive.
     pub fn create_policy(&mut self, session: u32, policy: PolicyText) -> Result<Answer, Stop>
-        requires { IsSound self.old }
+        requires { IsSoundStore self.old }
         ensures { IsStep self.old session (machine.create_policy policy) result self.new }
     {
         let narrows = policy.restrictive;
@@ -115,7 +115,7 @@ impl Store {
     /// Takes a policy of a table away, and tells readers of it and of views over it what they see more and less: more alone, where it is
     /// restrictive.
     pub fn drop_policy(&mut self, session: u32, rel: String, name: &str) -> Result<Answer, Stop>
-        requires { IsSound self.old }
+        requires { IsSoundStore self.old }
         ensures { IsStep self.old session (machine.drop_policy (string_bytes rel) name.now) result self.new }
     {
         let restriction = self.restriction(session, rel.as_str(), name)?;

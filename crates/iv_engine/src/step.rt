@@ -3,8 +3,8 @@ ghost use Rattle.std.specs.Prelude.{◌≡◌, IfOk, OnOk, map, option_map, stri
 ghost use Rattle.iv_machine.specs.Act as machine;
 ghost use Rattle.iv_machine.specs.Well.{is_well_act, is_well_command};
 ghost use Rattle.iv_engine.specs.Answering.{IsCountedBy, IsNext, IsPlain, IsSaid, IsStep};
-ghost use Rattle.iv_engine.specs.Kept.{IsSound};
-ghost use Rattle.iv_engine.specs.Seen.{ChangesWhereAccepted};
+ghost use Rattle.iv_engine.specs.Store.{IsSoundStore};
+ghost use Rattle.iv_engine.specs.Engine.{ChangesWhereAccepted};
 ghost use Rattle.iv_command.specs.Views.{act_of, command_of, line_of};
 
 use crate::store::Store;
@@ -38,7 +38,7 @@ impl Store {
     /// Makes the tests of a request, and the change where all pass.
     fn act(&mut self, session: u32, act: Act) -> Result<Answer, Stop>
         requires well { is_well_act (act_of act) ≡ true }
-        requires sound { IsSound self.old }
+        requires sound { IsSoundStore self.old }
         ensures { IsStep self.old session (act_of act) result self.new }
     {
         match act {
@@ -99,12 +99,12 @@ impl Store {
     /// One step of the machine.
     pub fn step(&mut self, command: Command) -> Result<Vec<Line>, AllocError>
         requires well { is_well_command (command_of command) ≡ true }
-        requires sound { IsSound self.old }
+        requires sound { IsSoundStore self.old }
         ensures lines { IfOk result (λ lines. IsSaid self.old (command_of command) (map line_of lines.items)) }
         ensures state { OnOk result (IsNext self.old (command_of command) self.new) }
         ensures refused { IfOk result (λ lines. ChangesWhereAccepted self.old (map line_of lines.items) self.new) }
         ensures rounds { IfOk result (λ lines. IsCountedBy self.old (command_of command) (map line_of lines.items) self.new) }
-        ensures sound { OnOk result (IsSound self.new) }
+        ensures sound { OnOk result (IsSoundStore self.new) }
     {
         let session = command.session;
         let answer = self.act(session, command.act);

@@ -6,8 +6,8 @@ ghost use Rattle.std.specs.Prelude.{IfOk};
 ghost use Rattle.iv_zset.specs.RowLimit.{IsRowLimit};
 ghost use Rattle.iv_machine.specs.State.{start};
 ghost use Rattle.iv_engine.specs.Answering.{seen};
-ghost use Rattle.iv_engine.specs.Kept.{IsSound};
-ghost use Rattle.iv_engine.specs.Seen.{IsBehind};
+ghost use Rattle.iv_engine.specs.Store.{IsSoundStore};
+ghost use Rattle.iv_engine.specs.Engine.{IsBehind};
 
 use crate::subscriptions::Subscription;
 use crate::touching::Touched;
@@ -32,14 +32,14 @@ pub struct Store {
 
 impl Model for Store {
     ghost use Rattle.iv_engine.specs.Codes.{kept_code};
-    ghost use Rattle.iv_engine.specs.Kept.{Kept, kept_of};
+    ghost use Rattle.iv_engine.specs.Store.{Store, store_of};
     ghost use Rattle.iv_engine.specs.Touching.{AreFoundAmong};
 
-    ghost Value = { Kept };
+    ghost Value = { Store };
 
     ghost coded = { kept_code };
 
-    ghost view = { λ s. kept_of s.database s.subscriptions.items s.circuits s.last };
+    ghost view = { λ s. store_of s.database s.subscriptions.items s.circuits s.last };
 
     ghost invariant = { λ s. AreFoundAmong s.database.sessions s.subscriptions.items s.circuits s.found.items };
 }
@@ -49,7 +49,7 @@ impl Store {
     pub fn new(alloc: Global, seed: Seed, cap: usize) -> Result<Store, AllocError>
         requires { IsRowLimit cap }
         ensures start { IfOk result (λ store. IsBehind (start cap) (seen store)) }
-        ensures sound { IfOk result (λ store. IsSound store) }
+        ensures sound { IfOk result (λ store. IsSoundStore store) }
     {
         Ok(Store {
             database: Database::new(alloc, seed, cap)?,

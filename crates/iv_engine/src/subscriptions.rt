@@ -7,7 +7,7 @@ ghost use Rattle.iv_machine.specs.Changing.{insert_subscription};
 ghost use Rattle.iv_machine.specs.State as state;
 ghost use Rattle.iv_command.specs.Views.{line_of};
 ghost use Rattle.iv_machine.specs.State.{actor, is_open};
-ghost use Rattle.iv_engine.specs.Kept.{IsStored, frame_of, IsSound};
+ghost use Rattle.iv_engine.specs.Store.{IsStored, frame_of, IsSoundStore};
 ghost use Rattle.iv_machine.specs.Act as machine;
 ghost use Rattle.iv_engine.specs.Answering.{IsStep};
 ghost use Rattle.iv_engine.specs.Found.{total_at};
@@ -149,7 +149,7 @@ impl Store {
 
     /// Opens a subscription to a table or a view.
     pub fn subscribe(&mut self, session: u32, rel: String) -> Result<Answer, Stop>
-        requires { IsSound self.old }
+        requires { IsSoundStore self.old }
         ensures { IsStep self.old session (machine.subscribe (string_bytes rel)) result self.new }
     {
         let rel = self.check_subscribe(session, rel.as_str())?;
@@ -187,7 +187,7 @@ impl Store {
 
     /// Closes the session with its subscriptions.
     pub fn finish(&mut self, session: u32) -> Result<Answer, Stop>
-        requires { IsSound self.old }
+        requires { IsSoundStore self.old }
         ensures { IsStep self.old session machine.finish result self.new }
     {
         if self.database.actor(session).is_none() {
@@ -212,7 +212,7 @@ impl Store {
 
     /// Closes a subscription of the session.
     pub fn unsubscribe(&mut self, session: u32, number: u64) -> Result<Answer, Stop>
-        requires { IsSound self.old }
+        requires { IsSoundStore self.old }
         ensures { IsStep self.old session (machine.unsubscribe number) result self.new }
     {
         if self.database.actor(session).is_none() {
@@ -232,7 +232,7 @@ impl Store {
     /// Closes all sessions and subscriptions. All else is kept, the last number given too.
     pub fn close_all(&mut self)
         ensures closed { self.new ≡ record self.old { sessions = []; subscriptions = []; circuits = [] } }
-        ensures sound { IsSound self.old → IsSound self.new }
+        ensures sound { IsSoundStore self.old → IsSoundStore self.new }
     {
         self.database.end_sessions();
         self.subscriptions.clear();

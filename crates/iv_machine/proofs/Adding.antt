@@ -4,15 +4,15 @@ use Rattle.std.proofs.lemmas.Int.{ints}
 use Rattle.std.proofs.lemmas.Bool.Decides.{nat_tests}
 use Rattle.std.specs.Prelude.{◌==◌, flat_map, find, ◌-ℤ◌, ◌+ℤ◌}
 use Rattle.std.specs.List.{list_any}
-use Rattle.iv_bind.specs.Faults.{if_some}
+use Rattle.iv_rows.specs.Options.{if_some}
 use Rattle.iv_rows.specs.Cell.{Cell}
 use Rattle.iv_zset.specs.Weights.{Weighed, weight_of}
 use Rattle.iv_zset.specs.Limits.{copies}
 use Rattle.iv_machine.specs.Act.{Act, Command, Line, Refusal}
-use Rattle.iv_machine.specs.State.{State, Subscription, view_of, shown, start}
+use Rattle.iv_machine.specs.State.{State, Subscription, view_shown, shown, start}
 use Rattle.iv_machine.specs.Refusing.{refusal}
 use Rattle.iv_machine.specs.Changing.{after_frame, after}
-use Rattle.iv_machine.specs.Machine.{weight, difference, line_of, line_for, changes, ending_by, settled, outcome, step, run}
+use Rattle.iv_machine.specs.Machine.{weight, difference, lines_told, line_for, changes, ending_by, settled, outcome, step, run}
 use Rattle.iv_machine.specs.Held.{line_weight, held, closed_by, closed_in, closed}
 use Rattle.iv_machine.specs.Reached.{AreUnique, AreNumbersUnique, AddsUp}
 use Rattle.iv_machine.proofs.Rising.{difference_weighs, zero_left, zero_right, once}
@@ -40,7 +40,7 @@ none true = refl
 none false = refl
 
 -- the line of a subscription, or none where nothing changes
-line_held : (k : ℕ) (q : List Cell) (o : Option Cause) (e : Subscription) (ps : Weighed) → held k q (line_of o e ps) ≡ cond (k == e.number) (weight_of ps q) (pos 0)
+line_held : (k : ℕ) (q : List Cell) (o : Option Cause) (e : Subscription) (ps : Weighed) → held k q (lines_told o e ps) ≡ cond (k == e.number) (weight_of ps q) (pos 0)
 line_held k q (Some why) e ps = zero_right _
 line_held k q None e [] = none (k == e.number)
 line_held k q None e (p ∷ ps) = zero_right _
@@ -68,7 +68,7 @@ found_none k (e ∷ es) h = let a = neither (k == e.number) (has_number k es) h 
 
 -- a subscription that is not open shows nothing
 pub shows_nothing : (s : State) (k : ℕ) → has_number k s.frame.subscriptions ≡ false → shown s k ≡ []
-shows_nothing s k h = ap (λ o. if_some o [] (view_of s)) (found_none k s.frame.subscriptions h)
+shows_nothing s k h = ap (λ o. if_some o [] (view_shown s)) (found_none k s.frame.subscriptions h)
 
 -- what is neither open afterwards nor closed was not open before
 pick : (s : State) (n : ℕ) (act : Act) (k : ℕ) (q : List Cell) (b : Bool) → list_any (λ j. k == j) (closed_by s.frame n act) ≡ false → has_number k (after_frame s.frame n act).subscriptions ≡ b → cond b (weight (shown s k) (shown (settled act (after s n act)) k) q) (pos 0) ≡ weight (shown s k) (shown (settled act (after s n act)) k) q

@@ -113,7 +113,7 @@ one_entry true q e rows h = copies-changed_by q e.op e.copies rows (h refl)
 one_entry false q e rows h = zero_more (pos (copies q rows))
 
 -- a write adds its entries' copies, where each finds the rows that it removes
-pub copies-written : (catalog : List catalogs.Entry) (n : ℕ) (es : List Entry) (T : Lists) (t : ℕ) (q : List Cell) → entries_present catalog n es T ≡ None → pos (copies q (written catalog es T t)) ≡ pos (copies q (T t)) +ℤ added catalog es t q
+pub copies-written : (catalog : List catalogs.CatalogEntry) (n : ℕ) (es : List Entry) (T : Lists) (t : ℕ) (q : List Cell) → entries_present catalog n es T ≡ None → pos (copies q (written catalog es T t)) ≡ pos (copies q (T t)) +ℤ added catalog es t q
 copies-written catalog n [] T t q h = zero_more (pos (copies q (T t)))
 copies-written catalog n (e ∷ es) T t q h =
     let r = rel_of catalog e.rel in

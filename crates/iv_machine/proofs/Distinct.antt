@@ -7,9 +7,9 @@ use Rattle.std.proofs.lemmas.Bool.Decides.{nat_tests}
 use Rattle.std.proofs.lemmas.Slice.Eq.{bytes_eq-Decides}
 use Rattle.std.proofs.lemmas.Map.Keys.{IsDistinct-push}
 use Rattle.iv_bind.specs.BoundTexts.{TextFault, bound_query}
-use Rattle.iv_bind.specs.Catalogs.{Answer, Held, Table, View}
+use Rattle.iv_bind.specs.Catalogs.{BoundQuery, Held, Table, View}
 use Rattle.iv_bind.specs.Catalogs as catalogs
-use Rattle.iv_access.specs.Known.{role_number}
+use Rattle.iv_access.specs.Access.{role_number}
 use Rattle.iv_access.specs.Rights.{Name}
 use Rattle.iv_machine.specs.Act.{Act, begin, finish, create_role, create_table, create_view, session_in_use, no_session, name_taken, Refusal}
 use Rattle.iv_machine.specs.State.{Frame, Session, is_open, actor, next_rel, start_frame}
@@ -111,10 +111,10 @@ module _ {X : Type 0} (p : X → Bool) where
 -- ---- names
 
 new_relation : (f : Frame) (name : Name) (held : Held) → free_relation f name ≡ None → IsDistinct bytes_eq (map (λ e. e.name) f.catalog) → IsDistinct bytes_eq (map (λ e. e.name) (with_held name (Some held) f.catalog))
-new_relation f name held h d = distinct_push bytes_eq bytes_equiv (λ (x : catalogs.Entry). x.name) f.catalog (record { name = name; rel = next_rel f.catalog; held = held }) d
+new_relation f name held h d = distinct_push bytes_eq bytes_equiv (λ (x : catalogs.CatalogEntry). x.name) f.catalog (record { name = name; rel = next_rel f.catalog; held = held }) d
     (test_passes (is_some (find (λ x. bytes_eq name x.name) f.catalog)) name_taken h)
 
-new_view : (f : Frame) (name : Name) (r : Result Answer TextFault) → free_relation f name ≡ None → IsDistinct bytes_eq (map (λ e. e.name) f.catalog) → IsDistinct bytes_eq (map (λ e. e.name) (with_held name (view_held r) f.catalog))
+new_view : (f : Frame) (name : Name) (r : Result BoundQuery TextFault) → free_relation f name ≡ None → IsDistinct bytes_eq (map (λ e. e.name) f.catalog) → IsDistinct bytes_eq (map (λ e. e.name) (with_held name (view_held r) f.catalog))
 new_view f name (Ok answer) h d = new_relation f name (View answer) h d
 new_view f name (Err fault) h d = d
 

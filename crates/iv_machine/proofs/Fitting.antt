@@ -10,9 +10,9 @@ use Rattle.iv_rows.specs.Order.{row_eq}
 use Rattle.iv_zset.specs.Limits.{within}
 use Rattle.iv_algebra.specs.Plans.{Lists}
 use Rattle.iv_bind.specs.BoundTexts.{bound_query}
-use Rattle.iv_bind.specs.Catalogs.{Answer, Held, Table, View, named, numbered, schema_of, table_in}
+use Rattle.iv_bind.specs.Catalogs.{BoundQuery, Held, Table, View, named, numbered, schema_of, table_in}
 use Rattle.iv_bind.specs.Catalogs as catalogs
-use Rattle.iv_bind.specs.Faults.{if_some}
+use Rattle.iv_rows.specs.Options.{if_some}
 use Rattle.iv_access.specs.Rights.{Name}
 use Rattle.iv_machine.specs.Act.{Act, create_table, create_view, write, Op, insert, delete, update, Entry, no_session, unknown_relation, not_a_table, bad_row, limit}
 use Rattle.iv_machine.specs.State.{State, Frame, actor, columns_at, is_open, is_within, next_rel, rel_of, table_columns}
@@ -93,15 +93,15 @@ no_rows : (o : Option (List Column)) → HasKinds o []
 no_rows None = refl
 no_rows (Some columns) = All-nil (λ r. accepts (kinds_of columns) r ≡ true)
 
-more_kinds : (catalog : List catalogs.Entry) (e : catalogs.Entry) (T : Lists) → ((t : ℕ) → HasKinds (schema_of catalog t) (T t)) → (t : ℕ) → HasKinds (schema_of (catalog ++ e ∷ []) t) (T t)
+more_kinds : (catalog : List catalogs.CatalogEntry) (e : catalogs.CatalogEntry) (T : Lists) → ((t : ℕ) → HasKinds (schema_of catalog t) (T t)) → (t : ℕ) → HasKinds (schema_of (catalog ++ e ∷ []) t) (T t)
 more_kinds catalog e T k t = by (numbered catalog t) refl
   where
-    by : (o : Option catalogs.Entry) → numbered catalog t ≡ o → HasKinds (schema_of (catalog ++ e ∷ []) t) (T t)
+    by : (o : Option catalogs.CatalogEntry) → numbered catalog t ≡ o → HasKinds (schema_of (catalog ++ e ∷ []) t) (T t)
     by None h = let empty : T t ≡ [] = subst (λ o. HasKinds (if_some o None (λ x. table_in x.held)) (T t)) h (k t) in
         subst (HasKinds (schema_of (catalog ++ e ∷ []) t)) (sym empty) (no_rows (schema_of (catalog ++ e ∷ []) t))
-    by (Some x) h = subst (λ o. HasKinds (if_some o None (λ y. table_in y.held)) (T t)) (sym (find_kept (λ (y : catalogs.Entry). t == y.rel) catalog (e ∷ []) (ap is_some h))) (k t)
+    by (Some x) h = subst (λ o. HasKinds (if_some o None (λ y. table_in y.held)) (T t)) (sym (find_kept (λ (y : catalogs.CatalogEntry). t == y.rel) catalog (e ∷ []) (ap is_some h))) (k t)
 
-held_kinds : (catalog : List catalogs.Entry) (name : Name) (o : Option Held) (T : Lists) → ((t : ℕ) → HasKinds (schema_of catalog t) (T t)) → (t : ℕ) → HasKinds (schema_of (with_held name o catalog) t) (T t)
+held_kinds : (catalog : List catalogs.CatalogEntry) (name : Name) (o : Option Held) (T : Lists) → ((t : ℕ) → HasKinds (schema_of catalog t) (T t)) → (t : ℕ) → HasKinds (schema_of (with_held name o catalog) t) (T t)
 held_kinds catalog name None T k = k
 held_kinds catalog name (Some held) T k = more_kinds catalog (record { name = name; rel = next_rel catalog; held = held }) T k
 
@@ -127,13 +127,13 @@ found_passes p q (y ∷ ys) x h k = let a = both (q y) (list_all q ys) h in by (
     by true e j a go = let same : y ≡ x = cc in (ap p (sym same) ∙ e, ap q (sym same) ∙ a)
     by false e j a go = go j
 
-each_within : (cap : ℕ) (catalog : List catalogs.Entry) (T : Lists) → list_all (λ e. within cap (T e.rel)) catalog ≡ true → ((t : ℕ) → HasKinds (schema_of catalog t) (T t)) → (t : ℕ) → within cap (T t) ≡ true
+each_within : (cap : ℕ) (catalog : List catalogs.CatalogEntry) (T : Lists) → list_all (λ e. within cap (T e.rel)) catalog ≡ true → ((t : ℕ) → HasKinds (schema_of catalog t) (T t)) → (t : ℕ) → within cap (T t) ≡ true
 each_within cap catalog T w k t = by (numbered catalog t) refl
   where
-    by : (o : Option catalogs.Entry) → numbered catalog t ≡ o → within cap (T t) ≡ true
+    by : (o : Option catalogs.CatalogEntry) → numbered catalog t ≡ o → within cap (T t) ≡ true
     by None h = let empty : T t ≡ [] = subst (λ o. HasKinds (if_some o None (λ x. table_in x.held)) (T t)) h (k t) in ap (within cap) empty ∙ none_within cap
     by (Some x) h =
-        let f = found_passes (λ (y : catalogs.Entry). t == y.rel) (λ (y : catalogs.Entry). within cap (T y.rel)) catalog x w h in
+        let f = found_passes (λ (y : catalogs.CatalogEntry). t == y.rel) (λ (y : catalogs.CatalogEntry). within cap (T y.rel)) catalog x w h in
         let b = f.0 in
         let at : t ≡ x.rel = grind (arith, nat_tests) in
         ap (λ i. within cap (T i)) at ∙ f.1

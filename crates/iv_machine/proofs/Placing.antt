@@ -4,10 +4,10 @@ use Rattle.std.proofs.lemmas.Bool.Decides.{nat_tests}
 use Rattle.std.specs.Prelude.{find, filter, is_some, not, nat_lt, ◌==◌, unwrap_or, position, bytes_eq}
 use Rattle.std.specs.List.{AllByRecursion, position_or_len}
 use Rattle.iv_bind.specs.BoundTexts.{bound_query}
-use Rattle.iv_bind.specs.Catalogs.{Answer, Held, Table, View, named, numbered}
+use Rattle.iv_bind.specs.Catalogs.{BoundQuery, Held, Table, View, named, numbered}
 use Rattle.iv_bind.specs.Catalogs as catalogs
-use Rattle.iv_bind.specs.Faults.{if_some}
-use Rattle.iv_access.specs.Known.{role_number}
+use Rattle.iv_rows.specs.Options.{if_some}
+use Rattle.iv_access.specs.Access.{role_number}
 use Rattle.iv_access.specs.Rights.{Name}
 use Rattle.iv_machine.specs.Act.{Act, begin, finish, create_role, create_table, create_view, subscribe, unsubscribe, no_session, session_in_use, unknown_role, unknown_relation}
 use Rattle.iv_machine.specs.State.{Frame, Session, Subscription, is_open, actor, next_rel, rel_of}
@@ -51,7 +51,7 @@ other_session m n (e ∷ es) d = by (n == e.number) refl (other_session m n es d
 -- ---- names and numbers of relations
 
 -- no relation has a number below the first
-none_below : (n t : ℕ) (es : List catalogs.Entry) → AreNumbered n es → t < n → find (λ e. t == e.rel) es ≡ None
+none_below : (n t : ℕ) (es : List catalogs.CatalogEntry) → AreNumbered n es → t < n → find (λ e. t == e.rel) es ≡ None
 none_below n t [] a l = refl
 none_below n t (e ∷ es) a l =
     let r = a.0 in
@@ -59,7 +59,7 @@ none_below n t (e ∷ es) a l =
     ap (λ b. cond b (Some e) (find (λ x. t == x.rel) es)) d ∙ none_below (suc n) t es a.1 (omega arith)
 
 -- a relation that is found has its number
-pub found_by_number : (n : ℕ) (es : List catalogs.Entry) (p : catalogs.Entry → Bool) (x : catalogs.Entry) → AreNumbered n es → find p es ≡ Some x → find (λ e. x.rel == e.rel) es ≡ Some x
+pub found_by_number : (n : ℕ) (es : List catalogs.CatalogEntry) (p : catalogs.CatalogEntry → Bool) (x : catalogs.CatalogEntry) → AreNumbered n es → find p es ≡ Some x → find (λ e. x.rel == e.rel) es ≡ Some x
 found_by_number n [] p x a h = cc
 found_by_number n (e ∷ es) p x a h = by (p e) h (found_by_number (suc n) es p x a.1)
   where
@@ -72,7 +72,7 @@ found_by_number n (e ∷ es) p x a h = by (p e) h (found_by_number (suc n) es p 
     later false k f = f
 
     by : (b : Bool) → cond b (Some e) (find p es) ≡ Some x → (find p es ≡ Some x → find (λ y. x.rel == y.rel) es ≡ Some x) → find (λ y. x.rel == y.rel) (e ∷ es) ≡ Some x
-    by true k go = let same : e ≡ x = cc in ap (λ b. cond b (Some e) (find (λ y. x.rel == y.rel) es)) (eq-eqb x.rel e.rel (ap (λ (y : catalogs.Entry). y.rel) (sym same))) ∙ ap Some same
+    by true k go = let same : e ≡ x = cc in ap (λ b. cond b (Some e) (find (λ y. x.rel == y.rel) es)) (eq-eqb x.rel e.rel (ap (λ (y : catalogs.CatalogEntry). y.rel) (sym same))) ∙ ap Some same
     by false k go = later (x.rel == e.rel) refl (go k)
 
 pub some_of : {X : Type 0} (o : Option X) → is_some o ≡ true → (P : Type 0) → ((x : X) → o ≡ Some x → P) → P
@@ -123,7 +123,7 @@ placed_finished f n e d h = (ap is_some (other_session e.session n f.sessions (i
 
 more_known : (f : Frame) (name : Name) (o : Option Held) (k : ℕ) → is_some (numbered f.catalog k) ≡ true → is_some (numbered (with_held name o f.catalog) k) ≡ true
 more_known f name None k h = h
-more_known f name (Some held) k h = find_more (λ (x : catalogs.Entry). k == x.rel) f.catalog (record { name = name; rel = next_rel f.catalog; held = held } ∷ []) h
+more_known f name (Some held) k h = find_more (λ (x : catalogs.CatalogEntry). k == x.rel) f.catalog (record { name = name; rel = next_rel f.catalog; held = held } ∷ []) h
 
 placed_opened : (f : Frame) (n : ℕ) (rel : Name) → IsNumbered f → frame_refusal f n (subscribe rel) ≡ None → IsPlaced (after_frame f n (subscribe rel)) (opened_by f n rel)
 placed_opened f n rel a h =

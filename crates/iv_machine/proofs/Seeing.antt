@@ -13,15 +13,15 @@ use Rattle.iv_zset.specs.Weights.{Weighed}
 use Rattle.iv_algebra.specs.Evaluation.{eval}
 use Rattle.iv_algebra.specs.Plans.{Lists}
 use Rattle.iv_bind.specs.Catalogs as catalogs
-use Rattle.iv_bind.specs.Faults.{if_some}
+use Rattle.iv_rows.specs.Options.{if_some}
 use Rattle.iv_access.specs.Policies.{may_see, allowed}
 use Rattle.iv_machine.specs.declared.Cause.{Cause}
 use Rattle.iv_machine.specs.Act.{Act, subscribe, write, Entry, no_such_row, limit, Command, reply, change, ended, refused, Refusal}
-use Rattle.iv_machine.specs.State.{State, Frame, Subscription, actor, is_within_for, rel_of, shown, view_of}
+use Rattle.iv_machine.specs.State.{State, Frame, Subscription, actor, is_within_for, rel_of, shown, view_shown}
 use Rattle.iv_machine.specs.Refusing.{test, or_else, is_present, entries_present, all_within, refusal}
 use Rattle.iv_machine.specs.Split.{frame_refusal, rows_refusal}
 use Rattle.iv_machine.specs.Changing.{after_entry, after}
-use Rattle.iv_machine.specs.Machine.{weight, weighted, is_change, rising_rows, difference, line_of, line_for, changes, ending_by, reply_to, settled, outcome, step}
+use Rattle.iv_machine.specs.Machine.{weight, weighted, is_change, rising_rows, difference, lines_told, line_for, changes, ending_by, reply_to, settled, outcome, step}
 use Rattle.iv_machine.specs.Reached.{AreUnique, AreNumbersUnique}
 use Rattle.iv_machine.specs.Readers.{IsAllowed, IsKnownRow, AreKnownRows, ShowsKnownRows, looks_at_rows}
 use Rattle.iv_machine.proofs.Reached.{has_number, both_false, neither, none_kept, after_numbers}
@@ -72,7 +72,7 @@ known_rows : (old new : State) (k : ℕ) → AreKnownRows old new k (difference 
 known_rows old new k e t found plan = all_stand (shown old k) (shown new k) (IsKnownRow old new k (actor new.frame e.session) t) known (rising_rows (shown old k ++ shown new k))
   where
     seen : shown new k ≡ filter (may_see new.frame.rights (actor new.frame e.session) t) (new.rows t)
-    seen = ap (λ o. if_some o [] (view_of new)) found ∙ ap (λ p. eval p (allowed new.frame.rights (actor new.frame e.session) new.rows)) plan
+    seen = ap (λ o. if_some o [] (view_shown new)) found ∙ ap (λ p. eval p (allowed new.frame.rights (actor new.frame e.session) new.rows)) plan
 
     now : (q : List Cell) → 0 < copies q (shown new k) → IsAllowed new (actor new.frame e.session) t q
     now q h = let g = let_through (may_see new.frame.rights (actor new.frame e.session) t) q (new.rows t) (subst (λ rows. 0 < copies q rows) seen h) in
@@ -107,7 +107,7 @@ module _ (ends : Subscription → Option Cause) where
   )
 
 module _ (s new : State) (ends : Subscription → Option Cause) where
-  line_shows : (o : Option Cause) (e : Subscription) (ps : Weighed) → AreKnownRows s new e.number ps → (is_some o ≡ true → ps ≡ difference (shown s e.number) []) → All (ShowsKnownRows s new) (line_of o e ps)
+  line_shows : (o : Option Cause) (e : Subscription) (ps : Weighed) → AreKnownRows s new e.number ps → (is_some o ≡ true → ps ≡ difference (shown s e.number) []) → All (ShowsKnownRows s new) (lines_told o e ps)
   line_shows (Some why) e ps a h = All-cons (ShowsKnownRows s new) (ended e.session e.number why ps) [] (h refl) (All-nil (ShowsKnownRows s new))
   line_shows None e [] a h = All-nil (ShowsKnownRows s new)
   line_shows None e (p ∷ ps) a h = All-cons (ShowsKnownRows s new) (change e.session e.number (p ∷ ps)) [] a (All-nil (ShowsKnownRows s new))
@@ -136,7 +136,7 @@ test_is : (b : Bool) (x r : Refusal) → test b x ≡ Some r → r ≡ x
 test_is true x r h = cc
 test_is false x r h = cc
 
-present_looks : (catalog : List catalogs.Entry) (n : ℕ) (es : List Entry) (T : Lists) (r : Refusal) → entries_present catalog n es T ≡ Some r → looks_at_rows r ≡ true
+present_looks : (catalog : List catalogs.CatalogEntry) (n : ℕ) (es : List Entry) (T : Lists) (r : Refusal) → entries_present catalog n es T ≡ Some r → looks_at_rows r ≡ true
 present_looks catalog n [] T r h = cc
 present_looks catalog n (e ∷ es) T r h = by (not (is_present e.op e.copies (T (rel_of catalog e.rel)))) h (present_looks catalog (n + 1) es (after_entry catalog e T) r)
   where

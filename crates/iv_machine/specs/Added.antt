@@ -20,10 +20,10 @@ adds (delete old) c q = pos 0 -ℤ copies_in c old q
 adds (update old new) c q = copies_in c new q -ℤ copies_in c old q
 
 -- how many copies of the row q the entries add to table t
-abbrev pub added : List catalogs.Entry → List Entry → ℕ → List Cell → ℤ
+abbrev pub added : List catalogs.CatalogEntry → List Entry → ℕ → List Cell → ℤ
 added catalog [] t q = pos 0
 added catalog (e ∷ es) t q = cond (rel_of catalog e.rel == t) (adds e.op e.copies q) (pos 0) +ℤ added catalog es t q
 
 -- the rows of table t after the entries are those before, and what the entries add
-abbrev pub AddsCopies : List catalogs.Entry → List Entry → Lists → Type 0
+abbrev pub AddsCopies : List catalogs.CatalogEntry → List Entry → Lists → Type 0
 AddsCopies catalog es T = (t : ℕ) (q : List Cell) → pos (copies q (written catalog es T t)) ≡ pos (copies q (T t)) +ℤ added catalog es t q

@@ -7,9 +7,9 @@ use Rattle.iv_rows.specs.Order.{row_eq}
 use Rattle.iv_algebra.specs.Plans.{Lists}
 use Rattle.iv_algebra.specs.Shapes.{Condition}
 use Rattle.iv_bind.specs.BoundTexts.{TextFault, bound_query, bound_policy}
-use Rattle.iv_bind.specs.Catalogs.{Answer, Held, Table, View}
+use Rattle.iv_bind.specs.Catalogs.{BoundQuery, Held, Table, View}
 use Rattle.iv_bind.specs.Catalogs as catalogs
-use Rattle.iv_access.specs.Known.{role_number, grantee_of}
+use Rattle.iv_access.specs.Access.{role_number, grantee_of}
 use Rattle.iv_access.specs.Rights.{Name, Policy, Rights}
 use Rattle.iv_access.specs.Changing.{with_role, with_member, without_member, with_relation, with_grants, without_grants, with_security, with_policy, without_policy}
 use Rattle.iv_machine.specs.Act.{Act, begin, finish, create_role, create_table, create_view, grant, revoke, grant_role, revoke_role, row_security, create_policy, drop_policy, subscribe, unsubscribe, write, Op, insert, delete, update, Entry, PolicyText}
@@ -22,9 +22,9 @@ or_none (Ok a) = Some a
 or_none (Err b) = None
 
 -- the condition of a text that may stand
-abbrev pub condition_of : List Column → Option (List ℕ) → Option Condition
-condition_of columns None = None
-condition_of columns (Some text) = or_none (bound_policy columns text)
+abbrev pub condition_of_text : List Column → Option (List ℕ) → Option Condition
+condition_of_text columns None = None
+condition_of_text columns (Some text) = or_none (bound_policy columns text)
 
 -- the policy that its texts are bound to
 abbrev pub policy_for : Frame → PolicyText → Policy
@@ -33,8 +33,8 @@ policy_for f p = let columns = columns_at f.catalog p.rel in record {
   restrictive = p.restrictive;
   command = p.command;
   to = map (grantee_of f.rights) p.to;
-  using = condition_of columns p.using_text;
-  check = condition_of columns p.check_text;
+  using = condition_of_text columns p.using_text;
+  check = condition_of_text columns p.check_text;
 }
 
 -- ---- rows
@@ -57,11 +57,11 @@ changed_by (delete old) c rows = without c old rows
 changed_by (update old new) c rows = without c old rows ++ times c new
 
 -- the rows of the tables after an entry
-abbrev pub after_entry : List catalogs.Entry → Entry → Lists → Lists
+abbrev pub after_entry : List catalogs.CatalogEntry → Entry → Lists → Lists
 after_entry catalog e T = λ t. cond (rel_of catalog e.rel == t) (changed_by e.op e.copies (T t)) (T t)
 
 -- the rows of the tables after entries, in their order
-abbrev pub written : List catalogs.Entry → List Entry → Lists → Lists
+abbrev pub written : List catalogs.CatalogEntry → List Entry → Lists → Lists
 written catalog [] T = T
 written catalog (e ∷ es) T = written catalog es (after_entry catalog e T)
 
@@ -95,15 +95,15 @@ after_rights f (subscribe rel) = f.rights
 after_rights f (unsubscribe k) = f.rights
 after_rights f (write entries) = f.rights
 
-abbrev pub with_held : Name → Option Held → List catalogs.Entry → List catalogs.Entry
+abbrev pub with_held : Name → Option Held → List catalogs.CatalogEntry → List catalogs.CatalogEntry
 with_held name None catalog = catalog
 with_held name (Some held) catalog = catalog ++ record { name = name; rel = next_rel catalog; held = held } ∷ []
 
-abbrev pub view_held : Result Answer TextFault → Option Held
+abbrev pub view_held : Result BoundQuery TextFault → Option Held
 view_held (Ok answer) = Some (View answer)
 view_held (Err fault) = None
 
-abbrev pub after_catalog : Frame → Act → List catalogs.Entry
+abbrev pub after_catalog : Frame → Act → List catalogs.CatalogEntry
 after_catalog f (create_table name owner columns) = with_held name (Some (Table columns)) f.catalog
 after_catalog f (create_view name owner query) = with_held name (view_held (bound_query f.catalog query)) f.catalog
 after_catalog f (begin role) = f.catalog

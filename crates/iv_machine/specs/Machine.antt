@@ -97,14 +97,14 @@ reply_to f (unsubscribe k) = done
 reply_to f (write entries) = done
 
 -- a last line where the subscription ends, also with no row; else no line where nothing changes
-abbrev pub line_of : Option Cause → Subscription → List (List Cell × ℤ) → List Line
-line_of (Some why) e rows = ended e.session e.number why rows ∷ []
-line_of None e [] = []
-line_of None e (p ∷ ps) = change e.session e.number (p ∷ ps) ∷ []
+abbrev pub lines_told : Option Cause → Subscription → List (List Cell × ℤ) → List Line
+lines_told (Some why) e rows = ended e.session e.number why rows ∷ []
+lines_told None e [] = []
+lines_told None e (p ∷ ps) = change e.session e.number (p ∷ ps) ∷ []
 
 -- what it shows afterwards, minus what it showed before
 abbrev pub line_for : State → State → (Subscription → Option Cause) → Subscription → List Line
-line_for old new ends e = line_of (ends e) e (difference (shown old e.number) (shown new e.number))
+line_for old new ends e = lines_told (ends e) e (difference (shown old e.number) (shown new e.number))
 
 -- for each subscription that was open before or is new, and that its reader did not close
 abbrev pub changes : Act → State → State → State → List Line

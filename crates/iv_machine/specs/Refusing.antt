@@ -15,7 +15,7 @@ use Rattle.iv_access.specs.declared.policy.Verdict.TheVariants.{Pass, NoPermissi
 use Rattle.iv_access.specs.declared.privilege.Privilege.{Privilege}
 use Rattle.iv_access.specs.declared.privilege.Privilege.TheVariants as privilege
 use Rattle.iv_access.specs.Policies.{policies_of, policy_name, policy_of, verdict}
-use Rattle.iv_access.specs.Known.{role_number}
+use Rattle.iv_access.specs.Access.{role_number}
 use Rattle.iv_access.specs.Privileges.{acts_as, first_missing, is_admin, owns, role_of}
 use Rattle.iv_access.specs.Rights.{Name}
 use Rattle.iv_machine.specs.Act.{Act, begin, finish, create_role, create_table, create_view, grant, revoke, grant_role, revoke_role, row_security, create_policy, drop_policy, subscribe, unsubscribe, write, Op, insert, delete, update, Entry, Refusal, no_session, session_in_use, unknown_role, name_taken, unknown_relation, not_a_table, bad_row, bad_query, not_administrator, not_owner, missing_privilege, no_permissive, restrictive_failed, no_such_row, limit, unknown_policy, unknown_subscription, too_many, membership_loop}
@@ -125,13 +125,13 @@ abbrev pub entry_privileges : Frame → ℕ → ℕ → Entry → Option Refusal
 entry_privileges f role n e = missing f (first_missing f.rights role (map (λ p. (p, rel_of f.catalog e.rel)) (privileges_for e.op)))
 
 -- the name of the policy at a place of the table of a name
-abbrev pub name_at : Frame → Name → ℕ → Name
-name_at f rel place = unwrap_or (policy_name f.rights (rel_of f.catalog rel) place) []
+abbrev pub policy_name_at : Frame → Name → ℕ → Name
+policy_name_at f rel place = unwrap_or (policy_name f.rights (rel_of f.catalog rel) place) []
 
 abbrev pub failed_check : Frame → Name → ℕ → Check → Verdict → Option Refusal
 failed_check f rel n test Pass = None
 failed_check f rel n test NoPermissive = Some (no_permissive rel test n)
-failed_check f rel n test (Restrictive place) = Some (restrictive_failed (name_at f rel place) rel test n)
+failed_check f rel n test (Restrictive place) = Some (restrictive_failed (policy_name_at f rel place) rel test n)
 
 -- one of the tests of entry n
 abbrev pub entry_check : Frame → ℕ → ℕ → Name → Check × List Cell → Option Refusal
@@ -149,7 +149,7 @@ is_present (delete old) c rows = nat_le c (copies old rows)
 is_present (update old new) c rows = nat_le c (copies old rows)
 
 -- each entry finds what the earlier ones leave
-abbrev pub entries_present : List catalogs.Entry → ℕ → List Entry → Lists → Option Refusal
+abbrev pub entries_present : List catalogs.CatalogEntry → ℕ → List Entry → Lists → Option Refusal
 entries_present catalog n [] T = None
 entries_present catalog n (e ∷ es) T = or_else
     (test (not (is_present e.op e.copies (T (rel_of catalog e.rel)))) (no_such_row n))

@@ -31,7 +31,7 @@ HasKinds (Some columns) rows = AllPass (accepts (kinds_of columns)) rows
 -- Subscriptions have the order of the lines and numbers of their own, and each may be read and is within the limits; names
 -- are distinct; relations are numbered by their places; sessions act for roles that are there; each table is within the
 -- limits, and its rows have its columns' kinds.
-pub record IsSound (s : State) : Type 0 where
+pub record IsSoundState (s : State) : Type 0 where
   pub numbers : AreNumbersUnique s.frame
   pub ordered : AreInOrder s.frame.subscriptions
   pub readers : All (MayRead s.frame) s.frame.subscriptions

@@ -2,7 +2,7 @@
 -- to believe this: a law says that the two are `refusal`.
 use Rattle.std.specs.Prelude.{◌≡◌, ℕ, ◌^◌, ◌+◌, ◌==◌, not, [], ◌∷◌, map, length, count_by, Option, None}
 use Rattle.iv_bind.specs.BoundTexts.{bound_query}
-use Rattle.iv_access.specs.Known.{role_number}
+use Rattle.iv_access.specs.Access.{role_number}
 use Rattle.iv_access.specs.Privileges.{acts_as}
 use Rattle.iv_machine.specs.Act.{Act, begin, create_role, create_table, create_view, grant, revoke, grant_role, revoke_role, row_security, create_policy, drop_policy, subscribe, unsubscribe, write, PolicyText, Refusal, session_in_use, name_taken, limit, unknown_policy, unknown_subscription, membership_loop}
 use Rattle.iv_machine.specs.State.{State, Frame, rel_of, columns_at, is_open, actor, is_within_for, missing_for}

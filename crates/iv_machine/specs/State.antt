@@ -6,8 +6,8 @@ use Rattle.iv_rows.specs.Columns.{Column}
 use Rattle.iv_algebra.specs.Evaluation.{eval, plan_within}
 use Rattle.iv_algebra.specs.Plans.{Lists}
 use Rattle.iv_algebra.specs.Shapes.{Shape, Scan}
-use Rattle.iv_bind.specs.Catalogs.{Entry, named, numbered, plan_of, reached_by, table_in}
-use Rattle.iv_bind.specs.Faults.{if_some}
+use Rattle.iv_bind.specs.Catalogs.{CatalogEntry, named, numbered, plan_of, reached_by, table_in}
+use Rattle.iv_rows.specs.Options.{if_some}
 use Rattle.iv_access.specs.declared.privilege.Privilege.{Privilege}
 use Rattle.iv_access.specs.declared.privilege.Privilege.TheVariants.{Select}
 use Rattle.iv_access.specs.Rights.{Name, Rights}
@@ -30,7 +30,7 @@ pub record Subscription : Type 0 where
 pub record Frame : Type 0 where
   pub cap : ℕ
   pub rights : Rights
-  pub catalog : List Entry
+  pub catalog : List CatalogEntry
   pub sessions : List Session
   pub subscriptions : List Subscription
   pub last : ℕ
@@ -42,7 +42,7 @@ pub record State : Type 0 where
 
 -- no relation, no session, and one role
 abbrev pub start_frame : ℕ → Frame
-start_frame cap = record { cap = cap; rights = rights.start; catalog = []; sessions = []; subscriptions = []; last = 0 }
+start_frame cap = record { cap = cap; rights = rights.rights_at_start; catalog = []; sessions = []; subscriptions = []; last = 0 }
 
 abbrev pub start : ℕ → State
 start cap = record { frame = start_frame cap; rows = λ _. [] }
@@ -50,29 +50,29 @@ start cap = record { frame = start_frame cap; rows = λ _. [] }
 -- ---- relations
 
 -- the next relation's number, which no relation has
-abbrev pub next_rel : List Entry → ℕ
+abbrev pub next_rel : List CatalogEntry → ℕ
 next_rel catalog = length catalog
 
 -- the number of the relation of a name; of none where there is none
-abbrev pub rel_of : List Entry → Name → ℕ
+abbrev pub rel_of : List CatalogEntry → Name → ℕ
 rel_of catalog name = if_some (named catalog name) (next_rel catalog) (λ e. e.rel)
 
-abbrev pub name_of : List Entry → ℕ → Name
+abbrev pub name_of : List CatalogEntry → ℕ → Name
 name_of catalog rel = if_some (numbered catalog rel) [] (λ e. e.name)
 
 -- the columns of the table of a name; none of a view
-abbrev pub table_columns : List Entry → Name → Option (List Column)
+abbrev pub table_columns : List CatalogEntry → Name → Option (List Column)
 table_columns catalog name = if_some (named catalog name) None (λ e. table_in e.held)
 
-abbrev pub columns_at : List Entry → Name → List Column
+abbrev pub columns_at : List CatalogEntry → Name → List Column
 columns_at catalog name = unwrap_or (table_columns catalog name) []
 
 -- a table is scanned; a view is its plan
-abbrev pub plan_at : List Entry → ℕ → Shape
+abbrev pub plan_at : List CatalogEntry → ℕ → Shape
 plan_at catalog rel = if_some (numbered catalog rel) (Scan rel) (λ e. plan_of e.rel e.held)
 
 -- the relation, and all that it reaches
-abbrev pub needs_at : List Entry → ℕ → List ℕ
+abbrev pub needs_at : List CatalogEntry → ℕ → List ℕ
 needs_at catalog rel = if_some (numbered catalog rel) [] (λ e. reached_by e.rel e.held)
 
 -- ---- sessions and subscriptions
@@ -110,12 +110,12 @@ abbrev pub missing_for : Frame → ℕ → ℕ → Option (Privilege × ℕ)
 missing_for f role rel = first_missing f.rights role (map (λ r. (Select, r)) (needs_at f.catalog rel))
 
 -- what a subscription shows
-abbrev pub view_of : State → Subscription → List (List Cell)
-view_of s e = view_for s (actor s.frame e.session) e.rel
+abbrev pub view_shown : State → Subscription → List (List Cell)
+view_shown s e = view_for s (actor s.frame e.session) e.rel
 
 abbrev pub is_within : State → Subscription → Bool
 is_within s e = is_within_for s (actor s.frame e.session) e.rel
 
 -- the rows that subscription k shows: none where it is not open
 abbrev pub shown : State → ℕ → List (List Cell)
-shown s k = if_some (subscription_of s.frame.subscriptions k) [] (view_of s)
+shown s k = if_some (subscription_of s.frame.subscriptions k) [] (view_shown s)

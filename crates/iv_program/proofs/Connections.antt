@@ -7,7 +7,7 @@ use Rattle.iv_machine.specs.Act.{Command}
 use Rattle.iv_machine.specs.Machine.{hung, run}
 use Rattle.iv_machine.specs.Reached.{AreGiven, AreUnique, AreNumbersUnique}
 use Rattle.iv_machine.specs.State.{Frame, State}
-use Rattle.iv_engine.specs.Seen.{Seen, IsBehind}
+use Rattle.iv_engine.specs.Engine.{Engine, IsBehind}
 use Rattle.iv_wire.specs.Ran.{HasRun}
 use Rattle.iv_program.specs.Serves.{HasServed, IsClosed, served}
 
@@ -19,14 +19,14 @@ all_join : {X : Type 0} (P : X → Type 0) (xs ys : List X) → AllByRecursion P
 all_join P [] ys a b = b
 all_join P (x ∷ xs) ys a b = (a.0, all_join P xs ys a.1 b)
 
-pub none_served : (lines : ℕ) (s : State) (e : Seen) → IsBehind s e → HasServed lines 0 s e
+pub none_served : (lines : ℕ) (s : State) (e : Engine) → IsBehind s e → HasServed lines 0 s e
 none_served lines s e b = record { commands = []; count = refl; most = tt; behind = b }
 
 -- a run, and then all is hung up
-pub one_served : (lines : ℕ) (s : State) (mid new : Seen) → HasRun lines s mid → ((t : State) → IsBehind t mid → IsBehind (hung t) new) → HasServed lines 1 s new
+pub one_served : (lines : ℕ) (s : State) (mid new : Engine) → HasRun lines s mid → ((t : State) → IsBehind t mid → IsBehind (hung t) new) → HasServed lines 1 s new
 one_served lines s mid new h f = record { commands = h.commands ∷ []; count = refl; most = (h.most, tt); behind = f (run s h.commands).state h.behind }
 
-pub more_served : (lines n m : ℕ) (s : State) (mid new : Seen) → HasServed lines n s mid → ((t : State) → IsBehind t mid → HasServed lines m t new) → HasServed lines (n + m) s new
+pub more_served : (lines n m : ℕ) (s : State) (mid new : Engine) → HasServed lines n s mid → ((t : State) → IsBehind t mid → HasServed lines m t new) → HasServed lines (n + m) s new
 more_served lines n m s mid new h f =
     let last = f (served s h.commands) h.behind in
     record {

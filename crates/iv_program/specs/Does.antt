@@ -2,7 +2,7 @@
 use Rattle.std.specs.Prelude.{ℕ, ◌∷◌, ◌++◌, List, [], Option, Result, Ok, Err, codes, decimal, take, IfSome, ⊤}
 use Rattle.std.specs.Io.KnownBytes.{Appends}
 use Rattle.iv_machine.specs.State.{start}
-use Rattle.iv_engine.specs.Seen.{Seen}
+use Rattle.iv_engine.specs.Engine.{Engine}
 use Rattle.iv_wire.specs.Endings.{Run}
 use Rattle.iv_wire.specs.Sums.{HasWritten}
 use Rattle.iv_program.specs.Replays.{Replays}
@@ -23,7 +23,7 @@ pub record Ends : Type 0 where
   pub written : Option (List ℕ)
 
 -- a run from these ends to the engine
-abbrev pub run_of : ℕ → Ends → Seen → Run
+abbrev pub run_of : ℕ → Ends → Engine → Run
 run_of lines e now = record { lines = lines; given = e.given; left = e.left; taken = e.taken; written = e.written; now = now }
 
 -- a front of the line was written, and all of it where all connections were served
@@ -36,11 +36,11 @@ Listens port taken written (Err f) = (n : ℕ) × Appends taken written (take n 
 -- lines of the reader are answered on the writer, with so many rows at most, or those of connections are answered, and the
 -- writer tells the port
 abbrev pub Does : Settings → Ends → Result (Unit {0}) Fault → Type 0
-Does (Replay lines rows) e result = (now : Seen) × Replays rows (run_of lines e now) result
+Does (Replay lines rows) e result = (now : Engine) × Replays rows (run_of lines e now) result
 Does (Serve port connections lines rows) e result = Listens port e.taken e.written result
 
 -- where lines of the reader are answered and the reader tells its bytes, the lines that were written add up, for each
 -- subscription that its reader did not close, to what it shows
-abbrev pub AddsUp : Settings → Ends → Type 0
-AddsUp (Replay lines rows) e = (now : Seen) × IfSome e.given (λ _. HasWritten (start rows) (run_of lines e now))
-AddsUp (Serve port connections lines rows) e = ⊤
+abbrev pub LinesAddUp : Settings → Ends → Type 0
+LinesAddUp (Replay lines rows) e = (now : Engine) × IfSome e.given (λ _. HasWritten (start rows) (run_of lines e now))
+LinesAddUp (Serve port connections lines rows) e = ⊤

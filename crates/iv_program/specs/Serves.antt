@@ -4,7 +4,7 @@ use Rattle.std.specs.List.{AllByRecursion}
 use Rattle.iv_machine.specs.Act.{Command}
 use Rattle.iv_machine.specs.Machine.{hung, run}
 use Rattle.iv_machine.specs.State.{Frame, State}
-use Rattle.iv_engine.specs.Seen.{Seen, IsBehind}
+use Rattle.iv_engine.specs.Engine.{Engine, IsBehind}
 use Rattle.iv_program.specs.declared.serving.ServeFault.{ServeFault}
 use Rattle.iv_program.specs.declared.serving.ServeFault.TheVariants.{Network, Memory, Failed}
 
@@ -15,14 +15,14 @@ served s (commands ∷ more) = served (hung (run s commands).state) more
 
 -- so many connections were answered, each with no more commands than lines, and the machine's state then stands behind
 -- the engine
-pub record HasServed (lines connections : ℕ) (before : State) (now : Seen) : Type 0 where
+pub record HasServed (lines connections : ℕ) (before : State) (now : Engine) : Type 0 where
   pub commands : List (List Command)
   pub count : length commands ≡ connections
   pub most : AllByRecursion (λ cs. length cs ≤ lines) commands
   pub behind : IsBehind (served before commands) now
 
 -- all connections were answered, or as many as came before the network failed
-abbrev pub Serves : (lines connections : ℕ) → State → Seen → Result (Unit {0}) ServeFault → Type 0
+abbrev pub Serves : (lines connections : ℕ) → State → Engine → Result (Unit {0}) ServeFault → Type 0
 Serves lines connections before now (Ok _) = HasServed lines connections before now
 Serves lines connections before now (Err Network) = (k : ℕ) × (k < connections) × HasServed lines k before now
 Serves lines connections before now (Err Memory) = ⊤

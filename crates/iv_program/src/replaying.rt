@@ -3,10 +3,10 @@
 ghost use Rattle.std.specs.Prelude.{◌≡◌, ℕ, ◌≤◌, ◌+◌, ◌*◌, ◌||◌, OnOk, true, false};
 ghost use Rattle.iv_zset.specs.RowLimit.{IsRowLimit};
 ghost use Rattle.iv_machine.specs.State.{start};
-ghost use Rattle.iv_engine.specs.Seen.{IsBehind};
+ghost use Rattle.iv_engine.specs.Engine.{IsBehind};
 ghost use Rattle.iv_wire.specs.Cut.{line_room};
 ghost use Rattle.iv_program.specs.Arguments.{InRange, lines_of};
-ghost use Rattle.iv_program.specs.Does.{AddsUp, Does};
+ghost use Rattle.iv_program.specs.Does.{LinesAddUp, Does};
 ghost use Rattle.iv_program.specs.Replays.{is_read, is_write};
 ghost use Rattle.iv_program.specs.declared.asked.Settings.TheVariants.{Replay};
 
@@ -36,7 +36,7 @@ fn replay_on<R: Source, W: Sink>(
       taken = W.taken writer.old;
       written = W.taken writer.new;
     }) result }
-    ensures adds_up { (cap : ℕ) → IsBehind (start cap) engine.old → OnOk result (AddsUp (Replay lines cap) (record {
+    ensures adds_up { (cap : ℕ) → IsBehind (start cap) engine.old → OnOk result (LinesAddUp (Replay lines cap) (record {
       given = R.left reader.old;
       left = R.left reader.new;
       taken = W.taken writer.old;
@@ -78,7 +78,7 @@ fn replay<R: Source, W: Sink>(
       taken = W.taken writer.old;
       written = W.taken writer.new;
     }) result }
-    ensures adds_up { OnOk result (AddsUp (Replay lines rows) (record {
+    ensures adds_up { OnOk result (LinesAddUp (Replay lines rows) (record {
       given = R.left reader.old;
       left = R.left reader.new;
       taken = W.taken writer.old;
@@ -115,7 +115,7 @@ pub fn work<R: Source, W: Sink>(
       written = W.taken writer.new;
     }) result }
     // For each subscription that its reader did not close, the lines written add up to what it shows.
-    ensures adds_up { OnOk result (AddsUp settings (record {
+    ensures adds_up { OnOk result (LinesAddUp settings (record {
       given = R.left reader.old;
       left = R.left reader.new;
       taken = W.taken writer.old;

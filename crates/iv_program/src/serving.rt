@@ -15,7 +15,7 @@ ghost use Rattle.std.specs.Prelude.{◌≡◌, ◌≤◌, ◌||◌, ◌↔◌, t
 ghost use Rattle.iv_zset.specs.RowLimit.{IsRowLimit};
 ghost use Rattle.iv_machine.specs.Reached.{AreNumbersUnique};
 ghost use Rattle.iv_machine.specs.State.{State};
-ghost use Rattle.iv_engine.specs.Seen.{IsBehind};
+ghost use Rattle.iv_engine.specs.Engine.{IsBehind};
 ghost use Rattle.iv_program.specs.Does.{Listens};
 ghost use Rattle.iv_program.specs.Replays.{is_write};
 ghost use Rattle.iv_program.specs.Serves.{HasServed, IsClosed, Serves, is_memory};

@@ -20,7 +20,8 @@ use Rattle.std.proofs.lemmas.List.{map_push, append-nil}
 use Rattle.iv_query.specs.declared.fault.Fault.{Fault}
 use Rattle.iv_query.specs.declared.fault.Why.TheVariants as why
 use Rattle.iv_query.specs.declared.token.Token.{Token}
-use Rattle.iv_query.specs.Tokens.{Tok, Quoted, tok, toks, if_some}
+use Rattle.iv_query.specs.Tokens.{Tok, Quoted, tok, toks}
+use Rattle.iv_rows.specs.Options.{if_some}
 use Rattle.iv_query.specs.Lexing.{is_blank, is_letter, is_word_byte, is_plain, after_quote, onto, quoted, starts_letter, starts_digit, number_at, negative_at, minus_at, text_at, Ahead, Gap, Nothing, word_token, word_at, less_at, greater_at, not_equal_at, sign_at, ahead, Lexes, at_end, gap, token, broken}
 use Rattle.iv_query.specs.Lexing as lexing
 use Rattle.iv_query.specs.TextReading.{Lexed, lexed_from, lexed}

@@ -1,7 +1,8 @@
 -- { sign item }: the function that reads and the grammar say the same, for any item.
 use Rattle.std.proofs.Common.{◌≡◌, ℕ, zero, suc, ◌≤◌, ◌<◌, List, [], ◌∷◌, length, Option, Some, None, Ok, Err, refl, arith}
 use Rattle.iv_query.specs.declared.fault.Fault.{Fault}
-use Rattle.iv_query.specs.Tokens.{Tok, if_some}
+use Rattle.iv_query.specs.Tokens.{Tok}
+use Rattle.iv_rows.specs.Options.{if_some}
 use Rattle.iv_query.specs.Rules.{Many, many_end, many_more, ManyFault, many_first, many_later}
 use Rattle.iv_query.specs.Reading.{◌>>=◌, Read, many_at}
 use Rattle.iv_query.proofs.Loop.{is_last}

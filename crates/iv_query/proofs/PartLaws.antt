@@ -5,7 +5,8 @@ use Rattle.iv_query.specs.declared.token.Symbol.{Symbol}
 use Rattle.iv_query.specs.declared.token.Symbol.TheVariants as symbol
 use Rattle.iv_query.specs.declared.tree.Dialect.{Dialect}
 use Rattle.iv_query.specs.declared.tree.Dialect.TheVariants.{Query, Policy}
-use Rattle.iv_query.specs.Tokens.{Tok, Fixed, Name, Number, Quoted, after, starts_name, unexpected, if_some}
+use Rattle.iv_query.specs.Tokens.{Tok, Fixed, Name, Number, Quoted, after_symbol, starts_name, unexpected}
+use Rattle.iv_rows.specs.Options.{if_some}
 use Rattle.iv_query.specs.Trees.{Called, ColumnTree, OperandTree, OfColumn}
 use Rattle.iv_query.specs.Grammar.{IsColumn, plain, dotted, ColumnFault, no_column, no_name, IsOperand, column_is, name_is, number_is, text_is, true_is, false_is, user_is, is_operand_word, starts_operand, OperandFault, no_operand, in_column}
 use Rattle.iv_query.specs.Reading.{◌>>=◌, name_at, alone, dotted as dotted_tree, column_at, word_operand, name_operand_at, operand_at}
@@ -28,7 +29,7 @@ dotted_judged stop s p q (Quoted v r ∷ us) = bad (no_name refl)
 pub column_judged : (stop : Fault) (ts : List Tok) → Outcome (IsColumn ts) (ColumnFault stop ts) (column_at stop ts)
 unfolding column_at
 column_judged stop [] = bad (no_column refl)
-column_judged stop (Name s p ∷ ts) = go ts (after symbol.Dot ts) (front symbol.Dot ts)
+column_judged stop (Name s p ∷ ts) = go ts (after_symbol symbol.Dot ts) (front symbol.Dot ts)
   where
     go : (ts : List Tok) (r : Option (List Tok)) → Front symbol.Dot ts r → Outcome (IsColumn (Name s p ∷ ts)) (ColumnFault stop (Name s p ∷ ts)) (if_some r (Ok (alone (Called s p), ts)) (λ us. name_at stop us >>= λ y. Ok (dotted_tree (Called s p) y.0, y.1)))
     go ts None (absent e) = good (plain e)
@@ -38,12 +39,12 @@ column_judged stop (Number n r ∷ us) = bad (no_column refl)
 column_judged stop (Quoted v r ∷ us) = bad (no_column refl)
 
 pub column_agrees : (stop : Fault) {ts us : List Tok} {c : ColumnTree} → IsColumn ts c us → column_at stop ts ≡ Ok (c, us)
-unfolding column_at after
+unfolding column_at after_symbol
 column_agrees stop (plain e) = rw e refl
 column_agrees stop dotted = refl
 
 pub column_fault_agrees : (stop : Fault) {ts : List Tok} {f : Fault} → ColumnFault stop ts f → column_at stop ts ≡ Err f
-unfolding column_at after
+unfolding column_at after_symbol
 column_fault_agrees stop (no_column {ts = ts} e) = rw (no_name_at stop ts e) refl
 column_fault_agrees stop (no_name {ts = ts} e) = rw (no_name_at stop ts e) refl
 

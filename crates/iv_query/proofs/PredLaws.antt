@@ -5,7 +5,8 @@ use Rattle.iv_query.specs.declared.fault.Fault.{Fault}
 use Rattle.iv_query.specs.declared.token.Symbol.TheVariants as symbol
 use Rattle.iv_query.specs.declared.tree.Op.{Op}
 use Rattle.iv_query.specs.declared.tree.Dialect.{Dialect}
-use Rattle.iv_query.specs.Tokens.{Tok, Fixed, after, after_op, first_place, unexpected, deep, if_some}
+use Rattle.iv_query.specs.Tokens.{Tok, Fixed, after_symbol, after_op, first_place, unexpected, deep}
+use Rattle.iv_rows.specs.Options.{if_some}
 use Rattle.iv_query.specs.Trees.{OperandTree, OfColumn, Literal, CurrentUser, PredTree, Either, Both, Negation, Constant, Comparison}
 use Rattle.iv_query.specs.Grammar.{IsOperand, column_is, name_is, number_is, text_is, true_is, false_is, user_is, stands_alone, Part, pred, conj, term, ors, ands, Reads, pred_is, ors_end, ors_more, conj_is, ands_end, ands_more, not_is, group_is, holds_is, fails_is, comparison_is, Faults, pred_first, pred_later, ors_first, ors_later, conj_first, conj_later, ands_first, ands_later, not_deep, not_in, group_deep, group_in, group_left, no_left, no_op, no_right, plain, dotted}
 use Rattle.iv_query.specs.Reading.{◌>>=◌, Read, need, operand_at, truth_of, comparison_at, many_at, conj_at, pred_at, term_at}
@@ -35,17 +36,17 @@ abbrev Judged : Fault → Dialect → Part → ℕ → List Tok → Read PredTre
 Judged stop d s room ts r = Outcome (Reads d s room ts) (Faults stop d s room ts) r
 
 module _ (stop : Fault) (d : Dialect) (room : ℕ) (item : List Tok → Read PredTree) where
-  ands_judged : (sound : (ts : List Tok) → Judged stop d term room ts (item ts)) (n : ℕ) (left : PredTree) (ts : List Tok) → length ts ≤ n → Judged stop d (ands left) room ts (many_at (after symbol.And) (λ _. item) Both n left ts)
-  unfolding many_at after
+  ands_judged : (sound : (ts : List Tok) → Judged stop d term room ts (item ts)) (n : ℕ) (left : PredTree) (ts : List Tok) → length ts ≤ n → Judged stop d (ands left) room ts (many_at (after_symbol symbol.And) (λ _. item) Both n left ts)
+  unfolding many_at after_symbol
   ands_judged sound zero left [] le = good (ands_end refl)
   ands_judged sound zero left (t ∷ ts) le = absurd (omega arith)
-  ands_judged sound (suc n) left ts le = go ts le (after symbol.And ts) (front symbol.And ts) (λ b vs below. ands_judged sound n (Both left b) vs below)
+  ands_judged sound (suc n) left ts le = go ts le (after_symbol symbol.And ts) (front symbol.And ts) (λ b vs below. ands_judged sound n (Both left b) vs below)
     where
       more : (p : ℕ) (us vs : List Tok) (b : PredTree) (r : Read PredTree) → Reads d term room us b vs → Judged stop d (ands (Both left b)) room vs r → Judged stop d (ands left) room (Fixed symbol.And p ∷ us) r
       more p us vs b (Ok x) h (good k) = good (ands_more h k)
       more p us vs b (Err f) h (bad k) = bad (ands_later h k)
 
-      go : (ts : List Tok) → length ts ≤ suc n → (r : Option (List Tok)) → Front symbol.And ts r → ((b : PredTree) (vs : List Tok) → length vs ≤ n → Judged stop d (ands (Both left b)) room vs (many_at (after symbol.And) (λ _. item) Both n (Both left b) vs)) → Judged stop d (ands left) room ts (if_some r (Ok (left, ts)) (λ us. item us >>= λ x. many_at (after symbol.And) (λ _. item) Both n (Both left x.0) x.1))
+      go : (ts : List Tok) → length ts ≤ suc n → (r : Option (List Tok)) → Front symbol.And ts r → ((b : PredTree) (vs : List Tok) → length vs ≤ n → Judged stop d (ands (Both left b)) room vs (many_at (after_symbol symbol.And) (λ _. item) Both n (Both left b) vs)) → Judged stop d (ands left) room ts (if_some r (Ok (left, ts)) (λ us. item us >>= λ x. many_at (after_symbol symbol.And) (λ _. item) Both n (Both left x.0) x.1))
       go ts le None (absent e) rest = good (ands_end e)
       go _ le (Some us) (there {p = p}) rest = bind (item us) _ (sound us) (λ x h. more p us x.1 x.0 _ h (rest x.0 x.1 (omega (arith, consumes h)))) (λ f h. ands_first h)
 
@@ -57,17 +58,17 @@ module _ (stop : Fault) (d : Dialect) (room : ℕ) (item : List Tok → Read Pre
       rest a us h (Ok x) (good k) = good (conj_is h k)
       rest a us h (Err f) (bad k) = bad (conj_later h k)
 
-  ors_judged : (sound : (ts : List Tok) → Judged stop d conj room ts (item ts)) (n : ℕ) (left : PredTree) (ts : List Tok) → length ts ≤ n → Judged stop d (ors left) room ts (many_at (after symbol.Or) (λ _. item) Either n left ts)
-  unfolding many_at after
+  ors_judged : (sound : (ts : List Tok) → Judged stop d conj room ts (item ts)) (n : ℕ) (left : PredTree) (ts : List Tok) → length ts ≤ n → Judged stop d (ors left) room ts (many_at (after_symbol symbol.Or) (λ _. item) Either n left ts)
+  unfolding many_at after_symbol
   ors_judged sound zero left [] le = good (ors_end refl)
   ors_judged sound zero left (t ∷ ts) le = absurd (omega arith)
-  ors_judged sound (suc n) left ts le = go ts le (after symbol.Or ts) (front symbol.Or ts) (λ b vs below. ors_judged sound n (Either left b) vs below)
+  ors_judged sound (suc n) left ts le = go ts le (after_symbol symbol.Or ts) (front symbol.Or ts) (λ b vs below. ors_judged sound n (Either left b) vs below)
     where
       more : (p : ℕ) (us vs : List Tok) (b : PredTree) (r : Read PredTree) → Reads d conj room us b vs → Judged stop d (ors (Either left b)) room vs r → Judged stop d (ors left) room (Fixed symbol.Or p ∷ us) r
       more p us vs b (Ok x) h (good k) = good (ors_more h k)
       more p us vs b (Err f) h (bad k) = bad (ors_later h k)
 
-      go : (ts : List Tok) → length ts ≤ suc n → (r : Option (List Tok)) → Front symbol.Or ts r → ((b : PredTree) (vs : List Tok) → length vs ≤ n → Judged stop d (ors (Either left b)) room vs (many_at (after symbol.Or) (λ _. item) Either n (Either left b) vs)) → Judged stop d (ors left) room ts (if_some r (Ok (left, ts)) (λ us. item us >>= λ x. many_at (after symbol.Or) (λ _. item) Either n (Either left x.0) x.1))
+      go : (ts : List Tok) → length ts ≤ suc n → (r : Option (List Tok)) → Front symbol.Or ts r → ((b : PredTree) (vs : List Tok) → length vs ≤ n → Judged stop d (ors (Either left b)) room vs (many_at (after_symbol symbol.Or) (λ _. item) Either n (Either left b) vs)) → Judged stop d (ors left) room ts (if_some r (Ok (left, ts)) (λ us. item us >>= λ x. many_at (after_symbol symbol.Or) (λ _. item) Either n (Either left x.0) x.1))
       go ts le None (absent e) rest = good (ors_end e)
       go _ le (Some us) (there {p = p}) rest = bind (item us) _ (sound us) (λ x h. more p us x.1 x.0 _ h (rest x.0 x.1 (omega (arith, consumes h)))) (λ f h. ors_first h)
 
@@ -89,7 +90,7 @@ alone_judged stop d room _ _ us true_is e = good (holds_is e)
 alone_judged stop d room _ _ us false_is e = good (fails_is e)
 alone_judged stop d room _ _ us user_is e = bad (no_op user_is refl e)
 
-comparison_judged : (stop : Fault) (d : Dialect) (room : ℕ) (ts : List Tok) → after symbol.Not ts ≡ None → after symbol.Open ts ≡ None → Judged stop d term room ts (comparison_at d stop ts)
+comparison_judged : (stop : Fault) (d : Dialect) (room : ℕ) (ts : List Tok) → after_symbol symbol.Not ts ≡ None → after_symbol symbol.Open ts ≡ None → Judged stop d term room ts (comparison_at d stop ts)
 unfolding comparison_at
 comparison_judged stop d room ts n o = bind (operand_at d stop ts) _ (operand_judged stop d ts) (λ x h. behind x.0 x.1 h (after_op x.1) (front_op x.1)) (λ f h. no_left n o h)
   where
@@ -99,7 +100,7 @@ comparison_judged stop d room ts n o = bind (operand_at d stop ts) _ (operand_ju
 
 close_judged : (stop : Fault) (d : Dialect) (room p : ℕ) (ts us : List Tok) (a : PredTree) → Reads d pred room ts a us → Judged stop d term (suc room) (Fixed symbol.Open p ∷ ts) (need symbol.Close stop us >>= λ vs. Ok (a, vs))
 unfolding need
-close_judged stop d room p ts us a h = go us h (after symbol.Close us) (front symbol.Close us)
+close_judged stop d room p ts us a h = go us h (after_symbol symbol.Close us) (front symbol.Close us)
   where
     go : (us : List Tok) → Reads d pred room ts a us → (r : Option (List Tok)) → Front symbol.Close us r → Judged stop d term (suc room) (Fixed symbol.Open p ∷ ts) (◌>>=◌ {A = List Tok} {B = PredTree × List Tok} (if_some r (Err (unexpected stop us)) Ok) (λ vs. Ok (a, vs)))
     go us h None (absent e) = bad (group_left h e)
@@ -107,13 +108,13 @@ close_judged stop d room p ts us a h = go us h (after symbol.Close us) (front sy
 
 term_judged : (stop : Fault) (d : Dialect) (room : ℕ) (ts : List Tok) → Judged stop d term room ts (term_at d stop room ts)
 unfolding term_at
-term_judged stop d zero ts = go ts (after symbol.Not ts) (after symbol.Open ts) (front symbol.Not ts) (front symbol.Open ts)
+term_judged stop d zero ts = go ts (after_symbol symbol.Not ts) (after_symbol symbol.Open ts) (front symbol.Not ts) (front symbol.Open ts)
   where
     go : (ts : List Tok) (n o : Option (List Tok)) → Front symbol.Not ts n → Front symbol.Open ts o → Judged stop d term zero ts (if_some n (if_some o (comparison_at d stop ts) (λ us. Err (deep (first_place stop ts)))) (λ us. Err (deep (first_place stop ts))))
     go ts None None (absent e) (absent f) = comparison_judged stop d zero ts e f
     go _ None (Some us) e there = bad group_deep
     go _ (Some us) o there f = bad not_deep
-term_judged stop d (suc room) ts = go ts (after symbol.Not ts) (after symbol.Open ts) (front symbol.Not ts) (front symbol.Open ts) (λ us. term_judged stop d room us)
+term_judged stop d (suc room) ts = go ts (after_symbol symbol.Not ts) (after_symbol symbol.Open ts) (front symbol.Not ts) (front symbol.Open ts) (λ us. term_judged stop d room us)
   where
     go : (ts : List Tok) (n o : Option (List Tok)) → Front symbol.Not ts n → Front symbol.Open ts o → ((us : List Tok) → Judged stop d term room us (term_at d stop room us))
         → Judged stop d term (suc room) ts (if_some n (if_some o (comparison_at d stop ts) (λ us. pred_at (term_at d stop room) us >>= λ x. need symbol.Close stop x.1 >>= λ vs. Ok (x.0, vs))) (λ us. term_at d stop room us >>= λ x. Ok (Negation x.0, x.1)))
@@ -127,18 +128,18 @@ abbrev Agrees : Fault → Dialect → Part → ℕ → List Tok → Read PredTre
 Agrees stop d term room ts r = term_at d stop room ts ≡ r
 Agrees stop d conj room ts r = conj_at (term_at d stop room) ts ≡ r
 Agrees stop d pred room ts r = pred_at (term_at d stop room) ts ≡ r
-Agrees stop d (ands a) room ts r = (n : ℕ) → length ts ≤ n → many_at (after symbol.And) (λ _. term_at d stop room) Both n a ts ≡ r
-Agrees stop d (ors a) room ts r = (n : ℕ) → length ts ≤ n → many_at (after symbol.Or) (λ _. conj_at (term_at d stop room)) Either n a ts ≡ r
+Agrees stop d (ands a) room ts r = (n : ℕ) → length ts ≤ n → many_at (after_symbol symbol.And) (λ _. term_at d stop room) Both n a ts ≡ r
+Agrees stop d (ors a) room ts r = (n : ℕ) → length ts ≤ n → many_at (after_symbol symbol.Or) (λ _. conj_at (term_at d stop room)) Either n a ts ≡ r
 
 -- what begins no group is read as a comparison
-compared : (stop : Fault) (d : Dialect) (room : ℕ) (ts : List Tok) → after symbol.Not ts ≡ None → after symbol.Open ts ≡ None → term_at d stop room ts ≡ comparison_at d stop ts
+compared : (stop : Fault) (d : Dialect) (room : ℕ) (ts : List Tok) → after_symbol symbol.Not ts ≡ None → after_symbol symbol.Open ts ≡ None → term_at d stop room ts ≡ comparison_at d stop ts
 unfolding term_at
 compared stop d zero ts n o = rw (n, o) refl
 compared stop d (suc room) ts n o = rw (n, o) refl
 
 -- an operand begins no group
-no_not : {d : Dialect} {ts us : List Tok} {x : OperandTree} → IsOperand d ts x us → after symbol.Not ts ≡ None
-unfolding after
+no_not : {d : Dialect} {ts us : List Tok} {x : OperandTree} → IsOperand d ts x us → after_symbol symbol.Not ts ≡ None
+unfolding after_symbol
 no_not (column_is (plain e)) = refl
 no_not (column_is dotted) = refl
 no_not name_is = refl
@@ -148,8 +149,8 @@ no_not true_is = refl
 no_not false_is = refl
 no_not user_is = refl
 
-no_open : {d : Dialect} {ts us : List Tok} {x : OperandTree} → IsOperand d ts x us → after symbol.Open ts ≡ None
-unfolding after
+no_open : {d : Dialect} {ts us : List Tok} {x : OperandTree} → IsOperand d ts x us → after_symbol symbol.Open ts ≡ None
+unfolding after_symbol
 no_open (column_is (plain e)) = refl
 no_open (column_is dotted) = refl
 no_open name_is = refl
@@ -183,7 +184,7 @@ module _ (sign : List Tok → Option (List Tok)) (item : List Tok → Read PredT
   step_fails (suc n) left ts us f s h le = rw (s, h) refl
 
 pub reads_agree : {d : Dialect} {s : Part} {room : ℕ} {ts us : List Tok} {t : PredTree} (stop : Fault) → Reads d s room ts t us → Agrees stop d s room ts (Ok (t, us))
-unfolding after term_at conj_at pred_at comparison_at need operand_at
+unfolding after_symbol term_at conj_at pred_at comparison_at need operand_at
 reads_agree stop (pred_is h k) = rw (reads_agree stop h) (reads_agree stop k _ (omega arith))
 reads_agree stop (ors_end e) = λ n le. is_last _ _ _ n _ _ e
 reads_agree stop (ors_more h k) = λ n le. step _ _ _ n _ _ _ _ _ _ refl (reads_agree stop h) (consumes h) le (reads_agree stop k)
@@ -197,7 +198,7 @@ reads_agree {d = d} {room = room} stop (fails_is {p = p} {ts = ts} e) = begun st
 reads_agree {d = d} {room = room} stop (comparison_is h e k) = begun stop d room h ∙ rw (operand_agrees stop h, e, operand_agrees stop k) refl
 
 pub faults_agree : (stop : Fault) {d : Dialect} {s : Part} {room : ℕ} {ts : List Tok} {f : Fault} → Faults stop d s room ts f → Agrees stop d s room ts (Err f)
-unfolding after term_at conj_at pred_at comparison_at need
+unfolding after_symbol term_at conj_at pred_at comparison_at need
 faults_agree stop (pred_first h) = rw (faults_agree stop h) refl
 faults_agree stop (pred_later h k) = rw (reads_agree stop h) (faults_agree stop k _ (omega arith))
 faults_agree stop (ors_first h) = λ n le. step_fails _ _ _ n _ _ _ _ refl (faults_agree stop h) le

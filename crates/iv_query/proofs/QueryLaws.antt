@@ -2,7 +2,7 @@
 use Rattle.std.proofs.Common.{◌≡◌, ℕ, zero, suc, ◌-◌, ◌≤◌, ◌<◌, Bool, true, false, cond, List, [], ◌∷◌, length, Option, Some, None, Ok, Err, refl, ap, arith}
 use Rattle.iv_query.specs.declared.fault.Fault.{Fault}
 use Rattle.iv_query.specs.declared.token.Symbol.TheVariants.{And, As, Equal, Inner, Join, On}
-use Rattle.iv_query.specs.Tokens.{Tok, Fixed, Name, Number, Quoted, after, first_place}
+use Rattle.iv_query.specs.Tokens.{Tok, Fixed, Name, Number, Quoted, after_symbol, first_place}
 use Rattle.iv_query.specs.Trees.{NameTree, Called, SourceTree, PairTree, JoinTree}
 use Rattle.iv_query.specs.Rules.{IsName, name_is, NameFault, no_name, push}
 use Rattle.iv_query.specs.Query.{IsAlias, as_alias, bare_alias, AliasFault, no_as_alias, no_bare_alias, starts_alias, MayAlias, some_alias, no_alias, MayAliasFault, in_alias, IsSource, source_is, long, SourceFault, no_source, one_too_many, in_source_alias, IsPair, pair_is, PairFault, no_left, no_equal, no_right, IsPairs, pairs_is, PairsFault, first_pair, later_pair, IsPlainJoin, plain_join_is, PlainJoinFault, no_join, no_join_source, no_on, no_pairs, IsJoin, inner_join, bare_join, JoinFault, in_inner_join, in_bare_join, starts_join, at_join, AreJoins, JoinsFault}
@@ -113,8 +113,8 @@ pair_fails stop (no_right h e k) = rw (column_agrees stop h, needs stop e, colum
 pub pair_consumes : {ts us : List Tok} {a : PairTree} → IsPair ts a us → length us ≤ length ts
 pair_consumes (pair_is h e k) = omega (arith, column_consumes h, first_shorter e, column_consumes k)
 
-pub pair_items : (stop : Fault) → Itemwise {A = List PairTree} (after And) (λ _. IsPair) (λ _. PairFault stop) (λ _. pair_at stop)
-unfolding after
+pub pair_items : (stop : Fault) → Itemwise {A = List PairTree} (after_symbol And) (λ _. IsPair) (λ _. PairFault stop) (λ _. pair_at stop)
+unfolding after_symbol
 pair_items stop = record {
   nothing = refl;
   shorter = λ a b ts us vs s h. omega (arith, first_shorter (after_first And ts us s), pair_consumes h);
@@ -184,7 +184,7 @@ same_tokens true ts us e = cc
 same_tokens false ts us e = absurd cc
 
 pub join_items : (stop : Fault) (left : ℕ) → Itemwise {A = List JoinTree} at_join (λ js. IsJoin (left - length js)) (λ js. JoinFault stop (left - length js)) (λ js. join_at stop (left - length js))
-unfolding after
+unfolding after_symbol
 join_items stop left = record {
   nothing = refl;
   shorter = λ a b ts us vs s h. omega (arith, ap length (same_tokens (starts_join ts) ts us s), join_consumes stop h);

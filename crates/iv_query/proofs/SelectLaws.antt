@@ -4,7 +4,8 @@ use Rattle.iv_query.specs.declared.fault.Fault.{Fault}
 use Rattle.iv_query.specs.declared.token.Symbol.TheVariants.{All, By, Close, Comma, Count, Distinct, Except, From, Group, Open, Select, Star, Sum, Union, Where}
 use Rattle.iv_query.specs.declared.tree.Dialect.TheVariants as dialect
 use Rattle.iv_query.specs.declared.tree.SetOp.{SetOp}
-use Rattle.iv_query.specs.Tokens.{Tok, after, first_place, if_some}
+use Rattle.iv_query.specs.Tokens.{Tok, after_symbol, first_place}
+use Rattle.iv_rows.specs.Options.{if_some}
 use Rattle.iv_query.specs.Trees.{ColumnTree, PredTree, ItemTree, ListTree, SelectTree, QueryTree, One}
 use Rattle.iv_query.specs.Grammar.{IsColumn, ColumnFault}
 use Rattle.iv_query.specs.Rules.{First, first, Many, push}
@@ -40,8 +41,8 @@ item_judged stop ts = chosen Sum stop ts _ _
     (λ us e. sum_judged stop ts us e)
 
 -- a count is no sum
-no_sum : {p : ℕ} {ts us : List Tok} → First Count p ts us → after Sum ts ≡ None
-unfolding after
+no_sum : {p : ℕ} {ts us : List Tok} → First Count p ts us → after_symbol Sum ts ≡ None
+unfolding after_symbol
 no_sum first = refl
 
 item_agrees : (stop : Fault) {ts us : List Tok} {i : ItemTree} → IsItem ts i us → item_at stop ts ≡ Ok (i, us)
@@ -68,8 +69,8 @@ item_consumes (column_item s c h k) = omega (arith, column_consumes h, may_alias
 item_consumes (sum_item e o h c k) = omega (arith, first_shorter e, first_shorter o, column_consumes h, first_shorter c, alias_consumes k)
 item_consumes (count_item e o s c k) = omega (arith, first_shorter e, first_shorter o, first_shorter s, first_shorter c, alias_consumes k)
 
-item_items : (stop : Fault) → Itemwise {A = List ItemTree} (after Comma) (λ _. IsItem) (λ _. ItemFault stop) (λ _. item_at stop)
-unfolding after
+item_items : (stop : Fault) → Itemwise {A = List ItemTree} (after_symbol Comma) (λ _. IsItem) (λ _. ItemFault stop) (λ _. item_at stop)
+unfolding after_symbol
 item_items stop = record {
   nothing = refl;
   shorter = λ a b ts us vs s h. omega (arith, first_shorter (after_first Comma ts us s), item_consumes h);
@@ -83,7 +84,7 @@ item_items stop = record {
 list_judged : (stop : Fault) (ts : List Tok) → Outcome (IsList ts) (ListFault stop ts) (list_at stop ts)
 unfolding list_at list_of
 list_judged stop ts = chosen Star stop ts _ _
-    (λ s. bind (list_of Comma (item_at stop) ts) _ (bind {G' = λ is us. (i : ItemTree) × (vs : List Tok) × IsItem ts i vs × Many (after Comma) (λ _. IsItem) push (i ∷ []) vs is us} {F' = ListFault stop ts} (item_at stop ts) _ (item_judged stop ts)
+    (λ s. bind (list_of Comma (item_at stop) ts) _ (bind {G' = λ is us. (i : ItemTree) × (vs : List Tok) × IsItem ts i vs × Many (after_symbol Comma) (λ _. IsItem) push (i ∷ []) vs is us} {F' = ListFault stop ts} (item_at stop ts) _ (item_judged stop ts)
     (λ x h. weaken _ (many_judged (item_items stop) push (length x.1) (x.0 ∷ []) x.1 (omega arith)) (λ is us k. (x.0, x.1, h, k)) (λ f k. later_item s h k)) (λ f h. first_item s h))
     (λ y k. good (items_is s k.2 k.3)) (λ f k. k))
     (λ us e. good (star_is e))
@@ -106,9 +107,9 @@ list_consumes stop (items_is s h k) = omega (arith, item_consumes h, many_consum
 
 head_judged : (stop : Fault) (ts : List Tok) → Outcome (IsHead ts) (HeadFault stop ts) (head_at stop ts)
 unfolding head_at
-head_judged stop ts = needed Select stop ts _ (λ e. no_select e) (λ us e. go us e (after Distinct us) refl)
+head_judged stop ts = needed Select stop ts _ (λ e. no_select e) (λ us e. go us e (after_symbol Distinct us) refl)
   where
-    go : (us : List Tok) → First Select (first_place stop ts) ts us → (r : Option (List Tok)) → after Distinct us ≡ r → Outcome (IsHead ts) (HeadFault stop ts) (list_at stop (if_some r us (λ vs. vs)) >>= λ x. Ok (HeadOf (first_place stop ts) (is_some r) x.0, x.1))
+    go : (us : List Tok) → First Select (first_place stop ts) ts us → (r : Option (List Tok)) → after_symbol Distinct us ≡ r → Outcome (IsHead ts) (HeadFault stop ts) (list_at stop (if_some r us (λ vs. vs)) >>= λ x. Ok (HeadOf (first_place stop ts) (is_some r) x.0, x.1))
     go us e None d = bind (list_at stop us) _ (list_judged stop us) (λ x h. good (head_is e d h)) (λ f h. no_list e d h)
     go us e (Some vs) d = bind (list_at stop vs) _ (list_judged stop vs) (λ x h. good (distinct_is e (after_first Distinct us vs d) h)) (λ f h. no_distinct_list e (after_first Distinct us vs d) h)
 
@@ -169,8 +170,8 @@ filter_consumes (no_filter e) = omega arith
 
 -- ---- group by
 
-key_items : (stop : Fault) → Itemwise {A = List ColumnTree} (after Comma) (λ _. IsColumn) (λ _. ColumnFault stop) (λ _. column_at stop)
-unfolding after
+key_items : (stop : Fault) → Itemwise {A = List ColumnTree} (after_symbol Comma) (λ _. IsColumn) (λ _. ColumnFault stop) (λ _. column_at stop)
+unfolding after_symbol
 key_items stop = record {
   nothing = refl;
   shorter = λ a b ts us vs s h. omega (arith, first_shorter (after_first Comma ts us s), column_consumes h);
@@ -232,8 +233,8 @@ select_consumes stop (select_is h b w g) = omega (arith, head_consumes stop h, f
 -- ---- set operations
 
 -- except is no union
-no_union : {p : ℕ} {ts us : List Tok} → First Except p ts us → after Union ts ≡ None
-unfolding after
+no_union : {p : ℕ} {ts us : List Tok} → First Except p ts us → after_symbol Union ts ≡ None
+unfolding after_symbol
 no_union first = refl
 
 op_judged : (stop : Fault) (ts : List Tok) → starts_set_op ts ≡ true → Outcome (IsSetOp ts) (λ f. ⊥) (set_op_at stop ts)
@@ -272,7 +273,7 @@ begins_there true ts us e = (refl, cc)
 begins_there false ts us e = absurd cc
 
 next_items : (stop : Fault) → Itemwise {A = QueryTree} at_set_op (λ q. IsNext (8 - sources_of q)) (λ q. NextFault stop (8 - sources_of q)) (λ q. next_at stop (8 - sources_of q))
-unfolding after
+unfolding after_symbol
 next_items stop = record {
   nothing = refl;
   shorter = λ a b ts us vs s h. omega (arith, ap length (begins_there (starts_set_op ts) ts us s).1, next_consumes stop h);

@@ -6,7 +6,8 @@ use Rattle.iv_query.specs.declared.fault.Fault.{Fault}
 use Rattle.iv_query.specs.declared.token.Symbol.{Symbol}
 use Rattle.iv_query.specs.declared.tree.Op.{Op}
 use Rattle.iv_query.specs.declared.fault.Why.TheVariants as why
-use Rattle.iv_query.specs.Tokens.{Tok, Fixed, Name, Number, Quoted, after, after_op, op_of, if_some, first_place, unexpected}
+use Rattle.iv_query.specs.Tokens.{Tok, Fixed, Name, Number, Quoted, after_symbol, after_op, op_of, first_place, unexpected}
+use Rattle.iv_rows.specs.Options.{if_some}
 use Rattle.iv_query.specs.Rules.{First, first}
 use Rattle.iv_query.specs.Reading.{◌>>=◌, Read, need}
 use Rattle.iv_query.specs.QueryReading.{skip}
@@ -14,14 +15,14 @@ use Rattle.iv_query.specs.QueryReading.{skip}
 -- a symbol comes first, or it does not
 pub data Front (s : Symbol) : List Tok → Option (List Tok) → Type 0 where
   there : {p : ℕ} {us : List Tok} → Front s (Fixed s p ∷ us) (Some us)
-  absent : {ts : List Tok} → after s ts ≡ None → Front s ts None
+  absent : {ts : List Tok} → after_symbol s ts ≡ None → Front s ts None
 
-front_at : (s t : Symbol) (p : ℕ) (us : List Tok) (b : Bool) → sameb the_type t s ≡ b → after s (Fixed t p ∷ us) ≡ cond b (Some us) None → Front s (Fixed t p ∷ us) (cond b (Some us) None)
+front_at : (s t : Symbol) (p : ℕ) (us : List Tok) (b : Bool) → sameb the_type t s ≡ b → after_symbol s (Fixed t p ∷ us) ≡ cond b (Some us) None → Front s (Fixed t p ∷ us) (cond b (Some us) None)
 front_at s t p us true e f = let same : t ≡ s = same_true the_type tt t s e in subst (λ (x : Symbol). Front s (Fixed x p ∷ us) (Some us)) (sym same) there
 front_at s t p us false e f = absent f
 
-pub front : (s : Symbol) (ts : List Tok) → Front s ts (after s ts)
-unfolding after
+pub front : (s : Symbol) (ts : List Tok) → Front s ts (after_symbol s ts)
+unfolding after_symbol
 front s [] = absent refl
 front s (Fixed t p ∷ us) = front_at s t p us (sameb the_type t s) refl refl
 front s (Name n p ∷ us) = absent refl
@@ -56,15 +57,15 @@ bind (Err f) k (bad h) on fail = bad (fail f h)
 
 -- ---- symbols
 
-pub comes : {s : Symbol} {p : ℕ} {ts us : List Tok} → First s p ts us → after s ts ≡ Some us
-unfolding after
+pub comes : {s : Symbol} {p : ℕ} {ts us : List Tok} → First s p ts us → after_symbol s ts ≡ Some us
+unfolding after_symbol
 comes {s = s} first = rw (true_same the_type s s refl) refl
 
 pub needs : {s : Symbol} {p : ℕ} {ts us : List Tok} (stop : Fault) → First s p ts us → need s stop ts ≡ Ok us
 unfolding need
 needs stop h = rw (comes h) refl
 
-pub needs_not : (s : Symbol) (ts : List Tok) (stop : Fault) → after s ts ≡ None → need s stop ts ≡ Err (unexpected stop ts)
+pub needs_not : (s : Symbol) (ts : List Tok) (stop : Fault) → after_symbol s ts ≡ None → need s stop ts ≡ Err (unexpected stop ts)
 unfolding need
 needs_not s ts stop e = rw e refl
 
@@ -74,14 +75,14 @@ stands stop first = refl
 pub skips : {s : Symbol} {p : ℕ} {ts us : List Tok} → First s p ts us → skip s ts ≡ us
 skips h = rw (comes h) refl
 
-pub skips_not : (s : Symbol) (ts : List Tok) → after s ts ≡ None → skip s ts ≡ ts
+pub skips_not : (s : Symbol) (ts : List Tok) → after_symbol s ts ≡ None → skip s ts ≡ ts
 skips_not s ts e = rw e refl
 
 pub first_shorter : {s : Symbol} {p : ℕ} {ts us : List Tok} → First s p ts us → length us < length ts
 first_shorter first = omega arith
 
-pub after_first : (s : Symbol) (ts us : List Tok) → after s ts ≡ Some us → First s (first_place (record { place = 0; why = why.Token }) ts) ts us
-after_first s ts us e = go ts (after s ts) (front s ts) e
+pub after_first : (s : Symbol) (ts us : List Tok) → after_symbol s ts ≡ Some us → First s (first_place (record { place = 0; why = why.Token }) ts) ts us
+after_first s ts us e = go ts (after_symbol s ts) (front s ts) e
   where
     go : (ts : List Tok) (r : Option (List Tok)) → Front s ts r → r ≡ Some us → First s (first_place (record { place = 0; why = why.Token }) ts) ts us
     go _ (Some vs) (there {p = p}) f = let same : vs ≡ us = cc in subst (First s p (Fixed s p ∷ vs)) same first
@@ -89,28 +90,28 @@ after_first s ts us e = go ts (after s ts) (front s ts) e
 
 -- a symbol that has to come
 pub needed : {B : Type 0} {G : B → List Tok → Type 0} {F : Fault → Type 0} (s : Symbol) (stop : Fault) (ts : List Tok) (k : List Tok → Read B)
-    → (after s ts ≡ None → F (unexpected stop ts)) → ((us : List Tok) → First s (first_place stop ts) ts us → Outcome G F (k us)) → Outcome G F (need s stop ts >>= k)
+    → (after_symbol s ts ≡ None → F (unexpected stop ts)) → ((us : List Tok) → First s (first_place stop ts) ts us → Outcome G F (k us)) → Outcome G F (need s stop ts >>= k)
 unfolding need
-needed {G = G} {F = F} s stop ts k missing on = go ts (after s ts) (front s ts) missing on
+needed {G = G} {F = F} s stop ts k missing on = go ts (after_symbol s ts) (front s ts) missing on
   where
-    go : (ts : List Tok) (r : Option (List Tok)) → Front s ts r → (after s ts ≡ None → F (unexpected stop ts)) → ((us : List Tok) → First s (first_place stop ts) ts us → Outcome G F (k us)) → Outcome G F (◌>>=◌ {A = List Tok} (if_some r (Err (unexpected stop ts)) Ok) k)
+    go : (ts : List Tok) (r : Option (List Tok)) → Front s ts r → (after_symbol s ts ≡ None → F (unexpected stop ts)) → ((us : List Tok) → First s (first_place stop ts) ts us → Outcome G F (k us)) → Outcome G F (◌>>=◌ {A = List Tok} (if_some r (Err (unexpected stop ts)) Ok) k)
     go ts None (absent e) missing on = bad (missing e)
     go _ (Some us) there missing on = on us first
 
 -- a symbol that may come
 pub chosen : {B : Type 0} {G : B → List Tok → Type 0} {F : Fault → Type 0} (s : Symbol) (stop : Fault) (ts : List Tok) (d : Read B) (k : List Tok → Read B)
-    → (after s ts ≡ None → Outcome G F d) → ((us : List Tok) → First s (first_place stop ts) ts us → Outcome G F (k us)) → Outcome G F (if_some (after s ts) d k)
-chosen {G = G} {F = F} s stop ts d k missing on = go ts (after s ts) (front s ts) missing on
+    → (after_symbol s ts ≡ None → Outcome G F d) → ((us : List Tok) → First s (first_place stop ts) ts us → Outcome G F (k us)) → Outcome G F (if_some (after_symbol s ts) d k)
+chosen {G = G} {F = F} s stop ts d k missing on = go ts (after_symbol s ts) (front s ts) missing on
   where
-    go : (ts : List Tok) (r : Option (List Tok)) → Front s ts r → (after s ts ≡ None → Outcome G F d) → ((us : List Tok) → First s (first_place stop ts) ts us → Outcome G F (k us)) → Outcome G F (if_some r d k)
+    go : (ts : List Tok) (r : Option (List Tok)) → Front s ts r → (after_symbol s ts ≡ None → Outcome G F d) → ((us : List Tok) → First s (first_place stop ts) ts us → Outcome G F (k us)) → Outcome G F (if_some r d k)
     go ts None (absent e) missing on = missing e
     go _ (Some us) there missing on = on us first
 
 pub skipped : {B : Type 0} {G : B → List Tok → Type 0} {F : Fault → Type 0} (s : Symbol) (stop : Fault) (ts : List Tok) (k : List Tok → Read B)
-    → (after s ts ≡ None → Outcome G F (k ts)) → ((us : List Tok) → First s (first_place stop ts) ts us → Outcome G F (k us)) → Outcome G F (k (skip s ts))
-skipped {G = G} {F = F} s stop ts k missing on = go ts (after s ts) (front s ts) missing on
+    → (after_symbol s ts ≡ None → Outcome G F (k ts)) → ((us : List Tok) → First s (first_place stop ts) ts us → Outcome G F (k us)) → Outcome G F (k (skip s ts))
+skipped {G = G} {F = F} s stop ts k missing on = go ts (after_symbol s ts) (front s ts) missing on
   where
-    go : (ts : List Tok) (r : Option (List Tok)) → Front s ts r → (after s ts ≡ None → Outcome G F (k ts)) → ((us : List Tok) → First s (first_place stop ts) ts us → Outcome G F (k us)) → Outcome G F (k (if_some r ts (λ us. us)))
+    go : (ts : List Tok) (r : Option (List Tok)) → Front s ts r → (after_symbol s ts ≡ None → Outcome G F (k ts)) → ((us : List Tok) → First s (first_place stop ts) ts us → Outcome G F (k us)) → Outcome G F (k (if_some r ts (λ us. us)))
     go ts None (absent e) missing on = missing e
     go _ (Some us) there missing on = on us first
 

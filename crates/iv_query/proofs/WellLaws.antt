@@ -10,7 +10,7 @@ use Rattle.iv_query.specs.declared.token.Symbol.TheVariants as symbol
 use Rattle.iv_query.specs.declared.tree.SetOp.{SetOp}
 use Rattle.iv_query.specs.declared.tree.Dialect.{Dialect}
 use Rattle.iv_query.specs.declared.tree.Dialect.TheVariants.{Query, Policy}
-use Rattle.iv_query.specs.Tokens.{Tok, Fixed, Name, Number, Quoted, after}
+use Rattle.iv_query.specs.Tokens.{Tok, Fixed, Name, Number, Quoted, after_symbol}
 use Rattle.iv_query.specs.Trees.{NameTree, ColumnTree, OperandTree, PredTree, SourceTree, PairTree, JoinTree, ItemTree, ListTree, SelectTree, QueryTree}
 use Rattle.iv_query.specs.Grammar.{IsColumn, plain, dotted, IsOperand, column_is, name_is as name_operand, number_is, text_is as text_operand, true_is, false_is, user_is, Part, pred, conj, term, ors, ands, Reads, pred_is, ors_end, ors_more, conj_is, ands_end, ands_more, not_is, group_is, holds_is, fails_is, comparison_is}
 use Rattle.iv_query.specs.Rules.{First, first, IsName, name_is, Many, many_end, many_more, push}
@@ -94,7 +94,7 @@ grows : {B : Type 0} {sign : List Tok → Option (List Tok)} {Item : List B → 
 grows (many_end e) = omega arith
 grows (many_more {a = a} {b = b} e h k) = omega (arith, length_push a b, grows k)
 
-past : (s : Symbol) (ts us : List Tok) → after s ts ≡ Some us → WellToks ts → WellToks us
+past : (s : Symbol) (ts us : List Tok) → after_symbol s ts ≡ Some us → WellToks ts → WellToks us
 past s ts us e w = behind (after_first s ts us e) w
 
 same : (b : Bool) (ts us : List Tok) → cond b (Some ts) None ≡ Some us → WellToks ts → WellToks us

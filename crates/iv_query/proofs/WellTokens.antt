@@ -11,7 +11,8 @@ use Rattle.iv_query.specs.declared.fault.QueryFault.{QueryFault}
 use Rattle.iv_query.specs.declared.token.Symbol.{Symbol}
 use Rattle.iv_query.specs.declared.token.Symbol.TheVariants as symbol
 use Rattle.iv_query.specs.declared.tree.Dialect.TheVariants.{Policy}
-use Rattle.iv_query.specs.Tokens.{Tok, Fixed, Name, Quoted, if_some}
+use Rattle.iv_query.specs.Tokens.{Tok, Fixed, Name, Quoted}
+use Rattle.iv_rows.specs.Options.{if_some}
 use Rattle.iv_query.specs.Trees.{PredTree, QueryTree}
 use Rattle.iv_query.specs.Lexing.{is_blank, is_letter, is_word_byte, quoted, starts_letter, starts_digit, number_at, negative_at, minus_at, text_at, Ahead, Gap, Nothing, word_symbol, word_token, word_at, less_at, greater_at, not_equal_at, sign_at, ahead, Lexes, at_end, gap, token, broken}
 use Rattle.iv_query.specs.Lexing as lexing

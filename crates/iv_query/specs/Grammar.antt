@@ -8,12 +8,12 @@ use Rattle.iv_query.specs.declared.token.Symbol.TheVariants as symbol
 use Rattle.iv_query.specs.declared.tree.Op.{Op}
 use Rattle.iv_query.specs.declared.tree.Dialect.{Dialect}
 use Rattle.iv_query.specs.declared.tree.Dialect.TheVariants.{Query, Policy}
-use Rattle.iv_query.specs.Tokens.{Tok, Fixed, Name, Number, Quoted, after, after_op, op_of, starts_name, unexpected, deep}
+use Rattle.iv_query.specs.Tokens.{Tok, Fixed, Name, Number, Quoted, after_symbol, after_op, op_of, starts_name, unexpected, deep}
 use Rattle.iv_query.specs.Trees.{ColumnTree, ColumnAt, OperandTree, OfColumn, Literal, CurrentUser, PredTree, Either, Both, Negation, Constant, Comparison}
 
 -- column = name [ "." name ]
 pub data IsColumn : List Tok → ColumnTree → List Tok → Type 0 where
-  plain : {n : List ℕ} {p : ℕ} {ts : List Tok} → after Dot ts ≡ None → IsColumn (Name n p ∷ ts) (ColumnAt None n p) ts
+  plain : {n : List ℕ} {p : ℕ} {ts : List Tok} → after_symbol Dot ts ≡ None → IsColumn (Name n p ∷ ts) (ColumnAt None n p) ts
   dotted : {s n : List ℕ} {p q r : ℕ} {ts : List Tok} → IsColumn (Name s p ∷ Fixed Dot q ∷ Name n r ∷ ts) (ColumnAt (Some s) n p) ts
 
 pub data ColumnFault (stop : Fault) : List Tok → Fault → Type 0 where
@@ -55,13 +55,13 @@ pub data Part : Type 0 where
 pub data Reads (d : Dialect) : Part → ℕ → List Tok → PredTree → List Tok → Type 0 where
   -- pred = conj { "or" conj }
   pred_is : {room : ℕ} {ts us vs : List Tok} {a t : PredTree} → Reads d conj room ts a us → Reads d (ors a) room us t vs → Reads d pred room ts t vs
-  ors_end : {room : ℕ} {ts : List Tok} {a : PredTree} → after Or ts ≡ None → Reads d (ors a) room ts a ts
+  ors_end : {room : ℕ} {ts : List Tok} {a : PredTree} → after_symbol Or ts ≡ None → Reads d (ors a) room ts a ts
   ors_more : {room p : ℕ} {ts us vs : List Tok} {a b t : PredTree}
       → Reads d conj room ts b us → Reads d (ors (Either a b)) room us t vs
       → Reads d (ors a) room (Fixed Or p ∷ ts) t vs
   -- conj = term { "and" term }
   conj_is : {room : ℕ} {ts us vs : List Tok} {a t : PredTree} → Reads d term room ts a us → Reads d (ands a) room us t vs → Reads d conj room ts t vs
-  ands_end : {room : ℕ} {ts : List Tok} {a : PredTree} → after And ts ≡ None → Reads d (ands a) room ts a ts
+  ands_end : {room : ℕ} {ts : List Tok} {a : PredTree} → after_symbol And ts ≡ None → Reads d (ands a) room ts a ts
   ands_more : {room p : ℕ} {ts us vs : List Tok} {a b t : PredTree}
       → Reads d term room ts b us → Reads d (ands (Both a b)) room us t vs
       → Reads d (ands a) room (Fixed And p ∷ ts) t vs
@@ -107,10 +107,10 @@ pub data Faults (stop : Fault) (d : Dialect) : Part → ℕ → List Tok → Fau
   group_deep : {p : ℕ} {ts : List Tok} → Faults stop d term 0 (Fixed Open p ∷ ts) (deep p)
   group_in : {room p : ℕ} {ts : List Tok} {f : Fault} → Faults stop d pred room ts f → Faults stop d term (suc room) (Fixed Open p ∷ ts) f
   group_left : {room p : ℕ} {ts us : List Tok} {a : PredTree}
-      → Reads d pred room ts a us → after Close us ≡ None
+      → Reads d pred room ts a us → after_symbol Close us ≡ None
       → Faults stop d term (suc room) (Fixed Open p ∷ ts) (unexpected stop us)
   -- term = operand op operand
-  no_left : {room : ℕ} {ts : List Tok} {f : Fault} → after Not ts ≡ None → after Open ts ≡ None → OperandFault stop d ts f → Faults stop d term room ts f
+  no_left : {room : ℕ} {ts : List Tok} {f : Fault} → after_symbol Not ts ≡ None → after_symbol Open ts ≡ None → OperandFault stop d ts f → Faults stop d term room ts f
   no_op : {room : ℕ} {x : OperandTree} {ts us : List Tok}
       → IsOperand d ts x us → stands_alone x ≡ false → after_op us ≡ None
       → Faults stop d term room ts (unexpected stop us)

@@ -13,7 +13,8 @@ use Rattle.iv_query.specs.declared.token.Symbol.{Symbol}
 use Rattle.iv_query.specs.declared.token.Symbol.TheVariants as symbol
 use Rattle.iv_query.specs.declared.lexer.Front.{Front}
 use Rattle.iv_query.specs.declared.lexer.Front.TheVariants as front
-use Rattle.iv_query.specs.Tokens.{Tok, Fixed, Name, Number, Quoted, tok_of, if_some}
+use Rattle.iv_query.specs.Tokens.{Tok, Fixed, Name, Number, Quoted, tok_of}
+use Rattle.iv_rows.specs.Options.{if_some}
 
 -- space, tab, line feed, carriage return, form feed
 abbrev pub is_blank : ℕ → Bool

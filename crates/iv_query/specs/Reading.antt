@@ -6,7 +6,8 @@ use Rattle.iv_query.specs.declared.token.Symbol.{Symbol}
 use Rattle.iv_query.specs.declared.token.Symbol.TheVariants as symbol
 use Rattle.iv_query.specs.declared.tree.Dialect.{Dialect}
 use Rattle.iv_query.specs.declared.tree.Dialect.TheVariants as dialect
-use Rattle.iv_query.specs.Tokens.{Tok, Fixed, Name, Number, Quoted, after, first_place, unexpected, deep, if_some, after_op}
+use Rattle.iv_query.specs.Tokens.{Tok, Fixed, Name, Number, Quoted, after_symbol, first_place, unexpected, deep, after_op}
+use Rattle.iv_rows.specs.Options.{if_some}
 use Rattle.iv_query.specs.Rules.{push}
 use Rattle.iv_query.specs.Trees.{NameTree, Called, ColumnTree, ColumnAt, OperandTree, OfColumn, Literal, CurrentUser, PredTree, Either, Both, Negation, Constant, Comparison}
 
@@ -20,7 +21,7 @@ abbrev pub Read : Type 0 → Type 0
 Read A = Result (A × List Tok) Fault
 
 unfoldable pub need : Symbol → Fault → List Tok → Result (List Tok) Fault
-need s stop ts = if_some (after s ts) (Err (unexpected stop ts)) Ok
+need s stop ts = if_some (after_symbol s ts) (Err (unexpected stop ts)) Ok
 
 abbrev pub name_at : Fault → List Tok → Read NameTree
 name_at stop [] = Err stop
@@ -34,7 +35,7 @@ abbrev pub dotted : NameTree → NameTree → ColumnTree
 dotted (Called s p) (Called n q) = ColumnAt (Some s) n p
 
 unfoldable pub column_at : Fault → List Tok → Read ColumnTree
-column_at stop ts = name_at stop ts >>= λ x. if_some (after symbol.Dot x.1) (Ok (alone x.0, x.1)) (λ us. name_at stop us >>= λ y. Ok (dotted x.0 y.0, y.1))
+column_at stop ts = name_at stop ts >>= λ x. if_some (after_symbol symbol.Dot x.1) (Ok (alone x.0, x.1)) (λ us. name_at stop us >>= λ y. Ok (dotted x.0 y.0, y.1))
 
 -- the operand that a word is
 abbrev pub word_operand : Dialect → Symbol → ℕ → Option OperandTree
@@ -72,22 +73,22 @@ many_at sign item join (suc n) a ts = if_some (sign ts) (Ok (a, ts)) (λ us. ite
 
 -- item { sign item }
 unfoldable pub list_of : {B : Type 0} → Symbol → (List Tok → Read B) → List Tok → Read (List B)
-list_of sign item ts = item ts >>= λ x. many_at (after sign) (λ _. item) push (length x.1) (x.0 ∷ []) x.1
+list_of sign item ts = item ts >>= λ x. many_at (after_symbol sign) (λ _. item) push (length x.1) (x.0 ∷ []) x.1
 
 unfoldable pub conj_at : (List Tok → Read PredTree) → List Tok → Read PredTree
-conj_at term ts = term ts >>= λ x. many_at (after symbol.And) (λ _. term) Both (length x.1) x.0 x.1
+conj_at term ts = term ts >>= λ x. many_at (after_symbol symbol.And) (λ _. term) Both (length x.1) x.0 x.1
 
 unfoldable pub pred_at : (List Tok → Read PredTree) → List Tok → Read PredTree
-pred_at term ts = conj_at term ts >>= λ x. many_at (after symbol.Or) (λ _. conj_at term) Either (length x.1) x.0 x.1
+pred_at term ts = conj_at term ts >>= λ x. many_at (after_symbol symbol.Or) (λ _. conj_at term) Either (length x.1) x.0 x.1
 
 -- a term with room for so many signs `(` and words `not` open at once
 unfoldable pub term_at : Dialect → Fault → ℕ → List Tok → Read PredTree
 term_at d stop zero ts =
-    if_some (after symbol.Not ts) (if_some (after symbol.Open ts) (comparison_at d stop ts)
+    if_some (after_symbol symbol.Not ts) (if_some (after_symbol symbol.Open ts) (comparison_at d stop ts)
     (λ us. Err (deep (first_place stop ts))))
     (λ us. Err (deep (first_place stop ts)))
 term_at d stop (suc room) ts =
-    if_some (after symbol.Not ts) (if_some (after symbol.Open ts) (comparison_at d stop ts)
+    if_some (after_symbol symbol.Not ts) (if_some (after_symbol symbol.Open ts) (comparison_at d stop ts)
     (λ us. pred_at (term_at d stop room) us >>= λ x. need symbol.Close stop x.1 >>= λ vs. Ok (x.0, vs)))
     (λ us. term_at d stop room us >>= λ x. Ok (Negation x.0, x.1))
 

@@ -50,9 +50,9 @@ abbrev pub read_query : List ℕ → Result QueryTree Fault
 read_query = read_text query_at
 
 -- a policy's predicate, with nesting of at most 32
-abbrev pub policy_at : Fault → List Tok → Read PredTree
-policy_at stop = pred_at (term_at Policy stop nesting)
+abbrev pub policy_condition_at : Fault → List Tok → Read PredTree
+policy_condition_at stop = pred_at (term_at Policy stop nesting)
 
 -- the tree of a policy's text
 abbrev pub read_pred : List ℕ → Result PredTree Fault
-read_pred = read_text policy_at
+read_pred = read_text policy_condition_at

@@ -11,6 +11,7 @@ use Rattle.iv_query.specs.declared.token.Lexeme.TheVariants as lexeme
 use Rattle.iv_query.specs.declared.token.Token.{Token}
 use Rattle.iv_query.specs.declared.tree.Op.{Op}
 use Rattle.iv_query.specs.declared.tree.Op.TheVariants as op
+use Rattle.iv_rows.specs.Options.{if_some}
 
 -- a token and its place: a reserved word or a sign, a name in lower case, a number, the value of a quoted text
 pub data Tok : Type 0 where
@@ -31,16 +32,16 @@ tok t = tok_of t.lexeme t.place
 abbrev pub toks : List Token → List Tok
 toks ts = map tok ts
 
-abbrev pub place_of : Tok → ℕ
-place_of (Fixed s p) = p
-place_of (Name n p) = p
-place_of (Number n p) = p
-place_of (Quoted v p) = p
+abbrev pub token_place : Tok → ℕ
+token_place (Fixed s p) = p
+token_place (Name n p) = p
+token_place (Number n p) = p
+token_place (Quoted v p) = p
 
 -- the first token's place, or where the tokens end
 abbrev pub first_place : Fault → List Tok → ℕ
 first_place stop [] = stop.place
-first_place stop (t ∷ ts) = place_of t
+first_place stop (t ∷ ts) = token_place t
 
 abbrev pub is_symbol : Symbol → Tok → Bool
 is_symbol s (Fixed t p) = sameb the_type t s
@@ -49,24 +50,24 @@ is_symbol s (Number n p) = false
 is_symbol s (Quoted v p) = false
 
 -- what stands behind the symbol, where it comes first
-unfoldable pub after : Symbol → List Tok → Option (List Tok)
-after s [] = None
-after s (t ∷ ts) = if is_symbol s t then Some ts else None
+unfoldable pub after_symbol : Symbol → List Tok → Option (List Tok)
+after_symbol s [] = None
+after_symbol s (t ∷ ts) = if is_symbol s t then Some ts else None
 
-abbrev pub is_name : Tok → Bool
-is_name (Fixed s p) = false
-is_name (Name n p) = true
-is_name (Number n p) = false
-is_name (Quoted v p) = false
+abbrev pub is_name_token : Tok → Bool
+is_name_token (Fixed s p) = false
+is_name_token (Name n p) = true
+is_name_token (Number n p) = false
+is_name_token (Quoted v p) = false
 
 abbrev pub starts_name : List Tok → Bool
 starts_name [] = false
-starts_name (t ∷ ts) = is_name t
+starts_name (t ∷ ts) = is_name_token t
 
 -- the first token, which is not one that is needed there, or stop, the fault where the tokens end
 abbrev pub unexpected : Fault → List Tok → Fault
 unexpected stop [] = stop
-unexpected stop (t ∷ ts) = record { place = place_of t; why = why.Unexpected }
+unexpected stop (t ∷ ts) = record { place = token_place t; why = why.Unexpected }
 
 -- too deep at a place
 abbrev pub deep : ℕ → Fault
@@ -81,10 +82,6 @@ op_of symbol.LessEqual = Some op.LessEqual
 op_of symbol.Greater = Some op.Greater
 op_of symbol.GreaterEqual = Some op.GreaterEqual
 op_of _ = None
-
-abbrev pub if_some : {A B : Type 0} → Option A → B → (A → B) → B
-if_some None b f = b
-if_some (Some a) b f = f a
 
 -- a comparison sign that comes first, and what stands behind it
 abbrev pub after_op : List Tok → Option (Op × List Tok)

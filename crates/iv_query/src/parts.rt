@@ -1,7 +1,7 @@
 //! Reads the parts that queries and predicates share: names, columns, operands, comparison signs and needed symbols.
 
 ghost use Rattle.std.specs.Prelude.{◌≡◌, option_map};
-ghost use Rattle.iv_query.specs.Tokens.{after, toks, first_place, unexpected, deep, op_of, after_op};
+ghost use Rattle.iv_query.specs.Tokens.{after_symbol, toks, first_place, unexpected, deep, op_of, after_op};
 ghost use Rattle.iv_query.specs.Trees.{name_tree, column_tree, operand_tree};
 ghost use Rattle.iv_query.specs.Answers.{at, Gives};
 ghost use Rattle.iv_query.specs.Reading.{need, name_at, column_at, word_operand, name_operand_at, operand_at};
@@ -55,9 +55,9 @@ pub fn deep(place: usize) -> QueryFault
 }
 
 // The tokens behind a symbol, if it comes first.
-#[tactic(auto, unfolding(crate::specs::Tokens::after))]
+#[tactic(auto, unfolding(crate::specs::Tokens::after_symbol))]
 pub fn after(symbol: Symbol, tokens: &[Token]) -> Option<&[Token]>
-    ensures { option_map (λ x. toks x.now) result ≡ after symbol (toks tokens.now) }
+    ensures { option_map (λ x. toks x.now) result ≡ after_symbol symbol (toks tokens.now) }
 {
     if let [first, rest @ ..] = tokens {
         if let Lexeme::Fixed(found) = &first.lexeme {

@@ -15,7 +15,7 @@ ghost use Rattle.iv_query.specs.Reading.{end_at};
 ghost use Rattle.iv_query.specs.QueryReading.{query_at};
 ghost use Rattle.iv_query.specs.Query.{sources_of};
 ghost use Rattle.iv_query.specs.Well.{IsWellPred, IsWellQuery};
-ghost use Rattle.iv_query.specs.TextReading.{lexed, tokens_lexed, read_tokens, policy_at, read_pred, read_query};
+ghost use Rattle.iv_query.specs.TextReading.{lexed, tokens_lexed, read_tokens, policy_condition_at, read_pred, read_query};
 
 use crate::fault::{Fault, QueryFault, Why};
 use crate::lexer::{Tokens, lexed};
@@ -55,7 +55,7 @@ fn end(rest: &[Token], stop: Fault, ends: bool) -> Result<(), QueryFault>
 
 #[tactic(auto, unfolding(crate::specs::Reading::whole_at))]
 fn whole_pred(alloc: Global, tokens: &Tokens) -> Result<PredText, QueryFault>
-    ensures { Gives (λ p. pred_tree p.pred) result (read_tokens policy_at (tokens_lexed tokens.now)) }
+    ensures { Gives (λ p. pred_tree p.pred) result (read_tokens policy_condition_at (tokens_lexed tokens.now)) }
 {
     let (pred, rest) = pred(alloc, &tokens.list, Dialect::Policy, NESTING, tokens.stop)?;
     end(rest, tokens.stop, tokens.ends)?;

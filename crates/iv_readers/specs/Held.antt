@@ -1,7 +1,7 @@
 -- Which circuits are held, and which of them roles read.
 use Rattle.std.specs.Prelude.{◌≡◌, ℕ, Bool, true, false, List, [], ◌∷◌, ◌++◌, Option, get_or, is_some, set, slice_get, unwrap_or}
 use Rattle.std.specs.List.{AllByRecursion}
-use Rattle.iv_bind.specs.Faults.{if_some}
+use Rattle.iv_rows.specs.Options.{if_some}
 use Rattle.iv_circuit.specs.Circuits.{Running}
 use Rattle.iv_circuit.specs.declared.node.Node.TheVariants.{Scan}
 use Rattle.iv_readers.specs.Readers.{RoleCircuit, moved_to}

@@ -2,7 +2,7 @@
 use Rattle.std.specs.Prelude.{◌≡◌, ℕ, ◌≤◌, ◌==◌, Bool, true, false, List, [], get_or, map, slice_get, Option}
 use Rattle.std.specs.Global.{Global}
 use Rattle.std.specs.declared.rc.Rc.{Rc}
-use Rattle.iv_bind.specs.Faults.{if_some}
+use Rattle.iv_rows.specs.Options.{if_some}
 use Rattle.iv_readers.specs.Held.{HasMovedTo, no_circuit}
 use Rattle.iv_zset.specs.Weights.{Weighed}
 use Rattle.iv_circuit.specs.Circuits.{Running}

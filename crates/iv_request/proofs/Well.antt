@@ -17,7 +17,7 @@ use Rattle.iv_access.specs.declared.policy.PolicyCommand.TheVariants as policy_c
 use Rattle.iv_request.specs.declared.forms.Word.{Word}
 use Rattle.iv_request.specs.declared.forms.Word.TheVariants.{Begin, Finish, CreateRole, CreateTable, CreateView, Grant, Revoke, GrantRole, RevokeRole, RowSecurity, CreatePolicy, DropPolicy, Write, Subscribe, Unsubscribe}
 use Rattle.iv_request.specs.Forms.{Form, form_of, has, has_its_keys}
-use Rattle.iv_request.specs.Request.{passing, each, list_at, name_at, text_at, is_schema, columns_at, column_of, privileges_at, privilege_of, cell_of, bool_at, given_or, found_or, list_of, row_of, update_of, op_at, positive_of, copies_at, entry, entry_of, row_security_of, policy_command_of, grantee_of, grantees_of, everyone, text_if_at, Scope, scope, scope_at, policy, policy_at, policy_of, has_its_texts, create_policy_of, drop_policy_of, entries_at, begin_of, create_role_of, create_table_of, create_view_of, grantee_named, grantee_at, Granting, granting, granting_of, grant_by, revoke_by, group_at, Membership, membership, membership_of, grant_role_by, revoke_role_by, write_of, subscribe_of, unsubscribe_of, act_for, act_of_form, asked_act, is_session, session_of, command, request}
+use Rattle.iv_request.specs.Request.{passing, each, list_at, name_at, text_at, is_schema, columns_at, column_of, privileges_at, privilege_of, cell_of, bool_at, given_or, found_or, list_of, row_of, update_of, op_at, positive_of, copies_at, entry, entry_of, row_security_of, policy_command_of, grantee_of, grantees_of, everyone, text_if_at, Scope, scope, scope_at, policy, policy_at, policy_of, has_its_texts, create_policy_of, drop_policy_of, entries_at, begin_of, create_role_of, create_table_of, create_view_of, grantee_named, grantee_at, Granting, granting, granting_of, grant_by, revoke_by, group_at, MembershipNames, membership, membership_of, grant_role_by, revoke_role_by, write_of, subscribe_of, unsubscribe_of, act_for, act_of_form, asked_act, is_session, session_of, command, request}
 use Rattle.iv_request.proofs.Keys.{both_true}
 
 -- ---- what holds of a value that there may be
@@ -189,7 +189,7 @@ revoke_well : (d : Data) → IfSome (option_map revoke_by (granting_of d)) IsWel
 revoke_well d = mapped IsWellGranting IsWellAct revoke_by (granting_of d) (granting_well d) (λ g h. h)
 
 -- what a grant and a revoke of a role keep
-abbrev IsWellMembership : Membership → Type 0
+abbrev IsWellMembership : MembershipNames → Type 0
 IsWellMembership m = is_well_act (grant_role_by m) ≡ true
 
 membership_well : (d : Data) → IfSome (membership_of d) IsWellMembership

@@ -1,4 +1,4 @@
--- The shape rules: which command a JSON value is.
+-- The shape rules: which command a JSON value is. `x_of` is the x that a value is, and `x_at` the one at a key.
 use Rattle.std.specs.Prelude.{ℕ, ◌^◌, ◌==◌, ◌&&◌, Bool, false, List, [], ◌∷◌, codes, length, nat_le, nat_lt, bytes_eq, Option, Some, None, option_map, option_and_then, if◌then◌else◌}
 use Rattle.iv_rows.specs.Cell.{Cell, num, text, flag}
 use Rattle.iv_rows.specs.Columns.{Column, has_columns, has_distinct_names}
@@ -210,20 +210,20 @@ abbrev pub group_at : List ℕ → Data → Option (List ℕ)
 group_at key d = option_and_then (passing is_group) (text_at key d)
 
 -- what a grant and a revoke of a role name
-pub record Membership : Type 0 where
+pub record MembershipNames : Type 0 where
   pub role : List ℕ
   pub to : List ℕ
 
-abbrev pub membership : List ℕ → List ℕ → Membership
+abbrev pub membership : List ℕ → List ℕ → MembershipNames
 membership role to = record { role = role; to = to }
 
-abbrev pub membership_of : Data → Option Membership
+abbrev pub membership_of : Data → Option MembershipNames
 membership_of d = option_and_then (λ role. option_map (membership role) (name_at (codes "to") d)) (group_at (codes "role") d)
 
-abbrev pub grant_role_by : Membership → machine.Act
+abbrev pub grant_role_by : MembershipNames → machine.Act
 grant_role_by m = machine.grant_role m.role m.to
 
-abbrev pub revoke_role_by : Membership → machine.Act
+abbrev pub revoke_role_by : MembershipNames → machine.Act
 revoke_role_by m = machine.revoke_role m.role m.to
 
 abbrev pub row_security_of : Data → Option machine.Act

@@ -44,9 +44,9 @@ pub struct Membership {
 
 impl Model for Membership {
     ghost use Rattle.std.specs.Prelude.{string_bytes};
-    ghost use Rattle.iv_request.specs.Request.{Membership};
+    ghost use Rattle.iv_request.specs.Request.{MembershipNames};
 
-    ghost Value = { Membership };
+    ghost Value = { MembershipNames };
 
     ghost view = { λ m. record { role = string_bytes m.role; to = string_bytes m.member } };
 }

@@ -2,6 +2,7 @@ pub mod Cell
 pub mod Columns
 pub mod Fed
 pub mod Names
+pub mod Options
 pub mod Order
 pub mod OrderLaws
 pub mod Texts

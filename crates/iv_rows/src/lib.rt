@@ -8,7 +8,7 @@ mod value;
 
 pub use name::name_ok;
 pub use row::Row;
-pub use schema::{Column, RelId, RowFault, Schema, columns_ok};
+pub use schema::{Column, RelId, Schema, columns_ok};
 pub use value::{Kind, Value};
 
 #[cfg(test)]

@@ -1,5 +1,5 @@
 //! `Schema`: the columns of a relation, their rules, and whether a row fits them; `Column`; `RelId`, a relation's number.
-ghost use Rattle.std.specs.Prelude.{◌≡◌, ◌↔◌, ◌&&◌, IfOk, not, true, false};
+ghost use Rattle.std.specs.Prelude.{◌≡◌, ◌&&◌, IfOk, true};
 ghost use Rattle.std.specs.Prelude.{bytes_eq};
 ghost use Rattle.std.specs.List.{list_all, list_any};
 ghost use Rattle.iv_rows.specs.Columns.{accepts, kinds_of, has_columns, has_distinct_names, is_wide};
@@ -9,6 +9,7 @@ ghost use Rattle.iv_rows.specs.View.{cells_of};
 use crate::name::name_ok;
 use crate::row::Row;
 use crate::value::{Kind, Value};
+use std::alloc::{AllocError, Global};
 use std::marker::Model;
 
 /// The number of a table or a view.
@@ -33,15 +34,6 @@ impl Model for Column {
     ghost view = { λ c. record { name = string_bytes c.name; kind = c.kind } };
 }
 
-/// Why columns are no schema.
-#[derive(Clone, Copy, Debug, PartialEq, Eq)]
-pub enum RowFault {
-    /// There is no column, there are more than 16, or a name is none (see [`crate::name_ok`]).
-    Columns,
-    /// Two columns have one name.
-    Duplicate,
-}
-
 /// The columns of a table or a view, from the left: 1 to 16, with distinct names.
 ///
 /// Source: PostgreSQL 16, CREATE TABLE, in the profile of docs/PROTOCOL.md.
@@ -62,23 +54,29 @@ impl Model for Schema {
 }
 
 impl Schema {
-    /// The schema with these columns. It takes no memory.
+    /// The schema with these columns, which are those of one ([`columns_ok`]). It takes no memory.
+    pub fn new(columns: Vec<Column>) -> Schema
+        requires { (has_columns columns.items && has_distinct_names columns.items) ≡ true }
+        ensures { result ≡ columns.items }
+    {
+        Schema { columns }
+    }
+
+    /// The same columns.
     ///
     /// # Errors
-    /// `Columns` where there is no column, where there are more than 16, or where a name is none; else `Duplicate`
-    /// where two columns have one name.
-    pub fn try_new(columns: Vec<Column>) -> Result<Schema, RowFault>
-        ensures ok { IfOk result (λ schema. schema ≡ columns.items) }
-        ensures columns { result ≡ Err RowFault.Columns ↔ (has_columns columns.items ≡ false) }
-        ensures duplicate { result ≡ Err RowFault.Duplicate ↔ ((has_columns columns.items && not (has_distinct_names columns.items)) ≡ true) }
+    /// `AllocError` where a growth of memory was refused.
+    pub fn copy(&self, alloc: Global) -> Result<Schema, AllocError>
+        ensures { IfOk result (λ copy. copy ≡ self.now) }
     {
-        if columns_ok(&columns) {
-            return Ok(Schema { columns });
+        let mut columns = Vec::with_capacity(alloc, self.columns.len())?;
+        for column in self.columns() {
+            columns.push(Column {
+                name: String::from_str(alloc, column.name.as_str())?,
+                kind: column.kind,
+            })?;
         }
-        if has_columns(&columns) {
-            return Err(RowFault::Duplicate);
-        }
-        Err(RowFault::Columns)
+        Ok(Schema { columns })
     }
 
     /// The columns, from the left.

@@ -3,10 +3,10 @@ use Rattle.std.proofs.Common.{◌≡◌, if◌then◌else◌, ℕ, ◌+◌, ◌�
 use Rattle.iv_machine.specs.Act.{Command}
 use Rattle.iv_machine.specs.Machine.{run, step}
 use Rattle.iv_machine.specs.State.{State}
-use Rattle.iv_engine.specs.Seen.{Seen, IsBehind}
+use Rattle.iv_engine.specs.Engine.{Engine, IsBehind}
 use Rattle.iv_request.specs.Reading.{Reading, faulty, asked, reading_of}
 use Rattle.iv_wire.specs.Answer.{commands_of, readings_of, told}
-use Rattle.iv_wire.specs.Cut.{is_blank}
+use Rattle.iv_wire.specs.Cut.{is_blank_line}
 use Rattle.iv_wire.specs.Ran.{HasRun}
 
 run_joins : (s : State) (cs ds : List Command) → (run (run s cs).state ds).state ≡ (run s (cs ++ ds)).state
@@ -19,20 +19,20 @@ one_at_most (asked c) = omega arith
 
 -- a line has one command at most
 line_has_one : (line : List ℕ) → length (commands_of (readings_of line)) ≤ 1
-line_has_one line = by (is_blank line)
+line_has_one line = by (is_blank_line line)
   where
     by : (b : Bool) → length (commands_of (if b then [] else reading_of line ∷ [])) ≤ 1
     by true = omega arith
     by false = one_at_most (reading_of line)
 
-pub none_ran : (s : State) (e : Seen) → IsBehind s e → HasRun 0 s e
+pub none_ran : (s : State) (e : Engine) → IsBehind s e → HasRun 0 s e
 none_ran s e b = record { commands = []; most = omega arith; behind = b }
 
-pub ran_within : (n lines : ℕ) (s : State) (e : Seen) → n ≤ lines → HasRun n s e → HasRun lines s e
+pub ran_within : (n lines : ℕ) (s : State) (e : Engine) → n ≤ lines → HasRun n s e → HasRun lines s e
 ran_within n lines s e le h = record { commands = h.commands; most = omega (arith, le, h.most); behind = h.behind }
 
 -- and one line more
-pub one_more_ran : (n : ℕ) (line : List ℕ) (s : State) (old new : Seen) → HasRun n s old → ((t : State) → IsBehind t old → IsBehind (told t (readings_of line)).state new) → HasRun (n + 1) s new
+pub one_more_ran : (n : ℕ) (line : List ℕ) (s : State) (old new : Engine) → HasRun n s old → ((t : State) → IsBehind t old → IsBehind (told t (readings_of line)).state new) → HasRun (n + 1) s new
 one_more_ran n line s old new h f =
     let more = commands_of (readings_of line) in
     record {

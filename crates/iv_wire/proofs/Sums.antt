@@ -6,9 +6,9 @@ use Rattle.iv_machine.specs.Machine.{run, step}
 use Rattle.iv_machine.specs.Reached.{AreNumbersUnique}
 use Rattle.iv_machine.specs.State.{State}
 use Rattle.iv_machine.proofs.Adding.{adds_up, run_numbers}
-use Rattle.iv_engine.specs.Seen.{Seen, IsBehind}
+use Rattle.iv_engine.specs.Engine.{Engine, IsBehind}
 use Rattle.iv_request.specs.Reading.{Reading, faulty, asked}
-use Rattle.iv_wire.specs.Answer.{heard, commands_of, text_of}
+use Rattle.iv_wire.specs.Answer.{heard, commands_of, text_answered}
 use Rattle.iv_wire.specs.Endings.{Run, Answers, IsAnswered}
 use Rattle.iv_wire.specs.declared.lines.End.{End}
 use Rattle.iv_wire.specs.declared.lines.RunFault.{RunFault}
@@ -20,10 +20,10 @@ texts_follow : (ls ms : List Line) (text : List ℕ) → IsTextOf ms text → Is
 texts_follow [] ms text h = h
 texts_follow (l ∷ ls) ms text h = subst (λ (v : List ℕ). IsTextOf (l ∷ (ls ++ ms)) v) (sym (append_assoc (line_text l) (flat_map line_text ls) text)) (sums.line l (texts_follow ls ms text h))
 
-pub text_is_of_run : (s : State) (rs : List Reading) → IsTextOf (run s (commands_of rs)).lines (text_of s rs)
+pub text_is_of_run : (s : State) (rs : List Reading) → IsTextOf (run s (commands_of rs)).lines (text_answered s rs)
 text_is_of_run s [] = sums.nothing
 text_is_of_run s (faulty n ∷ rs) = sums.fault n (text_is_of_run s rs)
-text_is_of_run s (asked c ∷ rs) = let one = step s c in texts_follow one.lines (run one.state (commands_of rs)).lines (text_of one.state rs) (text_is_of_run one.state rs)
+text_is_of_run s (asked c ∷ rs) = let one = step s c in texts_follow one.lines (run one.state (commands_of rs)).lines (text_answered one.state rs) (text_is_of_run one.state rs)
 
 -- ---- what a run has written
 
@@ -33,7 +33,7 @@ written_ok s (Some bytes) r end h p =
     let rs = (heard r.lines bytes).readings in
     record {
       commands = commands_of rs;
-      text = text_of s rs;
+      text = text_answered s rs;
       behind = h.1;
       numbers = run_numbers s (commands_of rs) p;
       written = h.0;
@@ -41,6 +41,6 @@ written_ok s (Some bytes) r end h p =
       sums = adds_up s (commands_of rs) p;
     }
 
-pub has_written : (first : Seen) (r : Run) (result : Result End RunFault) → AreNumbersUnique first.frame → ((s : State) → IsBehind s first → IsAnswered s r result) → OnOk result ((s : State) → IsBehind s first → IfSome r.given (λ _. HasWritten s r))
+pub has_written : (first : Engine) (r : Run) (result : Result End RunFault) → AreNumbersUnique first.frame → ((s : State) → IsBehind s first → IsAnswered s r result) → OnOk result ((s : State) → IsBehind s first → IfSome r.given (λ _. HasWritten s r))
 has_written first r (Ok end) p h = λ s b. written_ok s r.given r end (h s b) (subst AreNumbersUnique (sym b.frame) p)
 has_written first r (Err e) p h = tt

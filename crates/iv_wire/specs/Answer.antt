@@ -4,7 +4,7 @@ use Rattle.iv_machine.specs.Act.{Command}
 use Rattle.iv_machine.specs.Machine.{run, step}
 use Rattle.iv_machine.specs.State.{State}
 use Rattle.iv_request.specs.Reading.{Reading, faulty, asked, reading_of}
-use Rattle.iv_wire.specs.Cut.{Cut, nothing, whole, endless, cut, is_blank}
+use Rattle.iv_wire.specs.Cut.{Cut, nothing, whole, endless, cut, is_blank_line}
 use Rattle.iv_wire.specs.Texts.{line_text, fault_text}
 use Rattle.iv_wire.specs.declared.lines.End.{End}
 use Rattle.iv_wire.specs.declared.lines.End.TheVariants.{Input, Lines, TooLong}
@@ -17,7 +17,7 @@ too_long = faulty 22
 
 -- a blank line is passed over
 abbrev pub readings_of : List ℕ → List Reading
-readings_of line = if is_blank line then [] else reading_of line ∷ []
+readings_of line = if is_blank_line line then [] else reading_of line ∷ []
 
 -- ---- up to n lines
 
@@ -48,10 +48,10 @@ commands_of (faulty n ∷ rs) = commands_of rs
 commands_of (asked c ∷ rs) = c ∷ commands_of rs
 
 -- the texts of the machine's lines, command after command, and between them what is answered to the others
-abbrev pub text_of : State → List Reading → List ℕ
-text_of s [] = []
-text_of s (faulty n ∷ rs) = fault_text n ++ text_of s rs
-text_of s (asked c ∷ rs) = let one = step s c in flat_map line_text one.lines ++ text_of one.state rs
+abbrev pub text_answered : State → List Reading → List ℕ
+text_answered s [] = []
+text_answered s (faulty n ∷ rs) = fault_text n ++ text_answered s rs
+text_answered s (asked c ∷ rs) = let one = step s c in flat_map line_text one.lines ++ text_answered one.state rs
 
 -- the state then, and the text
 pub record Told : Type 0 where
@@ -59,7 +59,7 @@ pub record Told : Type 0 where
   pub text : List ℕ
 
 abbrev pub told : State → List Reading → Told
-told s rs = record { state = (run s (commands_of rs)).state; text = text_of s rs }
+told s rs = record { state = (run s (commands_of rs)).state; text = text_answered s rs }
 
 pub record Answer : Type 0 where
   pub state : State

@@ -28,5 +28,5 @@ abbrev pub cut : List ℕ → Cut
 cut bytes = cut_from line_room [] bytes
 
 -- spaces, tabs and carriage returns alone
-abbrev pub is_blank : List ℕ → Bool
-is_blank line = list_all (λ b. (b == 32) || ((b == 9) || (b == 13))) line
+abbrev pub is_blank_line : List ℕ → Bool
+is_blank_line line = list_all (λ b. (b == 32) || ((b == 9) || (b == 13))) line

@@ -2,7 +2,7 @@
 use Rattle.std.specs.Prelude.{◌≡◌, ◌≤◌, ◌<◌, ◌+◌, ℕ, List, take, length, Option, Some, None, ⊤, Result, Ok, Err}
 use Rattle.std.specs.Io.KnownBytes.{Appends}
 use Rattle.iv_machine.specs.State.{State}
-use Rattle.iv_engine.specs.Seen.{Seen, IsBehind}
+use Rattle.iv_engine.specs.Engine.{Engine, IsBehind}
 use Rattle.iv_wire.specs.declared.lines.End.{End}
 use Rattle.iv_wire.specs.declared.lines.End.TheVariants.{Lines}
 use Rattle.iv_wire.specs.declared.lines.RunFault.{RunFault}
@@ -18,7 +18,7 @@ pub record Run : Type 0 where
   pub left : Option (List ℕ)
   pub taken : Option (List ℕ)
   pub written : Option (List ℕ)
-  pub now : Seen
+  pub now : Engine
 
 -- k lines were there, and their answers were written
 abbrev pub HasAnswered : State → List ℕ → ℕ → Run → Type 0

@@ -5,7 +5,7 @@ use Rattle.iv_machine.specs.Act.{Command, Line}
 use Rattle.iv_machine.specs.Machine.{run}
 use Rattle.iv_machine.specs.Reached.{AddsUp, AreNumbersUnique}
 use Rattle.iv_machine.specs.State.{State}
-use Rattle.iv_engine.specs.Seen.{IsBehind}
+use Rattle.iv_engine.specs.Engine.{IsBehind}
 use Rattle.iv_wire.specs.Endings.{Run}
 use Rattle.iv_wire.specs.Texts.{line_text, fault_text}
 

@@ -6,7 +6,7 @@ ghost use Rattle.iv_machine.specs.Machine.{run};
 ghost use Rattle.iv_machine.specs.State.{State};
 ghost use Rattle.iv_request.specs.Reading as iv_request;
 ghost use Rattle.iv_request.specs.Worked.{notes, first_row};
-ghost use Rattle.iv_wire.specs.Answer.{commands_of, text_of};
+ghost use Rattle.iv_wire.specs.Answer.{commands_of, text_answered};
 ghost use Rattle.iv_wire.specs.Cut.{cut, endless, last_line, line_room, whole};
 ghost use Rattle.iv_wire.specs.Sums.{IsTextOf};
 ghost use Rattle.iv_wire.specs.Texts.{fault_text, line_text};
@@ -50,5 +50,5 @@ pub fn lines_are_written()
 
 /// The text of an answer is that of the lines of the machine's run, with faults of lines that are no request between them.
 pub fn answers_are_texts()
-    ensures { (s : State) (rs : List iv_request.Reading) → IsTextOf (run s (commands_of rs)).lines (text_of s rs) }
+    ensures { (s : State) (rs : List iv_request.Reading) → IsTextOf (run s (commands_of rs)).lines (text_answered s rs) }
 {}

@@ -1,6 +1,6 @@
 //! `next_line`: cuts bytes into lines; `End`, `RunFault`: how a run over lines ends.
 ghost use Rattle.std.specs.Prelude.{◌≡◌, ◌≤◌, ◌+◌, ◌||◌, ◌⊎◌, [], option_map, IfOk, IfErr, OnOk, IsErrOf};
-ghost use Rattle.iv_wire.specs.Cut.{is_blank, line_room};
+ghost use Rattle.iv_wire.specs.Cut.{is_blank_line, line_room};
 ghost use Rattle.iv_wire.specs.Ahead.{known};
 ghost use Rattle.iv_wire.specs.Reads.{IsCut, IsCutShort, is_read};
 
@@ -97,7 +97,7 @@ pub fn next_line<R: Source>(
 
 /// Whether the line is of spaces, tabs and carriage returns alone.
 pub fn is_blank_line(line: &[u8]) -> bool
-    ensures { result ≡ is_blank line.now }
+    ensures { result ≡ is_blank_line line.now }
 {
     line.iter()
         .all(|b| *b == b' ' || *b == b'\t' || *b == b'\r')

@@ -9,7 +9,7 @@ ghost use Rattle.std.specs.Prelude.{◌≡◌, ◌≤◌, ◌+◌, ◌*◌, ◌|
 ghost use Rattle.std.specs.Io.KnownBytes.{Appends};
 ghost use Rattle.iv_machine.specs.State.{State};
 ghost use Rattle.iv_machine.specs.Well.{is_well_command};
-ghost use Rattle.iv_engine.specs.Seen.{IsBehind};
+ghost use Rattle.iv_engine.specs.Engine.{IsBehind};
 ghost use Rattle.iv_command.specs.Views.{command_of};
 ghost use Rattle.iv_wire.specs.Answer.{told, readings_of};
 ghost use Rattle.iv_wire.specs.Cut.{line_room};

@@ -7,7 +7,7 @@ ghost use Rattle.tests_circuits.specs.Worlds.{AreSound, HasMore, LeadTo, SameHea
 
 use iv_algebra::Tables;
 use iv_circuit::Deltas;
-use iv_rows::{Column, Kind, RelId, Row, Schema, Value};
+use iv_rows::{Column, Kind, RelId, Row, Schema, Value, columns_ok};
 use iv_zset::{Meter, Seed};
 use std::alloc::{AllocError, Global};
 
@@ -37,13 +37,10 @@ fn add_table(alloc: Global, tables: &mut Tables, table: RelId) -> bool
     let Ok(columns) = columns(alloc) else {
         return false;
     };
-    let Ok(schema) = Schema::try_new(columns) else {
-        return false;
-    };
-    if tables.has(table) {
+    if !columns_ok(&columns) || tables.has(table) {
         return false;
     }
-    match tables.add_table(table, schema) {
+    match tables.add_table(table, Schema::new(columns)) {
         Ok(()) => true,
         Err(_) => false,
     }

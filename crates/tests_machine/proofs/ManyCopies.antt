@@ -14,7 +14,7 @@ use Rattle.iv_access.specs.Policies.{allowed, may_see}
 use Rattle.iv_algebra.specs.declared.pred.Comparison.TheVariants.{Less}
 use Rattle.iv_machine.specs.Act.{Act, write, insert, delete, Entry, Command, Line, reply, done, Refusal, limit, no_such_row}
 use Rattle.iv_machine.specs.Changing.{after, times, without}
-use Rattle.iv_machine.specs.Machine.{difference, line_of, outcome, run}
+use Rattle.iv_machine.specs.Machine.{difference, lines_told, outcome, run}
 use Rattle.tests_machine.specs.OfCopies.{batch, copies_limit, no_sums, summed, sums_limit, unread}
 use Rattle.iv_machine.specs.Refusing.{test, or_else, all_within, entries_present, refusal}
 use Rattle.iv_machine.specs.Split.{frame_refusal}
@@ -152,7 +152,7 @@ batch_accepted c e = λ i. batch_tests (first_there c i) (second_there c e i) (a
 
 -- the lines of the batch, by what it leaves
 abbrev batch_lines : List (List Cell) → List Line
-batch_lines rows = reply 1 done ∷ (line_of None (record { session = 2; number = 1; rel = 0 }) (difference (of_ann 1 ∷ []) (filter (may_see first.frame.rights 1 0) rows)) ++ [])
+batch_lines rows = reply 1 done ∷ (lines_told None (record { session = 2; number = 1; rel = 0 }) (difference (of_ann 1 ∷ []) (filter (may_see first.frame.rights 1 0) rows)) ++ [])
 
 pub batch_computes : (c : ℕ) → c ≡ 2 ^ 63 - 1 → Computes first (batch c)
 batch_computes c e = ap (λ o. (outcome first (batched c) o).lines ++ []) (batch_accepted c e) ∙ ap (λ rows. batch_lines rows ++ []) (all_left c e)

@@ -2,7 +2,7 @@
 use Rattle.std.specs.Prelude.{ℕ, ◌-◌, ◌^◌, false, List, [], ◌∷◌, codes, Some, None}
 use Rattle.std.specs.List.{repeat}
 use Rattle.iv_algebra.specs.Shapes.{Constant, Scan}
-use Rattle.iv_bind.specs.Catalogs.{Entry, Table, View}
+use Rattle.iv_bind.specs.Catalogs.{CatalogEntry, Table, View}
 use Rattle.iv_access.specs.declared.policy.PolicyCommand.TheVariants.{All}
 use Rattle.iv_access.specs.Rights.{Name, Guard, Policy, Public}
 use Rattle.iv_access.specs.Rights as rights
@@ -25,7 +25,7 @@ stranger = codes "r"
 
 -- `admin` and n others
 abbrev pub roles : ℕ → Frame
-roles n = record (sessions 0) { rights = record rights.start { roles = admin ∷ repeat n (stranger ∷ []) } }
+roles n = record (sessions 0) { rights = record rights.rights_at_start { roles = admin ∷ repeat n (stranger ∷ []) } }
 
 -- ---- relations
 
@@ -35,10 +35,10 @@ one = codes "one"
 abbrev pub two : Name
 two = codes "two"
 
-abbrev pub table : Entry
+abbrev pub table : CatalogEntry
 table = record { name = one; rel = 0; held = Table (column (codes "id") ∷ []) }
 
-abbrev pub view : Entry
+abbrev pub view : CatalogEntry
 view = record { name = two; rel = 1; held = View (record { plan = Scan 0; schema = column (codes "id") ∷ []; needs = 0 ∷ [] }) }
 
 -- a policy of the name two
@@ -50,14 +50,14 @@ abbrev pub guard : ℕ → Guard
 guard n = record { owner = 0; enabled = false; forced = false; policies = repeat n (some_policy ∷ []) }
 
 abbrev pub tables : ℕ → Frame
-tables n = record (sessions 0) { rights = record rights.start { guards = guard 0 ∷ [] }; catalog = repeat n (table ∷ []) }
+tables n = record (sessions 0) { rights = record rights.rights_at_start { guards = guard 0 ∷ [] }; catalog = repeat n (table ∷ []) }
 
 -- a table, and n views
 abbrev pub views : ℕ → Frame
 views n = record (sessions 0) { catalog = table ∷ repeat n (view ∷ []) }
 
 abbrev pub policies : ℕ → Frame
-policies n = record (tables 1) { rights = record rights.start { guards = guard n ∷ [] } }
+policies n = record (tables 1) { rights = record rights.rights_at_start { guards = guard n ∷ [] } }
 
 abbrev pub new_view : Name → List ℕ → Act
 new_view name query = create_view name admin query

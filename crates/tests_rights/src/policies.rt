@@ -1,7 +1,10 @@
-//! Tests of row security and policies: verdicts, filters, their order by name, and the order of refusals.
-ghost use Rattle.std.specs.Prelude.{◌<◌, OnOk, length};
+//! Tests of row security and policies: verdicts, filters, their order by name, and what is told before one comes.
+ghost use Rattle.std.specs.Prelude.{◌≡◌, ◌<◌, OnOk, length};
+ghost use Rattle.iv_access.specs.Faults.{takes_policy};
 
-use iv_access::{ADMIN, Access, AccessFault, Check, Policy, PolicyCommand, RoleId, Verdict};
+use iv_access::{
+    ADMIN, Access, AccessFault, Check, MOST_POLICIES, NewPolicy, PolicyCommand, RoleId, Verdict,
+};
 use iv_algebra::{Comparison, Operand, Pred};
 use iv_rows::{Kind, RelId, Row, Value};
 use std::alloc::{AllocError, Global};
@@ -45,7 +48,8 @@ fn fill(access: &mut Access, alloc: Global, forced: bool) -> Result<(), AccessFa
     access.create_role(ADMIN, "bob")?;
     let columns = columns(alloc)?;
     access.add_relation(ADMIN, "notes", "ann", Some(columns))?;
-    access.row_security(ADMIN, NOTES, true, forced)
+    access.row_security(NOTES, true, forced);
+    Ok(())
 }
 
 /// To whom a policy goes.
@@ -58,11 +62,11 @@ fn grantees(alloc: Global, to: Option<&str>) -> Result<Vec<Option<String>>, Allo
 }
 
 /// The policy that is wanted.
-fn policy(alloc: Global, wanted: Wanted) -> Result<Policy, AllocError> {
+fn policy(alloc: Global, wanted: Wanted) -> Result<NewPolicy, AllocError> {
     let limit = if wanted.restrictive { 100 } else { 1000 };
     let to = grantees(alloc, wanted.to)?;
     let name = String::from_str(alloc, wanted.name)?;
-    Ok(Policy {
+    Ok(NewPolicy {
         name,
         restrictive: wanted.restrictive,
         command: wanted.command,
@@ -76,18 +80,26 @@ fn policy(alloc: Global, wanted: Wanted) -> Result<Policy, AllocError> {
     })
 }
 
-/// Creates the policy that is wanted.
-fn create(
-    access: &mut Access,
-    alloc: Global,
-    acting: RoleId,
-    wanted: Wanted,
-) -> Result<(), AccessFault>
+/// Whether the table takes the policy.
+fn is_taken(access: &Access, policy: &NewPolicy) -> bool
+    ensures { result ≡ takes_policy access.now.rights 0 policy.now.name policy.now.to }
+{
+    access.are_grantees(&policy.to)
+        && (access.policy(NOTES, policy.name.as_str()).is_none()
+            && access.policies(NOTES) < MOST_POLICIES)
+}
+
+/// Creates the policy that is wanted, if the table takes it, and tells whether it does.
+fn create(access: &mut Access, alloc: Global, wanted: Wanted) -> Result<bool, AllocError>
     requires { 0 < length access.old.rights.guards }
     ensures { 0 < length access.new.rights.guards }
 {
     let policy = policy(alloc, wanted)?;
-    access.create_policy(acting, NOTES, policy)
+    if !is_taken(access, &policy) {
+        return Ok(false);
+    }
+    access.create_policy(NOTES, policy)?;
+    Ok(true)
 }
 
 /// What the policies say of a number.
@@ -121,9 +133,9 @@ fn of_each_role(access: &Access, alloc: Global) -> Result<[Verdict; 3], AllocErr
 fn switched(access: &mut Access, alloc: Global) -> Result<[[Verdict; 3]; 3], AccessFault> {
     fill(access, alloc, true)?;
     let forced = of_each_role(access, alloc)?;
-    access.row_security(ANN, NOTES, true, false)?;
+    access.row_security(NOTES, true, false);
     let enabled = of_each_role(access, alloc)?;
-    access.row_security(ANN, NOTES, false, true)?;
+    access.row_security(NOTES, false, true);
     let disabled = of_each_role(access, alloc)?;
     Ok([forced, enabled, disabled])
 }
@@ -146,13 +158,14 @@ fn force_is_for_the_owner_alone(rt: HostRuntime) -> Result<(), Fail> {
 }
 
 /// Adds a permissive policy and two restrictive ones, the first by name last.
-fn restrict(access: &mut Access, alloc: Global) -> Result<(), AccessFault>
+fn restrict(access: &mut Access, alloc: Global) -> Result<(), AllocError>
     requires { 0 < length access.old.rights.guards }
     ensures { 0 < length access.new.rights.guards }
 {
-    create(access, alloc, ANN, for_all("small", true))?;
-    create(access, alloc, ANN, for_all("any", false))?;
-    create(access, alloc, ADMIN, for_all("few", true))
+    create(access, alloc, for_all("small", true))?;
+    create(access, alloc, for_all("any", false))?;
+    create(access, alloc, for_all("few", true))?;
+    Ok(())
 }
 
 /// Adds the table, with these policies.
@@ -160,7 +173,8 @@ fn fill_restricted(access: &mut Access, alloc: Global) -> Result<(), AccessFault
     ensures { OnOk result (0 < length access.new.rights.guards) }
 {
     fill(access, alloc, true)?;
-    restrict(access, alloc)
+    restrict(access, alloc)?;
+    Ok(())
 }
 
 /// Where the policies stand, and whether the second is told as few and as small.
@@ -180,7 +194,7 @@ fn restricted(access: &mut Access, alloc: Global) -> Result<[Verdict; 3], Access
     fill_restricted(access, alloc)?;
     let first = verdict_of(access, alloc, ANN, Check::UpdateNew, 200)?;
     let none = verdict_of(access, alloc, ANN, Check::UpdateNew, 2000)?;
-    access.drop_policy(ADMIN, NOTES, "few")?;
+    access.drop_policy(NOTES, "few");
     let other = verdict_of(access, alloc, ANN, Check::UpdateNew, 200)?;
     Ok([first, none, other])
 }
@@ -292,7 +306,7 @@ fn of_each_test(
         command,
         to: Some("bob"),
     };
-    create(access, alloc, ANN, named)?;
+    create(access, alloc, named)?;
     let bob = passed(access, alloc, BOB)?;
     let ann = passed(access, alloc, ANN)?;
     Ok([bob, ann])
@@ -355,13 +369,13 @@ fn policies_are_for_their_command_and_their_roles(rt: HostRuntime) -> Result<(),
 }
 
 /// Adds policies until the table has 32.
-fn fill_policies(access: &mut Access, alloc: Global) -> Result<(), AccessFault>
+fn fill_policies(access: &mut Access, alloc: Global) -> Result<(), AllocError>
     requires { 0 < length access.old.rights.guards }
     ensures { 0 < length access.new.rights.guards }
 {
     for n in 0..32u32 {
         let name = format!(in alloc; "p{n}")?;
-        create(access, alloc, ANN, for_all(name.as_str(), false))?;
+        create(access, alloc, for_all(name.as_str(), false))?;
     }
     Ok(())
 }
@@ -376,108 +390,82 @@ fn for_carl(name: &str) -> Wanted<'_> {
     }
 }
 
-/// The faults of new policies of a table that has 32, and where a policy stands that was refused.
-fn creating(
-    access: &mut Access,
-    alloc: Global,
-) -> Result<([Option<AccessFault>; 4], Option<usize>), AccessFault> {
+/// Which policies a table takes that has one: of a role that is not there, of the name that is there, and another.
+fn few_taken(access: &mut Access, alloc: Global) -> Result<[bool; 3], AccessFault> {
     fill(access, alloc, true)?;
-    fill_policies(access, alloc)?;
-    let foreign = create(access, alloc, BOB, for_carl("p1")).err();
-    let unknown = create(access, alloc, ANN, for_carl("p1")).err();
-    let taken = create(access, alloc, ANN, for_all("p1", true)).err();
-    let many = create(access, alloc, ANN, for_all("new", true)).err();
-    Ok(([foreign, unknown, taken, many], access.policy(NOTES, "new")))
-}
-
-/// The same, and whether ann sees 999 then.
-fn created(
-    access: &mut Access,
-    alloc: Global,
-) -> Result<([Option<AccessFault>; 4], Option<usize>, bool), AccessFault> {
-    let (faults, place) = creating(access, alloc)?;
-    Ok((faults, place, is_seen(access, alloc, ANN, 999)?))
+    create(access, alloc, for_all("p1", false))?;
+    let unknown = create(access, alloc, for_carl("new"))?;
+    let taken = create(access, alloc, for_all("p1", true))?;
+    let new = create(access, alloc, for_all("new", false))?;
+    Ok([unknown, taken, new])
 }
 
 /// The same in new rights.
-fn created_anew(
-    alloc: Global,
-) -> Result<([Option<AccessFault>; 4], Option<usize>, bool), AccessFault> {
+fn few_taken_anew(alloc: Global) -> Result<[bool; 3], AccessFault> {
     let mut access = Access::new(alloc)?;
-    created(&mut access, alloc)
+    few_taken(&mut access, alloc)
 }
 
 #[test]
-fn policies_are_refused_in_order(rt: HostRuntime) -> Result<(), Fail> {
-    let (faults, place, seen) = created_anew(rt.alloc())?;
-    assert_eq!(rt;
-        faults,
-        [
-            Some(AccessFault::NotOwner),
-            Some(AccessFault::Role),
-            Some(AccessFault::Taken),
-            Some(AccessFault::TooMany)
-        ]
-    );
-    assert_eq!(rt; place, None);
-    assert!(rt; seen);
+fn policies_come_by_new_names_to_known_roles(rt: HostRuntime) -> Result<(), Fail> {
+    let taken = few_taken_anew(rt.alloc());
+    assert_eq!(rt; taken, Ok([false, false, true]));
     Ok(())
 }
 
-/// The faults of a role that does not own the table, and of a policy that is not there.
-fn changing(access: &mut Access, alloc: Global) -> Result<[Option<AccessFault>; 4], AccessFault> {
-    fill_restricted(access, alloc)?;
-    let switched = access.row_security(BOB, NOTES, false, false).err();
-    let foreign = access.drop_policy(BOB, NOTES, "none").err();
-    let unknown = access.drop_policy(ANN, NOTES, "none").err();
-    let other = access.drop_policy(BOB, NOTES, "few").err();
-    Ok([switched, foreign, unknown, other])
-}
-
-/// The same, where the policies stand then, and what they say of 200.
-fn changed(
+/// Whether a table that has 32 policies takes another, how many it has, and where the other stands.
+fn one_more(
     access: &mut Access,
     alloc: Global,
-) -> Result<
-    (
-        [Option<AccessFault>; 4],
-        ([Option<usize>; 3], [bool; 2]),
-        Verdict,
-    ),
-    AccessFault,
-> {
-    let faults = changing(access, alloc)?;
-    let said = verdict_of(access, alloc, ANN, Check::Insert, 200)?;
-    Ok((faults, places(access), said))
+) -> Result<(bool, usize, Option<usize>), AccessFault> {
+    fill(access, alloc, true)?;
+    fill_policies(access, alloc)?;
+    let more = create(access, alloc, for_all("new", true))?;
+    Ok((more, access.policies(NOTES), access.policy(NOTES, "new")))
+}
+
+/// The same, and whether ann sees 999 then.
+fn one_more_seen(
+    access: &mut Access,
+    alloc: Global,
+) -> Result<((bool, usize, Option<usize>), bool), AccessFault> {
+    let more = one_more(access, alloc)?;
+    Ok((more, is_seen(access, alloc, ANN, 999)?))
 }
 
 /// The same in new rights.
-fn changed_anew(
-    alloc: Global,
-) -> Result<
-    (
-        [Option<AccessFault>; 4],
-        ([Option<usize>; 3], [bool; 2]),
-        Verdict,
-    ),
-    AccessFault,
-> {
+fn one_more_anew(alloc: Global) -> Result<((bool, usize, Option<usize>), bool), AccessFault> {
     let mut access = Access::new(alloc)?;
-    changed(&mut access, alloc)
+    one_more_seen(&mut access, alloc)
 }
 
 #[test]
-fn switches_and_drops_are_refused_in_order(rt: HostRuntime) -> Result<(), Fail> {
-    let (faults, places, said) = changed_anew(rt.alloc())?;
-    assert_eq!(rt;
-        faults,
-        [
-            Some(AccessFault::NotOwner),
-            Some(AccessFault::NotOwner),
-            Some(AccessFault::Policy),
-            Some(AccessFault::NotOwner)
-        ]
-    );
+fn a_table_has_32_policies(rt: HostRuntime) -> Result<(), Fail> {
+    let more = one_more_anew(rt.alloc());
+    assert_eq!(rt; more, Ok(((false, 32, None), true)));
+    Ok(())
+}
+
+/// Where the policies stand after one is dropped that is not there, and what they say of 200.
+fn left(
+    access: &mut Access,
+    alloc: Global,
+) -> Result<(([Option<usize>; 3], [bool; 2]), Verdict), AccessFault> {
+    fill_restricted(access, alloc)?;
+    access.drop_policy(NOTES, "none");
+    let said = verdict_of(access, alloc, ANN, Check::Insert, 200)?;
+    Ok((places(access), said))
+}
+
+/// The same in new rights.
+fn left_anew(alloc: Global) -> Result<(([Option<usize>; 3], [bool; 2]), Verdict), AccessFault> {
+    let mut access = Access::new(alloc)?;
+    left(&mut access, alloc)
+}
+
+#[test]
+fn a_policy_that_is_not_there_is_not_missed(rt: HostRuntime) -> Result<(), Fail> {
+    let (places, said) = left_anew(rt.alloc())?;
     assert_eq!(rt; places, ([Some(0), Some(1), Some(2)], [true, false]));
     assert_eq!(rt; said, Verdict::Restrictive(1));
     Ok(())

@@ -3,7 +3,7 @@ ghost use Rattle.std.specs.Prelude.{◌≡◌};
 ghost use Rattle.iv_zset.specs.Weights.{weight_of};
 
 use iv_algebra::{Agg, AlgFault, Comparison, Operand, Plan, Pred, Tables, eval};
-use iv_rows::{Column, Kind, RelId, Row, Schema, Value};
+use iv_rows::{Column, Kind, RelId, Row, Schema, Value, columns_ok};
 use iv_zset::{Meter, ZFault, ZSet};
 use std::alloc::{AllocError, Global};
 use std::test::Fail;
@@ -33,9 +33,12 @@ fn columns(alloc: Global) -> Result<Vec<Column>, AllocError> {
 
 /// The notes, without rows.
 fn no_notes(alloc: Global) -> Result<Tables, Fail> {
-    let columns = Schema::try_new(columns(alloc)?)?;
+    let columns = columns(alloc)?;
+    if !columns_ok(&columns) {
+        return Err(Fail::from("columns of no table"));
+    }
     let mut tables = Tables::new(alloc);
-    tables.add_table(NOTES, columns)?;
+    tables.add_table(NOTES, Schema::new(columns))?;
     Ok(tables)
 }
 

@@ -2,7 +2,7 @@
 use iv_algebra::Pred;
 use iv_bind::{BindFault, BindWhy, Bound, Catalog, bind, bind_pred};
 use iv_query::{QueryFault, Why, read_pred, read_query};
-use iv_rows::{Column, Kind, RelId, Schema};
+use iv_rows::{Column, Kind, RelId, Schema, columns_ok};
 use std::alloc::Global;
 use std::test::Fail;
 
@@ -59,7 +59,10 @@ fn schema(alloc: Global, columns: [(&str, Kind); 2]) -> Result<Schema, Fail> {
     for (name, kind) in columns {
         list.push(column(alloc, name, kind)?)?;
     }
-    Ok(Schema::try_new(list)?)
+    if !columns_ok(&list) {
+        return Err(Fail::from("columns of no table"));
+    }
+    Ok(Schema::new(list))
 }
 
 // Adds a table of a new name and number.

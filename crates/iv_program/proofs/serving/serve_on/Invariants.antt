@@ -1,7 +1,7 @@
 use Rattle.std.proofs.Common.{◌≡◌, ◌<◌, false}
 use Rattle.iv_machine.specs.Reached.{AreNumbersUnique}
 use Rattle.iv_machine.specs.State.{State}
-use Rattle.iv_engine.specs.Seen.{IsBehind}
+use Rattle.iv_engine.specs.Engine.{IsBehind}
 use Rattle.iv_program.specs.Serves.{HasServed, IsClosed}
 use Rattle.iv_program.proofs.serving.serve_on.Given as goal
 

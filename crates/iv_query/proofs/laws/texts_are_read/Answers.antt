@@ -2,7 +2,7 @@ use Rattle.iv_query.specs.declared.tree.Dialect.TheVariants.{Policy}
 use Rattle.iv_query.specs.Grammar.{pred, Reads, Faults}
 use Rattle.iv_query.specs.Query.{IsQuery, IsQueryFault}
 use Rattle.iv_query.specs.QueryReading.{query_at}
-use Rattle.iv_query.specs.TextReading.{policy_at}
+use Rattle.iv_query.specs.TextReading.{policy_condition_at}
 use Rattle.iv_query.proofs.PredLaws.{pred_agreement}
 use Rattle.iv_query.proofs.SelectLaws.{query_agreement}
 use Rattle.iv_query.proofs.TextLaws.{text_read}
@@ -12,4 +12,4 @@ pub returns-clause-query : goal.returns-clause-query
 returns-clause-query c = text_read IsQuery IsQueryFault query_at query_agreement
 
 pub returns-clause-pred : goal.returns-clause-pred
-returns-clause-pred c = text_read (Reads Policy pred 32) (λ stop. Faults stop Policy pred 32) policy_at (pred_agreement Policy)
+returns-clause-pred c = text_read (Reads Policy pred 32) (λ stop. Faults stop Policy pred 32) policy_condition_at (pred_agreement Policy)

@@ -1,36 +1,36 @@
 use Rattle.std.proofs.Common.{length, ◌-◌, sym, ◌∙◌}
 use Rattle.std.proofs.lemmas.Result.{err_from_is_err_and}
 use Rattle.iv_query.specs.declared.token.Symbol.TheVariants as symbol
-use Rattle.iv_query.specs.Tokens.{toks, after}
+use Rattle.iv_query.specs.Tokens.{toks, after_symbol}
 use Rattle.iv_query.specs.Trees.{pred_tree, Both, Either}
 use Rattle.iv_query.specs.Reading.{conj_at, term_at}
 use Rattle.iv_query.proofs.Loop.{goes_on, fails_there, is_last, is_done}
 use Rattle.iv_query.proofs.predicate.+predicate.Goals as goal
 
 pub conj-returns-in_default : goal.conj-returns-in_default
-conj-returns-in_default t c = sym c.loop.invariant ∙ is_last (after symbol.And) (λ _. term_at c.args.dialect c.args.stop c.args.room) Both (length c.in_ok-tree.rest.now - c.loop.counter) (pred_tree c.loop.tree) (toks c.loop.rest.now) (sym c.in_default.ensures)
+conj-returns-in_default t c = sym c.loop.invariant ∙ is_last (after_symbol symbol.And) (λ _. term_at c.args.dialect c.args.stop c.args.room) Both (length c.in_ok-tree.rest.now - c.loop.counter) (pred_tree c.loop.tree) (toks c.loop.rest.now) (sym c.in_default.ensures)
 
 pub conj-returns-in_err-right : goal.conj-returns-in_err-right
 conj-returns-in_err-right t c =
     let p = err_from_is_err_and c.from_residual-in_err-right.result c.from_residual-in_err-right.ensures.1 in
-    rw (p.1, p.2) (fails_there (after symbol.And) (λ _. term_at c.args.dialect c.args.stop c.args.room) Both c.in_err-right.field-0.0 (length c.in_ok-tree.rest.now) c.loop.counter (pred_tree c.loop.tree) (toks c.loop.rest.now) (toks c.in-Some.behind.now) _ c.loop-test.true (sym c.in-Some.ensures) c.in_err-right.ensures c.loop.invariant)
+    rw (p.1, p.2) (fails_there (after_symbol symbol.And) (λ _. term_at c.args.dialect c.args.stop c.args.room) Both c.in_err-right.field-0.0 (length c.in_ok-tree.rest.now) c.loop.counter (pred_tree c.loop.tree) (toks c.loop.rest.now) (toks c.in-Some.behind.now) _ c.loop-test.true (sym c.in-Some.ensures) c.in_err-right.ensures c.loop.invariant)
 
 pub conj-loop-preserved : goal.conj-loop-preserved
-conj-loop-preserved t c = rw (c.in_ok-new.ensures.ok, c.in_ok-new-2.ensures.ok) (goes_on (after symbol.And) (λ _. term_at c.args.dialect c.args.stop c.args.room) Both (length c.in_ok-tree.rest.now) c.loop.counter (pred_tree c.loop.tree) (toks c.loop.rest.now) (toks c.in-Some.behind.now) (toks c.in_ok-right.behind.now) (pred_tree c.in_ok-right.right) _ c.loop-test.true (sym c.in-Some.ensures) c.in_ok-right.ensures c.loop.invariant)
+conj-loop-preserved t c = rw (c.in_ok-new.ensures.ok, c.in_ok-new-2.ensures.ok) (goes_on (after_symbol symbol.And) (λ _. term_at c.args.dialect c.args.stop c.args.room) Both (length c.in_ok-tree.rest.now) c.loop.counter (pred_tree c.loop.tree) (toks c.loop.rest.now) (toks c.in-Some.behind.now) (toks c.in_ok-right.behind.now) (pred_tree c.in_ok-right.right) _ c.loop-test.true (sym c.in-Some.ensures) c.in_ok-right.ensures c.loop.invariant)
 
 pub conj-returns : goal.conj-returns
-conj-returns t c = is_done (after symbol.And) (λ _. term_at c.args.dialect c.args.stop c.args.room) Both (length c.in_ok-tree.rest.now) c.loop.counter (pred_tree c.loop.tree) (toks c.loop.rest.now) _ c.loop-test.false c.loop.invariant
+conj-returns t c = is_done (after_symbol symbol.And) (λ _. term_at c.args.dialect c.args.stop c.args.room) Both (length c.in_ok-tree.rest.now) c.loop.counter (pred_tree c.loop.tree) (toks c.loop.rest.now) _ c.loop-test.false c.loop.invariant
 
 pub pred-returns-in_default : goal.pred-returns-in_default
-pred-returns-in_default t c = sym c.loop.invariant ∙ is_last (after symbol.Or) (λ _. conj_at (term_at c.args.dialect c.args.stop c.args.room)) Either (length c.in_ok-tree.rest.now - c.loop.counter) (pred_tree c.loop.tree) (toks c.loop.rest.now) (sym c.in_default.ensures)
+pred-returns-in_default t c = sym c.loop.invariant ∙ is_last (after_symbol symbol.Or) (λ _. conj_at (term_at c.args.dialect c.args.stop c.args.room)) Either (length c.in_ok-tree.rest.now - c.loop.counter) (pred_tree c.loop.tree) (toks c.loop.rest.now) (sym c.in_default.ensures)
 
 pub pred-returns-in_err-right : goal.pred-returns-in_err-right
 pred-returns-in_err-right t c =
     let p = err_from_is_err_and c.from_residual-in_err-right.result c.from_residual-in_err-right.ensures.1 in
-    rw (p.1, p.2) (fails_there (after symbol.Or) (λ _. conj_at (term_at c.args.dialect c.args.stop c.args.room)) Either c.in_err-right.field-0.0 (length c.in_ok-tree.rest.now) c.loop.counter (pred_tree c.loop.tree) (toks c.loop.rest.now) (toks c.in-Some.behind.now) _ c.loop-test.true (sym c.in-Some.ensures) c.in_err-right.ensures c.loop.invariant)
+    rw (p.1, p.2) (fails_there (after_symbol symbol.Or) (λ _. conj_at (term_at c.args.dialect c.args.stop c.args.room)) Either c.in_err-right.field-0.0 (length c.in_ok-tree.rest.now) c.loop.counter (pred_tree c.loop.tree) (toks c.loop.rest.now) (toks c.in-Some.behind.now) _ c.loop-test.true (sym c.in-Some.ensures) c.in_err-right.ensures c.loop.invariant)
 
 pub pred-loop-preserved : goal.pred-loop-preserved
-pred-loop-preserved t c = rw (c.in_ok-new.ensures.ok, c.in_ok-new-2.ensures.ok) (goes_on (after symbol.Or) (λ _. conj_at (term_at c.args.dialect c.args.stop c.args.room)) Either (length c.in_ok-tree.rest.now) c.loop.counter (pred_tree c.loop.tree) (toks c.loop.rest.now) (toks c.in-Some.behind.now) (toks c.in_ok-right.behind.now) (pred_tree c.in_ok-right.right) _ c.loop-test.true (sym c.in-Some.ensures) c.in_ok-right.ensures c.loop.invariant)
+pred-loop-preserved t c = rw (c.in_ok-new.ensures.ok, c.in_ok-new-2.ensures.ok) (goes_on (after_symbol symbol.Or) (λ _. conj_at (term_at c.args.dialect c.args.stop c.args.room)) Either (length c.in_ok-tree.rest.now) c.loop.counter (pred_tree c.loop.tree) (toks c.loop.rest.now) (toks c.in-Some.behind.now) (toks c.in_ok-right.behind.now) (pred_tree c.in_ok-right.right) _ c.loop-test.true (sym c.in-Some.ensures) c.in_ok-right.ensures c.loop.invariant)
 
 pub pred-returns : goal.pred-returns
-pred-returns t c = is_done (after symbol.Or) (λ _. conj_at (term_at c.args.dialect c.args.stop c.args.room)) Either (length c.in_ok-tree.rest.now) c.loop.counter (pred_tree c.loop.tree) (toks c.loop.rest.now) _ c.loop-test.false c.loop.invariant
+pred-returns t c = is_done (after_symbol symbol.Or) (λ _. conj_at (term_at c.args.dialect c.args.stop c.args.room)) Either (length c.in_ok-tree.rest.now) c.loop.counter (pred_tree c.loop.tree) (toks c.loop.rest.now) _ c.loop-test.false c.loop.invariant

@@ -1,6 +1,6 @@
 use Rattle.std.proofs.Common.{◌≡◌, ap, ◌∙◌}
 use Rattle.std.specs.Prelude.{slice_set}
-use Rattle.iv_access.specs.Asked.{policy_from}
+use Rattle.iv_access.specs.NewPolicies.{policy_from}
 use Rattle.iv_access.specs.Rights.{Guard}
 use Rattle.iv_access.specs.Changing.{changed_at, insert_policy}
 use Rattle.iv_access.proofs.Policies.{changed_is}

@@ -5,8 +5,8 @@ use Rattle.iv_access.specs.Changing.{changed_at}
 use Rattle.iv_access.proofs.Policies.{changed_is}
 use Rattle.iv_access.proofs.access.Access.row_security.Goals as goal
 
-pub returns-clause-ok : goal.returns-clause-ok
-returns-clause-ok c =
+pub returns-clause-rights : goal.returns-clause-rights
+returns-clause-rights c =
     let n = c.args.table.0 in
     let gs = c.self.inside.guards.items in
     let change : Guard → Guard = λ g. record g { enabled = c.args.enabled; forced = c.args.forced } in

@@ -1,6 +1,6 @@
 use Rattle.std.proofs.Common.{◌≡◌, ap, sym, ◌∙◌, map, option_map, string_bytes}
 use Rattle.iv_access.specs.Grants.{seen}
-use Rattle.iv_access.specs.Known.{grantee_of}
+use Rattle.iv_access.specs.Access.{grantee_of}
 use Rattle.iv_access.proofs.Lists.{map_map}
 use Rattle.iv_access.proofs.access.Access.stored.Goals as goal
 

@@ -2,7 +2,7 @@ use Rattle.std.proofs.Common.{rules, ◌≡◌, not, ap, sym, ◌∙◌, subst, 
 use Rattle.std.specs.List.{All}
 use Rattle.std.proofs.lemmas.Fn.{filter_same}
 use Rattle.std.proofs.lemmas.List.Elements.{All-filter}
-use Rattle.iv_access.specs.Memberships.{member_of, membership_eq, parted, reaches}
+use Rattle.iv_access.specs.Memberships.{member_of, membership_eq, without_membership, reaches}
 use Rattle.iv_access.specs.Rows.{AreRows, IsWithin}
 use Rattle.iv_access.proofs.Flags.{whole}
 use Rattle.iv_access.proofs.memberships.Memberships.remove.Goals as goal
@@ -12,7 +12,7 @@ follow-requires c =
     let m = member_of c.args.role.0 c.args.member.0 in
     let old = c.self.inside.direct.items in
     let rows = c.self.inside.rows.items in
-    let left : c.retain.new.self.items ≡ parted m old = filter_same _ _ _ (λ x b f' k. search rules) _ _ c.retain.ensures.filtered in
+    let left : c.retain.new.self.items ≡ without_membership m old = filter_same _ _ _ (λ x b f' k. search rules) _ _ c.retain.ensures.filtered in
     subst (λ rs. All (IsWithin (length rs)) c.deref.result.now) (sym c.deref_mut.ensures.value)
     (subst (All (IsWithin (length rows))) (sym (c.deref.ensures.value ∙ left)) (All-filter (λ n. not (membership_eq m n)) (IsWithin (length rows)) old c.self.invariant.within))
 
@@ -22,7 +22,7 @@ invariant_of-self c =
     let old = c.self.inside.direct.items in
     let rows = c.self.inside.rows.items in
     let new = c.follow.new.rows in
-    let left : c.retain.new.self.items ≡ parted m old = filter_same _ _ _ (λ x b f' k. search rules) _ _ c.retain.ensures.filtered in
+    let left : c.retain.new.self.items ≡ without_membership m old = filter_same _ _ _ (λ x b f' k. search rules) _ _ c.retain.ensures.filtered in
     let long : length new ≡ length rows = c.follow.ensures.length ∙ ap length c.deref_mut.ensures.value in
     subst (AreRows c.retain.new.self.items) (sym (whole c.self.inside.rows.len new rows long (sym c.deref_mut.ensures.len ∙ ap length c.deref_mut.ensures.value)))
     (record {
@@ -34,4 +34,4 @@ invariant_of-self c =
 pub returns : goal.returns
 returns c =
     filter_same _ _ _ (λ x b f' k. search rules) _ _ c.retain.ensures.filtered
-    ∙ ap (parted (member_of c.args.role.0 c.args.member.0)) c.self.view_is
+    ∙ ap (without_membership (member_of c.args.role.0 c.args.member.0)) c.self.view_is

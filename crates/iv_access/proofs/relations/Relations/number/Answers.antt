@@ -1,5 +1,5 @@
 use Rattle.std.proofs.Common.{ap, sym, ◌∙◌, bytes_eq, string_bytes, arith}
-use Rattle.iv_access.specs.Known.{relation_of}
+use Rattle.iv_access.specs.Access.{relation_of}
 use Rattle.iv_access.specs.Stored.{relation_at}
 use Rattle.iv_access.proofs.Counting.{few}
 use Rattle.iv_access.proofs.Lists.{position_map}

@@ -1,7 +1,7 @@
 use Rattle.std.proofs.Common.{◌≡◌, ◌<◌, ◌≤◌, ap, sym, ◌∙◌, ◌++◌, ◌∷◌, [], map, true, false, subst, option_map}
 use Rattle.std.specs.Prelude.{is_some}
 use Rattle.iv_access.specs.Faults.{count_like}
-use Rattle.iv_access.specs.Known.{relation_of}
+use Rattle.iv_access.specs.Access.{relation_of}
 use Rattle.iv_access.specs.Stored.{relation_at}
 use Rattle.iv_access.proofs.Counting.{still_few, seen_some}
 use Rattle.iv_access.proofs.Entering.{entered}

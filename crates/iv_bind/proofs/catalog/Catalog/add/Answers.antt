@@ -1,5 +1,5 @@
 use Rattle.std.proofs.Common.{List, sym, subst}
-use Rattle.iv_bind.specs.Catalogs.{Entry}
+use Rattle.iv_bind.specs.Catalogs.{CatalogEntry}
 use Rattle.iv_bind.specs.Held.{held_of}
 use Rattle.iv_bind.specs.Sound.{HeldIsSound}
 use Rattle.iv_bind.proofs.Growing.{relation_push}
@@ -7,5 +7,5 @@ use Rattle.iv_bind.proofs.catalog.Catalog.add.Goals as goal
 
 pub invariant_of-self-2 : goal.invariant_of-self-2
 invariant_of-self-2 c =
-    let P : List Entry → Type 0 = λ es. HeldIsSound es (held_of c.args.held) in
+    let P : List CatalogEntry → Type 0 = λ es. HeldIsSound es (held_of c.args.held) in
     relation_push c.self.inside.relations.items c.push.new.self.items (record { name = c.in_ok-name.name; rel = c.args.rel; held = c.args.held }) c.in_ok-push.ensures.items c.self.invariant (subst P (sym c.self.view_is) c.requires)

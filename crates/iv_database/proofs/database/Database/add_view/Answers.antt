@@ -3,7 +3,7 @@ use Rattle.std.specs.Prelude.{string_bytes}
 use Rattle.iv_access.specs.Faults.{add_relation_fault}
 use Rattle.iv_access.specs.declared.fault.AccessFault.TheVariants.{Memory}
 use Rattle.iv_access.specs.Rights.{Name}
-use Rattle.iv_bind.specs.Catalogs.{answer_of, numbered}
+use Rattle.iv_bind.specs.Catalogs.{bound_of, numbered}
 use Rattle.iv_database.specs.Database.{Database}
 use Rattle.iv_database.proofs.Creating.{view_stops}
 use Rattle.iv_database.proofs.Telling.{free_number}
@@ -16,7 +16,7 @@ returns-in-Err-clause-added c =
     let x = c.in-Err.fault in
     let name = string_bytes c.args.name in
     let owner = c.args.owner.now in
-    view_stops c.args.self.now c.requires.stored c.args.acting.0 name owner c.requires.admin c.requires.owner c.requires.free x c.stop_of.result (answer_of c.args.bound) _
+    view_stops c.args.self.now c.requires.stored c.args.acting.0 name owner c.requires.admin c.requires.owner c.requires.free x c.stop_of.result (bound_of c.args.bound) _
     (subst (λ (v : Database). (x ≡ Memory) ⊎ (add_relation_fault v.known c.args.acting.0 name owner false ≡ Some x)) c.self.view_is
     (subst (λ (n : Name). (x ≡ Memory) ⊎ (add_relation_fault u.known c.args.acting.0 n owner false ≡ Some x)) c.as_str.ensures.value c.in-Err.ensures.err_when))
     c.stop_of.ensures (ap (λ k. record u { known = k }) c.in-Err.ensures.unchanged ∙ c.self.view_is)

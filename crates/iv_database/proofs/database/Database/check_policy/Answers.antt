@@ -11,26 +11,26 @@ pub returns-in_err-check_names : goal.returns-in_err-check_names
 returns-in_err-check_names c =
     let e = c.args.self.now in
     let n = c.args.session in
-    let owner = subst (λ (rel : Name). IsOwner e n rel c.in_ok-owned.owned) (c.as_str.ensures.value ∙ ap (λ (p : PolicyText). p.rel) c.policy.view_is) c.in_ok-owned.ensures in
+    let owner = subst (λ (rel : Name). IsOwner e n rel c.in_ok-table.table) (c.as_str.ensures.value ∙ ap (λ (p : PolicyText). p.rel) c.policy.view_is) c.in_ok-table.ensures in
     err_is c.from_residual-in_err-check_names.result _ (IsChecked e n c.args.policy.now) c.from_residual-in_err-check_names.ensures.1
-    (λ stop is. subst (λ (s : Stop). IsChecked e n c.args.policy.now (Err s)) (sym is) (names_stop e n c.args.policy.now c.in_ok-owned.owned owner c.in_err-check_names.field-0.0 c.in_err-check_names.ensures))
+    (λ stop is. subst (λ (s : Stop). IsChecked e n c.args.policy.now (Err s)) (sym is) (names_stop e n c.args.policy.now c.in_ok-table.table owner c.in_err-check_names.field-0.0 c.in_err-check_names.ensures))
 
 pub returns-in_err-predicates : goal.returns-in_err-predicates
 returns-in_err-predicates c =
     let e = c.args.self.now in
     let n = c.args.session in
-    let owner = subst (λ (rel : Name). IsOwner e n rel c.in_ok-owned.owned) (c.as_str.ensures.value ∙ ap (λ (p : PolicyText). p.rel) c.policy.view_is) c.in_ok-owned.ensures in
+    let owner = subst (λ (rel : Name). IsOwner e n rel c.in_ok-table.table) (c.as_str.ensures.value ∙ ap (λ (p : PolicyText). p.rel) c.policy.view_is) c.in_ok-table.ensures in
     let schema = c.schema-schema.result.now in
     let at = c.schema-schema.ensures in
     err_is c.from_residual-in_err-predicates.result _ (IsChecked e n c.args.policy.now) c.from_residual-in_err-predicates.ensures.1
     (λ stop is. subst (λ (s : Stop). IsChecked e n c.args.policy.now (Err s)) (sym is)
-    (checked e n c.args.policy.now c.in_ok-owned.owned owner schema (Err c.in_err-predicates.field-0.0) at c.in_ok-check_names.ensures c.in_err-predicates.ensures))
+    (checked e n c.args.policy.now c.in_ok-table.table owner schema (Err c.in_err-predicates.field-0.0) at c.in_ok-check_names.ensures c.in_err-predicates.ensures))
 
 pub returns : goal.returns
 returns c =
     let e = c.args.self.now in
     let n = c.args.session in
-    let owner = subst (λ (rel : Name). IsOwner e n rel c.in_ok-owned.owned) (c.as_str.ensures.value ∙ ap (λ (p : PolicyText). p.rel) c.policy.view_is) c.in_ok-owned.ensures in
+    let owner = subst (λ (rel : Name). IsOwner e n rel c.in_ok-table.table) (c.as_str.ensures.value ∙ ap (λ (p : PolicyText). p.rel) c.policy.view_is) c.in_ok-table.ensures in
     let schema = c.schema-schema.result.now in
     let at = c.schema-schema.ensures in
-    checked e n c.args.policy.now c.in_ok-owned.owned owner schema (Ok c.in_ok-predicates.predicates) at c.in_ok-check_names.ensures c.in_ok-predicates.ensures
+    checked e n c.args.policy.now c.in_ok-table.table owner schema (Ok c.in_ok-predicates.predicates) at c.in_ok-check_names.ensures c.in_ok-predicates.ensures

@@ -2,7 +2,7 @@ use Rattle.std.proofs.Common.{◌≡◌, Err, Ok, subst, sym}
 use Rattle.std.specs.Prelude.{string_bytes}
 use Rattle.iv_access.specs.Rights.{Name}
 use Rattle.iv_bind.specs.BoundTexts.{bound_query}
-use Rattle.iv_bind.specs.Catalogs.{answer_of}
+use Rattle.iv_bind.specs.Catalogs.{bound_of}
 use Rattle.iv_machine.specs.Act as machine
 use Rattle.iv_database.specs.Database.{Database}
 use Rattle.iv_database.specs.Defined.{IsBoundView, IsCreator, MayAdd}
@@ -44,6 +44,6 @@ returns-clause-done c =
     let owner = c.args.owner.now in
     let query = c.args.query.now in
     let may = subst (λ (name : Name). MayAdd e n name owner c.in_ok-acting.acting) c.as_str.ensures.value c.in_ok-acting.ensures in
-    view_done e n (string_bytes c.args.name) owner query c.in_ok-acting.acting may (answer_of c.in_ok-bound.bound)
-    (subst (λ (v : Database). bound_query v.catalog query ≡ Ok (answer_of c.in_ok-bound.bound)) c.self.view_is c.in_ok-bound.ensures.bound)
+    view_done e n (string_bytes c.args.name) owner query c.in_ok-acting.acting may (bound_of c.in_ok-bound.bound)
+    (subst (λ (v : Database). bound_query v.catalog query ≡ Ok (bound_of c.in_ok-bound.bound)) c.self.view_is c.in_ok-bound.ensures.bound)
     c.add_view.result c.add_view.new.self c.add_view.ensures.added

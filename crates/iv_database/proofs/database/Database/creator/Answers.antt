@@ -1,6 +1,6 @@
 use Rattle.std.proofs.Common.{◌≡◌, ◌∙◌, ap, sym, true}
 use Rattle.std.specs.Prelude.{is_some}
-use Rattle.iv_access.specs.Known.{relation_of}
+use Rattle.iv_access.specs.Access.{relation_of}
 use Rattle.iv_access.specs.Privileges.{role_of}
 use Rattle.iv_bind.specs.Catalogs.{named}
 use Rattle.iv_database.specs.Database.{Database}

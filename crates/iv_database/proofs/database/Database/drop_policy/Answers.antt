@@ -9,8 +9,8 @@ use Rattle.iv_command.specs.declared.stop.Stop.{Stop}
 use Rattle.iv_database.proofs.Owning.{err_is, owned_refused}
 use Rattle.iv_database.proofs.database.Database.drop_policy.Goals as goal
 
-pub returns-in_err-owned-clause-guarded : goal.returns-in_err-owned-clause-guarded
-returns-in_err-owned-clause-guarded c =
+pub returns-in_err-table-clause-guarded : goal.returns-in_err-table-clause-guarded
+returns-in_err-table-clause-guarded c =
     let d = c.args.self.now in
     let n = c.args.session in
     let rel = c.args.rel.now in
@@ -18,4 +18,4 @@ returns-in_err-owned-clause-guarded c =
     let act = machine.drop_policy rel name in
     let more = test (not (is_some (policy_of d.known.rights (rel_of d.catalog rel) name))) machine.unknown_policy ∷ [] in
     err_is c.from_residual.result _ (λ r. IsGuarded d n act rel r d) c.from_residual.ensures.1
-    (λ stop is. subst (λ (s : Stop). IsGuarded d n act rel (Err s) d) (sym is) (owned_refused d n act rel c.in_err-owned.field-0.0 more refl c.in_err-owned.ensures))
+    (λ stop is. subst (λ (s : Stop). IsGuarded d n act rel (Err s) d) (sym is) (owned_refused d n act rel c.in_err-table.field-0.0 more refl c.in_err-table.ensures))

@@ -1,6 +1,6 @@
 use Rattle.std.proofs.Common.{◌≡◌, ◌∙◌, [], refl, ap}
 use Rattle.std.specs.Prelude.{option_map, string_bytes, unwrap_or}
-use Rattle.iv_access.specs.Known.{relation_name}
+use Rattle.iv_access.specs.Access.{relation_name}
 use Rattle.iv_machine.specs.State.{name_of}
 use Rattle.iv_database.specs.Database.{Database}
 use Rattle.iv_database.proofs.Needing.{name_is, name_or_none, ok_as}

@@ -1,6 +1,6 @@
 use Rattle.std.proofs.Common.{[], ◌∷◌, Err, refl, subst, sym}
 use Rattle.std.specs.Prelude.{string_bytes}
-use Rattle.iv_access.specs.Known.{named}
+use Rattle.iv_access.specs.Access.{name_given}
 use Rattle.iv_access.specs.Rights.{Name}
 use Rattle.iv_machine.specs.Act as machine
 use Rattle.iv_machine.specs.Refusing.{known_grantee, owner_alone}
@@ -20,7 +20,7 @@ returns-in_err-acting-clause-done c =
     let f = frame_of e in
     let n = c.args.session in
     let rel = string_bytes c.args.rel in
-    let to = named c.args.grantee in
+    let to = name_given c.args.grantee in
     let act = machine.revoke rel c.args.privileges.now to in
     err_is c.from_residual.result _ (λ r. IsDone e n act r e) c.from_residual.ensures.1
     (λ stop is. subst (λ (s : Stop). IsDone e n act (Err s) e) (sym is)
@@ -32,6 +32,6 @@ returns-clause-done c =
     let s = c.self.inside in
     let u : Database = record { cap = s.cap; known = s.access; catalog = s.catalog; sessions = s.sessions.items; tables = s.tables } in
     let h = c.revoke-change.ensures in
-    taken_done u c.args.self.now c.revoke-change.new.self c.args.session c.in_ok-acting.acting.0 c.in_ok-acting.number.0 c.as_str.result.now (string_bytes c.args.rel) c.args.privileges.now (named c.args.grantee)
+    taken_done u c.args.self.now c.revoke-change.new.self c.args.session c.in_ok-acting.acting.0 c.in_ok-acting.number.0 c.as_str.result.now (string_bytes c.args.rel) c.args.privileges.now (name_given c.args.grantee)
     c.revoke-change.result c.outcome.result c.self.view_is c.as_str.ensures.value c.in_ok-acting.ensures c.outcome.ensures
     (record { rights = h.ok; relations = h.relations; ok_when = h.ok_when; err_when = without_memory c.revoke-change.result _ c.revoke-change.ensures.err_when; unchanged = h.unchanged })

@@ -1,12 +1,12 @@
 use Rattle.std.proofs.Common.{◌∙◌, ap, subst, sym}
-use Rattle.iv_engine.specs.Seen.{Seen, IsBehind, closed}
+use Rattle.iv_engine.specs.Engine.{Engine, IsBehind, hung_up}
 use Rattle.iv_engine.proofs.Hanging.{closed_behind, closed_shown}
 use Rattle.iv_engine.proofs.engine.Engine.hang_up.Goals as goal
 
 pub returns-then-not-self-clause-hung : goal.returns-then-not-self-clause-hung
 returns-then-not-self-clause-hung c = λ _ s b. closed_behind s _ _
     (closed_shown c.self.inside.store c.close_all.new.self c.self.inside.failed c.close_all.ensures.closed)
-    (subst (λ (e : Seen). IsBehind s e) (sym c.self.view_is) b)
+    (subst (λ (e : Engine). IsBehind s e) (sym c.self.view_is) b)
 
 pub returns-then-not-self-clause-closed : goal.returns-then-not-self-clause-closed
-returns-then-not-self-clause-closed c = λ _. closed_shown c.self.inside.store c.close_all.new.self c.self.inside.failed c.close_all.ensures.closed ∙ ap closed c.self.view_is
+returns-then-not-self-clause-closed c = λ _. closed_shown c.self.inside.store c.close_all.new.self c.self.inside.failed c.close_all.ensures.closed ∙ ap hung_up c.self.view_is

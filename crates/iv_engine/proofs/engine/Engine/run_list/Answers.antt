@@ -11,7 +11,7 @@ use Rattle.iv_machine.specs.Well.{is_well_command}
 use Rattle.iv_machine.specs.Act.{Line}
 use Rattle.iv_command.specs.declared.command.Command.{Command}
 use Rattle.iv_engine.specs.Applied.{AreApplied}
-use Rattle.iv_engine.specs.Seen.{IsBehind}
+use Rattle.iv_engine.specs.Engine.{IsBehind}
 use Rattle.iv_command.specs.Views.{command_of, line_of}
 use Rattle.iv_engine.proofs.Applying.{GoesBehind, one_more}
 use Rattle.iv_engine.proofs.Running.{no_items, nothing_more, run_more, well_others}

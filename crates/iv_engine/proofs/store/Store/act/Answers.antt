@@ -6,7 +6,7 @@ use Rattle.iv_access.specs.Rights.{Name}
 use Rattle.iv_engine.specs.Answering.{IsStep}
 use Rattle.iv_database.specs.Database.{IsDatabase}
 use Rattle.iv_database.specs.Next.{IsDone}
-use Rattle.iv_engine.specs.Kept.{kept_of, Kept, database_of, with_database}
+use Rattle.iv_engine.specs.Store.{store_of, Store, database_of, with_database}
 use Rattle.iv_command.specs.Views.{act_of}
 use Rattle.iv_command.specs.declared.command.Act.{Act}
 use Rattle.iv_engine.proofs.Running.{well_columns}
@@ -18,13 +18,13 @@ create_table-done-requires-clause-columns c = well_columns (string_bytes c.in-Cr
     (subst (λ (a : Act). is_well_act (act_of a) ≡ true) c.in-CreateTable.is c.requires.well)
 
 pub create_table-done-requires-clause-stored : goal.create_table-done-requires-clause-stored
-create_table-done-requires-clause-stored c = subst (λ (v : Kept). IsDatabase (database_of v)) (sym c.self-in-CreateTable.view_is) c.requires.sound.stored.database
+create_table-done-requires-clause-stored c = subst (λ (v : Store). IsDatabase (database_of v)) (sym c.self-in-CreateTable.view_is) c.requires.sound.stored.database
 
 pub create_view-done-requires : goal.create_view-done-requires
-create_view-done-requires c = subst (λ (v : Kept). IsDatabase (database_of v)) (sym c.self-in-CreateView.view_is) c.requires.sound.stored.database
+create_view-done-requires c = subst (λ (v : Store). IsDatabase (database_of v)) (sym c.self-in-CreateView.view_is) c.requires.sound.stored.database
 
 pub grant-done-requires : goal.grant-done-requires
-grant-done-requires c = subst (λ (v : Kept). IsDatabase (database_of v)) (sym c.self-in-Grant.view_is) c.requires.sound.stored.database
+grant-done-requires c = subst (λ (v : Store). IsDatabase (database_of v)) (sym c.self-in-Grant.view_is) c.requires.sound.stored.database
 
 pub returns-in-Begin : goal.returns-in-Begin
 returns-in-Begin c =
@@ -33,7 +33,7 @@ returns-in-Begin c =
     let role = string_bytes c.in-Begin.role in
     let d = c.begin-done.new.self in
     let s = c.self.inside in
-    let u = kept_of s.database s.subscriptions.items s.circuits s.last in
+    let u = store_of s.database s.subscriptions.items s.circuits s.last in
     let told : IsDone (database_of u) n (machine.begin role) c.begin-done.result d = subst (λ (x : Name). IsDone (database_of u) n (machine.begin x) c.begin-done.result d) c.as_str.ensures.value c.begin-done.ensures in
     subst (λ (a : Act). IsStep e n (act_of a) c.plain.result (with_database d u)) (sym c.in-Begin.is)
     (plain_told e u d n (machine.begin role) c.begin-done.result c.plain.result c.self.view_is (begin_quiet e n role) c.requires.sound refl c.plain.ensures told)
@@ -45,7 +45,7 @@ returns-in-CreateRole c =
     let name = string_bytes c.in-CreateRole.name in
     let d = c.create_role-done.new.self in
     let s = c.self-in-CreateRole.inside in
-    let u = kept_of s.database s.subscriptions.items s.circuits s.last in
+    let u = store_of s.database s.subscriptions.items s.circuits s.last in
     let told : IsDone (database_of u) n (machine.create_role name) c.create_role-done.result d = c.create_role-done.ensures.done in
     subst (λ (a : Act). IsStep e n (act_of a) c.plain-in-CreateRole.result (with_database d u)) (sym c.in-CreateRole.is)
     (plain_told e u d n (machine.create_role name) c.create_role-done.result c.plain-in-CreateRole.result c.self-in-CreateRole.view_is (role_quiet e n name) c.requires.sound refl c.plain-in-CreateRole.ensures told)
@@ -59,7 +59,7 @@ returns-in-CreateTable c =
     let columns = c.in-CreateTable.columns.items in
     let d = c.create_table-done.new.self in
     let s = c.self-in-CreateTable.inside in
-    let u = kept_of s.database s.subscriptions.items s.circuits s.last in
+    let u = store_of s.database s.subscriptions.items s.circuits s.last in
     let told : IsDone (database_of u) n (machine.create_table name owner columns) c.create_table-done.result d =
     subst (λ (x : Name). IsDone (database_of u) n (machine.create_table name x columns) c.create_table-done.result d) c.as_str-in-CreateTable.ensures.value c.create_table-done.ensures.done in
     subst (λ (a : Act). IsStep e n (act_of a) c.plain-in-CreateTable.result (with_database d u)) (sym c.in-CreateTable.is)
@@ -74,7 +74,7 @@ returns-in-CreateView c =
     let query = string_bytes c.in-CreateView.query in
     let d = c.create_view-done.new.self in
     let s = c.self-in-CreateView.inside in
-    let u = kept_of s.database s.subscriptions.items s.circuits s.last in
+    let u = store_of s.database s.subscriptions.items s.circuits s.last in
     let told : IsDone (database_of u) n (machine.create_view name owner query) c.create_view-done.result d =
     subst (λ (a : machine.Act). IsDone (database_of u) n a c.create_view-done.result d) (λ i. machine.create_view name (c.as_str-in-CreateView.ensures.value i) (c.as_str-in-CreateView-2.ensures.value i)) c.create_view-done.ensures.done in
     subst (λ (a : Act). IsStep e n (act_of a) c.plain-in-CreateView.result (with_database d u)) (sym c.in-CreateView.is)
@@ -89,7 +89,7 @@ returns-in-Grant c =
     let to = option_map string_bytes c.in-Grant.grantee in
     let d = c.grant-done.new.self in
     let s = c.self-in-Grant.inside in
-    let u = kept_of s.database s.subscriptions.items s.circuits s.last in
+    let u = store_of s.database s.subscriptions.items s.circuits s.last in
     let told : IsDone (database_of u) n (machine.grant rel privileges to) c.grant-done.result d =
     subst (λ (a : machine.Act). IsDone (database_of u) n a c.grant-done.result d) (λ i. machine.grant rel (c.deref.ensures.value i) (c.text_of.ensures i)) c.grant-done.ensures.done in
     subst (λ (a : Act). IsStep e n (act_of a) c.plain-in-Grant.result (with_database d u)) (sym c.in-Grant.is)

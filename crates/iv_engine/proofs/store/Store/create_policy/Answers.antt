@@ -1,14 +1,14 @@
 use Rattle.std.proofs.Common.{◌∙◌, ap, subst, sym}
 use Rattle.iv_machine.specs.Act.{PolicyText, create_policy}
 use Rattle.iv_database.specs.Database.{IsDatabase}
-use Rattle.iv_engine.specs.Kept.{Kept, database_of}
+use Rattle.iv_engine.specs.Store.{Store, database_of}
 use Rattle.iv_engine.proofs.Guarding.{guard_steps, guard_stops, guard_waits, policy_guards}
 use Rattle.iv_engine.proofs.Narrowing.{policy_narrows}
 use Rattle.iv_engine.proofs.Stepping.{goes_up}
 use Rattle.iv_engine.proofs.store.Store.create_policy.Goals as goal
 
 pub create_policy-requires : goal.create_policy-requires
-create_policy-requires c = subst (λ (v : Kept). IsDatabase (database_of v)) (sym c.self.view_is) c.requires.stored.database
+create_policy-requires c = subst (λ (v : Store). IsDatabase (database_of v)) (sym c.self.view_is) c.requires.stored.database
 
 pub returns-in_err-table : goal.returns-in_err-table
 returns-in_err-table c =

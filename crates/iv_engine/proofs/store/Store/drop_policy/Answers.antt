@@ -5,7 +5,7 @@ use Rattle.iv_access.specs.Rights.{Name}
 use Rattle.iv_machine.specs.Act.{drop_policy}
 use Rattle.iv_database.specs.Database.{IsDatabase}
 use Rattle.iv_database.specs.Owned.{IsGuarded}
-use Rattle.iv_engine.specs.Kept.{Kept, database_of}
+use Rattle.iv_engine.specs.Store.{Store, database_of}
 use Rattle.iv_engine.specs.Restricted.{IsRestricted}
 use Rattle.iv_engine.proofs.Guarding.{drop_guards, guard_steps, guard_stops, guard_waits}
 use Rattle.iv_engine.proofs.Stepping.{goes_up}
@@ -13,7 +13,7 @@ use Rattle.iv_engine.proofs.Widening.{rows_brought}
 use Rattle.iv_engine.proofs.store.Store.drop_policy.Goals as goal
 
 pub drop_policy-requires : goal.drop_policy-requires
-drop_policy-requires c = subst (λ (v : Kept). IsDatabase (database_of v)) (sym c.self.view_is) c.requires.stored.database
+drop_policy-requires c = subst (λ (v : Store). IsDatabase (database_of v)) (sym c.self.view_is) c.requires.stored.database
 
 pub returns-in_err-table : goal.returns-in_err-table
 returns-in_err-table c =

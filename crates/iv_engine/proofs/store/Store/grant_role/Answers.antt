@@ -2,7 +2,7 @@ use Rattle.std.proofs.Common.{◌∙◌, ap, refl}
 use Rattle.std.specs.Prelude.{string_bytes}
 use Rattle.iv_access.specs.Privileges.{role_of}
 use Rattle.iv_machine.specs.Act.{grant_role}
-use Rattle.iv_engine.specs.Kept.{Kept}
+use Rattle.iv_engine.specs.Store.{Store}
 use Rattle.iv_engine.proofs.Enrolled.{enrolled_long, enrolled_steps, enrolled_waits, joins}
 use Rattle.iv_engine.proofs.Stepping.{goes_up, stopped}
 use Rattle.iv_engine.proofs.store.Store.grant_role.Goals as goal
@@ -20,10 +20,10 @@ tell_members-requires-clause-long c =
 pub tell_members-requires-clause-waiting : goal.tell_members-requires-clause-waiting
 tell_members-requires-clause-waiting c =
     enrolled_waits c.args.self.now _ c.grant_role.new.self c.args.session _ (string_bytes c.args.role) c.self.view_is (joins c.args.self.now c.args.session (string_bytes c.args.role) c.args.to.now c.requires) c.in_ok-grant_role.ensures.done c.role-group.result c.deref.result.now (c.deref.ensures.value ∙ c.in_ok-before.ensures)
-    (c.role-group.ensures ∙ (λ i. role_of (c.access.ensures i).rights (c.as_str.ensures.value i)) ∙ ap (λ (v : Kept). role_of v.known.rights (string_bytes c.args.role)) c.self.view_is)
+    (c.role-group.ensures ∙ (λ i. role_of (c.access.ensures i).rights (c.as_str.ensures.value i)) ∙ ap (λ (v : Store). role_of v.known.rights (string_bytes c.args.role)) c.self.view_is)
 
 pub returns : goal.returns
 returns c =
     enrolled_steps c.args.self.now _ c.grant_role.new.self c.args.session _ (string_bytes c.args.role) c.self.view_is (joins c.args.self.now c.args.session (string_bytes c.args.role) c.args.to.now c.requires) c.in_ok-grant_role.ensures.done c.role-group.result c.deref.result.now (c.deref.ensures.value ∙ c.in_ok-before.ensures)
-    (c.role-group.ensures ∙ (λ i. role_of (c.access.ensures i).rights (c.as_str.ensures.value i)) ∙ ap (λ (v : Kept). role_of v.known.rights (string_bytes c.args.role)) c.self.view_is)
+    (c.role-group.ensures ∙ (λ i. role_of (c.access.ensures i).rights (c.as_str.ensures.value i)) ∙ ap (λ (v : Store). role_of v.known.rights (string_bytes c.args.role)) c.self.view_is)
     c.tell_members.new.self c.in_ok-answer.answer c.in_ok-answer.ensures

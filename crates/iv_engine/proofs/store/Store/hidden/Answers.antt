@@ -1,13 +1,13 @@
 use Rattle.std.proofs.Common.{◌∙◌, ap, option_map}
 use Rattle.iv_algebra.specs.Shapes.{condition_of}
-use Rattle.iv_engine.specs.Kept.{Kept}
+use Rattle.iv_engine.specs.Store.{Store}
 use Rattle.iv_engine.proofs.Widening.{hidden_by}
 use Rattle.iv_engine.proofs.store.Store.hidden.Goals as goal
 
 pub returns : goal.returns
 returns c =
     hidden_by c.args.self.now c.tables-tables.result.now c.args.table.0 c.in_ok-hidden.hidden _ (condition_of c.in-Some.pred)
-    (c.tables-tables.ensures ∙ ap (λ (v : Kept). v.tables) c.self.view_is)
+    (c.tables-tables.ensures ∙ ap (λ (v : Store). v.tables) c.self.view_is)
     c.in_ok-hidden.ensures.table
     (ap (option_map condition_of) c.in-Some.is)
     c.in_ok-hidden.ensures.rows

@@ -4,13 +4,13 @@ use Rattle.iv_access.specs.Rights.{Name}
 use Rattle.iv_machine.specs.Act.{row_security}
 use Rattle.iv_database.specs.Database.{IsDatabase}
 use Rattle.iv_database.specs.Owned.{IsGuarded}
-use Rattle.iv_engine.specs.Kept.{Kept, database_of}
+use Rattle.iv_engine.specs.Store.{Store, database_of}
 use Rattle.iv_engine.proofs.Guarding.{guard_steps, guard_stops, guard_waits, security_guards}
 use Rattle.iv_engine.proofs.Stepping.{goes_up}
 use Rattle.iv_engine.proofs.store.Store.row_security.Goals as goal
 
 pub row_security-requires : goal.row_security-requires
-row_security-requires c = subst (λ (v : Kept). IsDatabase (database_of v)) (sym c.self.view_is) c.requires.stored.database
+row_security-requires c = subst (λ (v : Store). IsDatabase (database_of v)) (sym c.self.view_is) c.requires.stored.database
 
 pub returns-in_err-table : goal.returns-in_err-table
 returns-in_err-table c =

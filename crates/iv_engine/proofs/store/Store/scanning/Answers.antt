@@ -4,7 +4,7 @@ use Rattle.std.specs.List.{list_any}
 use Rattle.iv_circuit.specs.Circuits.{Running}
 use Rattle.iv_circuit.specs.Nodes.{scans_of}
 use Rattle.iv_engine.specs.Counting.{scans_at}
-use Rattle.iv_engine.specs.Kept.{Kept}
+use Rattle.iv_engine.specs.Store.{Store}
 use Rattle.iv_readers.specs.Readers.{RoleCircuit}
 use Rattle.iv_engine.specs.Turned.{WasRead}
 use Rattle.iv_engine.proofs.Flagging.{scan_flag}
@@ -16,7 +16,7 @@ pub loop-place-preserved : goal.loop-place-preserved
 loop-place-preserved c =
     let e = c.args.self.now in
     let i = c.loop-place.place in
-    let circuits = ap (λ (v : Kept). v.circuits) c.self.view_is in
+    let circuits = ap (λ (v : Store). v.circuits) c.self.view_is in
     let low : i < length e.circuits = subst (λ n. i < n) (c.len-place-end.ensures ∙ ap (λ (ks : List RoleCircuit). length ks) circuits) c.loop-place-test.true in
     let k = reader_at e.circuits i low in
     let here = subst (λ (ks : List RoleCircuit). k.0 ≡ get_or ks i k.0) (sym circuits) k.1 in
@@ -29,5 +29,5 @@ pub returns : goal.returns
 returns c =
     let e = c.args.self.now in
     let i = c.loop-place.place in
-    let out : length e.circuits ≤ i = subst (λ n. n ≤ i) (c.len-place-end.ensures ∙ ap (λ (v : Kept). length v.circuits) c.self.view_is) c.loop-place-test.false in
+    let out : length e.circuits ≤ i = subst (λ n. n ≤ i) (c.len-place-end.ensures ∙ ap (λ (v : Store). length v.circuits) c.self.view_is) c.loop-place-test.false in
     map_whole (λ x. scans_at e.catalog x.rel c.args.table.0) e.circuits i c.loop-place.flags.items out c.loop-place.invariant

@@ -6,7 +6,7 @@ use Rattle.iv_machine.specs.State.{Subscription}
 use Rattle.iv_database.proofs.Owning.{err_is}
 use Rattle.iv_command.specs.declared.stop.Stop.{Stop}
 use Rattle.iv_engine.specs.Answering.{IsStep}
-use Rattle.iv_engine.specs.Kept.{Kept}
+use Rattle.iv_engine.specs.Store.{Store}
 use Rattle.iv_engine.specs.Openable.{IsCircuitAt, IsOpenable, MayOpen}
 use Rattle.iv_command.specs.declared.command.Reply.TheVariants.{Subscribed}
 use Rattle.iv_engine.proofs.Opening.{asked, beyond_step, not_opened, opened_step}
@@ -45,6 +45,6 @@ returns c =
     let x = subst (λ (rel : Name). IsOpenable e n rel k) c.as_str.ensures.value c.in_ok-rel.ensures in
     let got = subst (λ (o : Option ℕ). IsCircuitAt e role k o mid) c.in-Some.is c.in_ok-place.ensures in
     let s : Subscription = record { session = n; number = last + 1; rel = k } in
-    let same : s ≡ asked e n k = ap (λ (v : Kept). asked v n k) c.self.view_is in
+    let same : s ≡ asked e n k = ap (λ (v : Store). asked v n k) c.self.view_is in
     opened_step e n k name c.requires x role c.reader-role.ensures c.in-Some.place mid got s same c.in_ok-changes.changes
     c.in_ok-changes.ensures.lines c.open.new.self c.in_ok-changes.ensures.state (Subscribed (last + 1)) refl

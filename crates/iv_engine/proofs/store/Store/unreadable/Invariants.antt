@@ -1,5 +1,5 @@
 use Rattle.std.proofs.Common.{◌≡◌, map, not, take}
-use Rattle.iv_engine.specs.Kept.{role_reads}
+use Rattle.iv_engine.specs.Store.{role_reads}
 use Rattle.iv_engine.proofs.store.Store.unreadable.Given as goal
 
 abbrev pub invariant-loop-place : goal.invariant-loop-place

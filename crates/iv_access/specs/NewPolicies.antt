@@ -3,10 +3,10 @@ use Rattle.std.specs.Prelude.{Bool, List, map, Option}
 use Rattle.iv_algebra.specs.Shapes.{Condition}
 use Rattle.iv_access.specs.declared.policy.PolicyCommand.{PolicyCommand}
 use Rattle.iv_access.specs.Rights.{Name, Policy, Rights}
-use Rattle.iv_access.specs.Known.{grantee_of}
+use Rattle.iv_access.specs.Access.{grantee_of}
 
 -- where `to` has no name it has all roles
-pub record Asked : Type 0 where
+pub record NewPolicy : Type 0 where
   pub name : Name
   pub restrictive : Bool
   pub command : PolicyCommand
@@ -14,5 +14,5 @@ pub record Asked : Type 0 where
   pub using : Option Condition
   pub check : Option Condition
 
-abbrev pub policy_from : Rights → Asked → Policy
+abbrev pub policy_from : Rights → NewPolicy → Policy
 policy_from r a = record { name = a.name; restrictive = a.restrictive; command = a.command; to = map (grantee_of r) a.to; using = a.using; check = a.check }

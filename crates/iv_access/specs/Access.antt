@@ -3,7 +3,7 @@ use Rattle.std.specs.Prelude.{ℕ, List, [], Option, Some, None, option_map, unw
 use Rattle.std.specs.Borrow.{Bor}
 use Rattle.std.specs.Global.{Vec}
 use Rattle.iv_rows.specs.declared.value.Kind.{Kind}
-use Rattle.iv_access.specs.Rights.{Name, Grantee, Public, Role, Rights, start}
+use Rattle.iv_access.specs.Rights.{Name, Grantee, Public, Role, Rights, rights_at_start}
 use Rattle.iv_access.specs.Privileges.{role_of}
 
 -- a table has the kinds of its columns, and a view has none
@@ -12,12 +12,12 @@ pub record Relation : Type 0 where
   pub kinds : Option (List Kind)
 
 -- a relation's number is its place
-pub record Known : Type 0 where
+pub record Access : Type 0 where
   pub relations : List Relation
   pub rights : Rights
 
-abbrev pub known_at_start : Known
-known_at_start = record { relations = []; rights = start }
+abbrev pub access_at_start : Access
+access_at_start = record { relations = []; rights = rights_at_start }
 
 -- the number of the relation of a name
 abbrev pub relation_of : List Relation → Name → Option ℕ
@@ -37,8 +37,8 @@ grantee_of r None = Public
 grantee_of r (Some name) = Role (role_number r name)
 
 -- the name that is given, where one is
-abbrev pub named : Option (Bor Name) → Option Name
-named to = option_map (λ n. n.now) to
+abbrev pub name_given : Option (Bor Name) → Option Name
+name_given to = option_map (λ n. n.now) to
 
 -- a table with the kinds, or a view with none
 abbrev pub relation_with : Name → Option (Vec Kind) → Relation
