@@ -1,5 +1,5 @@
 -- What policies say of a row (PostgreSQL 16, Row Security Policies, and CREATE POLICY).
-use Rattle.std.specs.Prelude.{◌≡◌, ℕ, ◌&&◌, ◌||◌, Bool, true, false, not, if◌then◌else◌, List, [], Option, Some, None, option_map, position, bytes_eq, slice_get}
+use Rattle.std.specs.Prelude.{◌≡◌, ℕ, ◌&&◌, ◌||◌, Bool, true, false, not, if◌then◌else◌, List, [], ◌∷◌, Option, Some, None, option_map, position, bytes_eq, slice_get}
 use Rattle.std.specs.List.{list_any, filter}
 use Rattle.iv_algebra.specs.Rows.{Cells}
 use Rattle.iv_algebra.specs.Plans.{Lists}
@@ -13,6 +13,12 @@ use Rattle.iv_access.specs.declared.policy.Verdict.{Verdict}
 use Rattle.iv_access.specs.declared.policy.Verdict.TheVariants.{Pass, NoPermissive, Restrictive}
 use Rattle.iv_access.specs.Rights.{Name, Guard, Policy, Rights}
 use Rattle.iv_access.specs.Privileges.{is_admin, is_for, is_owner, role_name}
+
+-- ---- what a write is tested for
+
+-- the tests of an update in their order, each with its row (PostgreSQL 16, CREATE POLICY, Policies Applied by Command Type)
+abbrev pub update_tests : (old new : Cells) → List (Check × Cells)
+update_tests old new = (Select, old) ∷ (UpdateOld, old) ∷ (UpdateNew, new) ∷ (Select, new) ∷ []
 
 -- ---- which policies apply, and what they look at
 

@@ -2,6 +2,7 @@
 use Rattle.std.specs.Prelude.{ℕ, ◌==◌, ◌&&◌, ◌||◌, Bool, true, false, if◌then◌else◌, List, [], ◌∷◌, Option, Some, None, unwrap_or}
 use Rattle.std.specs.Prelude.{position, bytes_eq, slice_get}
 use Rattle.std.specs.List.{list_any}
+use Rattle.iv_rows.specs.declared.schema.RelId.{RelId}
 use Rattle.iv_access.specs.declared.privilege.Privilege.{Privilege}
 use Rattle.iv_access.specs.declared.privilege.Privilege.TheVariants.{Select, Insert, Update, Delete}
 use Rattle.iv_access.specs.Rights.{Name, Grantee, Public, Role, Guard, Rights}
@@ -42,6 +43,10 @@ has r role p rel = is_admin role || list_any (λ g. rel == g.rel && (privilege_e
 abbrev pub first_missing : Rights → ℕ → List (Privilege × ℕ) → Option (Privilege × ℕ)
 first_missing r role [] = None
 first_missing r role (p ∷ ps) = if has r role p.0 p.1 then first_missing r role ps else Some p
+
+-- what reading a relation takes
+abbrev pub select_from : RelId → Privilege × ℕ
+select_from rel = (Select, rel.0)
 
 abbrev pub is_owner : Rights → ℕ → Option Guard → Bool
 is_owner r role None = false

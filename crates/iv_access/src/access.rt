@@ -7,7 +7,7 @@
 ghost use Rattle.std.specs.Prelude.{◌≡◌, ◌&&◌, true, false, IfOk, map, option_map};
 ghost use Rattle.iv_access.specs.Given.{IsInherited, IsNotInherited};
 ghost use Rattle.iv_access.specs.Access.{access_at_start, relation_of, relation_name};
-ghost use Rattle.iv_access.specs.Privileges.{acts_as, has, first_missing, owns, role_of};
+ghost use Rattle.iv_access.specs.Privileges.{acts_as, has, first_missing, owns, role_of, select_from};
 
 use crate::grants::Grants;
 use crate::guard::Guard;
@@ -155,6 +155,21 @@ impl Access {
             let (privilege, rel) = *need;
             if !self.has(role, privilege, rel) {
                 return Some(Missing { privilege, rel });
+            }
+        }
+        None
+    }
+
+    /// The first of the relations that the role may not select from: a view is read where there is none among the
+    /// relations that it needs, whoever made it. It takes no memory.
+    ///
+    /// Source: PostgreSQL 16, CREATE VIEW, `security_invoker`.
+    pub fn first_unread(&self, role: RoleId, rels: &[RelId]) -> Option<RelId>
+        ensures { option_map select_from result ≡ first_missing self.now.rights role.0 (map select_from rels.now) }
+    {
+        for rel in rels {
+            if !self.has(role, Privilege::Select, *rel) {
+                return Some(*rel);
             }
         }
         None

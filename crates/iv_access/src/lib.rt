@@ -21,7 +21,7 @@ mod row_security;
 pub use access::Access;
 pub use fault::AccessFault;
 pub use filter::ReaderFilter;
-pub use policy::{Check, NewPolicy, PolicyCommand, Verdict};
+pub use policy::{Check, NewPolicy, PolicyCommand, Verdict, update_tests};
 pub use privilege::{Missing, Privilege};
 pub use role::{ADMIN, RoleId};
 pub use row_security::MOST_POLICIES;

@@ -1,7 +1,7 @@
 //! `NewPolicy`, as it is asked for, and `Policy`, as it is kept; `PolicyCommand`, `Check`, `Verdict`; whether a row passes one policy.
-ghost use Rattle.std.specs.Prelude.{◌≡◌, option_map};
+ghost use Rattle.std.specs.Prelude.{◌≡◌, map, option_map};
 ghost use Rattle.iv_algebra.specs.Shapes.{condition_of};
-ghost use Rattle.iv_access.specs.Policies.{covers, is_met, is_named, or_later, passes};
+ghost use Rattle.iv_access.specs.Policies.{covers, is_met, is_named, or_later, passes, update_tests};
 
 use crate::grant::Grantee;
 use iv_algebra::Pred;
@@ -36,6 +36,19 @@ pub enum Check {
     UpdateNew,
     /// It is removed.
     Delete,
+}
+
+/// The tests of an update in their order, each with its row: what a reader may not see is not replaced, and what comes in
+/// its place is seen by who wrote it (PostgreSQL 16, CREATE POLICY, Policies Applied by Command Type).
+pub fn update_tests<'a>(old: &'a Row, new: &'a Row) -> [(Check, &'a Row); 4]
+    ensures { map (λ t. (t.0, t.1.now)) result ≡ update_tests old.now new.now }
+{
+    [
+        (Check::Select, old),
+        (Check::UpdateOld, old),
+        (Check::UpdateNew, new),
+        (Check::Select, new),
+    ]
 }
 
 /// What the policies of a table say of a row (PostgreSQL 16, Row Security Policies).

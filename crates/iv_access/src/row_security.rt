@@ -91,15 +91,20 @@ impl Access {
     fn stored(&self, policy: NewPolicy) -> Result<Policy, AllocError>
         ensures { IfOk result (λ p. p ≡ policy_from self.now.rights policy) }
     {
-        let to = self.grantees(&policy.to)?;
-        Ok(Policy {
-            name: policy.name,
-            restrictive: policy.restrictive,
-            command: policy.command,
-            to,
-            using: policy.using,
-            check: policy.check,
-        })
+        match self.grantees(&policy.to) {
+            Ok(to) => Ok(Policy {
+                name: policy.name,
+                restrictive: policy.restrictive,
+                command: policy.command,
+                to,
+                using: policy.using,
+                check: policy.check,
+            }),
+            Err(fault) => {
+                drop(policy);
+                Err(fault)
+            }
+        }
     }
 
     /// Adds a policy to a table: each of its roles is there (`are_grantees`), none of the table's has its name (`policy`), and there are fewer

@@ -238,7 +238,8 @@ selected distinct from keys out =
 unfoldable pub output_of : ℕ → Bool → ListTree → From → List ColumnTree → Result BoundQuery Fault
 output_of p distinct l from group = keys_bound from.scope group >>= λ keys.
     if_some (ungrouped keys l)
-    (list_bound from.scope keys l >>= λ out. if nat_le (length out.columns) 16 then Ok (selected distinct from keys out) else Err (FaultAt p why.TooManyColumns))
+    (list_bound from.scope keys l
+    >>= λ out. if nat_le (length out.columns) 16 then Ok (selected distinct from keys out) else Err (FaultAt p why.TooManyColumns))
     (λ q. Err (FaultAt q why.NotGrouped))
 
 unfoldable pub select_bound : List CatalogEntry → SelectTree → Result BoundQuery Fault

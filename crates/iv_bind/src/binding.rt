@@ -93,6 +93,7 @@ fn finished(alloc: Global, part: Part) -> Result<Bound, BindFault>
     ensures { Gives bound_of result (finished (part_of part)) }
 {
     if !is_small(&part.plan) {
+        drop(part);
         return Err(fault(0, BindWhy::TooManyNodes));
     }
     let needs = once(alloc, &part.reached)?;

@@ -101,9 +101,13 @@ impl Catalog {
         ensures added { OnOk result (self.new ≡ extended self.old name.now rel.0 (held_of held)) }
         ensures unchanged { OnErr result (self.new ≡ self.old) }
     {
-        let name = String::from_str(*self.relations.allocator(), name)?;
-        self.relations.push(Relation { name, rel, held })?;
-        Ok(())
+        match String::from_str(*self.relations.allocator(), name) {
+            Ok(name) => Ok(self.relations.push(Relation { name, rel, held })?),
+            Err(error) => {
+                drop(held);
+                Err(error)
+            }
+        }
     }
 
     /// Whether no relation has the name, and none the number. It takes no memory.

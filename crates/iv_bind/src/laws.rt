@@ -31,5 +31,6 @@ pub fn bound_queries_are_sound()
 /// What is sound over a catalog stays so while relations are added behind the others.
 pub fn sound_catalogs_grow()
     ensures held { (es : List CatalogEntry) (name : List ℕ) (n : ℕ) (more held : Held) → HeldIsSound es held → HeldIsSound (extended es name n more) held }
-    ensures catalog { (es : List CatalogEntry) (name : List ℕ) (n : ℕ) (held : Held) → IsSoundCatalog es → HeldIsSound es held → IsSoundCatalog (extended es name n held) }
+    ensures catalog { (es : List CatalogEntry) (name : List ℕ) (n : ℕ) (held : Held) → IsSoundCatalog es → HeldIsSound es held
+        → IsSoundCatalog (extended es name n held) }
 {}

@@ -11,11 +11,12 @@ ghost use Rattle.iv_bind.specs.Parts.{from_of, out_of, part_of, output_by};
 ghost use Rattle.iv_bind.specs.Binding.{grouped_shape, distinctly, selected, select_bound, combined_plan, combined, query_bound};
 
 use crate::catalog::Catalog;
+use crate::copy::boxed_two;
 use crate::fault::{BindFault, BindWhy};
 use crate::items::{Out, keys, list, ungrouped};
 use crate::predicate::is_same;
 use crate::scope::fault;
-use crate::sources::{From, all_sources, filter};
+use crate::sources::{From, all_sources, filter, reached_by_two};
 use iv_algebra::{Agg, Plan};
 use iv_query::{Query, Select, SetOp};
 use iv_rows::{Column, RelId};
@@ -77,12 +78,27 @@ fn selected(
 fn output_of(alloc: Global, select: &Select, from: From) -> Result<Part, BindFault>
     ensures { Gives part_of result (output_by select.now from) }
 {
-    let keys = keys(alloc, &from.scope, &select.group)?;
+    let keys = match keys(alloc, &from.scope, &select.group) {
+        Ok(keys) => keys,
+        Err(fault) => {
+            drop(from);
+            return Err(fault);
+        }
+    };
     if let Some(place) = ungrouped(&keys, &select.columns) {
+        drop(from);
         return Err(fault(place, BindWhy::NotGrouped));
     }
-    let out = list(alloc, &from.scope, &keys, &select.columns)?;
+    let out = match list(alloc, &from.scope, &keys, &select.columns) {
+        Ok(out) => out,
+        Err(fault) => {
+            drop(from);
+            return Err(fault);
+        }
+    };
     if out.columns.len() > COLUMNS {
+        drop(from);
+        drop(out);
         return Err(fault(select.place, BindWhy::TooManyColumns));
     }
     Ok(selected(alloc, select.distinct, from, keys, out)?)
@@ -117,10 +133,7 @@ fn are_alike(a: &[Column], b: &[Column]) -> bool
 fn combined_plan(alloc: Global, op: SetOp, left: Plan, right: Plan) -> Result<Plan, AllocError>
     ensures { IfOk result (λ p. shape_of p ≡ combined_plan op (shape_of left) (shape_of right)) }
 {
-    let left = Box::new(alloc, left);
-    let right = Box::new(alloc, right);
-    let left = left?;
-    let right = right?;
+    let (left, right) = boxed_two(alloc, left, right)?;
     match op {
         SetOp::UnionAll => Ok(Plan::Union(left, right)),
         SetOp::Union => Ok(Plan::Distinct(Box::new(alloc, Plan::Union(left, right))?)),
@@ -131,15 +144,19 @@ fn combined_plan(alloc: Global, op: SetOp, left: Plan, right: Plan) -> Result<Pl
 fn combined(alloc: Global, op: SetOp, left: Part, right: Part) -> Result<Part, AllocError>
     ensures { IfOk result (λ p. part_of p ≡ combined op (part_of left) (part_of right)) }
 {
+    let reached = reached_by_two(left.reached, right.reached);
     let plan = combined_plan(alloc, op, left.plan, right.plan)?;
-    let mut reached = left.reached;
-    let mut more = right.reached;
-    reached.append(&mut more)?;
-    Ok(Part {
-        plan,
-        schema: left.schema,
-        reached,
-    })
+    match reached {
+        Ok(reached) => Ok(Part {
+            plan,
+            schema: left.schema,
+            reached,
+        }),
+        Err(error) => {
+            drop(plan);
+            Err(error)
+        }
+    }
 }
 
 /// A query, from the left.
@@ -151,8 +168,16 @@ pub(crate) fn query(alloc: Global, catalog: &Catalog, tree: &Query) -> Result<Pa
         Query::Select(only) => select(alloc, catalog, only),
         Query::Combined(before, op, last) => {
             let left = query(alloc, catalog, before)?;
-            let right = select(alloc, catalog, last)?;
+            let right = match select(alloc, catalog, last) {
+                Ok(right) => right,
+                Err(fault) => {
+                    drop(left);
+                    return Err(fault);
+                }
+            };
             if !are_alike(&left.schema, &right.schema) {
+                drop(left);
+                drop(right);
                 return Err(fault(last.place, BindWhy::ColumnsDiffer));
             }
             Ok(combined(alloc, *op, left, right)?)

@@ -2,7 +2,7 @@
 //!
 //! A pair of a join is kept with the earlier side first, in whichever order the text has the two.
 
-ghost use Rattle.std.specs.Prelude.{◌≡◌, map, option_map, IfOk};
+ghost use Rattle.std.specs.Prelude.{◌≡◌, ◌++◌, length, map, option_map, IfOk};
 ghost use Rattle.iv_query.specs.Trees.{name_tree, source_tree, pair_tree, join_tree, pred_tree};
 ghost use Rattle.iv_bind.specs.Faults.{Gives};
 ghost use Rattle.iv_algebra.specs.Shapes.{shape_of};
@@ -12,7 +12,7 @@ ghost use Rattle.iv_bind.specs.Parts.{from_of};
 ghost use Rattle.iv_bind.specs.Binding.{called, under, source_of, source_bound, sides, pair_bound, pairs_bound, joined_bound, join_bound, from_bound, filter_bound};
 
 use crate::catalog::{Catalog, Held, Relation};
-use crate::copy::copy_plan;
+use crate::copy::{boxed_two, copy_plan};
 use crate::fault::{BindFault, BindWhy};
 use crate::predicate::{is_same, pred};
 use crate::scope::{Named, column, fault, is_used};
@@ -81,9 +81,9 @@ fn reached_by(alloc: Global, rel: RelId, held: &Held) -> Result<Vec<RelId>, Allo
 fn source_of(alloc: Global, relation: &Relation, name: &str) -> Result<From, AllocError>
     ensures { IfOk result (λ from. from_of from ≡ source_of (entry_of relation.now) name.now) }
 {
-    let plan = plan_of(alloc, relation.rel, &relation.held)?;
-    let scope = under(alloc, name, columns_of(&relation.held))?;
     let reached = reached_by(alloc, relation.rel, &relation.held)?;
+    let scope = under(alloc, name, columns_of(&relation.held))?;
+    let plan = plan_of(alloc, relation.rel, &relation.held)?;
     Ok(From {
         plan,
         scope,
@@ -166,29 +166,58 @@ fn pairs(
     Ok(pairs)
 }
 
+// The columns of two sources, and the pairs of them that are joined.
+fn paired(
+    alloc: Global,
+    left: Vec<Named>,
+    right: Vec<Named>,
+    on: &[Pair],
+) -> Result<(Vec<Named>, Vec<(usize, usize)>), BindFault>
+    ensures columns { IfOk result (λ it. it.0.items ≡ left.items ++ right.items) }
+    ensures pairs { Gives (λ it. it.1.items) result (pairs_bound (length left.items) (left.items ++ right.items) (map pair_tree on.now)) }
+{
+    let n = left.len();
+    let mut scope = left;
+    let mut more = right;
+    scope.append(&mut more)?;
+    let pairs = pairs(alloc, n, &scope, on)?;
+    Ok((scope, pairs))
+}
+
+/// What both reach.
+pub(crate) fn reached_by_two(left: Vec<RelId>, right: Vec<RelId>) -> Result<Vec<RelId>, AllocError>
+    ensures { IfOk result (λ reached. reached.items ≡ left.items ++ right.items) }
+{
+    let mut reached = left;
+    let mut more = right;
+    reached.append(&mut more)?;
+    Ok(reached)
+}
+
 // Two plans, joined by pairs of columns.
 #[tactic(auto, unfolding(crate::specs::Binding::joined_bound))]
 fn joined(alloc: Global, left: From, right: From, on: &[Pair]) -> Result<From, BindFault>
     ensures { Gives from_of result (joined_bound (from_of left) (from_of right) (map pair_tree on.now)) }
 {
-    let a = Box::new(alloc, left.plan);
-    let b = Box::new(alloc, right.plan);
-    let n = left.scope.len();
-    let mut scope = left.scope;
-    let mut more = right.scope;
-    scope.append(&mut more)?;
-    let pairs = pairs(alloc, n, &scope, on)?;
-    let mut reached = left.reached;
-    let mut more = right.reached;
-    reached.append(&mut more)?;
-    let left = a?;
-    let right = b?;
-    let plan = Plan::Join { left, right, pairs };
-    Ok(From {
-        plan,
-        scope,
-        reached,
-    })
+    let plans = boxed_two(alloc, left.plan, right.plan);
+    let columns = paired(alloc, left.scope, right.scope, on);
+    let reached = reached_by_two(left.reached, right.reached);
+    match columns {
+        Ok((scope, pairs)) => {
+            let reached = reached?;
+            let (left, right) = plans?;
+            let plan = Plan::Join { left, right, pairs };
+            Ok(From {
+                plan,
+                scope,
+                reached,
+            })
+        }
+        Err(fault) => {
+            drop(plans);
+            Err(fault)
+        }
+    }
 }
 
 // The sources so far and one more.
@@ -196,8 +225,13 @@ fn joined(alloc: Global, left: From, right: From, on: &[Pair]) -> Result<From, B
 fn join(alloc: Global, catalog: &Catalog, left: From, join: &Join) -> Result<From, BindFault>
     ensures { Gives from_of result (join_bound catalog.now (from_of left) (join_tree join.now)) }
 {
-    let right = source(alloc, catalog, &left.scope, &join.source)?;
-    joined(alloc, left, right, &join.on)
+    match source(alloc, catalog, &left.scope, &join.source) {
+        Ok(right) => joined(alloc, left, right, &join.on),
+        Err(fault) => {
+            drop(left);
+            Err(fault)
+        }
+    }
 }
 
 /// The sources of a select, joined.
@@ -225,7 +259,13 @@ pub(crate) fn filter(alloc: Global, from: From, filter: &Option<Pred>) -> Result
     let Some(tree) = filter else {
         return Ok(from);
     };
-    let pred = pred(alloc, &from.scope, tree)?;
+    let pred = match pred(alloc, &from.scope, tree) {
+        Ok(pred) => pred,
+        Err(fault) => {
+            drop(from);
+            return Err(fault);
+        }
+    };
     let plan = Plan::Filter(pred, Box::new(alloc, from.plan)?);
     Ok(From {
         plan,

@@ -1,12 +1,14 @@
 -- The tests of a write that look at no row of a table.
 use Rattle.std.proofs.Common.{◌≡◌, ℕ, zero, suc, ◌-◌, ◌<◌, Bool, true, false, cond, not, ◌&&◌, List, [], ◌∷◌, length, map, get_or, Option, None, Some, refl, sym, ap, subst, ◌∙◌, arith}
 use Rattle.std.specs.Prelude.{Result, Err, is_some, option_map, slice_get, unwrap_or}
+use Rattle.std.specs.Borrow.{Bor}
 use Rattle.std.specs.List.{AllByRecursion, list_all}
 use Rattle.iv_rows.specs.Cell.{Cell}
 use Rattle.iv_rows.specs.Columns.{Column, accepts, kinds_of}
 use Rattle.iv_bind.specs.Catalogs.{named}
 use Rattle.iv_access.specs.Privileges.{first_missing, has}
 use Rattle.iv_access.specs.Rights.{Name}
+use Rattle.iv_access.specs.declared.policy.Check.{Check}
 use Rattle.iv_access.specs.declared.privilege.Privilege.{Privilege}
 use Rattle.iv_machine.specs.Act as machine
 use Rattle.iv_machine.specs.Act.{Entry, Op, write}
@@ -14,7 +16,7 @@ use Rattle.iv_machine.specs.Refusing.{checks_for, each_entry, entry_check, entry
 use Rattle.iv_machine.specs.Split.{frame_refusal}
 use Rattle.iv_machine.specs.State.{Frame, name_of, session_of, table_columns}
 use Rattle.iv_database.specs.Database.{Database, frame_of}
-use Rattle.iv_database.specs.Placed.{Placed, entry_of}
+use Rattle.iv_database.specs.Placed.{Placed, entry_of, first_of}
 use Rattle.iv_database.specs.Resolving.{AreChecked, AreEntries}
 use Rattle.iv_command.specs.Stops.{IsTested}
 use Rattle.iv_command.specs.Views.{refusal_of}
@@ -56,6 +58,11 @@ missing_is f role k name (p ∷ ps) h = by (has f.rights role p k) (missing_is f
 pub first_stops : (o rest : Option machine.Refusal) (stop : Stop) → IsTested o (Err stop) → IsTested (or_else o rest) (Err stop)
 first_stops o rest (Refused r) h = ap (λ x. or_else x rest) h
 first_stops o rest Memory h = tt
+
+-- tests of rows that are borrowed
+pub tests_borrowed : (f : Check × List Cell → Option machine.Refusal) (tests : List (Check × Bor (List Cell))) → first_of f tests ≡ first (map f (map (λ t. (t.0, t.1.now)) tests))
+tests_borrowed f [] = refl
+tests_borrowed f (t ∷ ts) = ap (or_else (f (t.0, t.1.now))) (tests_borrowed f ts)
 
 -- the tests of an update
 pub update_tested : (f : Frame) (role n : ℕ) (p : Placed) (old new : List Cell) (x : Result Unit Stop) → p.op ≡ machine.update old new

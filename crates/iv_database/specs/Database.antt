@@ -2,7 +2,6 @@
 use Rattle.std.specs.Prelude.{◌≡◌, ℕ, ◌<◌, ◌≤◌, ◌==◌, Bool, false, List, [], Option, None, Some, filter, length, map, not, option_map}
 use Rattle.std.specs.List.{AllByRecursion}
 use Rattle.iv_rows.specs.Columns.{Column, kinds_of}
-use Rattle.iv_rows.specs.declared.schema.RelId.{RelId}
 use Rattle.iv_zset.specs.RowLimit.{IsRowLimit}
 use Rattle.iv_zset.specs.Weights.{Weighed, IsBag, IsZSet}
 use Rattle.iv_algebra.specs.Contents.{AreOf, heads_of, rows_of}
@@ -13,8 +12,6 @@ use Rattle.iv_bind.specs.Catalogs.{CatalogEntry, schema_of, table_in}
 use Rattle.iv_rows.specs.Options.{if_some}
 use Rattle.iv_access.specs.Access.{Access, Relation, access_at_start}
 use Rattle.iv_access.specs.Rights.{Rights}
-use Rattle.iv_access.specs.declared.privilege.Privilege.{Privilege}
-use Rattle.iv_access.specs.declared.privilege.Privilege.TheVariants.{Select}
 use Rattle.iv_machine.specs.State.{Frame, Session, State, session_of}
 use Rattle.iv_machine.specs.Numbered.{AreNumbered}
 
@@ -58,10 +55,6 @@ session_acts_as f n role = if_some (session_of f.sessions n) false (λ s. s.role
 -- without the session
 abbrev pub without_session : (session : ℕ) → Database → Database
 without_session n d = record d { sessions = filter (λ s. not (n == s.number)) d.sessions }
-
--- the privilege that a reader needs on a relation
-abbrev pub select_from : RelId → Privilege × ℕ
-select_from rel = (Select, rel.0)
 
 -- a table's rows are of the kinds of its columns, and what is no table has no row
 abbrev pub HoldsKinds : Option (List Column) → Weighed → Type 0

@@ -9,7 +9,7 @@ ghost use Rattle.iv_command.specs.Stops.{IsTested};
 
 use crate::database::Database;
 use crate::entries::Placement;
-use iv_access::{Check, Missing, Privilege, RoleId, Verdict};
+use iv_access::{Check, Missing, Privilege, RoleId, Verdict, update_tests};
 use iv_command::{Op, Refusal, Stop};
 use iv_rows::Row;
 
@@ -120,17 +120,9 @@ impl Database {
                 entry,
                 &[(Check::Select, old), (Check::Delete, old)],
             ),
-            Op::Update(old, new) => self.check_rows(
-                acting,
-                number,
-                entry,
-                &[
-                    (Check::Select, old),
-                    (Check::UpdateOld, old),
-                    (Check::UpdateNew, new),
-                    (Check::Select, new),
-                ],
-            ),
+            Op::Update(old, new) => {
+                self.check_rows(acting, number, entry, &update_tests(old, new))
+            }
         }
     }
 

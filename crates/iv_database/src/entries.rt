@@ -82,12 +82,15 @@ impl Database {
             copies,
         } = entry;
         let Some(rel) = self.relation_behind(placed, name.as_str()) else {
+            drop(op);
             return Err(Refusal::UnknownRelation);
         };
         let Some(schema) = self.catalog.schema(rel) else {
+            drop(op);
             return Err(Refusal::NotATable);
         };
         if !accepts(schema, &op) {
+            drop(op);
             return Err(Refusal::BadRow {
                 entry: placed.len() + 1,
             });

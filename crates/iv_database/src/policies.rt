@@ -102,6 +102,8 @@ impl Database {
     {
         let (table, predicates) = self.check_policy(session, &policy)?;
         if self.access.policies(table) >= MOST_POLICIES {
+            drop(policy);
+            drop(predicates);
             return Err(Stop::Refused(Refusal::TooMany));
         }
         self.access.create_policy(table, asked(policy, predicates))?;
@@ -138,8 +140,9 @@ fn predicate(alloc: Global, schema: &Schema, text: &str) -> Result<Pred, Stop>
     ensures { IsBound (bound_policy schema.now text.now) result }
 {
     let tree = read_pred(alloc, text)?;
-    let pred = bind_pred(alloc, &tree, schema)?;
-    Ok(pred)
+    let pred = bind_pred(alloc, &tree, schema);
+    drop(tree);
+    Ok(pred?)
 }
 
 /// The predicate of a text, if there is one.
@@ -164,6 +167,11 @@ pub(crate) fn bound_texts(
     ensures { AreBound schema.now policy.now result }
 {
     let using = predicate_of(alloc, schema, &policy.using_text)?;
-    let check = predicate_of(alloc, schema, &policy.check_text)?;
-    Ok(Predicates { using, check })
+    match predicate_of(alloc, schema, &policy.check_text) {
+        Ok(check) => Ok(Predicates { using, check }),
+        Err(stop) => {
+            drop(using);
+            Err(stop)
+        }
+    }
 }

@@ -2,10 +2,10 @@
 ghost use Rattle.std.specs.Prelude.{◌≡◌, ◌<◌, length, map, option_map, string_bytes};
 ghost use Rattle.iv_access.specs.Access.{name_given};
 ghost use Rattle.iv_machine.specs.Act as machine;
-ghost use Rattle.iv_database.specs.Database.{IsDatabase, frame_of, select_from};
+ghost use Rattle.iv_database.specs.Database.{IsDatabase, frame_of};
 ghost use Rattle.iv_database.specs.Next.{IsDone};
 ghost use Rattle.iv_database.specs.Telling.{IsStopOf, IsTold};
-ghost use Rattle.iv_access.specs.Privileges.{first_missing};
+ghost use Rattle.iv_access.specs.Privileges.{select_from};
 ghost use Rattle.iv_machine.specs.State.{missing_for};
 
 use crate::database::Database;
@@ -79,18 +79,6 @@ impl Database {
         outcome(change, rel)
     }
 
-    /// The first of the relations that the role may not select from.
-    fn first_unread(&self, role: RoleId, rels: &[RelId]) -> Option<RelId>
-        ensures { option_map select_from result ≡ first_missing self.now.known.rights role.0 (map select_from rels.now) }
-    {
-        for rel in rels {
-            if !self.access.has(role, Privilege::Select, *rel) {
-                return Some(*rel);
-            }
-        }
-        None
-    }
-
     /// The first relation that the role may not select from, of those that it needs to read the relation: the relation,
     /// and all that it reaches.
     ///
@@ -104,7 +92,7 @@ impl Database {
             return Some(rel);
         }
         match self.catalog.view(rel) {
-            Some(query) => self.first_unread(role, &query.needs),
+            Some(query) => self.access.first_unread(role, &query.needs),
             None => None,
         }
     }

@@ -146,8 +146,9 @@ fn bound_view(alloc: Global, catalog: &Catalog, query: &str) -> Result<Bound, St
     ensures scanned { IfOk result (λ b. AreAmong (scans (bound_of b).plan) (bound_of b).needs) }
 {
     let tree = read_query(alloc, query)?;
-    let bound = bind(alloc, &tree, catalog)?;
-    Ok(bound)
+    let bound = bind(alloc, &tree, catalog);
+    drop(tree);
+    Ok(bound?)
 }
 
 impl Database {
@@ -191,7 +192,10 @@ impl Database {
         let added = self.access.add_relation(acting, name.as_str(), owner, None);
         let rel = match added {
             Ok(rel) => rel,
-            Err(fault) => return Err(stop_of(fault, name)),
+            Err(fault) => {
+                drop(bound);
+                return Err(stop_of(fault, name));
+            }
         };
         self.catalog.add_view(name.as_str(), rel, bound)?;
         Ok(())

@@ -16,4 +16,5 @@ pub record IsApplied (old : Engine) (c : Command) (said : List Line) (new : Engi
 abbrev pub AreApplied : Engine → List Command → List Line → Engine → Type 0
 AreApplied old [] lines new = (lines ≡ []) × (new ≡ old)
 AreApplied old (c ∷ cs) lines new =
-    (first : List Line) × (others : List Line) × (between : Engine) × (lines ≡ first ++ others) × IsApplied old c first between × AreApplied between cs others new
+    (first : List Line) × (others : List Line) × (between : Engine)
+    × (lines ≡ first ++ others) × IsApplied old c first between × AreApplied between cs others new

@@ -148,6 +148,7 @@ impl Engine {
         ensures failed_unchanged { self.old.failed ≡ true → self.new ≡ self.old }
     {
         if self.is_failed() {
+            drop(command);
             return Err(EngineFault::Failed);
         }
         match self.store.step(command) {

@@ -2,7 +2,7 @@
 //!
 //! A row that comes back when a restrictive policy goes is one of those of which its predicate does not hold. They are found by one pass
 //! over the table for all readers, unless the predicate reads the name of the user.
-ghost use Rattle.std.specs.Prelude.{◌≡◌, IfOk, IfSome, option_map, string_bytes, true};
+ghost use Rattle.std.specs.Prelude.{◌≡◌, IfOk, IfSome, option_map, true};
 ghost use Rattle.std.specs.List.{AllByRecursion};
 ghost use Rattle.iv_algebra.specs.Shapes.{condition_of};
 ghost use Rattle.iv_machine.specs.Act as machine;
@@ -57,16 +57,14 @@ impl Store {
     pub fn row_security(
         &mut self,
         session: u32,
-        rel: String,
+        rel: &str,
         enable: bool,
         force: bool,
     ) -> Result<Answer, Stop>
         requires { IsSoundStore self.old }
-        ensures { IsStep self.old session (machine.row_security (string_bytes rel) enable force) result self.new }
+        ensures { IsStep self.old session (machine.row_security rel.now enable force) result self.new }
     {
-        let table = self
-            .database
-            .row_security(session, rel.as_str(), enable, force)?;
+        let table = self.database.row_security(session, rel, enable, force)?;
         let answer = self.tell_of(table, false, None)?;
         Ok(answer)
     }
@@ -114,14 +112,24 @@ impl Store {
 
     /// Takes a policy of a table away, and tells readers of it and of views over it what they see more and less: more alone, where it is
     /// restrictive.
-    pub fn drop_policy(&mut self, session: u32, rel: String, name: &str) -> Result<Answer, Stop>
+    pub fn drop_policy(&mut self, session: u32, rel: &str, name: &str) -> Result<Answer, Stop>
         requires { IsSoundStore self.old }
-        ensures { IsStep self.old session (machine.drop_policy (string_bytes rel) name.now) result self.new }
+        ensures { IsStep self.old session (machine.drop_policy rel.now name.now) result self.new }
     {
-        let restriction = self.restriction(session, rel.as_str(), name)?;
-        let table = self.database.drop_policy(session, rel.as_str(), name)?;
-        let hidden = self.hidden(table, &restriction)?;
-        let answer = self.tell_of(table, hidden.is_some(), hidden.as_ref())?;
-        Ok(answer)
+        let restriction = self.restriction(session, rel, name)?;
+        match self.database.drop_policy(session, rel, name) {
+            Ok(table) => {
+                let hidden = self.hidden(table, &restriction);
+                drop(restriction);
+                let hidden = hidden?;
+                let answer = self.tell_of(table, hidden.is_some(), hidden.as_ref());
+                drop(hidden);
+                Ok(answer?)
+            }
+            Err(stop) => {
+                drop(restriction);
+                Err(stop)
+            }
+        }
     }
 }

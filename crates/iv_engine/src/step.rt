@@ -86,10 +86,12 @@ impl Store {
             Act::GrantRole { role, to } => self.grant_role(session, role, to.as_str()),
             Act::RevokeRole { role, to } => self.revoke_role(session, role, to.as_str()),
             Act::RowSecurity { rel, enable, force } => {
-                self.row_security(session, rel, enable, force)
+                self.row_security(session, rel.as_str(), enable, force)
             }
             Act::CreatePolicy(policy) => self.create_policy(session, policy),
-            Act::DropPolicy { rel, name } => self.drop_policy(session, rel, name.as_str()),
+            Act::DropPolicy { rel, name } => {
+                self.drop_policy(session, rel.as_str(), name.as_str())
+            }
             Act::Write { entries } => self.write(session, entries),
             Act::Subscribe { rel } => self.subscribe(session, rel),
             Act::Unsubscribe { sub } => self.unsubscribe(session, sub),

@@ -14,7 +14,7 @@ use Rattle.iv_access.specs.declared.policy.Verdict.{Verdict}
 use Rattle.iv_access.specs.declared.policy.Verdict.TheVariants.{Pass, NoPermissive, Restrictive}
 use Rattle.iv_access.specs.declared.privilege.Privilege.{Privilege}
 use Rattle.iv_access.specs.declared.privilege.Privilege.TheVariants as privilege
-use Rattle.iv_access.specs.Policies.{policies_of, policy_name, policy_of, verdict}
+use Rattle.iv_access.specs.Policies.{policies_of, policy_name, policy_of, update_tests, verdict}
 use Rattle.iv_access.specs.Access.{role_number}
 use Rattle.iv_access.specs.Privileges.{acts_as, first_missing, is_admin, owns, role_of}
 use Rattle.iv_access.specs.Rights.{Name}
@@ -111,7 +111,7 @@ privileges_for (update old new) = privilege.Update ∷ privilege.Select ∷ []
 abbrev pub checks_for : Op → List (Check × List Cell)
 checks_for (insert new) = (check.Insert, new) ∷ []
 checks_for (delete old) = (check.Select, old) ∷ (check.Delete, old) ∷ []
-checks_for (update old new) = (check.Select, old) ∷ (check.UpdateOld, old) ∷ (check.UpdateNew, new) ∷ (check.Select, new) ∷ []
+checks_for (update old new) = update_tests old new
 
 -- a known table, and rows with the number and the kinds of its columns
 abbrev pub entry_shape : Frame → ℕ → Entry → Option Refusal

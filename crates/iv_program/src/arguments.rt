@@ -38,18 +38,21 @@ fn rows<'a>(alloc: Global) -> Arg<'a> {
         .default_value("65536")
 }
 
-fn command<'a>(alloc: Global) -> Result<Command<'a>, Error> {
-    let replay = Command::new(alloc, "replay")
+fn replay<'a>(alloc: Global) -> Result<Command<'a>, AllocError> {
+    Command::new(alloc, "replay")
         .about("Answers the request lines of standard input on standard output")
         .arg(count(alloc, "lines", "The number of lines to take at most"))?
-        .arg(rows(alloc))?;
+        .arg(rows(alloc))
+}
+
+fn serve<'a>(alloc: Global) -> Result<Command<'a>, AllocError> {
     let port = Arg::new(alloc, "port")
         .long("port")
         .value_name("P")
         .help("The port on 127.0.0.1")
         .required(true)
         .value_parser(value_parser!(u16).range(1..));
-    let serve = Command::new(alloc, "serve")
+    Command::new(alloc, "serve")
         .about("Answers the request lines of connections, one connection after another")
         .arg(port)?
         .arg(count(alloc, "connections", "The number of connections to take"))?
@@ -58,17 +61,42 @@ fn command<'a>(alloc: Global) -> Result<Command<'a>, Error> {
             "lines",
             "The number of lines to take at most of each connection",
         ))?
-        .arg(rows(alloc))?;
-    let command = Command::new(alloc, "viewd")
-        .bin_name("viewd")?
-        .version(VERSION)
-        .about("Keeps tables, and tells subscribers what changes in them")
-        .no_binary_name(true)
-        .subcommand_required(true)
-        .disable_help_subcommand(true)
-        .subcommand(replay)?
-        .subcommand(serve)?;
-    Ok(command)
+        .arg(rows(alloc))
+}
+
+/// The command, without what it does.
+fn plain<'a>(alloc: Global) -> Result<Command<'a>, AllocError> {
+    let command = Command::new(alloc, "viewd").bin_name("viewd")?;
+    Ok(
+        command
+            .version(VERSION)
+            .about("Keeps tables, and tells subscribers what changes in them")
+            .no_binary_name(true)
+            .subcommand_required(true)
+            .disable_help_subcommand(true),
+    )
+}
+
+fn with_replay<'a>(alloc: Global) -> Result<Command<'a>, AllocError> {
+    let replay = replay(alloc)?;
+    match plain(alloc) {
+        Ok(command) => command.subcommand(replay),
+        Err(refused) => {
+            drop(replay);
+            Err(refused)
+        }
+    }
+}
+
+fn command<'a>(alloc: Global) -> Result<Command<'a>, AllocError> {
+    let serve = serve(alloc)?;
+    match with_replay(alloc) {
+        Ok(command) => command.subcommand(serve),
+        Err(refused) => {
+            drop(serve);
+            Err(refused)
+        }
+    }
 }
 
 fn count_of(matches: &ArgMatches<'_>, name: &str) -> Option<u32>

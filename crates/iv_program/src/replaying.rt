@@ -92,7 +92,9 @@ fn replay<R: Source, W: Sink>(
     let Ok(mut engine) = Engine::with_seed(alloc, seed, rows) else {
         return Err(Fault::Memory);
     };
-    replay_on(alloc, &mut engine, reader, writer, lines)
+    let ended = replay_on(alloc, &mut engine, reader, writer, lines);
+    drop(engine);
+    ended
 }
 
 /// Does what the settings ask, with these ends in place of standard input and output. Rows are hashed under the seed.

@@ -175,5 +175,7 @@ pub fn serve<W: Sink>(
     let Ok(mut engine) = Engine::with_seed(rt.alloc(), seed, rows) else {
         return Err(Fault::Memory);
     };
-    serve_through(rt, &mut engine, writer, port, connections, lines)
+    let ended = serve_through(rt, &mut engine, writer, port, connections, lines);
+    drop(engine);
+    ended
 }

@@ -110,7 +110,9 @@ pub data Faults (stop : Fault) (d : Dialect) : Part → ℕ → List Tok → Fau
       → Reads d pred room ts a us → after_symbol Close us ≡ None
       → Faults stop d term (suc room) (Fixed Open p ∷ ts) (unexpected stop us)
   -- term = operand op operand
-  no_left : {room : ℕ} {ts : List Tok} {f : Fault} → after_symbol Not ts ≡ None → after_symbol Open ts ≡ None → OperandFault stop d ts f → Faults stop d term room ts f
+  no_left : {room : ℕ} {ts : List Tok} {f : Fault}
+      → after_symbol Not ts ≡ None → after_symbol Open ts ≡ None → OperandFault stop d ts f
+      → Faults stop d term room ts f
   no_op : {room : ℕ} {x : OperandTree} {ts us : List Tok}
       → IsOperand d ts x us → stands_alone x ≡ false → after_op us ≡ None
       → Faults stop d term room ts (unexpected stop us)

@@ -129,7 +129,9 @@ pub data ItemFault (stop : Fault) : List Tok → Fault → Type 0 where
       → First Sum p ts us → First Open q us vs → IsColumn vs c ws → First Close r ws xs → AliasFault stop xs f
       → ItemFault stop ts f
   no_count_open : {p : ℕ} {ts us : List Tok} → First Count p ts us → after_symbol Open us ≡ None → ItemFault stop ts (unexpected stop us)
-  no_count_star : {p q : ℕ} {ts us vs : List Tok} → First Count p ts us → First Open q us vs → after_symbol Star vs ≡ None → ItemFault stop ts (unexpected stop vs)
+  no_count_star : {p q : ℕ} {ts us vs : List Tok}
+      → First Count p ts us → First Open q us vs → after_symbol Star vs ≡ None
+      → ItemFault stop ts (unexpected stop vs)
   no_count_close : {p q r : ℕ} {ts us vs ws : List Tok}
       → First Count p ts us → First Open q us vs → First Star r vs ws → after_symbol Close ws ≡ None
       → ItemFault stop ts (unexpected stop ws)
@@ -157,7 +159,8 @@ pub data HeadTree : Type 0 where
 pub data IsHead : List Tok → HeadTree → List Tok → Type 0 where
   distinct_is : {p q : ℕ} {ts us vs ws : List Tok} {l : ListTree}
       → First Select p ts us → First Distinct q us vs → IsList vs l ws → IsHead ts (HeadOf p true l) ws
-  head_is : {p : ℕ} {ts us vs : List Tok} {l : ListTree} → First Select p ts us → after_symbol Distinct us ≡ None → IsList us l vs → IsHead ts (HeadOf p false l) vs
+  head_is : {p : ℕ} {ts us vs : List Tok} {l : ListTree}
+      → First Select p ts us → after_symbol Distinct us ≡ None → IsList us l vs → IsHead ts (HeadOf p false l) vs
 
 pub data HeadFault (stop : Fault) : List Tok → Fault → Type 0 where
   no_select : {ts : List Tok} → after_symbol Select ts ≡ None → HeadFault stop ts (unexpected stop ts)

@@ -73,6 +73,10 @@ filter_at stop ts = if_some (after_symbol Where ts) (Ok (None, ts)) (λ us. pred
 unfoldable pub group_at : Fault → List Tok → Read (List ColumnTree)
 group_at stop ts = if_some (after_symbol Group ts) (Ok ([], ts)) (λ us. need By stop us >>= λ vs. list_of Comma (column_at stop) vs)
 
+-- behind the sources: the predicate, and the columns of the group
+unfoldable pub tail_at : Fault → List Tok → Read (Option PredTree × List ColumnTree)
+tail_at stop ts = filter_at stop ts >>= λ w. group_at stop w.1 >>= λ g. Ok ((w.0, g.0), g.1)
+
 abbrev pub select_of : HeadTree → FromTree → Option PredTree → List ColumnTree → SelectTree
 select_of (HeadOf p d l) (FromOf s js) w g = SelectOf p d l s js w g
 

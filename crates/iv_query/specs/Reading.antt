@@ -35,7 +35,8 @@ abbrev pub dotted : NameTree → NameTree → ColumnTree
 dotted (Called s p) (Called n q) = ColumnAt (Some s) n p
 
 unfoldable pub column_at : Fault → List Tok → Read ColumnTree
-column_at stop ts = name_at stop ts >>= λ x. if_some (after_symbol symbol.Dot x.1) (Ok (alone x.0, x.1)) (λ us. name_at stop us >>= λ y. Ok (dotted x.0 y.0, y.1))
+column_at stop ts = name_at stop ts >>= λ x.
+    if_some (after_symbol symbol.Dot x.1) (Ok (alone x.0, x.1)) (λ us. name_at stop us >>= λ y. Ok (dotted x.0 y.0, y.1))
 
 -- the operand that a word is
 abbrev pub word_operand : Dialect → Symbol → ℕ → Option OperandTree

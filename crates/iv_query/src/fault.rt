@@ -19,7 +19,7 @@ pub enum Why {
 }
 
 /// A fault as the rules give it: its place in bytes from 0, and its reason.
-#[derive(Clone, Copy, Debug, PartialEq, Eq)]
+#[derive(Clone, Copy, PartialEq, Eq)]
 pub struct Fault {
     pub place: usize,
     pub why: Why,

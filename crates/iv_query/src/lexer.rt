@@ -18,7 +18,7 @@ use iv_rows::name_ok;
 use std::alloc::{AllocError, Global};
 
 /// What stands in front of a text, and what stands behind it.
-#[derive(Debug, Drop)]
+#[derive(Drop)]
 pub enum Front<'a> {
     Gap(&'a str),
     Token(Lexeme, &'a str),
@@ -302,7 +302,7 @@ fn front_of(alloc: Global, text: &str) -> Result<Front<'_>, AllocError>
 }
 
 /// The tokens of a text, the fault behind them, and whether that is the end of the text.
-#[derive(Debug, Drop)]
+#[derive(Drop)]
 pub struct Tokens {
     pub list: Vec<Token>,
     pub stop: Fault,

@@ -4,7 +4,7 @@
 //! both would need a type for the two words, and contracts by cases on the sign, the tree and the level below of
 //! each.
 
-ghost use Rattle.std.specs.Prelude.{◌≡◌, ◌<◌, ◌≤◌, length, option_map};
+ghost use Rattle.std.specs.Prelude.{◌≡◌, ◌<◌, ◌≤◌, length, option_map, IfOk};
 ghost use Rattle.iv_query.specs.Tokens.{toks};
 ghost use Rattle.iv_query.specs.Trees.{operand_tree, pred_tree};
 ghost use Rattle.iv_query.specs.Answers.{Gives};
@@ -15,7 +15,7 @@ use crate::parts::{after, after_op, deep, first_place, need, operand, unexpected
 use crate::token::{Symbol, Token};
 use crate::tree::{Dialect, Operand, Pred};
 use iv_rows::Value;
-use std::alloc::Global;
+use std::alloc::{AllocError, Global};
 
 // The truth value that an operand is.
 fn truth_of(operand: &Operand) -> Option<bool>
@@ -41,14 +41,41 @@ fn comparison(
 {
     let (left, rest) = operand(alloc, tokens, dialect, stop)?;
     match after_op(rest) {
-        Some((op, rest)) => {
-            let (right, rest) = operand(alloc, rest, dialect, stop)?;
-            Ok((Pred::Compare(left, op, right), rest))
-        }
-        None => match truth_of(&left) {
-            Some(truth) => Ok((Pred::Constant(truth), rest)),
-            None => Err(unexpected(rest, stop)),
+        Some((op, rest)) => match operand(alloc, rest, dialect, stop) {
+            Ok((right, rest)) => Ok((Pred::Compare(left, op, right), rest)),
+            Err(fault) => {
+                drop(left);
+                Err(fault)
+            }
         },
+        None => {
+            let truth = truth_of(&left);
+            drop(left);
+            match truth {
+                Some(truth) => Ok((Pred::Constant(truth), rest)),
+                None => Err(unexpected(rest, stop)),
+            }
+        }
+    }
+}
+
+// Two predicates, each in memory of its own.
+fn boxed_two(alloc: Global, left: Pred, right: Pred) -> Result<(Box<Pred>, Box<Pred>), AllocError>
+    ensures left { IfOk result (λ it. it.0.value ≡ left) }
+    ensures right { IfOk result (λ it. it.1.value ≡ right) }
+{
+    match Box::new(alloc, left) {
+        Ok(left) => match Box::new(alloc, right) {
+            Ok(right) => Ok((left, right)),
+            Err(failed) => {
+                drop(left);
+                Err(AllocError::from(failed))
+            }
+        },
+        Err(failed) => {
+            drop(right);
+            Err(AllocError::from(failed))
+        }
     }
 }
 
@@ -75,8 +102,13 @@ fn term(
             return Err(deep(first_place(tokens, stop)));
         }
         let (tree, rest) = pred(alloc, rest, dialect, room - 1, stop)?;
-        let rest = need(Symbol::Close, rest, stop)?;
-        return Ok((tree, rest));
+        return match need(Symbol::Close, rest, stop) {
+            Ok(rest) => Ok((tree, rest)),
+            Err(fault) => {
+                drop(tree);
+                Err(fault)
+            }
+        };
     }
     comparison(alloc, tokens, dialect, stop)
 }
@@ -97,9 +129,17 @@ fn conj(
         let Some(behind) = after(Symbol::And, rest) else {
             return Ok((tree, rest));
         };
-        let (right, behind) = term(alloc, behind, dialect, room, stop)?;
-        tree = Pred::And(Box::new(alloc, tree)?, Box::new(alloc, right)?);
-        rest = behind;
+        match term(alloc, behind, dialect, room, stop) {
+            Ok((right, behind)) => {
+                let (left, right) = boxed_two(alloc, tree, right)?;
+                tree = Pred::And(left, right);
+                rest = behind;
+            }
+            Err(fault) => {
+                drop(tree);
+                return Err(fault);
+            }
+        }
     }
     Ok((tree, rest))
 }
@@ -121,9 +161,17 @@ pub fn pred(
         let Some(behind) = after(Symbol::Or, rest) else {
             return Ok((tree, rest));
         };
-        let (right, behind) = conj(alloc, behind, dialect, room, stop)?;
-        tree = Pred::Or(Box::new(alloc, tree)?, Box::new(alloc, right)?);
-        rest = behind;
+        match conj(alloc, behind, dialect, room, stop) {
+            Ok((right, behind)) => {
+                let (left, right) = boxed_two(alloc, tree, right)?;
+                tree = Pred::Or(left, right);
+                rest = behind;
+            }
+            Err(fault) => {
+                drop(tree);
+                return Err(fault);
+            }
+        }
     }
     Ok((tree, rest))
 }

@@ -1,12 +1,12 @@
 //! `query`: reads a query, from tokens to its tree: selects, sources, joins, items, groups, set operations.
 
-ghost use Rattle.std.specs.Prelude.{◌≡◌, ◌-◌, map, option_map};
+ghost use Rattle.std.specs.Prelude.{◌≡◌, ◌-◌, map, option_map, IfOk};
 ghost use Rattle.iv_query.specs.Tokens.{starts_name, toks};
-ghost use Rattle.iv_query.specs.Trees.{ColumnTree, PairTree, ItemTree, name_tree, column_tree, source_tree, pair_tree, join_tree, item_tree, list_tree, pred_tree, select_tree, query_tree};
+ghost use Rattle.iv_query.specs.Trees.{ColumnTree, PairTree, ItemTree, name_tree, column_tree, source_tree, pair_tree, join_tree, item_tree, list_tree, pred_tree, select_tree, query_tree, Combined};
 ghost use Rattle.iv_query.specs.Answers.{at, Gives};
 ghost use Rattle.iv_query.specs.Reading.{column_at};
 ghost use Rattle.iv_query.specs.Query.{starts_alias, long, starts_join, starts_set_op, HeadOf, FromOf, NextOf, sources_in};
-ghost use Rattle.iv_query.specs.QueryReading.{skip, alias_at, may_alias_at, source_at, pair_at, plain_join_at, join_at, joins_at, column_item_at, sum_at, count_at, item_at, list_at, head_at, from_at, filter_at, group_at, select_at, set_op_at, next_at, query_at};
+ghost use Rattle.iv_query.specs.QueryReading.{skip, alias_at, may_alias_at, source_at, pair_at, plain_join_at, join_at, joins_at, column_item_at, sum_at, count_at, item_at, list_at, head_at, from_at, filter_at, group_at, tail_at, select_at, set_op_at, next_at, query_at};
 
 use crate::fault::{Fault, QueryFault, Why};
 use crate::limits::{NESTING, SOURCES};
@@ -17,7 +17,7 @@ use crate::token::{Lexeme, Symbol, Token};
 use crate::tree::{
     Column, Columns, Dialect, Item, Join, Name, Pair, Pred, Query, Select, SetOp, Source,
 };
-use std::alloc::Global;
+use std::alloc::{AllocError, Global};
 
 // The tokens behind a symbol if it comes first, else all.
 fn skip(symbol: Symbol, tokens: &[Token]) -> &[Token]
@@ -345,8 +345,27 @@ fn sources(
     Ok((source, joins, rest))
 }
 
+// What stands behind the sources: the predicate, and the columns of the group.
+#[tactic(auto, unfolding(crate::specs::QueryReading::tail_at))]
+fn tail(
+    alloc: Global,
+    tokens: &[Token],
+    stop: Fault,
+) -> Result<(Option<Pred>, Vec<Column>, &[Token]), QueryFault>
+    ensures { Gives (λ x. ((option_map pred_tree x.0, map column_tree x.1.items), toks x.2.now)) result (tail_at stop (toks tokens.now)) }
+{
+    let (filter, rest) = filter(alloc, tokens, stop)?;
+    match group(alloc, rest, stop) {
+        Ok((group, rest)) => Ok((filter, group, rest)),
+        Err(fault) => {
+            drop(filter);
+            Err(fault)
+        }
+    }
+}
+
 // A select, where `left` sources may still be named.
-#[tactic(auto, unfolding(crate::specs::QueryReading::select_at))]
+#[tactic(auto, unfolding(crate::specs::QueryReading::select_at, crate::specs::QueryReading::tail_at))]
 fn select(
     alloc: Global,
     tokens: &[Token],
@@ -356,19 +375,33 @@ fn select(
     ensures { Gives (λ x. (select_tree x.0, toks x.1.now)) result (select_at stop left (toks tokens.now)) }
 {
     let (place, distinct, columns, rest) = head(alloc, tokens, stop)?;
-    let (source, joins, rest) = sources(alloc, rest, left, stop)?;
-    let (filter, rest) = filter(alloc, rest, stop)?;
-    let (group, rest) = group(alloc, rest, stop)?;
-    let select = Select {
-        place,
-        distinct,
-        columns,
-        source,
-        joins,
-        filter,
-        group,
+    let (source, joins, rest) = match sources(alloc, rest, left, stop) {
+        Ok(sources) => sources,
+        Err(fault) => {
+            drop(columns);
+            return Err(fault);
+        }
     };
-    Ok((select, rest))
+    match tail(alloc, rest, stop) {
+        Ok((filter, group, rest)) => {
+            let select = Select {
+                place,
+                distinct,
+                columns,
+                source,
+                joins,
+                filter,
+                group,
+            };
+            Ok((select, rest))
+        }
+        Err(fault) => {
+            drop(columns);
+            drop(source);
+            drop(joins);
+            Err(fault)
+        }
+    }
 }
 
 fn starts_set_op(tokens: &[Token]) -> bool
@@ -416,6 +449,18 @@ fn left_behind(left: usize, select: &Select) -> usize
     left.saturating_sub(1).saturating_sub(select.joins.len())
 }
 
+fn combined(alloc: Global, before: Query, op: SetOp, last: Select) -> Result<Query, AllocError>
+    ensures { IfOk result (λ query. query_tree query ≡ Combined (query_tree before) op (select_tree last)) }
+{
+    match Box::new(alloc, before) {
+        Ok(before) => Ok(Query::Combined(before, op, last)),
+        Err(failed) => {
+            drop(last);
+            Err(AllocError::from(failed))
+        }
+    }
+}
+
 /// A query with at most eight sources, and the tokens behind it.
 #[tactic(auto, unfolding(crate::specs::QueryReading::query_at))]
 pub fn query(alloc: Global, tokens: &[Token], stop: Fault) -> Result<(Query, &[Token]), QueryFault>
@@ -428,10 +473,17 @@ pub fn query(alloc: Global, tokens: &[Token], stop: Fault) -> Result<(Query, &[T
         if !starts_set_op(rest) {
             return Ok((query, rest));
         }
-        let (op, right, behind) = next(alloc, rest, left, stop)?;
-        left = left_behind(left, &right);
-        query = Query::Combined(Box::new(alloc, query)?, op, right);
-        rest = behind;
+        match next(alloc, rest, left, stop) {
+            Ok((op, right, behind)) => {
+                left = left_behind(left, &right);
+                query = combined(alloc, query, op, right)?;
+                rest = behind;
+            }
+            Err(fault) => {
+                drop(query);
+                return Err(fault);
+            }
+        }
     }
     Ok((query, rest))
 }

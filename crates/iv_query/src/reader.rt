@@ -58,8 +58,13 @@ fn whole_pred(alloc: Global, tokens: &Tokens) -> Result<PredText, QueryFault>
     ensures { Gives (λ p. pred_tree p.pred) result (read_tokens policy_condition_at (tokens_lexed tokens.now)) }
 {
     let (pred, rest) = pred(alloc, &tokens.list, Dialect::Policy, NESTING, tokens.stop)?;
-    end(rest, tokens.stop, tokens.ends)?;
-    Ok(PredText { pred })
+    match end(rest, tokens.stop, tokens.ends) {
+        Ok(()) => Ok(PredText { pred }),
+        Err(fault) => {
+            drop(pred);
+            Err(fault)
+        }
+    }
 }
 
 /// The predicate of a policy text, or its first fault: `At` exactly where the text has no tree, with the place and
@@ -81,8 +86,13 @@ fn whole_query(alloc: Global, tokens: &Tokens) -> Result<Query, QueryFault>
     ensures { Gives query_tree result (read_tokens query_at (tokens_lexed tokens.now)) }
 {
     let (query, rest) = query(alloc, &tokens.list, tokens.stop)?;
-    end(rest, tokens.stop, tokens.ends)?;
-    Ok(query)
+    match end(rest, tokens.stop, tokens.ends) {
+        Ok(()) => Ok(query),
+        Err(fault) => {
+            drop(query);
+            Err(fault)
+        }
+    }
 }
 
 /// The query of a view's text, or its first fault: `At` exactly where the text has no tree, with the place and the

@@ -1,7 +1,7 @@
 //! `Token`, `Lexeme`, `Symbol`: reserved words, signs, names and values of a text, each with its place.
 
 /// A reserved word or a sign.
-#[derive(Clone, Copy, Debug, PartialEq, Eq)]
+#[derive(Clone, Copy, PartialEq, Eq)]
 pub enum Symbol {
     All,
     And,
@@ -39,7 +39,7 @@ pub enum Symbol {
     GreaterEqual,
 }
 
-#[derive(Debug, Drop)]
+#[derive(Drop)]
 pub enum Lexeme {
     Fixed(Symbol),
     /// In lower case.
@@ -50,7 +50,7 @@ pub enum Lexeme {
 }
 
 /// A token and its place in bytes from 0.
-#[derive(Debug, Drop)]
+#[derive(Drop)]
 pub struct Token {
     pub place: usize,
     pub lexeme: Lexeme,

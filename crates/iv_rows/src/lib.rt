@@ -10,6 +10,3 @@ pub use name::name_ok;
 pub use row::Row;
 pub use schema::{Column, RelId, Schema, columns_ok};
 pub use value::{Kind, Value};
-
-#[cfg(test)]
-mod tests;

@@ -1,15 +1,16 @@
 //! `write_refusal`, `write_fault`: the JSON texts of refusals, and of faults of lines that are no request.
-ghost use Rattle.std.specs.Prelude.{◌≡◌, false, IfOk};
-ghost use Rattle.serde_json.specs.View.{view};
+ghost use Rattle.std.specs.Prelude.{◌≡◌, false, IfOk, OnOk};
+ghost use Rattle.serde_json.specs.Data.{string, put as with_member};
+ghost use Rattle.serde_json.specs.View.{members_view, view};
 ghost use Rattle.serde_json.specs.Written.{has_float};
 ghost use Rattle.iv_machine.specs.Act as machine;
 ghost use Rattle.iv_command.specs.Views.{reason_of, refusal_of};
-ghost use Rattle.iv_request.specs.Values.{privilege_text};
+ghost use Rattle.iv_request.specs.Values.{natural, privilege_text};
 ghost use Rattle.iv_wire.specs.Texts as texts;
 ghost use Rattle.iv_wire.specs.Texts.{check_text, reading_text, binding_text, reason_text, line_text, text_of, fault_text};
 
 use iv_command::{BindWhy, Check, Privilege, Reason, Refusal, Why};
-use serde_json::{Value as Json, json};
+use serde_json::{Map, Value as Json, json, put};
 use std::alloc::{AllocError, Global};
 
 fn privilege_text(privilege: Privilege) -> &'static str
@@ -71,6 +72,30 @@ fn reason_text(why: Reason) -> &'static str
     }
 }
 
+/// Adds a member that is a number.
+fn put_number(
+    alloc: Global,
+    members: &mut Map<String, Json>,
+    key: &str,
+    number: u64,
+) -> Result<(), AllocError>
+    ensures { OnOk result (members_view members.new.entries ≡ with_member key.now (natural number) (members_view members.old.entries)) }
+{
+    put(members, alloc, key, Json::from(number))
+}
+
+/// Adds a member that is a text.
+fn put_text(
+    alloc: Global,
+    members: &mut Map<String, Json>,
+    key: &str,
+    text: &str,
+) -> Result<(), AllocError>
+    ensures { OnOk result (members_view members.new.entries ≡ with_member key.now (string text.now) (members_view members.old.entries)) }
+{
+    put(members, alloc, key, Json::try_from_str(alloc, text)?)
+}
+
 /// A refusal without further keys.
 fn plain_value(alloc: Global, session: u32, number: u64) -> Result<Json, AllocError>
     ensures { IfOk result (λ v. view v ≡ texts.plain_data number session) }
@@ -92,8 +117,12 @@ fn missing_value(
 ) -> Result<Json, AllocError>
     ensures { IfOk result (λ v. view v ≡ texts.refused_data session (machine.missing_privilege privilege rel.now)) }
 {
-    let privilege = privilege_text(privilege);
-    json!(in alloc; {"error": 13, "on": rel, "privilege": privilege, "session": session})
+    let mut members = Map::new(alloc);
+    put_number(alloc, &mut members, "error", 13)?;
+    put_text(alloc, &mut members, "on", rel)?;
+    put_text(alloc, &mut members, "privilege", privilege_text(privilege))?;
+    put_number(alloc, &mut members, "session", session as u64)?;
+    Ok(Json::Object(members))
 }
 
 /// A refusal of an entry.
@@ -111,8 +140,12 @@ fn bad_query_value(
 ) -> Result<Json, AllocError>
     ensures { IfOk result (λ v. view v ≡ texts.refused_data session (machine.bad_query place (reason_of why))) }
 {
-    let why = reason_text(why);
-    json!(in alloc; {"error": 10, "place": place, "session": session, "why": why})
+    let mut members = Map::new(alloc);
+    put_number(alloc, &mut members, "error", 10)?;
+    put_number(alloc, &mut members, "place", place as u64)?;
+    put_number(alloc, &mut members, "session", session as u64)?;
+    put_text(alloc, &mut members, "why", reason_text(why))?;
+    Ok(Json::Object(members))
 }
 
 fn no_permissive_value(
@@ -124,8 +157,13 @@ fn no_permissive_value(
 ) -> Result<Json, AllocError>
     ensures { IfOk result (λ v. view v ≡ texts.refused_data session (machine.no_permissive rel.now check entry)) }
 {
-    let check = check_text(check);
-    json!(in alloc; {"check": check, "entry": entry, "error": 14, "on": rel, "session": session})
+    let mut members = Map::new(alloc);
+    put_text(alloc, &mut members, "check", check_text(check))?;
+    put_number(alloc, &mut members, "entry", entry as u64)?;
+    put_number(alloc, &mut members, "error", 14)?;
+    put_text(alloc, &mut members, "on", rel)?;
+    put_number(alloc, &mut members, "session", session as u64)?;
+    Ok(Json::Object(members))
 }
 
 fn restrictive_value(
@@ -138,8 +176,14 @@ fn restrictive_value(
 ) -> Result<Json, AllocError>
     ensures { IfOk result (λ v. view v ≡ texts.refused_data session (machine.restrictive_failed policy.now rel.now check entry)) }
 {
-    let check = check_text(check);
-    json!(in alloc; {"check": check, "entry": entry, "error": 15, "on": rel, "policy": policy, "session": session})
+    let mut members = Map::new(alloc);
+    put_text(alloc, &mut members, "check", check_text(check))?;
+    put_number(alloc, &mut members, "entry", entry as u64)?;
+    put_number(alloc, &mut members, "error", 15)?;
+    put_text(alloc, &mut members, "on", rel)?;
+    put_text(alloc, &mut members, "policy", policy)?;
+    put_number(alloc, &mut members, "session", session as u64)?;
+    Ok(Json::Object(members))
 }
 
 fn refused_value(alloc: Global, session: u32, refusal: &Refusal) -> Result<Json, AllocError>

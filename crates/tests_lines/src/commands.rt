@@ -52,6 +52,7 @@ fn applied(engine: &mut Engine, command: Command) -> Option<Vec<Line>> {
     if command.well() {
         engine.apply(command).ok()
     } else {
+        drop(command);
         None
     }
 }
@@ -96,7 +97,9 @@ fn told_behind(alloc: Global, engine: &mut Engine, lines: &[(&str, i64)]) -> Res
 /// The same by a new engine.
 fn answered(alloc: Global, lines: &[(&str, i64)]) -> Result<Vec<u8>, Fail> {
     let mut engine = Engine::new(alloc, 1_024)?;
-    told_behind(alloc, &mut engine, lines)
+    let text = told_behind(alloc, &mut engine, lines);
+    drop(engine);
+    text
 }
 
 const SUBSCRIBE: &str = r#"{"do":"subscribe","on":"notes","session":1}"#;
@@ -224,7 +227,9 @@ fn first_run_by(alloc: Global, engine: &mut Engine) -> Result<(Vec<u8>, bool), F
 /// The same by a new engine.
 fn first_run(alloc: Global) -> Result<(Vec<u8>, bool), Fail> {
     let mut engine = Engine::new(alloc, 1_024)?;
-    first_run_by(alloc, &mut engine)
+    let ran = first_run_by(alloc, &mut engine);
+    drop(engine);
+    ran
 }
 
 #[test]
@@ -240,6 +245,7 @@ pub fn fault_of(engine: &mut Engine, command: Command) -> Option<EngineFault> {
     if command.well() {
         engine.apply(command).err()
     } else {
+        drop(command);
         None
     }
 }
@@ -259,7 +265,9 @@ fn answered_to_both(
 fn answered_after_failure(alloc: Global) -> Result<(Option<EngineFault>, Vec<u8>), Fail> {
     let mut engine = Engine::new(alloc, 1_024)?;
     engine.fail();
-    answered_to_both(alloc, &mut engine)
+    let answered = answered_to_both(alloc, &mut engine);
+    drop(engine);
+    answered
 }
 
 #[test]
@@ -275,7 +283,9 @@ fn failed_by_turns(alloc: Global) -> Result<[bool; 2], AllocError> {
     let mut engine = Engine::new(alloc, 1_024)?;
     let before = engine.is_failed();
     engine.fail();
-    Ok([before, engine.is_failed()])
+    let behind = engine.is_failed();
+    drop(engine);
+    Ok([before, behind])
 }
 
 #[test]
@@ -284,11 +294,18 @@ fn an_engine_fails(rt: HostRuntime) -> Result<(), Fail> {
     Ok(())
 }
 
+/// Whether what a session asks keeps the rules on shape.
+fn is_well(session: u32, act: Act) -> bool {
+    let command = Command { session, act };
+    let is_well = command.well();
+    drop(command);
+    is_well
+}
+
 /// Whether a begin keeps the rules on shape.
 fn is_begin(alloc: Global, session: u32, role: &str) -> Result<bool, AllocError> {
     let role = String::from_str(alloc, role)?;
-    let act = Act::Begin { role };
-    Ok(Command { session, act }.well())
+    Ok(is_well(session, Act::Begin { role }))
 }
 
 fn column(alloc: Global, name: &str, kind: Kind) -> Result<Column, AllocError> {
@@ -313,7 +330,7 @@ fn is_table(alloc: Global, name: &str) -> Result<bool, AllocError> {
         owner,
         columns,
     };
-    Ok(Command { session: 1, act }.well())
+    Ok(is_well(1, act))
 }
 
 fn note(alloc: Global, who: &str) -> Result<Row, AllocError> {
@@ -345,24 +362,37 @@ fn add_entries(
 /// Whether a write of so many equal entries does.
 fn is_write(alloc: Global, who: &str, copies: i64, count: u32) -> Result<bool, AllocError> {
     let mut entries = Vec::new(alloc);
-    add_entries(alloc, &mut entries, who, copies, count)?;
-    let act = Act::Write { entries };
-    Ok(Command { session: 1, act }.well())
+    match add_entries(alloc, &mut entries, who, copies, count) {
+        Ok(()) => Ok(is_well(1, Act::Write { entries })),
+        Err(refused) => {
+            drop(entries);
+            Err(refused)
+        }
+    }
 }
 
 #[test]
 fn shapes_are_told(rt: HostRuntime) -> Result<(), Fail> {
     let alloc = rt.alloc();
-    assert!(rt; is_begin(alloc, 1, "admin")?);
-    assert!(rt; !is_begin(alloc, 0, "admin")?);
-    assert!(rt; !is_begin(alloc, 1, "public")?);
-    assert!(rt; is_table(alloc, "notes")?);
-    assert!(rt; !is_table(alloc, "Notes")?);
-    assert!(rt; is_write(alloc, "x", i64::MAX, 1)?);
-    assert!(rt; !is_write(alloc, "x", 0, 1)?);
-    assert!(rt; !is_write(alloc, "\0", 1, 1)?);
-    assert!(rt; is_write(alloc, "x", 1, 1000)?);
-    assert!(rt; !is_write(alloc, "x", 1, 1001)?);
-    assert!(rt; !is_write(alloc, "x", 1, 0)?);
+    for (session, role, wanted) in [
+        (1, "admin", true),
+        (0, "admin", false),
+        (1, "public", false),
+    ] {
+        assert!(rt; is_begin(alloc, session, role)? == wanted);
+    }
+    for (name, wanted) in [("notes", true), ("Notes", false)] {
+        assert!(rt; is_table(alloc, name)? == wanted);
+    }
+    for (who, copies, count, wanted) in [
+        ("x", i64::MAX, 1, true),
+        ("x", 0, 1, false),
+        ("\0", 1, 1, false),
+        ("x", 1, 1000, true),
+        ("x", 1, 1001, false),
+        ("x", 1, 0, false),
+    ] {
+        assert!(rt; is_write(alloc, who, copies, count)? == wanted);
+    }
     Ok(())
 }

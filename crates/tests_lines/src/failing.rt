@@ -218,7 +218,9 @@ fn run_twice_anew(
     written: &mut Vec<u8>,
 ) -> Result<(), AllocError> {
     let mut engine = Engine::new(alloc, 1_024)?;
-    run_twice(alloc, &mut engine, step, fails_at, written)
+    let ran = run_twice(alloc, &mut engine, step, fails_at, written);
+    drop(engine);
+    ran
 }
 
 /// What is written then.
@@ -468,7 +470,9 @@ fn ended_of(alloc: Global, engine: &mut Engine) -> (Ended, u64, usize) {
 fn ended_failed(alloc: Global) -> Result<(Ended, u64, usize), AllocError> {
     let mut engine = Engine::new(alloc, 1_024)?;
     engine.fail();
-    Ok(ended_of(alloc, &mut engine))
+    let ended = ended_of(alloc, &mut engine);
+    drop(engine);
+    Ok(ended)
 }
 
 #[test]

@@ -209,6 +209,7 @@ fn run_the_least(alloc: Global, bytes: &[u8], written: &mut Vec<u8>) -> Result<(
         &mut FromWrite::new(written),
         1_000_000,
     );
+    drop(engine);
     Ok(())
 }
 

@@ -171,7 +171,11 @@ fn run_through(alloc: Global, engine: &mut Engine, example: Example) -> Word {
 /// The same with a new engine.
 fn ran(alloc: Global, example: Example) -> Word {
     match Engine::new(alloc, 1_024) {
-        Ok(mut engine) => run_through(alloc, &mut engine, example),
+        Ok(mut engine) => {
+            let word = run_through(alloc, &mut engine, example);
+            drop(engine);
+            word
+        }
         Err(_) => REFUSED,
     }
 }
@@ -209,13 +213,14 @@ fn revoke_takes_back(rt: HostRuntime) -> Result<(), Fail> {
     tell(&rt, ran(rt.alloc(), REVOKE_TAKES_BACK))
 }
 
+fn add(commands: &mut Vec<Command>, command: Command) -> Result<(), AllocError> {
+    Ok(commands.push(command)?)
+}
+
 /// Adds the commands of the lines.
 fn read_commands(alloc: Global, lines: &str, commands: &mut Vec<Command>) -> Result<(), WireFault> {
     for line in lines.lines() {
-        let command = read_line(alloc, line.as_bytes())?;
-        if commands.push(command).is_err() {
-            return Err(WireFault::Memory);
-        }
+        add(commands, read_line(alloc, line.as_bytes())?)?;
     }
     Ok(())
 }
@@ -251,8 +256,15 @@ fn listed(alloc: Global, engine: &mut Engine, commands: Vec<Command>, answers: [
 /// The same with a new engine.
 fn listed_by_new(alloc: Global, commands: Vec<Command>, answers: [&str; 2]) -> Word {
     match Engine::new(alloc, 1_024) {
-        Ok(mut engine) => listed(alloc, &mut engine, commands, answers),
-        Err(_) => REFUSED,
+        Ok(mut engine) => {
+            let word = listed(alloc, &mut engine, commands, answers);
+            drop(engine);
+            word
+        }
+        Err(_) => {
+            drop(commands);
+            REFUSED
+        }
     }
 }
 

@@ -67,7 +67,9 @@ pub fn ended<R: Source, W: Sink>(
     lines: u32,
 ) -> Result<Ended, AllocError> {
     let mut engine = Engine::new(alloc, ROW_LIMIT)?;
-    Ok(ended_by(alloc, &mut engine, reader, writer, lines))
+    let ended = ended_by(alloc, &mut engine, reader, writer, lines);
+    drop(engine);
+    Ok(ended)
 }
 
 /// How a run over the bytes ends, of which this was written.

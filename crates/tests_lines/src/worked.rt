@@ -173,7 +173,10 @@ fn entry_of(command: &Command) -> Option<(&str, i64)> {
 fn is_read_as(alloc: Global, line: &[u8], session: u32, copies: i64) -> bool {
     match read_line(alloc, line) {
         Ok(command) => {
-            command.session == session && entry_of(&command) == Some(("notes", copies))
+            let is_read = command.session == session
+                && entry_of(&command) == Some(("notes", copies));
+            drop(command);
+            is_read
         }
         Err(_) => false,
     }

@@ -20,7 +20,9 @@ pub fn served(
     let Ok(mut engine) = Engine::new(alloc, 1_024) else {
         return None;
     };
-    Some(serve_on(alloc, &mut engine, listener, connections, lines))
+    let ended = serve_on(alloc, &mut engine, listener, connections, lines);
+    drop(engine);
+    Some(ended)
 }
 
 /// How serving through an engine that has failed ends.
@@ -29,7 +31,9 @@ fn served_by_failed(alloc: Global, listener: &TcpListener) -> Option<Result<(), 
         return None;
     };
     engine.fail();
-    Some(serve_on(alloc, &mut engine, listener, 1, 1))
+    let ended = serve_on(alloc, &mut engine, listener, 1, 1);
+    drop(engine);
+    Some(ended)
 }
 
 /// A client that has sent the bytes and shut its writing side.

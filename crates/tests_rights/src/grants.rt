@@ -2,7 +2,6 @@
 use iv_access::{ADMIN, Access, AccessFault, Missing, Privilege, RoleId};
 use iv_rows::{Kind, RelId};
 use std::alloc::{AllocError, Global};
-use std::test::Fail;
 
 const ANN: RoleId = RoleId(1);
 
@@ -68,12 +67,13 @@ fn found_anew(alloc: Global) -> Result<Found, AccessFault> {
 }
 
 #[test]
-fn finds_by_name_and_by_number(rt: HostRuntime) -> Result<(), Fail> {
-    let (roles, relations, owners) = found_anew(rt.alloc())?;
-    assert_eq!(rt; roles, [Some(ADMIN), Some(BOB), None]);
-    assert_eq!(rt; relations, [Some(MINE), None]);
-    assert_eq!(rt; owners, [true, true, true, true, false, false]);
-    Ok(())
+fn finds_by_name_and_by_number(rt: HostRuntime) {
+    let roles = [Some(ADMIN), Some(BOB), None];
+    let owners = [true, true, true, true, false, false];
+    assert_eq!(rt;
+        found_anew(rt.alloc()),
+        Ok((roles, [Some(MINE), None], owners))
+    );
 }
 
 /// Whether ann and bob may read and insert into mine.
@@ -113,20 +113,15 @@ fn revoked_anew(alloc: Global) -> Result<([[bool; 4]; 5], bool), AccessFault> {
 }
 
 #[test]
-fn a_revoke_takes_from_its_grantee_alone(rt: HostRuntime) -> Result<(), Fail> {
-    let (rights, owns) = revoked_anew(rt.alloc())?;
-    assert_eq!(rt;
-        rights,
-        [
-            [true, true, false, false],
-            [true, true, true, false],
-            [true, true, true, false],
-            [false, true, false, false],
-            [false, true, true, false]
-        ]
-    );
-    assert!(rt; owns);
-    Ok(())
+fn a_revoke_takes_from_its_grantee_alone(rt: HostRuntime) {
+    let rights = [
+        [true, true, false, false],
+        [true, true, true, false],
+        [true, true, true, false],
+        [false, true, false, false],
+        [false, true, true, false],
+    ];
+    assert_eq!(rt; revoked_anew(rt.alloc()), Ok((rights, true)));
 }
 
 /// What ann and admin lack of three needs.
@@ -158,14 +153,12 @@ fn missing_anew(alloc: Global) -> Result<[Option<Missing>; 2], AccessFault> {
 }
 
 #[test]
-fn tells_the_first_that_is_missing(rt: HostRuntime) -> Result<(), Fail> {
-    let missing = missing_anew(rt.alloc())?;
+fn tells_the_first_that_is_missing(rt: HostRuntime) {
     let select = Missing {
         privilege: Privilege::Select,
         rel: NOTES,
     };
-    assert_eq!(rt; missing, [Some(select), None]);
-    Ok(())
+    assert_eq!(rt; missing_anew(rt.alloc()), Ok([Some(select), None]));
 }
 
 /// Adds roles until there are 256.
@@ -210,18 +203,14 @@ fn created_anew(
 }
 
 #[test]
-fn roles_are_refused_in_order(rt: HostRuntime) -> Result<(), Fail> {
-    let (faults, found) = created_anew(rt.alloc())?;
-    assert_eq!(rt;
-        faults,
-        [
-            Some(AccessFault::NotAdmin),
-            Some(AccessFault::Taken),
-            Some(AccessFault::TooMany)
-        ]
-    );
-    assert_eq!(rt; found, [Some(ANN), Some(RoleId(255)), None]);
-    Ok(())
+fn roles_are_refused_in_order(rt: HostRuntime) {
+    let faults = [
+        Some(AccessFault::NotAdmin),
+        Some(AccessFault::Taken),
+        Some(AccessFault::TooMany),
+    ];
+    let found = [Some(ANN), Some(RoleId(255)), None];
+    assert_eq!(rt; created_anew(rt.alloc()), Ok((faults, found)));
 }
 
 /// Adds views until there are 64.
@@ -270,20 +259,15 @@ fn added_anew(
 }
 
 #[test]
-fn relations_are_refused_in_order(rt: HostRuntime) -> Result<(), Fail> {
-    let (faults, found, table) = added_anew(rt.alloc())?;
-    assert_eq!(rt;
-        faults,
-        [
-            Some(AccessFault::NotAdmin),
-            Some(AccessFault::Role),
-            Some(AccessFault::Taken),
-            Some(AccessFault::TooMany)
-        ]
-    );
-    assert_eq!(rt; found, [Some(NOTES), None]);
-    assert_eq!(rt; table, RelId(65));
-    Ok(())
+fn relations_are_refused_in_order(rt: HostRuntime) {
+    let faults = [
+        Some(AccessFault::NotAdmin),
+        Some(AccessFault::Role),
+        Some(AccessFault::Taken),
+        Some(AccessFault::TooMany),
+    ];
+    let found = [Some(NOTES), None];
+    assert_eq!(rt; added_anew(rt.alloc()), Ok((faults, found, RelId(65))));
 }
 
 /// The faults of grants and revokes: bob does not own mine, and carl is no role.
@@ -315,18 +299,14 @@ fn granted_anew(alloc: Global) -> Result<([Option<AccessFault>; 5], [[bool; 4]; 
 }
 
 #[test]
-fn grants_and_revokes_are_refused_in_order(rt: HostRuntime) -> Result<(), Fail> {
-    let (faults, [before, after]) = granted_anew(rt.alloc())?;
-    assert_eq!(rt;
-        faults,
-        [
-            Some(AccessFault::NotOwner),
-            Some(AccessFault::Role),
-            Some(AccessFault::NotOwner),
-            Some(AccessFault::Role),
-            Some(AccessFault::NotOwner)
-        ]
-    );
-    assert_eq!(rt; before, after);
-    Ok(())
+fn grants_and_revokes_are_refused_in_order(rt: HostRuntime) {
+    let faults = [
+        Some(AccessFault::NotOwner),
+        Some(AccessFault::Role),
+        Some(AccessFault::NotOwner),
+        Some(AccessFault::Role),
+        Some(AccessFault::NotOwner),
+    ];
+    let same = [[true, true, false, false]; 2];
+    assert_eq!(rt; granted_anew(rt.alloc()), Ok((faults, same)));
 }

@@ -2,7 +2,6 @@
 use iv_access::{ADMIN, Access, AccessFault, Privilege, RoleId};
 use iv_rows::{Kind, RelId};
 use std::alloc::{AllocError, Global};
-use std::test::Fail;
 
 const ANN: RoleId = RoleId(1);
 
@@ -91,18 +90,21 @@ fn seen_anew(alloc: Global) -> Result<[([[bool; 4]; 4], [bool; 2]); 2], AccessFa
 }
 
 #[test]
-fn chains_are_followed(rt: HostRuntime) -> Result<(), Fail> {
-    let [([ann, _, org, _], before), behind] = seen_anew(rt.alloc())?;
-    assert_eq!(rt; ann, [true, false, false, false]);
-    assert_eq!(rt; org, [false, false, true, false]);
-    assert_eq!(rt; before, [false, false]);
-    let ([ann, team, org, admin], after) = behind;
-    assert_eq!(rt; ann, [true, true, true, true]);
-    assert_eq!(rt; team, [false, true, true, false]);
-    assert_eq!(rt; org, [false, false, true, false]);
-    assert_eq!(rt; admin, [false, false, false, false]);
-    assert_eq!(rt; after, [true, true]);
-    Ok(())
+fn chains_are_followed(rt: HostRuntime) {
+    let alone = [
+        [true, false, false, false],
+        [false, true, false, false],
+        [false, false, true, false],
+        [false; 4],
+    ];
+    let joined = [
+        [true; 4],
+        [false, true, true, false],
+        [false, false, true, false],
+        [false; 4],
+    ];
+    let want = [(alone, [false, false]), (joined, [true, true])];
+    assert_eq!(rt; seen_anew(rt.alloc()), Ok(want));
 }
 
 /// What ann has after team, and then crew too, ceases to be a member of org.
@@ -138,12 +140,12 @@ fn left_anew(alloc: Global) -> Result<([[bool; 2]; 2], [[bool; 4]; 2]), AccessFa
 }
 
 #[test]
-fn the_last_chain_counts(rt: HostRuntime) -> Result<(), Fail> {
-    let (parted, [left, same]) = left_anew(rt.alloc())?;
-    assert_eq!(rt; parted, [[true, true], [false, false]]);
-    assert_eq!(rt; left, [true, true, false, true]);
-    assert_eq!(rt; same, left);
-    Ok(())
+fn the_last_chain_counts(rt: HostRuntime) {
+    let left = [[true, true, false, true]; 2];
+    assert_eq!(rt;
+        left_anew(rt.alloc()),
+        Ok(([[true, true], [false, false]], left))
+    );
 }
 
 /// The faults of the two calls: eve is no role, and org would be a member of itself.
@@ -175,24 +177,17 @@ fn refused_anew(alloc: Global) -> Result<([Option<AccessFault>; 6], [[bool; 4]; 
 }
 
 #[test]
-fn memberships_are_refused_in_order(rt: HostRuntime) -> Result<(), Fail> {
-    let (faults, after) = refused_anew(rt.alloc())?;
-    assert_eq!(rt;
-        faults,
-        [
-            Some(AccessFault::NotAdmin),
-            Some(AccessFault::Role),
-            Some(AccessFault::Loop),
-            Some(AccessFault::Loop),
-            Some(AccessFault::NotAdmin),
-            Some(AccessFault::Role)
-        ]
-    );
-    assert_eq!(rt;
-        after,
-        [[true, true, true, true], [false, false, true, false]]
-    );
-    Ok(())
+fn memberships_are_refused_in_order(rt: HostRuntime) {
+    let faults = [
+        Some(AccessFault::NotAdmin),
+        Some(AccessFault::Role),
+        Some(AccessFault::Loop),
+        Some(AccessFault::Loop),
+        Some(AccessFault::NotAdmin),
+        Some(AccessFault::Role),
+    ];
+    let after = [[true, true, true, true], [false, false, true, false]];
+    assert_eq!(rt; refused_anew(rt.alloc()), Ok((faults, after)));
 }
 
 /// Adds 255 roles, r1 to r255.
@@ -253,10 +248,9 @@ fn halved_anew(alloc: Global) -> Result<([bool; 4], Option<AccessFault>, [bool; 
 }
 
 #[test]
-fn chains_of_all_roles_are_followed(rt: HostRuntime) -> Result<(), Fail> {
-    let (whole, looped, halves) = halved_anew(rt.alloc())?;
-    assert_eq!(rt; whole, [true, false, true, true]);
-    assert_eq!(rt; looped, Some(AccessFault::Loop));
-    assert_eq!(rt; halves, [false, false, true, true]);
-    Ok(())
+fn chains_of_all_roles_are_followed(rt: HostRuntime) {
+    let whole = [true, false, true, true];
+    let halves = [false, false, true, true];
+    let looped = Some(AccessFault::Loop);
+    assert_eq!(rt; halved_anew(rt.alloc()), Ok((whole, looped, halves)));
 }

@@ -8,7 +8,6 @@ use iv_access::{
 use iv_algebra::{Comparison, Operand, Pred};
 use iv_rows::{Kind, RelId, Row, Value};
 use std::alloc::{AllocError, Global};
-use std::test::Fail;
 
 const ANN: RoleId = RoleId(1);
 
@@ -64,8 +63,8 @@ fn grantees(alloc: Global, to: Option<&str>) -> Result<Vec<Option<String>>, Allo
 /// The policy that is wanted.
 fn policy(alloc: Global, wanted: Wanted) -> Result<NewPolicy, AllocError> {
     let limit = if wanted.restrictive { 100 } else { 1000 };
-    let to = grantees(alloc, wanted.to)?;
     let name = String::from_str(alloc, wanted.name)?;
+    let to = grantees(alloc, wanted.to)?;
     Ok(NewPolicy {
         name,
         restrictive: wanted.restrictive,
@@ -96,6 +95,7 @@ fn create(access: &mut Access, alloc: Global, wanted: Wanted) -> Result<bool, Al
 {
     let policy = policy(alloc, wanted)?;
     if !is_taken(access, &policy) {
+        drop(policy);
         return Ok(false);
     }
     access.create_policy(NOTES, policy)?;
@@ -147,14 +147,12 @@ fn switched_anew(alloc: Global) -> Result<[[Verdict; 3]; 3], AccessFault> {
 }
 
 #[test]
-fn force_is_for_the_owner_alone(rt: HostRuntime) -> Result<(), Fail> {
-    let said = switched_anew(rt.alloc());
+fn force_is_for_the_owner_alone(rt: HostRuntime) {
     let (pass, fail) = (Verdict::Pass, Verdict::NoPermissive);
     assert_eq!(rt;
-        said,
+        switched_anew(rt.alloc()),
         Ok([[fail, pass, fail], [pass, pass, fail], [pass, pass, pass]])
     );
-    Ok(())
 }
 
 /// Adds a permissive policy and two restrictive ones, the first by name last.
@@ -217,18 +215,14 @@ fn restricted_anew(
 }
 
 #[test]
-fn the_first_restrictive_by_name_is_told(rt: HostRuntime) -> Result<(), Fail> {
-    let (said, left) = restricted_anew(rt.alloc())?;
-    assert_eq!(rt;
-        said,
-        [
-            Verdict::Restrictive(1),
-            Verdict::NoPermissive,
-            Verdict::Restrictive(1)
-        ]
-    );
-    assert_eq!(rt; left, ([Some(0), None, Some(1)], [false, true]));
-    Ok(())
+fn the_first_restrictive_by_name_is_told(rt: HostRuntime) {
+    let said = [
+        Verdict::Restrictive(1),
+        Verdict::NoPermissive,
+        Verdict::Restrictive(1),
+    ];
+    let left = ([Some(0), None, Some(1)], [false, true]);
+    assert_eq!(rt; restricted_anew(rt.alloc()), Ok((said, left)));
 }
 
 /// Where the policies stand by name, in whatever order they came.
@@ -247,10 +241,9 @@ fn ordered_anew(alloc: Global) -> Result<([Option<usize>; 3], [bool; 2]), Access
 }
 
 #[test]
-fn policies_stand_by_name(rt: HostRuntime) -> Result<(), Fail> {
-    let places = ordered_anew(rt.alloc());
-    assert_eq!(rt; places, Ok(([Some(0), Some(1), Some(2)], [true, false])));
-    Ok(())
+fn policies_stand_by_name(rt: HostRuntime) {
+    let places = ([Some(0), Some(1), Some(2)], [true, false]);
+    assert_eq!(rt; ordered_anew(rt.alloc()), Ok(places));
 }
 
 /// Whether the role sees a number by its filter, and whether the test of those that are read passes.
@@ -285,11 +278,9 @@ fn compared_anew(alloc: Global) -> Result<[[bool; 2]; 6], AccessFault> {
 }
 
 #[test]
-fn filters_let_through_what_the_test_passes(rt: HostRuntime) -> Result<(), Fail> {
-    let seen = compared_anew(rt.alloc());
+fn filters_let_through_what_the_test_passes(rt: HostRuntime) {
     let (yes, no) = ([true, true], [false, false]);
-    assert_eq!(rt; seen, Ok([no, yes, no, no, yes, yes]));
-    Ok(())
+    assert_eq!(rt; compared_anew(rt.alloc()), Ok([no, yes, no, no, yes, yes]));
 }
 
 /// What is said of each test of 1 with a policy for the command that goes to bob: of his, and of ann's.
@@ -345,27 +336,17 @@ fn covered(alloc: Global, command: PolicyCommand) -> Result<[[bool; 5]; 2], Acce
 }
 
 #[test]
-fn policies_are_for_their_command_and_their_roles(rt: HostRuntime) -> Result<(), Fail> {
-    let alloc = rt.alloc();
-    let none = [false; 5];
-    assert_eq!(rt; covered(alloc, PolicyCommand::All), Ok([[true; 5], none]));
-    assert_eq!(rt;
-        covered(alloc, PolicyCommand::Select),
-        Ok([[true, false, false, false, false], none])
-    );
-    assert_eq!(rt;
-        covered(alloc, PolicyCommand::Insert),
-        Ok([[false, true, false, false, false], none])
-    );
-    assert_eq!(rt;
-        covered(alloc, PolicyCommand::Update),
-        Ok([[false, false, true, true, false], none])
-    );
-    assert_eq!(rt;
-        covered(alloc, PolicyCommand::Delete),
-        Ok([[false, false, false, false, true], none])
-    );
-    Ok(())
+fn policies_are_for_their_command_and_their_roles(rt: HostRuntime) {
+    let cases = [
+        (PolicyCommand::All, [true; 5]),
+        (PolicyCommand::Select, [true, false, false, false, false]),
+        (PolicyCommand::Insert, [false, true, false, false, false]),
+        (PolicyCommand::Update, [false, false, true, true, false]),
+        (PolicyCommand::Delete, [false, false, false, false, true]),
+    ];
+    for (command, bob) in cases {
+        assert_eq!(rt; covered(rt.alloc(), command), Ok([bob, [false; 5]]));
+    }
 }
 
 /// Adds policies until the table has 32.
@@ -407,10 +388,8 @@ fn few_taken_anew(alloc: Global) -> Result<[bool; 3], AccessFault> {
 }
 
 #[test]
-fn policies_come_by_new_names_to_known_roles(rt: HostRuntime) -> Result<(), Fail> {
-    let taken = few_taken_anew(rt.alloc());
-    assert_eq!(rt; taken, Ok([false, false, true]));
-    Ok(())
+fn policies_come_by_new_names_to_known_roles(rt: HostRuntime) {
+    assert_eq!(rt; few_taken_anew(rt.alloc()), Ok([false, false, true]));
 }
 
 /// Whether a table that has 32 policies takes another, how many it has, and where the other stands.
@@ -440,10 +419,8 @@ fn one_more_anew(alloc: Global) -> Result<((bool, usize, Option<usize>), bool), 
 }
 
 #[test]
-fn a_table_has_32_policies(rt: HostRuntime) -> Result<(), Fail> {
-    let more = one_more_anew(rt.alloc());
-    assert_eq!(rt; more, Ok(((false, 32, None), true)));
-    Ok(())
+fn a_table_has_32_policies(rt: HostRuntime) {
+    assert_eq!(rt; one_more_anew(rt.alloc()), Ok(((false, 32, None), true)));
 }
 
 /// Where the policies stand after one is dropped that is not there, and what they say of 200.
@@ -464,9 +441,10 @@ fn left_anew(alloc: Global) -> Result<(([Option<usize>; 3], [bool; 2]), Verdict)
 }
 
 #[test]
-fn a_policy_that_is_not_there_is_not_missed(rt: HostRuntime) -> Result<(), Fail> {
-    let (places, said) = left_anew(rt.alloc())?;
-    assert_eq!(rt; places, ([Some(0), Some(1), Some(2)], [true, false]));
-    assert_eq!(rt; said, Verdict::Restrictive(1));
-    Ok(())
+fn a_policy_that_is_not_there_is_not_missed(rt: HostRuntime) {
+    let places = ([Some(0), Some(1), Some(2)], [true, false]);
+    assert_eq!(rt;
+        left_anew(rt.alloc()),
+        Ok((places, Verdict::Restrictive(1)))
+    );
 }

@@ -35,11 +35,17 @@ fn columns(alloc: Global) -> Result<Vec<Column>, AllocError> {
 fn no_notes(alloc: Global) -> Result<Tables, Fail> {
     let columns = columns(alloc)?;
     if !columns_ok(&columns) {
+        drop(columns);
         return Err(Fail::from("columns of no table"));
     }
     let mut tables = Tables::new(alloc);
-    tables.add_table(NOTES, Schema::new(columns))?;
-    Ok(tables)
+    match tables.add_table(NOTES, Schema::new(columns)) {
+        Ok(()) => Ok(tables),
+        Err(fault) => {
+            drop(tables);
+            Err(Fail::from(fault))
+        }
+    }
 }
 
 fn weight(rows: &ZSet, row: &Row) -> i64
@@ -55,6 +61,7 @@ fn put(tables: &mut Tables, row: Row, copies: i64) -> Option<Result<(), ZFault>>
     {
         Some(tables.change(NOTES, row, copies, &mut Meter::new()))
     } else {
+        drop(row);
         None
     }
 }
@@ -324,10 +331,48 @@ fn is_limit(alloc: Global, asked: Asked, notes: &[(&str, i64, i64)]) -> Result<b
     Ok(outcome(alloc, asked, notes, &[])?.is_none())
 }
 
+/// A note, and its copies.
+type Note = (&'static str, i64, i64);
+
 #[test]
-fn a_sum_is_too_large(rt: HostRuntime) -> Result<(), Fail> {
-    let asked = Asked::ByK(Agg::Sum(1));
-    assert!(rt; is_limit(rt.alloc(), asked, &[("k", 2, HALF)])?);
+fn plans_over_three_notes(rt: HostRuntime) -> Result<(), Fail> {
+    let cases: [(&str, Asked, &[Note]); 8] = [
+        (
+            "sums",
+            Asked::ByK(Agg::Sum(1)),
+            &[("a", 7, 1), ("b", 15, 1)],
+        ),
+        (
+            "counts",
+            Asked::ByK(Agg::Count),
+            &[("a", 3, 1), ("b", 3, 1)],
+        ),
+        (
+            "scan",
+            Asked::Scan(NOTES),
+            &[("a", 1, 2), ("a", 5, 1), ("b", 5, 3)],
+        ),
+        ("filter", Asked::Above, &[("a", 5, 1), ("b", 5, 3)]),
+        (
+            "join and project",
+            Asked::OfPairs(0, 3),
+            &[("a", 1, 6), ("a", 5, 3), ("b", 5, 9)],
+        ),
+        (
+            "union",
+            Asked::Twice,
+            &[("a", 1, 4), ("a", 5, 2), ("b", 5, 6)],
+        ),
+        (
+            "distinct",
+            Asked::OnceOfTwice,
+            &[("a", 1, 1), ("a", 5, 1), ("b", 5, 1)],
+        ),
+        ("except", Asked::TwiceLessAbove, &[("a", 1, 1)]),
+    ];
+    for (name, asked, want) in cases {
+        assert!(rt; gives(rt.alloc(), asked, want)?, "{name}");
+    }
     Ok(())
 }
 
@@ -340,27 +385,6 @@ fn the_least_sum(rt: HostRuntime) -> Result<(), Fail> {
 }
 
 #[test]
-fn a_share_is_too_large(rt: HostRuntime) -> Result<(), Fail> {
-    let asked = Asked::ByK(Agg::Sum(1));
-    assert!(rt; is_limit(rt.alloc(), asked, &[("k", 2, HALF), ("k", -4, 1)])?);
-    Ok(())
-}
-
-#[test]
-fn sums_with_copies(rt: HostRuntime) -> Result<(), Fail> {
-    let asked = Asked::ByK(Agg::Sum(1));
-    assert!(rt; gives(rt.alloc(), asked, &[("a", 7, 1), ("b", 15, 1)])?);
-    Ok(())
-}
-
-#[test]
-fn counts_of_copies(rt: HostRuntime) -> Result<(), Fail> {
-    let asked = Asked::ByK(Agg::Count);
-    assert!(rt; gives(rt.alloc(), asked, &[("a", 3, 1), ("b", 3, 1)])?);
-    Ok(())
-}
-
-#[test]
 fn no_rows_have_no_group(rt: HostRuntime) -> Result<(), Fail> {
     let asked = Asked::ByK(Agg::Count);
     assert!(rt; gives_over(rt.alloc(), asked, &[], &[])?);
@@ -368,61 +392,18 @@ fn no_rows_have_no_group(rt: HostRuntime) -> Result<(), Fail> {
 }
 
 #[test]
-fn scans(rt: HostRuntime) -> Result<(), Fail> {
-    let want = [("a", 1, 2), ("a", 5, 1), ("b", 5, 3)];
-    assert!(rt; gives(rt.alloc(), Asked::Scan(NOTES), &want)?);
-    Ok(())
-}
-
-#[test]
-fn filters(rt: HostRuntime) -> Result<(), Fail> {
-    let want = [("a", 5, 1), ("b", 5, 3)];
-    assert!(rt; gives(rt.alloc(), Asked::Above, &want)?);
-    Ok(())
-}
-
-#[test]
-fn joins_and_projects(rt: HostRuntime) -> Result<(), Fail> {
-    let want = [("a", 1, 6), ("a", 5, 3), ("b", 5, 9)];
-    assert!(rt; gives(rt.alloc(), Asked::OfPairs(0, 3), &want)?);
-    Ok(())
-}
-
-#[test]
-fn appends(rt: HostRuntime) -> Result<(), Fail> {
-    let want = [("a", 1, 4), ("a", 5, 2), ("b", 5, 6)];
-    assert!(rt; gives(rt.alloc(), Asked::Twice, &want)?);
-    Ok(())
-}
-
-#[test]
-fn each_row_once(rt: HostRuntime) -> Result<(), Fail> {
-    let want = [("a", 1, 1), ("a", 5, 1), ("b", 5, 1)];
-    assert!(rt; gives(rt.alloc(), Asked::OnceOfTwice, &want)?);
-    Ok(())
-}
-
-#[test]
-fn rows_on_the_left_alone(rt: HostRuntime) -> Result<(), Fail> {
-    assert!(rt; gives(rt.alloc(), Asked::TwiceLessAbove, &[("a", 1, 1)])?);
-    Ok(())
-}
-
-#[test]
-fn too_many_copies_below_distinct(rt: HostRuntime) -> Result<(), Fail> {
-    assert!(rt; is_limit(rt.alloc(), Asked::OnceOfTwice, &[("a", 1, HALF)])?);
-    Ok(())
-}
-
-#[test]
-fn too_many_copies_below_except(rt: HostRuntime) -> Result<(), Fail> {
-    assert!(rt; is_limit(rt.alloc(), Asked::LessTwice, &[("a", 1, HALF)])?);
-    Ok(())
-}
-
-#[test]
-fn too_many_copies_of_a_pair(rt: HostRuntime) -> Result<(), Fail> {
-    assert!(rt; is_limit(rt.alloc(), Asked::Pairs, &[("a", 1, HALF)])?);
+fn sums_and_copies_are_limited(rt: HostRuntime) -> Result<(), Fail> {
+    let sum = Asked::ByK(Agg::Sum(1));
+    let cases: [(&str, Asked, &[Note]); 5] = [
+        ("a sum", sum, &[("k", 2, HALF)]),
+        ("a share", sum, &[("k", 2, HALF), ("k", -4, 1)]),
+        ("below distinct", Asked::OnceOfTwice, &[("a", 1, HALF)]),
+        ("below except", Asked::LessTwice, &[("a", 1, HALF)]),
+        ("of a pair", Asked::Pairs, &[("a", 1, HALF)]),
+    ];
+    for (name, asked, notes) in cases {
+        assert!(rt; is_limit(rt.alloc(), asked, notes)?, "{name}");
+    }
     Ok(())
 }
 
@@ -543,18 +524,22 @@ fn own_fits(kinds: &[Kind]) -> bool {
 }
 
 #[test]
-fn the_user_is_a_text(rt: HostRuntime) -> Result<(), Fail> {
-    assert!(rt; holds(rt.alloc(), Comparison::Equal, "ann")?);
-    assert!(rt; !holds(rt.alloc(), Comparison::Equal, "bob")?);
-    assert!(rt; own_fits(&[Kind::Text, Kind::Int]));
-    assert!(rt; !own_fits(&[Kind::Int]));
-    assert!(rt; !own_fits(&[]));
-    Ok(())
+fn the_user_is_a_text(rt: HostRuntime) {
+    let cases: [(&[Kind], bool); 3] = [
+        (&[Kind::Text, Kind::Int], true),
+        (&[Kind::Int], false),
+        (&[], false),
+    ];
+    for (kinds, want) in cases {
+        assert!(rt; own_fits(kinds) == want);
+    }
 }
 
 #[test]
-fn texts_by_bytes(rt: HostRuntime) -> Result<(), Fail> {
+fn texts_by_bytes(rt: HostRuntime) {
     let cases = [
+        (Comparison::Equal, "ann", true),
+        (Comparison::Equal, "bob", false),
         (Comparison::Less, "ann1", true),
         (Comparison::Greater, "Zoe", true),
         (Comparison::Less, "ann", false),
@@ -563,9 +548,8 @@ fn texts_by_bytes(rt: HostRuntime) -> Result<(), Fail> {
         (Comparison::NotEqual, "ann", false),
     ];
     for (comparison, user, want) in cases {
-        assert_eq!(rt; holds(rt.alloc(), comparison, user)?, want);
+        assert!(rt; holds(rt.alloc(), comparison, user) == Ok(want), "{user}");
     }
-    Ok(())
 }
 
 fn boxed_pred(alloc: Global, pred: Pred) -> Result<Box<Pred>, AllocError> {
@@ -611,13 +595,16 @@ fn made_holds(
     }
 }
 
+/// Whether `both`, `either` and no predicate hold of it.
+fn joined_hold(alloc: Global) -> Result<[bool; 3], AllocError> {
+    let both = made_holds(alloc, both(alloc), "")?;
+    let either = made_holds(alloc, either(alloc), "")?;
+    Ok([both, either, holds_of_ann(alloc, &Pred::False, "")?])
+}
+
 #[test]
-fn predicates_are_joined(rt: HostRuntime) -> Result<(), Fail> {
-    let alloc = rt.alloc();
-    assert!(rt; !made_holds(alloc, both(alloc), "")?);
-    assert!(rt; made_holds(alloc, either(alloc), "")?);
-    assert!(rt; !holds_of_ann(alloc, &Pred::False, "")?);
-    Ok(())
+fn predicates_are_joined(rt: HostRuntime) {
+    assert!(rt; joined_hold(rt.alloc()) == Ok([false, true, false]));
 }
 
 /// Whether a copy of the predicate holds of ann's note.
@@ -635,10 +622,10 @@ fn copied_holds(alloc: Global, user: &str) -> Result<bool, AllocError> {
 }
 
 #[test]
-fn predicates_are_copied(rt: HostRuntime) -> Result<(), Fail> {
-    assert!(rt; copied_holds(rt.alloc(), "ann")?);
-    assert!(rt; !copied_holds(rt.alloc(), "bob")?);
-    Ok(())
+fn predicates_are_copied(rt: HostRuntime) {
+    for (user, want) in [("ann", true), ("bob", false)] {
+        assert!(rt; copied_holds(rt.alloc(), user) == Ok(want), "{user}");
+    }
 }
 
 /// Whether the plan fits the notes.
@@ -654,26 +641,19 @@ fn fits(alloc: Global, asked: Asked) -> Result<bool, Fail> {
 }
 
 #[test]
-fn plans_of_tables_and_columns(rt: HostRuntime) -> Result<(), Fail> {
-    let alloc = rt.alloc();
-    assert!(rt; fits(alloc, Asked::Scan(NOTES))?);
-    assert!(rt; !fits(alloc, Asked::Scan(RelId(4)))?);
-    assert!(rt; !fits(alloc, Asked::Columns(0, 2))?);
-    assert!(rt; fits(alloc, Asked::OfPairs(1, 3))?);
-    Ok(())
-}
-
-#[test]
-fn plans_that_ask_for_the_user(rt: HostRuntime) -> Result<(), Fail> {
-    assert!(rt; !fits(rt.alloc(), Asked::Own)?);
-    Ok(())
-}
-
-#[test]
-fn plans_of_kinds(rt: HostRuntime) -> Result<(), Fail> {
-    let alloc = rt.alloc();
-    assert!(rt; !fits(alloc, Asked::ByK(Agg::Sum(0)))?);
-    assert!(rt; !fits(alloc, Asked::NotesAndPairs)?);
-    assert!(rt; !fits(alloc, Asked::LessTurned)?);
+fn plans_fit_tables_and_kinds(rt: HostRuntime) -> Result<(), Fail> {
+    let cases = [
+        ("notes", Asked::Scan(NOTES), true),
+        ("no table", Asked::Scan(RelId(4)), false),
+        ("no column", Asked::Columns(0, 2), false),
+        ("columns of pairs", Asked::OfPairs(1, 3), true),
+        ("the user", Asked::Own, false),
+        ("a sum of texts", Asked::ByK(Agg::Sum(0)), false),
+        ("other columns", Asked::NotesAndPairs, false),
+        ("other kinds", Asked::LessTurned, false),
+    ];
+    for (name, asked, want) in cases {
+        assert!(rt; fits(rt.alloc(), asked)? == want, "{name}");
+    }
     Ok(())
 }

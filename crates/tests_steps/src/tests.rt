@@ -14,9 +14,10 @@ type Answer = Result<Seen, DeltaFault>;
 
 #[test]
 fn linear_operators(rt: HostRuntime) {
-    assert!(rt; filtered(rt.alloc()) == Ok((1, 0, -1)));
-    assert!(rt; projected(rt.alloc()) == Ok((0, 0, 0)));
-    assert!(rt; signs(rt.alloc()) == Ok((2, 2, 1)));
+    let filtered = filtered(rt.alloc());
+    let projected = projected(rt.alloc());
+    let signs = signs(rt.alloc());
+    assert!(rt; [filtered, projected, signs] == [Ok((1, 0, -1)), Ok((0, 0, 0)), Ok((2, 2, 1))]);
 }
 
 #[test]
@@ -51,10 +52,9 @@ fn sets(rt: HostRuntime) {
 
 #[test]
 fn pairs(rt: HostRuntime) {
-    assert!(rt; joined(rt.alloc(), 2, 1, 3, -1, 6) == Ok((0, 0, 0)));
-    assert!(rt; joined(rt.alloc(), 2, 1, 3, 0, 6) == Ok((1, 3, 3)));
-    let change = 4 - 4_611_686_018_427_387_904;
-    let answer = joined(
+    let both = joined(rt.alloc(), 2, 1, 3, -1, 6);
+    let left = joined(rt.alloc(), 2, 1, 3, 0, 6);
+    let large = joined(
         rt.alloc(),
         1,
         3,
@@ -62,8 +62,7 @@ fn pairs(rt: HostRuntime) {
         -4_611_686_018_427_387_903,
         4_611_686_018_427_387_904,
     );
-    assert!(rt; answer == Ok((1, change, change)));
-    let answer = joined(
+    let larger = joined(
         rt.alloc(),
         1,
         1,
@@ -71,15 +70,33 @@ fn pairs(rt: HostRuntime) {
         0,
         4_611_686_018_427_387_904,
     );
-    assert!(rt; answer == Err(DeltaFault::Limit));
+    let change = 4 - 4_611_686_018_427_387_904;
+    let want: [Answer; 4] = [
+        Ok((0, 0, 0)),
+        Ok((1, 3, 3)),
+        Ok((1, change, change)),
+        Err(DeltaFault::Limit),
+    ];
+    assert!(rt; [both, left, large, larger] == want);
 }
 
 #[test]
 fn indexed_joins(rt: HostRuntime) {
-    assert!(rt; joined_by_key(rt.alloc(), 2, 1, 3, -1, 6) == Ok((0, 0, 0)));
-    assert!(rt; joined_by_key(rt.alloc(), 2, 1, 3, 0, 6) == Ok((1, 3, 3)));
-    assert!(rt; joined_by_key(rt.alloc(), 2, -2, 3, 1, 6) == Ok((1, -6, -6)));
-    assert!(rt; joined_by_key(rt.alloc(), MAX, 0, 1, 1, MAX) == Err(DeltaFault::Limit));
+    let both = joined_by_key(rt.alloc(), 2, 1, 3, -1, 6);
+    let left = joined_by_key(rt.alloc(), 2, 1, 3, 0, 6);
+    let gone = joined_by_key(rt.alloc(), 2, -2, 3, 1, 6);
+    let large = joined_by_key(rt.alloc(), MAX, 0, 1, 1, MAX);
+    let want: [Answer; 4] = [
+        Ok((0, 0, 0)),
+        Ok((1, 3, 3)),
+        Ok((1, -6, -6)),
+        Err(DeltaFault::Limit),
+    ];
+    assert!(rt; [both, left, gone, large] == want);
+}
+
+#[test]
+fn keys_are_emptied(rt: HostRuntime) {
     assert!(rt; emptied_key(rt.alloc()) == Ok((2, 1, 0)));
 }
 
@@ -107,14 +124,22 @@ fn a_key_changes_sides(rt: HostRuntime) {
 
 #[test]
 fn products(rt: HostRuntime) {
-    assert!(rt; multiplied(rt.alloc(), 2, 1, 3, -1, 6) == Ok((0, 0, 0)));
-    assert!(rt; multiplied(rt.alloc(), 2, 1, 3, 0, 6) == Ok((1, 3, 3)));
+    let both = multiplied(rt.alloc(), 2, 1, 3, -1, 6);
+    let left = multiplied(rt.alloc(), 2, 1, 3, 0, 6);
+    assert!(rt; [both, left] == [Ok((0, 0, 0)), Ok((1, 3, 3))]);
 }
 
 #[test]
 fn groups(rt: HostRuntime) {
-    assert!(rt; counted(rt.alloc(), 5, 10, &[10, 2], &[10, 1]) == Ok((2, -1, 1)));
-    assert!(rt; summed(rt.alloc(), 5, 10, 10, 10) == Ok((0, 0, 0)));
-    assert!(rt; replaced(rt.alloc(), MAX, 1) == Ok((2, -1, 1)));
-    assert!(rt; emptied(rt.alloc(), 5) == Ok((1, -1, 0)));
+    let counted = counted(rt.alloc(), 5, 10, &[10, 2], &[10, 1]);
+    let summed = summed(rt.alloc(), 5, 10, 10, 10);
+    let replaced = replaced(rt.alloc(), MAX, 1);
+    let emptied = emptied(rt.alloc(), 5);
+    let want: [Answer; 4] = [
+        Ok((2, -1, 1)),
+        Ok((0, 0, 0)),
+        Ok((2, -1, 1)),
+        Ok((1, -1, 0)),
+    ];
+    assert!(rt; [counted, summed, replaced, emptied] == want);
 }

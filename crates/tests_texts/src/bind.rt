@@ -60,6 +60,7 @@ fn schema(alloc: Global, columns: [(&str, Kind); 2]) -> Result<Schema, Fail> {
         list.push(column(alloc, name, kind)?)?;
     }
     if !columns_ok(&list) {
+        drop(list);
         return Err(Fail::from("columns of no table"));
     }
     Ok(Schema::new(list))
@@ -68,6 +69,7 @@ fn schema(alloc: Global, columns: [(&str, Kind); 2]) -> Result<Schema, Fail> {
 // Adds a table of a new name and number.
 fn add_table(catalog: &mut Catalog, name: &str, rel: RelId, schema: Schema) -> Result<(), Fail> {
     if !catalog.is_new(name, rel) {
+        drop(schema);
         return Err(Fail::from("not new"));
     }
     Ok(catalog.add_table(name, rel, schema)?)
@@ -85,25 +87,38 @@ fn add_view(
         return Err(Fail::from("not new"));
     }
     let tree = read_query(alloc, text)?;
-    let bound = bind(alloc, &tree, catalog)?;
+    let bound = bind(alloc, &tree, catalog);
+    drop(tree);
+    let bound = bound?;
     let needs = bound.needs.len();
     catalog.add_view(name, rel, bound)?;
     Ok(needs)
 }
 
-// The tables and the view of the examples of the protocol.
-fn examples(alloc: Global) -> Result<Catalog, Fail> {
-    let mut catalog = Catalog::new(alloc);
+// Adds the tables and the view of the examples of the protocol.
+fn add_examples(alloc: Global, catalog: &mut Catalog) -> Result<(), Fail> {
     let tables = [
         ("a", 1, [("k", Kind::Int), ("x", Kind::Int)]),
         ("b", 2, [("k", Kind::Int), ("y", Kind::Int)]),
         ("notes", 3, [("id", Kind::Int), ("who", Kind::Text)]),
     ];
     for (name, rel, columns) in tables {
-        add_table(&mut catalog, name, RelId(rel), schema(alloc, columns)?)?;
+        add_table(catalog, name, RelId(rel), schema(alloc, columns)?)?;
     }
-    let _ = add_view(alloc, &mut catalog, "keys", RelId(4), "select k from a")?;
-    Ok(catalog)
+    let _ = add_view(alloc, catalog, "keys", RelId(4), "select k from a")?;
+    Ok(())
+}
+
+// The tables and the view of the examples of the protocol.
+fn examples(alloc: Global) -> Result<Catalog, Fail> {
+    let mut catalog = Catalog::new(alloc);
+    match add_examples(alloc, &mut catalog) {
+        Ok(()) => Ok(catalog),
+        Err(fail) => {
+            drop(catalog);
+            Err(fail)
+        }
+    }
 }
 
 fn kind_name(kind: Kind) -> &'static str {
@@ -170,7 +185,11 @@ fn bind_fault(alloc: Global, fault: BindFault) -> Result<String, Fail> {
 
 fn bound_text(alloc: Global, bound: Result<Bound, BindFault>) -> Result<String, Fail> {
     match bound {
-        Ok(bound) => columns_text(alloc, bound.schema.columns()),
+        Ok(bound) => {
+            let text = columns_text(alloc, bound.schema.columns());
+            drop(bound);
+            text
+        }
         Err(fault) => bind_fault(alloc, fault),
     }
 }
@@ -178,7 +197,11 @@ fn bound_text(alloc: Global, bound: Result<Bound, BindFault>) -> Result<String, 
 // What the protocol says of the query: its columns, or the place and the reason of its fault.
 fn outcome(alloc: Global, catalog: &Catalog, text: &str) -> Result<String, Fail> {
     match read_query(alloc, text) {
-        Ok(tree) => bound_text(alloc, bind(alloc, &tree, catalog)),
+        Ok(tree) => {
+            let bound = bind(alloc, &tree, catalog);
+            drop(tree);
+            bound_text(alloc, bound)
+        }
         Err(fault) => read_fault(alloc, fault),
     }
 }
@@ -205,17 +228,21 @@ fn first_other(
     Ok("")
 }
 
+// The same over the examples.
+fn first_other_of(alloc: Global, lines: &'static str) -> Result<&'static str, Fail> {
+    let catalog = examples(alloc)?;
+    first_other(alloc, &catalog, lines)
+}
+
 #[test]
 fn each_construct_is_bound(rt: HostRuntime) -> Result<(), Fail> {
-    let catalog = examples(rt.alloc())?;
-    assert_eq!(rt; first_other(rt.alloc(), &catalog, CONSTRUCTS)?, "");
+    assert_eq!(rt; first_other_of(rt.alloc(), CONSTRUCTS)?, "");
     Ok(())
 }
 
 #[test]
 fn faults_are_told(rt: HostRuntime) -> Result<(), Fail> {
-    let catalog = examples(rt.alloc())?;
-    assert_eq!(rt; first_other(rt.alloc(), &catalog, FAULTS)?, "");
+    assert_eq!(rt; first_other_of(rt.alloc(), FAULTS)?, "");
     Ok(())
 }
 
@@ -237,12 +264,22 @@ fn add_views(alloc: Global, catalog: &mut Catalog) -> Result<bool, Fail> {
     Ok(true)
 }
 
+// Whether they are added, and the view of twice the sixth has too many nodes.
+fn views_are_limited(alloc: Global, catalog: &mut Catalog) -> Result<[bool; 2], Fail> {
+    let added = add_views(alloc, catalog)?;
+    let line = "select k from v6 union all select k from v6 => 0 too many nodes";
+    Ok([added, is_so(alloc, catalog, line)?])
+}
+
+// The same over the examples.
+fn views_of_examples(alloc: Global) -> Result<[bool; 2], Fail> {
+    let mut catalog = examples(alloc)?;
+    views_are_limited(alloc, &mut catalog)
+}
+
 #[test]
 fn views_of_views(rt: HostRuntime) -> Result<(), Fail> {
-    let mut catalog = examples(rt.alloc())?;
-    assert!(rt; add_views(rt.alloc(), &mut catalog)?);
-    let line = "select k from v6 union all select k from v6 => 0 too many nodes";
-    assert!(rt; is_so(rt.alloc(), &catalog, line)?);
+    assert_eq!(rt; views_of_examples(rt.alloc())?, [true, true]);
     Ok(())
 }
 
@@ -251,40 +288,62 @@ fn needs_of(catalog: &Catalog, rel: RelId) -> Option<usize> {
     Some(catalog.view(rel)?.needs.len())
 }
 
-#[test]
-fn relations_are_found(rt: HostRuntime) -> Result<(), Fail> {
-    let catalog = examples(rt.alloc())?;
-    assert_eq!(rt; needs_of(&catalog, RelId(4)), Some(1));
-    assert_eq!(rt; needs_of(&catalog, RelId(2)), None);
-    assert!(rt; catalog.schema(RelId(4)).is_none());
-    assert!(rt; catalog.schema(RelId(2)).is_some());
-    Ok(())
+// How many relations the view and a table need, and which of them has a schema.
+type Found = ([Option<usize>; 2], [bool; 2]);
+
+fn found(catalog: &Catalog) -> Found {
+    let needs = [needs_of(catalog, RelId(4)), needs_of(catalog, RelId(2))];
+    let view = catalog.schema(RelId(4)).is_some();
+    (needs, [view, catalog.schema(RelId(2)).is_some()])
+}
+
+// Whether these are new: a name and a number, a name that is there, and a number that is there.
+fn are_new(catalog: &Catalog) -> [bool; 3] {
+    [
+        catalog.is_new("c", RelId(5)),
+        catalog.is_new("keys", RelId(5)),
+        catalog.is_new("c", RelId(4)),
+    ]
+}
+
+// Both of the examples.
+fn found_and_new(alloc: Global) -> Result<(Found, [bool; 3]), Fail> {
+    let catalog = examples(alloc)?;
+    Ok((found(&catalog), are_new(&catalog)))
 }
 
 #[test]
-fn names_and_numbers_are_new(rt: HostRuntime) -> Result<(), Fail> {
-    let catalog = examples(rt.alloc())?;
-    assert!(rt; catalog.is_new("c", RelId(5)));
-    assert!(rt; !catalog.is_new("keys", RelId(5)));
-    assert!(rt; !catalog.is_new("c", RelId(4)));
+fn relations_are_found(rt: HostRuntime) -> Result<(), Fail> {
+    let (found, new) = found_and_new(rt.alloc())?;
+    assert_eq!(rt; found, ([Some(1), None], [false, true]));
+    assert_eq!(rt; new, [true, false, false]);
     Ok(())
 }
 
 // Whether the policy is a comparison, or its fault.
 fn policy(alloc: Global, notes: &Schema, text: &str) -> Result<Result<bool, BindFault>, Fail> {
     let tree = read_pred(alloc, text)?;
-    Ok(match bind_pred(alloc, &tree, notes) {
+    let bound = bind_pred(alloc, &tree, notes);
+    drop(tree);
+    Ok(match bound {
         Ok(pred) => Ok(matches!(&pred, Pred::Compare(_, _, _))),
         Err(fault) => Err(fault),
     })
 }
 
+// What two policies of notes are.
+fn policies_of_notes(alloc: Global) -> Result<[Result<bool, BindFault>; 2], Fail> {
+    let notes = schema(alloc, [("id", Kind::Int), ("who", Kind::Text)])?;
+    Ok([
+        policy(alloc, &notes, "who = Current_User")?,
+        policy(alloc, &notes, "1 = 'a'")?,
+    ])
+}
+
 #[test]
 fn policies(rt: HostRuntime) -> Result<(), Fail> {
-    let notes = schema(rt.alloc(), [("id", Kind::Int), ("who", Kind::Text)])?;
-    assert_eq!(rt; policy(rt.alloc(), &notes, "who = Current_User")?, Ok(true));
     let why = BindWhy::KindMismatch;
     let fault = BindFault::At { place: 4, why };
-    assert_eq!(rt; policy(rt.alloc(), &notes, "1 = 'a'")?, Err(fault));
+    assert_eq!(rt; policies_of_notes(rt.alloc())?, [Ok(true), Err(fault)]);
     Ok(())
 }

@@ -87,14 +87,16 @@ fn outcomes_are(alloc: Global, text: &str, outcomes: &str) -> bool {
     first > text.len()
 }
 
+fn is_so(alloc: Global, line: &str) -> bool {
+    match line.split_once(" => ") {
+        Some((text, outcomes)) => outcomes_are(alloc, text, outcomes),
+        None => false,
+    }
+}
+
 #[test]
 fn prefixes(rt: HostRuntime) {
     for line in TABLE.lines() {
-        match line.split_once(" => ") {
-            Some((text, outcomes)) => {
-                assert!(rt; outcomes_are(rt.alloc(), text, outcomes), "{text}");
-            }
-            None => assert!(rt; false, "{line}"),
-        }
+        assert!(rt; is_so(rt.alloc(), line), "{line}");
     }
 }

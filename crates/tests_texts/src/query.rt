@@ -214,20 +214,17 @@ fn repeated_is_read(alloc: Global, part: &str, times: usize, end: &str) -> bool 
 
 #[test]
 fn nesting(rt: HostRuntime) {
-    assert!(rt; repeated_is_read(rt.alloc(), "not ", 32, "true"));
-    assert!(rt; repeated_is(rt.alloc(), "not ", 33, "true", "128 too deep"));
-    assert!(rt; repeated_is(rt.alloc(), "not ", 32, "", "128 unexpected"));
-    assert!(rt;
-        repeated_is(
-            rt.alloc(),
-            "(",
-            32,
-            "true))))))))))))))))))))))))))))))))",
-            "true"
-        )
-    );
-    assert!(rt; repeated_is(rt.alloc(), "(", 33, "true", "32 too deep"));
-    assert!(rt; repeated_is_read(rt.alloc(), "(true) and ", 40, "(true)"));
+    for (part, times, end) in [("not ", 32, "true"), ("(true) and ", 40, "(true)")] {
+        assert!(rt; repeated_is_read(rt.alloc(), part, times, end), "{part}");
+    }
+    for (part, times, end, want) in [
+        ("not ", 33, "true", "128 too deep"),
+        ("not ", 32, "", "128 unexpected"),
+        ("(", 32, "true))))))))))))))))))))))))))))))))", "true"),
+        ("(", 33, "true", "32 too deep"),
+    ] {
+        assert!(rt; repeated_is(rt.alloc(), part, times, end, want), "{want}");
+    }
 }
 
 fn padded_query(alloc: Global, spaces: usize) -> Result<String, AllocError> {
@@ -251,17 +248,23 @@ fn lengths_of_queries(rt: HostRuntime) {
 
 #[test]
 fn lengths(rt: HostRuntime) {
-    // Words of 63 and of 64 bytes.
-    assert!(rt; repeated_is_read(rt.alloc(), "a", 63, " = 1"));
-    assert!(rt; repeated_is(rt.alloc(), "a", 64, " = 1", "0 token"));
-    // A text of 4,096 bytes, and one of 4,097.
-    assert!(rt; repeated_is_read(rt.alloc(), " ", 4091, "x = 1"));
-    assert!(rt; repeated_is(rt.alloc(), " ", 4092, "x = 1", "4096 too long"));
-    assert!(rt; repeated_is(rt.alloc(), "?", 4097, "", "4096 too long"));
-    assert!(rt; repeated_is(rt.alloc(), " ", 4096, "", "4096 unexpected"));
+    // A word of 63 bytes, and a text of 4,096.
+    for (part, times, end) in [("a", 63, " = 1"), (" ", 4091, "x = 1")] {
+        assert!(rt; repeated_is_read(rt.alloc(), part, times, end), "{part}");
+    }
+    // A word of 64 bytes, and texts of 4,097 and of 4,096.
+    for (part, times, end, want) in [
+        ("a", 64, " = 1", "0 token"),
+        (" ", 4092, "x = 1", "4096 too long"),
+        ("?", 4097, "", "4096 too long"),
+        (" ", 4096, "", "4096 unexpected"),
+    ] {
+        assert!(rt; repeated_is(rt.alloc(), part, times, end, want), "{part}");
+    }
     // Values of 1,024 bytes and of 1,025: the first quote stands behind `x = `.
-    assert!(rt; quoted_is_read(rt.alloc(), 1024));
-    assert!(rt; !quoted_is_read(rt.alloc(), 1025));
+    for (times, want) in [(1024, true), (1025, false)] {
+        assert!(rt; quoted_is_read(rt.alloc(), times) == want);
+    }
 }
 
 fn quoted_is_read(alloc: Global, times: usize) -> bool {

@@ -215,28 +215,34 @@ pub enum Kind {
     Policy,
 }
 
-fn shown_query(alloc: Global, text: &str) -> Result<String, AllocError> {
-    let mut out = String::new(alloc);
+fn write_query(alloc: Global, out: &mut String, text: &str) -> Result<(), AllocError> {
     match read_query(alloc, text) {
-        Ok(query) => add_query(alloc, &mut out, &query)?,
-        Err(fault) => add_fault(alloc, &mut out, &fault)?,
+        Ok(query) => {
+            let written = add_query(alloc, out, &query);
+            drop(query);
+            written
+        }
+        Err(fault) => add_fault(alloc, out, &fault),
     }
-    Ok(out)
 }
 
-fn shown_pred(alloc: Global, text: &str) -> Result<String, AllocError> {
-    let mut out = String::new(alloc);
+fn write_pred(alloc: Global, out: &mut String, text: &str) -> Result<(), AllocError> {
     match read_pred(alloc, text) {
-        Ok(tree) => add_pred(alloc, &mut out, &tree.pred)?,
-        Err(fault) => add_fault(alloc, &mut out, &fault)?,
+        Ok(tree) => {
+            let written = add_pred(alloc, out, &tree.pred);
+            drop(tree);
+            written
+        }
+        Err(fault) => add_fault(alloc, out, &fault),
     }
-    Ok(out)
 }
 
 /// What a text is read as, written out with all places.
 pub fn shown(alloc: Global, kind: Kind, text: &str) -> Result<String, AllocError> {
+    let mut out = String::new(alloc);
     match kind {
-        Kind::View => shown_query(alloc, text),
-        Kind::Policy => shown_pred(alloc, text),
+        Kind::View => write_query(alloc, &mut out, text)?,
+        Kind::Policy => write_pred(alloc, &mut out, text)?,
     }
+    Ok(out)
 }

@@ -2,10 +2,10 @@ use Rattle.iv_program.proofs.Endings.{nothing_answered}
 use Rattle.iv_program.proofs.replaying.replay.Goals as goal
 
 pub returns-clause-answers : goal.returns-clause-answers
-returns-clause-answers g c = c.replay_on.ensures.answers c.args.rows c.in-Ok.ensures.start
+returns-clause-answers g c = c.replay_on-ended.ensures.answers c.args.rows c.in-Ok.ensures.start
 
 pub returns-clause-adds_up : goal.returns-clause-adds_up
-returns-clause-adds_up g c = c.replay_on.ensures.adds_up c.args.rows c.in-Ok.ensures.start
+returns-clause-adds_up g c = c.replay_on-ended.ensures.adds_up c.args.rows c.in-Ok.ensures.start
 
 pub returns-in_default-clause-answers : goal.returns-in_default-clause-answers
 returns-in_default-clause-answers g c = nothing_answered c.args.rows c.args.lines _ _ _ c.requires.lines

@@ -1,5 +1,4 @@
 use Rattle.std.proofs.Common.{length, ◌-◌, sym, ◌∙◌}
-use Rattle.std.proofs.lemmas.Result.{err_from_is_err_and}
 use Rattle.iv_query.specs.declared.token.Symbol.TheVariants as symbol
 use Rattle.iv_query.specs.Tokens.{toks, after_symbol}
 use Rattle.iv_query.specs.Trees.{pred_tree, Both, Either}
@@ -10,13 +9,11 @@ use Rattle.iv_query.proofs.predicate.+predicate.Goals as goal
 pub conj-returns-in_default : goal.conj-returns-in_default
 conj-returns-in_default t c = sym c.loop.invariant ∙ is_last (after_symbol symbol.And) (λ _. term_at c.args.dialect c.args.stop c.args.room) Both (length c.in_ok-tree.rest.now - c.loop.counter) (pred_tree c.loop.tree) (toks c.loop.rest.now) (sym c.in_default.ensures)
 
-pub conj-returns-in_err-right : goal.conj-returns-in_err-right
-conj-returns-in_err-right t c =
-    let p = err_from_is_err_and c.from_residual-in_err-right.result c.from_residual-in_err-right.ensures.1 in
-    rw (p.1, p.2) (fails_there (after_symbol symbol.And) (λ _. term_at c.args.dialect c.args.stop c.args.room) Both c.in_err-right.field-0.0 (length c.in_ok-tree.rest.now) c.loop.counter (pred_tree c.loop.tree) (toks c.loop.rest.now) (toks c.in-Some.behind.now) _ c.loop-test.true (sym c.in-Some.ensures) c.in_err-right.ensures c.loop.invariant)
+pub conj-returns-in-Err : goal.conj-returns-in-Err
+conj-returns-in-Err t c = fails_there (after_symbol symbol.And) (λ _. term_at c.args.dialect c.args.stop c.args.room) Both c.in-Err.fault (length c.in_ok-tree.rest.now) c.loop.counter (pred_tree c.loop.tree) (toks c.loop.rest.now) (toks c.in-Some.behind.now) _ c.loop-test.true (sym c.in-Some.ensures) c.in-Err.ensures c.loop.invariant
 
 pub conj-loop-preserved : goal.conj-loop-preserved
-conj-loop-preserved t c = rw (c.in_ok-new.ensures.ok, c.in_ok-new-2.ensures.ok) (goes_on (after_symbol symbol.And) (λ _. term_at c.args.dialect c.args.stop c.args.room) Both (length c.in_ok-tree.rest.now) c.loop.counter (pred_tree c.loop.tree) (toks c.loop.rest.now) (toks c.in-Some.behind.now) (toks c.in_ok-right.behind.now) (pred_tree c.in_ok-right.right) _ c.loop-test.true (sym c.in-Some.ensures) c.in_ok-right.ensures c.loop.invariant)
+conj-loop-preserved t c = rw (c.in_ok-left-in-Ok.ensures.left, c.in_ok-left-in-Ok.ensures.right) (goes_on (after_symbol symbol.And) (λ _. term_at c.args.dialect c.args.stop c.args.room) Both (length c.in_ok-tree.rest.now) c.loop.counter (pred_tree c.loop.tree) (toks c.loop.rest.now) (toks c.in-Some.behind.now) (toks c.in-Ok.behind.now) (pred_tree c.in-Ok.right) _ c.loop-test.true (sym c.in-Some.ensures) c.in-Ok.ensures c.loop.invariant)
 
 pub conj-returns : goal.conj-returns
 conj-returns t c = is_done (after_symbol symbol.And) (λ _. term_at c.args.dialect c.args.stop c.args.room) Both (length c.in_ok-tree.rest.now) c.loop.counter (pred_tree c.loop.tree) (toks c.loop.rest.now) _ c.loop-test.false c.loop.invariant
@@ -24,13 +21,11 @@ conj-returns t c = is_done (after_symbol symbol.And) (λ _. term_at c.args.diale
 pub pred-returns-in_default : goal.pred-returns-in_default
 pred-returns-in_default t c = sym c.loop.invariant ∙ is_last (after_symbol symbol.Or) (λ _. conj_at (term_at c.args.dialect c.args.stop c.args.room)) Either (length c.in_ok-tree.rest.now - c.loop.counter) (pred_tree c.loop.tree) (toks c.loop.rest.now) (sym c.in_default.ensures)
 
-pub pred-returns-in_err-right : goal.pred-returns-in_err-right
-pred-returns-in_err-right t c =
-    let p = err_from_is_err_and c.from_residual-in_err-right.result c.from_residual-in_err-right.ensures.1 in
-    rw (p.1, p.2) (fails_there (after_symbol symbol.Or) (λ _. conj_at (term_at c.args.dialect c.args.stop c.args.room)) Either c.in_err-right.field-0.0 (length c.in_ok-tree.rest.now) c.loop.counter (pred_tree c.loop.tree) (toks c.loop.rest.now) (toks c.in-Some.behind.now) _ c.loop-test.true (sym c.in-Some.ensures) c.in_err-right.ensures c.loop.invariant)
+pub pred-returns-in-Err : goal.pred-returns-in-Err
+pred-returns-in-Err t c = fails_there (after_symbol symbol.Or) (λ _. conj_at (term_at c.args.dialect c.args.stop c.args.room)) Either c.in-Err.fault (length c.in_ok-tree.rest.now) c.loop.counter (pred_tree c.loop.tree) (toks c.loop.rest.now) (toks c.in-Some.behind.now) _ c.loop-test.true (sym c.in-Some.ensures) c.in-Err.ensures c.loop.invariant
 
 pub pred-loop-preserved : goal.pred-loop-preserved
-pred-loop-preserved t c = rw (c.in_ok-new.ensures.ok, c.in_ok-new-2.ensures.ok) (goes_on (after_symbol symbol.Or) (λ _. conj_at (term_at c.args.dialect c.args.stop c.args.room)) Either (length c.in_ok-tree.rest.now) c.loop.counter (pred_tree c.loop.tree) (toks c.loop.rest.now) (toks c.in-Some.behind.now) (toks c.in_ok-right.behind.now) (pred_tree c.in_ok-right.right) _ c.loop-test.true (sym c.in-Some.ensures) c.in_ok-right.ensures c.loop.invariant)
+pred-loop-preserved t c = rw (c.in_ok-left-in-Ok.ensures.left, c.in_ok-left-in-Ok.ensures.right) (goes_on (after_symbol symbol.Or) (λ _. conj_at (term_at c.args.dialect c.args.stop c.args.room)) Either (length c.in_ok-tree.rest.now) c.loop.counter (pred_tree c.loop.tree) (toks c.loop.rest.now) (toks c.in-Some.behind.now) (toks c.in-Ok.behind.now) (pred_tree c.in-Ok.right) _ c.loop-test.true (sym c.in-Some.ensures) c.in-Ok.ensures c.loop.invariant)
 
 pub pred-returns : goal.pred-returns
 pred-returns t c = is_done (after_symbol symbol.Or) (λ _. conj_at (term_at c.args.dialect c.args.stop c.args.room)) Either (length c.in_ok-tree.rest.now) c.loop.counter (pred_tree c.loop.tree) (toks c.loop.rest.now) _ c.loop-test.false c.loop.invariant

@@ -1,5 +1,4 @@
 use Rattle.std.proofs.Common.{◌≡◌, ◌+◌, ◌-◌, ℕ, List, Some, None, true, false, length, sym, ap, refl, subst, ◌∙◌, arith}
-use Rattle.std.proofs.lemmas.Result.{err_from_is_err_and}
 use Rattle.iv_query.specs.Tokens.{Tok, toks}
 use Rattle.iv_query.specs.Trees.{QueryTree, select_tree, query_tree}
 use Rattle.iv_query.specs.Answers.{Fails}
@@ -17,11 +16,10 @@ one_begins ts e = rw (← e) refl
 pub returns-then-not-starts_set_op : goal.returns-then-not-starts_set_op
 returns-then-not-starts_set_op c = sym c.loop.invariant.so_far ∙ is_last at_set_op (λ (q : QueryTree). next_at c.args.stop (8 - sources_of q)) combine (length c.in_ok-first.rest.now - c.loop.counter) (query_tree c.loop.query) (toks c.loop.rest.now) (none_begins (toks c.loop.rest.now) c.if-not-starts_set_op.ensures)
 
-pub returns-in_err-op : goal.returns-in_err-op
-returns-in_err-op c =
-    let p = err_from_is_err_and c.from_residual-in_err-op.result c.from_residual-in_err-op.ensures.1 in
-    rw (p.1, p.2) (fails_there at_set_op (λ (q : QueryTree). next_at c.args.stop (8 - sources_of q)) combine c.in_err-op.field-0.0 (length c.in_ok-first.rest.now) c.loop.counter (query_tree c.loop.query) (toks c.loop.rest.now) (toks c.loop.rest.now) _ c.loop-test.true (one_begins (toks c.loop.rest.now) c.if-not-starts_set_op.ensures)
-    (subst (λ (n : ℕ). Fails c.in_err-op.field-0.0 (next_at c.args.stop n (toks c.loop.rest.now))) c.loop.invariant.counted c.in_err-op.ensures) c.loop.invariant.so_far)
+pub returns-in-Err : goal.returns-in-Err
+returns-in-Err c =
+    fails_there at_set_op (λ (q : QueryTree). next_at c.args.stop (8 - sources_of q)) combine c.in-Err.fault (length c.in_ok-first.rest.now) c.loop.counter (query_tree c.loop.query) (toks c.loop.rest.now) (toks c.loop.rest.now) _ c.loop-test.true (one_begins (toks c.loop.rest.now) c.if-not-starts_set_op.ensures)
+    (subst (λ (n : ℕ). Fails c.in-Err.fault (next_at c.args.stop n (toks c.loop.rest.now))) c.loop.invariant.counted c.in-Err.ensures) c.loop.invariant.so_far
 
 count_down : (left n m k : ℕ) → left ≡ 8 - n → k ≡ left - m → k ≡ 8 - (n + m)
 count_down left n m k e f = omega arith
@@ -29,10 +27,10 @@ count_down left n m k e f = omega arith
 pub loop-preserved : goal.loop-preserved
 loop-preserved c = record {
   so_far =
-      rw c.in_ok-new.ensures.ok
-      (goes_on at_set_op (λ (q : QueryTree). next_at c.args.stop (8 - sources_of q)) combine (length c.in_ok-first.rest.now) c.loop.counter (query_tree c.loop.query) (toks c.loop.rest.now) (toks c.loop.rest.now) (toks c.in_ok-op.behind.now) (NextOf c.in_ok-op.op (select_tree c.in_ok-op.right)) _ c.loop-test.true (one_begins (toks c.loop.rest.now) c.if-not-starts_set_op.ensures)
-      (ap (λ (n : ℕ). next_at c.args.stop n (toks c.loop.rest.now)) (sym c.loop.invariant.counted) ∙ c.in_ok-op.ensures) c.loop.invariant.so_far);
-  counted = rw c.in_ok-new.ensures.ok (count_down c.loop.left (sources_of (query_tree c.loop.query)) (sources_in (select_tree c.in_ok-op.right)) _ c.loop.invariant.counted c.left_behind-left-in-loop.ensures);
+      rw c.in_ok-query-in-Ok.ensures
+      (goes_on at_set_op (λ (q : QueryTree). next_at c.args.stop (8 - sources_of q)) combine (length c.in_ok-first.rest.now) c.loop.counter (query_tree c.loop.query) (toks c.loop.rest.now) (toks c.loop.rest.now) (toks c.in-Ok.behind.now) (NextOf c.in-Ok.op (select_tree c.in-Ok.right)) _ c.loop-test.true (one_begins (toks c.loop.rest.now) c.if-not-starts_set_op.ensures)
+      (ap (λ (n : ℕ). next_at c.args.stop n (toks c.loop.rest.now)) (sym c.loop.invariant.counted) ∙ c.in-Ok.ensures) c.loop.invariant.so_far);
+  counted = rw c.in_ok-query-in-Ok.ensures (count_down c.loop.left (sources_of (query_tree c.loop.query)) (sources_in (select_tree c.in-Ok.right)) _ c.loop.invariant.counted c.left_behind-left-in-Ok.ensures);
 }
 
 pub returns : goal.returns

@@ -4,11 +4,11 @@ use Rattle.iv_access.specs.Access.{grantee_of}
 use Rattle.iv_access.proofs.Lists.{map_map}
 use Rattle.iv_access.proofs.access.Access.stored.Goals as goal
 
-pub returns : goal.returns
-returns c =
+pub returns-in-Ok : goal.returns-in-Ok
+returns-in-Ok c =
     let r = c.args.self.now.rights in
-    let to : map seen c.in_ok-to.to.items ≡ map (grantee_of r) c.args.policy.to =
-    c.in_ok-to.ensures
+    let to : map seen c.in-Ok.to.items ≡ map (grantee_of r) c.args.policy.to =
+    c.in-Ok.ensures
     ∙ ap (map (λ t. grantee_of r (option_map string_bytes t))) c.deref.ensures.value
     ∙ sym (map_map (grantee_of r) (option_map string_bytes) c.policy.inside.to.items)
     ∙ ap (λ p. map (grantee_of r) p.to) c.policy.view_is in

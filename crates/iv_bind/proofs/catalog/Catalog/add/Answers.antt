@@ -5,7 +5,7 @@ use Rattle.iv_bind.specs.Sound.{HeldIsSound}
 use Rattle.iv_bind.proofs.Growing.{relation_push}
 use Rattle.iv_bind.proofs.catalog.Catalog.add.Goals as goal
 
-pub invariant_of-self-2 : goal.invariant_of-self-2
-invariant_of-self-2 c =
+pub invariant_of-self-in-Ok : goal.invariant_of-self-in-Ok
+invariant_of-self-in-Ok c =
     let P : List CatalogEntry → Type 0 = λ es. HeldIsSound es (held_of c.args.held) in
-    relation_push c.self.inside.relations.items c.push.new.self.items (record { name = c.in_ok-name.name; rel = c.args.rel; held = c.args.held }) c.in_ok-push.ensures.items c.self.invariant (subst P (sym c.self.view_is) c.requires)
+    relation_push c.self.inside.relations.items c.push.new.self.items (record { name = c.in-Ok.name; rel = c.args.rel; held = c.args.held }) c.in_ok-push-in-Ok.ensures.items c.self.invariant (subst P (sym c.self.view_is) c.requires)

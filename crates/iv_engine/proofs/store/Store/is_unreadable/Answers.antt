@@ -2,7 +2,7 @@ use Rattle.std.proofs.Common.{◌≡◌, ◌∙◌, ◌<◌, List, ap, get_or, l
 use Rattle.iv_engine.specs.Store.{Store, frame_of}
 use Rattle.iv_readers.specs.Readers.{RoleCircuit}
 use Rattle.iv_engine.specs.Turned.{WasRead}
-use Rattle.iv_database.specs.Database.{select_from}
+use Rattle.iv_access.specs.Privileges.{select_from}
 use Rattle.iv_machine.specs.State.{missing_for}
 use Rattle.iv_engine.proofs.Flagging.{missing_flag}
 use Rattle.iv_readers.proofs.Held.{reader_at}

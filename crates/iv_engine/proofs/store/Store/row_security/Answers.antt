@@ -1,9 +1,6 @@
 use Rattle.std.proofs.Common.{subst, sym}
-use Rattle.std.specs.Prelude.{Err, Ok, string_bytes}
-use Rattle.iv_access.specs.Rights.{Name}
 use Rattle.iv_machine.specs.Act.{row_security}
 use Rattle.iv_database.specs.Database.{IsDatabase}
-use Rattle.iv_database.specs.Owned.{IsGuarded}
 use Rattle.iv_engine.specs.Store.{Store, database_of}
 use Rattle.iv_engine.proofs.Guarding.{guard_steps, guard_stops, guard_waits, security_guards}
 use Rattle.iv_engine.proofs.Stepping.{goes_up}
@@ -14,18 +11,15 @@ row_security-requires c = subst (λ (v : Store). IsDatabase (database_of v)) (sy
 
 pub returns-in_err-table : goal.returns-in_err-table
 returns-in_err-table c =
-    goes_up c.args.self.now c.args.session (row_security (string_bytes c.args.rel) c.args.enable c.args.force) _ c.in_err-table.field-0.0
-    (guard_stops c.args.self.now _ c.row_security.new.self c.args.session (row_security (string_bytes c.args.rel) c.args.enable c.args.force) (string_bytes c.args.rel) c.self.view_is (security_guards c.args.self.now c.args.session (string_bytes c.args.rel) c.args.enable c.args.force) c.requires c.in_err-table.field-0.0
-    (subst (λ (x : Name). IsGuarded c.self.inside.database c.args.session (row_security x c.args.enable c.args.force) x (Err c.in_err-table.field-0.0) c.row_security.new.self) c.as_str.ensures.value c.in_err-table.ensures.guarded))
+    goes_up c.args.self.now c.args.session (row_security c.args.rel.now c.args.enable c.args.force) _ c.in_err-table.field-0.0
+    (guard_stops c.args.self.now _ c.row_security.new.self c.args.session (row_security c.args.rel.now c.args.enable c.args.force) c.args.rel.now c.self.view_is (security_guards c.args.self.now c.args.session c.args.rel.now c.args.enable c.args.force) c.requires c.in_err-table.field-0.0 c.in_err-table.ensures.guarded)
     c.from_residual.result c.from_residual.ensures.1
 
 pub tell_of-requires-clause-waiting : goal.tell_of-requires-clause-waiting
 tell_of-requires-clause-waiting c =
-    guard_waits c.args.self.now _ c.row_security.new.self c.args.session (row_security (string_bytes c.args.rel) c.args.enable c.args.force) (string_bytes c.args.rel) c.self.view_is (security_guards c.args.self.now c.args.session (string_bytes c.args.rel) c.args.enable c.args.force) c.requires c.in_ok-table.table
-    (subst (λ (x : Name). IsGuarded c.self.inside.database c.args.session (row_security x c.args.enable c.args.force) x (Ok c.in_ok-table.table) c.row_security.new.self) c.as_str.ensures.value c.in_ok-table.ensures.guarded)
+    guard_waits c.args.self.now _ c.row_security.new.self c.args.session (row_security c.args.rel.now c.args.enable c.args.force) c.args.rel.now c.self.view_is (security_guards c.args.self.now c.args.session c.args.rel.now c.args.enable c.args.force) c.requires c.in_ok-table.table c.in_ok-table.ensures.guarded
 
 pub returns : goal.returns
 returns c =
-    guard_steps c.args.self.now _ c.row_security.new.self c.args.session (row_security (string_bytes c.args.rel) c.args.enable c.args.force) (string_bytes c.args.rel) c.self.view_is (security_guards c.args.self.now c.args.session (string_bytes c.args.rel) c.args.enable c.args.force) c.requires c.in_ok-table.table
-    (subst (λ (x : Name). IsGuarded c.self.inside.database c.args.session (row_security x c.args.enable c.args.force) x (Ok c.in_ok-table.table) c.row_security.new.self) c.as_str.ensures.value c.in_ok-table.ensures.guarded)
+    guard_steps c.args.self.now _ c.row_security.new.self c.args.session (row_security c.args.rel.now c.args.enable c.args.force) c.args.rel.now c.self.view_is (security_guards c.args.self.now c.args.session c.args.rel.now c.args.enable c.args.force) c.requires c.in_ok-table.table c.in_ok-table.ensures.guarded
     c.tell_of.new.self c.in_ok-answer.answer c.in_ok-answer.ensures

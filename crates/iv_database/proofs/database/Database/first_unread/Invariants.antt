@@ -1,8 +1,0 @@
-use Rattle.std.proofs.Common.{◌≡◌, drop, map}
-use Rattle.iv_access.specs.Privileges.{first_missing}
-use Rattle.iv_database.specs.Database.{select_from}
-use Rattle.iv_database.proofs.database.Database.first_unread.Given as goal
-
--- none so far is missing
-abbrev pub invariant-loop-rel : goal.invariant-loop-rel
-invariant-loop-rel l = first_missing l.self.known.rights l.role.0 (map select_from l.rels) ≡ first_missing l.self.known.rights l.role.0 (map select_from (drop l.rel-index l.rels))
