@@ -11,7 +11,6 @@ ghost use Rattle.iv_bind.specs.Parts.{from_of, out_of, part_of, output_by};
 ghost use Rattle.iv_bind.specs.Binding.{grouped_shape, distinctly, selected, select_bound, combined_plan, combined, query_bound};
 
 use crate::catalog::Catalog;
-use crate::copy::boxed_two;
 use crate::fault::{BindFault, BindWhy};
 use crate::items::{Out, keys, list, ungrouped};
 use crate::predicate::is_same;
@@ -19,7 +18,7 @@ use crate::scope::fault;
 use crate::sources::{From, all_sources, filter, reached_by_two};
 use iv_algebra::{Agg, Plan};
 use iv_query::{Query, Select, SetOp};
-use iv_rows::{Column, RelId};
+use iv_rows::{Column, RelId, boxed_two};
 use std::alloc::{AllocError, Global};
 
 /// How many columns a select may give.

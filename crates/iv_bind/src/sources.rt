@@ -12,13 +12,13 @@ ghost use Rattle.iv_bind.specs.Parts.{from_of};
 ghost use Rattle.iv_bind.specs.Binding.{called, under, source_of, source_bound, sides, pair_bound, pairs_bound, joined_bound, join_bound, from_bound, filter_bound};
 
 use crate::catalog::{Catalog, Held, Relation};
-use crate::copy::{boxed_two, copy_plan};
+use crate::copy::copy_plan;
 use crate::fault::{BindFault, BindWhy};
 use crate::predicate::{is_same, pred};
 use crate::scope::{Named, column, fault, is_used};
 use iv_algebra::Plan;
 use iv_query::{Join, Name, Pair, Pred, Source};
-use iv_rows::{Column, RelId};
+use iv_rows::{Column, RelId, boxed_two};
 use std::alloc::{AllocError, Global};
 
 /// A plan, the columns of its rows, and the relations that it reaches.

@@ -14,8 +14,8 @@ use crate::fault::{Fault, QueryFault};
 use crate::parts::{after, after_op, deep, first_place, need, operand, unexpected};
 use crate::token::{Symbol, Token};
 use crate::tree::{Dialect, Operand, Pred};
-use iv_rows::Value;
-use std::alloc::{AllocError, Global};
+use iv_rows::{Value, boxed_two};
+use std::alloc::Global;
 
 // The truth value that an operand is.
 fn truth_of(operand: &Operand) -> Option<bool>
@@ -55,26 +55,6 @@ fn comparison(
                 Some(truth) => Ok((Pred::Constant(truth), rest)),
                 None => Err(unexpected(rest, stop)),
             }
-        }
-    }
-}
-
-// Two predicates, each in memory of its own.
-fn boxed_two(alloc: Global, left: Pred, right: Pred) -> Result<(Box<Pred>, Box<Pred>), AllocError>
-    ensures left { IfOk result (λ it. it.0.value ≡ left) }
-    ensures right { IfOk result (λ it. it.1.value ≡ right) }
-{
-    match Box::new(alloc, left) {
-        Ok(left) => match Box::new(alloc, right) {
-            Ok(right) => Ok((left, right)),
-            Err(failed) => {
-                drop(left);
-                Err(AllocError::from(failed))
-            }
-        },
-        Err(failed) => {
-            drop(right);
-            Err(AllocError::from(failed))
         }
     }
 }
