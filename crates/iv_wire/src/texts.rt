@@ -1,7 +1,7 @@
 //! `write_refusal`, `write_fault`: the JSON texts of refusals, and of faults of lines that are no request.
 ghost use Rattle.std.specs.Prelude.{◌≡◌, false, IfOk, OnOk};
-ghost use Rattle.serde_json.specs.Data.{string, put as with_member};
-ghost use Rattle.serde_json.specs.View.{members_view, view};
+ghost use Rattle.serde_json.specs.Data.{string, object, no_members, put as with_member};
+ghost use Rattle.serde_json.specs.View.{members_view};
 ghost use Rattle.serde_json.specs.Written.{has_float};
 ghost use Rattle.iv_machine.specs.Act as machine;
 ghost use Rattle.iv_command.specs.Views.{reason_of, refusal_of};
@@ -10,7 +10,7 @@ ghost use Rattle.iv_wire.specs.Texts as texts;
 ghost use Rattle.iv_wire.specs.Texts.{check_text, reading_text, binding_text, reason_text, line_text, text_of, fault_text};
 
 use iv_command::{BindWhy, Check, Privilege, Reason, Refusal, Why};
-use serde_json::{Map, Value as Json, json, put};
+use serde_json::{Map, Value as Json, put};
 use std::alloc::{AllocError, Global};
 
 fn privilege_text(privilege: Privilege) -> &'static str
@@ -96,143 +96,177 @@ fn put_text(
     put(members, alloc, key, Json::try_from_str(alloc, text)?)
 }
 
-/// A refusal without further keys.
-fn plain_value(alloc: Global, session: u32, number: u64) -> Result<Json, AllocError>
-    ensures { IfOk result (λ v. view v ≡ texts.plain_data number session) }
-{
-    json!(in alloc; {"error": number, "session": session})
-}
-
-fn not_owner_value(alloc: Global, session: u32, rel: &str) -> Result<Json, AllocError>
-    ensures { IfOk result (λ v. view v ≡ texts.refused_data session (machine.not_owner rel.now)) }
-{
-    json!(in alloc; {"error": 12, "on": rel, "session": session})
-}
-
-fn missing_value(
+/// Adds the members of a refusal without further keys.
+fn put_plain(
     alloc: Global,
+    members: &mut Map<String, Json>,
+    session: u32,
+    number: u64,
+) -> Result<(), AllocError>
+    requires { members_view members.old.entries ≡ no_members }
+    ensures { OnOk result (object (members_view members.new.entries) ≡ texts.plain_data number session) }
+{
+    put_number(alloc, members, "error", number)?;
+    put_number(alloc, members, "session", session as u64)
+}
+
+fn put_not_owner(
+    alloc: Global,
+    members: &mut Map<String, Json>,
+    session: u32,
+    rel: &str,
+) -> Result<(), AllocError>
+    requires { members_view members.old.entries ≡ no_members }
+    ensures { OnOk result (object (members_view members.new.entries) ≡ texts.refused_data session (machine.not_owner rel.now)) }
+{
+    put_number(alloc, members, "error", 12)?;
+    put_text(alloc, members, "on", rel)?;
+    put_number(alloc, members, "session", session as u64)
+}
+
+fn put_missing(
+    alloc: Global,
+    members: &mut Map<String, Json>,
     session: u32,
     privilege: Privilege,
     rel: &str,
-) -> Result<Json, AllocError>
-    ensures { IfOk result (λ v. view v ≡ texts.refused_data session (machine.missing_privilege privilege rel.now)) }
+) -> Result<(), AllocError>
+    requires { members_view members.old.entries ≡ no_members }
+    ensures { OnOk result (object (members_view members.new.entries) ≡ texts.refused_data session (machine.missing_privilege privilege rel.now)) }
 {
-    let mut members = Map::new(alloc);
-    put_number(alloc, &mut members, "error", 13)?;
-    put_text(alloc, &mut members, "on", rel)?;
-    put_text(alloc, &mut members, "privilege", privilege_text(privilege))?;
-    put_number(alloc, &mut members, "session", session as u64)?;
-    Ok(Json::Object(members))
+    put_number(alloc, members, "error", 13)?;
+    put_text(alloc, members, "on", rel)?;
+    put_text(alloc, members, "privilege", privilege_text(privilege))?;
+    put_number(alloc, members, "session", session as u64)
 }
 
-/// A refusal of an entry.
-fn entry_refused(alloc: Global, session: u32, number: u64, entry: usize) -> Result<Json, AllocError>
-    ensures { IfOk result (λ v. view v ≡ texts.entry_refused number session entry) }
-{
-    json!(in alloc; {"entry": entry, "error": number, "session": session})
-}
-
-fn bad_query_value(
+/// Adds the members of a refusal of an entry.
+fn put_entry_refused(
     alloc: Global,
+    members: &mut Map<String, Json>,
+    session: u32,
+    number: u64,
+    entry: usize,
+) -> Result<(), AllocError>
+    requires { members_view members.old.entries ≡ no_members }
+    ensures { OnOk result (object (members_view members.new.entries) ≡ texts.entry_refused number session entry) }
+{
+    put_number(alloc, members, "entry", entry as u64)?;
+    put_number(alloc, members, "error", number)?;
+    put_number(alloc, members, "session", session as u64)
+}
+
+fn put_bad_query(
+    alloc: Global,
+    members: &mut Map<String, Json>,
     session: u32,
     place: usize,
     why: Reason,
-) -> Result<Json, AllocError>
-    ensures { IfOk result (λ v. view v ≡ texts.refused_data session (machine.bad_query place (reason_of why))) }
+) -> Result<(), AllocError>
+    requires { members_view members.old.entries ≡ no_members }
+    ensures { OnOk result (object (members_view members.new.entries) ≡ texts.refused_data session (machine.bad_query place (reason_of why))) }
 {
-    let mut members = Map::new(alloc);
-    put_number(alloc, &mut members, "error", 10)?;
-    put_number(alloc, &mut members, "place", place as u64)?;
-    put_number(alloc, &mut members, "session", session as u64)?;
-    put_text(alloc, &mut members, "why", reason_text(why))?;
-    Ok(Json::Object(members))
+    put_number(alloc, members, "error", 10)?;
+    put_number(alloc, members, "place", place as u64)?;
+    put_number(alloc, members, "session", session as u64)?;
+    put_text(alloc, members, "why", reason_text(why))
 }
 
-fn no_permissive_value(
+fn put_no_permissive(
     alloc: Global,
+    members: &mut Map<String, Json>,
     session: u32,
     rel: &str,
     check: Check,
     entry: usize,
-) -> Result<Json, AllocError>
-    ensures { IfOk result (λ v. view v ≡ texts.refused_data session (machine.no_permissive rel.now check entry)) }
+) -> Result<(), AllocError>
+    requires { members_view members.old.entries ≡ no_members }
+    ensures { OnOk result (object (members_view members.new.entries) ≡ texts.refused_data session (machine.no_permissive rel.now check entry)) }
 {
-    let mut members = Map::new(alloc);
-    put_text(alloc, &mut members, "check", check_text(check))?;
-    put_number(alloc, &mut members, "entry", entry as u64)?;
-    put_number(alloc, &mut members, "error", 14)?;
-    put_text(alloc, &mut members, "on", rel)?;
-    put_number(alloc, &mut members, "session", session as u64)?;
-    Ok(Json::Object(members))
+    put_text(alloc, members, "check", check_text(check))?;
+    put_number(alloc, members, "entry", entry as u64)?;
+    put_number(alloc, members, "error", 14)?;
+    put_text(alloc, members, "on", rel)?;
+    put_number(alloc, members, "session", session as u64)
 }
 
-fn restrictive_value(
+fn put_restrictive(
     alloc: Global,
+    members: &mut Map<String, Json>,
     session: u32,
     policy: &str,
     rel: &str,
     check: Check,
     entry: usize,
-) -> Result<Json, AllocError>
-    ensures { IfOk result (λ v. view v ≡ texts.refused_data session (machine.restrictive_failed policy.now rel.now check entry)) }
+) -> Result<(), AllocError>
+    requires { members_view members.old.entries ≡ no_members }
+    ensures { OnOk result (object (members_view members.new.entries) ≡ texts.refused_data session (machine.restrictive_failed policy.now rel.now check entry)) }
 {
-    let mut members = Map::new(alloc);
-    put_text(alloc, &mut members, "check", check_text(check))?;
-    put_number(alloc, &mut members, "entry", entry as u64)?;
-    put_number(alloc, &mut members, "error", 15)?;
-    put_text(alloc, &mut members, "on", rel)?;
-    put_text(alloc, &mut members, "policy", policy)?;
-    put_number(alloc, &mut members, "session", session as u64)?;
-    Ok(Json::Object(members))
+    put_text(alloc, members, "check", check_text(check))?;
+    put_number(alloc, members, "entry", entry as u64)?;
+    put_number(alloc, members, "error", 15)?;
+    put_text(alloc, members, "on", rel)?;
+    put_text(alloc, members, "policy", policy)?;
+    put_number(alloc, members, "session", session as u64)
 }
 
-fn refused_value(alloc: Global, session: u32, refusal: &Refusal) -> Result<Json, AllocError>
-    ensures { IfOk result (λ v. view v ≡ texts.refused_data session (refusal_of refusal.now)) }
+fn put_refused(
+    alloc: Global,
+    members: &mut Map<String, Json>,
+    session: u32,
+    refusal: &Refusal,
+) -> Result<(), AllocError>
+    requires { members_view members.old.entries ≡ no_members }
+    ensures { OnOk result (object (members_view members.new.entries) ≡ texts.refused_data session (refusal_of refusal.now)) }
 {
     match refusal {
-        Refusal::NoSession => plain_value(alloc, session, 3),
-        Refusal::SessionInUse => plain_value(alloc, session, 4),
-        Refusal::UnknownRole => plain_value(alloc, session, 5),
-        Refusal::NameTaken => plain_value(alloc, session, 6),
-        Refusal::UnknownRelation => plain_value(alloc, session, 7),
-        Refusal::NotATable => plain_value(alloc, session, 8),
-        Refusal::BadRow { entry } => entry_refused(alloc, session, 9, *entry),
-        Refusal::BadQuery { place, why } => bad_query_value(alloc, session, *place, *why),
-        Refusal::NotAdministrator => plain_value(alloc, session, 11),
-        Refusal::NotOwner { rel } => not_owner_value(alloc, session, rel.as_str()),
+        Refusal::NoSession => put_plain(alloc, members, session, 3),
+        Refusal::SessionInUse => put_plain(alloc, members, session, 4),
+        Refusal::UnknownRole => put_plain(alloc, members, session, 5),
+        Refusal::NameTaken => put_plain(alloc, members, session, 6),
+        Refusal::UnknownRelation => put_plain(alloc, members, session, 7),
+        Refusal::NotATable => put_plain(alloc, members, session, 8),
+        Refusal::BadRow { entry } => put_entry_refused(alloc, members, session, 9, *entry),
+        Refusal::BadQuery { place, why } => put_bad_query(alloc, members, session, *place, *why),
+        Refusal::NotAdministrator => put_plain(alloc, members, session, 11),
+        Refusal::NotOwner { rel } => put_not_owner(alloc, members, session, rel.as_str()),
         Refusal::MissingPrivilege { privilege, rel } => {
-            missing_value(alloc, session, *privilege, rel.as_str())
+            put_missing(alloc, members, session, *privilege, rel.as_str())
         }
         Refusal::NoPermissive { rel, check, entry } => {
-            no_permissive_value(alloc, session, rel.as_str(), *check, *entry)
+            put_no_permissive(alloc, members, session, rel.as_str(), *check, *entry)
         }
         Refusal::RestrictiveFailed {
             policy,
             rel,
             check,
             entry,
-        } => restrictive_value(
+        } => put_restrictive(
             alloc,
+            members,
             session,
             policy.as_str(),
             rel.as_str(),
             *check,
             *entry,
         ),
-        Refusal::NoSuchRow { entry } => entry_refused(alloc, session, 16, *entry),
-        Refusal::Limit => plain_value(alloc, session, 17),
-        Refusal::UnknownPolicy => plain_value(alloc, session, 18),
-        Refusal::UnknownSubscription => plain_value(alloc, session, 19),
-        Refusal::TooMany => plain_value(alloc, session, 20),
-        Refusal::MembershipLoop => plain_value(alloc, session, 23),
+        Refusal::NoSuchRow { entry } => put_entry_refused(alloc, members, session, 16, *entry),
+        Refusal::Limit => put_plain(alloc, members, session, 17),
+        Refusal::UnknownPolicy => put_plain(alloc, members, session, 18),
+        Refusal::UnknownSubscription => put_plain(alloc, members, session, 19),
+        Refusal::TooMany => put_plain(alloc, members, session, 20),
+        Refusal::MembershipLoop => put_plain(alloc, members, session, 23),
     }
 }
 
-/// The compact text of a value, with a newline.
-fn text_of(alloc: Global, value: &Json) -> Result<Vec<u8>, AllocError>
-    ensures { IfOk result (λ text. has_float (view value.now) ≡ false → text.items ≡ text_of (view value.now)) }
+/// The compact text of an object of these members, with a newline.
+fn text_of(alloc: Global, members: Map<String, Json>) -> Result<Vec<u8>, AllocError>
+    ensures { IfOk result (λ text. has_float (object (members_view members.entries)) ≡ false → text.items ≡ text_of (object (members_view members.entries))) }
 {
-    let mut text = value.to_string(alloc)?.into_bytes();
+    let value = Json::Object(members);
+    let text = value.to_string(alloc);
+    drop(value);
+    let mut text = text?.into_bytes();
     text.push(b'\n')?;
     Ok(text)
 }
@@ -241,20 +275,26 @@ fn text_of(alloc: Global, value: &Json) -> Result<Vec<u8>, AllocError>
 pub fn write_refusal(alloc: Global, session: u32, refusal: &Refusal) -> Result<Vec<u8>, AllocError>
     ensures { IfOk result (λ text. text.items ≡ line_text (machine.reply session (machine.refused (refusal_of refusal.now)))) }
 {
-    let value = refused_value(alloc, session, refusal)?;
-    text_of(alloc, &value)
-}
-
-fn fault_value(alloc: Global, number: u64) -> Result<Json, AllocError>
-    ensures { IfOk result (λ v. view v ≡ texts.fault_data number) }
-{
-    json!(in alloc; {"error": number})
+    let mut members = Map::new(alloc);
+    match put_refused(alloc, &mut members, session, refusal) {
+        Ok(()) => text_of(alloc, members),
+        Err(error) => {
+            drop(members);
+            Err(error)
+        }
+    }
 }
 
 /// What a line that is no request is answered.
 pub fn write_fault(alloc: Global, number: u64) -> Result<Vec<u8>, AllocError>
     ensures { IfOk result (λ text. text.items ≡ fault_text number) }
 {
-    let value = fault_value(alloc, number)?;
-    text_of(alloc, &value)
+    let mut members = Map::new(alloc);
+    match put_number(alloc, &mut members, "error", number) {
+        Ok(()) => text_of(alloc, members),
+        Err(error) => {
+            drop(members);
+            Err(error)
+        }
+    }
 }
