@@ -1,2 +1,3 @@
-pub mod Swapping
+pub mod Few
 pub mod Placing
+pub mod Swapping

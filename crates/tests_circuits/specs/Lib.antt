@@ -1,2 +1,5 @@
+pub mod Lines
+pub mod Pairs
+pub mod Signs
 pub mod Swaps
 pub mod Worlds

@@ -1,19 +1,44 @@
-//! Tests of the circuits of iv_circuit.
-//! One counts: a batch over a join in which all left rows of a key go and right rows of it come. One holds whichever
-//! request for memory is refused.
+//! Tests of the public calls of iv_rows, iv_zset, iv_algebra, iv_delta and iv_circuit, from rows to circuits.
+//!
+//! The steps are tried with operators of their own, too, that the laws of iv_delta carry. One test of circuits counts: a batch
+//! over a join in which all left rows of a key go and right rows of it come. One holds whichever request for memory is refused.
 #![tactic(auto)]
 
 #[cfg(test)]
+mod algebra;
+#[cfg(test)]
 mod circuits;
+#[cfg(test)]
+mod index_seeds;
+#[cfg(test)]
+mod indexed;
+#[cfg(test)]
+mod kept;
+#[cfg(test)]
+mod keyed;
+#[cfg(test)]
+mod pairs;
 #[cfg(test)]
 mod plans;
 #[cfg(test)]
+mod positive;
+#[cfg(test)]
+mod product;
+#[cfg(test)]
 mod refused;
+#[cfg(test)]
+mod rows;
 #[cfg(test)]
 mod seeds;
 #[cfg(test)]
+mod sets;
+#[cfg(test)]
+mod singles;
+#[cfg(test)]
+mod steps;
+#[cfg(test)]
 mod swaps;
 #[cfg(test)]
-mod tests;
-#[cfg(test)]
 mod worlds;
+#[cfg(test)]
+mod zset;
