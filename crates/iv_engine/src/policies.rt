@@ -86,8 +86,12 @@ impl Store {
         requires { IsStored self.now }
         ensures { IfOk result (λ pred. IfSome pred (λ p. IsRestricted self.now rel.now name.now (condition_of p))) }
     {
-        let Ok((_, table)) = self.database.acting_on(session, rel) else {
-            return Ok(None);
+        let table = match self.database.acting_on(session, rel) {
+            Ok((_, table)) => table,
+            Err(stop) => {
+                drop(stop);
+                return Ok(None);
+            }
         };
         let Some(pred) = self.database.access().restriction(table, name) else {
             return Ok(None);

@@ -326,7 +326,11 @@ fn policy(alloc: Global, notes: &Schema, text: &str) -> Result<Result<bool, Bind
     let bound = bind_pred(alloc, &tree, notes);
     drop(tree);
     Ok(match bound {
-        Ok(pred) => Ok(matches!(&pred, Pred::Compare(_, _, _))),
+        Ok(pred) => {
+            let compares = matches!(&pred, Pred::Compare(_, _, _));
+            drop(pred);
+            Ok(compares)
+        }
         Err(fault) => Err(fault),
     })
 }

@@ -63,7 +63,9 @@ fn found(access: &mut Access, alloc: Global) -> Result<Found, AccessFault> {
 /// The same in new rights.
 fn found_anew(alloc: Global) -> Result<Found, AccessFault> {
     let mut access = Access::new(alloc)?;
-    found(&mut access, alloc)
+    let seen = found(&mut access, alloc);
+    drop(access);
+    seen
 }
 
 #[test]
@@ -109,7 +111,9 @@ fn revoked(access: &mut Access, alloc: Global) -> Result<([[bool; 4]; 5], bool),
 /// The same in new rights.
 fn revoked_anew(alloc: Global) -> Result<([[bool; 4]; 5], bool), AccessFault> {
     let mut access = Access::new(alloc)?;
-    revoked(&mut access, alloc)
+    let seen = revoked(&mut access, alloc);
+    drop(access);
+    seen
 }
 
 #[test]
@@ -149,7 +153,9 @@ fn missing_at_first(
 /// The same in new rights.
 fn missing_anew(alloc: Global) -> Result<[Option<Missing>; 2], AccessFault> {
     let mut access = Access::new(alloc)?;
-    missing_at_first(&mut access, alloc)
+    let seen = missing_at_first(&mut access, alloc);
+    drop(access);
+    seen
 }
 
 #[test]
@@ -199,7 +205,9 @@ fn created_anew(
     alloc: Global,
 ) -> Result<([Option<AccessFault>; 3], [Option<RoleId>; 3]), AccessFault> {
     let mut access = Access::new(alloc)?;
-    created(&mut access, alloc)
+    let seen = created(&mut access, alloc);
+    drop(access);
+    seen
 }
 
 #[test]
@@ -255,7 +263,9 @@ fn added_anew(
     alloc: Global,
 ) -> Result<([Option<AccessFault>; 4], [Option<RelId>; 2], RelId), AccessFault> {
     let mut access = Access::new(alloc)?;
-    added(&mut access, alloc)
+    let seen = added(&mut access, alloc);
+    drop(access);
+    seen
 }
 
 #[test]
@@ -295,7 +305,9 @@ fn granted(
 /// The same in new rights.
 fn granted_anew(alloc: Global) -> Result<([Option<AccessFault>; 5], [[bool; 4]; 2]), AccessFault> {
     let mut access = Access::new(alloc)?;
-    granted(&mut access, alloc)
+    let seen = granted(&mut access, alloc);
+    drop(access);
+    seen
 }
 
 #[test]

@@ -86,7 +86,9 @@ fn seen_twice(
 /// The same in new rights.
 fn seen_anew(alloc: Global) -> Result<[([[bool; 4]; 4], [bool; 2]); 2], AccessFault> {
     let mut access = Access::new(alloc)?;
-    seen_twice(&mut access, alloc)
+    let seen = seen_twice(&mut access, alloc);
+    drop(access);
+    seen
 }
 
 #[test]
@@ -136,7 +138,9 @@ fn left(
 /// The same of new rights.
 fn left_anew(alloc: Global) -> Result<([[bool; 2]; 2], [[bool; 4]; 2]), AccessFault> {
     let mut access = Access::new(alloc)?;
-    left(&mut access, alloc)
+    let seen = left(&mut access, alloc);
+    drop(access);
+    seen
 }
 
 #[test]
@@ -173,7 +177,9 @@ fn refused(
 /// The same in new rights.
 fn refused_anew(alloc: Global) -> Result<([Option<AccessFault>; 6], [[bool; 4]; 2]), AccessFault> {
     let mut access = Access::new(alloc)?;
-    refused(&mut access, alloc)
+    let seen = refused(&mut access, alloc);
+    drop(access);
+    seen
 }
 
 #[test]
@@ -244,7 +250,9 @@ fn halved(
 /// The same of new rights.
 fn halved_anew(alloc: Global) -> Result<([bool; 4], Option<AccessFault>, [bool; 4]), AccessFault> {
     let mut access = Access::new(alloc)?;
-    halved(&mut access, alloc)
+    let seen = halved(&mut access, alloc);
+    drop(access);
+    seen
 }
 
 #[test]

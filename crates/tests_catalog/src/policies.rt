@@ -143,7 +143,9 @@ fn switched(access: &mut Access, alloc: Global) -> Result<[[Verdict; 3]; 3], Acc
 /// The same in new rights.
 fn switched_anew(alloc: Global) -> Result<[[Verdict; 3]; 3], AccessFault> {
     let mut access = Access::new(alloc)?;
-    switched(&mut access, alloc)
+    let seen = switched(&mut access, alloc);
+    drop(access);
+    seen
 }
 
 #[test]
@@ -211,7 +213,9 @@ fn restricted_anew(
     alloc: Global,
 ) -> Result<([Verdict; 3], ([Option<usize>; 3], [bool; 2])), AccessFault> {
     let mut access = Access::new(alloc)?;
-    restricted_and_left(&mut access, alloc)
+    let seen = restricted_and_left(&mut access, alloc);
+    drop(access);
+    seen
 }
 
 #[test]
@@ -237,7 +241,9 @@ fn ordered(
 /// The same in new rights.
 fn ordered_anew(alloc: Global) -> Result<([Option<usize>; 3], [bool; 2]), AccessFault> {
     let mut access = Access::new(alloc)?;
-    ordered(&mut access, alloc)
+    let seen = ordered(&mut access, alloc);
+    drop(access);
+    seen
 }
 
 #[test]
@@ -274,7 +280,9 @@ fn compared(access: &mut Access, alloc: Global) -> Result<[[bool; 2]; 6], Access
 /// The same in new rights.
 fn compared_anew(alloc: Global) -> Result<[[bool; 2]; 6], AccessFault> {
     let mut access = Access::new(alloc)?;
-    compared(&mut access, alloc)
+    let seen = compared(&mut access, alloc);
+    drop(access);
+    seen
 }
 
 #[test]
@@ -332,7 +340,9 @@ fn of_each_test_anew(
 /// The same in new rights.
 fn covered(alloc: Global, command: PolicyCommand) -> Result<[[bool; 5]; 2], AccessFault> {
     let mut access = Access::new(alloc)?;
-    of_each_test_anew(&mut access, alloc, command)
+    let seen = of_each_test_anew(&mut access, alloc, command);
+    drop(access);
+    seen
 }
 
 #[test]
@@ -384,7 +394,9 @@ fn few_taken(access: &mut Access, alloc: Global) -> Result<[bool; 3], AccessFaul
 /// The same in new rights.
 fn few_taken_anew(alloc: Global) -> Result<[bool; 3], AccessFault> {
     let mut access = Access::new(alloc)?;
-    few_taken(&mut access, alloc)
+    let seen = few_taken(&mut access, alloc);
+    drop(access);
+    seen
 }
 
 #[test]
@@ -415,7 +427,9 @@ fn one_more_seen(
 /// The same in new rights.
 fn one_more_anew(alloc: Global) -> Result<((bool, usize, Option<usize>), bool), AccessFault> {
     let mut access = Access::new(alloc)?;
-    one_more_seen(&mut access, alloc)
+    let seen = one_more_seen(&mut access, alloc);
+    drop(access);
+    seen
 }
 
 #[test]
@@ -437,7 +451,9 @@ fn left(
 /// The same in new rights.
 fn left_anew(alloc: Global) -> Result<(([Option<usize>; 3], [bool; 2]), Verdict), AccessFault> {
     let mut access = Access::new(alloc)?;
-    left(&mut access, alloc)
+    let seen = left(&mut access, alloc);
+    drop(access);
+    seen
 }
 
 #[test]

@@ -202,7 +202,13 @@ fn repeated_is(alloc: Global, part: &str, times: usize, end: &str, want: &str) -
 }
 
 fn pred_is_read(alloc: Global, text: &str) -> bool {
-    read_pred(alloc, text).is_ok()
+    match read_pred(alloc, text) {
+        Ok(tree) => {
+            drop(tree);
+            true
+        }
+        Err(_) => false,
+    }
 }
 
 fn repeated_is_read(alloc: Global, part: &str, times: usize, end: &str) -> bool {
@@ -285,7 +291,13 @@ fn quoted_text(alloc: Global, times: usize) -> Result<String, AllocError> {
 }
 
 fn query_is_read(alloc: Global, text: &str) -> bool {
-    read_query(alloc, text).is_ok()
+    match read_query(alloc, text) {
+        Ok(tree) => {
+            drop(tree);
+            true
+        }
+        Err(_) => false,
+    }
 }
 
 #[test]

@@ -6,5 +6,5 @@ use Rattle.iv_wire.specs.Texts.{text_of}
 use Rattle.iv_wire.proofs.Writing.{plain_refused}
 use Rattle.iv_wire.proofs.texts.write_refusal.Goals as goal
 
-pub returns : goal.returns
-returns c = let e = c.in_ok-value.ensures in IfOk-weaker c.text_of.result _ _ (λ text h. h (ap has_float e ∙ plain_refused c.args.session (refusal_of c.args.refusal.now)) ∙ ap text_of e) c.text_of.ensures
+pub returns-in-Ok : goal.returns-in-Ok
+returns-in-Ok c = let e = c.in-Ok.ensures in IfOk-weaker c.text_of.result _ _ (λ text h. h (ap has_float e ∙ plain_refused c.args.session (refusal_of c.args.refusal.now)) ∙ ap text_of e) c.text_of.ensures
