@@ -149,6 +149,29 @@ fn found(matches: &ArgMatches<'_>) -> Option<Settings>
     }
 }
 
+/// What the words are to the command.
+fn matches<'a>(alloc: Global, words: &'a [&'a str]) -> Result<ArgMatches<'a>, Error> {
+    let mut command = command(alloc)?;
+    let matches = command.try_get_matches_from_mut(words);
+    drop(command);
+    matches
+}
+
+/// The error that a value is not valid, and why.
+fn invalid(alloc: Global, why: &str) -> Error {
+    match command(alloc) {
+        Ok(mut command) => {
+            let error = command.error(ErrorKind::InvalidValue, why);
+            drop(command);
+            match error {
+                Ok(error) => error,
+                Err(refused) => Error::from(refused),
+            }
+        }
+        Err(refused) => Error::from(refused),
+    }
+}
+
 /// Reads the words after the program's name: `replay` with `--lines N` and `--rows N`, or `serve`
 /// with `--port P`, `--connections N`, `--lines N` and `--rows N`. P is from 1 to 65,535 and must be
 /// given; the rows are from 1,024 to 1,048,576, by default 65,536, and each other N from 1 to
@@ -157,11 +180,12 @@ fn found(matches: &ArgMatches<'_>) -> Option<Settings>
 pub fn settings<'a>(alloc: Global, words: &'a [&'a str]) -> Result<Settings, Error>
     ensures { IfOk result InRange }
 {
-    let mut command = command(alloc)?;
-    let matches = command.try_get_matches_from_mut(words)?;
-    match found(&matches) {
+    let matches = matches(alloc, words)?;
+    let found = found(&matches);
+    drop(matches);
+    match found {
         Some(settings) => Ok(settings),
-        None => Err(command.error(ErrorKind::InvalidValue, "a number is out of range")?),
+        None => Err(invalid(alloc, "a number is out of range")),
     }
 }
 
@@ -175,8 +199,7 @@ fn read_words(rt: &HostRuntime) -> Result<Vec<String>, Error> {
             if error.kind() == io::ErrorKind::OutOfMemory {
                 return Err(Error::from(AllocError));
             }
-            let mut command = command(alloc)?;
-            Err(command.error(ErrorKind::InvalidValue, "an argument is not text")?)
+            Err(invalid(alloc, "an argument is not text"))
         }
     }
 }

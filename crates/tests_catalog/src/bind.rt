@@ -231,7 +231,9 @@ fn first_other(
 // The same over the examples.
 fn first_other_of(alloc: Global, lines: &'static str) -> Result<&'static str, Fail> {
     let catalog = examples(alloc)?;
-    first_other(alloc, &catalog, lines)
+    let answer = first_other(alloc, &catalog, lines);
+    drop(catalog);
+    answer
 }
 
 #[test]
@@ -274,7 +276,9 @@ fn views_are_limited(alloc: Global, catalog: &mut Catalog) -> Result<[bool; 2], 
 // The same over the examples.
 fn views_of_examples(alloc: Global) -> Result<[bool; 2], Fail> {
     let mut catalog = examples(alloc)?;
-    views_are_limited(alloc, &mut catalog)
+    let answer = views_are_limited(alloc, &mut catalog);
+    drop(catalog);
+    answer
 }
 
 #[test]
@@ -309,7 +313,9 @@ fn are_new(catalog: &Catalog) -> [bool; 3] {
 // Both of the examples.
 fn found_and_new(alloc: Global) -> Result<(Found, [bool; 3]), Fail> {
     let catalog = examples(alloc)?;
-    Ok((found(&catalog), are_new(&catalog)))
+    let answer = (found(&catalog), are_new(&catalog));
+    drop(catalog);
+    Ok(answer)
 }
 
 #[test]

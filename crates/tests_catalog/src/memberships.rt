@@ -209,7 +209,10 @@ fn fill_chain(access: &mut Access, alloc: Global) -> Result<(), AccessFault> {
 fn link(access: &mut Access, alloc: Global, before: u32, next: u32) -> Result<(), AccessFault> {
     let role = format!(in alloc; "r{before}")?;
     let to = format!(in alloc; "r{next}")?;
-    access.grant_role(ADMIN, role.as_str(), to.as_str())
+    let answer = access.grant_role(ADMIN, role.as_str(), to.as_str());
+    drop(role);
+    drop(to);
+    answer
 }
 
 /// Makes each of the 255 roles a member of the one before it: first those in even places, then those in odd ones.

@@ -111,14 +111,19 @@ fn verdict_of(
     n: i64,
 ) -> Result<Verdict, AllocError> {
     let row = Row::new(Vec::from_array(alloc, [Value::Int(n)])?)?;
-    Ok(access.check(role, NOTES, test, &row))
+    let answer = access.check(role, NOTES, test, &row);
+    drop(row);
+    Ok(answer)
 }
 
 /// Whether the role's filter lets a number through.
 fn is_seen(access: &Access, alloc: Global, role: RoleId, n: i64) -> Result<bool, AllocError> {
     let row = Row::new(Vec::from_array(alloc, [Value::Int(n)])?)?;
     let filter = access.filter(role, NOTES)?;
-    Ok(filter.passes(&row))
+    let answer = filter.passes(&row);
+    drop(row);
+    drop(filter);
+    Ok(answer)
 }
 
 /// What is said of 1 that ann, admin and bob read.

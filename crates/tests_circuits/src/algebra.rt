@@ -94,7 +94,9 @@ fn three() -> [(&'static str, i64, i64); 3] {
 /// How often a row stands there.
 fn copies(alloc: Global, rows: &ZSet, key: &str, number: i64) -> Result<i64, AllocError> {
     let row = row(alloc, key, number)?;
-    Ok(weight(rows, &row))
+    let answer = weight(rows, &row);
+    drop(row);
+    Ok(answer)
 }
 
 /// Whether these are the rows, with their copies.
@@ -297,7 +299,9 @@ fn outcome_of(
     want: &[(&str, i64, i64)],
 ) -> Result<Option<bool>, Fail> {
     let mut tables = no_notes(alloc)?;
-    outcome_filled(alloc, plan, &mut tables, notes, want)
+    let answer = outcome_filled(alloc, plan, &mut tables, notes, want);
+    drop(tables);
+    answer
 }
 
 /// Whether the plan gives these rows over these notes; none where it breaks a limit.
@@ -308,7 +312,9 @@ fn outcome(
     want: &[(&str, i64, i64)],
 ) -> Result<Option<bool>, Fail> {
     let plan = made(alloc, asked)?;
-    outcome_of(alloc, &plan, notes, want)
+    let answer = outcome_of(alloc, &plan, notes, want);
+    drop(plan);
+    answer
 }
 
 /// Whether the plan gives these rows over these notes.
@@ -425,7 +431,9 @@ fn held_anew(
     want: &[(&str, i64, i64)],
 ) -> Result<[bool; 2], Fail> {
     let mut tables = no_notes(alloc)?;
-    held(alloc, &mut tables, changes, want)
+    let answer = held(alloc, &mut tables, changes, want);
+    drop(tables);
+    answer
 }
 
 #[test]
@@ -460,7 +468,9 @@ fn overfilled(alloc: Global, tables: &mut Tables) -> Result<(Result<(), ZFault>,
 /// The same of new tables.
 fn overfilled_anew(alloc: Global) -> Result<(Result<(), ZFault>, bool), Fail> {
     let mut tables = no_notes(alloc)?;
-    overfilled(alloc, &mut tables)
+    let answer = overfilled(alloc, &mut tables);
+    drop(tables);
+    answer
 }
 
 #[test]
@@ -498,7 +508,9 @@ fn accepted(alloc: Global, tables: &Tables) -> Result<[bool; 3], AllocError> {
 /// The same of new tables.
 fn accepted_anew(alloc: Global) -> Result<[bool; 3], Fail> {
     let tables = no_notes(alloc)?;
-    Ok(accepted(alloc, &tables)?)
+    let answer = accepted(alloc, &tables);
+    drop(tables);
+    Ok(answer?)
 }
 
 #[test]
@@ -510,7 +522,9 @@ fn rows_of_other_kinds(rt: HostRuntime) -> Result<(), Fail> {
 /// Whether the predicate holds of ann's note.
 fn holds_of_ann(alloc: Global, pred: &Pred, user: &str) -> Result<bool, AllocError> {
     let note = row(alloc, "ann", 1)?;
-    Ok(pred.holds(&note, user))
+    let answer = pred.holds(&note, user);
+    drop(note);
+    Ok(answer)
 }
 
 /// Whether k of ann's note compares so with the name of the user.
@@ -618,7 +632,9 @@ fn copy_holds(alloc: Global, pred: &Pred, user: &str) -> Result<bool, AllocError
 /// Whether a copy of `own_or_both` does.
 fn copied_holds(alloc: Global, user: &str) -> Result<bool, AllocError> {
     let pred = own_or_both(alloc)?;
-    copy_holds(alloc, &pred, user)
+    let answer = copy_holds(alloc, &pred, user);
+    drop(pred);
+    answer
 }
 
 #[test]
@@ -631,13 +647,17 @@ fn predicates_are_copied(rt: HostRuntime) {
 /// Whether the plan fits the notes.
 fn fits_notes(alloc: Global, plan: &Plan) -> Result<bool, Fail> {
     let tables = no_notes(alloc)?;
-    Ok(plan.fits(&tables))
+    let answer = plan.fits(&tables);
+    drop(tables);
+    Ok(answer)
 }
 
 /// Whether the plan fits the notes.
 fn fits(alloc: Global, asked: Asked) -> Result<bool, Fail> {
     let plan = made(alloc, asked)?;
-    fits_notes(alloc, &plan)
+    let answer = fits_notes(alloc, &plan);
+    drop(plan);
+    answer
 }
 
 #[test]

@@ -46,12 +46,16 @@ pub(crate) fn planned(alloc: Global, plan: &Plan, tables: &Tables) -> Option<Cir
     ensures plan { IfSome result (λ circuit. plan_of circuit.node ≡ shape_of plan.now) }
     ensures reader { IfSome result (λ circuit. IsReader tables.now circuit) }
 {
-    let mut access = Access::new(alloc).ok()?;
-    if add_relations(alloc, &mut access) {
+    let Ok(mut access) = Access::new(alloc) else {
+        return None;
+    };
+    let circuit = if add_relations(alloc, &mut access) {
         built(alloc, plan, &access, tables)
     } else {
         None
-    }
+    };
+    drop(access);
+    circuit
 }
 
 /// The circuit of the join.
@@ -59,6 +63,10 @@ pub(crate) fn opened(alloc: Global, tables: &Tables) -> Option<Circuit>
     ensures plan { IfSome result (λ circuit. plan_of circuit.node ≡ Join (Scan 0) (Scan 1) ((0, 0) ∷ [])) }
     ensures reader { IfSome result (λ circuit. IsReader tables.now circuit) }
 {
-    let plan = joined(alloc).ok()?;
-    planned(alloc, &plan, tables)
+    let Ok(plan) = joined(alloc) else {
+        return None;
+    };
+    let circuit = planned(alloc, &plan, tables);
+    drop(plan);
+    circuit
 }

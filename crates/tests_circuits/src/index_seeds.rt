@@ -28,7 +28,9 @@ fn hashes_of_one(alloc: Global, rows: &mut ZSet) -> Result<[u64; 2], ZFault> {
 /// The same under a seed.
 fn hashes_under(alloc: Global, seed: Seed) -> Result<[u64; 2], ZFault> {
     let mut rows = ZSet::with_seed(alloc, seed);
-    hashes_of_one(alloc, &mut rows)
+    let answer = hashes_of_one(alloc, &mut rows);
+    drop(rows);
+    answer
 }
 
 #[test]

@@ -51,8 +51,10 @@ fn rows_at_one(alloc: Global, mut index: KeyIndex) -> (usize, usize, usize) {
     let one_goes = fill_index(alloc, &mut index, &[1, 3], -1);
     let one = at(alloc, &index, 1);
     let both_go = fill_index(alloc, &mut index, &[1, 2], -2);
+    let none = at(alloc, &index, 1);
+    drop(index);
     if filled && one_goes && both_go {
-        (two, one, at(alloc, &index, 1))
+        (two, one, none)
     } else {
         (two, one, usize::MAX)
     }
@@ -91,8 +93,10 @@ pub(crate) fn kept_sums(alloc: Global) -> Result<(Sums, Sums), AllocError> {
     let three = sums_at_one(alloc, &index);
     let gone = count_row(alloc, &mut index, &[1, 7], -1)
         && count_row(alloc, &mut index, &[1, 5], -2);
+    let none = sums_at_one(alloc, &index);
+    drop(index);
     if filled && gone {
-        Ok((three, sums_at_one(alloc, &index)))
+        Ok((three, none))
     } else {
         Ok((three, three))
     }
@@ -169,7 +173,12 @@ fn step_moved(
     let mut da = ZSet::new(alloc);
     let mut db = ZSet::new(alloc);
     let out = ZSet::new(alloc);
-    step_moving(alloc, join, &mut a, b, &out, &mut da, &mut db, rows)
+    let moved = step_moving(alloc, join, &mut a, b, &out, &mut da, &mut db, rows);
+    drop(a);
+    drop(da);
+    drop(db);
+    drop(out);
+    moved
 }
 
 /// What is seen of the answer to a batch that takes so many rows of one key from the left, and brings as many of it on the
@@ -181,6 +190,8 @@ pub(crate) fn moved(alloc: Global, rows: i64) -> Result<Seen, DeltaFault> {
     let a = KeyIndex::new(alloc, left);
     let b = KeyIndex::new(alloc, right);
     let answer = step_moved(alloc, &join, a, &b, rows);
+    drop(b);
+    drop(join);
     seen_of(alloc, answer, false, &[1, 1, 1, 1], &[1, 2, 1, 1])
 }
 
@@ -245,9 +256,15 @@ fn step_keyed(
     let mut out = ZSet::new(alloc);
     let mut da = ZSet::new(alloc);
     let mut db = ZSet::new(alloc);
-    step_filled(
+    let answer = step_filled(
         alloc, join, &mut a, &mut b, &mut out, &mut da, &mut db, x, dx, y, dy, weight,
-    )
+    );
+    drop(a);
+    drop(b);
+    drop(out);
+    drop(da);
+    drop(db);
+    answer
 }
 
 /// What is seen of its answer.

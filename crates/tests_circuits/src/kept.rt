@@ -33,7 +33,11 @@ fn step_groups_of(alloc: Global, a: &ZSet, d: &ZSet) -> Result<ZSet, DeltaFault>
     requires new_range { AllInRange (d.now ++ a.now) }
 {
     match group_rows(alloc, &[0], &[Agg::Sum(1)], a, ROW_LIMIT, &mut Meter::new()) {
-        Ok(out) => step_over(alloc, a, &out, d),
+        Ok(out) => {
+            let answer = step_over(alloc, a, &out, d);
+            drop(out);
+            answer
+        }
         Err(fault) => Err(fault),
     }
 }
@@ -62,5 +66,7 @@ pub(crate) fn regrouped(
     let a = two(alloc, &[1, old], 1, &[1, old], 0)?;
     let d = two(alloc, &[1, first.0], first.1, &[1, second.0], second.1)?;
     let answer = step_stored(alloc, &a, &d);
+    drop(a);
+    drop(d);
     seen_of(alloc, answer, false, &[1, old], &[1, new])
 }

@@ -94,7 +94,7 @@ fn step_pair<B: Bilinear>(
     let mut out = ZSet::new(alloc);
     let mut left_change = ZSet::new(alloc);
     let mut right_change = ZSet::new(alloc);
-    step_filled_pair(
+    let answer = step_filled_pair(
         alloc,
         bilinear,
         rows,
@@ -108,7 +108,13 @@ fn step_pair<B: Bilinear>(
         b,
         db,
         weight,
-    )
+    );
+    drop(left);
+    drop(right);
+    drop(out);
+    drop(left_change);
+    drop(right_change);
+    answer
 }
 
 pub(crate) fn on_first_columns(alloc: Global) -> Result<Join, AllocError>
@@ -216,9 +222,13 @@ fn step_groups(
     let mut a = ZSet::new(alloc);
     let mut d = ZSet::new(alloc);
     let mut out = ZSet::new(alloc);
-    step_filled_groups(
+    let answer = step_filled_groups(
         alloc, aggs, &mut a, &mut d, &mut out, gone, x, dx, come, y, before,
-    )
+    );
+    drop(a);
+    drop(d);
+    drop(out);
+    answer
 }
 
 /// The sum of the second column by the first, where two copies of a row go and one of another comes.

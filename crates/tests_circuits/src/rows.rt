@@ -47,13 +47,19 @@ fn compared(first: &Row, second: &Row) -> Compared {
 fn compared_flags(alloc: Global) -> Result<Compared, AllocError> {
     let small = row_of_flag(alloc, -1, true)?;
     let large = row_of_flag(alloc, 2, false)?;
-    Ok(compared(&small, &large))
+    let answer = compared(&small, &large);
+    drop(small);
+    drop(large);
+    Ok(answer)
 }
 
 fn compared_texts(alloc: Global) -> Result<Compared, AllocError> {
     let upper = row_of_text(alloc, "Z")?;
     let lower = row_of_text(alloc, "a")?;
-    Ok(compared(&upper, &lower))
+    let answer = compared(&upper, &lower);
+    drop(upper);
+    drop(lower);
+    Ok(answer)
 }
 
 #[test]
@@ -120,7 +126,9 @@ fn columns(alloc: Global, named: &[(&str, Kind)]) -> Result<Vec<Column>, AllocEr
 /// Whether these may be the columns of a table.
 fn are_columns(alloc: Global, named: &[(&str, Kind)]) -> Result<bool, AllocError> {
     let columns = columns(alloc, named)?;
-    Ok(columns_ok(&columns))
+    let answer = columns_ok(&columns);
+    drop(columns);
+    Ok(answer)
 }
 
 #[test]

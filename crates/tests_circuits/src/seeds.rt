@@ -55,7 +55,9 @@ fn plan_of(alloc: Global, number: u32) -> Result<Plan, AllocError> {
 fn total_seed(alloc: Global, number: u32, tables: &Tables) -> Option<Seed> {
     let plan = plan_of(alloc, number).ok()?;
     let circuit = planned(alloc, &plan, tables)?;
-    Some(circuit.total().seed())
+    let answer = circuit.total().seed();
+    drop(circuit);
+    Some(answer)
 }
 
 /// What it makes of 1 over tables under this seed.

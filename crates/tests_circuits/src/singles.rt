@@ -29,6 +29,8 @@ pub(crate) fn filtered(alloc: Global) -> Result<Seen, DeltaFault> {
     let out = two(alloc, &[2], 1, &[2], 0)?;
     let d = two(alloc, &[1], 5, &[2], -1)?;
     let answer = step_linear(alloc, &above_one(), &out, &d, ROW_LIMIT, &mut Meter::new());
+    drop(out);
+    drop(d);
     seen_of(alloc, answer, false, &[1], &[2])
 }
 
@@ -46,14 +48,19 @@ fn step_project(alloc: Global, out: &ZSet, d: &ZSet) -> Result<ZSet, DeltaFault>
     requires rows { OfRows (λ q. All (λ k. k < length q) (0 ∷ [])) d.now }
 {
     let project = first_column(alloc)?;
-    step_linear(alloc, &project, out, d, ROW_LIMIT, &mut Meter::new())
+    let answer = step_linear(alloc, &project, out, d, ROW_LIMIT, &mut Meter::new());
+    drop(project);
+    answer
 }
 
 /// The first column: a row comes and one goes, both with a 1 there.
 pub(crate) fn projected(alloc: Global) -> Result<Seen, DeltaFault> {
     let out = two(alloc, &[1], 1, &[1], 0)?;
     let d = two(alloc, &[1, 5], 1, &[1, 6], -1)?;
-    seen_of(alloc, step_project(alloc, &out, &d), false, &[1], &[1])
+    let answer = step_project(alloc, &out, &d);
+    drop(out);
+    drop(d);
+    seen_of(alloc, answer, false, &[1], &[1])
 }
 
 /// Whether a number is above 0: two rows with a 5 come, and one with a -1.
@@ -62,6 +69,8 @@ pub(crate) fn signs(alloc: Global) -> Result<Seen, DeltaFault> {
     let d = two(alloc, &[5], 2, &[-1], 1)?;
     let positive = Positive { column: 0 };
     let answer = step_linear(alloc, &positive, &out, &d, ROW_LIMIT, &mut Meter::new());
+    drop(out);
+    drop(d);
     seen_of(alloc, answer, false, &[1], &[0])
 }
 
@@ -77,7 +86,9 @@ fn step_other(
     requires few { IsFew da.now }
 {
     let db = two(alloc, &[1], right.0, &[7], right.1)?;
-    step_union(alloc, out, da, &db, cap, &mut Meter::new())
+    let answer = step_union(alloc, out, da, &db, cap, &mut Meter::new());
+    drop(db);
+    answer
 }
 
 fn step_both(
@@ -90,7 +101,9 @@ fn step_both(
     requires { IsBag out.now }
 {
     let da = two(alloc, &[1], left.0, &[7], left.1)?;
-    step_other(alloc, out, &da, right, cap)
+    let answer = step_other(alloc, out, &da, right, cap);
+    drop(da);
+    answer
 }
 
 /// The union where rows 1 and 7 change by these weights on each side, and the old output has row 1.
@@ -105,13 +118,9 @@ pub(crate) fn united(
         return Err(DeltaFault::Memory);
     }
     let out = two(alloc, &[1], out, &[1], 0)?;
-    seen_of(
-        alloc,
-        step_both(alloc, &out, left, right, cap),
-        false,
-        &[1],
-        &[7],
-    )
+    let answer = step_both(alloc, &out, left, right, cap);
+    drop(out);
+    seen_of(alloc, answer, false, &[1], &[7])
 }
 
 /// The rows once each, where row 1 has a weight and changes by another.
@@ -119,6 +128,8 @@ pub(crate) fn once(alloc: Global, old: i64, change: i64) -> Result<Seen, DeltaFa
     let a = two(alloc, &[1], old, &[1], 0)?;
     let d = two(alloc, &[1], change, &[1], 0)?;
     let answer = step_distinct(alloc, &a, &d, ROW_LIMIT, &mut Meter::new());
+    drop(a);
+    drop(d);
     seen_of(alloc, answer, false, &[1], &[1])
 }
 
@@ -133,7 +144,9 @@ fn step_right_side(
     requires { IsFew da.now }
 {
     let db = two(alloc, &[1], right, &[1], 0)?;
-    step_except(alloc, a, b, da, &db, ROW_LIMIT, &mut Meter::new())
+    let answer = step_except(alloc, a, b, da, &db, ROW_LIMIT, &mut Meter::new());
+    drop(db);
+    answer
 }
 
 fn step_sides(
@@ -144,7 +157,9 @@ fn step_sides(
     right: i64,
 ) -> Result<ZSet, DeltaFault> {
     let da = two(alloc, &[1], left, &[1], 0)?;
-    step_right_side(alloc, a, b, &da, right)
+    let answer = step_right_side(alloc, a, b, &da, right);
+    drop(da);
+    answer
 }
 
 /// The rows on the left alone, where row 1 has a weight and changes by another on each side.
@@ -156,5 +171,7 @@ pub(crate) fn alone(
     let a = two(alloc, &[1], left.0, &[1], 0)?;
     let b = two(alloc, &[1], right.0, &[1], 0)?;
     let answer = step_sides(alloc, &a, &b, left.1, right.1);
+    drop(a);
+    drop(b);
     seen_of(alloc, answer, false, &[1], &[1])
 }

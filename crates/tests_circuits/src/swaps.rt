@@ -45,8 +45,14 @@ fn are_few(deltas: &Deltas) -> bool
 
 /// How many rows of the join change.
 fn rows_changed(prepared: Result<Pending, CircuitFault>) -> Option<usize> {
-    let pending = prepared.ok()?;
-    Some(pending.root().rows())
+    match prepared {
+        Ok(pending) => {
+            let rows = pending.root().rows();
+            drop(pending);
+            Some(rows)
+        }
+        Err(_) => None,
+    }
 }
 
 /// How many rows of the join change, where all left rows go and there were no right ones.
@@ -61,11 +67,13 @@ fn swap_in(alloc: Global, circuit: &Circuit, tables: &mut Tables, batch: &[Entry
         return None;
     }
     let deltas = turn(alloc, tables, batch)?;
-    if is_bare(tables, RelId(0)) && are_few(&deltas) {
+    let changed = if is_bare(tables, RelId(0)) && are_few(&deltas) {
         rows_changed(swap_prepared(circuit, &deltas, &mut Meter::new()))
     } else {
         None
-    }
+    };
+    drop(deltas);
+    changed
 }
 
 /// The same over tables of rows.
@@ -73,12 +81,16 @@ fn swapped_over(alloc: Global, tables: &mut Tables, batch: &[Entry]) -> Option<u
     requires { AreSound tables.old }
 {
     let circuit = opened(alloc, tables)?;
-    swap_in(alloc, &circuit, tables, batch)
+    let changed = swap_in(alloc, &circuit, tables, batch);
+    drop(circuit);
+    changed
 }
 
 /// How many rows of the join change as the batch comes over tables of these rows.
 pub(crate) fn swapped(alloc: Global, rows: &[Entry], batch: &[Entry]) -> Option<usize> {
     let mut tables = two_tables(alloc)?;
     turn(alloc, &mut tables, rows)?;
-    swapped_over(alloc, &mut tables, batch)
+    let answer = swapped_over(alloc, &mut tables, batch);
+    drop(tables);
+    answer
 }
