@@ -218,19 +218,39 @@ fn repeated_is_read(alloc: Global, part: &str, times: usize, end: &str) -> bool 
     }
 }
 
+/// The part of the first text that is not read, where a text is a part so many times and an end.
+fn first_unread<'a>(alloc: Global, texts: &[(&'a str, usize, &str)]) -> Option<&'a str> {
+    for (part, times, end) in texts {
+        if !repeated_is_read(alloc, part, *times, end) {
+            return Some(*part);
+        }
+    }
+    None
+}
+
+/// What the first text should give that gives something else.
+fn first_other<'a>(alloc: Global, texts: &[(&str, usize, &str, &'a str)]) -> Option<&'a str> {
+    for (part, times, end, want) in texts {
+        if !repeated_is(alloc, part, *times, end, want) {
+            return Some(*want);
+        }
+    }
+    None
+}
+
+const NESTED: [(&str, usize, &str); 2] = [("not ", 32, "true"), ("(true) and ", 40, "(true)")];
+
+const NESTED_OTHERS: [(&str, usize, &str, &str); 4] = [
+    ("not ", 33, "true", "128 too deep"),
+    ("not ", 32, "", "128 unexpected"),
+    ("(", 32, "true))))))))))))))))))))))))))))))))", "true"),
+    ("(", 33, "true", "32 too deep"),
+];
+
 #[test]
 fn nesting(rt: HostRuntime) {
-    for (part, times, end) in [("not ", 32, "true"), ("(true) and ", 40, "(true)")] {
-        assert!(rt; repeated_is_read(rt.alloc(), part, times, end), "{part}");
-    }
-    for (part, times, end, want) in [
-        ("not ", 33, "true", "128 too deep"),
-        ("not ", 32, "", "128 unexpected"),
-        ("(", 32, "true))))))))))))))))))))))))))))))))", "true"),
-        ("(", 33, "true", "32 too deep"),
-    ] {
-        assert!(rt; repeated_is(rt.alloc(), part, times, end, want), "{want}");
-    }
+    assert!(rt; first_unread(rt.alloc(), &NESTED) == None);
+    assert!(rt; first_other(rt.alloc(), &NESTED_OTHERS) == None);
 }
 
 fn padded_query(alloc: Global, spaces: usize) -> Result<String, AllocError> {
@@ -252,25 +272,24 @@ fn lengths_of_queries(rt: HostRuntime) {
     assert!(rt; padded_is(rt.alloc(), 4082, "4096 too long"));
 }
 
+// A word of 63 bytes, and a text of 4,096.
+const LONG: [(&str, usize, &str); 2] = [("a", 63, " = 1"), (" ", 4091, "x = 1")];
+
+// A word of 64 bytes, and texts of 4,097 and of 4,096.
+const LONG_OTHERS: [(&str, usize, &str, &str); 4] = [
+    ("a", 64, " = 1", "0 token"),
+    (" ", 4092, "x = 1", "4096 too long"),
+    ("?", 4097, "", "4096 too long"),
+    (" ", 4096, "", "4096 unexpected"),
+];
+
 #[test]
 fn lengths(rt: HostRuntime) {
-    // A word of 63 bytes, and a text of 4,096.
-    for (part, times, end) in [("a", 63, " = 1"), (" ", 4091, "x = 1")] {
-        assert!(rt; repeated_is_read(rt.alloc(), part, times, end), "{part}");
-    }
-    // A word of 64 bytes, and texts of 4,097 and of 4,096.
-    for (part, times, end, want) in [
-        ("a", 64, " = 1", "0 token"),
-        (" ", 4092, "x = 1", "4096 too long"),
-        ("?", 4097, "", "4096 too long"),
-        (" ", 4096, "", "4096 unexpected"),
-    ] {
-        assert!(rt; repeated_is(rt.alloc(), part, times, end, want), "{part}");
-    }
+    assert!(rt; first_unread(rt.alloc(), &LONG) == None);
+    assert!(rt; first_other(rt.alloc(), &LONG_OTHERS) == None);
     // Values of 1,024 bytes and of 1,025: the first quote stands behind `x = `.
-    for (times, want) in [(1024, true), (1025, false)] {
-        assert!(rt; quoted_is_read(rt.alloc(), times) == want);
-    }
+    assert!(rt; quoted_is_read(rt.alloc(), 1024));
+    assert!(rt; !quoted_is_read(rt.alloc(), 1025));
 }
 
 fn quoted_is_read(alloc: Global, times: usize) -> bool {

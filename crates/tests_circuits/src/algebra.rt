@@ -272,7 +272,11 @@ fn outcome_over(
     want: &[(&str, i64, i64)],
 ) -> Result<Option<bool>, Fail> {
     match evaluated(alloc, plan, tables) {
-        Some(Ok(rows)) => Ok(Some(are(alloc, &rows, want)?)),
+        Some(Ok(rows)) => {
+            let same = are(alloc, &rows, want);
+            drop(rows);
+            Ok(Some(same?))
+        }
         Some(Err(AlgFault::Limit)) => Ok(None),
         Some(Err(AlgFault::Memory)) => Err(Fail::new("the plan gives no rows")),
         None => Err(Fail::new("the plan does not fit")),
@@ -340,44 +344,45 @@ fn is_limit(alloc: Global, asked: Asked, notes: &[(&str, i64, i64)]) -> Result<b
 /// A note, and its copies.
 type Note = (&'static str, i64, i64);
 
+const GIVEN: [(&str, Asked, &[Note]); 8] = [
+    (
+        "sums",
+        Asked::ByK(Agg::Sum(1)),
+        &[("a", 7, 1), ("b", 15, 1)],
+    ),
+    (
+        "counts",
+        Asked::ByK(Agg::Count),
+        &[("a", 3, 1), ("b", 3, 1)],
+    ),
+    (
+        "scan",
+        Asked::Scan(NOTES),
+        &[("a", 1, 2), ("a", 5, 1), ("b", 5, 3)],
+    ),
+    ("filter", Asked::Above, &[("a", 5, 1), ("b", 5, 3)]),
+    (
+        "join and project",
+        Asked::OfPairs(0, 3),
+        &[("a", 1, 6), ("a", 5, 3), ("b", 5, 9)],
+    ),
+    (
+        "union",
+        Asked::Twice,
+        &[("a", 1, 4), ("a", 5, 2), ("b", 5, 6)],
+    ),
+    (
+        "distinct",
+        Asked::OnceOfTwice,
+        &[("a", 1, 1), ("a", 5, 1), ("b", 5, 1)],
+    ),
+    ("except", Asked::TwiceLessAbove, &[("a", 1, 1)]),
+];
+
 #[test]
 fn plans_over_three_notes(rt: HostRuntime) -> Result<(), Fail> {
-    let cases: [(&str, Asked, &[Note]); 8] = [
-        (
-            "sums",
-            Asked::ByK(Agg::Sum(1)),
-            &[("a", 7, 1), ("b", 15, 1)],
-        ),
-        (
-            "counts",
-            Asked::ByK(Agg::Count),
-            &[("a", 3, 1), ("b", 3, 1)],
-        ),
-        (
-            "scan",
-            Asked::Scan(NOTES),
-            &[("a", 1, 2), ("a", 5, 1), ("b", 5, 3)],
-        ),
-        ("filter", Asked::Above, &[("a", 5, 1), ("b", 5, 3)]),
-        (
-            "join and project",
-            Asked::OfPairs(0, 3),
-            &[("a", 1, 6), ("a", 5, 3), ("b", 5, 9)],
-        ),
-        (
-            "union",
-            Asked::Twice,
-            &[("a", 1, 4), ("a", 5, 2), ("b", 5, 6)],
-        ),
-        (
-            "distinct",
-            Asked::OnceOfTwice,
-            &[("a", 1, 1), ("a", 5, 1), ("b", 5, 1)],
-        ),
-        ("except", Asked::TwiceLessAbove, &[("a", 1, 1)]),
-    ];
-    for (name, asked, want) in cases {
-        assert!(rt; gives(rt.alloc(), asked, want)?, "{name}");
+    for (name, asked, want) in &GIVEN {
+        assert!(rt; gives(rt.alloc(), *asked, want)?, "{name}");
     }
     Ok(())
 }
@@ -397,18 +402,22 @@ fn no_rows_have_no_group(rt: HostRuntime) -> Result<(), Fail> {
     Ok(())
 }
 
+const LIMITED: [(&str, Asked, &[Note]); 5] = [
+    ("a sum", Asked::ByK(Agg::Sum(1)), &[("k", 2, HALF)]),
+    (
+        "a share",
+        Asked::ByK(Agg::Sum(1)),
+        &[("k", 2, HALF), ("k", -4, 1)],
+    ),
+    ("below distinct", Asked::OnceOfTwice, &[("a", 1, HALF)]),
+    ("below except", Asked::LessTwice, &[("a", 1, HALF)]),
+    ("of a pair", Asked::Pairs, &[("a", 1, HALF)]),
+];
+
 #[test]
 fn sums_and_copies_are_limited(rt: HostRuntime) -> Result<(), Fail> {
-    let sum = Asked::ByK(Agg::Sum(1));
-    let cases: [(&str, Asked, &[Note]); 5] = [
-        ("a sum", sum, &[("k", 2, HALF)]),
-        ("a share", sum, &[("k", 2, HALF), ("k", -4, 1)]),
-        ("below distinct", Asked::OnceOfTwice, &[("a", 1, HALF)]),
-        ("below except", Asked::LessTwice, &[("a", 1, HALF)]),
-        ("of a pair", Asked::Pairs, &[("a", 1, HALF)]),
-    ];
-    for (name, asked, notes) in cases {
-        assert!(rt; is_limit(rt.alloc(), asked, notes)?, "{name}");
+    for (name, asked, notes) in &LIMITED {
+        assert!(rt; is_limit(rt.alloc(), *asked, notes)?, "{name}");
     }
     Ok(())
 }
@@ -549,20 +558,21 @@ fn the_user_is_a_text(rt: HostRuntime) {
     }
 }
 
+const COMPARED: [(Comparison, &str, bool); 8] = [
+    (Comparison::Equal, "ann", true),
+    (Comparison::Equal, "bob", false),
+    (Comparison::Less, "ann1", true),
+    (Comparison::Greater, "Zoe", true),
+    (Comparison::Less, "ann", false),
+    (Comparison::AtMost, "ann", true),
+    (Comparison::AtLeast, "ann", true),
+    (Comparison::NotEqual, "ann", false),
+];
+
 #[test]
 fn texts_by_bytes(rt: HostRuntime) {
-    let cases = [
-        (Comparison::Equal, "ann", true),
-        (Comparison::Equal, "bob", false),
-        (Comparison::Less, "ann1", true),
-        (Comparison::Greater, "Zoe", true),
-        (Comparison::Less, "ann", false),
-        (Comparison::AtMost, "ann", true),
-        (Comparison::AtLeast, "ann", true),
-        (Comparison::NotEqual, "ann", false),
-    ];
-    for (comparison, user, want) in cases {
-        assert!(rt; holds(rt.alloc(), comparison, user) == Ok(want), "{user}");
+    for (comparison, user, want) in &COMPARED {
+        assert!(rt; holds(rt.alloc(), *comparison, user) == Ok(*want), "{user}");
     }
 }
 
@@ -660,20 +670,21 @@ fn fits(alloc: Global, asked: Asked) -> Result<bool, Fail> {
     answer
 }
 
+const FITTING: [(&str, Asked, bool); 8] = [
+    ("notes", Asked::Scan(NOTES), true),
+    ("no table", Asked::Scan(RelId(4)), false),
+    ("no column", Asked::Columns(0, 2), false),
+    ("columns of pairs", Asked::OfPairs(1, 3), true),
+    ("the user", Asked::Own, false),
+    ("a sum of texts", Asked::ByK(Agg::Sum(0)), false),
+    ("other columns", Asked::NotesAndPairs, false),
+    ("other kinds", Asked::LessTurned, false),
+];
+
 #[test]
 fn plans_fit_tables_and_kinds(rt: HostRuntime) -> Result<(), Fail> {
-    let cases = [
-        ("notes", Asked::Scan(NOTES), true),
-        ("no table", Asked::Scan(RelId(4)), false),
-        ("no column", Asked::Columns(0, 2), false),
-        ("columns of pairs", Asked::OfPairs(1, 3), true),
-        ("the user", Asked::Own, false),
-        ("a sum of texts", Asked::ByK(Agg::Sum(0)), false),
-        ("other columns", Asked::NotesAndPairs, false),
-        ("other kinds", Asked::LessTurned, false),
-    ];
-    for (name, asked, want) in cases {
-        assert!(rt; fits(rt.alloc(), asked)? == want, "{name}");
+    for (name, asked, want) in &FITTING {
+        assert!(rt; fits(rt.alloc(), *asked)? == *want, "{name}");
     }
     Ok(())
 }

@@ -16,7 +16,10 @@ fn hash_at(alloc: Global, index: &KeyIndex, key: i64) -> Result<u64, AllocError>
 /// The same at a key that an index of the rows has, and at one that it does not have.
 fn hashes(alloc: Global, rows: &ZSet) -> Result<[u64; 2], AllocError> {
     let index = KeyIndex::build(alloc, &[0], rows, &mut Meter::new())?;
-    Ok([hash_at(alloc, &index, 1)?, hash_at(alloc, &index, 2)?])
+    let hashes = [hash_at(alloc, &index, 1), hash_at(alloc, &index, 2)];
+    drop(index);
+    let [first, second] = hashes;
+    Ok([first?, second?])
 }
 
 /// The same where a row comes.

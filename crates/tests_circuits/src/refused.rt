@@ -100,7 +100,10 @@ fn finished(alloc: Global, circuit: &mut Circuit, pending: Pending) -> Outcome
 {
     match compared(alloc, pending.root(), &CHANGE) {
         Outcome::Held => committed(alloc, circuit, pending),
-        other => other,
+        other => {
+            drop(pending);
+            other
+        }
     }
 }
 
@@ -136,7 +139,11 @@ fn changed(alloc: Global, circuit: &mut Circuit, tables: &mut Tables) -> Outcome
     readers_follow_tables();
     bags_have_lists();
     match turn(alloc, tables, &BATCH) {
-        Some(deltas) => taken_in(alloc, circuit, &deltas),
+        Some(deltas) => {
+            let outcome = taken_in(alloc, circuit, &deltas);
+            drop(deltas);
+            outcome
+        }
         None => Outcome::Refused,
     }
 }
@@ -157,7 +164,11 @@ fn opened(alloc: Global, plan: &Plan, tables: &mut Tables) -> Outcome
     requires { AreSound tables.old }
 {
     match planned(alloc, plan, tables) {
-        Some(mut circuit) => seen(alloc, &mut circuit, tables),
+        Some(mut circuit) => {
+            let outcome = seen(alloc, &mut circuit, tables);
+            drop(circuit);
+            outcome
+        }
         None => Outcome::Refused,
     }
 }
@@ -166,11 +177,16 @@ fn opened(alloc: Global, plan: &Plan, tables: &mut Tables) -> Outcome
 fn opened_over(alloc: Global, tables: &mut Tables) -> Outcome
     requires { AreSound tables.old }
 {
-    if turn(alloc, tables, &ROWS).is_none() {
-        return Outcome::Refused;
+    match turn(alloc, tables, &ROWS) {
+        Some(deltas) => drop(deltas),
+        None => return Outcome::Refused,
     }
     match of_each_kind(alloc) {
-        Ok(plan) => opened(alloc, &plan, tables),
+        Ok(plan) => {
+            let outcome = opened(alloc, &plan, tables);
+            drop(plan);
+            outcome
+        }
         Err(AllocError) => Outcome::Refused,
     }
 }
@@ -178,7 +194,11 @@ fn opened_over(alloc: Global, tables: &mut Tables) -> Outcome
 /// The same over the two tables.
 fn tried(alloc: Global) -> Outcome {
     match two_tables(alloc) {
-        Some(mut tables) => opened_over(alloc, &mut tables),
+        Some(mut tables) => {
+            let outcome = opened_over(alloc, &mut tables);
+            drop(tables);
+            outcome
+        }
         None => Outcome::Refused,
     }
 }

@@ -53,17 +53,27 @@ fn plan_of(alloc: Global, number: u32) -> Result<Plan, AllocError> {
 
 /// The seed of a plan's total.
 fn total_seed(alloc: Global, number: u32, tables: &Tables) -> Option<Seed> {
-    let plan = plan_of(alloc, number).ok()?;
-    let circuit = planned(alloc, &plan, tables)?;
-    let answer = circuit.total().seed();
-    drop(circuit);
-    Some(answer)
+    let Ok(plan) = plan_of(alloc, number) else {
+        return None;
+    };
+    let circuit = planned(alloc, &plan, tables);
+    drop(plan);
+    match circuit {
+        Some(circuit) => {
+            let seed = circuit.total().seed();
+            drop(circuit);
+            Some(seed)
+        }
+        None => None,
+    }
 }
 
 /// What it makes of 1 over tables under this seed.
 fn hash_under(alloc: Global, seed: Seed, number: u32) -> Option<u64> {
     let tables = two_tables_under(alloc, seed)?;
-    Some(total_seed(alloc, number, &tables)?.hash_one(&1u64))
+    let seed = total_seed(alloc, number, &tables);
+    drop(tables);
+    Some(seed?.hash_one(&1u64))
 }
 
 /// The rows of each operator are hashed under the seed of the tables.

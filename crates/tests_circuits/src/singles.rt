@@ -28,7 +28,9 @@ fn above_one() -> Filter {
 pub(crate) fn filtered(alloc: Global) -> Result<Seen, DeltaFault> {
     let out = two(alloc, &[2], 1, &[2], 0)?;
     let d = two(alloc, &[1], 5, &[2], -1)?;
-    let answer = step_linear(alloc, &above_one(), &out, &d, ROW_LIMIT, &mut Meter::new());
+    let filter = above_one();
+    let answer = step_linear(alloc, &filter, &out, &d, ROW_LIMIT, &mut Meter::new());
+    drop(filter);
     drop(out);
     drop(d);
     seen_of(alloc, answer, false, &[1], &[2])

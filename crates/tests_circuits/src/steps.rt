@@ -20,33 +20,38 @@ fn linear_operators(rt: HostRuntime) {
     assert!(rt; [filtered, projected, signs] == [Ok((1, 0, -1)), Ok((0, 0, 0)), Ok((2, 2, 1))]);
 }
 
+const UNIONS: [((i64, i64), (i64, i64), usize, Answer); 5] = [
+    ((1, 0), (-1, 0), ROW_LIMIT, Ok((0, 0, 0))),
+    ((1, 0), (0, 0), ROW_LIMIT, Err(DeltaFault::Limit)),
+    ((-MAX, 1), (0, 0), 1, Ok((2, -MAX, 1))),
+    ((0, 1), (0, 0), 1, Err(DeltaFault::Limit)),
+    ((0, 1), (0, 0), 2, Ok((1, 0, 1))),
+];
+
 #[test]
 fn unions(rt: HostRuntime) {
-    let cases: [((i64, i64), (i64, i64), usize, Answer); 5] = [
-        ((1, 0), (-1, 0), ROW_LIMIT, Ok((0, 0, 0))),
-        ((1, 0), (0, 0), ROW_LIMIT, Err(DeltaFault::Limit)),
-        ((-MAX, 1), (0, 0), 1, Ok((2, -MAX, 1))),
-        ((0, 1), (0, 0), 1, Err(DeltaFault::Limit)),
-        ((0, 1), (0, 0), 2, Ok((1, 0, 1))),
-    ];
-    for (left, right, cap, want) in cases {
+    for (left, right, cap, want) in UNIONS {
         assert!(rt; united(rt.alloc(), MAX, left, right, cap) == want);
     }
 }
 
+const ONCE: [(i64, i64, i64); 4] = [(1, 1, 0), (2, -1, 0), (1, -1, -1), (0, 2, 1)];
+
+const ALONE: [((i64, i64), (i64, i64), i64); 3] = [
+    ((3, 0), (0, 1), -1),
+    ((3, -3), (1, -1), 0),
+    ((3, 0), (1, -1), 1),
+];
+
 #[test]
 fn sets(rt: HostRuntime) {
-    for (old, change, want) in [(1, 1, 0), (2, -1, 0), (1, -1, -1), (0, 2, 1)] {
-        let rows = if want == 0 { 0 } else { 1 };
-        assert!(rt; once(rt.alloc(), old, change) == Ok((rows, want, want)));
+    for (old, change, want) in &ONCE {
+        let rows = if *want == 0 { 0 } else { 1 };
+        assert!(rt; once(rt.alloc(), *old, *change) == Ok((rows, *want, *want)));
     }
-    for (left, right, want) in [
-        ((3, 0), (0, 1), -1),
-        ((3, -3), (1, -1), 0),
-        ((3, 0), (1, -1), 1),
-    ] {
-        let rows = if want == 0 { 0 } else { 1 };
-        assert!(rt; alone(rt.alloc(), left, right) == Ok((rows, want, want)));
+    for (left, right, want) in &ALONE {
+        let rows = if *want == 0 { 0 } else { 1 };
+        assert!(rt; alone(rt.alloc(), *left, *right) == Ok((rows, *want, *want)));
     }
 }
 

@@ -2,16 +2,40 @@
 
 use clap::error::ErrorKind;
 use iv_program::{Fault, Settings, settings};
+use std::alloc::{AllocError, Global};
 use std::test::Fail;
 
+/// Whether the words are read as these settings.
+fn are_read(alloc: Global, words: &[&str], wanted: Settings) -> bool {
+    match settings(alloc, words) {
+        Ok(settings) => settings == wanted,
+        Err(error) => {
+            drop(error);
+            false
+        }
+    }
+}
+
+/// What kind of error the words are, and whether it goes to standard error; none where they are settings.
+fn refused(alloc: Global, words: &[&str]) -> Option<(ErrorKind, bool)> {
+    match settings(alloc, words) {
+        Ok(_) => None,
+        Err(error) => {
+            let told = (error.kind(), error.use_stderr());
+            drop(error);
+            Some(told)
+        }
+    }
+}
+
 #[test]
-fn reads_settings(rt: HostRuntime) -> Result<(), Fail> {
+fn reads_settings(rt: HostRuntime) {
     let alloc = rt.alloc();
     let plain = Settings::Replay {
         lines: 1_000_000,
         rows: 65_536,
     };
-    assert!(rt; settings(alloc, &["replay"])? == plain);
+    assert!(rt; are_read(alloc, &["replay"], plain));
     for (word, lines) in [
         ("1", 1),
         ("4294967295", 4_294_967_295),
@@ -26,13 +50,12 @@ fn reads_settings(rt: HostRuntime) -> Result<(), Fail> {
             lines,
             rows: 65_536,
         };
-        assert!(rt; settings(alloc, &words)? == wanted, "{word}");
+        assert!(rt; are_read(alloc, &words, wanted), "{word}");
     }
-    Ok(())
 }
 
 #[test]
-fn reads_the_row_limit(rt: HostRuntime) -> Result<(), Fail> {
+fn reads_the_row_limit(rt: HostRuntime) {
     let alloc = rt.alloc();
     for (word, rows) in [
         ("1024", 1_024),
@@ -45,13 +68,12 @@ fn reads_the_row_limit(rt: HostRuntime) -> Result<(), Fail> {
             lines: 1_000_000,
             rows,
         };
-        assert!(rt; settings(alloc, &words)? == wanted, "{word}");
+        assert!(rt; are_read(alloc, &words, wanted), "{word}");
     }
-    Ok(())
 }
 
 #[test]
-fn reads_settings_of_serve(rt: HostRuntime) -> Result<(), Fail> {
+fn reads_settings_of_serve(rt: HostRuntime) {
     let alloc = rt.alloc();
     let plain = Settings::Serve {
         port: 1,
@@ -59,7 +81,7 @@ fn reads_settings_of_serve(rt: HostRuntime) -> Result<(), Fail> {
         lines: 1_000_000,
         rows: 65_536,
     };
-    assert!(rt; settings(alloc, &["serve", "--port", "1"])? == plain);
+    assert!(rt; are_read(alloc, &["serve", "--port", "1"], plain));
     let full = Settings::Serve {
         port: 65_535,
         connections: 2,
@@ -74,85 +96,118 @@ fn reads_settings_of_serve(rt: HostRuntime) -> Result<(), Fail> {
         "2",
         "--port=65535",
     ];
-    assert!(rt; settings(alloc, &words)? == full);
-    Ok(())
+    assert!(rt; are_read(alloc, &words, full));
 }
 
-#[test]
-fn refuses_words(rt: HostRuntime) -> Result<(), Fail> {
-    let alloc = rt.alloc();
-    let refused = [
-        (["replay", "--lines", "0"], ErrorKind::ValueValidation),
-        (
-            ["replay", "--lines", "4294967296"],
-            ErrorKind::ValueValidation,
-        ),
-        (["replay", "--lines", "-1"], ErrorKind::UnknownArgument),
-        (["replay", "--lines", "one"], ErrorKind::ValueValidation),
-        (["replay", "--lines", ""], ErrorKind::ValueValidation),
-        (["replay", "--lines", "1.0"], ErrorKind::ValueValidation),
-        (["replay", "--lines", "1 "], ErrorKind::ValueValidation),
-        (["replay", "--rows", "1023"], ErrorKind::ValueValidation),
-        (["replay", "--rows", "1048577"], ErrorKind::ValueValidation),
-        (["serve", "--rows", "0"], ErrorKind::ValueValidation),
-        (["replay", "--port", "1"], ErrorKind::UnknownArgument),
-        (["serve", "--port", "0"], ErrorKind::ValueValidation),
-        (["serve", "--port", "65536"], ErrorKind::ValueValidation),
-        (["serve", "--port", "http"], ErrorKind::ValueValidation),
-        (
-            ["serve", "--lines", "1"],
-            ErrorKind::MissingRequiredArgument,
-        ),
-        (["serve", "--connections", "0"], ErrorKind::ValueValidation),
-        (["serve", "--host", "::1"], ErrorKind::UnknownArgument),
-        (["listen", "--port", "1"], ErrorKind::InvalidSubcommand),
-    ];
-    for (words, kind) in refused.iter() {
-        let Err(error) = settings(alloc, words) else {
-            return Err(Fail::new("words were taken"));
-        };
-        assert!(rt; error.kind() == *kind, "{words:?} gave {error}");
-        assert!(rt; error.use_stderr());
+/// Three words in each line, apart by `|`.
+const NO_VALUES: &str = "\
+replay|--lines|0
+replay|--lines|4294967296
+replay|--lines|one
+replay|--lines|
+replay|--lines|1.0
+replay|--lines|1\x20
+replay|--rows|1023
+replay|--rows|1048577
+serve|--rows|0
+serve|--port|0
+serve|--port|65536
+serve|--port|http
+serve|--connections|0";
+
+const UNKNOWN: &str = "\
+replay|--lines|-1
+replay|--port|1
+serve|--host|::1";
+
+/// The three words of a line.
+fn words_of(line: &str) -> Option<(&str, &str, &str)> {
+    let (first, rest) = line.split_once('|')?;
+    let (second, third) = rest.split_once('|')?;
+    Some((first, second, third))
+}
+
+fn is_refused(alloc: Global, line: &str, kind: ErrorKind) -> bool {
+    match words_of(line) {
+        Some((first, second, third)) => {
+            refused(alloc, &[first, second, third]) == Some((kind, true))
+        }
+        None => false,
     }
-    Ok(())
+}
+
+/// The first line whose words are not refused so.
+fn first_other(alloc: Global, lines: &str, kind: ErrorKind) -> Option<&str> {
+    for line in lines.lines() {
+        if !is_refused(alloc, line, kind) {
+            return Some(line);
+        }
+    }
+    None
 }
 
 #[test]
-fn shows_help(rt: HostRuntime) -> Result<(), Fail> {
+fn refuses_words(rt: HostRuntime) {
     let alloc = rt.alloc();
-    let Err(error) = settings(alloc, &["--help"]) else {
-        return Err(Fail::new("no help"));
-    };
-    assert!(rt; error.kind() == ErrorKind::DisplayHelp);
-    assert!(rt; !error.use_stderr());
-    Ok(())
+    assert_eq!(rt;
+        first_other(alloc, NO_VALUES, ErrorKind::ValueValidation),
+        None
+    );
+    assert_eq!(rt;
+        first_other(alloc, UNKNOWN, ErrorKind::UnknownArgument),
+        None
+    );
+    assert!(rt; is_refused(alloc, "serve|--lines|1", ErrorKind::MissingRequiredArgument));
+    assert!(rt; is_refused(alloc, "listen|--port|1", ErrorKind::InvalidSubcommand));
+}
+
+#[test]
+fn shows_help(rt: HostRuntime) {
+    assert!(rt; refused(rt.alloc(), &["--help"]) == Some((ErrorKind::DisplayHelp, false)));
+}
+
+/// The text that the words come to; none where they are settings.
+fn shown(alloc: Global, words: &[&str]) -> Result<Option<String>, AllocError> {
+    match settings(alloc, words) {
+        Ok(_) => Ok(None),
+        Err(error) => {
+            let text = format!(in alloc; "{error}");
+            drop(error);
+            Ok(Some(text?))
+        }
+    }
 }
 
 #[test]
 fn shows_version(rt: HostRuntime) -> Result<(), Fail> {
     let alloc = rt.alloc();
-    let Err(error) = settings(alloc, &["--version"]) else {
+    assert!(rt; refused(alloc, &["--version"]) == Some((ErrorKind::DisplayVersion, false)));
+    let Some(text) = shown(alloc, &["--version"])? else {
         return Err(Fail::new("no version"));
     };
-    assert!(rt; error.kind() == ErrorKind::DisplayVersion);
-    assert!(rt; !error.use_stderr());
-    assert_eq!(rt; format!(in alloc; "{error}")?.as_str(), "viewd 0.1.0\n");
+    assert!(rt; text.as_str() == "viewd 0.1.0\n");
     Ok(())
+}
+
+const TOLD: [(Fault, &str, u8); 5] = [
+    (Fault::Read, "viewd: read failed", 2),
+    (Fault::Write, "viewd: write failed", 2),
+    (Fault::Random, "viewd: no random bytes", 2),
+    (Fault::Network, "viewd: network failed", 2),
+    (Fault::Memory, "viewd: out of memory", 3),
+];
+
+/// Whether the fault is told by this text.
+fn is_told(alloc: Global, fault: Fault, text: &str) -> Result<bool, AllocError> {
+    let told = format!(in alloc; "{fault}")?;
+    Ok(told.as_str() == text)
 }
 
 #[test]
 fn tells_faults(rt: HostRuntime) -> Result<(), Fail> {
-    let alloc = rt.alloc();
-    let told = [
-        (Fault::Read, "viewd: read failed", 2),
-        (Fault::Write, "viewd: write failed", 2),
-        (Fault::Random, "viewd: no random bytes", 2),
-        (Fault::Network, "viewd: network failed", 2),
-        (Fault::Memory, "viewd: out of memory", 3),
-    ];
-    for (fault, text, status) in told {
-        assert_eq!(rt; format!(in alloc; "{fault}")?.as_str(), text);
-        assert_eq!(rt; fault.status(), status);
+    for (fault, text, status) in &TOLD {
+        assert!(rt; is_told(rt.alloc(), *fault, text)?, "{text}");
+        assert!(rt; fault.status() == *status);
     }
     Ok(())
 }
