@@ -2,7 +2,7 @@
 use Rattle.std.proofs.Common.{◌≡◌, ◌∙◌, List, ◌∷◌, ◌++◌, refl, sym, ap, subst, append_assoc}
 use Rattle.iv_machine.specs.Act.{Command, Line}
 use Rattle.iv_engine.specs.Applied.{AreApplied, IsApplied}
-use Rattle.iv_engine.specs.Engine.{Engine}
+use Rattle.iv_store.specs.Engine.{Engine}
 
 -- what the commands that are left answer goes behind what was answered
 abbrev pub GoesBehind : (start now : Engine) → (all left : List Command) → (before : List Line) → Type 0

@@ -11,16 +11,16 @@ use Rattle.iv_machine.specs.State.{actor, plan_at, rel_of}
 use Rattle.iv_database.specs.Database as database
 use Rattle.iv_database.specs.Database.{Database}
 use Rattle.iv_database.specs.Next.{database_after}
-use Rattle.iv_engine.specs.Answering.{IsAccepted}
-use Rattle.iv_engine.specs.Concerned.{unreadable}
-use Rattle.iv_engine.specs.Store.{IsSoundStore, IsStored, Store, database_of, frame_of, role_reads, with_database, with_rights}
-use Rattle.iv_engine.specs.Next.{kept_after}
-use Rattle.iv_engine.specs.Turned.{AreReadersTold, AreWaiting}
+use Rattle.iv_store.specs.Answering.{IsAccepted}
+use Rattle.iv_store.specs.Concerned.{unreadable}
+use Rattle.iv_store.specs.Store.{IsSoundStore, IsStored, Store, database_of, frame_of, role_reads, with_database, with_rights}
+use Rattle.iv_store.specs.Next.{kept_after}
+use Rattle.iv_store.specs.Turned.{AreReadersTold, AreWaiting}
 use Rattle.iv_command.specs.declared.answer.Answer.{Answer}
-use Rattle.iv_engine.proofs.Circling.{seen_circuit}
+use Rattle.iv_store.proofs.Circling.{seen_circuit}
 use Rattle.iv_engine.proofs.Righting.{StaysStill, flag_beside, righted_step, righted_stored, told_as, waiting, waiting_as}
-use Rattle.iv_engine.proofs.Seeing.{sees_same}
-use Rattle.iv_engine.proofs.Stepping.{has_become, has_passed}
+use Rattle.iv_store.proofs.Seeing.{sees_same}
+use Rattle.iv_store.proofs.Stepping.{has_become, has_passed}
 
 reads_still : (b : Bool) → not b ≡ false → b ≡ true
 reads_still true h = refl

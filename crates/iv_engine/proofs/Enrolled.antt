@@ -9,16 +9,16 @@ use Rattle.iv_machine.specs.Split.{frame_refusal}
 use Rattle.iv_database.specs.Database as database
 use Rattle.iv_database.specs.Database.{Database}
 use Rattle.iv_database.specs.Next.{database_after}
-use Rattle.iv_engine.specs.Answering.{IsAccepted}
+use Rattle.iv_store.specs.Answering.{IsAccepted}
 use Rattle.iv_readers.specs.Flags.{differing}
-use Rattle.iv_engine.specs.Concerned.{reaching}
-use Rattle.iv_engine.specs.Store.{IsSoundStore, Store, database_of, frame_of, with_database}
-use Rattle.iv_engine.specs.Next.{kept_after}
-use Rattle.iv_engine.specs.Turned.{AreReadersTold, AreWaiting}
+use Rattle.iv_store.specs.Concerned.{reaching}
+use Rattle.iv_store.specs.Store.{IsSoundStore, Store, database_of, frame_of, with_database}
+use Rattle.iv_store.specs.Next.{kept_after}
+use Rattle.iv_store.specs.Turned.{AreReadersTold, AreWaiting}
 use Rattle.iv_command.specs.declared.answer.Answer.{Answer}
 use Rattle.iv_engine.proofs.Joining.{joined_step, joined_waiting, many_flags, parted_step, parted_waiting}
 use Rattle.iv_engine.proofs.Righting.{told_as, waiting_as}
-use Rattle.iv_engine.proofs.Stepping.{TestsAlike, has_become, has_passed}
+use Rattle.iv_store.proofs.Stepping.{TestsAlike, has_become, has_passed}
 
 -- of each circuit, whether its role reaches the role as it did not before
 abbrev pub turned : Store → ℕ → Act → Option RoleId → List Bool

@@ -18,19 +18,19 @@ use Rattle.iv_machine.specs.Act.{Act, PolicyText, create_policy, drop_policy, ro
 use Rattle.iv_machine.specs.Split.{frame_refusal}
 use Rattle.iv_machine.specs.Changing.{policy_for}
 use Rattle.iv_machine.specs.State.{plan_at, rel_of}
-use Rattle.iv_engine.specs.Answering.{IsAccepted, IsStep}
-use Rattle.iv_engine.specs.Concerned.{scanning}
-use Rattle.iv_engine.specs.Counting.{scans_at}
-use Rattle.iv_engine.specs.Next.{kept_after}
-use Rattle.iv_engine.specs.Store.{database_of, with_database, IsRoleCircuit, IsSoundStore, IsStored, Store, frame_of, with_rights}
+use Rattle.iv_store.specs.Answering.{IsAccepted, IsStep}
+use Rattle.iv_store.specs.Concerned.{scanning}
+use Rattle.iv_store.specs.Counting.{scans_at}
+use Rattle.iv_store.specs.Next.{kept_after}
+use Rattle.iv_store.specs.Store.{database_of, with_database, IsRoleCircuit, IsSoundStore, IsStored, Store, frame_of, with_rights}
 use Rattle.iv_readers.specs.Readers.{RoleCircuit}
-use Rattle.iv_engine.specs.Turned.{AreReadersTold, AreWaiting}
+use Rattle.iv_store.specs.Turned.{AreReadersTold, AreWaiting}
 use Rattle.iv_command.specs.declared.answer.Answer.{Answer}
-use Rattle.iv_engine.proofs.Circling.{seen_circuit}
-use Rattle.iv_engine.proofs.Stepping.{refused_step}
+use Rattle.iv_store.proofs.Circling.{seen_circuit}
+use Rattle.iv_store.proofs.Stepping.{refused_step}
 use Rattle.iv_engine.proofs.Righting.{StaysStill, told_as, waiting_as, flag_beside, reads_same, righted_step, righted_stored, waiting}
-use Rattle.iv_engine.proofs.Seeing.{sees_same}
-use Rattle.iv_engine.proofs.Touched.{scans_alike}
+use Rattle.iv_store.proofs.Seeing.{sees_same}
+use Rattle.iv_store.proofs.Touches.{scans_alike}
 
 -- ---- one guard of many
 

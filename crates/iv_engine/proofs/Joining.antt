@@ -15,19 +15,19 @@ use Rattle.iv_machine.specs.Act.{Act, Refusal, grant_role, revoke_role}
 use Rattle.iv_machine.specs.Refusing.{first, known_role, or_else, test}
 use Rattle.iv_machine.specs.Split.{frame_refusal}
 use Rattle.iv_machine.specs.State.{Subscription, actor, is_open, plan_at}
-use Rattle.iv_engine.specs.Answering.{IsAccepted}
+use Rattle.iv_store.specs.Answering.{IsAccepted}
 use Rattle.iv_readers.specs.Flags.{differ, differing}
-use Rattle.iv_engine.specs.Concerned.{reaches_some, reaching}
-use Rattle.iv_engine.specs.Counting.{IsRebuiltByReach}
-use Rattle.iv_engine.specs.Store.{IsSoundStore, IsStored, Store, frame_of, with_rights}
+use Rattle.iv_store.specs.Concerned.{reaches_some, reaching}
+use Rattle.iv_store.specs.Counting.{IsRebuiltByReach}
+use Rattle.iv_store.specs.Store.{IsSoundStore, IsStored, Store, frame_of, with_rights}
 use Rattle.iv_readers.specs.Readers.{RoleCircuit}
-use Rattle.iv_engine.specs.Next.{kept_after}
-use Rattle.iv_engine.specs.Engine.{Engine}
-use Rattle.iv_engine.specs.Turned.{AreReadersTold, AreWaiting}
+use Rattle.iv_store.specs.Next.{kept_after}
+use Rattle.iv_store.specs.Engine.{Engine}
+use Rattle.iv_store.specs.Turned.{AreReadersTold, AreWaiting}
 use Rattle.iv_command.specs.declared.answer.Answer.{Answer}
-use Rattle.iv_engine.proofs.Circling.{seen_circuit}
+use Rattle.iv_store.proofs.Circling.{seen_circuit}
 use Rattle.iv_engine.proofs.Righting.{StaysStill, flag_beside, flags_of, reads_same, righted_step, righted_stored, waiting}
-use Rattle.iv_engine.proofs.Seeing.{sees_same}
+use Rattle.iv_store.proofs.Seeing.{sees_same}
 
 -- ---- flags that differ
 

@@ -16,8 +16,8 @@ use Rattle.iv_database.specs.Owned.{IsGuarded}
 use Rattle.iv_machine.specs.Act.{PolicyText, create_policy}
 use Rattle.iv_machine.specs.Changing.{policy_for}
 use Rattle.iv_machine.specs.State.{rel_of}
-use Rattle.iv_engine.specs.Store.{database_of, with_database, IsRoleCircuit, IsSoundStore, Store, frame_of}
-use Rattle.iv_engine.specs.Turned.{IsNarrowed}
+use Rattle.iv_store.specs.Store.{database_of, with_database, IsRoleCircuit, IsSoundStore, Store, frame_of}
+use Rattle.iv_store.specs.Turned.{IsNarrowed}
 use Rattle.iv_readers.proofs.Lists.{all_map}
 use Rattle.iv_engine.proofs.Guarding.{guard_is, guarded, policy_guards}
 

@@ -10,12 +10,12 @@ use Rattle.std.specs.declared.cmp.Ordering.TheVariants.{Less}
 use Rattle.std.proofs.lemmas.Bool.Decides.{nat_tests}
 use Rattle.iv_machine.specs.Reached.{AreGiven, AreNumbersUnique, AreUnique}
 use Rattle.iv_machine.specs.State.{Frame, Subscription, start}
-use Rattle.iv_engine.specs.Answering.{seen}
-use Rattle.iv_engine.specs.Store.{Store, frame_of}
-use Rattle.iv_engine.specs.Rounds.{by_number, of_number, rounds, rounds_of}
-use Rattle.iv_engine.specs.Engine.{HasRoundsOfOpen}
-use Rattle.iv_engine.proofs.Counted.{none_listed}
-use Rattle.iv_engine.proofs.Running.{shown_by}
+use Rattle.iv_store.specs.Answering.{seen}
+use Rattle.iv_store.specs.Store.{Store, frame_of}
+use Rattle.iv_store.specs.Rounds.{by_number, of_number, rounds, rounds_of}
+use Rattle.iv_store.specs.Engine.{HasRoundsOfOpen}
+use Rattle.iv_store.proofs.Counted.{none_listed}
+use Rattle.iv_store.proofs.Running.{shown_by}
 
 same_nat : (m n : ℕ) → (m == n) ≡ true → m ≡ n
 same_nat m n h = grind (arith, nat_tests)

@@ -20,29 +20,29 @@ use Rattle.iv_machine.specs.State.{State, Subscription, actor, is_within, missin
 use Rattle.iv_machine.specs.declared.Cause.{Cause}
 use Rattle.iv_machine.proofs.Reached.{given_kept, unique_kept}
 use Rattle.iv_machine.proofs.Splitting.{split}
-use Rattle.iv_engine.specs.Answering.{IsAccepted, seen, sent}
-use Rattle.iv_engine.specs.Counting.{TurnsRounds}
+use Rattle.iv_store.specs.Answering.{IsAccepted, seen, sent}
+use Rattle.iv_store.specs.Counting.{TurnsRounds}
 use Rattle.iv_readers.specs.Each.{Each}
-use Rattle.iv_engine.specs.Found.{beside_of, total_at}
+use Rattle.iv_store.specs.Found.{beside_of, total_at}
 use Rattle.iv_database.proofs.Stored.{rights_stored}
-use Rattle.iv_engine.specs.Store.{database_of, IsOpen, IsRoleCircuit, IsSoundStore, IsStored, IsWithin, Store, at, frame_of, is_read, may_read, place_of, role_reads, shown_rows, with_rights}
+use Rattle.iv_store.specs.Store.{database_of, IsOpen, IsRoleCircuit, IsSoundStore, IsStored, IsWithin, Store, at, frame_of, is_read, may_read, place_of, role_reads, shown_rows, with_rights}
 use Rattle.iv_readers.specs.Readers.{RoleCircuit}
-use Rattle.iv_engine.specs.Rounds.{rounds_of}
-use Rattle.iv_engine.specs.Engine.{IsBehind}
+use Rattle.iv_store.specs.Rounds.{rounds_of}
+use Rattle.iv_store.specs.Engine.{IsBehind}
 use Rattle.iv_database.specs.Stands.{Stands}
-use Rattle.iv_engine.specs.Turned.{AreReadersTold, AreShowed, AreWaiting, IsOther, IsStill, WasRead, stays_open, turned_by, turned_line}
+use Rattle.iv_store.specs.Turned.{AreReadersTold, AreShowed, AreWaiting, IsOther, IsStill, WasRead, stays_open, turned_by, turned_line}
 use Rattle.iv_command.specs.Views.{line_of, reply_of}
 use Rattle.iv_command.specs.declared.answer.Answer.{Answer}
-use Rattle.iv_engine.proofs.Beside.{beside_each}
-use Rattle.iv_engine.proofs.Circling.{bag_for, same_circuit}
-use Rattle.iv_engine.proofs.Counted.{IsBeside, all_beside, those_counted}
-use Rattle.iv_engine.proofs.Passing.{all_kept, all_pass}
-use Rattle.iv_engine.proofs.Showing.{each_found, kept_found, kept_one, lists_behind, shown_is, stands_behind}
+use Rattle.iv_store.proofs.Beside.{beside_each}
+use Rattle.iv_store.proofs.Circling.{bag_for, same_circuit}
+use Rattle.iv_store.proofs.Counted.{IsBeside, all_beside, those_counted}
+use Rattle.iv_store.proofs.Passing.{all_kept, all_pass}
+use Rattle.iv_store.proofs.Showing.{each_found, kept_found, kept_one, lists_behind, shown_is, stands_behind}
 use Rattle.iv_readers.proofs.Lists.{all_map, all_zip}
-use Rattle.iv_engine.proofs.Sound.{has_same}
-use Rattle.iv_engine.proofs.Stepping.{no_refusal, same_lines}
-use Rattle.iv_engine.proofs.Totals.{total_counts}
-use Rattle.iv_engine.proofs.Unread.{read_has}
+use Rattle.iv_store.proofs.Sound.{has_same}
+use Rattle.iv_store.proofs.Stepping.{no_refusal, same_lines}
+use Rattle.iv_store.proofs.Totals.{total_counts}
+use Rattle.iv_store.proofs.Unread.{read_has}
 
 -- ---- what a role may read
 

@@ -28,9 +28,9 @@ use Rattle.iv_database.specs.Database.{Database}
 use Rattle.iv_database.specs.Owned.{IsGuarded}
 use Rattle.iv_machine.specs.Act.{drop_policy}
 use Rattle.iv_machine.specs.State.{rel_of}
-use Rattle.iv_engine.specs.Store.{database_of, with_database, IsRoleCircuit, IsSoundStore, Store}
+use Rattle.iv_store.specs.Store.{database_of, with_database, IsRoleCircuit, IsSoundStore, Store}
 use Rattle.iv_engine.specs.Restricted.{is_user, names_user, IsHidden, IsRestricted}
-use Rattle.iv_engine.specs.Turned.{IsNarrowed}
+use Rattle.iv_store.specs.Turned.{IsNarrowed}
 use Rattle.iv_readers.proofs.Lists.{all_map}
 use Rattle.iv_engine.proofs.Guarding.{drop_guards, guard_is, guarded}
 

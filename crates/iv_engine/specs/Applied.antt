@@ -1,8 +1,8 @@
 -- What a list of commands makes of the engine, command by command.
 use Rattle.std.specs.Prelude.{◌≡◌, List, [], ◌∷◌, ◌++◌}
 use Rattle.iv_machine.specs.Act.{Command, Line}
-use Rattle.iv_engine.specs.Counting.{AreCountedWhereAccepted}
-use Rattle.iv_engine.specs.Engine.{AreLinesOf, ChangesWhereAccepted, HasKnownRows, IsLeftBy, Engine}
+use Rattle.iv_store.specs.Counting.{AreCountedWhereAccepted}
+use Rattle.iv_store.specs.Engine.{AreLinesOf, ChangesWhereAccepted, HasKnownRows, IsLeftBy, Engine}
 
 -- a command, as one `apply` answers it
 pub record IsApplied (old : Engine) (c : Command) (said : List Line) (new : Engine) : Type 0 where

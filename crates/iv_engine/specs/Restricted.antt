@@ -9,7 +9,7 @@ use Rattle.iv_access.specs.Policies.{IsRestriction, policies_of}
 use Rattle.iv_access.specs.Rights.{Name}
 use Rattle.iv_circuit.specs.Circuits.{HiddenRows}
 use Rattle.iv_machine.specs.State.{rel_of}
-use Rattle.iv_engine.specs.Store.{Store}
+use Rattle.iv_store.specs.Store.{Store}
 
 -- the term is the name of the user
 abbrev pub is_user : Term → Bool

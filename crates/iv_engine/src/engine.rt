@@ -11,12 +11,13 @@ ghost use Rattle.iv_machine.specs.Reached.{AreNumbersUnique};
 ghost use Rattle.iv_machine.specs.State.{State, start};
 ghost use Rattle.iv_machine.specs.Well.{is_well_command};
 ghost use Rattle.iv_engine.specs.Applied.{AreApplied};
-ghost use Rattle.iv_engine.specs.Counting.{AreCountedWhereAccepted};
-ghost use Rattle.iv_engine.specs.Engine.{AreLinesOf, AreLinesOfAll, ChangesWhereAccepted, HasKnownRows, HasRoundsOfOpen, IsBehind, IsLeftBy, IsLeftByAll, LinesAddUpBehind, hung_up};
+ghost use Rattle.iv_store.specs.Counting.{AreCountedWhereAccepted};
+ghost use Rattle.iv_store.specs.Engine.{AreLinesOf, AreLinesOfAll, ChangesWhereAccepted, HasKnownRows, HasRoundsOfOpen, IsBehind, IsLeftBy, IsLeftByAll, LinesAddUpBehind, hung_up};
 ghost use Rattle.iv_command.specs.Views.{command_of, line_of};
 
-use crate::store::Store;
+use crate::step::step;
 use iv_command::{Command, Line};
+use iv_store::Store;
 use iv_zset::Seed;
 use std::alloc::{AllocError, Global};
 use std::marker::Model;
@@ -50,10 +51,10 @@ pub struct Engine {
 
 impl Model for Engine {
     ghost use Rattle.std.specs.Prelude.{◌≡◌, false};
-    ghost use Rattle.iv_engine.specs.Codes.{seen_code};
-    ghost use Rattle.iv_engine.specs.Store.{IsSoundStore, frame_of};
-    ghost use Rattle.iv_engine.specs.Rounds.{rounds};
-    ghost use Rattle.iv_engine.specs.Engine.{Engine};
+    ghost use Rattle.iv_store.specs.Codes.{seen_code};
+    ghost use Rattle.iv_store.specs.Store.{IsSoundStore, frame_of};
+    ghost use Rattle.iv_store.specs.Rounds.{rounds};
+    ghost use Rattle.iv_store.specs.Engine.{Engine};
 
     ghost Value = { Engine };
 
@@ -151,7 +152,7 @@ impl Engine {
             drop(command);
             return Err(EngineFault::Failed);
         }
-        match self.store.step(command) {
+        match step(&mut self.store, command) {
             Ok(lines) => Ok(lines),
             Err(_) => {
                 self.failed = true;

@@ -5,12 +5,12 @@ use Rattle.iv_machine.specs.Reached.{AreNumbersUnique}
 use Rattle.iv_machine.specs.Readers.{ShowsKnownRows}
 use Rattle.iv_machine.proofs.Seeing.{step_shows}
 use Rattle.std.specs.List.{All}
-use Rattle.iv_engine.specs.Answering.{seen}
-use Rattle.iv_engine.specs.Store.{Store, frame_of}
-use Rattle.iv_engine.specs.Engine.{Engine, IsBehind}
+use Rattle.iv_store.specs.Answering.{seen}
+use Rattle.iv_store.specs.Store.{Store, frame_of}
+use Rattle.iv_store.specs.Engine.{Engine, IsBehind}
 use Rattle.iv_database.specs.Stands.{Stands}
 use Rattle.iv_command.specs.Views.{command_of, line_of}
-use Rattle.iv_engine.proofs.Running.{counted_seen, shown_by}
+use Rattle.iv_store.proofs.Running.{counted_seen, shown_by}
 use Rattle.iv_engine.proofs.engine.Engine.apply.Goals as goal
 
 pub returns-in-Ok-clause-lines : goal.returns-in-Ok-clause-lines
@@ -23,7 +23,7 @@ pub returns-in-Ok-clause-state : goal.returns-in-Ok-clause-state
 returns-in-Ok-clause-state c = λ s b.
     let frame : s.frame ≡ frame_of c.self.inside.store = b.frame ∙ ap (λ (v : Engine). v.frame) (sym c.self.view_is) in
     let rows = subst (λ (v : Engine). Stands s.rows v.tables) (sym c.self.view_is) b.rows in
-    let behind = subst (λ (f : Frame). IsBehind (step (record { frame = f; rows = s.rows }) (command_of c.args.command)).state (seen c.step.new.self)) (sym frame) (c.in-Ok.ensures.state s.rows rows) in
+    let behind = subst (λ (f : Frame). IsBehind (step (record { frame = f; rows = s.rows }) (command_of c.args.command)).state (seen c.step.new.store)) (sym frame) (c.in-Ok.ensures.state s.rows rows) in
     record { frame = behind.frame; rows = behind.rows }
 
 pub returns-in-Ok-clause-known_rows : goal.returns-in-Ok-clause-known_rows
@@ -40,4 +40,4 @@ returns-in-Ok-clause-refused c = λ n r is. ap (λ (e : Store). shown_by e c.sel
 pub returns-in-Ok-clause-rounds : goal.returns-in-Ok-clause-rounds
 returns-in-Ok-clause-rounds c =
     let off : c.self.inside.failed ≡ false = ap (λ (v : Engine). v.failed) c.self.view_is ∙ sym c.is_failed.ensures.failed ∙ c.if-is_failed.false in
-    counted_seen c.self.inside.store c.step.new.self c.args.self.now c.self.inside.failed (command_of c.args.command) (map line_of c.in-Ok.lines.items) off c.self.view_is c.in-Ok.ensures.rounds
+    counted_seen c.self.inside.store c.step.new.store c.args.self.now c.self.inside.failed (command_of c.args.command) (map line_of c.in-Ok.lines.items) off c.self.view_is c.in-Ok.ensures.rounds

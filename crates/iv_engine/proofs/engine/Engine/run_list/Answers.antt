@@ -11,10 +11,10 @@ use Rattle.iv_machine.specs.Well.{is_well_command}
 use Rattle.iv_machine.specs.Act.{Line}
 use Rattle.iv_command.specs.declared.command.Command.{Command}
 use Rattle.iv_engine.specs.Applied.{AreApplied}
-use Rattle.iv_engine.specs.Engine.{IsBehind}
+use Rattle.iv_store.specs.Engine.{IsBehind}
 use Rattle.iv_command.specs.Views.{command_of, line_of}
 use Rattle.iv_engine.proofs.Applying.{GoesBehind, one_more}
-use Rattle.iv_engine.proofs.Running.{no_items, nothing_more, run_more, well_others}
+use Rattle.iv_store.proofs.Running.{no_items, nothing_more, run_more, well_others}
 use Rattle.iv_engine.proofs.engine.Engine.run_list.Goals as goal
 
 pub loop-command-preserved : goal.loop-command-preserved

@@ -4,7 +4,7 @@ use Rattle.std.specs.Vec.Iter.{into_iter_items}
 use Rattle.iv_machine.specs.Machine.{run}
 use Rattle.iv_machine.specs.State.{State}
 use Rattle.iv_machine.specs.Well.{is_well_command}
-use Rattle.iv_engine.specs.Engine.{IsBehind}
+use Rattle.iv_store.specs.Engine.{IsBehind}
 use Rattle.iv_command.specs.Views.{command_of, line_of}
 use Rattle.iv_engine.proofs.Applying.{GoesBehind}
 use Rattle.iv_engine.proofs.engine.Engine.run_list.Given as goal

@@ -1,0 +1,16 @@
+pub mod Engine
+pub mod Store
+pub mod Rounds
+pub mod Counting
+pub mod Codes
+pub mod Next
+pub mod Answering
+pub mod Found
+pub mod Built
+pub mod Moved
+pub mod Touching
+pub mod Turned
+pub mod Concerned
+pub mod Finished
+pub mod Openable
+pub mod Taken
