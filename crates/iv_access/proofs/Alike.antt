@@ -8,8 +8,10 @@ use Rattle.iv_access.specs.declared.policy.Verdict.TheVariants.{Pass, NoPermissi
 use Rattle.iv_access.specs.declared.privilege.Privilege.{Privilege}
 use Rattle.iv_access.specs.Laws.{ReachesAlike}
 use Rattle.iv_access.specs.Policies.{applies, covers, failed_at, forbids, is_exempt, passes, permits, policies_of, verdict}
-use Rattle.iv_access.specs.Privileges.{has, is_admin, is_for, privilege_eq, role_name}
-use Rattle.iv_access.specs.Rights.{Grantee, Public, Role, Guard, Membership, Policy, Rights}
+use Rattle.iv_roles.specs.Roles.{is_admin}
+use Rattle.iv_access.specs.Privileges.{has, is_for, privilege_eq, role_name}
+use Rattle.iv_roles.specs.Memberships.{Membership}
+use Rattle.iv_access.specs.Rights.{Grantee, Public, Role, Guard, Policy, Rights}
 
 module _ (r : Rights) (ms : List Membership) (role : ℕ) (alike : ReachesAlike r ms role) where
   same_for : (g : Grantee) → is_for (record r { members = ms }) role g ≡ is_for r role g

@@ -10,7 +10,8 @@ use Rattle.iv_rows.specs.declared.value.Kind.{Kind}
 use Rattle.iv_access.specs.Rights.{Name}
 use Rattle.iv_access.specs.Access.{relation_of}
 use Rattle.iv_access.specs.Stored.{relation_at}
-use Rattle.iv_access.proofs.Lists.{absent_map, no_value}
+use Rattle.iv_roles.proofs.Lists.{absent_map}
+use Rattle.iv_access.proofs.Lists.{no_value}
 
 pub entered : {S : Type 0} (m : IndexMap (String Global) (Option (Vec Kind)) S) (text : String Global) (kinds : Option (Vec Kind)) (name : Name)
     → string_bytes text ≡ name → relation_of (map relation_at m.entries) name ≡ None

@@ -11,8 +11,8 @@ use Rattle.iv_access.specs.Privileges.{privilege_eq}
 use Rattle.iv_access.specs.Changing.{grantee_eq, grant_eq, revoked}
 use Rattle.iv_access.specs.Given.{is_among}
 use Rattle.iv_access.specs.Grants.{AreFlags, FlagsStay, flag_of, grantees_of, IsClear, IsSetIn, is_flagged, no_grants}
-use Rattle.iv_access.proofs.Chains.{never}
-use Rattle.iv_access.proofs.Flags.{none_set}
+use Rattle.iv_roles.proofs.Chains.{never}
+use Rattle.iv_roles.proofs.Flags.{none_set}
 use Rattle.iv_access.proofs.Granting.{none_left}
 use Rattle.iv_access.proofs.Naming.{among_granted, among_revoked}
 

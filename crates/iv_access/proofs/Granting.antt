@@ -7,10 +7,11 @@ use Rattle.iv_access.specs.declared.privilege.Privilege.{Privilege}
 use Rattle.iv_access.specs.Rights.{Grantee, Public, Role, Grant, Rights}
 use Rattle.iv_access.specs.declared.privilege.Privilege.TheVariants.{Select, Insert, Update, Delete}
 use Rattle.iv_access.specs.Given.{HasBy, as_admin, by_all, by_role, IsInherited, IsNotInherited, grant_to, is_among}
-use Rattle.iv_access.specs.Memberships.{reaches}
-use Rattle.iv_access.specs.Privileges.{has, is_admin, privilege_eq, is_for}
+use Rattle.iv_roles.specs.Memberships.{reaches}
+use Rattle.iv_roles.specs.Roles.{is_admin}
+use Rattle.iv_access.specs.Privileges.{has, privilege_eq, is_for}
 use Rattle.iv_access.specs.Changing.{grant_eq, grantee_eq}
-use Rattle.iv_access.proofs.Chains.{never, one_of, each_of, by_left, by_right, by_both, two_ways, follows, reaches_itself, reaches_on}
+use Rattle.iv_roles.proofs.Chains.{never, one_of, each_of, by_left, by_right, by_both, two_ways, follows, reaches_itself, reaches_on}
 
 -- ---- grants that are found equal are one grant
 

@@ -1,6 +1,4 @@
 pub mod Lists
-pub mod Chains
-pub mod Flags
 pub mod Granting
 pub mod Counting
 pub mod Entering
@@ -9,7 +7,6 @@ pub mod Naming
 pub mod Flagged
 pub mod Rising
 pub mod Looping
-pub mod Long
 pub mod Alike
 pub mod Further
 pub mod Alone

@@ -3,10 +3,10 @@ use Rattle.std.proofs.Common.{◌≡◌, [], ◌∷◌, Bool, true, false, refl,
 use Rattle.iv_access.specs.declared.fault.AccessFault.TheVariants as fault
 use Rattle.iv_access.specs.Faults.{first_fault}
 use Rattle.iv_access.specs.Access.{role_number}
-use Rattle.iv_access.specs.Memberships.{member_of}
+use Rattle.iv_roles.specs.Memberships.{member_of}
 use Rattle.iv_access.specs.Reached.{IsReached, at_start, role_created, role_granted, role_revoked, relation_added, privileges_granted, privileges_revoked, security_switched, policy_created, policy_dropped}
 use Rattle.iv_access.specs.Rights.{Rights}
-use Rattle.iv_access.proofs.Chains.{AreApart, apart_none, apart_joined, apart_parted}
+use Rattle.iv_roles.proofs.Chains.{AreApart, apart_none, apart_joined, apart_parted}
 
 no_loop : (a b c d : Bool) → first_fault ((a, fault.NotAdmin) ∷ (b, fault.Role) ∷ (c, fault.Role) ∷ (d, fault.Loop) ∷ []) ≡ None → d ≡ false
 no_loop true b c d e = cc

@@ -20,7 +20,8 @@ use Rattle.iv_access.specs.NewPolicies.{policy_from}
 use Rattle.iv_access.specs.Changing.{changed_at, insert_policy, remove_policy}
 use Rattle.iv_access.specs.Policies.{failed_at, is_named, policies_of, policy_of}
 use Rattle.iv_access.specs.Reached.{IsReached, at_start, role_created, role_granted, role_revoked, relation_added, privileges_granted, privileges_revoked, security_switched, policy_created, policy_dropped, ComesBefore, Rise, IsFirstByName}
-use Rattle.iv_access.proofs.Lists.{absent, or_left, or_right}
+use Rattle.iv_roles.proofs.Lists.{absent}
+use Rattle.iv_access.proofs.Lists.{or_left, or_right}
 
 -- ---- names
 

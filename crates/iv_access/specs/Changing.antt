@@ -6,7 +6,7 @@ use Rattle.std.specs.Cmp.Lexicographic.{slice_cmp}
 use Rattle.iv_access.specs.declared.privilege.Privilege.{Privilege}
 use Rattle.iv_access.specs.declared.privilege.Privilege.TheVariants.{Select, Insert, Update, Delete}
 use Rattle.iv_access.specs.Rights.{Name, Grantee, Public, Role, Grant, Guard, Policy, Rights}
-use Rattle.iv_access.specs.Memberships.{member_of, with_membership, without_membership}
+use Rattle.iv_roles.specs.Memberships.{member_of, with_membership, without_membership}
 use Rattle.iv_access.specs.Privileges.{privilege_eq}
 use Rattle.iv_access.specs.Policies.{is_named}
 

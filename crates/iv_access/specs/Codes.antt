@@ -10,7 +10,9 @@ use Rattle.iv_access.specs.declared.privilege.Privilege.{Privilege}
 use Rattle.iv_access.specs.declared.privilege.Privilege.TheVariants.{Select, Insert, Update, Delete}
 use Rattle.iv_access.specs.declared.policy.PolicyCommand.{PolicyCommand}
 use Rattle.iv_access.specs.declared.policy.PolicyCommand.TheVariants as command
-use Rattle.iv_access.specs.Rights.{Name, Membership, Grantee, Public, Role, Grant, Guard, Policy, Rights}
+use Rattle.iv_roles.specs.Memberships.{Membership}
+use Rattle.iv_roles.specs.Codes.{membership_code}
+use Rattle.iv_access.specs.Rights.{Name, Grantee, Public, Role, Grant, Guard, Policy, Rights}
 use Rattle.iv_access.specs.Access.{Relation, Access}
 use Rattle.iv_access.specs.NewPolicies.{NewPolicy}
 use Rattle.iv_access.specs.Filters.{Filter}
@@ -116,9 +118,6 @@ abbrev pub guard_code : Coded Guard
 guard_code =
     code_by ((ℕ × Bool) × (Bool × List Policy)) (coded× (coded× coded_ℕ coded_bool) (coded× coded_bool (coded_list policy_code)))
     (λ g. ((g.owner, g.enabled), (g.forced, g.policies))) (λ c. record { owner = c.0.0; enabled = c.0.1; forced = c.1.0; policies = c.1.1 }) (λ _. refl)
-
-abbrev pub membership_code : Coded Membership
-membership_code = code_by (ℕ × ℕ) (coded× coded_ℕ coded_ℕ) (λ m. (m.role, m.member)) (λ c. record { role = c.0; member = c.1 }) (λ _. refl)
 
 abbrev pub rights_code : Coded Rights
 rights_code =

@@ -5,7 +5,8 @@ use Rattle.std.specs.List.{list_all}
 use Rattle.iv_access.specs.declared.fault.AccessFault.{AccessFault}
 use Rattle.iv_access.specs.declared.fault.AccessFault.TheVariants as fault
 use Rattle.iv_access.specs.Rights.{Name, Rights}
-use Rattle.iv_access.specs.Privileges.{role_of, acts_as, is_admin, owns}
+use Rattle.iv_roles.specs.Roles.{is_admin}
+use Rattle.iv_access.specs.Privileges.{role_of, acts_as, owns}
 use Rattle.iv_access.specs.Policies.{policies_of, policy_of}
 use Rattle.iv_access.specs.Access.{Access, Relation, relation_of, role_number}
 

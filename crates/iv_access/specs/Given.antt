@@ -5,8 +5,9 @@ use Rattle.iv_algebra.specs.Rows.{Cells}
 use Rattle.iv_access.specs.declared.privilege.Privilege.{Privilege}
 use Rattle.iv_access.specs.declared.policy.Check.{Check}
 use Rattle.iv_access.specs.Rights.{Grantee, Public, Role, Grant, Policy, Rights}
-use Rattle.iv_access.specs.Memberships.{Reaches, reaches}
-use Rattle.iv_access.specs.Privileges.{is_admin, privilege_eq}
+use Rattle.iv_roles.specs.Memberships.{Reaches, reaches}
+use Rattle.iv_roles.specs.Roles.{is_admin}
+use Rattle.iv_access.specs.Privileges.{privilege_eq}
 use Rattle.iv_access.specs.Policies.{applies, permits, forbids}
 use Rattle.iv_access.specs.Changing.{grantee_eq, grant_eq}
 

@@ -1,17 +1,18 @@
 -- Laws of rights.
-use Rattle.std.specs.Prelude.{◌≡◌, ◌≢◌, ℕ, ◌≤◌, ◌&&◌, ◌||◌, not, true, false, List, length, nat_le, slice_get}
+use Rattle.std.specs.Prelude.{◌≡◌, ◌≢◌, ℕ, ◌&&◌, ◌||◌, not, true, false, List, length, slice_get}
 use Rattle.std.specs.Bool.{Decides}
 use Rattle.std.specs.List.{AllPass, list_any}
 use Rattle.iv_algebra.specs.Rows.{Cells}
 use Rattle.iv_access.specs.declared.policy.Check.{Check}
 use Rattle.iv_access.specs.declared.policy.Verdict.TheVariants.{NoPermissive, Restrictive}
 use Rattle.iv_access.specs.declared.privilege.Privilege.{Privilege}
-use Rattle.iv_access.specs.Rights.{Membership, Grant, Grantee, Policy, Rights}
-use Rattle.iv_access.specs.Privileges.{has, is_admin}
+use Rattle.iv_roles.specs.Roles.{is_admin}
+use Rattle.iv_roles.specs.Memberships.{Membership, Reaches, reaches}
+use Rattle.iv_access.specs.Rights.{Grant, Grantee, Policy, Rights}
+use Rattle.iv_access.specs.Privileges.{has}
 use Rattle.iv_access.specs.Policies.{forbids, policies_of, is_exempt, is_pass, verdict}
 use Rattle.iv_access.specs.Changing.{with_grants, without_grants, with_relation, with_policy}
 use Rattle.iv_access.specs.Reached.{IsReached, Rise, IsFirstByName}
-use Rattle.iv_access.specs.Memberships.{Reaches, chain_of, reaches}
 use Rattle.iv_access.specs.Given.{HasBy, grant_to, is_among, is_named_by, is_let_through, may_permit}
 
 -- ---- grants
@@ -41,13 +42,6 @@ OwnersHaveAll = (r : Rights) (owner : ℕ) (p : Privilege) → has (with_relatio
 
 -- ---- memberships
 
-abbrev pub FollowsChains : Type 0
-FollowsChains = (ms : List Membership) (role other : ℕ) → Decides (reaches ms role other) (Reaches ms role other)
-
--- along a chain each role reaches those before it, however many they are, and none behind it
-abbrev pub ReachAlongChains : Type 0
-ReachAlongChains = (n role other : ℕ) → role ≤ n → reaches (chain_of n) role other ≡ nat_le other role
-
 -- what a role holds its members hold
 abbrev pub MembersHold : Type 0
 MembersHold =
@@ -56,10 +50,6 @@ MembersHold =
 -- no two roles reach each other
 abbrev pub NoLoops : Type 0
 NoLoops = (r : Rights) → IsReached r → (role other : ℕ) → Reaches r.members role other → Reaches r.members other role → role ≡ other
-
--- the roles that it reaches are the same where it reaches `role` as it did before
-abbrev pub StaysUnless : List Membership → List Membership → ℕ → Type 0
-StaysUnless before after role = (a : ℕ) → reaches after a role ≡ reaches before a role → (b : ℕ) → reaches after a b ≡ reaches before a b
 
 -- the role reaches by the memberships what it reaches in the rights
 abbrev pub ReachesAlike : Rights → List Membership → ℕ → Type 0

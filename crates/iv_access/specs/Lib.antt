@@ -1,6 +1,4 @@
 pub mod Rights
-pub mod Memberships
-pub mod Rows
 pub mod Privileges
 pub mod Policies
 pub mod Changing

@@ -12,7 +12,8 @@ use Rattle.iv_access.specs.declared.policy.Check.TheVariants.{Select, Insert, Up
 use Rattle.iv_access.specs.declared.policy.Verdict.{Verdict}
 use Rattle.iv_access.specs.declared.policy.Verdict.TheVariants.{Pass, NoPermissive, Restrictive}
 use Rattle.iv_access.specs.Rights.{Name, Guard, Policy, Rights}
-use Rattle.iv_access.specs.Privileges.{is_admin, is_for, is_owner, role_name}
+use Rattle.iv_roles.specs.Roles.{is_admin}
+use Rattle.iv_access.specs.Privileges.{is_for, is_owner, role_name}
 
 -- ---- what a write is tested for
 

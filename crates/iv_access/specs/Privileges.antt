@@ -6,7 +6,8 @@ use Rattle.iv_rows.specs.declared.schema.RelId.{RelId}
 use Rattle.iv_access.specs.declared.privilege.Privilege.{Privilege}
 use Rattle.iv_access.specs.declared.privilege.Privilege.TheVariants.{Select, Insert, Update, Delete}
 use Rattle.iv_access.specs.Rights.{Name, Grantee, Public, Role, Guard, Rights}
-use Rattle.iv_access.specs.Memberships.{reaches}
+use Rattle.iv_roles.specs.Memberships.{reaches}
+use Rattle.iv_roles.specs.Roles.{is_admin}
 
 -- the number of the role of a name
 abbrev pub role_of : Rights → Name → Option ℕ
@@ -15,9 +16,6 @@ role_of r name = position (bytes_eq name) r.roles
 -- the name of a role, which policies see as the user
 abbrev pub role_name : Rights → ℕ → Name
 role_name r role = unwrap_or (slice_get r.roles role) []
-
-abbrev pub is_admin : ℕ → Bool
-is_admin role = role == 0
 
 -- the role has what the other has: it is the other, or a member of it, directly or through others
 abbrev pub acts_as : Rights → ℕ → ℕ → Bool

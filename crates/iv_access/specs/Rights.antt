@@ -1,6 +1,7 @@
 -- Rights: roles, owners, grants, row security and policies.
 use Rattle.std.specs.Prelude.{ℕ, Bool, List, [], ◌∷◌, Option, codes}
 use Rattle.iv_algebra.specs.Shapes.{Condition}
+use Rattle.iv_roles.specs.Memberships.{Membership}
 use Rattle.iv_access.specs.declared.privilege.Privilege.{Privilege}
 use Rattle.iv_access.specs.declared.policy.PolicyCommand.{PolicyCommand}
 
@@ -12,11 +13,6 @@ Name = List ℕ
 pub data Grantee : Type 0 where
   Public : Grantee
   Role : ℕ → Grantee
-
--- the member has what the role has (PostgreSQL 16, Role Membership)
-pub record Membership : Type 0 where
-  pub role : ℕ
-  pub member : ℕ
 
 -- PostgreSQL 16, Privileges
 pub record Grant : Type 0 where

@@ -11,11 +11,9 @@ ghost use Rattle.iv_access.specs.Privileges.{acts_as, has, first_missing, owns, 
 
 use crate::grants::Grants;
 use crate::guard::Guard;
-use crate::memberships::{Memberships, flag_at};
 use crate::privilege::{Missing, Privilege};
 use crate::relations::Relations;
-use crate::role::RoleId;
-use crate::roles::Roles;
+use iv_roles::{Memberships, RoleId, Roles, flag_at};
 use iv_rows::RelId;
 use iv_zset::Seed;
 use std::alloc::{AllocError, Global};

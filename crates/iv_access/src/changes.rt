@@ -12,8 +12,7 @@ use crate::grant::Grantee;
 use crate::guard::Guard;
 use crate::privilege::Privilege;
 use crate::relations::MOST_RELATIONS;
-use crate::role::RoleId;
-use crate::roles::MOST_ROLES;
+use iv_roles::{MOST_ROLES, RoleId};
 use iv_rows::{Kind, RelId};
 
 impl Access {

@@ -10,7 +10,7 @@ use crate::access::Access;
 use crate::grant::Grantee;
 use crate::guard::Guard;
 use crate::policy::{Check, Policy, Verdict, covers};
-use crate::role::RoleId;
+use iv_roles::RoleId;
 use iv_algebra::Pred;
 use iv_rows::{RelId, Row};
 

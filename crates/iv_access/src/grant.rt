@@ -5,7 +5,7 @@ ghost use Rattle.iv_access.specs.Given.{grant_to};
 ghost use Rattle.iv_access.specs.Grants.{seen};
 
 use crate::privilege::Privilege;
-use crate::role::RoleId;
+use iv_roles::RoleId;
 use iv_rows::RelId;
 use std::marker::Model;
 

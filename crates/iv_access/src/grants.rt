@@ -13,9 +13,8 @@ ghost use Rattle.iv_access.specs.Grants.{FlagsStay, flag_of, grantees_of, HasPla
 ghost use Rattle.iv_access.specs.Rights.{Public, Role};
 
 use crate::grant::{Grant, Grantee};
-use crate::memberships::flag_at;
 use crate::privilege::Privilege;
-use crate::role::RoleId;
+use iv_roles::{RoleId, flag_at};
 use iv_rows::RelId;
 use std::alloc::{AllocError, Global};
 use std::marker::Model;

@@ -8,7 +8,7 @@ ghost use Rattle.iv_access.specs.Changing.{insert_policy, remove_policy};
 ghost use Rattle.iv_access.specs.Stored.{is_before};
 
 use crate::policy::Policy;
-use crate::role::RoleId;
+use iv_roles::RoleId;
 use std::alloc::{AllocError, Global};
 use std::marker::Model;
 

@@ -1,13 +1,10 @@
-//! Laws of rights: grants, memberships and policies.
+//! Laws of rights: grants, members and policies.
 //! Each is the contract of a function that does nothing.
 //!
 //! That what policies say of a row is the same whatever rows the tables hold needs no law: `check` is given the rights, the
 //! role, the table's number, the test and the row, and no table. So it is with each look-up of a privilege.
-ghost use Rattle.std.specs.Prelude.{ℕ, List};
-ghost use Rattle.iv_access.specs.Rights.{Membership};
-ghost use Rattle.iv_access.specs.Memberships.{member_of, with_membership, without_membership};
 ghost use Rattle.iv_access.specs.Laws.{GrantsGive, RevokesTake, HeldGrantsChangeNothing, RolesHaveTheirOwn, OwnersHaveAll};
-ghost use Rattle.iv_access.specs.Laws.{FollowsChains, HasByReach, MembersHold, NoLoops, ReachAlongChains, SeesByReach, StaysUnless};
+ghost use Rattle.iv_access.specs.Laws.{HasByReach, MembersHold, NoLoops, SeesByReach};
 ghost use Rattle.iv_access.specs.Laws.{RowsPassWherePermitted, NothingPassesWithoutPermissive, PoliciesRise, FirstByNameIsTold};
 ghost use Rattle.iv_access.specs.Laws.{RestrictiveNarrow, PermissiveWiden, OtherTablesStay};
 
@@ -31,16 +28,6 @@ pub fn roles_have_their_own_and_the_public()
     ensures { RolesHaveTheirOwn }
 {}
 
-/// The test whether a role reaches another follows each chain of direct memberships, and nothing else.
-pub fn chains_are_followed()
-    ensures { FollowsChains }
-{}
-
-/// Along a chain of any length each role reaches those before it and none behind it.
-pub fn chains_may_be_long()
-    ensures { ReachAlongChains }
-{}
-
 /// What a role holds each role holds that reaches it; what `admin` has as the superuser is not held.
 pub fn members_hold_what_roles_hold()
     ensures { MembersHold }
@@ -49,12 +36,6 @@ pub fn members_hold_what_roles_hold()
 /// Whatever changes led to the rights, no two roles reach each other.
 pub fn memberships_do_not_loop()
     ensures { NoLoops }
-{}
-
-/// A role reaches the same roles after a membership comes or goes, unless it comes to reach its role or ceases to.
-pub fn few_reach_others()
-    ensures come { (ms : List Membership) (role member : ℕ) → StaysUnless ms (with_membership (member_of role member) ms) role }
-    ensures gone { (ms : List Membership) (role member : ℕ) → StaysUnless ms (without_membership (member_of role member) ms) role }
 {}
 
 /// What a role has and what it sees stay as they are where it reaches the same roles.

@@ -11,7 +11,7 @@ ghost use Rattle.iv_access.specs.Policies.{policies_of};
 use crate::access::Access;
 use crate::grant::Grantee;
 use crate::policy::{NewPolicy, Policy};
-use crate::role::RoleId;
+use iv_roles::RoleId;
 use iv_rows::RelId;
 use std::alloc::AllocError;
 

@@ -8,11 +8,12 @@ use Rattle.iv_bind.specs.BoundTexts.{TextFault, bound_query}
 use Rattle.iv_bind.specs.Catalogs.{BoundQuery, CatalogEntry, Held, Table, View, named, table_in, view_in}
 use Rattle.iv_access.specs.Faults.{add_relation_fault, count_like, first_fault}
 use Rattle.iv_access.specs.Access.{Relation, relation_of}
-use Rattle.iv_access.specs.Privileges.{is_admin, role_of}
+use Rattle.iv_roles.specs.Roles.{is_admin}
+use Rattle.iv_access.specs.Privileges.{role_of}
 use Rattle.iv_access.specs.Rights.{Name}
 use Rattle.iv_access.specs.declared.fault.AccessFault.{AccessFault}
 use Rattle.iv_access.specs.declared.fault.AccessFault.TheVariants as fault
-use Rattle.iv_access.specs.declared.role.RoleId.{RoleId}
+use Rattle.iv_roles.specs.declared.role.RoleId.{RoleId}
 use Rattle.iv_machine.specs.Act as machine
 use Rattle.iv_machine.specs.Act.{create_view}
 use Rattle.iv_machine.specs.Changing.{view_held, with_held}

@@ -4,7 +4,8 @@ use Rattle.std.specs.Prelude.{Result, Ok, Err, IfErr, OnErr, OnOk, is_some, opti
 use Rattle.iv_access.specs.Changing.{with_member, without_member}
 use Rattle.iv_access.specs.Faults.{first_fault, grant_role_fault, revoke_role_fault}
 use Rattle.iv_access.specs.Access.{Access, role_number}
-use Rattle.iv_access.specs.Privileges.{acts_as, is_admin, role_of}
+use Rattle.iv_roles.specs.Roles.{is_admin}
+use Rattle.iv_access.specs.Privileges.{acts_as, role_of}
 use Rattle.iv_access.specs.Rights.{Name, Rights}
 use Rattle.iv_access.specs.declared.fault.AccessFault.{AccessFault}
 use Rattle.iv_access.specs.declared.fault.AccessFault.TheVariants as fault

@@ -10,7 +10,8 @@ use Rattle.iv_rows.specs.Options.{if_some}
 use Rattle.iv_bind.specs.Catalogs.{CatalogEntry, named, numbered, schema_of, table_in}
 use Rattle.iv_access.specs.Faults.{first_fault, add_relation_fault, count_like}
 use Rattle.iv_access.specs.Access.{Relation, relation_of}
-use Rattle.iv_access.specs.Privileges.{is_admin, role_of}
+use Rattle.iv_roles.specs.Roles.{is_admin}
+use Rattle.iv_access.specs.Privileges.{role_of}
 use Rattle.iv_access.specs.Rights.{Name}
 use Rattle.iv_access.specs.declared.fault.AccessFault.{AccessFault}
 use Rattle.iv_access.specs.declared.fault.AccessFault.TheVariants as fault

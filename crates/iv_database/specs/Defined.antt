@@ -3,9 +3,10 @@ use Rattle.std.specs.Prelude.{◌≡◌, ℕ, Bool, not, nat_le, true, false, Li
 use Rattle.iv_bind.specs.BoundTexts.{TextFault}
 use Rattle.iv_bind.specs.Catalogs.{BoundQuery, View, bound_of, named}
 use Rattle.iv_bind.specs.declared.bound.Bound.{Bound}
-use Rattle.iv_access.specs.Privileges.{is_admin, role_of}
+use Rattle.iv_roles.specs.Roles.{is_admin}
+use Rattle.iv_access.specs.Privileges.{role_of}
 use Rattle.iv_access.specs.Rights.{Name}
-use Rattle.iv_access.specs.declared.role.RoleId.{RoleId}
+use Rattle.iv_roles.specs.declared.role.RoleId.{RoleId}
 use Rattle.iv_machine.specs.Act.{Refusal, no_session, too_many}
 use Rattle.iv_machine.specs.Refusing.{administrator, bad_text, first, free_relation, known_role, or_else, test, views}
 use Rattle.iv_machine.specs.State.{Frame, actor, is_open, session_of}

@@ -3,7 +3,7 @@ use Rattle.std.specs.Prelude.{◌≡◌, ℕ, ◌<◌, not, true, List, ◌∷�
 use Rattle.iv_rows.specs.declared.schema.RelId.{RelId}
 use Rattle.iv_bind.specs.Catalogs.{named, schema_of}
 use Rattle.iv_access.specs.Rights.{Name}
-use Rattle.iv_access.specs.declared.role.RoleId.{RoleId}
+use Rattle.iv_roles.specs.declared.role.RoleId.{RoleId}
 use Rattle.iv_machine.specs.Act.{Refusal, no_session}
 use Rattle.iv_machine.specs.Refusing.{first, known_relation, or_else, test}
 use Rattle.iv_machine.specs.State.{Frame, is_open, rel_of, session_of, table_columns}

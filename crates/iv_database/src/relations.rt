@@ -8,7 +8,8 @@ ghost use Rattle.iv_rows.specs.Columns.{has_columns, has_distinct_names, kinds_o
 ghost use Rattle.iv_machine.specs.Act as machine;
 ghost use Rattle.iv_database.specs.Next.{IsDone};
 ghost use Rattle.iv_database.specs.Telling.{IsAdded};
-ghost use Rattle.iv_access.specs.Privileges.{is_admin, role_of};
+ghost use Rattle.iv_roles.specs.Roles.{is_admin};
+ghost use Rattle.iv_access.specs.Privileges.{role_of};
 ghost use Rattle.iv_algebra.specs.Shapes.{scans};
 ghost use Rattle.iv_bind.specs.BoundTexts.{bound_query};
 ghost use Rattle.iv_bind.specs.Sound.{IsTyped};

@@ -3,7 +3,7 @@ use Rattle.std.proofs.Common.{◌≡◌, ℕ, Bool, List, length, None, Option, 
 use Rattle.std.specs.Prelude.{option_map}
 use Rattle.iv_access.specs.Privileges.{role_of}
 use Rattle.iv_access.specs.Rights.{Name}
-use Rattle.iv_access.specs.declared.role.RoleId.{RoleId}
+use Rattle.iv_roles.specs.declared.role.RoleId.{RoleId}
 use Rattle.iv_machine.specs.Act.{Act, grant_role, revoke_role}
 use Rattle.iv_machine.specs.Split.{frame_refusal}
 use Rattle.iv_database.specs.Database as database

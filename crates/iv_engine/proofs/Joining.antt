@@ -3,12 +3,14 @@ use Rattle.std.proofs.Common.{◌≡◌, ℕ, Bool, true, false, cond, not, List
 use Rattle.std.proofs.lemmas.List.{length-map}
 use Rattle.std.specs.Prelude.{is_some, option_map, unwrap_or}
 use Rattle.iv_access.specs.Access.{role_number}
-use Rattle.iv_access.specs.Laws.{ReachesAlike, StaysUnless}
-use Rattle.iv_access.specs.Memberships.{with_membership, member_of, without_membership, reaches}
-use Rattle.iv_access.specs.Privileges.{acts_as, is_admin, role_of}
-use Rattle.iv_access.specs.Rights.{Membership, Name, Rights}
-use Rattle.iv_access.specs.declared.role.RoleId.{RoleId}
-use Rattle.iv_access.proofs.Chains.{come_apart, gone_apart}
+use Rattle.iv_roles.specs.Laws.{StaysUnless}
+use Rattle.iv_access.specs.Laws.{ReachesAlike}
+use Rattle.iv_roles.specs.Memberships.{with_membership, member_of, without_membership, reaches, Membership}
+use Rattle.iv_roles.specs.Roles.{is_admin}
+use Rattle.iv_access.specs.Privileges.{acts_as, role_of}
+use Rattle.iv_access.specs.Rights.{Name, Rights}
+use Rattle.iv_roles.specs.declared.role.RoleId.{RoleId}
+use Rattle.iv_roles.proofs.Chains.{come_apart, gone_apart}
 use Rattle.iv_circuit.specs.Nodes.{scans_of}
 use Rattle.iv_machine.specs.Act as machine
 use Rattle.iv_machine.specs.Act.{Act, Refusal, grant_role, revoke_role}

@@ -7,7 +7,8 @@ use Rattle.iv_algebra.specs.Plans.{Lists}
 use Rattle.iv_rows.specs.Options.{if_some}
 use Rattle.iv_access.specs.Laws.{ReachesAlike}
 use Rattle.iv_access.specs.Privileges.{first_missing}
-use Rattle.iv_access.specs.Rights.{Grant, Guard, Membership, Rights}
+use Rattle.iv_roles.specs.Memberships.{Membership}
+use Rattle.iv_access.specs.Rights.{Grant, Guard, Rights}
 use Rattle.iv_access.specs.declared.privilege.Privilege.{Privilege}
 use Rattle.iv_access.specs.declared.privilege.Privilege.TheVariants.{Select}
 use Rattle.iv_machine.specs.Act as machine

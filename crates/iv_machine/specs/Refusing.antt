@@ -16,7 +16,8 @@ use Rattle.iv_access.specs.declared.privilege.Privilege.{Privilege}
 use Rattle.iv_access.specs.declared.privilege.Privilege.TheVariants as privilege
 use Rattle.iv_access.specs.Policies.{policies_of, policy_name, policy_of, update_tests, verdict}
 use Rattle.iv_access.specs.Access.{role_number}
-use Rattle.iv_access.specs.Privileges.{acts_as, first_missing, is_admin, owns, role_of}
+use Rattle.iv_roles.specs.Roles.{is_admin}
+use Rattle.iv_access.specs.Privileges.{acts_as, first_missing, owns, role_of}
 use Rattle.iv_access.specs.Rights.{Name}
 use Rattle.iv_machine.specs.Act.{Act, begin, finish, create_role, create_table, create_view, grant, revoke, grant_role, revoke_role, row_security, create_policy, drop_policy, subscribe, unsubscribe, write, Op, insert, delete, update, Entry, Refusal, no_session, session_in_use, unknown_role, name_taken, unknown_relation, not_a_table, bad_row, bad_query, not_administrator, not_owner, missing_privilege, no_permissive, restrictive_failed, no_such_row, limit, unknown_policy, unknown_subscription, too_many, membership_loop}
 use Rattle.iv_machine.specs.State.{State, Frame, rel_of, name_of, table_columns, columns_at, is_open, actor, is_within, is_within_for, missing_for}

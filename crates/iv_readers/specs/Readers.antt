@@ -3,7 +3,7 @@ use Rattle.std.specs.Prelude.{◌≡◌, ℕ, zero, suc, ◌<◌, ◌≤◌, ◌
 use Rattle.std.specs.List.{AllByRecursion}
 use Rattle.iv_rows.specs.declared.schema.RelId.{RelId}
 use Rattle.iv_access.specs.Rights.{Rights}
-use Rattle.iv_access.specs.declared.role.RoleId.{RoleId}
+use Rattle.iv_roles.specs.declared.role.RoleId.{RoleId}
 use Rattle.iv_circuit.specs.Circuits.{Running, Serves}
 
 -- the circuit of what a relation shows to a role, and its place among all circuits, which others have too who read it; how

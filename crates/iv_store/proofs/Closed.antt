@@ -6,7 +6,7 @@ use Rattle.std.specs.Global.{Vec}
 use Rattle.std.specs.List.{AllByRecursion}
 use Rattle.iv_algebra.specs.Plans.{Lists}
 use Rattle.iv_rows.specs.Options.{if_some}
-use Rattle.iv_access.specs.declared.role.RoleId.{RoleId}
+use Rattle.iv_roles.specs.declared.role.RoleId.{RoleId}
 use Rattle.iv_machine.specs.Act as machine
 use Rattle.iv_machine.specs.Act.{finish, unsubscribe}
 use Rattle.iv_machine.specs.Machine.{difference, ending, line_for, lines_told as machine_line}

@@ -19,7 +19,8 @@ use Rattle.iv_access.specs.declared.policy.Check.TheVariants as check
 use Rattle.iv_access.specs.declared.policy.Verdict.TheVariants.{Pass, NoPermissive}
 use Rattle.iv_access.specs.Rights.{Grantee, Public, Role, Guard, Policy, Rights}
 use Rattle.iv_access.specs.Laws.{ReachesAlike}
-use Rattle.iv_access.specs.Privileges.{is_admin, is_for, role_name}
+use Rattle.iv_roles.specs.Roles.{is_admin}
+use Rattle.iv_access.specs.Privileges.{is_for, role_name}
 use Rattle.iv_access.specs.Policies.{applies, by_policies, covers, failed_at, forbids, is_exempt, is_pass, may_see, passes, permits, policies_of}
 use Rattle.iv_machine.specs.Machine.{difference, weight}
 use Rattle.iv_machine.proofs.Alike.{alike}

@@ -15,7 +15,8 @@ use Rattle.iv_access.specs.declared.privilege.Privilege.TheVariants.{Select}
 use Rattle.iv_access.specs.Access.{access_at_start, role_number, grantee_of}
 use Rattle.iv_access.specs.Policies.{allowed, may_see}
 use Rattle.iv_access.specs.Rights.{Grant, Grantee, Role, Guard, Name, Rights}
-use Rattle.iv_access.specs.Privileges.{has, is_admin, is_for, privilege_eq, role_name}
+use Rattle.iv_roles.specs.Roles.{is_admin}
+use Rattle.iv_access.specs.Privileges.{has, is_for, privilege_eq, role_name}
 use Rattle.iv_access.specs.Changing.{grant_eq, granted, for_each, all_privileges}
 use Rattle.iv_circuit.specs.Circuits.{Running}
 use Rattle.iv_machine.specs.State.{Session, Subscription, actor, plan_at, rel_of, session_of}

@@ -1,9 +1,9 @@
 -- Which circuits a change of rights concerns: a flag beside each.
 use Rattle.std.specs.Prelude.{ℕ, Bool, false, not, List, map, Option}
 use Rattle.iv_rows.specs.Options.{if_some}
-use Rattle.iv_access.specs.Memberships.{reaches}
+use Rattle.iv_roles.specs.Memberships.{reaches}
 use Rattle.iv_access.specs.Rights.{Rights}
-use Rattle.iv_access.specs.declared.role.RoleId.{RoleId}
+use Rattle.iv_roles.specs.declared.role.RoleId.{RoleId}
 use Rattle.iv_store.specs.Counting.{scans_at}
 use Rattle.iv_store.specs.Store.{Store, role_reads}
 

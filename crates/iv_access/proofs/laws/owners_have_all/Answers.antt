@@ -3,10 +3,10 @@ use Rattle.std.specs.Cmp.{unsigned_Decides}
 use Rattle.std.specs.List.{list_any}
 use Rattle.iv_access.specs.declared.privilege.Privilege.{Privilege}
 use Rattle.iv_access.specs.Rights.{Role, Grant, Rights}
-use Rattle.iv_access.specs.Privileges.{is_admin}
+use Rattle.iv_roles.specs.Roles.{is_admin}
 use Rattle.iv_access.specs.Changing.{with_relation, all_privileges}
 use Rattle.iv_access.specs.Given.{is_among}
-use Rattle.iv_access.proofs.Chains.{by_right, reaches_itself}
+use Rattle.iv_roles.proofs.Chains.{by_right, reaches_itself}
 use Rattle.iv_access.proofs.Granting.{given, gives}
 use Rattle.iv_access.proofs.Naming.{among_given, privilege_among_all}
 use Rattle.iv_access.proofs.laws.owners_have_all.Goals as goal

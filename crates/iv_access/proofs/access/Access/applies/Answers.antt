@@ -3,7 +3,7 @@ use Rattle.std.specs.List.{list_any}
 use Rattle.iv_access.specs.Grants.{seen}
 use Rattle.iv_access.specs.Policies.{applies}
 use Rattle.iv_access.specs.Privileges.{is_for}
-use Rattle.iv_access.proofs.Lists.{any_map}
+use Rattle.iv_roles.proofs.Lists.{any_map}
 use Rattle.iv_access.proofs.access.Access.applies.Goals as goal
 
 pub returns-then-covers : goal.returns-then-covers

@@ -2,9 +2,9 @@ use Rattle.std.proofs.Common.{◌≡◌, ◌∙◌, ◌||◌, ap, sym, false}
 use Rattle.std.specs.List.{list_any}
 use Rattle.iv_access.specs.Given.{grant_to, is_among}
 use Rattle.iv_access.specs.Access.{Access}
-use Rattle.iv_access.specs.Privileges.{is_admin}
+use Rattle.iv_roles.specs.Roles.{is_admin}
 use Rattle.iv_access.specs.Rights.{Public, Role}
-use Rattle.iv_access.proofs.Chains.{by_right}
+use Rattle.iv_roles.proofs.Chains.{by_right}
 use Rattle.iv_access.proofs.Granting.{by_own, gives, told}
 use Rattle.iv_access.proofs.access.Access.has.Goals as goal
 

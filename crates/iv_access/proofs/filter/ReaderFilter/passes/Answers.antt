@@ -3,7 +3,7 @@ use Rattle.std.specs.List.{list_any}
 use Rattle.iv_algebra.specs.Evaluation.{holds}
 use Rattle.iv_algebra.specs.Shapes.{condition_of}
 use Rattle.iv_access.specs.Filters.{lets_through}
-use Rattle.iv_access.proofs.Lists.{any_map}
+use Rattle.iv_roles.proofs.Lists.{any_map}
 use Rattle.iv_access.proofs.filter.ReaderFilter.passes.Goals as goal
 
 pub returns-then-some_holds : goal.returns-then-some_holds

@@ -1,0 +1,4 @@
+pub mod Lists
+pub mod Chains
+pub mod Flags
+pub mod Long

@@ -1,0 +1,5 @@
+pub mod Roles
+pub mod Memberships
+pub mod Rows
+pub mod Laws
+pub mod Codes
