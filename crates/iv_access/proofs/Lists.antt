@@ -4,7 +4,6 @@ use Rattle.std.specs.Prelude.{nat_lt}
 use Rattle.std.specs.Map.{lookup}
 use Rattle.std.specs.List.{list_any, position, position_or_len, prefix_len}
 use Rattle.std.proofs.lemmas.Bool.{lt-ltb, ltb-true, ltb-false}
-
 use Rattle.iv_roles.proofs.Lists.{differs, found, not_none}
 
 pub or_left : (a b : Bool) → (a || b) ≡ false → a ≡ false

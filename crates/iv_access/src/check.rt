@@ -10,8 +10,8 @@ use crate::access::Access;
 use crate::grant::Grantee;
 use crate::guard::Guard;
 use crate::policy::{Check, Policy, Verdict, covers};
-use iv_roles::RoleId;
 use iv_algebra::Pred;
+use iv_roles::RoleId;
 use iv_rows::{RelId, Row};
 
 /// The first policy of the name.
