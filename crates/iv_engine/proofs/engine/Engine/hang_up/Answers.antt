@@ -1,4 +1,4 @@
-use Rattle.std.proofs.Common.{◌∙◌, ap, subst, sym}
+use Rattle.std.proofs.Common.{◌∙◌, ap, rules, subst, sym}
 use Rattle.iv_store.specs.Engine.{Engine, IsBehind, hung_up}
 use Rattle.iv_store.proofs.Hanging.{closed_behind, closed_shown}
 use Rattle.iv_engine.proofs.engine.Engine.hang_up.Goals as goal
@@ -10,3 +10,6 @@ returns-then-not-self-clause-hung c = λ _ s b. closed_behind s _ _
 
 pub returns-then-not-self-clause-closed : goal.returns-then-not-self-clause-closed
 returns-then-not-self-clause-closed c = λ _. closed_shown c.self.inside.store c.close_all.new.self c.self.inside.failed c.close_all.ensures.closed ∙ ap hung_up c.self.view_is
+
+pub returns-else-not-self-clause-failed_unchanged : goal.returns-else-not-self-clause-failed_unchanged
+returns-else-not-self-clause-failed_unchanged c = search rules
