@@ -4,8 +4,8 @@ use Rattle.std.specs.Io.KnownBytes.{Appends}
 use Rattle.iv_machine.specs.State.{start, start_frame}
 use Rattle.iv_engine.specs.Engine.{Engine}
 use Rattle.iv_wire.specs.Endings.{Run, IsAnswered}
-use Rattle.iv_wire.specs.declared.lines.RunFault.{RunFault}
-use Rattle.iv_wire.specs.declared.lines.RunFault.TheVariants as run
+use Rattle.iv_lines.specs.declared.lines.RunFault.{RunFault}
+use Rattle.iv_lines.specs.declared.lines.RunFault.TheVariants as run
 
 abbrev ran : ℕ → Option (List ℕ) → Option (List ℕ) → Option (List ℕ) → Option (List ℕ) → Engine → Run
 ran lines given left taken written now = record { lines = lines; given = given; left = left; taken = taken; written = written; now = now }

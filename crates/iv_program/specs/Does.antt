@@ -6,10 +6,10 @@ use Rattle.iv_engine.specs.Engine.{Engine}
 use Rattle.iv_wire.specs.Endings.{Run}
 use Rattle.iv_wire.specs.Sums.{HasWritten}
 use Rattle.iv_program.specs.Replays.{Replays}
-use Rattle.iv_program.specs.declared.asked.Settings.{Settings}
-use Rattle.iv_program.specs.declared.asked.Settings.TheVariants.{Replay, Serve}
-use Rattle.iv_program.specs.declared.fault.Fault.{Fault}
-use Rattle.iv_program.specs.declared.fault.Fault.TheVariants.{Read, Random}
+use Rattle.iv_arguments.specs.declared.asked.Settings.{Settings}
+use Rattle.iv_arguments.specs.declared.asked.Settings.TheVariants.{Replay, Serve}
+use Rattle.iv_arguments.specs.declared.fault.Fault.{Fault}
+use Rattle.iv_arguments.specs.declared.fault.Fault.TheVariants.{Read, Random}
 
 -- the line that says where the program listens
 abbrev pub listening : ℕ → List ℕ

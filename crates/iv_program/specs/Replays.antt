@@ -2,10 +2,10 @@
 use Rattle.std.specs.Prelude.{ℕ, Bool, true, false, Result, Ok, Err}
 use Rattle.iv_machine.specs.State.{start}
 use Rattle.iv_wire.specs.Endings.{Run, IsAnswered}
-use Rattle.iv_wire.specs.declared.lines.End.{End}
-use Rattle.iv_wire.specs.declared.lines.RunFault.TheVariants as run
-use Rattle.iv_program.specs.declared.fault.Fault.{Fault}
-use Rattle.iv_program.specs.declared.fault.Fault.TheVariants.{Read, Write, Random, Network, Memory}
+use Rattle.iv_lines.specs.declared.lines.End.{End}
+use Rattle.iv_lines.specs.declared.lines.RunFault.TheVariants as run
+use Rattle.iv_arguments.specs.declared.fault.Fault.{Fault}
+use Rattle.iv_arguments.specs.declared.fault.Fault.TheVariants.{Read, Write, Random, Network, Memory}
 
 -- the ending of a run from the machine's start with the row limit, with the same fault
 abbrev pub Replays : (cap : ℕ) → Run → Result (Unit {0}) Fault → Type 0

@@ -4,17 +4,17 @@ ghost use Rattle.std.specs.Prelude.{◌≡◌, ℕ, ◌≤◌, ◌+◌, ◌*◌,
 ghost use Rattle.iv_zset.specs.RowLimit.{IsRowLimit};
 ghost use Rattle.iv_machine.specs.State.{start};
 ghost use Rattle.iv_engine.specs.Engine.{IsBehind};
-ghost use Rattle.iv_wire.specs.Cut.{line_room};
-ghost use Rattle.iv_program.specs.Arguments.{InRange, lines_of};
+ghost use Rattle.iv_lines.specs.Cut.{line_room};
+ghost use Rattle.iv_arguments.specs.Arguments.{InRange, lines_of};
 ghost use Rattle.iv_program.specs.Does.{LinesAddUp, Does};
 ghost use Rattle.iv_program.specs.Replays.{is_read, is_write};
-ghost use Rattle.iv_program.specs.declared.asked.Settings.TheVariants.{Replay};
+ghost use Rattle.iv_arguments.specs.declared.asked.Settings.TheVariants.{Replay};
 
-use crate::asked::Settings;
-use crate::fault::Fault;
 use crate::serving::serve;
+use iv_arguments::{Fault, Settings};
 use iv_engine::{Engine, Seed};
-use iv_wire::{RunFault, Sink, Source, run};
+use iv_lines::{RunFault, Sink, Source};
+use iv_wire::run;
 use std::alloc::Global;
 
 /// Answers at most `lines` lines of the reader on the writer, through an engine that has not failed.

@@ -20,9 +20,10 @@ ghost use Rattle.iv_program.specs.Does.{Listens};
 ghost use Rattle.iv_program.specs.Replays.{is_write};
 ghost use Rattle.iv_program.specs.Serves.{HasServed, IsClosed, Serves, is_memory};
 
-use crate::fault::Fault;
+use iv_arguments::Fault;
 use iv_engine::{Engine, Seed};
-use iv_wire::{EndFault, FromRead, FromWrite, Sink, run, write_all};
+use iv_lines::{EndFault, FromRead, FromWrite, Sink, write_all};
+use iv_wire::run;
 use std::alloc::{AllocError, Global};
 use std::net::{Ipv4Addr, SocketAddrV4, TcpListener, TcpStream};
 

@@ -6,16 +6,16 @@ use Rattle.std.specs.Io.KnownBytes.{Appends, prepend_known}
 use Rattle.iv_machine.specs.Machine.{step}
 use Rattle.iv_machine.specs.State.{State}
 use Rattle.iv_engine.specs.Engine.{Engine, IsBehind}
-use Rattle.iv_wire.specs.Cut.{Cut, nothing, whole, endless, cut}
+use Rattle.iv_lines.specs.Cut.{Cut, nothing, whole, endless, cut}
 use Rattle.iv_request.specs.Reading.{Reading, faulty, asked}
-use Rattle.iv_wire.specs.Answer.{readings_of, Heard, behind, heard, heard_cut, Told, told, Answer, answer_to, answer}
-use Rattle.iv_wire.specs.Texts.{line_text, fault_text}
-use Rattle.iv_wire.specs.Reads.{IsCut, IsCutShort, BeginsLine}
+use Rattle.iv_lines.specs.Answer.{readings_of, Heard, behind, heard, heard_cut, Told, told, Answer, answer_to, answer}
+use Rattle.iv_lines.specs.Texts.{line_text, fault_text}
+use Rattle.iv_lines.specs.Reads.{IsCut, IsCutShort, BeginsLine}
 use Rattle.iv_wire.specs.Endings.{Run, IsAnswered}
-use Rattle.iv_wire.specs.declared.lines.End.{End}
-use Rattle.iv_wire.specs.declared.lines.End.TheVariants.{Input, Lines, TooLong}
-use Rattle.iv_wire.specs.declared.lines.RunFault.TheVariants.{Read, Write, Memory}
-use Rattle.iv_wire.specs.declared.lines.Next.TheVariants as comes
+use Rattle.iv_lines.specs.declared.lines.End.{End}
+use Rattle.iv_lines.specs.declared.lines.End.TheVariants.{Input, Lines, TooLong}
+use Rattle.iv_lines.specs.declared.lines.RunFault.TheVariants.{Read, Write, Memory}
+use Rattle.iv_lines.specs.declared.lines.Next.TheVariants as comes
 
 pub appends_more : (old mid new : Option (List ℕ)) (x y : List ℕ) → Appends old mid x → Appends mid new y → Appends old new (x ++ y)
 appends_more None mid new x y h k = tt

@@ -1,10 +1,3 @@
-pub mod Ahead
 pub mod Answering
-pub mod Cutting
-pub mod Finding
-pub mod Joining
-pub mod Known
-pub mod Parting
 pub mod Ran
 pub mod Sums
-pub mod Writing

@@ -5,8 +5,8 @@ use Rattle.iv_machine.specs.Machine.{run, step}
 use Rattle.iv_machine.specs.State.{State}
 use Rattle.iv_engine.specs.Engine.{Engine, IsBehind}
 use Rattle.iv_request.specs.Reading.{Reading, faulty, asked, reading_of}
-use Rattle.iv_wire.specs.Answer.{commands_of, readings_of, told}
-use Rattle.iv_wire.specs.Cut.{is_blank_line}
+use Rattle.iv_lines.specs.Answer.{commands_of, readings_of, told}
+use Rattle.iv_lines.specs.Cut.{is_blank_line}
 use Rattle.iv_wire.specs.Ran.{HasRun}
 
 run_joins : (s : State) (cs ds : List Command) → (run (run s cs).state ds).state ≡ (run s (cs ++ ds)).state

@@ -8,13 +8,13 @@ use Rattle.iv_machine.specs.State.{State}
 use Rattle.iv_machine.proofs.Adding.{adds_up, run_numbers}
 use Rattle.iv_engine.specs.Engine.{Engine, IsBehind}
 use Rattle.iv_request.specs.Reading.{Reading, faulty, asked}
-use Rattle.iv_wire.specs.Answer.{heard, commands_of, text_answered}
+use Rattle.iv_lines.specs.Answer.{heard, commands_of, text_answered}
 use Rattle.iv_wire.specs.Endings.{Run, Answers, IsAnswered}
-use Rattle.iv_wire.specs.declared.lines.End.{End}
-use Rattle.iv_wire.specs.declared.lines.RunFault.{RunFault}
+use Rattle.iv_lines.specs.declared.lines.End.{End}
+use Rattle.iv_lines.specs.declared.lines.RunFault.{RunFault}
 use Rattle.iv_wire.specs.Sums as sums
 use Rattle.iv_wire.specs.Sums.{HasWritten, IsTextOf}
-use Rattle.iv_wire.specs.Texts.{line_text}
+use Rattle.iv_lines.specs.Texts.{line_text}
 
 texts_follow : (ls ms : List Line) (text : List ℕ) → IsTextOf ms text → IsTextOf (ls ++ ms) (flat_map line_text ls ++ text)
 texts_follow [] ms text h = h

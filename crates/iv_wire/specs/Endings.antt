@@ -3,12 +3,12 @@ use Rattle.std.specs.Prelude.{◌≡◌, ◌≤◌, ◌<◌, ◌+◌, ℕ, List,
 use Rattle.std.specs.Io.KnownBytes.{Appends}
 use Rattle.iv_machine.specs.State.{State}
 use Rattle.iv_engine.specs.Engine.{Engine, IsBehind}
-use Rattle.iv_wire.specs.declared.lines.End.{End}
-use Rattle.iv_wire.specs.declared.lines.End.TheVariants.{Lines}
-use Rattle.iv_wire.specs.declared.lines.RunFault.{RunFault}
-use Rattle.iv_wire.specs.declared.lines.RunFault.TheVariants.{Read, Write, Memory, Failed}
-use Rattle.iv_wire.specs.Answer.{Answer, answer}
-use Rattle.iv_wire.specs.Reads.{BeginsLine}
+use Rattle.iv_lines.specs.declared.lines.End.{End}
+use Rattle.iv_lines.specs.declared.lines.End.TheVariants.{Lines}
+use Rattle.iv_lines.specs.declared.lines.RunFault.{RunFault}
+use Rattle.iv_lines.specs.declared.lines.RunFault.TheVariants.{Read, Write, Memory, Failed}
+use Rattle.iv_lines.specs.Answer.{Answer, answer}
+use Rattle.iv_lines.specs.Reads.{BeginsLine}
 
 -- what a run was asked for and given, and what it leaves: how many lines at most; the bytes that the reader had, and has
 -- left; the bytes that the writer had taken, and has taken now; and the engine

@@ -1,11 +1,3 @@
-pub mod Ahead
-pub mod Answer
-pub mod Calls
-pub mod Cut
 pub mod Endings
-pub mod Parts
 pub mod Ran
-pub mod Reads
 pub mod Sums
-pub mod Texts
-pub mod Worked

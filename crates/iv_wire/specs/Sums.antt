@@ -7,7 +7,7 @@ use Rattle.iv_machine.specs.Reached.{AddsUp, AreNumbersUnique}
 use Rattle.iv_machine.specs.State.{State}
 use Rattle.iv_engine.specs.Engine.{IsBehind}
 use Rattle.iv_wire.specs.Endings.{Run}
-use Rattle.iv_wire.specs.Texts.{line_text, fault_text}
+use Rattle.iv_lines.specs.Texts.{line_text, fault_text}
 
 -- the text has the texts of these lines, in their order, and between them what lines are answered that are no request
 pub data IsTextOf : List Line → List ℕ → Type 0 where

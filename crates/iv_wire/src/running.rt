@@ -11,22 +11,21 @@ ghost use Rattle.iv_machine.specs.State.{State};
 ghost use Rattle.iv_machine.specs.Well.{is_well_command};
 ghost use Rattle.iv_engine.specs.Engine.{IsBehind};
 ghost use Rattle.iv_command.specs.Views.{command_of};
-ghost use Rattle.iv_wire.specs.Answer.{told, readings_of};
-ghost use Rattle.iv_wire.specs.Cut.{line_room};
-ghost use Rattle.iv_wire.specs.Texts.{line_text};
+ghost use Rattle.iv_lines.specs.Answer.{told, readings_of};
+ghost use Rattle.iv_lines.specs.Cut.{line_room};
+ghost use Rattle.iv_lines.specs.Texts.{line_text};
 ghost use Rattle.iv_machine.specs.Machine.{step};
-ghost use Rattle.iv_wire.specs.Reads.{is_read, is_write, is_memory};
+ghost use Rattle.iv_lines.specs.Reads.{is_read, is_write, is_memory};
 ghost use Rattle.iv_wire.specs.Endings.{IsAnswered};
 ghost use Rattle.iv_wire.specs.Ran.{HasRun};
 ghost use Rattle.iv_wire.specs.Sums.{HasWritten};
 
-use crate::answers::write_lines;
-use crate::ends::{Sink, Source, write_all};
-use crate::lines::{End, Next, RunFault, is_blank_line, next_line};
-use crate::room::Room;
-use crate::texts::write_fault;
 use iv_command::Command;
 use iv_engine::Engine;
+use iv_lines::{
+    End, Next, Room, RunFault, Sink, Source, is_blank_line, next_line, write_all, write_fault,
+    write_lines,
+};
 use iv_request::{WireFault, command_in};
 use json::Scratch;
 use std::alloc::{AllocError, Global};

@@ -7,9 +7,9 @@ ghost use Rattle.iv_command.specs.Views.{command_of};
 use crate::replayed::{ANSWERS, REQUESTS};
 use iv_command::{Act, Command, Entry, Line, Op};
 use iv_engine::{Engine, EngineFault};
+use iv_lines::write_line;
 use iv_request::read_line;
 use iv_rows::{Column, Kind, Row, Value};
-use iv_wire::write_line;
 use std::alloc::{AllocError, Global};
 use std::test::Fail;
 

@@ -3,7 +3,8 @@ ghost use Rattle.std.specs.Prelude.{◌≡◌, None};
 
 use crate::replayed::{ANSWERS, Ended, REQUESTS, ended, replayed, word_of};
 use iv_engine::Engine;
-use iv_wire::{EndFault, FromRead, FromWrite, RunFault, Source, run};
+use iv_lines::{EndFault, FromRead, FromWrite, RunFault, Source};
+use iv_wire::run;
 use std::alloc::{AllocError, Global};
 use std::io;
 use std::io::{Read, Write};

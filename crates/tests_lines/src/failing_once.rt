@@ -3,7 +3,7 @@
 //! std is called; these tests count the calls.
 
 use crate::replayed::{ANSWERS, Ended, REQUESTS, ended, word_of};
-use iv_wire::{FromRead, FromWrite};
+use iv_lines::{FromRead, FromWrite};
 use std::alloc::{AllocError, Global};
 use std::io;
 use std::io::{Read, Write};

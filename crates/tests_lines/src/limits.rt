@@ -2,7 +2,8 @@
 use crate::numbered::{add_list, add_numbered, between};
 use crate::replayed::answers;
 use iv_engine::Engine;
-use iv_wire::{FromRead, FromWrite, run};
+use iv_lines::{FromRead, FromWrite};
+use iv_wire::run;
 use std::alloc::{AllocError, Global};
 use std::test::Fail;
 

@@ -10,8 +10,9 @@ use crate::examples::{
 use crate::replayed::{ANSWERS, Ended, REQUESTS};
 use iv_command::{Act, Command, Line};
 use iv_engine::{Engine, EngineFault};
+use iv_lines::{End, EndFault, FromRead, RunFault, Sink, write_line};
 use iv_request::{WireFault, read_line};
-use iv_wire::{End, EndFault, FromRead, RunFault, Sink, run, write_line};
+use iv_wire::run;
 use std::alloc::{AllocError, Global};
 use std::io::Read;
 use std::test::Fail;

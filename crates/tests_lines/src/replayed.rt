@@ -1,6 +1,7 @@
 //! `replayed`, `writes`, `answers`: what a new engine writes for lines, for the other tests.
 use iv_engine::Engine;
-use iv_wire::{End, FromRead, FromWrite, RunFault, Sink, Source, run};
+use iv_lines::{End, FromRead, FromWrite, RunFault, Sink, Source};
+use iv_wire::run;
 use std::alloc::{AllocError, Global};
 
 /// The row limit of the engines, more than any test but those of the limit has rows.

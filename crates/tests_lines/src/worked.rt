@@ -1,9 +1,9 @@
 //! Tests of the worked examples, byte for byte, and of one line that is read or written.
 use crate::replayed::{ANSWERS, REQUESTS, answers, joined, replayed, writes};
 use iv_command::{Act, Command, Line, Privilege, Refusal, Reply, SentRows};
+use iv_lines::write_line;
 use iv_request::read_line;
 use iv_rows::{Row, Value};
-use iv_wire::write_line;
 use std::alloc::{AllocError, Global};
 use std::rc::Rc;
 use std::test::Fail;

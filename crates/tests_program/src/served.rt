@@ -2,9 +2,10 @@
 //! Each client connects, sends all its bytes and shuts its writing side before the server accepts, and reads its answers
 //! behind it. The system keeps the bytes.
 
+use iv_arguments::Fault;
 use iv_engine::{Engine, Seed};
-use iv_program::{Fault, ServeFault, serve, serve_on};
-use iv_wire::FromWrite;
+use iv_lines::FromWrite;
+use iv_program::{ServeFault, serve, serve_on};
 use std::alloc::Global;
 use std::io::{Read, Write};
 use std::net::{Shutdown, SocketAddr, TcpListener, TcpStream};

@@ -1,7 +1,7 @@
 //! Tests of the words after the program's name, and of what is told of a fault.
 
 use clap::error::ErrorKind;
-use iv_program::{Fault, Settings, settings};
+use iv_arguments::{Fault, Settings, settings};
 use std::alloc::{AllocError, Global};
 use std::test::Fail;
 

@@ -1,8 +1,9 @@
 //! The program: request lines in, answer lines out, through one engine.
 #![tactic(auto)]
 
-use iv_program::{asked_for, random_seed, work};
-use iv_wire::{FromRead, FromWrite};
+use iv_arguments::{asked_for, random_seed};
+use iv_lines::{FromRead, FromWrite};
+use iv_program::work;
 use std::process::ExitCode;
 
 fn main(rt: HostRuntime) -> ExitCode {

@@ -1,5 +1,5 @@
 use Rattle.iv_machine.specs.State.{start}
-use Rattle.iv_wire.specs.declared.lines.RunFault.TheVariants as run
+use Rattle.iv_lines.specs.declared.lines.RunFault.TheVariants as run
 use Rattle.iv_program.proofs.Endings.{ended}
 use Rattle.iv_program.proofs.replaying.replay_on.Goals as goal
 

@@ -1,7 +1,7 @@
 use Rattle.std.proofs.Common.{map, flat_map, ap, ◌∙◌}
 use Rattle.std.proofs.lemmas.Result.{IfOk-weaker}
 use Rattle.iv_command.specs.Views.{line_of}
-use Rattle.iv_wire.specs.Texts.{line_text}
+use Rattle.iv_lines.specs.Texts.{line_text}
 use Rattle.iv_wire.proofs.running.answer_command.Goals as goal
 
 pub returns-in-Ok-clause-text : goal.returns-in-Ok-clause-text

@@ -1,7 +1,7 @@
 use Rattle.std.proofs.Common.{◌≡◌, ◌≤◌, ◌+◌, ◌*◌, true, false}
 use Rattle.iv_machine.specs.State.{State}
 use Rattle.iv_engine.specs.Engine.{IsBehind}
-use Rattle.iv_wire.specs.Ahead.{known}
+use Rattle.iv_lines.specs.Ahead.{known}
 use Rattle.iv_wire.specs.Ran.{HasRun}
 use Rattle.iv_wire.proofs.Answering.{HasTold}
 use Rattle.iv_wire.proofs.running.run_lines.Given as goal

@@ -1,5 +1,5 @@
 use Rattle.std.proofs.Common.{length}
-use Rattle.iv_wire.proofs.Known.{kept_whole}
+use Rattle.iv_lines.proofs.Known.{kept_whole}
 use Rattle.iv_wire.proofs.running.send_answer.Goals as goal
 
 pub returns-in-Err-flush-clause-front : goal.returns-in-Err-flush-clause-front

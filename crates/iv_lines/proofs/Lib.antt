@@ -1,0 +1,7 @@
+pub mod Ahead
+pub mod Cutting
+pub mod Finding
+pub mod Joining
+pub mod Known
+pub mod Parting
+pub mod Writing

@@ -1,0 +1,13 @@
+use Rattle.std.proofs.Common.{length, ◌-◌, ◌≡◌, ◌≤◌, take}
+use Rattle.std.specs.Io.KnownBytes.{Appends}
+use Rattle.iv_lines.proofs.ends.write_all.Given as goal
+
+abbrev pub invariant-loop-at : goal.invariant-loop-at
+invariant-loop-at g l = record {
+  within : l.at ≤ length l.bytes;
+  taken : Appends (g.W.Sink.taken l.fn.writer) (g.W.Sink.taken l.writer) (take l.at l.bytes);
+  failed : g.W.Sink.has_failed l.writer ≡ g.W.Sink.has_failed l.fn.writer;
+}
+
+abbrev pub decreases-loop-at : goal.decreases-loop-at
+decreases-loop-at g l = length l.bytes - l.at
