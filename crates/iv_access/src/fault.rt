@@ -26,6 +26,7 @@ impl From<AllocError> for AccessFault {
 
     ghost from_gives = { λ _ fault. fault ≡ Memory };
 
+    /// Out of memory, as the reason why a change of rights is refused.
     fn from(_error: AllocError) -> AccessFault {
         AccessFault::Memory
     }

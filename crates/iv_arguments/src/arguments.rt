@@ -18,6 +18,7 @@ use std::{env, io};
 /// The program's version.
 const VERSION: &str = "0.1.0";
 
+/// An option of the command line that takes a number from 1 on, by default 1,000,000.
 fn count<'a>(alloc: Global, name: &'a str, help: &'a str) -> Arg<'a> {
     Arg::new(alloc, name)
         .long(name)
@@ -27,6 +28,7 @@ fn count<'a>(alloc: Global, name: &'a str, help: &'a str) -> Arg<'a> {
         .default_value("1000000")
 }
 
+/// The option `--rows` of the command line, with its help, its range and its default.
 fn rows<'a>(alloc: Global) -> Arg<'a> {
     Arg::new(alloc, "rows")
         .long("rows")
@@ -38,6 +40,7 @@ fn rows<'a>(alloc: Global) -> Arg<'a> {
         .default_value("65536")
 }
 
+/// The subcommand `replay` for clap, with its options for lines and rows.
 fn replay<'a>(alloc: Global) -> Result<Command<'a>, AllocError> {
     Command::new(alloc, "replay")
         .about("Answers the request lines of standard input on standard output")
@@ -45,6 +48,7 @@ fn replay<'a>(alloc: Global) -> Result<Command<'a>, AllocError> {
         .arg(rows(alloc))
 }
 
+/// The subcommand `serve` for clap, with its options for the port, connections, lines and rows.
 fn serve<'a>(alloc: Global) -> Result<Command<'a>, AllocError> {
     let port = Arg::new(alloc, "port")
         .long("port")
@@ -77,6 +81,7 @@ fn plain<'a>(alloc: Global) -> Result<Command<'a>, AllocError> {
     )
 }
 
+/// The command with the subcommand `replay` alone, before `serve` is added.
 fn with_replay<'a>(alloc: Global) -> Result<Command<'a>, AllocError> {
     let replay = replay(alloc)?;
     match plain(alloc) {
@@ -88,6 +93,7 @@ fn with_replay<'a>(alloc: Global) -> Result<Command<'a>, AllocError> {
     }
 }
 
+/// The whole command, with `replay` and `serve`, by which clap reads the words.
 fn command<'a>(alloc: Global) -> Result<Command<'a>, AllocError> {
     let serve = serve(alloc)?;
     match with_replay(alloc) {
@@ -99,6 +105,7 @@ fn command<'a>(alloc: Global) -> Result<Command<'a>, AllocError> {
     }
 }
 
+/// The number of lines or connections that the matched words give, if it is from 1 on.
 fn count_of(matches: &ArgMatches<'_>, name: &str) -> Option<u32>
     ensures { IfSome result (λ n. 1 ≤ n) }
 {
@@ -106,6 +113,7 @@ fn count_of(matches: &ArgMatches<'_>, name: &str) -> Option<u32>
     if count >= 1 { Some(count) } else { None }
 }
 
+/// The number at `--rows` of the matched words, if it is in the range of a row limit.
 fn rows_of(matches: &ArgMatches<'_>) -> Option<u32>
     ensures { IfSome result IsRowLimit }
 {
@@ -117,6 +125,7 @@ fn rows_of(matches: &ArgMatches<'_>) -> Option<u32>
     }
 }
 
+/// The port at `--port` of the matched words, if it is from 1 on.
 fn port_of(matches: &ArgMatches<'_>) -> Option<u16>
     ensures { IfSome result (λ n. 1 ≤ n) }
 {
@@ -124,6 +133,7 @@ fn port_of(matches: &ArgMatches<'_>) -> Option<u16>
     if port >= 1 { Some(port) } else { None }
 }
 
+/// The settings that the matched words ask for, if each number is in its range.
 fn found(matches: &ArgMatches<'_>) -> Option<Settings>
     ensures { IfSome result InRange }
 {

@@ -33,7 +33,7 @@ use std::alloc::{AllocError, Global};
 /// How many nodes the plan of a view may have.
 const NODES: usize = 256;
 
-// How many nodes are left of `left`, if the plan has no more.
+/// How many nodes are left of `left`, if the plan has no more.
 fn after_nodes(plan: &Plan, left: usize) -> Option<usize>
     ensures { SomeIff result (nodes (shape_of plan.now) ≤ left) (left - nodes (shape_of plan.now)) }
 {
@@ -54,7 +54,7 @@ fn after_nodes(plan: &Plan, left: usize) -> Option<usize>
     }
 }
 
-// Whether the relation stands in the list.
+/// Whether the relation stands in the list.
 fn stands(list: &[RelId], rel: RelId) -> bool
     ensures { result ≡ stands ◌==◌ rel.0 (numbers list.now) }
 {
@@ -66,7 +66,7 @@ fn stands(list: &[RelId], rel: RelId) -> bool
     false
 }
 
-// Each relation once, at its first place.
+/// Each relation once, at its first place.
 fn once(alloc: Global, reached: &[RelId]) -> Result<Vec<RelId>, AllocError>
     ensures { IfOk result (λ list. numbers list.items ≡ once [] (numbers reached.now)) }
 {
@@ -79,14 +79,14 @@ fn once(alloc: Global, reached: &[RelId]) -> Result<Vec<RelId>, AllocError>
     Ok(list)
 }
 
-// Whether the plan has few enough nodes.
+/// Whether the plan has few enough nodes.
 fn is_small(plan: &Plan) -> bool
     ensures { result ≡ nat_le (nodes (shape_of plan.now)) 256 }
 {
     after_nodes(plan, NODES).is_some()
 }
 
-// What is left to do behind the last select.
+/// What is left to do behind the last select.
 #[tactic(auto, unfolding(crate::specs::Binding::finished))]
 fn finished(alloc: Global, part: Part) -> Result<Bound, BindFault>
     requires { is_schema part.schema.items ≡ true }

@@ -54,7 +54,7 @@ impl Model for Catalog {
     ghost invariant = { λ c. IsSoundCatalog (entries c.relations.items) };
 }
 
-// The first relation of a name.
+/// The first relation of a name.
 fn named<'a>(relations: &'a [Relation], name: &str) -> Option<&'a Relation>
     ensures { option_map (λ r. entry_of r.now) result ≡ named (entries relations.now) name.now }
 {
@@ -66,7 +66,7 @@ fn named<'a>(relations: &'a [Relation], name: &str) -> Option<&'a Relation>
     None
 }
 
-// The first relation of a number.
+/// The first relation of a number.
 fn numbered(relations: &[Relation], rel: RelId) -> Option<&Relation>
     ensures { option_map (λ r. entry_of r.now) result ≡ numbered (entries relations.now) rel.0 }
 {
@@ -95,7 +95,7 @@ impl Catalog {
         let _ = &self.relations;
     }
 
-    // A relation behind the others.
+    /// A relation behind the others.
     fn add(&mut self, name: &str, rel: RelId, held: Held) -> Result<(), AllocError>
         requires { HeldIsSound self.old (held_of held) }
         ensures added { OnOk result (self.new ≡ extended self.old name.now rel.0 (held_of held)) }

@@ -40,6 +40,7 @@ pub enum BindFault {
 impl From<AllocError> for BindFault {
     ghost from_gives = { λ _ fault. fault ≡ Memory };
 
+    /// Out of memory, as a fault of binding.
     fn from(_error: AllocError) -> BindFault {
         BindFault::Memory
     }
@@ -48,6 +49,7 @@ impl From<AllocError> for BindFault {
 impl<T: Drop> From<AllocFailed<T>> for BindFault {
     ghost from_gives = { λ _ fault. fault ≡ Memory };
 
+    /// A value that could not be stored for want of memory, as a fault of binding.
     fn from(_error: AllocFailed<T>) -> BindFault {
         BindFault::Memory
     }

@@ -26,6 +26,7 @@ pub(crate) struct Out {
     pub(crate) aggs: Vec<Agg>,
 }
 
+/// The output of a select before its first item: no columns and no aggregates.
 fn nothing(alloc: Global) -> Out
     ensures { out_of result ≡ nothing }
 {
@@ -36,7 +37,7 @@ fn nothing(alloc: Global) -> Out
     }
 }
 
-// Whether the column stands among the keys.
+/// Whether the column stands among the keys.
 fn stands(keys: &[usize], k: usize) -> bool
     ensures { result ≡ stands ◌==◌ k keys.now }
 {
@@ -67,7 +68,7 @@ pub(crate) fn keys(
     Ok(keys)
 }
 
-// The place of the first aggregate.
+/// The place of the first aggregate.
 fn first_aggregate(items: &[Item]) -> Option<usize>
     ensures { result ≡ first_aggregate (map item_tree items.now) }
 {
@@ -97,14 +98,14 @@ pub(crate) fn ungrouped(keys: &[usize], columns: &Columns) -> Option<usize>
     }
 }
 
-// Whether an output column has the name.
+/// Whether an output column has the name.
 fn is_output(schema: &[iv_rows::Column], name: &str) -> bool
     ensures { result ≡ list_any (λ c. bytes_eq name.now c.name) schema.now }
 {
     schema.iter().any(|column| name == column.name.as_str())
 }
 
-// One column more, of the place `k` in the rows below, for the item at `place`.
+/// One column more, of the place `k` in the rows below, for the item at `place`.
 #[tactic(auto, unfolding(crate::specs::Binding::output_bound))]
 fn output(
     alloc: Global,
@@ -131,7 +132,7 @@ fn output(
     })
 }
 
-// The place of a key among the keys.
+/// The place of a key among the keys.
 fn position(keys: &[usize], k: usize) -> Option<usize>
     ensures { result ≡ position_from (λ j. k == j) 0 keys.now }
 {
@@ -143,7 +144,7 @@ fn position(keys: &[usize], k: usize) -> Option<usize>
     None
 }
 
-// The place of a column in the rows of the group; without a group it keeps its own.
+/// The place of a column in the rows of the group; without a group it keeps its own.
 fn within_group(keys: &[usize], k: usize) -> Option<usize>
     ensures { result ≡ within_group keys.now k }
 {
@@ -153,7 +154,7 @@ fn within_group(keys: &[usize], k: usize) -> Option<usize>
     position(keys, k)
 }
 
-// The name of an output column: the alias, else the column's.
+/// The name of an output column: the alias, else the column's.
 fn output_name<'a>(column: &'a Column, alias: &'a Option<Name>) -> &'a str
     ensures { result.now ≡ output_name (column_tree column.now) (option_map name_tree alias.now) }
 {
@@ -163,7 +164,7 @@ fn output_name<'a>(column: &'a Column, alias: &'a Option<Name>) -> &'a str
     }
 }
 
-// One aggregate more.
+/// One aggregate more.
 fn aggregated(out: Out, agg: Agg) -> Result<Out, AllocError>
     ensures { IfOk result (λ o. out_of o ≡ aggregated (out_of out) agg) }
 {
@@ -176,6 +177,7 @@ fn aggregated(out: Out, agg: Agg) -> Result<Out, AllocError>
     })
 }
 
+/// Binds an item that is a column to an output column; in a select with a group it must be a key.
 #[tactic(auto, unfolding(crate::specs::Binding::item_bound))]
 fn column_item(
     alloc: Global,
@@ -194,7 +196,7 @@ fn column_item(
     output(alloc, text.place, out, k, output_name(text, alias), kind)
 }
 
-// The sum of a column, for the item at `place`.
+/// The sum of a column, for the item at `place`.
 #[tactic(auto, unfolding(crate::specs::Binding::item_bound))]
 fn sum_item(
     alloc: Global,
@@ -216,6 +218,7 @@ fn sum_item(
     output(alloc, place, out, behind, alias.text.as_str(), Kind::Int)
 }
 
+/// Binds an item of a select, which is a column, a sum or a count, to an output column.
 #[tactic(auto, unfolding(crate::specs::Binding::item_bound))]
 fn item(
     alloc: Global,
@@ -241,7 +244,7 @@ fn item(
     }
 }
 
-// Each column, for the star at `place`.
+/// Each column, for the star at `place`.
 #[tactic(auto, unfolding(crate::specs::Binding::star_bound))]
 fn star(alloc: Global, scope: &[Named], place: usize) -> Result<Out, BindFault>
     ensures { Gives out_of result (star_bound scope.now place) }
@@ -254,7 +257,7 @@ fn star(alloc: Global, scope: &[Named], place: usize) -> Result<Out, BindFault>
     Ok(out)
 }
 
-// Each item, from the left.
+/// Each item, from the left.
 #[tactic(auto, unfolding(crate::specs::Binding::list_bound))]
 fn all_items(
     alloc: Global,

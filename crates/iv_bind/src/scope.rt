@@ -36,7 +36,7 @@ pub(crate) fn fault(place: usize, why: BindWhy) -> BindFault
     BindFault::At { place, why }
 }
 
-// Whether the text says this column.
+/// Whether the text says this column.
 fn is_meant(column: &Column, named: &Named) -> bool
     ensures { result ≡ is_meant (column_tree column.now) named.now }
 {

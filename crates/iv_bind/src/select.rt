@@ -33,7 +33,7 @@ pub(crate) struct Part {
     pub(crate) reached: Vec<RelId>,
 }
 
-// The groups of a plan's rows, where there are keys.
+/// The groups of a plan's rows, where there are keys.
 fn grouped(alloc: Global, keys: Vec<usize>, aggs: Vec<Agg>, plan: Plan) -> Result<Plan, AllocError>
     ensures { IfOk result (λ p. shape_of p ≡ grouped_shape keys.items aggs.items (shape_of plan)) }
 {
@@ -44,6 +44,7 @@ fn grouped(alloc: Global, keys: Vec<usize>, aggs: Vec<Agg>, plan: Plan) -> Resul
     Ok(Plan::Group { keys, aggs, input })
 }
 
+/// The plan of a select, which gives each row once where the select is distinct.
 fn distinctly(alloc: Global, distinct: bool, plan: Plan) -> Result<Plan, AllocError>
     ensures { IfOk result (λ p. shape_of p ≡ distinctly distinct (shape_of plan)) }
 {
@@ -53,6 +54,7 @@ fn distinctly(alloc: Global, distinct: bool, plan: Plan) -> Result<Plan, AllocEr
     Ok(Plan::Distinct(Box::new(alloc, plan)?))
 }
 
+/// What a select gives, put together from its sources, its group and its output columns.
 fn selected(
     alloc: Global,
     distinct: bool,
@@ -72,7 +74,7 @@ fn selected(
     })
 }
 
-// Group by, items and the number of columns of a select.
+/// Group by, items and the number of columns of a select.
 #[tactic(auto, unfolding(crate::specs::Binding::output_of))]
 fn output_of(alloc: Global, select: &Select, from: From) -> Result<Part, BindFault>
     ensures { Gives part_of result (output_by select.now from) }
@@ -103,6 +105,7 @@ fn output_of(alloc: Global, select: &Select, from: From) -> Result<Part, BindFau
     Ok(selected(alloc, select.distinct, from, keys, out)?)
 }
 
+/// Binds one select: its sources and joins, its predicate, its group and its items.
 #[tactic(auto, unfolding(crate::specs::Binding::select_bound))]
 fn select(alloc: Global, catalog: &Catalog, select: &Select) -> Result<Part, BindFault>
     ensures { Gives part_of result (select_bound catalog.now (select_tree select.now)) }
@@ -112,7 +115,7 @@ fn select(alloc: Global, catalog: &Catalog, select: &Select) -> Result<Part, Bin
     output_of(alloc, select, from)
 }
 
-// Whether the columns are of the same number and kinds.
+/// Whether the columns are of the same number and kinds.
 fn are_alike(a: &[Column], b: &[Column]) -> bool
     ensures { result ≡ kinds_eq (kinds_of a.now) (kinds_of b.now) }
 {
@@ -129,6 +132,7 @@ fn are_alike(a: &[Column], b: &[Column]) -> bool
     true
 }
 
+/// The plan of a set operation on two plans: union all, union or except.
 fn combined_plan(alloc: Global, op: SetOp, left: Plan, right: Plan) -> Result<Plan, AllocError>
     ensures { IfOk result (λ p. shape_of p ≡ combined_plan op (shape_of left) (shape_of right)) }
 {
@@ -140,6 +144,7 @@ fn combined_plan(alloc: Global, op: SetOp, left: Plan, right: Plan) -> Result<Pl
     }
 }
 
+/// What a set operation gives: its plan, the columns of its left side, and what both sides reach.
 fn combined(alloc: Global, op: SetOp, left: Part, right: Part) -> Result<Part, AllocError>
     ensures { IfOk result (λ p. part_of p ≡ combined op (part_of left) (part_of right)) }
 {

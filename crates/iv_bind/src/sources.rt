@@ -47,6 +47,7 @@ pub(crate) fn under(
     Ok(scope)
 }
 
+/// The columns of a table or a view of the catalog.
 fn columns_of(held: &Held) -> &[Column]
     ensures { result.now ≡ columns_of (held_of held.now) }
 {
@@ -56,7 +57,7 @@ fn columns_of(held: &Held) -> &[Column]
     }
 }
 
-// A table is scanned, and a view is its whole plan.
+/// A table is scanned, and a view is its whole plan.
 fn plan_of(alloc: Global, rel: RelId, held: &Held) -> Result<Plan, AllocError>
     ensures { IfOk result (λ plan. shape_of plan ≡ plan_of rel.0 (held_of held.now)) }
 {
@@ -66,7 +67,7 @@ fn plan_of(alloc: Global, rel: RelId, held: &Held) -> Result<Plan, AllocError>
     }
 }
 
-// The relation, and then what it reaches.
+/// The relation, and then what it reaches.
 fn reached_by(alloc: Global, rel: RelId, held: &Held) -> Result<Vec<RelId>, AllocError>
     ensures { IfOk result (λ reached. numbers reached.items ≡ reached_by rel.0 (held_of held.now)) }
 {
@@ -78,6 +79,7 @@ fn reached_by(alloc: Global, rel: RelId, held: &Held) -> Result<Vec<RelId>, Allo
     Ok(reached)
 }
 
+/// A relation of the catalog as a source of a select, under the name that it has there.
 fn source_of(alloc: Global, relation: &Relation, name: &str) -> Result<From, AllocError>
     ensures { IfOk result (λ from. from_of from ≡ source_of (entry_of relation.now) name.now) }
 {
@@ -91,7 +93,7 @@ fn source_of(alloc: Global, relation: &Relation, name: &str) -> Result<From, All
     })
 }
 
-// The name that a source has in its select.
+/// The name that a source has in its select.
 fn called(source: &Source) -> &Name
     ensures { name_tree result.now ≡ called (source_tree source.now) }
 {
@@ -101,7 +103,7 @@ fn called(source: &Source) -> &Name
     }
 }
 
-// A source behind those that have the columns of `scope`.
+/// A source behind those that have the columns of `scope`.
 #[tactic(auto, unfolding(crate::specs::Binding::source_bound))]
 fn source(
     alloc: Global,
@@ -121,7 +123,7 @@ fn source(
     Ok(source_of(alloc, relation, name.text.as_str())?)
 }
 
-// The place of the one column in the earlier sources, which have `n`, and that of the other in the new source.
+/// The place of the one column in the earlier sources, which have `n`, and that of the other in the new source.
 fn sides(n: usize, i: usize, j: usize) -> Option<(usize, usize)>
     ensures { result ≡ sides n i j }
 {
@@ -134,6 +136,7 @@ fn sides(n: usize, i: usize, j: usize) -> Option<(usize, usize)>
     None
 }
 
+/// Binds a pair of a join to the places of its two columns, the earlier side first.
 #[tactic(auto, unfolding(crate::specs::Binding::pair_bound))]
 fn pair(n: usize, scope: &[Named], pair: &Pair) -> Result<(usize, usize), BindFault>
     ensures { Gives (λ x. x) result (pair_bound n scope.now (pair_tree pair.now)) }
@@ -149,6 +152,7 @@ fn pair(n: usize, scope: &[Named], pair: &Pair) -> Result<(usize, usize), BindFa
     Ok(sides)
 }
 
+/// Binds each pair of a join to the places of its two columns, in their order.
 #[tactic(auto, unfolding(crate::specs::Binding::pairs_bound))]
 fn pairs(
     alloc: Global,
@@ -166,7 +170,7 @@ fn pairs(
     Ok(pairs)
 }
 
-// The columns of two sources, and the pairs of them that are joined.
+/// The columns of two sources, and the pairs of them that are joined.
 fn paired(
     alloc: Global,
     left: Vec<Named>,
@@ -194,7 +198,7 @@ pub(crate) fn reached_by_two(left: Vec<RelId>, right: Vec<RelId>) -> Result<Vec<
     Ok(reached)
 }
 
-// Two plans, joined by pairs of columns.
+/// Two plans, joined by pairs of columns.
 #[tactic(auto, unfolding(crate::specs::Binding::joined_bound))]
 fn joined(alloc: Global, left: From, right: From, on: &[Pair]) -> Result<From, BindFault>
     ensures { Gives from_of result (joined_bound (from_of left) (from_of right) (map pair_tree on.now)) }
@@ -220,7 +224,7 @@ fn joined(alloc: Global, left: From, right: From, on: &[Pair]) -> Result<From, B
     }
 }
 
-// The sources so far and one more.
+/// The sources so far and one more.
 #[tactic(auto, unfolding(crate::specs::Binding::join_bound))]
 fn join(alloc: Global, catalog: &Catalog, left: From, join: &Join) -> Result<From, BindFault>
     ensures { Gives from_of result (join_bound catalog.now (from_of left) (join_tree join.now)) }

@@ -61,6 +61,7 @@ impl SentRows {
     }
 }
 
+/// Writes one value of a row as JSON.
 fn put_cell(out: &mut Writer, cell: &Value) -> Result<(), AllocError>
     ensures { OnOk result (AddsValue out.old out.new (cell_data (cell_of cell.now))) }
 {
@@ -71,6 +72,7 @@ fn put_cell(out: &mut Writer, cell: &Value) -> Result<(), AllocError>
     }
 }
 
+/// Writes the values of a row as a JSON array, without the row's weight.
 fn put_cells(out: &mut Writer, cells: &[Value]) -> Result<(), AllocError>
     ensures { OnOk result (AddsValue out.old out.new (row_data (cells_of cells.now))) }
 {
@@ -91,12 +93,14 @@ fn put_weighed(out: &mut Writer, weight: i64, cells: &[Value]) -> Result<(), All
     out.end_array()
 }
 
+/// Writes an entry of the rows that are sent, a row and its weight, as a JSON array.
 fn put_entry(out: &mut Writer, entry: &(Row, i64)) -> Result<(), AllocError>
     ensures { OnOk result (AddsValue out.old out.new (entry_data entry.now)) }
 {
     put_weighed(out, entry.1, entry.0.values())
 }
 
+/// Writes the rows that are sent, each with its weight, as a JSON array.
 fn put_rows(out: &mut Writer, rows: &[(Row, i64)]) -> Result<(), AllocError>
     ensures { OnOk result (AddsValue out.old out.new (rows_data rows.now)) }
 {

@@ -21,6 +21,7 @@ impl From<AllocError> for Stop {
 
     ghost from_gives = { λ _ stop. stop ≡ Memory };
 
+    /// Out of memory, as why a request is not done.
     fn from(_error: AllocError) -> Stop {
         Stop::Memory
     }
@@ -32,6 +33,7 @@ impl<T: Drop> From<AllocFailed<T>> for Stop {
 
     ghost from_gives = { λ _ stop. stop ≡ Memory };
 
+    /// A value that could not be stored for want of memory, as why a request is not done.
     fn from(_failed: AllocFailed<T>) -> Stop {
         Stop::Memory
     }
@@ -43,6 +45,7 @@ impl From<QueryFault> for Stop {
 
     ghost from_gives = { λ fault stop. stop ≡ read_stop fault };
 
+    /// A fault of reading a text, as the refusal `BadQuery` of its request, or as want of memory.
     fn from(fault: QueryFault) -> Stop {
         match fault {
             QueryFault::At { place, why } => Stop::Refused(Refusal::BadQuery {
@@ -60,6 +63,7 @@ impl From<BindFault> for Stop {
 
     ghost from_gives = { λ fault stop. stop ≡ bind_stop fault };
 
+    /// A fault of binding a text, as the refusal `BadQuery` of its request, or as want of memory.
     fn from(fault: BindFault) -> Stop {
         match fault {
             BindFault::At { place, why } => Stop::Refused(Refusal::BadQuery {

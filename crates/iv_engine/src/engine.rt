@@ -36,6 +36,7 @@ impl From<AllocError> for EngineFault {
 
     ghost from_gives = { λ _ fault. fault ≡ Memory };
 
+    /// Out of memory, as the reason why the engine gives no answer.
     fn from(_error: AllocError) -> EngineFault {
         EngineFault::Memory
     }

@@ -23,6 +23,7 @@ struct SessionPart {
 }
 
 impl SessionPart {
+    /// The part before the first change of a command's lines: it has no text yet.
     fn new(alloc: Global) -> SessionPart
         ensures { IsPart result }
     {
@@ -79,6 +80,7 @@ fn push_change(text: &mut Vec<u8>, part: &[u8], sub: u64, rows: &[u8]) -> Result
     Ok(())
 }
 
+/// The part of a subscription's last line that tells why it has ended.
 fn cause_part(cause: Cause) -> &'static [u8]
     ensures { result.now ≡ cause_part cause }
 {
@@ -104,6 +106,7 @@ fn push_ended(
     push_rest(text, session, sub)
 }
 
+/// Appends the line of the reply `ok`, with its session.
 fn push_done(text: &mut Vec<u8>, session: u32) -> Result<(), AllocError>
     ensures { OnOk result (text.new.items ≡ text.old.items ++ done_text session) }
 {
@@ -112,6 +115,7 @@ fn push_done(text: &mut Vec<u8>, session: u32) -> Result<(), AllocError>
     Ok(())
 }
 
+/// Appends the line of the reply that a subscription was opened, with its session and number.
 fn push_subscribed(text: &mut Vec<u8>, session: u32, sub: u64) -> Result<(), AllocError>
     ensures { OnOk result (text.new.items ≡ text.old.items ++ subscribed_text session sub) }
 {

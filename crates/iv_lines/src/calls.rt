@@ -41,6 +41,7 @@ impl Model for Calls {
 }
 
 impl Calls {
+    /// The count of calls with which an end of std begins: none.
     pub fn none() -> Calls
         ensures { result ≡ 0 }
     {
@@ -49,6 +50,7 @@ impl Calls {
         }
     }
 
+    /// Counts one more call of an end of std.
     pub fn add_one(&mut self)
         ensures { self.new ≡ self.old + 1 }
     {

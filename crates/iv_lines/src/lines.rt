@@ -38,6 +38,7 @@ impl From<AllocError> for RunFault {
 
     ghost from_gives = { λ _ e. e ≡ Memory };
 
+    /// Out of memory, as a fault of a run over lines.
     fn from(_: AllocError) -> Self {
         RunFault::Memory
     }
@@ -49,6 +50,7 @@ impl<T: Drop> From<AllocFailed<T>> for RunFault {
 
     ghost from_gives = { λ _ e. e ≡ Memory };
 
+    /// A value that could not be stored for want of memory, as a fault of a run over lines.
     fn from(_: AllocFailed<T>) -> Self {
         RunFault::Memory
     }

@@ -39,6 +39,7 @@ impl<R: Read> Source for FromRead<R> {
 
     ghost reads = { λ s. s.calls };
 
+    /// Reads by one call of std's reader, whose error is a fault of the source.
     fn read(&mut self, room: &mut [u8]) -> Result<usize, EndFault> {
         match self.reader.read(room) {
             Ok(count) => Ok(count),
@@ -85,6 +86,7 @@ impl<W: Write> Sink for FromWrite<W> {
 
     ghost calls = { λ s. s.0.calls };
 
+    /// Writes by one call of std's writer; an error, and none taken of some bytes, is a fault of the sink.
     fn write(&mut self, bytes: &[u8]) -> Result<usize, EndFault> {
         match self.writer.write(bytes) {
             Ok(0) => {
@@ -99,6 +101,7 @@ impl<W: Write> Sink for FromWrite<W> {
         }
     }
 
+    /// Flushes by one call of std's writer, whose error is a fault of the sink.
     fn flush(&mut self) -> Result<(), EndFault> {
         match self.writer.flush() {
             Ok(()) => Ok(()),

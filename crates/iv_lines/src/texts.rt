@@ -13,6 +13,7 @@ use iv_command::{BindWhy, Check, Privilege, Reason, Refusal, Why};
 use serde_json::{Map, Value as Json, put};
 use std::alloc::{AllocError, Global};
 
+/// The text at `privilege` in a refusal: which privilege the role lacks.
 fn privilege_text(privilege: Privilege) -> &'static str
     ensures { result.now ≡ privilege_text privilege }
 {
@@ -24,6 +25,7 @@ fn privilege_text(privilege: Privilege) -> &'static str
     }
 }
 
+/// The text at `check` in a refusal: what a row of an entry was tested for by policies.
 fn check_text(check: Check) -> &'static str
     ensures { result.now ≡ check_text check }
 {
@@ -36,6 +38,7 @@ fn check_text(check: Check) -> &'static str
     }
 }
 
+/// The words of a refusal for why a text is not in the grammar.
 fn reading_text(why: Why) -> &'static str
     ensures { result.now ≡ reading_text why }
 {
@@ -47,6 +50,7 @@ fn reading_text(why: Why) -> &'static str
     }
 }
 
+/// The words of a refusal for why a text cannot be bound to a plan or a predicate.
 fn binding_text(why: BindWhy) -> &'static str
     ensures { result.now ≡ binding_text why }
 {
@@ -63,6 +67,7 @@ fn binding_text(why: BindWhy) -> &'static str
     }
 }
 
+/// The text at `why` in a refusal: what is wrong with the text of a query or a policy.
 fn reason_text(why: Reason) -> &'static str
     ensures { result.now ≡ reason_text (reason_of why) }
 {
@@ -110,6 +115,7 @@ fn put_plain(
     put_number(alloc, members, "session", session as u64)
 }
 
+/// Adds the members of the refusal that the role is neither the relation's owner nor `admin`.
 fn put_not_owner(
     alloc: Global,
     members: &mut Map<String, Json>,
@@ -124,6 +130,7 @@ fn put_not_owner(
     put_number(alloc, members, "session", session as u64)
 }
 
+/// Adds the members of the refusal that the role lacks a privilege on a relation.
 fn put_missing(
     alloc: Global,
     members: &mut Map<String, Json>,
@@ -156,6 +163,7 @@ fn put_entry_refused(
     put_number(alloc, members, "session", session as u64)
 }
 
+/// Adds the members of the refusal that a text has a fault: its place and why.
 fn put_bad_query(
     alloc: Global,
     members: &mut Map<String, Json>,
@@ -172,6 +180,7 @@ fn put_bad_query(
     put_text(alloc, members, "why", reason_text(why))
 }
 
+/// Adds the members of the refusal that no permissive policy lets a row of an entry through.
 fn put_no_permissive(
     alloc: Global,
     members: &mut Map<String, Json>,
@@ -190,6 +199,7 @@ fn put_no_permissive(
     put_number(alloc, members, "session", session as u64)
 }
 
+/// Adds the members of the refusal that a restrictive policy does not let a row of an entry through.
 fn put_restrictive(
     alloc: Global,
     members: &mut Map<String, Json>,
@@ -210,6 +220,7 @@ fn put_restrictive(
     put_number(alloc, members, "session", session as u64)
 }
 
+/// Adds the members of a refusal, whichever it is, to a JSON object.
 fn put_refused(
     alloc: Global,
     members: &mut Map<String, Json>,

@@ -33,6 +33,7 @@ impl<E> Model for Watched<E> {
 }
 
 impl<E> Watched<E> {
+    /// An end of std of which no call was made: each is counted from now on.
     pub fn new(end: E) -> Watched<E>
         ensures { result ≡ unused end }
     {

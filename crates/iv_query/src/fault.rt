@@ -37,6 +37,7 @@ pub enum QueryFault {
 impl From<AllocError> for QueryFault {
     ghost from_gives = { λ _ fault. fault ≡ Memory };
 
+    /// Out of memory, as the reason why a text was not read.
     fn from(_error: AllocError) -> QueryFault {
         QueryFault::Memory
     }
@@ -45,6 +46,7 @@ impl From<AllocError> for QueryFault {
 impl<T: Drop> From<AllocFailed<T>> for QueryFault {
     ghost from_gives = { λ _ fault. fault ≡ Memory };
 
+    /// Out of memory for a part of a tree, as the reason why a text was not read.
     fn from(_error: AllocFailed<T>) -> QueryFault {
         QueryFault::Memory
     }

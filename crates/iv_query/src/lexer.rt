@@ -1,6 +1,6 @@
 //! `lexed`: from the bytes of a text to its tokens: words, numbers, quoted texts and signs.
 //!
-//! A letter is A to Z or a to z, also where a number must have none behind it. A text without its closing quote is
+//! A letter is A to Z, a to z or an underscore, also where a number must have none behind it. A text without its closing quote is
 //! one fault at its first quote, also where a shorter text could be cut from it.
 
 ghost use Rattle.std.specs.Prelude.{◌≡◌, ◌==◌, ◌<◌, ◌∷◌, length, drop, slice_index, IfOk, IsTrue, option_map, string_bytes};
@@ -25,32 +25,35 @@ pub enum Front<'a> {
     Nothing,
 }
 
+/// Whether a byte is blank: it may stand between tokens, and belongs to none.
 fn is_blank(b: u8) -> bool
     ensures { result ≡ is_blank b }
 {
     b == b' ' || b == b'\t' || b == b'\n' || b == b'\r' || b == 12
 }
 
+/// Whether a byte may begin a word: a letter or an underscore.
 fn is_letter(b: u8) -> bool
     ensures { result ≡ is_letter b }
 {
     b.is_ascii_alphabetic() || b == b'_'
 }
 
+/// Whether a byte may stand in a word: a letter, an underscore or a digit.
 fn is_word_byte(b: u8) -> bool
     ensures { result ≡ is_word_byte b }
 {
     is_letter(b) || b.is_ascii_digit()
 }
 
-// How many bytes at the front belong to a word.
+/// How many bytes at the front belong to a word.
 fn word_len(bytes: &[u8]) -> usize
     ensures { result ≡ prefix_len is_word_byte bytes.now }
 {
     bytes.iter().take_while(|b| is_word_byte(**b)).count()
 }
 
-// The word of a rule that a word in lower case is.
+/// The word of a rule that a word in lower case is.
 #[tactic(auto, unfolding(crate::specs::Lexing::word_symbol))]
 fn word_symbol(word: &str) -> Option<Symbol>
     ensures { result ≡ word_symbol word.now }
@@ -81,6 +84,7 @@ fn word_symbol(word: &str) -> Option<Symbol>
     }
 }
 
+/// The lexeme of a word in lower case: a word of a rule, a name, or a reserved word that no rule has.
 fn word_lexeme(word: String) -> Lexeme
     ensures { tok_of result ≡ word_token (string_bytes word) }
 {
@@ -94,7 +98,7 @@ fn word_lexeme(word: String) -> Lexeme
     }
 }
 
-// What stands behind a first byte.
+/// What stands behind a first byte.
 fn behind_one(text: &str) -> &str
     requires there { 0 < length text.now }
     requires ascii { slice_index text.now 0 < 128 }
@@ -103,7 +107,7 @@ fn behind_one(text: &str) -> &str
     &text[1..]
 }
 
-// What stands behind two bytes.
+/// What stands behind two bytes.
 fn behind_two(text: &str) -> &str
     requires there { 1 < length text.now }
     requires ascii { slice_index text.now 1 < 128 }
@@ -112,6 +116,7 @@ fn behind_two(text: &str) -> &str
     &text[2..]
 }
 
+/// The word in front of a text, as a token in lower case; nothing where the word is too long.
 #[tactic(auto, unfolding(crate::specs::Lexing::word_at))]
 fn word(alloc: Global, text: &str) -> Result<Front<'_>, AllocError>
     ensures { IfOk result (λ f. ahead_of f ≡ word_at text.now) }
@@ -126,6 +131,7 @@ fn word(alloc: Global, text: &str) -> Result<Front<'_>, AllocError>
     Ok(Front::Token(word_lexeme(word), rest))
 }
 
+/// The sign in front of a text, as a token; nothing where no sign stands there.
 #[tactic(auto, unfolding(crate::specs::Lexing::sign_at))]
 fn sign(text: &str) -> Front<'_>
     ensures { ahead_of result ≡ sign_at text.now }
@@ -147,13 +153,14 @@ fn sign(text: &str) -> Front<'_>
     }
 }
 
-// How many digits stand at the front.
+/// How many digits stand at the front.
 fn digits_len(bytes: &[u8]) -> usize
     ensures { result ≡ prefix_len is_ascii_digit bytes.now }
 {
     bytes.iter().take_while(|b| b.is_ascii_digit()).count()
 }
 
+/// Whether a letter or an underscore comes first: a number must have none behind it.
 fn starts_letter(bytes: &[u8]) -> bool
     ensures { result ≡ starts_letter bytes.now }
 {
@@ -163,6 +170,7 @@ fn starts_letter(bytes: &[u8]) -> bool
     }
 }
 
+/// A number without a minus, in front of a text that begins with a digit.
 #[tactic(auto, unfolding(crate::specs::Lexing::number_at))]
 fn number(text: &str) -> Front<'_>
     requires { IsTrue (starts_digit text.now) }
@@ -179,7 +187,7 @@ fn number(text: &str) -> Front<'_>
     }
 }
 
-// A number with a minus, where `behind` stands behind the minus.
+/// A number with a minus, where `behind` stands behind the minus.
 #[tactic(auto, unfolding(crate::specs::Lexing::negative_at))]
 fn negative<'a>(text: &'a str, behind: &str) -> Front<'a>
     requires whole { text.now ≡ 45 ∷ behind.now }
@@ -197,13 +205,14 @@ fn negative<'a>(text: &'a str, behind: &str) -> Front<'a>
     }
 }
 
-// How many bytes come before the first quote.
+/// How many bytes come before the first quote.
 fn plain_len(bytes: &[u8]) -> usize
     ensures { result ≡ prefix_len is_plain bytes.now }
 {
     bytes.iter().take_while(|b| **b != 39).count()
 }
 
+/// What stands behind a quote, if one comes first.
 fn after_quote(text: &str) -> Option<&str>
     ensures { option_map (λ x. x.now) result ≡ after_quote text.now }
 {
@@ -213,7 +222,7 @@ fn after_quote(text: &str) -> Option<&str>
     }
 }
 
-// The value of a quoted text, and what stands behind its closing quote; `text` begins behind the first one.
+/// The value of a quoted text, and what stands behind its closing quote; `text` begins behind the first one.
 fn quoted(alloc: Global, text: &str) -> Result<Option<(String, &str)>, AllocError>
     ensures { IfOk result (λ r. option_map (λ x. (string_bytes x.0, x.1.now)) r ≡ quoted text.now) }
 {
@@ -233,13 +242,14 @@ fn quoted(alloc: Global, text: &str) -> Result<Option<(String, &str)>, AllocErro
     }
 }
 
+/// Whether the character U+0000 stands in the value of a quoted text.
 fn has_zero(text: &str) -> bool
     ensures { result ≡ list_any (λ b. b == 0) text.now }
 {
     text.as_bytes().iter().any(|b| *b == 0)
 }
 
-// A text that a table may hold: at most 1,024 bytes, and no U+0000.
+/// A text that a table may hold: at most 1,024 bytes, and no U+0000.
 fn is_well_text(text: &str) -> bool
     ensures { result ≡ is_well_text text.now }
 {
@@ -249,7 +259,7 @@ fn is_well_text(text: &str) -> bool
     !has_zero(text)
 }
 
-// A quoted text; `text` begins behind the first quote.
+/// A quoted text; `text` begins behind the first quote.
 #[tactic(auto, unfolding(crate::specs::Lexing::text_at))]
 fn text_front(alloc: Global, text: &str) -> Result<Front<'_>, AllocError>
     ensures { IfOk result (λ f. ahead_of f ≡ text_at text.now) }
@@ -266,7 +276,7 @@ fn text_front(alloc: Global, text: &str) -> Result<Front<'_>, AllocError>
     }
 }
 
-// What begins with a minus; `behind` stands behind it.
+/// What begins with a minus; `behind` stands behind it.
 fn minus<'a>(text: &'a str, behind: &str) -> Front<'a>
     requires { text.now ≡ 45 ∷ behind.now }
     ensures { ahead_of result ≡ minus_at behind.now }
@@ -277,6 +287,7 @@ fn minus<'a>(text: &'a str, behind: &str) -> Front<'a>
     }
 }
 
+/// What stands in front of a text: a blank, a word, a number, a quoted text, a sign, or nothing of these.
 #[tactic(auto, unfolding(crate::specs::Lexing::ahead))]
 fn front_of(alloc: Global, text: &str) -> Result<Front<'_>, AllocError>
     ensures { IfOk result (λ f. ahead_of f ≡ ahead text.now) }
@@ -309,6 +320,7 @@ pub struct Tokens {
     pub ends: bool,
 }
 
+/// The tokens of a text, up to its end or to the first place where no token stands.
 pub fn lexed(alloc: Global, text: &str) -> Result<Tokens, AllocError>
     ensures { IfOk result (λ t. tokens_lexed t ≡ lexed (length text.now) (length text.now) text.now) }
 {

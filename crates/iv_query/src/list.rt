@@ -19,6 +19,7 @@ pub trait Listed: Drop + Sized {
 
     ghost item_at: { Fault → List Tok → Read Tree };
 
+    /// One item of a list of a text, and the tokens behind it.
     fn read(alloc: Global, tokens: &[Token], stop: Fault) -> Result<(Self, &[Token]), QueryFault>
         ensures { Gives (λ x. (tree x.0, toks x.1.now)) result (item_at stop (toks tokens.now)) };
 }

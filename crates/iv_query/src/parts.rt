@@ -12,7 +12,7 @@ use crate::tree::{Column, Dialect, Name, Op, Operand};
 use iv_rows::Value;
 use std::alloc::Global;
 
-// The place of the first token, or where the tokens end.
+/// The place of the first token, or where the tokens end.
 pub fn first_place(tokens: &[Token], stop: Fault) -> usize
     ensures { result ≡ first_place stop (toks tokens.now) }
 {
@@ -22,6 +22,7 @@ pub fn first_place(tokens: &[Token], stop: Fault) -> usize
     }
 }
 
+/// A fault of the rules, such as that where the tokens end, as the `QueryFault` of the text.
 fn at(fault: Fault) -> QueryFault
     ensures { result ≡ at fault }
 {
@@ -31,7 +32,7 @@ fn at(fault: Fault) -> QueryFault
     }
 }
 
-// The fault of a token that is not needed, or of the end.
+/// The fault of a token that is not needed, or of the end.
 pub fn unexpected(tokens: &[Token], stop: Fault) -> QueryFault
     ensures { result ≡ at (unexpected stop (toks tokens.now)) }
 {
@@ -44,7 +45,7 @@ pub fn unexpected(tokens: &[Token], stop: Fault) -> QueryFault
     }
 }
 
-// The fault of the 33rd `not` or `(`.
+/// The fault of the 33rd `not` or `(`.
 pub fn deep(place: usize) -> QueryFault
     ensures { result ≡ at (deep place) }
 {
@@ -54,7 +55,7 @@ pub fn deep(place: usize) -> QueryFault
     }
 }
 
-// The tokens behind a symbol, if it comes first.
+/// The tokens behind a symbol, if it comes first.
 #[tactic(auto, unfolding(crate::specs::Tokens::after_symbol))]
 pub fn after(symbol: Symbol, tokens: &[Token]) -> Option<&[Token]>
     ensures { option_map (λ x. toks x.now) result ≡ after_symbol symbol (toks tokens.now) }
@@ -69,7 +70,7 @@ pub fn after(symbol: Symbol, tokens: &[Token]) -> Option<&[Token]>
     None
 }
 
-// The tokens behind a symbol that has to come first.
+/// The tokens behind a symbol that has to come first.
 #[tactic(auto, unfolding(crate::specs::Reading::need))]
 pub fn need(symbol: Symbol, tokens: &[Token], stop: Fault) -> Result<&[Token], QueryFault>
     ensures { Gives (λ x. toks x.now) result (need symbol stop (toks tokens.now)) }
@@ -80,6 +81,7 @@ pub fn need(symbol: Symbol, tokens: &[Token], stop: Fault) -> Result<&[Token], Q
     }
 }
 
+/// A name that has to come first in a part of a query or predicate, and the tokens behind it.
 pub fn name(alloc: Global, tokens: &[Token], stop: Fault) -> Result<(Name, &[Token]), QueryFault>
     ensures { Gives (λ x. (name_tree x.0, toks x.1.now)) result (name_at stop (toks tokens.now)) }
 {
@@ -93,6 +95,7 @@ pub fn name(alloc: Global, tokens: &[Token], stop: Fault) -> Result<(Name, &[Tok
     Err(unexpected(tokens, stop))
 }
 
+/// A column that has to come first, with its source before a dot if one is named, and the tokens behind it.
 #[tactic(auto, unfolding(crate::specs::Reading::column_at))]
 pub fn column(
     alloc: Global,
@@ -132,6 +135,7 @@ pub fn column(
     }
 }
 
+/// The comparison sign that a symbol is, if it is one.
 pub fn op_of(symbol: Symbol) -> Option<Op>
     ensures { result ≡ op_of symbol }
 {
@@ -146,7 +150,7 @@ pub fn op_of(symbol: Symbol) -> Option<Op>
     }
 }
 
-// A comparison sign, and the tokens behind it, if one comes first.
+/// A comparison sign, and the tokens behind it, if one comes first.
 pub fn after_op(tokens: &[Token]) -> Option<(Op, &[Token])>
     ensures { option_map (λ x. (x.0, toks x.1.now)) result ≡ after_op (toks tokens.now) }
 {
@@ -160,7 +164,7 @@ pub fn after_op(tokens: &[Token]) -> Option<(Op, &[Token])>
     None
 }
 
-// The operand that a word is.
+/// The operand that a word is.
 fn word_operand(symbol: Symbol, place: usize, dialect: Dialect) -> Option<Operand>
     ensures { option_map operand_tree result ≡ word_operand dialect symbol place }
 {
@@ -178,7 +182,7 @@ fn word_operand(symbol: Symbol, place: usize, dialect: Dialect) -> Option<Operan
     }
 }
 
-// The operand that a name begins.
+/// The operand that a name begins.
 #[tactic(auto, unfolding(crate::specs::Reading::name_operand_at))]
 fn name_operand(
     alloc: Global,
@@ -210,6 +214,7 @@ fn name_operand(
     }
 }
 
+/// An operand that has to come first, as the dialect allows, and the tokens behind it.
 #[tactic(auto, unfolding(crate::specs::Reading::operand_at))]
 pub fn operand(
     alloc: Global,

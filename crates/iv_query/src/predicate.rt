@@ -17,7 +17,7 @@ use crate::tree::{Dialect, Operand, Pred};
 use iv_rows::{Value, boxed_two};
 use std::alloc::Global;
 
-// The truth value that an operand is.
+/// The truth value that an operand is.
 fn truth_of(operand: &Operand) -> Option<bool>
     ensures { result ≡ truth_of (operand_tree operand.now) }
 {
@@ -30,6 +30,7 @@ fn truth_of(operand: &Operand) -> Option<bool>
     }
 }
 
+/// A comparison of two operands, or a truth value alone, and the tokens behind it.
 #[tactic(auto, unfolding(crate::specs::Reading::comparison_at))]
 fn comparison(
     alloc: Global,
@@ -59,6 +60,7 @@ fn comparison(
     }
 }
 
+/// A term of a conjunction: a comparison, the word `not` and its term, or a predicate between `(` and `)`.
 #[cycle(predicate)]
 #[tactic(auto, unfolding(crate::specs::Reading::term_at))]
 fn term(
@@ -93,6 +95,7 @@ fn term(
     comparison(alloc, tokens, dialect, stop)
 }
 
+/// A conjunction: one term of a predicate, and any number of further ones, each behind `and`.
 #[cycle(predicate)]
 #[tactic(auto, unfolding(crate::specs::Reading::conj_at))]
 fn conj(
@@ -124,7 +127,7 @@ fn conj(
     Ok((tree, rest))
 }
 
-// A predicate with at most `room` signs `(` and words `not` open at once.
+/// A predicate with at most `room` signs `(` and words `not` open at once.
 #[cycle(predicate)]
 #[tactic(auto, unfolding(crate::specs::Reading::pred_at))]
 pub fn pred(

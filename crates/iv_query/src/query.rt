@@ -19,7 +19,7 @@ use crate::tree::{
 };
 use std::alloc::{AllocError, Global};
 
-// The tokens behind a symbol if it comes first, else all.
+/// The tokens behind a symbol if it comes first, else all.
 fn skip(symbol: Symbol, tokens: &[Token]) -> &[Token]
     ensures { toks result.now ≡ skip symbol (toks tokens.now) }
 {
@@ -29,6 +29,7 @@ fn skip(symbol: Symbol, tokens: &[Token]) -> &[Token]
     }
 }
 
+/// Whether a name comes first, as an alias without the word `as` does.
 fn starts_name(tokens: &[Token]) -> bool
     ensures { result ≡ starts_name (toks tokens.now) }
 {
@@ -38,6 +39,7 @@ fn starts_name(tokens: &[Token]) -> bool
     }
 }
 
+/// Whether an alias comes first, with or without the word `as`.
 fn starts_alias(tokens: &[Token]) -> bool
     ensures { result ≡ starts_alias (toks tokens.now) }
 {
@@ -47,6 +49,7 @@ fn starts_alias(tokens: &[Token]) -> bool
     }
 }
 
+/// The alias that has to come first, with or without the word `as`, and the tokens behind it.
 #[tactic(auto, unfolding(crate::specs::QueryReading::alias_at))]
 fn alias(alloc: Global, tokens: &[Token], stop: Fault) -> Result<(Name, &[Token]), QueryFault>
     ensures { Gives (λ x. (name_tree x.0, toks x.1.now)) result (alias_at stop (toks tokens.now)) }
@@ -54,6 +57,7 @@ fn alias(alloc: Global, tokens: &[Token], stop: Fault) -> Result<(Name, &[Token]
     name(alloc, skip(Symbol::As, tokens), stop)
 }
 
+/// The alias of a source or a column, if one comes first, and the tokens behind it.
 #[tactic(auto, unfolding(crate::specs::QueryReading::may_alias_at))]
 fn may_alias(
     alloc: Global,
@@ -69,7 +73,7 @@ fn may_alias(
     Ok((Some(name), rest))
 }
 
-// The fault of a ninth source.
+/// The fault of a ninth source.
 fn long(place: usize) -> QueryFault
     ensures { result ≡ at (long place) }
 {
@@ -79,7 +83,7 @@ fn long(place: usize) -> QueryFault
     }
 }
 
-// A source, where `left` may still be named.
+/// A source, where `left` may still be named.
 #[tactic(auto, unfolding(crate::specs::QueryReading::source_at))]
 fn source(
     alloc: Global,
@@ -97,6 +101,7 @@ fn source(
     Ok((Source { name, alias }, rest))
 }
 
+/// A pair of a join: two columns with the sign `=` between them.
 #[tactic(auto, unfolding(crate::specs::QueryReading::pair_at))]
 fn pair(alloc: Global, tokens: &[Token], stop: Fault) -> Result<(Pair, &[Token]), QueryFault>
     ensures { Gives (λ x. (pair_tree x.0, toks x.1.now)) result (pair_at stop (toks tokens.now)) }
@@ -114,11 +119,13 @@ impl Listed for Pair {
 
     ghost item_at = { pair_at };
 
+    /// One pair of columns of the list behind the word `on` of a join.
     fn read(alloc: Global, tokens: &[Token], stop: Fault) -> Result<(Pair, &[Token]), QueryFault> {
         pair(alloc, tokens, stop)
     }
 }
 
+/// A join without the word `inner`: its source and its pairs, where `left` sources may still be named.
 #[tactic(auto, unfolding(crate::specs::QueryReading::plain_join_at))]
 fn plain_join(
     alloc: Global,
@@ -135,6 +142,7 @@ fn plain_join(
     Ok((Join { source, on }, rest))
 }
 
+/// A join with or without the word `inner`, where `left` sources may still be named.
 #[tactic(auto, unfolding(crate::specs::QueryReading::join_at))]
 fn join(
     alloc: Global,
@@ -147,6 +155,7 @@ fn join(
     plain_join(alloc, skip(Symbol::Inner, tokens), left, stop)
 }
 
+/// Whether a join comes first: the word `inner` or the word `join`.
 fn starts_join(tokens: &[Token]) -> bool
     ensures { result ≡ starts_join (toks tokens.now) }
 {
@@ -156,7 +165,7 @@ fn starts_join(tokens: &[Token]) -> bool
     }
 }
 
-// The joins behind a source, where `left` sources may still be named.
+/// The joins behind a source, where `left` sources may still be named.
 #[tactic(auto, unfolding(crate::specs::QueryReading::joins_at))]
 fn joins(
     alloc: Global,
@@ -179,6 +188,7 @@ fn joins(
     Ok((list, rest))
 }
 
+/// An item of a select that is a column, with its alias if it has one.
 #[tactic(auto, unfolding(crate::specs::QueryReading::column_item_at))]
 fn column_item(alloc: Global, tokens: &[Token], stop: Fault) -> Result<(Item, &[Token]), QueryFault>
     ensures { Gives (λ x. (item_tree x.0, toks x.1.now)) result (column_item_at stop (toks tokens.now)) }
@@ -188,7 +198,7 @@ fn column_item(alloc: Global, tokens: &[Token], stop: Fault) -> Result<(Item, &[
     Ok((Item::Column { column, alias }, rest))
 }
 
-// What stands behind the word `sum`, which stands at `place`.
+/// What stands behind the word `sum`, which stands at `place`.
 #[tactic(auto, unfolding(crate::specs::QueryReading::sum_at))]
 fn sum(
     alloc: Global,
@@ -210,7 +220,7 @@ fn sum(
     Ok((item, rest))
 }
 
-// What stands behind the word `count`, which stands at `place`.
+/// What stands behind the word `count`, which stands at `place`.
 #[tactic(auto, unfolding(crate::specs::QueryReading::count_at))]
 fn count(
     alloc: Global,
@@ -227,6 +237,7 @@ fn count(
     Ok((Item::Count { place, alias }, rest))
 }
 
+/// An item of a select: a sum, a count or a column.
 #[tactic(auto, unfolding(crate::specs::QueryReading::item_at))]
 fn item(alloc: Global, tokens: &[Token], stop: Fault) -> Result<(Item, &[Token]), QueryFault>
     ensures { Gives (λ x. (item_tree x.0, toks x.1.now)) result (item_at stop (toks tokens.now)) }
@@ -247,11 +258,13 @@ impl Listed for Item {
 
     ghost item_at = { item_at };
 
+    /// One item of the list that a select gives as columns.
     fn read(alloc: Global, tokens: &[Token], stop: Fault) -> Result<(Item, &[Token]), QueryFault> {
         item(alloc, tokens, stop)
     }
 }
 
+/// What is selected: all columns by the sign `*`, or a list of items.
 #[tactic(auto, unfolding(crate::specs::QueryReading::list_at))]
 fn list(alloc: Global, tokens: &[Token], stop: Fault) -> Result<(Columns, &[Token]), QueryFault>
     ensures { Gives (λ x. (list_tree x.0, toks x.1.now)) result (list_at stop (toks tokens.now)) }
@@ -271,6 +284,7 @@ impl Listed for Column {
 
     ghost item_at = { column_at };
 
+    /// One column of the list behind `group by`.
     fn read(
         alloc: Global,
         tokens: &[Token],
@@ -280,6 +294,7 @@ impl Listed for Column {
     }
 }
 
+/// The columns of a select's group behind `group by`, and none where the word `group` does not come first.
 #[tactic(auto, unfolding(crate::specs::QueryReading::group_at))]
 fn group(
     alloc: Global,
@@ -297,6 +312,7 @@ fn group(
     }
 }
 
+/// The predicate of a select behind the word `where`, if that word comes first.
 #[tactic(auto, unfolding(crate::specs::QueryReading::filter_at))]
 fn filter(
     alloc: Global,
@@ -314,7 +330,7 @@ fn filter(
     }
 }
 
-// The word `select`, whether `distinct` follows, and what is selected.
+/// The word `select`, whether `distinct` follows, and what is selected.
 #[tactic(auto, unfolding(crate::specs::QueryReading::head_at))]
 fn head(
     alloc: Global,
@@ -329,7 +345,7 @@ fn head(
     Ok((first_place(tokens, stop), distinct, columns, rest))
 }
 
-// The word `from`, the first source and the joins, where `left` sources may still be named.
+/// The word `from`, the first source and the joins, where `left` sources may still be named.
 #[tactic(auto, unfolding(crate::specs::QueryReading::from_at))]
 fn sources(
     alloc: Global,
@@ -345,7 +361,7 @@ fn sources(
     Ok((source, joins, rest))
 }
 
-// What stands behind the sources: the predicate, and the columns of the group.
+/// What stands behind the sources: the predicate, and the columns of the group.
 #[tactic(auto, unfolding(crate::specs::QueryReading::tail_at))]
 fn tail(
     alloc: Global,
@@ -364,7 +380,7 @@ fn tail(
     }
 }
 
-// A select, where `left` sources may still be named.
+/// A select, where `left` sources may still be named.
 #[tactic(auto, unfolding(crate::specs::QueryReading::select_at, crate::specs::QueryReading::tail_at))]
 fn select(
     alloc: Global,
@@ -404,6 +420,7 @@ fn select(
     }
 }
 
+/// Whether a set operation comes first: the word `union` or the word `except`.
 fn starts_set_op(tokens: &[Token]) -> bool
     ensures { result ≡ starts_set_op (toks tokens.now) }
 {
@@ -413,6 +430,7 @@ fn starts_set_op(tokens: &[Token]) -> bool
     }
 }
 
+/// The set operation that has to come first, `union`, `union all` or `except`, and the tokens behind it.
 #[tactic(auto, unfolding(crate::specs::QueryReading::set_op_at))]
 fn set_op(tokens: &[Token], stop: Fault) -> Result<(SetOp, &[Token]), QueryFault>
     ensures { Gives (λ x. (x.0, toks x.1.now)) result (set_op_at stop (toks tokens.now)) }
@@ -427,7 +445,7 @@ fn set_op(tokens: &[Token], stop: Fault) -> Result<(SetOp, &[Token]), QueryFault
     Ok((SetOp::Except, rest))
 }
 
-// A set operation and its right select, where `left` sources may still be named.
+/// A set operation and its right select, where `left` sources may still be named.
 #[tactic(auto, unfolding(crate::specs::QueryReading::next_at))]
 fn next(
     alloc: Global,
@@ -442,13 +460,14 @@ fn next(
     Ok((op, right, rest))
 }
 
-// How many sources may still be named behind a select.
+/// How many sources may still be named behind a select.
 fn left_behind(left: usize, select: &Select) -> usize
     ensures { result ≡ left - sources_in (select_tree select.now) }
 {
     left.saturating_sub(1).saturating_sub(select.joins.len())
 }
 
+/// The query that a set operation makes of the query before it and the select behind it.
 fn combined(alloc: Global, before: Query, op: SetOp, last: Select) -> Result<Query, AllocError>
     ensures { IfOk result (λ query. query_tree query ≡ Combined (query_tree before) op (select_tree last)) }
 {

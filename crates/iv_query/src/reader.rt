@@ -27,7 +27,7 @@ use crate::token::Token;
 use crate::tree::{Dialect, PredText, Query};
 use std::alloc::Global;
 
-// The tokens of a text that is not too long.
+/// The tokens of a text that is not too long.
 fn tokens_of(alloc: Global, text: &str) -> Result<Tokens, QueryFault>
     ensures short { IfOk result (λ t. length text.now ≤ text_bytes) }
     ensures lexed { IfOk result (λ t. tokens_lexed t ≡ lexed (length text.now) (length text.now) text.now) }
@@ -42,7 +42,7 @@ fn tokens_of(alloc: Global, text: &str) -> Result<Tokens, QueryFault>
     Ok(lexed(alloc, text)?)
 }
 
-// Whether the text ends where the tokens that are left begin.
+/// Whether the text ends where the tokens that are left begin.
 #[tactic(auto, unfolding(crate::specs::Reading::end_at))]
 fn end(rest: &[Token], stop: Fault, ends: bool) -> Result<(), QueryFault>
     ensures { Gives (λ _. tt) result (end_at stop ends (toks rest.now)) }
@@ -53,6 +53,7 @@ fn end(rest: &[Token], stop: Fault, ends: bool) -> Result<(), QueryFault>
     Err(unexpected(rest, stop))
 }
 
+/// The predicate of a policy from the tokens of its whole text, or its first fault.
 #[tactic(auto, unfolding(crate::specs::Reading::whole_at))]
 fn whole_pred(alloc: Global, tokens: &Tokens) -> Result<PredText, QueryFault>
     ensures { Gives (λ p. pred_tree p.pred) result (read_tokens policy_condition_at (tokens_lexed tokens.now)) }
@@ -81,6 +82,7 @@ pub fn read_pred(alloc: Global, text: &str) -> Result<PredText, QueryFault>
     whole_pred(alloc, &tokens)
 }
 
+/// The query of a view from the tokens of its whole text, or its first fault.
 #[tactic(auto, unfolding(crate::specs::Reading::whole_at))]
 fn whole_query(alloc: Global, tokens: &Tokens) -> Result<Query, QueryFault>
     ensures { Gives query_tree result (read_tokens query_at (tokens_lexed tokens.now)) }

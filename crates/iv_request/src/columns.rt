@@ -9,6 +9,7 @@ use iv_rows::{Column, Kind, columns_ok, name_ok};
 use json::Value as Json;
 use std::alloc::{AllocError, Global};
 
+/// The kind of a column that a word of a request names: `int`, `text` or `flag`.
 fn kind_of(text: &str) -> Option<Kind>
     ensures { result ≡ kind_of text.now }
 {

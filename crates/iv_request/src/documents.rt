@@ -131,6 +131,7 @@ fn fits(value: &Value<'_>) -> bool
     }
 }
 
+/// Whether each number in the items of a JSON array has a value.
 #[cycle(fits)]
 fn items_fit(items: &Vec<Value<'_>>) -> bool
     ensures { result ≡ items_fit (items_view items.now.items) }
@@ -143,6 +144,7 @@ fn items_fit(items: &Vec<Value<'_>>) -> bool
     true
 }
 
+/// Whether each number in the members of a JSON object has a value.
 #[cycle(fits)]
 fn members_fit(members: &Vec<(&str, Value<'_>)>) -> bool
     ensures { result ≡ members_fit (members_view members.now.items) }

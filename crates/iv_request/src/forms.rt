@@ -149,6 +149,7 @@ pub fn form_of(text: &str) -> Option<&'static Form>
     find_form(&FORMS, text)
 }
 
+/// Whether a key is in one list of keys, of those that a request or an entry may have.
 fn is_among(keys: &[&str], key: &str) -> bool
     ensures { result ≡ list_any (λ k. bytes_eq k.now key.now) keys.now }
 {

@@ -14,6 +14,7 @@ use std::marker::Model;
 /// The greatest number of privileges of a grant.
 const MOST_PRIVILEGES: usize = 4;
 
+/// The privilege that a word of a grant or a revoke names.
 fn privilege_named(text: &str) -> Option<Privilege>
     ensures { result ≡ privilege_named text.now }
 {
@@ -30,6 +31,7 @@ fn privilege_named(text: &str) -> Option<Privilege>
     }
 }
 
+/// The privilege that a JSON value is, in the list of a grant or a revoke.
 fn privilege_of(value: &Json<'_>) -> Option<Privilege>
     ensures { result ≡ privilege_of (value_data value.now) }
 {

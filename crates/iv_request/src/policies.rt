@@ -32,6 +32,7 @@ pub fn row_security_of(alloc: Global, value: &Json<'_>) -> Result<Option<Act>, A
     }
 }
 
+/// What a policy is for, by a word of a request: `all`, `select`, `insert`, `update` or `delete`.
 fn policy_command_named(word: &str) -> Option<PolicyCommand>
     ensures { result ≡ policy_command_named word.now }
 {
@@ -50,6 +51,7 @@ fn policy_command_named(word: &str) -> Option<PolicyCommand>
     }
 }
 
+/// What a policy is for, by the JSON value at `command`.
 fn policy_command_of(value: &Json<'_>) -> Option<PolicyCommand>
     ensures { result ≡ policy_command_of (value_data value.now) }
 {
@@ -79,6 +81,7 @@ fn restrictive_at(value: &Json<'_>) -> Option<bool>
     }
 }
 
+/// The grantee of a policy that a JSON value is: a role, or none where it is PUBLIC.
 fn grantee_of(alloc: Global, value: &Json<'_>) -> Result<Option<Option<String>>, AllocError>
     ensures { IfOk result (λ found. option_map (λ to. option_map string_bytes to) found ≡ grantee_of (value_data value.now)) }
 {
@@ -160,6 +163,7 @@ impl Model for Scope {
     ghost view = { λ s. record { restrictive = s.restrictive; command = s.command; to = map (option_map string_bytes) s.grantee.items } };
 }
 
+/// How the policy of a request is applied: whether it is restrictive, its command and its grantees.
 fn scope_at(alloc: Global, value: &Json<'_>) -> Result<Option<Scope>, AllocError>
     ensures { IfOk result (λ found. found ≡ scope_at (value_data value.now)) }
 {

@@ -34,6 +34,7 @@ impl From<AllocError> for WireFault {
 
     ghost from_gives = { λ _ fault. fault ≡ Memory };
 
+    /// Out of memory, as why a line is no command.
     fn from(_error: AllocError) -> WireFault {
         WireFault::Memory
     }
@@ -55,6 +56,7 @@ fn session_of(value: &Json<'_>) -> Option<u32>
     }
 }
 
+/// The request that opens a session for a role, from a JSON value.
 fn begin_of(alloc: Global, value: &Json<'_>) -> Result<Option<Act>, AllocError>
     ensures { IfOk result (λ act. option_map act_of act ≡ begin_of (value_data value.now)) }
 {
@@ -64,6 +66,7 @@ fn begin_of(alloc: Global, value: &Json<'_>) -> Result<Option<Act>, AllocError>
     }
 }
 
+/// The request that adds a role, from a JSON value.
 fn create_role_of(alloc: Global, value: &Json<'_>) -> Result<Option<Act>, AllocError>
     ensures { IfOk result (λ act. option_map act_of act ≡ create_role_of (value_data value.now)) }
 {
@@ -73,6 +76,7 @@ fn create_role_of(alloc: Global, value: &Json<'_>) -> Result<Option<Act>, AllocE
     }
 }
 
+/// The request that adds a table with an owner and columns, from a JSON value.
 fn create_table_of(alloc: Global, value: &Json<'_>) -> Result<Option<Act>, AllocError>
     ensures { IfOk result (λ act. option_map act_of act ≡ create_table_of (value_data value.now)) }
 {
@@ -92,6 +96,7 @@ fn create_table_of(alloc: Global, value: &Json<'_>) -> Result<Option<Act>, Alloc
     }
 }
 
+/// The request that adds a view with an owner and a query, from a JSON value.
 fn create_view_of(alloc: Global, value: &Json<'_>) -> Result<Option<Act>, AllocError>
     ensures { IfOk result (λ act. option_map act_of act ≡ create_view_of (value_data value.now)) }
 {
@@ -111,6 +116,7 @@ fn create_view_of(alloc: Global, value: &Json<'_>) -> Result<Option<Act>, AllocE
     }
 }
 
+/// The request that writes entries, from a JSON value.
 fn write_of(alloc: Global, value: &Json<'_>) -> Result<Option<Act>, AllocError>
     ensures { IfOk result (λ act. option_map act_of act ≡ write_of (value_data value.now)) }
 {
@@ -120,6 +126,7 @@ fn write_of(alloc: Global, value: &Json<'_>) -> Result<Option<Act>, AllocError>
     }
 }
 
+/// The request that opens a subscription to a relation, from a JSON value.
 fn subscribe_of(alloc: Global, value: &Json<'_>) -> Result<Option<Act>, AllocError>
     ensures { IfOk result (λ act. option_map act_of act ≡ subscribe_of (value_data value.now)) }
 {
@@ -129,6 +136,7 @@ fn subscribe_of(alloc: Global, value: &Json<'_>) -> Result<Option<Act>, AllocErr
     }
 }
 
+/// The request that closes a subscription of the session, from a JSON value.
 fn unsubscribe_of(value: &Json<'_>) -> Option<Act>
     ensures { option_map act_of result ≡ unsubscribe_of (value_data value.now) }
 {

@@ -138,6 +138,7 @@ impl PartialEq for Row {
 
     ghost laws = { partial_equiv_from_equiv row_eq_equiv };
 
+    /// Whether two rows have equal values, column by column.
     fn eq(&self, other: &Row) -> bool {
         are_equal(self.values(), other.values())
     }
@@ -152,6 +153,7 @@ impl PartialOrd for Row {
 
     ghost laws = { partial_order_from_total row_cmp_total };
 
+    /// How two rows are ordered, as `cmp` says: any two rows have an order.
     fn partial_cmp(&self, other: &Row) -> Option<Ordering> {
         Some(self.cmp(other))
     }
@@ -166,6 +168,7 @@ impl Ord for Row {
 
     ghost matches_eq = { λ _ _. refl };
 
+    /// How two rows are ordered: by their values from the left, column by column.
     fn cmp(&self, other: &Row) -> Ordering {
         self.values().cmp(other.values())
     }
@@ -206,6 +209,7 @@ impl Hash for Row {
 
     ghost respects_eq = { row_fed_alike };
 
+    /// Feeds a hasher the values of the row, in their order.
     fn hash<H: Hasher>(&self, state: &mut H) {
         feed_all(self.values(), state);
     }

@@ -66,7 +66,7 @@ fn schema(alloc: Global, columns: [(&str, Kind); 2]) -> Result<Schema, Fail> {
     Ok(Schema::new(list))
 }
 
-// Adds a table of a new name and number.
+/// Adds a table of a new name and number.
 fn add_table(catalog: &mut Catalog, name: &str, rel: RelId, schema: Schema) -> Result<(), Fail> {
     if !catalog.is_new(name, rel) {
         drop(schema);
@@ -75,7 +75,7 @@ fn add_table(catalog: &mut Catalog, name: &str, rel: RelId, schema: Schema) -> R
     Ok(catalog.add_table(name, rel, schema)?)
 }
 
-// Adds a view of a new name and number, and answers how many relations it reaches.
+/// Adds a view of a new name and number, and answers how many relations it reaches.
 fn add_view(
     alloc: Global,
     catalog: &mut Catalog,
@@ -95,7 +95,7 @@ fn add_view(
     Ok(needs)
 }
 
-// Adds the tables and the view of the examples of the protocol.
+/// Adds the tables and the view of the examples of the protocol.
 fn add_examples(alloc: Global, catalog: &mut Catalog) -> Result<(), Fail> {
     let tables = [
         ("a", 1, [("k", Kind::Int), ("x", Kind::Int)]),
@@ -109,7 +109,7 @@ fn add_examples(alloc: Global, catalog: &mut Catalog) -> Result<(), Fail> {
     Ok(())
 }
 
-// The tables and the view of the examples of the protocol.
+/// The tables and the view of the examples of the protocol.
 fn examples(alloc: Global) -> Result<Catalog, Fail> {
     let mut catalog = Catalog::new(alloc);
     match add_examples(alloc, &mut catalog) {
@@ -129,7 +129,7 @@ fn kind_name(kind: Kind) -> &'static str {
     }
 }
 
-// The columns as the protocol writes them.
+/// The columns as the protocol writes them.
 fn columns_text(alloc: Global, columns: &[Column]) -> Result<String, Fail> {
     let mut text = String::new(alloc);
     for column in columns {
@@ -194,7 +194,7 @@ fn bound_text(alloc: Global, bound: Result<Bound, BindFault>) -> Result<String, 
     }
 }
 
-// What the protocol says of the query: its columns, or the place and the reason of its fault.
+/// What the protocol says of the query: its columns, or the place and the reason of its fault.
 fn outcome(alloc: Global, catalog: &Catalog, text: &str) -> Result<String, Fail> {
     match read_query(alloc, text) {
         Ok(tree) => {
@@ -206,7 +206,7 @@ fn outcome(alloc: Global, catalog: &Catalog, text: &str) -> Result<String, Fail>
     }
 }
 
-// Whether the query of the line has the outcome that stands behind it.
+/// Whether the query of the line has the outcome that stands behind it.
 fn is_so(alloc: Global, catalog: &Catalog, line: &str) -> Result<bool, Fail> {
     let Some((query, want)) = line.split_once(" => ") else {
         return Err(Fail::from("no line of a case"));
@@ -214,7 +214,7 @@ fn is_so(alloc: Global, catalog: &Catalog, line: &str) -> Result<bool, Fail> {
     Ok(outcome(alloc, catalog, query)?.as_str() == want)
 }
 
-// The first line whose query has another outcome.
+/// The first line whose query has another outcome.
 fn first_other(
     alloc: Global,
     catalog: &Catalog,
@@ -228,7 +228,7 @@ fn first_other(
     Ok("")
 }
 
-// The same over the examples.
+/// The same over the examples.
 fn first_other_of(alloc: Global, lines: &'static str) -> Result<&'static str, Fail> {
     let catalog = examples(alloc)?;
     let answer = first_other(alloc, &catalog, lines);
@@ -248,7 +248,7 @@ fn faults_are_told(rt: HostRuntime) -> Result<(), Fail> {
     Ok(())
 }
 
-// Adds views, each with twice the nodes of the one before it and three more: the sixth has 253.
+/// Adds views, each with twice the nodes of the one before it and three more: the sixth has 253.
 fn add_views(alloc: Global, catalog: &mut Catalog) -> Result<bool, Fail> {
     let views = [
         ("v1", 11, "select k from a union all select k from a", 1),
@@ -266,14 +266,14 @@ fn add_views(alloc: Global, catalog: &mut Catalog) -> Result<bool, Fail> {
     Ok(true)
 }
 
-// Whether they are added, and the view of twice the sixth has too many nodes.
+/// Whether they are added, and the view of twice the sixth has too many nodes.
 fn views_are_limited(alloc: Global, catalog: &mut Catalog) -> Result<[bool; 2], Fail> {
     let added = add_views(alloc, catalog)?;
     let line = "select k from v6 union all select k from v6 => 0 too many nodes";
     Ok([added, is_so(alloc, catalog, line)?])
 }
 
-// The same over the examples.
+/// The same over the examples.
 fn views_of_examples(alloc: Global) -> Result<[bool; 2], Fail> {
     let mut catalog = examples(alloc)?;
     let answer = views_are_limited(alloc, &mut catalog);
@@ -287,7 +287,7 @@ fn views_of_views(rt: HostRuntime) -> Result<(), Fail> {
     Ok(())
 }
 
-// How many relations a view needs.
+/// How many relations a view needs.
 fn needs_of(catalog: &Catalog, rel: RelId) -> Option<usize> {
     Some(catalog.view(rel)?.needs.len())
 }
@@ -301,7 +301,7 @@ fn found(catalog: &Catalog) -> Found {
     (needs, [view, catalog.schema(RelId(2)).is_some()])
 }
 
-// Whether these are new: a name and a number, a name that is there, and a number that is there.
+/// Whether these are new: a name and a number, a name that is there, and a number that is there.
 fn are_new(catalog: &Catalog) -> [bool; 3] {
     [
         catalog.is_new("c", RelId(5)),
@@ -310,7 +310,7 @@ fn are_new(catalog: &Catalog) -> [bool; 3] {
     ]
 }
 
-// Both of the examples.
+/// Both of the examples.
 fn found_and_new(alloc: Global) -> Result<(Found, [bool; 3]), Fail> {
     let catalog = examples(alloc)?;
     let answer = (found(&catalog), are_new(&catalog));
@@ -326,7 +326,7 @@ fn relations_are_found(rt: HostRuntime) -> Result<(), Fail> {
     Ok(())
 }
 
-// Whether the policy is a comparison, or its fault.
+/// Whether the policy is a comparison, or its fault.
 fn policy(alloc: Global, notes: &Schema, text: &str) -> Result<Result<bool, BindFault>, Fail> {
     let tree = read_pred(alloc, text)?;
     let bound = bind_pred(alloc, &tree, notes);
@@ -341,7 +341,7 @@ fn policy(alloc: Global, notes: &Schema, text: &str) -> Result<Result<bool, Bind
     })
 }
 
-// What two policies of notes are.
+/// What two policies of notes are.
 fn policies_of_notes(alloc: Global) -> Result<[Result<bool, BindFault>; 2], Fail> {
     let notes = schema(alloc, [("id", Kind::Int), ("who", Kind::Text)])?;
     Ok([

@@ -44,7 +44,7 @@ fn is_fault(alloc: Global, place: usize, why: Why, want: &str) -> bool {
     }
 }
 
-// Want of memory is none of the outcomes.
+/// Want of memory is none of the outcomes.
 fn outcome_is(alloc: Global, text: &str, want: &str) -> bool {
     match fault_of(alloc, text) {
         None => want == "read",
@@ -69,7 +69,7 @@ fn beginnings_are(alloc: Global, text: &str, first: usize, last: usize, want: &s
     true
 }
 
-// Whether the beginnings of the text have these outcomes, of which the last is that of the whole text.
+/// Whether the beginnings of the text have these outcomes, of which the last is that of the whole text.
 fn outcomes_are(alloc: Global, text: &str, outcomes: &str) -> bool {
     let mut first = 0usize;
     for outcome in outcomes.split("; ") {

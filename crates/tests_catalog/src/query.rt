@@ -11,7 +11,7 @@ fn is(alloc: Global, kind: Kind, text: &str, want: &str) -> bool {
     }
 }
 
-// The first line of a table that does not hold.
+/// The first line of a table that does not hold.
 fn first_wrong(alloc: Global, kind: Kind, table: &str) -> Option<&str> {
     for line in table.lines() {
         match line.split_once(" => ") {
@@ -184,7 +184,7 @@ x = 1; => 5 token";
     assert_eq!(rt; first_wrong(rt.alloc(), Kind::Policy, table), None);
 }
 
-// `part` so many times, and then `end`.
+/// `part` so many times, and then `end`.
 fn repeated(alloc: Global, part: &str, times: usize, end: &str) -> Result<String, AllocError> {
     let mut text = String::new(alloc);
     for _ in 0..times {
@@ -299,7 +299,7 @@ fn quoted_is_read(alloc: Global, times: usize) -> bool {
     }
 }
 
-// A comparison with a value of so many bytes, each a doubled quote.
+/// A comparison with a value of so many bytes, each a doubled quote.
 fn quoted_text(alloc: Global, times: usize) -> Result<String, AllocError> {
     let mut text = String::from_str(alloc, "x = '")?;
     for _ in 0..times {

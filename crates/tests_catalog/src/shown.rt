@@ -7,7 +7,7 @@ use iv_query::{
 use iv_rows::Value;
 use std::alloc::{AllocError, Global};
 
-// Writes a text with its place.
+/// Writes a text with its place.
 fn add_placed(alloc: Global, out: &mut String, text: &str, place: usize) -> Result<(), AllocError> {
     out.push_str(&format!(in alloc; "{text}@{place}")?)
 }
