@@ -1,4 +1,4 @@
-//! `Access`: roles, relations, grants and policies; look-ups by name, and `has`, `owns`, `reaches`, `first_missing`.
+//! `Access`, the rights: roles, relations, grants, policies; looks up roles and relations; `has`, `owns`, `reaches`, `first_missing`, `first_unread`.
 //!
 //! Roles and relations are numbers inside; requests and calls name roles and policies. Role 0 is `admin`. Names and
 //! kinds of relations are known here for look-ups and counts; the rights of the definitions have neither. `has` asks
@@ -48,7 +48,7 @@ impl Model for Access {
 }
 
 impl Access {
-    /// One role, `admin`, and no relation. Names are hashed under the known seed.
+    /// Rights with one role, `admin`, and no relation. Names are hashed under the known seed.
     ///
     /// # Errors
     /// `AllocError` where a growth of memory was refused.
@@ -58,7 +58,7 @@ impl Access {
         Access::with_seed(alloc, Seed::known())
     }
 
-    /// The same, where names are hashed under a seed. No answer depends on it.
+    /// Rights with `admin` alone, where names are hashed under a seed. No answer depends on it.
     ///
     /// # Errors
     /// `AllocError` where a growth of memory was refused.
@@ -76,29 +76,29 @@ impl Access {
         })
     }
 
-    /// The role of that name. It takes no memory.
+    /// Looks up a role of the rights by its name. It takes no memory.
     pub fn role(&self, name: &str) -> Option<RoleId>
         ensures { option_map (λ r. r.0) result ≡ role_of self.now.rights name.now }
     {
         self.roles.number(name)
     }
 
-    /// The relation of that name. It takes no memory.
+    /// Looks up a relation of the rights by its name. It takes no memory.
     pub fn relation(&self, name: &str) -> Option<RelId>
         ensures { option_map (λ r. r.0) result ≡ relation_of self.now.relations name.now }
     {
         self.relations.number(name)
     }
 
-    /// The name of a relation. It takes no memory.
+    /// Looks up the name of a relation in the rights. It takes no memory.
     pub fn relation_name(&self, rel: RelId) -> Option<&str>
         ensures { option_map (λ n. n.now) result ≡ relation_name self.now.relations rel.0 }
     {
         self.relations.name(rel)
     }
 
-    /// Whether the role has what the other has: it is the other, or a member of it, directly or through others. It takes
-    /// no memory.
+    /// Whether by the rights the role has what the other has: it is the other, or a member of it, directly or
+    /// through others. It takes no memory.
     pub fn reaches(&self, role: RoleId, other: RoleId) -> bool
         ensures { result ≡ acts_as self.now.rights role.0 other.0 }
     {
@@ -119,8 +119,8 @@ impl Access {
         }
     }
 
-    /// Whether the privilege on the relation was granted to a role of which the role is a member, directly or through
-    /// others.
+    /// Whether the role has the privilege on the relation as a member, directly or through others, of a role
+    /// to which it was granted.
     fn is_inherited(&self, role: RoleId, privilege: Privilege, rel: RelId) -> bool
         ensures yes { result ≡ true → IsInherited self.now.rights role.0 privilege rel.0 }
         ensures no { result ≡ false → IsNotInherited self.now.rights role.0 privilege rel.0 }

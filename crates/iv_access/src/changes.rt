@@ -16,7 +16,7 @@ use iv_roles::{MOST_ROLES, RoleId};
 use iv_rows::{Kind, RelId};
 
 impl Access {
-    /// Adds a role. After an error nothing has changed.
+    /// Changes rights: adds a role. After an error nothing has changed.
     ///
     /// # Errors
     /// In this order: `NotAdmin`, `Taken`, `TooMany`; `Memory` where a growth was refused.
@@ -40,7 +40,7 @@ impl Access {
         Ok(())
     }
 
-    /// The role and the member of the names where the role may change memberships, or why it is refused.
+    /// The role and the member that a change of memberships names, or why the change of rights is refused.
     fn named_roles(
         &self,
         acting: RoleId,
@@ -65,8 +65,8 @@ impl Access {
         Ok((role, member))
     }
 
-    /// Makes the role of the name `to` a member of the role of the name `role`: it has what that role has. After an error
-    /// nothing has changed.
+    /// Changes rights: makes the role of the name `to` a member of that of the name `role`, so that it has
+    /// what that role has. After an error nothing has changed.
     ///
     /// # Errors
     /// In this order: `NotAdmin`, `Role` (the role, then the member), `Loop`; `Memory` where a growth was refused.
@@ -85,8 +85,8 @@ impl Access {
         Ok(())
     }
 
-    /// Takes the role of the name `to` out of the direct members of the role of the name `role`. It takes no memory. After an
-    /// error nothing has changed.
+    /// Changes rights: takes the role of the name `to` out of the direct members of that of the name `role`.
+    /// It takes no memory. After an error nothing has changed.
     ///
     /// # Errors
     /// In this order: `NotAdmin`, `Role` (the role, then the member).
@@ -102,7 +102,7 @@ impl Access {
         Ok(())
     }
 
-    /// The owner of a table or a view that is not there yet, or why it is refused.
+    /// The owner of a table or a view that is to be added, or why the change of rights is refused.
     fn owner_of_new(
         &self,
         acting: RoleId,
@@ -168,8 +168,8 @@ impl Access {
         Ok(rel)
     }
 
-    /// To whom privileges on the relation go where the role may grant and revoke them, or why it is refused: all roles where
-    /// there is no name.
+    /// To whom a grant or a revoke on the relation goes, or why the change of rights is refused: all roles
+    /// where there is no name.
     fn grantee(&self, acting: RoleId, rel: RelId, to: Option<&str>) -> Result<Grantee, AccessFault>
         ensures grantee { IfOk result (λ g. seen g ≡ grantee_of self.now.rights (name_given to.entry)) }
         ensures place { IfOk result (λ g. HasPlace (seen g)) }
@@ -188,7 +188,7 @@ impl Access {
         }
     }
 
-    /// Grants the privileges to the role of that name, or to all roles. After an error nothing has changed.
+    /// Changes rights: grants privileges to a role by name, or to all. After an error nothing has changed.
     ///
     /// # Errors
     /// In this order: `NotOwner`, `Role`; `Memory` where a growth was refused.
@@ -211,8 +211,8 @@ impl Access {
         Ok(())
     }
 
-    /// Revokes the privileges from the role of that name, or from all roles. It takes no memory. After an error nothing
-    /// has changed.
+    /// Changes rights: revokes privileges from a role by name, or from all roles. It takes no memory. After
+    /// an error nothing has changed.
     ///
     /// # Errors
     /// In this order: `NotOwner`, `Role`.

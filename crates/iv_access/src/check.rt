@@ -1,4 +1,4 @@
-//! What policies say of a row (`Access::check`): which of them apply (`applies`), permit and forbid; policies by name.
+//! What policies say of a row (`Access::check`): which of them apply (`applies`), permit and forbid; looks up policies by name (`policy`, `restriction`).
 ghost use Rattle.std.specs.Prelude.{◌≡◌, IfSome, Some, option_map, position, slice_get};
 ghost use Rattle.std.specs.List.{AllByRecursion, count_by, find, list_any};
 ghost use Rattle.iv_algebra.specs.Shapes.{condition_of};
@@ -14,14 +14,14 @@ use iv_algebra::Pred;
 use iv_roles::RoleId;
 use iv_rows::{RelId, Row};
 
-/// The first policy of the name.
+/// Looks up by name the first of a table's policies.
 fn named<'a>(policies: &'a [Policy], name: &str) -> Option<&'a Policy>
     ensures { option_map (λ p. p.now) result ≡ find (is_named name.now) policies.now }
 {
     policies.iter().find(|policy| policy.is_named(name))
 }
 
-/// How many policies have the name.
+/// How many policies have the name, to look up one that alone has it.
 fn count_of(policies: &[Policy], name: &str) -> usize
     ensures { result ≡ count_by (is_named name.now) policies.now }
 {
@@ -32,7 +32,7 @@ fn count_of(policies: &[Policy], name: &str) -> usize
 }
 
 impl Access {
-    /// The name of a role, which policies see as the user.
+    /// The name of a role, which policies see as the user when they say whether a row passes.
     pub(crate) fn user(&self, role: RoleId) -> &str
         ensures { result.now ≡ role_name self.now.rights role.0 }
     {
@@ -42,7 +42,7 @@ impl Access {
         }
     }
 
-    /// Whether what goes to the grantee goes to the role.
+    /// Whether a policy that goes to the grantee applies to the role.
     fn is_for(&self, role: RoleId, to: Grantee) -> bool
         ensures { result ≡ is_for self.now.rights role.0 (seen to) }
     {
@@ -52,7 +52,7 @@ impl Access {
         }
     }
 
-    /// Whether what goes to the grantees goes to the role.
+    /// Whether a policy that goes to the grantees applies to the role.
     fn goes_to(&self, to: &[Grantee], role: RoleId) -> bool
         ensures { result ≡ list_any (λ t. is_for self.now.rights role.0 (seen t)) to.now }
     {
@@ -66,7 +66,7 @@ impl Access {
         covers(policy.command, test) && self.goes_to(&policy.to, role)
     }
 
-    /// Whether it is a permissive policy that applies and passes.
+    /// Whether the policy permits the row: it is permissive, applies and passes.
     fn permits(&self, role: RoleId, test: Check, row: &Row, policy: &Policy) -> bool
         ensures { result ≡ permits self.now.rights role.0 test row.now policy.now }
     {
@@ -74,7 +74,7 @@ impl Access {
             && (self.applies(role, test, policy) && policy.passes(self.user(role), test, row))
     }
 
-    /// Whether it is a restrictive policy that applies and fails.
+    /// Whether the policy forbids the row: it is restrictive, applies and fails.
     fn forbids(&self, role: RoleId, test: Check, row: &Row, policy: &Policy) -> bool
         ensures { result ≡ forbids self.now.rights role.0 test row.now policy.now }
     {
@@ -82,7 +82,7 @@ impl Access {
             && (self.applies(role, test, policy) && !policy.passes(self.user(role), test, row))
     }
 
-    /// Whether some permissive policy applies and passes.
+    /// Whether some policy permits the row: a permissive one applies and passes.
     fn is_permitted(&self, role: RoleId, test: Check, row: &Row, policies: &[Policy]) -> bool
         ensures { result ≡ list_any (permits self.now.rights role.0 test row.now) policies.now }
     {
@@ -91,7 +91,7 @@ impl Access {
             .any(|policy| self.permits(role, test, row, policy))
     }
 
-    /// The place of the first restrictive policy that applies and fails.
+    /// The place of the first policy that forbids the row: a restrictive one that applies and fails.
     fn first_forbids(
         &self,
         role: RoleId,
@@ -119,14 +119,14 @@ impl Access {
         }
     }
 
-    /// Whether policies have no effect on the role.
+    /// Whether policies have no effect on the role: then each row passes the check.
     pub(crate) fn is_exempt(&self, role: RoleId, guard: &Guard) -> bool
         ensures { result ≡ is_exempt self.now.rights role.0 (Some guard.now) }
     {
         !guard.enabled || (role.is_admin() || (self.reaches(role, guard.owner) && !guard.forced))
     }
 
-    /// The guard of a relation.
+    /// Looks up the guard of a relation, with the policies that say whether a row passes.
     pub(crate) fn guard(&self, rel: RelId) -> Option<&Guard>
         ensures { option_map (λ g. g.now) result ≡ slice_get self.now.rights.guards rel.0 }
     {
@@ -149,8 +149,8 @@ impl Access {
         }
     }
 
-    /// The predicate of rows that are there, where one policy alone of the table has that name, and it is restrictive. It takes no
-    /// memory.
+    /// Looks up the predicate of rows that are there, where one policy alone of the table has that name, and
+    /// it is restrictive. It takes no memory.
     pub fn restriction(&self, table: RelId, name: &str) -> Option<&Pred>
         ensures { IfSome result (λ pred. AllByRecursion (IsRestriction name.now (condition_of pred.now))
             (policies_of (slice_get self.now.rights.guards table.0))) }
@@ -164,7 +164,7 @@ impl Access {
         }
     }
 
-    /// The place of the table's policy of that name. It takes no memory.
+    /// Looks up the place of the table's policy of that name. It takes no memory.
     pub fn policy(&self, table: RelId, name: &str) -> Option<usize>
         ensures { result ≡ policy_of self.now.rights table.0 name.now }
     {
@@ -177,7 +177,7 @@ impl Access {
         }
     }
 
-    /// The name of the table's policy at a place. It takes no memory.
+    /// Looks up the name of the table's policy at a place. It takes no memory.
     pub fn policy_name(&self, table: RelId, place: usize) -> Option<&str>
         ensures { option_map (λ n. n.now) result ≡ policy_name self.now.rights table.0 place }
     {

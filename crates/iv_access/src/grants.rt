@@ -57,7 +57,7 @@ impl Model for Grants {
 }
 
 impl Grantees {
-    /// The flag of the grantee.
+    /// The flag of the grantee, of those for one privilege on a relation.
     fn flag(&self, grantee: Grantee) -> bool
         ensures { result ≡ flag_of self.now (seen grantee) }
     {
@@ -67,7 +67,7 @@ impl Grantees {
         }
     }
 
-    /// Sets the flag of the grantee, or clears it.
+    /// Sets the flag of the grantee, or clears it, of those for one privilege on a relation.
     fn set(&mut self, grantee: Grantee, held: bool)
         requires { HasPlace (seen grantee) }
         ensures { IsSet (seen grantee) held self.old self.new }
@@ -80,7 +80,7 @@ impl Grantees {
 }
 
 impl RelationGrants {
-    /// Nothing was granted.
+    /// The flags of a relation on which nothing was granted.
     fn new() -> RelationGrants
         ensures { IsClear result }
     {
@@ -96,7 +96,7 @@ impl RelationGrants {
         }
     }
 
-    /// To whom the privilege was granted.
+    /// The flags of the privilege on the relation: to whom it was granted.
     fn grantees(&self, privilege: Privilege) -> &Grantees
         ensures { result.now ≡ grantees_of self.now privilege }
     {
@@ -122,7 +122,7 @@ impl RelationGrants {
     }
 }
 
-/// Adds relations on which nothing was granted, up to a number of relations. After an error nothing has changed.
+/// Adds flags of relations without grants, up to a number of relations. After an error nothing has changed.
 fn grow(flags: &mut Vec<RelationGrants>, count: usize) -> Result<(), AllocError>
     ensures flags { FlagsStay flags.old.items flags.new.items }
     ensures ok { OnOk result (count ≤ length flags.new.items) }
@@ -134,7 +134,7 @@ fn grow(flags: &mut Vec<RelationGrants>, count: usize) -> Result<(), AllocError>
 }
 
 impl Grants {
-    /// No grant. It takes no memory.
+    /// No grant in the list, and no flag. It takes no memory.
     pub(crate) fn new(alloc: Global) -> Grants
         ensures { result.list ≡ [] }
     {
@@ -144,7 +144,7 @@ impl Grants {
         }
     }
 
-    /// Whether the privilege was granted to the grantee.
+    /// Whether by the flags the privilege was granted to the grantee.
     fn is_granted_to(&self, grantee: Grantee, privilege: Privilege, rel: RelId) -> bool
         ensures { result ≡ is_among self.now.list (grant_to (seen grantee) privilege rel.0) }
     {
@@ -154,7 +154,7 @@ impl Grants {
         }
     }
 
-    /// Whether the privilege was granted to all roles or to the role.
+    /// Whether by the flags the privilege was granted to all roles or to the role.
     pub(crate) fn is_granted(&self, role: RoleId, privilege: Privilege, rel: RelId) -> bool
         ensures { result ≡ (is_among self.now.list (grant_to Public privilege rel.0) || is_among self.now.list (grant_to (Role role.0) privilege rel.0)) }
     {

@@ -33,7 +33,7 @@ impl Model for Guard {
 }
 
 impl Guard {
-    /// The owner's, without row security. It takes no memory.
+    /// The guard of a relation with this owner, without row security. It takes no memory.
     pub(crate) fn new(alloc: Global, owner: RoleId) -> Guard
         ensures { result ≡ record { owner = owner.0; enabled = false; forced = false; policies = [] } }
     {
@@ -45,7 +45,7 @@ impl Guard {
         }
     }
 
-    /// Switches row security.
+    /// Switches row security in the guard of a relation.
     pub(crate) fn switch(&mut self, enabled: bool, forced: bool)
         ensures { self.new ≡ record self.old { enabled = enabled; forced = forced } }
     {
@@ -63,7 +63,7 @@ impl Guard {
         Ok(())
     }
 
-    /// Takes the policy of that name out. It takes no memory.
+    /// Takes the policy of that name out of a guard. It takes no memory.
     pub(crate) fn remove(&mut self, name: &str)
         ensures { self.new ≡ record self.old { policies = remove_policy name.now self.old.policies } }
     {
@@ -71,21 +71,21 @@ impl Guard {
     }
 }
 
-/// Whether the name stands before the policy's.
+/// Whether the name stands before the policy's in the order of a guard's policies.
 fn is_before(name: &str, policy: &Policy) -> bool
     ensures { result ≡ is_before name.now policy.now }
 {
     name.cmp(policy.name.as_str()).is_lt()
 }
 
-/// The place of the first policy before whose name the name stands.
+/// The place of the first of a guard's policies before whose name the name stands.
 fn first_after(policies: &[Policy], name: &str) -> Option<usize>
     ensures { result ≡ position (is_before name.now) policies.now }
 {
     policies.iter().position(|policy| is_before(name, policy))
 }
 
-/// The place at which a policy of the name goes.
+/// The place at which a policy of the name goes among those of a guard.
 #[tactic(auto, using(crate::proofs::Lists::place_none, crate::proofs::Lists::place_some, crate::proofs::Lists::prefix_short))]
 fn place_for(policies: &[Policy], name: &str) -> usize
     ensures place { result ≡ position_or_len (is_before name.now) policies.now }

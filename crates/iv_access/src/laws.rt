@@ -1,4 +1,4 @@
-//! Laws of rights: grants, members and policies.
+//! Laws of rights: what grants give and members hold, that memberships do not loop, and which rows policies let through.
 //! Each is the contract of a function that does nothing.
 //!
 //! That what policies say of a row is the same whatever rows the tables hold needs no law: `check` is given the rights, the
@@ -38,7 +38,7 @@ pub fn memberships_do_not_loop()
     ensures { NoLoops }
 {}
 
-/// What a role has and what it sees stay as they are where it reaches the same roles.
+/// The privileges of a role and the verdict on each row stay as they are where it reaches the same roles.
 pub fn reach_decides()
     ensures has { HasByReach }
     ensures sees { SeesByReach }
@@ -66,7 +66,7 @@ pub fn policies_rise_by_name()
     ensures { PoliciesRise }
 {}
 
-/// Of the restrictive policies that fail, the one that is told comes first by name, whatever the order of creation.
+/// Of the restrictive policies that fail, a verdict tells the first by name, whatever the order of creation.
 pub fn first_by_name_is_told()
     ensures { FirstByNameIsTold }
 {}

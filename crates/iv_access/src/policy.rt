@@ -1,4 +1,4 @@
-//! `NewPolicy`, as it is asked for, and `Policy`, as it is kept; `PolicyCommand`, `Check`, `Verdict`; whether a row passes one policy.
+//! `NewPolicy`, as asked for, and `Policy`, as kept; `PolicyCommand`, `Check`, `Verdict`; whether a row passes one policy; the tests of an update (`update_tests`).
 ghost use Rattle.std.specs.Prelude.{◌≡◌, map, option_map};
 ghost use Rattle.iv_algebra.specs.Shapes.{condition_of};
 ghost use Rattle.iv_access.specs.Policies.{covers, is_met, is_named, or_later, passes, update_tests};
@@ -116,7 +116,7 @@ impl Model for Policy {
     ghost view = { policy_kept };
 }
 
-/// Whether a policy for the command applies to the test.
+/// Whether a policy of this `PolicyCommand` is for this `Check`.
 pub(crate) fn covers(command: PolicyCommand, test: Check) -> bool
     ensures { result ≡ covers command test }
 {
@@ -129,7 +129,7 @@ pub(crate) fn covers(command: PolicyCommand, test: Check) -> bool
     }
 }
 
-/// Whether the predicate is there and holds.
+/// Whether a predicate of one policy is there and holds of the row.
 fn is_met(pred: &Option<Pred>, user: &str, row: &Row) -> bool
     ensures { result ≡ is_met (option_map condition_of pred.now) user.now row.now }
 {
@@ -139,7 +139,7 @@ fn is_met(pred: &Option<Pred>, user: &str, row: &Row) -> bool
     }
 }
 
-/// Whether the check is met, or the other predicate where there is no check.
+/// Whether the row passes the check of one policy, or its other predicate where it has no check.
 fn is_checked(check: &Option<Pred>, otherwise: &Option<Pred>, user: &str, row: &Row) -> bool
     ensures { result ≡ is_met (or_later (option_map condition_of check.now) (option_map condition_of otherwise.now)) user.now row.now }
 {
@@ -150,14 +150,14 @@ fn is_checked(check: &Option<Pred>, otherwise: &Option<Pred>, user: &str, row: &
 }
 
 impl Policy {
-    /// Whether the policy has the name.
+    /// Whether the policy, as it is kept, has the name.
     pub(crate) fn is_named(&self, name: &str) -> bool
         ensures { result ≡ is_named name.now self.now }
     {
         name == self.name.as_str()
     }
 
-    /// Whether the row passes the predicate of the test.
+    /// Whether the row passes the one policy, by its predicate for the test.
     pub(crate) fn passes(&self, user: &str, test: Check, row: &Row) -> bool
         ensures { result ≡ passes user.now test row.now self.now }
     {

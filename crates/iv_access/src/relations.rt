@@ -39,7 +39,7 @@ impl Model for Relations {
     ghost invariant = { λ r. (count_like true (map relation_at r.kinds.entries) ≤ 64) × (count_like false (map relation_at r.kinds.entries) ≤ 64) };
 }
 
-/// How many tables there are, or how many views.
+/// How many of the rights' relations are tables, or how many are views.
 fn count_like(kinds: &IndexMap<String, Option<Vec<Kind>>, Seed>, table: bool) -> usize
     ensures { result ≡ count_by (λ ks. beq table (is_some ks)) (values kinds.now) }
 {
@@ -50,7 +50,7 @@ fn count_like(kinds: &IndexMap<String, Option<Vec<Kind>>, Seed>, table: bool) ->
 }
 
 impl Relations {
-    /// No relation. It takes no memory.
+    /// No relation of the rights, where names are hashed under a seed. It takes no memory.
     pub(crate) fn with_seed(alloc: Global, seed: Seed) -> Relations
         ensures { result ≡ [] }
     {
@@ -59,7 +59,7 @@ impl Relations {
         }
     }
 
-    /// The relation of a name.
+    /// Finds a table or a view of the rights by its name.
     pub(crate) fn number(&self, name: &str) -> Option<RelId>
         ensures { option_map (λ r. r.0) result ≡ relation_of self.now name.now }
     {
@@ -69,7 +69,7 @@ impl Relations {
         }
     }
 
-    /// The name of a relation.
+    /// Finds the name of a table or a view of the rights by its number.
     pub(crate) fn name(&self, rel: RelId) -> Option<&str>
         ensures { option_map (λ n. n.now) result ≡ relation_name self.now rel.0 }
     {
@@ -79,14 +79,14 @@ impl Relations {
         }
     }
 
-    /// How many tables there are, or how many views.
+    /// How many tables there are among the rights' relations, or how many views.
     pub(crate) fn count_like(&self, table: bool) -> usize
         ensures { result ≡ count_like table self.now }
     {
         count_like(&self.kinds, table)
     }
 
-    /// The number of the next relation.
+    /// The number of the next table or view that is added to the rights.
     pub(crate) fn next(&self) -> RelId
         ensures { result.0 ≡ length self.now }
     {

@@ -19,8 +19,8 @@ use std::alloc::AllocError;
 pub const MOST_POLICIES: usize = 32;
 
 impl Access {
-    /// Switches row security of a table (PostgreSQL 16, ALTER TABLE: ENABLE and FORCE ROW LEVEL SECURITY). Whoever asks for it has to own
-    /// the table (`owns`). It takes no memory.
+    /// Changes rights: switches row security of a table (PostgreSQL 16, ALTER TABLE: ENABLE and FORCE ROW
+    /// LEVEL SECURITY). Whoever asks for it has to own the table (`owns`). It takes no memory.
     pub fn row_security(&mut self, table: RelId, enabled: bool, forced: bool)
         requires { table.0 < length self.old.rights.guards }
         ensures rights { self.new.rights ≡ with_security table.0 enabled forced self.old.rights }
@@ -41,7 +41,7 @@ impl Access {
         }
     }
 
-    /// Whether the name is a role's, or stands for all roles.
+    /// Whether a grantee of a new policy is there: the name is a role's, or stands for all roles.
     fn is_grantee(&self, to: &Option<String>) -> bool
         ensures { result ≡ is_grantee self.now.rights (option_map string_bytes to.now) }
     {
@@ -63,7 +63,7 @@ impl Access {
         true
     }
 
-    /// To whom the name goes: all roles where there is none. Nothing asks for a name that no role has.
+    /// A grantee of a new policy, by number, or all roles. Nothing asks for a name that no role has.
     fn grantee_of(&self, to: &Option<String>) -> Grantee
         ensures { seen result ≡ grantee_of self.now.rights (option_map string_bytes to.now) }
     {
@@ -76,7 +76,7 @@ impl Access {
         }
     }
 
-    /// To whom the names go.
+    /// To whom a new policy goes, with its roles by number.
     fn grantees(&self, to: &[Option<String>]) -> Result<Vec<Grantee>, AllocError>
         ensures { IfOk result (λ gs. map seen gs.items ≡ map (λ t. grantee_of self.now.rights (option_map string_bytes t)) to.now) }
     {
@@ -87,7 +87,7 @@ impl Access {
         Ok(grantees)
     }
 
-    /// The policy with its roles by number.
+    /// The policy to create as a table will keep it, with its roles by number.
     fn stored(&self, policy: NewPolicy) -> Result<Policy, AllocError>
         ensures { IfOk result (λ p. p ≡ policy_from self.now.rights policy) }
     {
@@ -126,8 +126,8 @@ impl Access {
         Ok(())
     }
 
-    /// Takes the policy of that name out of a table, if it has one (`policy`). Whoever asks for it has to own the table (`owns`). It takes no
-    /// memory.
+    /// Changes rights: takes the policy of that name out of a table, if it has one (`policy`). Whoever asks
+    /// for it has to own the table (`owns`). It takes no memory.
     pub fn drop_policy(&mut self, table: RelId, name: &str)
         requires { table.0 < length self.old.rights.guards }
         ensures rights { self.new.rights ≡ without_policy table.0 name.now self.old.rights }

@@ -68,7 +68,7 @@ fn serve<'a>(alloc: Global) -> Result<Command<'a>, AllocError> {
         .arg(rows(alloc))
 }
 
-/// The command, without what it does.
+/// The command for clap, with its name and version, before its subcommands are added.
 fn plain<'a>(alloc: Global) -> Result<Command<'a>, AllocError> {
     let command = Command::new(alloc, "viewd").bin_name("viewd")?;
     Ok(
@@ -159,7 +159,7 @@ fn found(matches: &ArgMatches<'_>) -> Option<Settings>
     }
 }
 
-/// What the words are to the command.
+/// The words after the program's name as clap matches them, or its error.
 fn matches<'a>(alloc: Global, words: &'a [&'a str]) -> Result<ArgMatches<'a>, Error> {
     let mut command = command(alloc)?;
     let matches = command.try_get_matches_from_mut(words);
@@ -167,7 +167,7 @@ fn matches<'a>(alloc: Global, words: &'a [&'a str]) -> Result<ArgMatches<'a>, Er
     matches
 }
 
-/// The error that a value is not valid, and why.
+/// The error of clap that a word of the command line is not valid, and why.
 fn invalid(alloc: Global, why: &str) -> Error {
     match command(alloc) {
         Ok(mut command) => {

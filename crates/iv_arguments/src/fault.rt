@@ -26,7 +26,7 @@ pub enum Fault {
 }
 
 impl Fault {
-    /// The status with which the program exits.
+    /// The status with which the program exits when it gives up for this fault.
     pub fn status(self) -> u8
         ensures { result ≡ status_of self }
     {

@@ -1,4 +1,4 @@
-//! `bind`: from the tree of a query to its plan over a catalog; `bind_pred`: from a policy's to a predicate over rows.
+//! `bind`: from the tree of a query to its plan over a catalog, and its needs; `bind_pred`: from a policy's to a predicate over rows.
 //!
 //! The definition is a function from a tree and a catalog to a plan as plain data, by steps that may fail, in the
 //! order in which faults are told. A view that is named stands in the needs before what it reaches. Its own needs are
@@ -33,7 +33,7 @@ use std::alloc::{AllocError, Global};
 /// How many nodes the plan of a view may have.
 const NODES: usize = 256;
 
-/// How many nodes are left of `left`, if the plan has no more.
+/// How many of `left` nodes the plan of a bound query leaves, if it has no more.
 fn after_nodes(plan: &Plan, left: usize) -> Option<usize>
     ensures { SomeIff result (nodes (shape_of plan.now) ≤ left) (left - nodes (shape_of plan.now)) }
 {
@@ -54,7 +54,7 @@ fn after_nodes(plan: &Plan, left: usize) -> Option<usize>
     }
 }
 
-/// Whether the relation stands in the list.
+/// Whether the relation stands among the needs of a query that are listed so far.
 fn stands(list: &[RelId], rel: RelId) -> bool
     ensures { result ≡ stands ◌==◌ rel.0 (numbers list.now) }
 {
@@ -66,7 +66,7 @@ fn stands(list: &[RelId], rel: RelId) -> bool
     false
 }
 
-/// Each relation once, at its first place.
+/// The needs of a query: each relation that it reaches once, at its first place.
 fn once(alloc: Global, reached: &[RelId]) -> Result<Vec<RelId>, AllocError>
     ensures { IfOk result (λ list. numbers list.items ≡ once [] (numbers reached.now)) }
 {
@@ -79,14 +79,14 @@ fn once(alloc: Global, reached: &[RelId]) -> Result<Vec<RelId>, AllocError>
     Ok(list)
 }
 
-/// Whether the plan has few enough nodes.
+/// Whether the plan that a query is bound to has few enough nodes.
 fn is_small(plan: &Plan) -> bool
     ensures { result ≡ nat_le (nodes (shape_of plan.now)) 256 }
 {
     after_nodes(plan, NODES).is_some()
 }
 
-/// What is left to do behind the last select.
+/// What a query is bound to, once its selects are: tests the nodes of its plan, and lists its needs.
 #[tactic(auto, unfolding(crate::specs::Binding::finished))]
 fn finished(alloc: Global, part: Part) -> Result<Bound, BindFault>
     requires { is_schema part.schema.items ≡ true }

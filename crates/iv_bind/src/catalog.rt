@@ -54,7 +54,7 @@ impl Model for Catalog {
     ghost invariant = { λ c. IsSoundCatalog (entries c.relations.items) };
 }
 
-/// The first relation of a name.
+/// The first relation of a catalog that has the name.
 fn named<'a>(relations: &'a [Relation], name: &str) -> Option<&'a Relation>
     ensures { option_map (λ r. entry_of r.now) result ≡ named (entries relations.now) name.now }
 {
@@ -66,7 +66,7 @@ fn named<'a>(relations: &'a [Relation], name: &str) -> Option<&'a Relation>
     None
 }
 
-/// The first relation of a number.
+/// The first relation of a catalog that has the number.
 fn numbered(relations: &[Relation], rel: RelId) -> Option<&Relation>
     ensures { option_map (λ r. entry_of r.now) result ≡ numbered (entries relations.now) rel.0 }
 {
@@ -88,14 +88,14 @@ impl Catalog {
         }
     }
 
-    /// What the relations keep, for proofs alone.
+    /// What the relations of a catalog keep, for proofs alone.
     pub(crate) fn keeps(&self)
         ensures { IsSoundCatalog self.now }
     {
         let _ = &self.relations;
     }
 
-    /// A relation behind the others.
+    /// Adds a relation to the catalog, behind the others.
     fn add(&mut self, name: &str, rel: RelId, held: Held) -> Result<(), AllocError>
         requires { HeldIsSound self.old (held_of held) }
         ensures added { OnOk result (self.new ≡ extended self.old name.now rel.0 (held_of held)) }
@@ -110,14 +110,14 @@ impl Catalog {
         }
     }
 
-    /// Whether no relation has the name, and none the number. It takes no memory.
+    /// Whether no relation of the catalog has the name, and none the number. It takes no memory.
     pub fn is_new(&self, name: &str, rel: RelId) -> bool
         ensures { result ≡ (is_none (named self.now name.now) && is_none (numbered self.now rel.0)) }
     {
         named(&self.relations, name).is_none() && numbered(&self.relations, rel).is_none()
     }
 
-    /// Adds a table, of a new name and number, behind the relations that are there.
+    /// Adds a table to the catalog, of a new name and number, behind the relations that are there.
     ///
     /// # Errors
     /// `AllocError` where a growth of memory was refused; the catalog is unchanged then.
@@ -131,7 +131,7 @@ impl Catalog {
         self.add(name, rel, Held::Table(schema))
     }
 
-    /// Adds a view, of a new name and number, behind the relations that are there.
+    /// Adds a view to the catalog, of a new name and number, behind the relations that are there.
     ///
     /// # Errors
     /// `AllocError` where a growth of memory was refused; the catalog is unchanged then.
@@ -148,14 +148,14 @@ impl Catalog {
         self.add(name, rel, Held::View(bound))
     }
 
-    /// The relation of a name.
+    /// The relation of the catalog that has the name.
     pub(crate) fn named(&self, name: &str) -> Option<&Relation>
         ensures { option_map (λ r. entry_of r.now) result ≡ named self.now name.now }
     {
         named(&self.relations, name)
     }
 
-    /// The columns of the table of a number; none where there is no table of it. It takes no memory.
+    /// The columns of the catalog's table of a number; none where that is no table's. It takes no memory.
     pub fn schema(&self, rel: RelId) -> Option<&Schema>
         ensures { option_map (λ s. s.now) result ≡ schema_of self.now rel.0 }
     {
@@ -168,7 +168,7 @@ impl Catalog {
         }
     }
 
-    /// The view of a number; none where there is no view of it. It takes no memory.
+    /// The catalog's view of a number, as it was bound; none where that is no view's. It takes no memory.
     pub fn view(&self, rel: RelId) -> Option<&Bound>
         ensures found { option_map (λ b. bound_of b.now) result ≡ view_of self.now rel.0 }
         // Over all tables of the catalog's kinds the plan fits, and its rows have the kinds of the columns.

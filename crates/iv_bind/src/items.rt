@@ -37,7 +37,7 @@ fn nothing(alloc: Global) -> Out
     }
 }
 
-/// Whether the column stands among the keys.
+/// Whether the column stands among the keys of a select's group so far.
 fn stands(keys: &[usize], k: usize) -> bool
     ensures { result ≡ stands ◌==◌ k keys.now }
 {
@@ -68,7 +68,7 @@ pub(crate) fn keys(
     Ok(keys)
 }
 
-/// The place of the first aggregate.
+/// The place in the text of the first item of a select that is an aggregate.
 fn first_aggregate(items: &[Item]) -> Option<usize>
     ensures { result ≡ first_aggregate (map item_tree items.now) }
 {
@@ -82,7 +82,7 @@ fn first_aggregate(items: &[Item]) -> Option<usize>
     None
 }
 
-/// The place of what does not go with the keys: an aggregate with none, a star with some.
+/// The place of what does not go with a select's group: an aggregate without keys, a star with some.
 pub(crate) fn ungrouped(keys: &[usize], columns: &Columns) -> Option<usize>
     ensures { result ≡ ungrouped keys.now (list_tree columns.now) }
 {
@@ -105,7 +105,7 @@ fn is_output(schema: &[iv_rows::Column], name: &str) -> bool
     schema.iter().any(|column| name == column.name.as_str())
 }
 
-/// One column more, of the place `k` in the rows below, for the item at `place`.
+/// Adds an output column to a select, of the place `k` in the rows below, for the item at `place`.
 #[tactic(auto, unfolding(crate::specs::Binding::output_bound))]
 fn output(
     alloc: Global,
@@ -132,7 +132,7 @@ fn output(
     })
 }
 
-/// The place of a key among the keys.
+/// The place of a column among the keys of a select's group.
 fn position(keys: &[usize], k: usize) -> Option<usize>
     ensures { result ≡ position_from (λ j. k == j) 0 keys.now }
 {
@@ -144,7 +144,7 @@ fn position(keys: &[usize], k: usize) -> Option<usize>
     None
 }
 
-/// The place of a column in the rows of the group; without a group it keeps its own.
+/// The place of a select's column in the rows of its group; without a group it keeps its own.
 fn within_group(keys: &[usize], k: usize) -> Option<usize>
     ensures { result ≡ within_group keys.now k }
 {
@@ -164,7 +164,7 @@ fn output_name<'a>(column: &'a Column, alias: &'a Option<Name>) -> &'a str
     }
 }
 
-/// One aggregate more.
+/// The output of a select with one aggregate more.
 fn aggregated(out: Out, agg: Agg) -> Result<Out, AllocError>
     ensures { IfOk result (λ o. out_of o ≡ aggregated (out_of out) agg) }
 {
@@ -196,7 +196,7 @@ fn column_item(
     output(alloc, text.place, out, k, output_name(text, alias), kind)
 }
 
-/// The sum of a column, for the item at `place`.
+/// Binds an item that is a sum, at `place`, to an aggregate and an output column.
 #[tactic(auto, unfolding(crate::specs::Binding::item_bound))]
 fn sum_item(
     alloc: Global,
@@ -244,7 +244,7 @@ fn item(
     }
 }
 
-/// Each column, for the star at `place`.
+/// Binds the star at `place` to output columns, one for each column of the sources.
 #[tactic(auto, unfolding(crate::specs::Binding::star_bound))]
 fn star(alloc: Global, scope: &[Named], place: usize) -> Result<Out, BindFault>
     ensures { Gives out_of result (star_bound scope.now place) }
@@ -257,7 +257,7 @@ fn star(alloc: Global, scope: &[Named], place: usize) -> Result<Out, BindFault>
     Ok(out)
 }
 
-/// Each item, from the left.
+/// Binds each item of a select to an output column, from the left.
 #[tactic(auto, unfolding(crate::specs::Binding::list_bound))]
 fn all_items(
     alloc: Global,

@@ -1,4 +1,4 @@
-//! `column`: which column of the sources of a select a text means; `Named`, a column with its source.
+//! `column`: which column of the sources of a select a text means; `Named`, a column with its source; `fault`: a fault at a place.
 
 ghost use Rattle.std.specs.Prelude.{◌≡◌};
 ghost use Rattle.iv_query.specs.Trees.{column_tree};
@@ -29,14 +29,14 @@ impl Model for Named {
     ghost view = { λ n. record { source = string_bytes n.source; name = string_bytes n.name; kind = n.kind } };
 }
 
-/// The fault at a place.
+/// The fault of binding at a place, such as that of a column which no source has.
 pub(crate) fn fault(place: usize, why: BindWhy) -> BindFault
     ensures { result ≡ BindFault.At place why }
 {
     BindFault::At { place, why }
 }
 
-/// Whether the text says this column.
+/// Whether the text of a column means this column of a source.
 fn is_meant(column: &Column, named: &Named) -> bool
     ensures { result ≡ is_meant (column_tree column.now) named.now }
 {
@@ -49,7 +49,7 @@ fn is_meant(column: &Column, named: &Named) -> bool
     }
 }
 
-/// Whether a source has the name.
+/// Whether one of the columns that a text may mean is of a source with the name.
 pub(crate) fn is_used(scope: &[Named], name: &str) -> bool
     ensures { result ≡ is_used scope.now name.now }
 {

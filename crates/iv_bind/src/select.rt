@@ -33,7 +33,7 @@ pub(crate) struct Part {
     pub(crate) reached: Vec<RelId>,
 }
 
-/// The groups of a plan's rows, where there are keys.
+/// The plan of a select's groups, where it has keys; else its plan as it is.
 fn grouped(alloc: Global, keys: Vec<usize>, aggs: Vec<Agg>, plan: Plan) -> Result<Plan, AllocError>
     ensures { IfOk result (λ p. shape_of p ≡ grouped_shape keys.items aggs.items (shape_of plan)) }
 {
@@ -74,7 +74,7 @@ fn selected(
     })
 }
 
-/// Group by, items and the number of columns of a select.
+/// What a select gives over its sources: binds its group and items, and tests the number of columns.
 #[tactic(auto, unfolding(crate::specs::Binding::output_of))]
 fn output_of(alloc: Global, select: &Select, from: From) -> Result<Part, BindFault>
     ensures { Gives part_of result (output_by select.now from) }
@@ -115,7 +115,7 @@ fn select(alloc: Global, catalog: &Catalog, select: &Select) -> Result<Part, Bin
     output_of(alloc, select, from)
 }
 
-/// Whether the columns are of the same number and kinds.
+/// Whether the columns of both sides of a set operation are of the same number and kinds.
 fn are_alike(a: &[Column], b: &[Column]) -> bool
     ensures { result ≡ kinds_eq (kinds_of a.now) (kinds_of b.now) }
 {
@@ -163,7 +163,7 @@ fn combined(alloc: Global, op: SetOp, left: Part, right: Part) -> Result<Part, A
     }
 }
 
-/// A query, from the left.
+/// Binds a query, from the left: its selects and set operations.
 #[tactic(auto, unfolding(crate::specs::Binding::query_bound))]
 pub(crate) fn query(alloc: Global, catalog: &Catalog, tree: &Query) -> Result<Part, BindFault>
     ensures { Gives part_of result (query_bound catalog.now (query_tree tree.now)) }

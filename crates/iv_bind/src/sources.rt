@@ -1,4 +1,4 @@
-//! `all_sources`: binds the sources of a select and its joins; `filter`: the rows that its predicate lets through.
+//! `all_sources`: binds the sources of a select and its joins, with what they reach; `filter`: the rows that its predicate lets through.
 //!
 //! A pair of a join is kept with the earlier side first, in whichever order the text has the two.
 
@@ -29,7 +29,7 @@ pub(crate) struct From {
     pub(crate) reached: Vec<RelId>,
 }
 
-/// The columns of a source that has this name.
+/// The columns that a source brings to its select, each with the name that the source has there.
 pub(crate) fn under(
     alloc: Global,
     source: &str,
@@ -47,7 +47,7 @@ pub(crate) fn under(
     Ok(scope)
 }
 
-/// The columns of a table or a view of the catalog.
+/// The columns of a table or a view that is a source of a select.
 fn columns_of(held: &Held) -> &[Column]
     ensures { result.now ≡ columns_of (held_of held.now) }
 {
@@ -57,7 +57,7 @@ fn columns_of(held: &Held) -> &[Column]
     }
 }
 
-/// A table is scanned, and a view is its whole plan.
+/// The plan of a source: a table is scanned, and a view is its whole plan.
 fn plan_of(alloc: Global, rel: RelId, held: &Held) -> Result<Plan, AllocError>
     ensures { IfOk result (λ plan. shape_of plan ≡ plan_of rel.0 (held_of held.now)) }
 {
@@ -67,7 +67,7 @@ fn plan_of(alloc: Global, rel: RelId, held: &Held) -> Result<Plan, AllocError>
     }
 }
 
-/// The relation, and then what it reaches.
+/// What a source of a select reaches: its relation, and then the needs of a view.
 fn reached_by(alloc: Global, rel: RelId, held: &Held) -> Result<Vec<RelId>, AllocError>
     ensures { IfOk result (λ reached. numbers reached.items ≡ reached_by rel.0 (held_of held.now)) }
 {
@@ -93,7 +93,7 @@ fn source_of(alloc: Global, relation: &Relation, name: &str) -> Result<From, All
     })
 }
 
-/// The name that a source has in its select.
+/// The name under which a source of a select is bound: its alias, else the relation's.
 fn called(source: &Source) -> &Name
     ensures { name_tree result.now ≡ called (source_tree source.now) }
 {
@@ -103,7 +103,7 @@ fn called(source: &Source) -> &Name
     }
 }
 
-/// A source behind those that have the columns of `scope`.
+/// Binds a source of a select behind those that have the columns of `scope`.
 #[tactic(auto, unfolding(crate::specs::Binding::source_bound))]
 fn source(
     alloc: Global,
@@ -123,7 +123,7 @@ fn source(
     Ok(source_of(alloc, relation, name.text.as_str())?)
 }
 
-/// The place of the one column in the earlier sources, which have `n`, and that of the other in the new source.
+/// The places of a join's pair: in the earlier sources, which have `n` columns, and in the new source.
 fn sides(n: usize, i: usize, j: usize) -> Option<(usize, usize)>
     ensures { result ≡ sides n i j }
 {
@@ -170,7 +170,7 @@ fn pairs(
     Ok(pairs)
 }
 
-/// The columns of two sources, and the pairs of them that are joined.
+/// The columns of the sources on both sides of a join, and the pairs of them that are joined.
 fn paired(
     alloc: Global,
     left: Vec<Named>,
@@ -188,7 +188,7 @@ fn paired(
     Ok((scope, pairs))
 }
 
-/// What both reach.
+/// The relations that both sides of a join or a set operation reach.
 pub(crate) fn reached_by_two(left: Vec<RelId>, right: Vec<RelId>) -> Result<Vec<RelId>, AllocError>
     ensures { IfOk result (λ reached. reached.items ≡ left.items ++ right.items) }
 {
@@ -198,7 +198,7 @@ pub(crate) fn reached_by_two(left: Vec<RelId>, right: Vec<RelId>) -> Result<Vec<
     Ok(reached)
 }
 
-/// Two plans, joined by pairs of columns.
+/// The sources so far and a new one, joined by pairs of columns.
 #[tactic(auto, unfolding(crate::specs::Binding::joined_bound))]
 fn joined(alloc: Global, left: From, right: From, on: &[Pair]) -> Result<From, BindFault>
     ensures { Gives from_of result (joined_bound (from_of left) (from_of right) (map pair_tree on.now)) }
@@ -224,7 +224,7 @@ fn joined(alloc: Global, left: From, right: From, on: &[Pair]) -> Result<From, B
     }
 }
 
-/// The sources so far and one more.
+/// Binds a join of a select: the sources so far and one more.
 #[tactic(auto, unfolding(crate::specs::Binding::join_bound))]
 fn join(alloc: Global, catalog: &Catalog, left: From, join: &Join) -> Result<From, BindFault>
     ensures { Gives from_of result (join_bound catalog.now (from_of left) (join_tree join.now)) }

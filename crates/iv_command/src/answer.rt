@@ -40,7 +40,7 @@ pub fn lines_of(
     }
 }
 
-/// One line.
+/// A list of one line, such as that of a refusal.
 fn one_line(alloc: Global, line: Line) -> Result<Vec<Line>, AllocError>
     ensures { IfOk result (λ lines. lines.items ≡ line ∷ []) }
 {

@@ -35,7 +35,7 @@ impl Model for SentRows {
 }
 
 impl SentRows {
-    /// These rows, whose text is written now.
+    /// The rows that are sent, with their weights, whose JSON text is written now.
     ///
     /// # Errors
     /// `AllocError` where a growth of memory was refused.
@@ -46,14 +46,14 @@ impl SentRows {
         Ok(SentRows { rows, text })
     }
 
-    /// Whether there is no row.
+    /// Whether there is no row among those that are sent.
     pub fn is_empty(&self) -> bool
         ensures { result ≡ (length self.now == 0) }
     {
         self.rows.is_empty()
     }
 
-    /// Their compact JSON text.
+    /// The compact JSON text of the rows that are sent.
     pub fn text(&self) -> &[u8]
         ensures { result.now ≡ rows_text self.now }
     {
@@ -83,7 +83,7 @@ fn put_cells(out: &mut Writer, cells: &[Value]) -> Result<(), AllocError>
     out.end_array()
 }
 
-/// A row with its weight.
+/// Writes the weight of a row and then its values, as a JSON array.
 fn put_weighed(out: &mut Writer, weight: i64, cells: &[Value]) -> Result<(), AllocError>
     ensures { OnOk result (AddsValue out.old out.new (entry_data (cells_of cells.now, weight))) }
 {
@@ -111,7 +111,7 @@ fn put_rows(out: &mut Writer, rows: &[(Row, i64)]) -> Result<(), AllocError>
     out.end_array()
 }
 
-/// The compact text of rows with their weights.
+/// The compact JSON text of the rows that are sent, with their weights.
 fn write_rows(alloc: Global, rows: &[(Row, i64)]) -> Result<Vec<u8>, AllocError>
     ensures { IfOk result (λ text. text.items ≡ rows_text rows.now) }
 {

@@ -27,7 +27,7 @@ impl Command {
     }
 }
 
-/// Whether a session may have the number: 1 to 2^32 - 1.
+/// Whether the number of a command's session keeps the rules on shape: 1 to 2^32 - 1.
 fn is_session(number: u32) -> bool
     ensures { result ≡ (nat_le 1 number && nat_lt number (2 ^ 32)) }
 {
@@ -77,14 +77,14 @@ fn is_well_act(act: &Act) -> bool
     }
 }
 
-/// Whether the name is one that a role with members may have: `admin` has none.
+/// Whether a command may name the role as one with members, by the rules on shape: `admin` has none.
 fn is_group(role: &String) -> bool
     ensures { result ≡ is_group (string_bytes role.now) }
 {
     name_ok(role.as_str()) && role.as_str() != "admin"
 }
 
-/// Whether it is no name, which stands for PUBLIC, or a name.
+/// Whether a grantee keeps the rules on shape: it is no name, which stands for PUBLIC, or a name.
 fn is_grantee(grantee: &Option<String>) -> bool
     ensures { result ≡ is_grantee (option_map string_bytes grantee.now) }
 {
@@ -94,14 +94,14 @@ fn is_grantee(grantee: &Option<String>) -> bool
     }
 }
 
-/// Whether the number is one from `low` to `high`.
+/// Whether the length of a list in a command keeps the rules on shape: from `low` to `high`.
 fn is_between(low: usize, high: usize, number: usize) -> bool
     ensures { result ≡ is_between low high number }
 {
     low <= number && number <= high
 }
 
-/// Whether a subscription may have the number: 1 to 2^63 - 1.
+/// Whether the number of a subscription keeps the rules on shape: 1 to 2^63 - 1.
 fn is_number(sub: u64) -> bool
     ensures { result ≡ is_positive sub }
 {
@@ -119,7 +119,7 @@ fn is_well_policy(policy: &PolicyText) -> bool
                     && has_texts(policy.command, &policy.using_text, &policy.check_text))))
 }
 
-/// Whether each is no name, which stands for PUBLIC, or a name.
+/// Whether each grantee keeps the rules on shape: it is no name, which stands for PUBLIC, or a name.
 fn are_grantees(grantees: &[Option<String>]) -> bool
     ensures { result ≡ list_all is_grantee (map (option_map string_bytes) grantees.now) }
 {
@@ -131,7 +131,7 @@ fn are_grantees(grantees: &[Option<String>]) -> bool
     true
 }
 
-/// Whether a policy for the command has the texts that it has to have, and no other.
+/// Whether a policy has the texts that the rules on shape ask for its command, and no other.
 ///
 /// Source: PostgreSQL 16, CREATE POLICY: USING and WITH CHECK.
 pub fn has_texts(
@@ -164,7 +164,7 @@ fn is_well_entry(entry: &Entry) -> bool
     name_ok(entry.rel.as_str()) && (is_well_op(&entry.op) && are_copies(entry.copies))
 }
 
-/// Whether its texts are ones that a table may hold.
+/// Whether the rows of an entry keep the rules on shape: a table may hold their texts.
 fn is_well_op(op: &Op) -> bool
     ensures { result ≡ list_all is_well (rows_in (op_of op.now)) }
 {
@@ -175,7 +175,7 @@ fn is_well_op(op: &Op) -> bool
     }
 }
 
-/// Whether it is a number of copies: 1 to 2^63 - 1.
+/// Whether the copies of an entry keep the rules on shape: 1 to 2^63 - 1.
 fn are_copies(number: i64) -> bool
     ensures { result ≡ is_positive (copies_of number) }
 {

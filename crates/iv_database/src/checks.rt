@@ -54,7 +54,7 @@ impl Database {
         Ok(())
     }
 
-    /// Whether a row of an entry passes the test.
+    /// Whether a row of an entry passes the test by policies.
     fn check_row(
         &self,
         acting: RoleId,
@@ -89,7 +89,7 @@ impl Database {
         }))
     }
 
-    /// Whether the rows of an entry pass the tests.
+    /// Whether the rows of an entry pass the tests by policies.
     fn check_rows(
         &self,
         acting: RoleId,

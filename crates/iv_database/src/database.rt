@@ -43,7 +43,7 @@ impl Model for Database {
 }
 
 impl Database {
-    /// One role, `admin`, and nothing else. Rows will be hashed under the seed.
+    /// A database of one role, `admin`, and nothing else. Rows will be hashed under the seed.
     ///
     /// # Errors
     /// `AllocError` where a growth of memory was refused.
@@ -60,28 +60,28 @@ impl Database {
         })
     }
 
-    /// The greatest number of different rows of a table.
+    /// The row limit of the database: the greatest number of different rows of a table.
     pub fn cap(&self) -> usize
         ensures { result ≡ self.now.cap }
     {
         self.cap
     }
 
-    /// The rights.
+    /// The rights of the database.
     pub fn access(&self) -> &Access
         ensures { result.now ≡ self.now.known }
     {
         &self.access
     }
 
-    /// The tables with their rows.
+    /// The tables of the database with their rows.
     pub fn tables(&self) -> &Tables
         ensures { result.now ≡ self.now.tables }
     {
         &self.tables
     }
 
-    /// The relations.
+    /// The catalog of the database: its relations.
     pub fn catalog(&self) -> &Catalog
         ensures { result.now ≡ self.now.catalog }
     {

@@ -50,7 +50,7 @@ fn accepts(schema: &Schema, op: &Op) -> bool
 }
 
 impl Database {
-    /// The relation of a name. Where the entry before has the name, it is not looked up again.
+    /// The relation that a write's entry names. Where the entry before names it, it is not looked up again.
     fn relation_behind(&self, placed: &[Placement], name: &str) -> Option<RelId>
         requires stored { IsDatabase self.now }
         requires placed { AllByRecursion (IsPlaced (frame_of self.now)) placed.now }

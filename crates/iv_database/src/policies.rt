@@ -1,4 +1,4 @@
-//! `row_security`, `create_policy`, `drop_policy`: their tests, what they change of rights, and the texts of policies.
+//! `row_security`, `create_policy`, `drop_policy`: their tests, what they change of rights, and how the texts of policies are read and bound.
 ghost use Rattle.std.specs.Prelude.{◌≡◌, option_map, string_bytes};
 ghost use Rattle.iv_machine.specs.Act as machine;
 ghost use Rattle.iv_command.specs.Stops.{IsTested};
@@ -15,7 +15,7 @@ use iv_query::read_pred;
 use iv_rows::{RelId, Schema};
 use std::alloc::Global;
 
-/// The policy that is asked for, with its predicates.
+/// The new policy that a request asks for, with the predicates that its texts are bound to.
 fn asked(policy: PolicyText, predicates: Predicates) -> NewPolicy
     ensures { result ≡ asked policy predicates }
 {
@@ -46,7 +46,7 @@ impl Database {
         Ok(table)
     }
 
-    /// Whether the names of a policy may stand.
+    /// Tests the names of a new policy: its roles are there, and no policy of the table has its own name.
     fn check_names(&self, table: RelId, policy: &PolicyText) -> Result<(), Stop>
         ensures { IsTested (name_tests self.now.known.rights table.0 policy.now) result }
     {
@@ -135,7 +135,7 @@ pub(crate) struct Predicates {
     pub check: Option<Pred>,
 }
 
-/// The predicate of a text over the columns of its table.
+/// Reads the text of a policy, and binds it to a predicate over the columns of its table.
 fn predicate(alloc: Global, schema: &Schema, text: &str) -> Result<Pred, Stop>
     ensures { IsBound (bound_policy schema.now text.now) result }
 {
@@ -145,7 +145,7 @@ fn predicate(alloc: Global, schema: &Schema, text: &str) -> Result<Pred, Stop>
     Ok(pred?)
 }
 
-/// The predicate of a text, if there is one.
+/// Reads and binds a text of a policy, if there is one.
 fn predicate_of(alloc: Global, schema: &Schema, text: &Option<String>) -> Result<Option<Pred>, Stop>
     ensures { IsBoundText schema.now (option_map string_bytes text.now) result }
 {
@@ -158,7 +158,7 @@ fn predicate_of(alloc: Global, schema: &Schema, text: &Option<String>) -> Result
     }
 }
 
-/// The predicates of a policy's texts over the columns of its table, of which `using` is the first.
+/// Reads and binds the texts of a policy over the columns of its table, of which `using` is the first.
 pub(crate) fn bound_texts(
     alloc: Global,
     schema: &Schema,

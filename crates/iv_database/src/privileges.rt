@@ -39,7 +39,7 @@ pub(crate) fn outcome(change: Result<(), AccessFault>, rel: String) -> Result<()
 }
 
 impl Database {
-    /// Grants privileges on a relation to a role, or to PUBLIC where none is named.
+    /// Tests a session's request to grant privileges on a relation to a role or to PUBLIC, and grants them.
     ///
     /// # Errors
     /// `Refused` with the first test that fails; `Memory` where a growth of memory was refused.
@@ -59,7 +59,7 @@ impl Database {
         outcome(change, rel)
     }
 
-    /// Takes privileges on a relation back.
+    /// Tests a session's request to revoke privileges on a relation, and takes them back.
     ///
     /// # Errors
     /// `Refused` with the first test that fails; `Memory` where a growth of memory was refused.

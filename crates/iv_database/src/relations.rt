@@ -25,7 +25,7 @@ use iv_rows::{Column, Kind, RelId, Schema};
 use std::alloc::{AllocError, Global};
 
 impl Database {
-    /// The relation of a name; none where there is none.
+    /// The relation of the database that has the name; none where there is none.
     pub(crate) fn relation(&self, name: &str) -> Option<RelId>
         requires { IsDatabase self.now }
         ensures known { is_some result ≡ is_some (named (frame_of self.now).catalog name.now) }
@@ -54,7 +54,7 @@ impl Database {
         Ok((acting, rel))
     }
 
-    /// The name of a relation.
+    /// The name of a relation of the database, in memory of its own.
     ///
     /// # Errors
     /// `AllocError` where a growth of memory was refused.
@@ -65,7 +65,7 @@ impl Database {
         String::from_str(self.alloc, self.access.relation_name(rel).unwrap_or(""))
     }
 
-    /// The columns of a table.
+    /// The columns of a table that the database has.
     pub(crate) fn schema(&self, table: RelId) -> &Schema
         requires { is_some (schema_of self.now.catalog table.0) ≡ true }
         ensures { Some result.now ≡ schema_of self.now.catalog table.0 }
@@ -77,7 +77,7 @@ impl Database {
     }
 }
 
-/// The kinds of the columns.
+/// The kinds of the columns of a table that is to be added.
 fn kinds(alloc: Global, columns: &[Column]) -> Result<Vec<Kind>, AllocError>
     ensures { IfOk result (λ kinds. kinds.items ≡ kinds_of columns.now) }
 {
@@ -89,7 +89,7 @@ fn kinds(alloc: Global, columns: &[Column]) -> Result<Vec<Kind>, AllocError>
 }
 
 impl Database {
-    /// Adds a table, with each privilege for its owner.
+    /// Tests a session's request for a new table, and adds it, with each privilege for its owner.
     ///
     /// # Errors
     /// `Refused` with the first test that fails; `Memory` where a growth of memory was refused.
@@ -111,7 +111,7 @@ impl Database {
         self.add_table(acting, name, owner, columns)
     }
 
-    /// Adds a table without rows where the rights admit it.
+    /// Adds a table without rows to the database, where the rights admit it.
     fn add_table(
         &mut self,
         acting: RoleId,
@@ -140,7 +140,7 @@ impl Database {
     }
 }
 
-/// What the text of a view is bound to over the catalog.
+/// Reads the text of a view that is to be added, and binds it over the database's catalog.
 fn bound_view(alloc: Global, catalog: &Catalog, query: &str) -> Result<Bound, Stop>
     ensures bound { IsBoundView (bound_query catalog.now query.now) result }
     ensures typed { IfOk result (λ b. IsTyped catalog.now (bound_of b)) }
@@ -173,7 +173,7 @@ impl Database {
         Ok(acting)
     }
 
-    /// Adds a view, unless there are as many as there may be.
+    /// Adds a view to the database, unless there are as many as there may be.
     fn add_view(
         &mut self,
         acting: RoleId,
@@ -202,7 +202,7 @@ impl Database {
         Ok(())
     }
 
-    /// Adds a view, with each privilege for its owner.
+    /// Tests a session's request for a new view, and adds it, with each privilege for its owner.
     ///
     /// # Errors
     /// `Refused` with the first test that fails; `Memory` where a growth of memory was refused.

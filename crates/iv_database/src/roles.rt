@@ -8,7 +8,7 @@ use crate::privileges::outcome;
 use iv_command::{Refusal, Stop};
 
 impl Database {
-    /// Adds a role.
+    /// Tests a session's request for a new role, and adds it.
     ///
     /// # Errors
     /// `Refused` with the first test that fails; `Memory` where a growth of memory was refused.
@@ -23,7 +23,7 @@ impl Database {
         outcome(change, name)
     }
 
-    /// Makes the role `to` a member of a role.
+    /// Tests a session's request to make the role `to` a member of a role, and makes it one.
     ///
     /// # Errors
     /// `Refused` with the first test that fails; `Memory` where a growth of memory was refused.
@@ -38,7 +38,7 @@ impl Database {
         outcome(change, role)
     }
 
-    /// Takes the role `to` out of the direct members of a role.
+    /// Tests a session's request to take the role `to` out of the direct members of a role, and takes it out.
     ///
     /// # Errors
     /// `Refused` with the first test that fails; `Memory` where a growth of memory was refused.

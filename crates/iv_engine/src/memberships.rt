@@ -32,8 +32,8 @@ fn tell_members(
     store.tell_readers(&concerned, false, None)
 }
 
-/// Makes the role `to` a member of a role. Readers who reach other roles than before are told what they see more and
-/// less.
+/// Makes the role `to` a member of a role, and tells readers who reach other roles than before what they see
+/// more and less.
 pub fn grant_role(store: &mut Store, session: u32, role: String, to: &str) -> Result<Answer, Stop>
     requires { IsSoundStore store.old }
     ensures { IsStep store.old session (machine.grant_role (string_bytes role) to.now) result store.new }
@@ -45,8 +45,8 @@ pub fn grant_role(store: &mut Store, session: u32, role: String, to: &str) -> Re
     Ok(answer)
 }
 
-/// Takes the role `to` out of the direct members of a role. Readers who reach other roles than before are told what they
-/// see more and less, and subscriptions that may not be read any more end.
+/// Takes the role `to` out of the direct members of a role, tells readers who reach other roles than before
+/// what they see more and less, and ends the subscriptions that may not be read any more.
 pub fn revoke_role(store: &mut Store, session: u32, role: String, to: &str) -> Result<Answer, Stop>
     requires { IsSoundStore store.old }
     ensures { IsStep store.old session (machine.revoke_role (string_bytes role) to.now) result store.new }

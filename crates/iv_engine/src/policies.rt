@@ -1,4 +1,4 @@
-//! `row_security`, `create_policy`, `drop_policy`: what readers of the table and of views over it are told.
+//! `row_security`, `create_policy`, `drop_policy`: what readers of the table and of views over it are told; rows that a policy hid (`hidden`).
 //!
 //! A row that comes back when a restrictive policy goes is one of those of which its predicate does not hold. They are found by one pass
 //! over the table for all readers, unless the predicate reads the name of the user.
@@ -20,7 +20,7 @@ use iv_store::Store;
 use iv_zset::Meter;
 use std::alloc::AllocError;
 
-/// Whether the predicate reads the name of the user.
+/// Whether the predicate of a policy that is dropped reads the name of the user.
 fn names_user(pred: &Pred) -> bool
     ensures { result ≡ names_user (condition_of pred.now) }
 {
@@ -80,7 +80,7 @@ pub fn create_policy(store: &mut Store, session: u32, policy: PolicyText) -> Res
     Ok(answer)
 }
 
-/// The predicate of the table's policy of the name, where it is restrictive and does not read the name of the user.
+/// The predicate of the policy that is to be dropped, if it is restrictive and does not read the user's name.
 fn restriction(
     store: &Store,
     session: u32,
@@ -106,7 +106,7 @@ fn restriction(
     Ok(Some(pred.copy(store.alloc)?))
 }
 
-/// The rows of the table of which the predicate does not hold, if there is one.
+/// The rows of the table that a dropped policy hid, by its predicate, if there is one.
 fn hidden(store: &Store, table: RelId, pred: &Option<Pred>) -> Result<Option<Hidden>, AllocError>
     ensures { IfOk result (λ hidden. IfSome hidden (IsHidden store.now table.0 (option_map condition_of pred.now))) }
 {

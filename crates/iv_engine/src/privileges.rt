@@ -1,4 +1,4 @@
-//! `revoke`: ends the subscriptions that may not be read any more.
+//! `revoke`: takes privileges on a relation back, and ends the subscriptions that may not be read any more.
 //!
 //! A revoke shows no row more or less: it ends the subscriptions whose role lacks select on what they need, and takes
 //! back what they showed. Each circuit is asked once, not each subscription.

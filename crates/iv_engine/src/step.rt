@@ -15,7 +15,7 @@ use iv_command::{Act, Answer, Command, Line, Reply, Stop, lines_of};
 use iv_store::Store;
 use std::alloc::{AllocError, Global};
 
-/// The answer of a request that shows nothing.
+/// For `act`, the answer of a request that shows no reader anything: `ok` alone, or why it is not done.
 fn plain(alloc: Global, done: Result<(), Stop>) -> Result<Answer, Stop>
     ensures { IsPlain done result }
 {
@@ -28,7 +28,7 @@ fn plain(alloc: Global, done: Result<(), Stop>) -> Result<Answer, Stop>
     }
 }
 
-/// The text of a name, if there is one.
+/// For `act`, the text of the grantee that a grant or a revoke names, if there is one.
 fn text_of(name: &Option<String>) -> Option<&str>
     ensures { option_map (λ n. n.now) result ≡ option_map string_bytes name.now }
 {

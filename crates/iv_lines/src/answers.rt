@@ -1,4 +1,4 @@
-//! `write_lines`: the texts of a command's lines, one behind another.
+//! `write_lines`: the texts of a command's lines, one behind another; `write_line`: the text of one line.
 //!
 //! `ok`, `subscribed` and changes are fixed parts with numbers and the text of their rows between them, proved to be the text of their
 //! value; refusals and faults are written by `serde_json`. The text of rows is written once, where the rows are listed (iv_command), and
@@ -23,7 +23,7 @@ struct SessionPart {
 }
 
 impl SessionPart {
-    /// The part before the first change of a command's lines: it has no text yet.
+    /// The part of a line's text that names its session, before the first change: it has no text yet.
     fn new(alloc: Global) -> SessionPart
         ensures { IsPart result }
     {
@@ -33,7 +33,7 @@ impl SessionPart {
         }
     }
 
-    /// Names the session, unless it was named last.
+    /// Writes the part of a line's text that names its session, unless that session was named last.
     fn name(&mut self, session: u32) -> Result<(), AllocError>
         requires { IsPart self.old }
         ensures text { OnOk result (self.new.text.items ≡ session_part session) }
@@ -50,7 +50,7 @@ impl SessionPart {
     }
 }
 
-/// Appends a text, and a number behind it.
+/// Appends to a line's text a fixed part, and a number behind it.
 fn push_number(text: &mut Vec<u8>, before: &[u8], number: u64) -> Result<(), AllocError>
     ensures { OnOk result (text.new.items ≡ text.old.items ++ (before.now ++ decimal number)) }
 {
@@ -59,7 +59,7 @@ fn push_number(text: &mut Vec<u8>, before: &[u8], number: u64) -> Result<(), All
     Ok(())
 }
 
-/// Appends the end of a line that names a subscription.
+/// Appends to a line's text its end, which names a subscription.
 fn push_rest(text: &mut Vec<u8>, session: u32, sub: u64) -> Result<(), AllocError>
     ensures { OnOk result (text.new.items ≡ text.old.items ++ rest_text session sub) }
 {
@@ -69,7 +69,7 @@ fn push_rest(text: &mut Vec<u8>, session: u32, sub: u64) -> Result<(), AllocErro
     Ok(())
 }
 
-/// Appends the line of a change, by the part that names its session and the text of its rows.
+/// Appends the text of a change's line, by the part that names its session and the text of its rows.
 fn push_change(text: &mut Vec<u8>, part: &[u8], sub: u64, rows: &[u8]) -> Result<(), AllocError>
     ensures { OnOk result (text.new.items ≡ text.old.items ++ change_behind part.now sub rows.now) }
 {
@@ -80,7 +80,7 @@ fn push_change(text: &mut Vec<u8>, part: &[u8], sub: u64, rows: &[u8]) -> Result
     Ok(())
 }
 
-/// The part of a subscription's last line that tells why it has ended.
+/// The part of the text of a subscription's last line that tells why it has ended.
 fn cause_part(cause: Cause) -> &'static [u8]
     ensures { result.now ≡ cause_part cause }
 {
@@ -90,7 +90,7 @@ fn cause_part(cause: Cause) -> &'static [u8]
     }
 }
 
-/// Appends the last line of a subscription, by the text of its rows.
+/// Appends the text of a subscription's last line, by the text of its rows.
 fn push_ended(
     text: &mut Vec<u8>,
     session: u32,
@@ -106,7 +106,7 @@ fn push_ended(
     push_rest(text, session, sub)
 }
 
-/// Appends the line of the reply `ok`, with its session.
+/// Appends the text of the line of the reply `ok`, with its session.
 fn push_done(text: &mut Vec<u8>, session: u32) -> Result<(), AllocError>
     ensures { OnOk result (text.new.items ≡ text.old.items ++ done_text session) }
 {
@@ -115,7 +115,7 @@ fn push_done(text: &mut Vec<u8>, session: u32) -> Result<(), AllocError>
     Ok(())
 }
 
-/// Appends the line of the reply that a subscription was opened, with its session and number.
+/// Appends the text of the reply that a subscription was opened, with its session and number.
 fn push_subscribed(text: &mut Vec<u8>, session: u32, sub: u64) -> Result<(), AllocError>
     ensures { OnOk result (text.new.items ≡ text.old.items ++ subscribed_text session sub) }
 {
@@ -123,7 +123,7 @@ fn push_subscribed(text: &mut Vec<u8>, session: u32, sub: u64) -> Result<(), All
     push_rest(text, session, sub)
 }
 
-/// Appends the line of a reply.
+/// Appends the text of a reply's line to an answer's bytes.
 fn push_reply(
     alloc: Global,
     text: &mut Vec<u8>,
@@ -143,7 +143,7 @@ fn push_reply(
     }
 }
 
-/// Appends a line.
+/// Appends the text of a line to an answer's bytes.
 fn push_line(
     alloc: Global,
     text: &mut Vec<u8>,
@@ -182,7 +182,7 @@ pub fn write_lines(alloc: Global, lines: &[Line], sent: Vec<u8>) -> Result<Vec<u
     Ok(text)
 }
 
-/// The text of a line, with its newline.
+/// The text of one of a command's lines, with its newline.
 ///
 /// # Errors
 /// `AllocError` where a growth of memory was refused.

@@ -50,7 +50,7 @@ impl Calls {
         }
     }
 
-    /// Counts one more call of an end of std.
+    /// Adds one to how many calls were made of an end of std.
     pub fn add_one(&mut self)
         ensures { self.new ≡ self.old + 1 }
     {

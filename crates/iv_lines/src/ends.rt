@@ -17,7 +17,7 @@ pub trait Source {
     /// How many reads were made, where the end counts them.
     ghost reads: { Self → ℕ };
 
-    /// Reads some bytes into the room. It answers 0 only where there is no room or no byte is left.
+    /// Reads some bytes from the source. It answers 0 only where there is no room or no byte is left.
     ///
     /// # Errors
     /// Where the end fails. What is left is as it was.
@@ -42,7 +42,7 @@ pub trait Sink {
     /// How many writes and flushes were made, where the end counts them.
     ghost calls: { Self → ℕ };
 
-    /// Takes a front of the bytes, at least one where there is one.
+    /// Takes a front of the bytes into the sink, at least one where there is one.
     ///
     /// # Errors
     /// Where the end fails. What was taken is as it was.
@@ -53,7 +53,7 @@ pub trait Sink {
         ensures failed { has_failed self.new ≡ (has_failed self.old || is_err result) }
         ensures counted { calls self.new ≤ calls self.old + 1 };
 
-    /// Passes on all that was taken.
+    /// Passes on all that the sink has taken.
     ///
     /// # Errors
     /// Where the end fails.
@@ -64,7 +64,7 @@ pub trait Sink {
         ensures counted { calls self.new ≤ calls self.old + 1 };
 }
 
-/// Writes all the bytes.
+/// Writes all the bytes to a sink.
 ///
 /// # Errors
 /// Where the end fails. A front of the bytes was taken then.

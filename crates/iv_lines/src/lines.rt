@@ -1,4 +1,4 @@
-//! `next_line`: cuts bytes into lines; `End`, `RunFault`: how a run over lines ends.
+//! `next_line`: cuts bytes into lines; `is_blank_line`: which are blank; `End`, `RunFault`: how a run over lines ends.
 ghost use Rattle.std.specs.Prelude.{◌≡◌, ◌≤◌, ◌+◌, ◌||◌, ◌⊎◌, [], option_map, IfOk, IfErr, OnOk, IsErrOf};
 ghost use Rattle.iv_lines.specs.Cut.{is_blank_line, line_room};
 ghost use Rattle.iv_lines.specs.Ahead.{known};

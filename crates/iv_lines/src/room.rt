@@ -29,7 +29,7 @@ impl Room {
     ghost use Rattle.iv_lines.specs.Ahead.{ahead, known, TakesPart};
     ghost use Rattle.iv_lines.specs.Cut.{line_room};
 
-    /// No byte is ahead.
+    /// A room of bytes read ahead, with none in it yet.
     pub fn new() -> Room
         ensures { ahead result ≡ [] }
     {
@@ -40,7 +40,7 @@ impl Room {
         }
     }
 
-    /// Reads again, where all was taken.
+    /// Reads bytes ahead, where all that were ahead have been taken.
     #[tactic(auto, using(crate::proofs::Ahead::ahead_empty))]
     fn refill<R: Source>(&mut self, reader: &mut R) -> Result<(), EndFault>
         requires { self.old.at ≡ self.old.filled }
@@ -56,7 +56,7 @@ impl Room {
         Ok(())
     }
 
-    /// Reads again, unless something is ahead. Nothing is ahead then only where no byte is left.
+    /// Reads bytes ahead, unless some are ahead. Nothing is ahead then only where no byte is left.
     pub(crate) fn fill<R: Source>(&mut self, reader: &mut R) -> Result<(), EndFault>
         ensures ok { OnOk result (Keeps (known self.old (R.left reader.old)) (known self.new (R.left reader.new))) }
         ensures end { OnOk result (ahead self.new ≡ [] → IsAtEnd (R.left reader.new)) }
@@ -70,7 +70,7 @@ impl Room {
         self.refill(reader)
     }
 
-    /// Whether nothing is ahead.
+    /// Whether no byte that was read ahead is left to take.
     pub(crate) fn is_empty(&self) -> bool
         ensures empty { result ≡ true → ahead self.now ≡ [] }
         ensures some { result ≡ false → 0 < length (ahead self.now) }
@@ -102,7 +102,7 @@ impl Room {
     }
 }
 
-/// The place of the first newline.
+/// The place of the first newline among bytes that were read ahead.
 fn newline(bytes: &[u8]) -> Option<usize>
     ensures { result ≡ position (λ b. b == 10) bytes.now }
 {

@@ -22,7 +22,7 @@ impl<R: Read> Model for FromRead<R> {
 }
 
 impl<R: Read> FromRead<R> {
-    /// A source of the reader's bytes, of which no call was made.
+    /// A reader of std as a source, of which no call was made.
     pub fn new(reader: R) -> FromRead<R>
         ensures { result ≡ unused reader }
     {
@@ -66,7 +66,7 @@ impl<W: Write> Model for FromWrite<W> {
 }
 
 impl<W: Write> FromWrite<W> {
-    /// A sink that writes to the writer, of which no call was made.
+    /// A writer of std as a sink, of which no call was made.
     pub fn new(writer: W) -> FromWrite<W>
         ensures { result ≡ (unused writer, false) }
     {

@@ -77,7 +77,7 @@ fn reason_text(why: Reason) -> &'static str
     }
 }
 
-/// Adds a member that is a number.
+/// Adds a JSON member of a refusal or a fault that is a number.
 fn put_number(
     alloc: Global,
     members: &mut Map<String, Json>,
@@ -89,7 +89,7 @@ fn put_number(
     put(members, alloc, key, Json::from(number))
 }
 
-/// Adds a member that is a text.
+/// Adds a JSON member of a refusal that is a text.
 fn put_text(
     alloc: Global,
     members: &mut Map<String, Json>,
@@ -101,7 +101,7 @@ fn put_text(
     put(members, alloc, key, Json::try_from_str(alloc, text)?)
 }
 
-/// Adds the members of a refusal without further keys.
+/// Adds the JSON members of a refusal without further keys.
 fn put_plain(
     alloc: Global,
     members: &mut Map<String, Json>,
@@ -115,7 +115,7 @@ fn put_plain(
     put_number(alloc, members, "session", session as u64)
 }
 
-/// Adds the members of the refusal that the role is neither the relation's owner nor `admin`.
+/// Adds the JSON members of the refusal that the role is neither the relation's owner nor `admin`.
 fn put_not_owner(
     alloc: Global,
     members: &mut Map<String, Json>,
@@ -130,7 +130,7 @@ fn put_not_owner(
     put_number(alloc, members, "session", session as u64)
 }
 
-/// Adds the members of the refusal that the role lacks a privilege on a relation.
+/// Adds the JSON members of the refusal that the role lacks a privilege on a relation.
 fn put_missing(
     alloc: Global,
     members: &mut Map<String, Json>,
@@ -147,7 +147,7 @@ fn put_missing(
     put_number(alloc, members, "session", session as u64)
 }
 
-/// Adds the members of a refusal of an entry.
+/// Adds the JSON members of a refusal of an entry.
 fn put_entry_refused(
     alloc: Global,
     members: &mut Map<String, Json>,
@@ -163,7 +163,7 @@ fn put_entry_refused(
     put_number(alloc, members, "session", session as u64)
 }
 
-/// Adds the members of the refusal that a text has a fault: its place and why.
+/// Adds the JSON members of the refusal that a text has a fault: its place and why.
 fn put_bad_query(
     alloc: Global,
     members: &mut Map<String, Json>,
@@ -180,7 +180,7 @@ fn put_bad_query(
     put_text(alloc, members, "why", reason_text(why))
 }
 
-/// Adds the members of the refusal that no permissive policy lets a row of an entry through.
+/// Adds the JSON members of the refusal that no permissive policy lets a row of an entry through.
 fn put_no_permissive(
     alloc: Global,
     members: &mut Map<String, Json>,
@@ -199,7 +199,7 @@ fn put_no_permissive(
     put_number(alloc, members, "session", session as u64)
 }
 
-/// Adds the members of the refusal that a restrictive policy does not let a row of an entry through.
+/// Adds the JSON members of the refusal that a restrictive policy does not let a row of an entry through.
 fn put_restrictive(
     alloc: Global,
     members: &mut Map<String, Json>,
@@ -270,7 +270,7 @@ fn put_refused(
     }
 }
 
-/// The compact text of an object of these members, with a newline.
+/// The compact JSON text of a refusal or a fault with these members, with a newline.
 fn text_of(alloc: Global, members: Map<String, Json>) -> Result<Vec<u8>, AllocError>
     ensures { IfOk result (λ text. has_float (object (members_view members.entries)) ≡ false → text.items ≡ text_of (object (members_view members.entries))) }
 {

@@ -47,7 +47,7 @@ impl<E> Watched<E> {
 }
 
 impl<R: Read> Watched<R> {
-    /// One call of the reader.
+    /// One read of std's reader, which is counted.
     pub fn read(&mut self, room: &mut [u8]) -> io::Result<usize>
         ensures bound { IfOk result (λ n. n ≤ length room.new) }
         ensures bytes { ReadConsumes (R.remaining self.old.end) (R.remaining self.new.end) result room.new }
@@ -62,7 +62,7 @@ impl<R: Read> Watched<R> {
 }
 
 impl<W: Write> Watched<W> {
-    /// One call of the writer.
+    /// One write of std's writer, which is counted.
     pub fn write(&mut self, bytes: &[u8]) -> io::Result<usize>
         ensures bound { IfOk result (λ n. n ≤ length bytes.now) }
         ensures bytes { WriteAppends (W.contents self.old.end) (W.contents self.new.end) result bytes.now }
@@ -77,7 +77,7 @@ impl<W: Write> Watched<W> {
         count
     }
 
-    /// One call of the writer's `flush`.
+    /// One flush of std's writer, which is counted.
     pub fn flush(&mut self) -> io::Result<()>
         ensures bytes { Keeps (W.contents self.old.end) (W.contents self.new.end) }
         ensures called { self.new.calls ≡ self.old.calls + 1 }

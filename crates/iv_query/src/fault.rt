@@ -37,7 +37,7 @@ pub enum QueryFault {
 impl From<AllocError> for QueryFault {
     ghost from_gives = { λ _ fault. fault ≡ Memory };
 
-    /// Out of memory, as the reason why a text was not read.
+    /// Out of memory, as the reason why the text of a view or a policy was not read.
     fn from(_error: AllocError) -> QueryFault {
         QueryFault::Memory
     }

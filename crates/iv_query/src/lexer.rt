@@ -32,28 +32,28 @@ fn is_blank(b: u8) -> bool
     b == b' ' || b == b'\t' || b == b'\n' || b == b'\r' || b == 12
 }
 
-/// Whether a byte may begin a word: a letter or an underscore.
+/// Whether a byte may begin a token that is a word: a letter or an underscore.
 fn is_letter(b: u8) -> bool
     ensures { result ≡ is_letter b }
 {
     b.is_ascii_alphabetic() || b == b'_'
 }
 
-/// Whether a byte may stand in a word: a letter, an underscore or a digit.
+/// Whether a byte may stand in a token that is a word: a letter, an underscore or a digit.
 fn is_word_byte(b: u8) -> bool
     ensures { result ≡ is_word_byte b }
 {
     is_letter(b) || b.is_ascii_digit()
 }
 
-/// How many bytes at the front belong to a word.
+/// How many bytes at the front of a text belong to a token that is a word.
 fn word_len(bytes: &[u8]) -> usize
     ensures { result ≡ prefix_len is_word_byte bytes.now }
 {
     bytes.iter().take_while(|b| is_word_byte(**b)).count()
 }
 
-/// The word of a rule that a word in lower case is.
+/// The symbol that a word of a text, in lower case, becomes as a token, if a rule of the grammar has it.
 #[tactic(auto, unfolding(crate::specs::Lexing::word_symbol))]
 fn word_symbol(word: &str) -> Option<Symbol>
     ensures { result ≡ word_symbol word.now }
@@ -84,7 +84,7 @@ fn word_symbol(word: &str) -> Option<Symbol>
     }
 }
 
-/// The lexeme of a word in lower case: a word of a rule, a name, or a reserved word that no rule has.
+/// What a word of a text becomes as a token: a word of a rule, a name, or a reserved word of no rule.
 fn word_lexeme(word: String) -> Lexeme
     ensures { tok_of result ≡ word_token (string_bytes word) }
 {
@@ -98,7 +98,7 @@ fn word_lexeme(word: String) -> Lexeme
     }
 }
 
-/// What stands behind a first byte.
+/// What is left of a text behind one byte, such as that of a sign, a quote or a blank.
 fn behind_one(text: &str) -> &str
     requires there { 0 < length text.now }
     requires ascii { slice_index text.now 0 < 128 }
@@ -107,7 +107,7 @@ fn behind_one(text: &str) -> &str
     &text[1..]
 }
 
-/// What stands behind two bytes.
+/// What is left of a text behind the two bytes of a sign, such as `<=`.
 fn behind_two(text: &str) -> &str
     requires there { 1 < length text.now }
     requires ascii { slice_index text.now 1 < 128 }
@@ -153,14 +153,14 @@ fn sign(text: &str) -> Front<'_>
     }
 }
 
-/// How many digits stand at the front.
+/// How many digits stand at the front of a text, for the token of a number.
 fn digits_len(bytes: &[u8]) -> usize
     ensures { result ≡ prefix_len is_ascii_digit bytes.now }
 {
     bytes.iter().take_while(|b| b.is_ascii_digit()).count()
 }
 
-/// Whether a letter or an underscore comes first: a number must have none behind it.
+/// Whether a letter or an underscore comes first: the token of a number must have none behind it.
 fn starts_letter(bytes: &[u8]) -> bool
     ensures { result ≡ starts_letter bytes.now }
 {
@@ -170,7 +170,7 @@ fn starts_letter(bytes: &[u8]) -> bool
     }
 }
 
-/// A number without a minus, in front of a text that begins with a digit.
+/// The token of a number without a minus, in front of a text that begins with a digit.
 #[tactic(auto, unfolding(crate::specs::Lexing::number_at))]
 fn number(text: &str) -> Front<'_>
     requires { IsTrue (starts_digit text.now) }
@@ -187,7 +187,7 @@ fn number(text: &str) -> Front<'_>
     }
 }
 
-/// A number with a minus, where `behind` stands behind the minus.
+/// The token of a number with a minus, where `behind` stands behind the minus.
 #[tactic(auto, unfolding(crate::specs::Lexing::negative_at))]
 fn negative<'a>(text: &'a str, behind: &str) -> Front<'a>
     requires whole { text.now ≡ 45 ∷ behind.now }
@@ -205,7 +205,7 @@ fn negative<'a>(text: &'a str, behind: &str) -> Front<'a>
     }
 }
 
-/// How many bytes come before the first quote.
+/// How many bytes of a quoted text come before the next quote.
 fn plain_len(bytes: &[u8]) -> usize
     ensures { result ≡ prefix_len is_plain bytes.now }
 {
@@ -249,7 +249,7 @@ fn has_zero(text: &str) -> bool
     text.as_bytes().iter().any(|b| *b == 0)
 }
 
-/// A text that a table may hold: at most 1,024 bytes, and no U+0000.
+/// Whether a table may hold the value of a quoted text: at most 1,024 bytes, and no U+0000.
 fn is_well_text(text: &str) -> bool
     ensures { result ≡ is_well_text text.now }
 {
@@ -259,7 +259,7 @@ fn is_well_text(text: &str) -> bool
     !has_zero(text)
 }
 
-/// A quoted text; `text` begins behind the first quote.
+/// The token of a quoted text, where `text` begins behind its first quote.
 #[tactic(auto, unfolding(crate::specs::Lexing::text_at))]
 fn text_front(alloc: Global, text: &str) -> Result<Front<'_>, AllocError>
     ensures { IfOk result (λ f. ahead_of f ≡ text_at text.now) }
@@ -276,7 +276,7 @@ fn text_front(alloc: Global, text: &str) -> Result<Front<'_>, AllocError>
     }
 }
 
-/// What begins with a minus; `behind` stands behind it.
+/// The token that begins with a minus, if a number does; `behind` stands behind the minus.
 fn minus<'a>(text: &'a str, behind: &str) -> Front<'a>
     requires { text.now ≡ 45 ∷ behind.now }
     ensures { ahead_of result ≡ minus_at behind.now }

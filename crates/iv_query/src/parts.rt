@@ -1,4 +1,4 @@
-//! Reads the parts that queries and predicates share: names, columns, operands, comparison signs and needed symbols.
+//! Reads the parts that queries and predicates share: names, columns, operands, comparison signs, needed symbols; faults (`unexpected`, `deep`).
 
 ghost use Rattle.std.specs.Prelude.{◌≡◌, option_map};
 ghost use Rattle.iv_query.specs.Tokens.{after_symbol, toks, first_place, unexpected, deep, op_of, after_op};
@@ -12,7 +12,7 @@ use crate::tree::{Column, Dialect, Name, Op, Operand};
 use iv_rows::Value;
 use std::alloc::Global;
 
-/// The place of the first token, or where the tokens end.
+/// The place of the next token of a query or predicate, or where the tokens end.
 pub fn first_place(tokens: &[Token], stop: Fault) -> usize
     ensures { result ≡ first_place stop (toks tokens.now) }
 {
@@ -22,7 +22,7 @@ pub fn first_place(tokens: &[Token], stop: Fault) -> usize
     }
 }
 
-/// A fault of the rules, such as that where the tokens end, as the `QueryFault` of the text.
+/// The `QueryFault` of a query or predicate for a fault of the rules, such as that where the tokens end.
 fn at(fault: Fault) -> QueryFault
     ensures { result ≡ at fault }
 {
@@ -32,7 +32,7 @@ fn at(fault: Fault) -> QueryFault
     }
 }
 
-/// The fault of a token that is not needed, or of the end.
+/// The fault where the next token of a query or predicate is not one that is needed, or none is left.
 pub fn unexpected(tokens: &[Token], stop: Fault) -> QueryFault
     ensures { result ≡ at (unexpected stop (toks tokens.now)) }
 {
@@ -55,7 +55,7 @@ pub fn deep(place: usize) -> QueryFault
     }
 }
 
-/// The tokens behind a symbol, if it comes first.
+/// The tokens of a query or predicate behind a symbol, if it comes first.
 #[tactic(auto, unfolding(crate::specs::Tokens::after_symbol))]
 pub fn after(symbol: Symbol, tokens: &[Token]) -> Option<&[Token]>
     ensures { option_map (λ x. toks x.now) result ≡ after_symbol symbol (toks tokens.now) }
@@ -164,7 +164,7 @@ pub fn after_op(tokens: &[Token]) -> Option<(Op, &[Token])>
     None
 }
 
-/// The operand that a word is.
+/// The operand that a word is, if it is one: a truth value, or `current_user` in a policy.
 fn word_operand(symbol: Symbol, place: usize, dialect: Dialect) -> Option<Operand>
     ensures { option_map operand_tree result ≡ word_operand dialect symbol place }
 {
@@ -182,7 +182,7 @@ fn word_operand(symbol: Symbol, place: usize, dialect: Dialect) -> Option<Operan
     }
 }
 
-/// The operand that a name begins.
+/// The operand that a name begins, a column, which has no dot in a policy, and the tokens behind it.
 #[tactic(auto, unfolding(crate::specs::Reading::name_operand_at))]
 fn name_operand(
     alloc: Global,

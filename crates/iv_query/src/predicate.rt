@@ -17,7 +17,7 @@ use crate::tree::{Dialect, Operand, Pred};
 use iv_rows::{Value, boxed_two};
 use std::alloc::Global;
 
-/// The truth value that an operand is.
+/// The truth value that an operand just read is, if it is one: it needs no comparison sign behind it.
 fn truth_of(operand: &Operand) -> Option<bool>
     ensures { result ≡ truth_of (operand_tree operand.now) }
 {

@@ -1,4 +1,4 @@
-//! `query`: reads a query, from tokens to its tree: selects, sources, joins, items, groups, set operations.
+//! `query`: reads a query, from tokens to its tree: selects, sources, aliases, joins, items, groups, set operations.
 
 ghost use Rattle.std.specs.Prelude.{◌≡◌, ◌-◌, map, option_map, IfOk};
 ghost use Rattle.iv_query.specs.Tokens.{starts_name, toks};
@@ -19,7 +19,7 @@ use crate::tree::{
 };
 use std::alloc::{AllocError, Global};
 
-/// The tokens behind a symbol if it comes first, else all.
+/// The tokens of a query behind a symbol if it comes first, else all: for words that may be left out.
 fn skip(symbol: Symbol, tokens: &[Token]) -> &[Token]
     ensures { toks result.now ≡ skip symbol (toks tokens.now) }
 {
@@ -73,7 +73,7 @@ fn may_alias(
     Ok((Some(name), rest))
 }
 
-/// The fault of a ninth source.
+/// The fault of reading a query in which a ninth source is named.
 fn long(place: usize) -> QueryFault
     ensures { result ≡ at (long place) }
 {
@@ -83,7 +83,7 @@ fn long(place: usize) -> QueryFault
     }
 }
 
-/// A source, where `left` may still be named.
+/// Reads a source of a query, and its alias if it has one, where `left` may still be named.
 #[tactic(auto, unfolding(crate::specs::QueryReading::source_at))]
 fn source(
     alloc: Global,
@@ -101,7 +101,7 @@ fn source(
     Ok((Source { name, alias }, rest))
 }
 
-/// A pair of a join: two columns with the sign `=` between them.
+/// Reads a pair of a join: two columns with the sign `=` between them.
 #[tactic(auto, unfolding(crate::specs::QueryReading::pair_at))]
 fn pair(alloc: Global, tokens: &[Token], stop: Fault) -> Result<(Pair, &[Token]), QueryFault>
     ensures { Gives (λ x. (pair_tree x.0, toks x.1.now)) result (pair_at stop (toks tokens.now)) }
@@ -165,7 +165,7 @@ fn starts_join(tokens: &[Token]) -> bool
     }
 }
 
-/// The joins behind a source, where `left` sources may still be named.
+/// Reads the joins behind the first source, where `left` sources may still be named.
 #[tactic(auto, unfolding(crate::specs::QueryReading::joins_at))]
 fn joins(
     alloc: Global,
@@ -188,7 +188,7 @@ fn joins(
     Ok((list, rest))
 }
 
-/// An item of a select that is a column, with its alias if it has one.
+/// Reads an item of a select that is a column, with its alias if it has one.
 #[tactic(auto, unfolding(crate::specs::QueryReading::column_item_at))]
 fn column_item(alloc: Global, tokens: &[Token], stop: Fault) -> Result<(Item, &[Token]), QueryFault>
     ensures { Gives (λ x. (item_tree x.0, toks x.1.now)) result (column_item_at stop (toks tokens.now)) }
@@ -198,7 +198,7 @@ fn column_item(alloc: Global, tokens: &[Token], stop: Fault) -> Result<(Item, &[
     Ok((Item::Column { column, alias }, rest))
 }
 
-/// What stands behind the word `sum`, which stands at `place`.
+/// Reads an item of a select behind its word `sum`, which stands at `place`.
 #[tactic(auto, unfolding(crate::specs::QueryReading::sum_at))]
 fn sum(
     alloc: Global,
@@ -220,7 +220,7 @@ fn sum(
     Ok((item, rest))
 }
 
-/// What stands behind the word `count`, which stands at `place`.
+/// Reads an item of a select behind its word `count`, which stands at `place`.
 #[tactic(auto, unfolding(crate::specs::QueryReading::count_at))]
 fn count(
     alloc: Global,
@@ -237,7 +237,7 @@ fn count(
     Ok((Item::Count { place, alias }, rest))
 }
 
-/// An item of a select: a sum, a count or a column.
+/// Reads an item of a select: a sum, a count or a column.
 #[tactic(auto, unfolding(crate::specs::QueryReading::item_at))]
 fn item(alloc: Global, tokens: &[Token], stop: Fault) -> Result<(Item, &[Token]), QueryFault>
     ensures { Gives (λ x. (item_tree x.0, toks x.1.now)) result (item_at stop (toks tokens.now)) }
@@ -258,13 +258,13 @@ impl Listed for Item {
 
     ghost item_at = { item_at };
 
-    /// One item of the list that a select gives as columns.
+    /// One item of the list behind the word `select`.
     fn read(alloc: Global, tokens: &[Token], stop: Fault) -> Result<(Item, &[Token]), QueryFault> {
         item(alloc, tokens, stop)
     }
 }
 
-/// What is selected: all columns by the sign `*`, or a list of items.
+/// Reads what is selected: all columns by the sign `*`, or a list of items.
 #[tactic(auto, unfolding(crate::specs::QueryReading::list_at))]
 fn list(alloc: Global, tokens: &[Token], stop: Fault) -> Result<(Columns, &[Token]), QueryFault>
     ensures { Gives (λ x. (list_tree x.0, toks x.1.now)) result (list_at stop (toks tokens.now)) }
@@ -361,7 +361,7 @@ fn sources(
     Ok((source, joins, rest))
 }
 
-/// What stands behind the sources: the predicate, and the columns of the group.
+/// Reads what stands behind the sources of a select: the predicate, and the columns of the group.
 #[tactic(auto, unfolding(crate::specs::QueryReading::tail_at))]
 fn tail(
     alloc: Global,
@@ -380,7 +380,7 @@ fn tail(
     }
 }
 
-/// A select, where `left` sources may still be named.
+/// Reads a select, where `left` sources may still be named.
 #[tactic(auto, unfolding(crate::specs::QueryReading::select_at, crate::specs::QueryReading::tail_at))]
 fn select(
     alloc: Global,
@@ -445,7 +445,7 @@ fn set_op(tokens: &[Token], stop: Fault) -> Result<(SetOp, &[Token]), QueryFault
     Ok((SetOp::Except, rest))
 }
 
-/// A set operation and its right select, where `left` sources may still be named.
+/// Reads a set operation and its right select, where `left` sources may still be named.
 #[tactic(auto, unfolding(crate::specs::QueryReading::next_at))]
 fn next(
     alloc: Global,
@@ -460,14 +460,14 @@ fn next(
     Ok((op, right, rest))
 }
 
-/// How many sources may still be named behind a select.
+/// How many sources a query may still name behind a select that was read.
 fn left_behind(left: usize, select: &Select) -> usize
     ensures { result ≡ left - sources_in (select_tree select.now) }
 {
     left.saturating_sub(1).saturating_sub(select.joins.len())
 }
 
-/// The query that a set operation makes of the query before it and the select behind it.
+/// The query of a set operation, once the query before it and the select behind it are read.
 fn combined(alloc: Global, before: Query, op: SetOp, last: Select) -> Result<Query, AllocError>
     ensures { IfOk result (λ query. query_tree query ≡ Combined (query_tree before) op (select_tree last)) }
 {

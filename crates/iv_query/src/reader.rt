@@ -27,7 +27,7 @@ use crate::token::Token;
 use crate::tree::{Dialect, PredText, Query};
 use std::alloc::Global;
 
-/// The tokens of a text that is not too long.
+/// The tokens of the text of a view or a policy, or its first fault where it is too long.
 fn tokens_of(alloc: Global, text: &str) -> Result<Tokens, QueryFault>
     ensures short { IfOk result (λ t. length text.now ≤ text_bytes) }
     ensures lexed { IfOk result (λ t. tokens_lexed t ≡ lexed (length text.now) (length text.now) text.now) }
@@ -42,7 +42,7 @@ fn tokens_of(alloc: Global, text: &str) -> Result<Tokens, QueryFault>
     Ok(lexed(alloc, text)?)
 }
 
-/// Whether the text ends where the tokens that are left begin.
+/// Tests that the text of a view or a policy ends behind its tree, or tells its fault there.
 #[tactic(auto, unfolding(crate::specs::Reading::end_at))]
 fn end(rest: &[Token], stop: Fault, ends: bool) -> Result<(), QueryFault>
     ensures { Gives (λ _. tt) result (end_at stop ends (toks rest.now)) }

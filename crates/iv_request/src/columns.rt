@@ -24,14 +24,14 @@ fn kind_of(text: &str) -> Option<Kind>
     }
 }
 
-/// The text at a place of a list.
+/// The text at a place of the JSON list that a column is: its name, or the word of its kind.
 fn text_in<'a>(value: &Json<'a>, place: usize) -> Option<&'a str>
     ensures { option_map (λ s. s.now) result ≡ option_and_then as_str (at place (value_data value.now)) }
 {
     text_of(item_at(value, place)?)
 }
 
-/// The kind that a column has.
+/// The kind of a new table's column, from the JSON list that the column is.
 fn kind_in(value: &Json<'_>) -> Option<Kind>
     ensures { result ≡ option_and_then kind_of (option_and_then as_str (at 1 (value_data value.now))) }
 {
@@ -41,7 +41,7 @@ fn kind_in(value: &Json<'_>) -> Option<Kind>
     }
 }
 
-/// The column that a JSON value is.
+/// The column of a new table that a JSON value is.
 fn column_of(alloc: Global, value: &Json<'_>) -> Result<Option<Column>, AllocError>
     ensures { IfOk result (λ found. found ≡ column_of (value_data value.now)) }
 {
@@ -65,7 +65,7 @@ fn column_of(alloc: Global, value: &Json<'_>) -> Result<Option<Column>, AllocErr
     }
 }
 
-/// The columns that a list is, however many.
+/// The columns of a new table that a JSON list is, however many.
 fn columns_of(alloc: Global, items: &[Json<'_>]) -> Result<Option<Vec<Column>>, AllocError>
     ensures { IfOk result (λ found. option_map (λ v. v.items) found ≡ each column_of (items_data items.now)) }
 {

@@ -1,4 +1,4 @@
-//! `read`: from a text to a JSON value whose texts are borrowed from the line; `number_of`: its numbers.
+//! `read`: from a text to a JSON value whose texts are borrowed from the line; `number_of`, `fits`: its numbers.
 //!
 //! What is read has the data that `serde_json` reads of the line: what nests deeper than 127, and a number beyond a
 //! float's range, are no JSON, and of a key that stands twice the last value stays, as one key. Names, texts and
@@ -30,7 +30,7 @@ const MOST_DEPTH: usize = 127;
 /// How many digits are read one by one: so many that their number is below 2 ^ 63.
 const MOST_DIGITS: usize = 18;
 
-/// The number that a text of one to eighteen digits, and nothing else, writes.
+/// The number that a JSON text of one to eighteen digits, and nothing else, writes.
 #[inline]
 fn few_digits(bytes: &[u8]) -> Option<u64>
     ensures number { SomeIff result (IsNumeral 10 bytes.now × (length bytes.now ≤ 18)) (digits_value 10 bytes.now) }
@@ -50,14 +50,14 @@ fn few_digits(bytes: &[u8]) -> Option<u64>
     Some(number)
 }
 
-/// The nearest float, where it is finite.
+/// The JSON number that is the nearest float to a numeral, where that float is finite.
 fn float_of(negative: bool, numeral: &Numeral<'_>) -> Option<Number>
     ensures { option_map number_view result ≡ float_of negative numeral.now }
 {
     Number::from_f64(numeral.to_float::<f64>(negative))
 }
 
-/// The number without a sign.
+/// The JSON number that a numeral without a minus is.
 fn unsigned_of(numeral: &Numeral<'_>) -> Option<Number>
     ensures { option_map number_view result ≡ number_from false numeral.now }
 {
@@ -67,7 +67,7 @@ fn unsigned_of(numeral: &Numeral<'_>) -> Option<Number>
     }
 }
 
-/// The number with a minus.
+/// The JSON number with a minus, from the text behind the minus.
 fn negative_of(bytes: &[u8]) -> Option<Number>
     ensures { option_map number_view result ≡ number_from true (scan bytes.now) }
 {
@@ -85,7 +85,7 @@ fn negative_of(bytes: &[u8]) -> Option<Number>
     float_of(true, &numeral)
 }
 
-/// Whether the number begins with a minus.
+/// Whether the text of a JSON number begins with a minus.
 fn has_minus(bytes: &[u8]) -> bool
     ensures value { result ≡ (slice_index bytes.now 0 == 45) }
     ensures some { IsTrue result → 0 < length bytes.now }
@@ -93,7 +93,7 @@ fn has_minus(bytes: &[u8]) -> bool
     !bytes.is_empty() && bytes[0] == b'-'
 }
 
-/// The number that the text is, whatever its length and form. It stands apart, so that its callers take in the short way alone.
+/// The JSON number of a text of any form. It stands apart, so that its callers take in the short way alone.
 #[inline(never)]
 fn scanned(bytes: &[u8]) -> Option<Number>
     ensures { option_map number_view result ≡ number_of bytes.now }
@@ -118,7 +118,7 @@ pub fn number_of(text: &str) -> Option<Number>
     }
 }
 
-/// Whether each number in the value has a value.
+/// Whether each number in a JSON value has a value: none is beyond a float's range.
 #[cycle(fits)]
 fn fits(value: &Value<'_>) -> bool
     ensures { result ≡ fits (value_view value.now) }
@@ -157,7 +157,7 @@ fn members_fit(members: &Vec<(&str, Value<'_>)>) -> bool
     true
 }
 
-/// The JSON value that a text is.
+/// The JSON value that a text is, its texts borrowed.
 pub fn read<'a>(
     alloc: Global,
     text: &'a str,

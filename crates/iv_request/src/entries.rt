@@ -18,7 +18,7 @@ use std::alloc::{AllocError, Global};
 /// The greatest number of entries of a write.
 const MOST_ENTRIES: usize = 1000;
 
-/// The value of a column that a text is.
+/// The value in an entry's row that a text is, if a table may hold it.
 fn text_cell(alloc: Global, text: &str) -> Result<Option<Value>, AllocError>
     ensures { IfOk result (λ found. option_map iv_rows.cell_of found ≡ passing is_well_cell (cell.text text.now)) }
 {
@@ -30,7 +30,7 @@ fn text_cell(alloc: Global, text: &str) -> Result<Option<Value>, AllocError>
     }
 }
 
-/// The value of a column that a JSON value is.
+/// The value in an entry's row that a JSON value is: a flag, a whole number or a text.
 fn cell_of(alloc: Global, value: &Json<'_>) -> Result<Option<Value>, AllocError>
     ensures { IfOk result (λ found. option_map iv_rows.cell_of found ≡ cell_of (value_data value.now)) }
 {
@@ -42,7 +42,7 @@ fn cell_of(alloc: Global, value: &Json<'_>) -> Result<Option<Value>, AllocError>
     }
 }
 
-/// The row of these values.
+/// The row of an entry that has these JSON values.
 fn cells_of(alloc: Global, items: &[Json<'_>]) -> Result<Option<Row>, AllocError>
     ensures { IfOk result (λ found. found ≡ each cell_of (items_data items.now)) }
 {
@@ -56,7 +56,7 @@ fn cells_of(alloc: Global, items: &[Json<'_>]) -> Result<Option<Row>, AllocError
     Ok(Some(Row::new(values)?))
 }
 
-/// The row that a JSON value is.
+/// The row of an entry, from a JSON value.
 fn row_of(alloc: Global, value: &Json<'_>) -> Result<Option<Row>, AllocError>
     ensures { IfOk result (λ found. found ≡ row_of (value_data value.now)) }
 {
@@ -66,7 +66,7 @@ fn row_of(alloc: Global, value: &Json<'_>) -> Result<Option<Row>, AllocError>
     }
 }
 
-/// The row at a place of a list.
+/// The row at a place of the JSON list that an update is: the old row, or the new one.
 fn row_in(alloc: Global, value: &Json<'_>, place: usize) -> Result<Option<Row>, AllocError>
     ensures { IfOk result (λ found. found ≡ option_and_then row_of (at place (value_data value.now))) }
 {
@@ -76,7 +76,7 @@ fn row_in(alloc: Global, value: &Json<'_>, place: usize) -> Result<Option<Row>, 
     }
 }
 
-/// The old and the new row that a JSON value is.
+/// The update of an entry, from a JSON value: the old row and the new one.
 fn update_of(alloc: Global, value: &Json<'_>) -> Result<Option<Op>, AllocError>
     ensures { IfOk result (λ found. option_map entries.op_of found ≡ update_of (value_data value.now)) }
 {
@@ -92,7 +92,7 @@ fn update_of(alloc: Global, value: &Json<'_>) -> Result<Option<Op>, AllocError>
     }
 }
 
-/// What an entry does.
+/// What an entry of a write does, from a JSON value: an insert, a delete or an update, with its rows.
 fn op_at(alloc: Global, value: &Json<'_>) -> Result<Option<Op>, AllocError>
     ensures { IfOk result (λ found. option_map entries.op_of found ≡ op_at (value_data value.now)) }
 {
@@ -108,7 +108,7 @@ fn op_at(alloc: Global, value: &Json<'_>) -> Result<Option<Op>, AllocError>
     }
 }
 
-/// The number of copies that a JSON value is.
+/// The number of copies of an entry, from a JSON value.
 fn copies_of(value: &Json<'_>) -> Option<i64>
     ensures { option_map entries.copies_of result ≡ positive_of (value_data value.now) }
 {
@@ -118,7 +118,7 @@ fn copies_of(value: &Json<'_>) -> Option<i64>
     }
 }
 
-/// The key of what an entry does.
+/// The JSON key of what an entry of a write does: `insert`, `delete` or `update`.
 fn does_at(value: &Json<'_>) -> &'static str
     ensures { result.now ≡ does_at (value_data value.now) }
 {
@@ -154,7 +154,7 @@ fn entry_of(alloc: Global, value: &Json<'_>) -> Result<Option<Entry>, AllocError
     }
 }
 
-/// The entries that a list is, however many.
+/// The entries of a write that a JSON list is, however many.
 fn entries_of(alloc: Global, items: &[Json<'_>]) -> Result<Option<Vec<Entry>>, AllocError>
     ensures { IfOk result (λ found. option_map (λ v. v.items) found ≡ each entry_of (items_data items.now)) }
 {

@@ -135,7 +135,7 @@ static FORMS: [Form; 15] = [
 /// The keys of every request.
 const EVERY: [&str; 2] = ["do", "session"];
 
-/// The first of the forms that has this text.
+/// The first of these forms of requests whose word is this text.
 fn find_form<'a>(forms: &'a [Form], text: &str) -> Option<&'a Form>
     ensures { option_map (λ f. form_seen f.now) result ≡ find (λ f. bytes_eq f.text text.now) (map form_seen forms.now) }
 {
@@ -156,7 +156,7 @@ fn is_among(keys: &[&str], key: &str) -> bool
     keys.iter().any(|k| *k == key)
 }
 
-/// Whether the key is in one of the three lists.
+/// Whether a key is in one of three lists of keys, of those that a request or an entry may have.
 #[tactic(auto, using(crate::proofs::Keys::in_three))]
 fn is_in(first: &[&str], second: &[&str], third: &[&str], key: &str) -> bool
     ensures { result ≡ is_among (keys_seen first.now ++ (keys_seen second.now ++ keys_seen third.now)) key.now }
@@ -164,7 +164,7 @@ fn is_in(first: &[&str], second: &[&str], third: &[&str], key: &str) -> bool
     is_among(first, key) || is_among(second, key) || is_among(third, key)
 }
 
-/// Whether each member has its key in one of the three lists.
+/// Whether each key of a JSON object is in one of three lists of keys.
 fn are_in(members: &Vec<(&str, Json<'_>)>, first: &[&str], second: &[&str], third: &[&str]) -> bool
     ensures { result ≡ list_all (λ m. is_among (keys_seen first.now ++ (keys_seen second.now ++ keys_seen third.now)) m.0.now) members.now.items }
 {
@@ -173,7 +173,7 @@ fn are_in(members: &Vec<(&str, Json<'_>)>, first: &[&str], second: &[&str], thir
         .all(|member| is_in(first, second, third, member.0))
 }
 
-/// Whether no key is there but those of the three lists.
+/// Whether a JSON value has no key but those of three lists.
 pub fn has_only(value: &Json<'_>, first: &[&str], second: &[&str], third: &[&str]) -> bool
     ensures { result ≡ has_only (keys_seen first.now ++ (keys_seen second.now ++ keys_seen third.now)) (value_data value.now) }
 {
@@ -183,7 +183,7 @@ pub fn has_only(value: &Json<'_>, first: &[&str], second: &[&str], third: &[&str
     }
 }
 
-/// Whether each of the keys is there.
+/// Whether a JSON value has each of these keys, which its form requires.
 fn has_all(value: &Json<'_>, keys: &[&str]) -> bool
     ensures { result ≡ list_all (λ key. has key.now (value_data value.now)) keys.now }
 {

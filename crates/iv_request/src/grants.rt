@@ -41,7 +41,7 @@ fn privilege_of(value: &Json<'_>) -> Option<Privilege>
     }
 }
 
-/// The privileges that a list is, however many.
+/// The privileges of a grant or a revoke that a JSON list is, however many.
 fn privileges_of(alloc: Global, items: &[Json<'_>]) -> Result<Option<Vec<Privilege>>, AllocError>
     ensures { IfOk result (λ found. option_map (λ v. v.items) found ≡ each privilege_of (items_data items.now)) }
 {
@@ -55,7 +55,7 @@ fn privileges_of(alloc: Global, items: &[Json<'_>]) -> Result<Option<Vec<Privile
     Ok(Some(privileges))
 }
 
-/// The 1 to 4 privileges of a grant.
+/// The 1 to 4 privileges of a grant or a revoke, from a JSON value.
 fn privileges_at(alloc: Global, value: &Json<'_>) -> Result<Option<Vec<Privilege>>, AllocError>
     ensures { IfOk result (λ found. option_map (λ v. v.items) found ≡ privileges_at (value_data value.now)) }
 {
@@ -74,7 +74,7 @@ fn privileges_at(alloc: Global, value: &Json<'_>) -> Result<Option<Vec<Privilege
     }
 }
 
-/// The role that a word names, or none where it stands for PUBLIC.
+/// The grantee that a word of a request names: a role, or none where it stands for PUBLIC.
 pub fn grantee_named(alloc: Global, word: &str) -> Result<Option<Option<String>>, AllocError>
     ensures { IfOk result (λ found. option_map (λ to. option_map string_bytes to) found ≡ grantee_named word.now) }
 {
@@ -87,7 +87,7 @@ pub fn grantee_named(alloc: Global, word: &str) -> Result<Option<Option<String>>
     Ok(Some(Some(String::from_str(alloc, word)?)))
 }
 
-/// To whom a grant goes: a role, or none where it goes to PUBLIC.
+/// The grantee of a grant or a revoke, from a JSON value: a role, or none where it is PUBLIC.
 fn grantee_at(alloc: Global, value: &Json<'_>) -> Result<Option<Option<String>>, AllocError>
     ensures { IfOk result (λ found. option_map (λ to. option_map string_bytes to) found ≡ grantee_at (value_data value.now)) }
 {
@@ -115,7 +115,7 @@ impl Model for Granting {
 }
 
 impl Granting {
-    /// The request to give it.
+    /// The request that grants the privileges on the relation to the grantee.
     pub fn grant(self) -> Act
         ensures { act_of result ≡ grant_by self }
     {
@@ -131,7 +131,7 @@ impl Granting {
         }
     }
 
-    /// The request to take it.
+    /// The request that revokes the privileges on the relation from the grantee.
     pub fn revoke(self) -> Act
         ensures { act_of result ≡ revoke_by self }
     {
@@ -148,7 +148,7 @@ impl Granting {
     }
 }
 
-/// What the request names.
+/// What a grant or a revoke names, from a JSON value.
 pub fn granting_of(alloc: Global, value: &Json<'_>) -> Result<Option<Granting>, AllocError>
     ensures { IfOk result (λ found. found ≡ granting_of (value_data value.now)) }
 {

@@ -32,7 +32,7 @@ pub fn lines_are_read()
     ensures write { IsAsked write_line 1 (one_entry (machine.insert first_row) 1) }
 {}
 
-/// Requests of row security and of policies, and entries that remove rows, replace them, or are for many copies.
+/// Requests worked out: row security, policies, and entries that remove or replace rows or have many copies.
 pub fn policies_are_read()
     ensures row_security { IsAsked row_security_line 1 (machine.row_security notes true false) }
     ensures defaults { IsAsked own_line 1 (machine.create_policy own) }
@@ -44,7 +44,7 @@ pub fn policies_are_read()
     ensures copies { IsAsked (entry_line (codes "\"delete\":[1,\"ann\"],\"copies\":7")) 1 (one_entry (machine.delete first_row) 7) }
 {}
 
-/// Requests that make a view, of any text, and that close a subscription and a session.
+/// Requests worked out that make a view, of any text, and that close a subscription and a session.
 pub fn views_are_read()
     ensures create_view { IsAsked (view_line (codes "\"select id from notes\"")) 1 (view_of (codes "select id from notes")) }
     ensures any_text { IsAsked (view_line (codes "\"\"")) 1 (view_of []) }
@@ -53,7 +53,7 @@ pub fn views_are_read()
     ensures finish { IsAsked (codes "{\"do\":\"finish\",\"session\":2}") 2 machine.finish }
 {}
 
-/// Requests that make a role a member of another, and that end it; `admin` may be a member, and has none.
+/// Requests worked out that grant a role to a member and revoke it; `admin` may be a member, and has none.
 pub fn memberships_are_read()
     ensures grant { IsAsked (membership_line (codes "grant_role") team ann) 1 (machine.grant_role team ann) }
     ensures revoke { IsAsked (membership_line (codes "revoke_role") team ann) 1 (machine.revoke_role team ann) }
@@ -95,7 +95,7 @@ pub fn keys_stand_in_any_order()
     ensures write { IsAsked (codes "{\"session\":1,\"entries\":[{\"copies\":7,\"insert\":[1,\"ann\"],\"on\":\"notes\"}],\"do\":\"write\"}") 1 (one_entry (machine.insert first_row) 7) }
 {}
 
-/// Each command that a JSON value is keeps the rules of commands.
+/// Each command that a JSON value asks for keeps the rules of commands.
 pub fn requests_are_well()
     ensures { (d : Data) → IfSome (request d) (λ c. is_well_command c ≡ true) }
 {}

@@ -12,14 +12,14 @@ use json::Value as Json;
 use std::alloc::{AllocError, Global};
 use std::marker::Model;
 
-/// Whether it is the name of a role that may have members: of any but the superuser.
+/// Whether a request may grant or revoke the role of this name: it is a name, and not the superuser's.
 fn is_group(name: &str) -> bool
     ensures { result ≡ is_group name.now }
 {
     name_ok(name) && name != "admin"
 }
 
-/// The name at a key of a role that may have members, in memory of its own.
+/// The name at a key of the role that a request grants or revokes, in memory of its own.
 fn group_at(alloc: Global, value: &Json<'_>, key: &str) -> Result<Option<String>, AllocError>
     ensures { IfOk result (λ found. option_map string_bytes found ≡ group_at key.now (value_data value.now)) }
 {
@@ -52,7 +52,7 @@ impl Model for Membership {
 }
 
 impl Membership {
-    /// The request to give it.
+    /// The request that grants the role to the member.
     pub fn grant(self) -> Act
         ensures { act_of result ≡ grant_role_by self }
     {
@@ -60,7 +60,7 @@ impl Membership {
         Act::GrantRole { role, to: member }
     }
 
-    /// The request to take it.
+    /// The request that revokes the role from the member.
     pub fn revoke(self) -> Act
         ensures { act_of result ≡ revoke_role_by self }
     {
@@ -69,7 +69,7 @@ impl Membership {
     }
 }
 
-/// What the request names.
+/// The role and the member that a request to grant or revoke a role names, from a JSON value.
 pub fn membership_of(alloc: Global, value: &Json<'_>) -> Result<Option<Membership>, AllocError>
     ensures { IfOk result (λ found. found ≡ membership_of (value_data value.now)) }
 {

@@ -1,4 +1,4 @@
-//! Parts of a JSON value: the text, name, number, truth value or list at a key, and whether a key is there.
+//! Parts of a JSON value: the text, name, number, truth value or list that it is or has at a key, its items, and whether a key is there.
 ghost use Rattle.std.specs.Prelude.{◌≡◌, IfOk, option_map, option_and_then, string_bytes};
 ghost use Rattle.serde_json.specs.Find.{get, at, as_array, as_bool, as_number, as_str, as_i64, as_u64};
 ghost use Rattle.iv_request.specs.Documents.{value_data, items_data};
@@ -13,7 +13,7 @@ use std::alloc::{AllocError, Global};
 /// The greatest number that is read: a signed one of 64 bits.
 const MOST: u64 = 9_223_372_036_854_775_807;
 
-/// How many items a list has, and 0 where it is none.
+/// How many items a JSON value has as a list, and 0 where it is none.
 pub fn count(value: &Json<'_>) -> usize
     ensures { result ≡ count (value_data value.now) }
 {
@@ -23,35 +23,35 @@ pub fn count(value: &Json<'_>) -> usize
     }
 }
 
-/// The value at a key.
+/// The part of a JSON value that stands at a key.
 pub fn get<'v, 'a>(value: &'v Json<'a>, key: &str) -> Option<&'v Json<'a>>
     ensures { option_map (λ v. value_data v.now) result ≡ get key.now (value_data value.now) }
 {
     value.get(key)
 }
 
-/// The item at a place of a list.
+/// The item at a place of a JSON list.
 pub fn item_at<'v, 'a>(value: &'v Json<'a>, place: usize) -> Option<&'v Json<'a>>
     ensures { option_map (λ v. value_data v.now) result ≡ at place (value_data value.now) }
 {
     value.at(place)
 }
 
-/// The text that a value is.
+/// The text that a JSON value is.
 pub fn text_of<'a>(value: &Json<'a>) -> Option<&'a str>
     ensures { option_map (λ s. s.now) result ≡ as_str (value_data value.now) }
 {
     value.as_str()
 }
 
-/// The truth value that a value is.
+/// The truth value that a JSON value is.
 pub fn bool_of(value: &Json<'_>) -> Option<bool>
     ensures { result ≡ as_bool (value_data value.now) }
 {
     value.as_bool()
 }
 
-/// The items of the list that a value is.
+/// The items of the list that a JSON value is.
 pub fn items_of<'v, 'a>(value: &'v Json<'a>) -> Option<&'v Vec<Json<'a>>>
     ensures { option_map (λ v. items_data v.now.items) result ≡ as_array (value_data value.now) }
 {
@@ -61,7 +61,7 @@ pub fn items_of<'v, 'a>(value: &'v Json<'a>) -> Option<&'v Vec<Json<'a>>>
     }
 }
 
-/// The whole number from 0 on that a value is.
+/// The whole number from 0 on that a JSON value is.
 pub fn u64_of(value: &Json<'_>) -> Option<u64>
     ensures { result ≡ option_and_then as_u64 (as_number (value_data value.now)) }
 {
@@ -71,7 +71,7 @@ pub fn u64_of(value: &Json<'_>) -> Option<u64>
     }
 }
 
-/// The whole number that a value is.
+/// The whole number that a JSON value is.
 pub fn i64_of(value: &Json<'_>) -> Option<i64>
     ensures { result ≡ option_and_then as_i64 (as_number (value_data value.now)) }
 {
@@ -81,14 +81,14 @@ pub fn i64_of(value: &Json<'_>) -> Option<i64>
     }
 }
 
-/// The text at a key.
+/// The text at a key of a JSON value.
 pub fn text_at<'a>(value: &Json<'a>, key: &str) -> Option<&'a str>
     ensures { option_map (λ s. s.now) result ≡ text_at key.now (value_data value.now) }
 {
     text_of(get(value, key)?)
 }
 
-/// The name at a key.
+/// The name at a key of a JSON value.
 pub fn name_at<'a>(value: &Json<'a>, key: &str) -> Option<&'a str>
     ensures { option_map (λ s. s.now) result ≡ name_at key.now (value_data value.now) }
 {
@@ -98,14 +98,14 @@ pub fn name_at<'a>(value: &Json<'a>, key: &str) -> Option<&'a str>
     }
 }
 
-/// The items of the list at a key.
+/// The items of the list at a key of a JSON value.
 pub fn items_at<'v, 'a>(value: &'v Json<'a>, key: &str) -> Option<&'v Vec<Json<'a>>>
     ensures { option_map (λ v. items_data v.now.items) result ≡ option_and_then as_array (get key.now (value_data value.now)) }
 {
     items_of(get(value, key)?)
 }
 
-/// The name at a key, in memory of its own.
+/// The name at a key of a JSON value, in memory of its own.
 pub fn string_at(alloc: Global, value: &Json<'_>, key: &str) -> Result<Option<String>, AllocError>
     ensures { IfOk result (λ found. option_map string_bytes found ≡ name_at key.now (value_data value.now)) }
 {
@@ -115,7 +115,7 @@ pub fn string_at(alloc: Global, value: &Json<'_>, key: &str) -> Result<Option<St
     }
 }
 
-/// The truth value at a key.
+/// The truth value at a key of a JSON value.
 pub fn bool_at(value: &Json<'_>, key: &str) -> Option<bool>
     ensures { result ≡ bool_at key.now (value_data value.now) }
 {
@@ -138,7 +138,7 @@ pub fn positive_of(value: &Json<'_>) -> Option<u64>
     }
 }
 
-/// Whether the key is there.
+/// Whether a key is there in a JSON value.
 pub fn has(value: &Json<'_>, key: &str) -> bool
     ensures { result ≡ has key.now (value_data value.now) }
 {

@@ -61,7 +61,7 @@ fn policy_command_of(value: &Json<'_>) -> Option<PolicyCommand>
     }
 }
 
-/// What a policy is for, all where it does not say it.
+/// What the policy of a request is for, from a JSON value: all where it does not say it.
 fn command_at(value: &Json<'_>) -> Option<PolicyCommand>
     ensures { result ≡ policy_command_at (value_data value.now) }
 {
@@ -71,7 +71,7 @@ fn command_at(value: &Json<'_>) -> Option<PolicyCommand>
     }
 }
 
-/// Whether a policy is restrictive, which it is not where it does not say it.
+/// Whether the policy of a request is restrictive, from a JSON value: not where it does not say it.
 fn restrictive_at(value: &Json<'_>) -> Option<bool>
     ensures { result ≡ restrictive_at (value_data value.now) }
 {
@@ -91,7 +91,7 @@ fn grantee_of(alloc: Global, value: &Json<'_>) -> Result<Option<Option<String>>,
     }
 }
 
-/// The grantees that a list is, however many.
+/// The grantees of a policy that a JSON list is, however many.
 fn each_grantee(
     alloc: Global,
     items: &[Json<'_>],
@@ -108,7 +108,7 @@ fn each_grantee(
     Ok(Some(grantees))
 }
 
-/// The 1 to 16 grantees that a JSON value is.
+/// The 1 to 16 grantees of a policy that a JSON value is.
 fn grantees_of(alloc: Global, value: &Json<'_>) -> Result<Option<Vec<Option<String>>>, AllocError>
     ensures { IfOk result (λ found. option_map names_of found ≡ grantees_of (value_data value.now)) }
 {
@@ -127,7 +127,7 @@ fn grantees_of(alloc: Global, value: &Json<'_>) -> Result<Option<Vec<Option<Stri
     }
 }
 
-/// PUBLIC alone.
+/// PUBLIC alone, as the grantees of a policy whose request names none.
 fn everyone(alloc: Global) -> Result<Vec<Option<String>>, AllocError>
     ensures { IfOk result (λ v. names_of v ≡ everyone) }
 {
@@ -136,7 +136,7 @@ fn everyone(alloc: Global) -> Result<Vec<Option<String>>, AllocError>
     Ok(everyone)
 }
 
-/// To whom a policy goes, to PUBLIC where it does not say it.
+/// The grantees of the policy of a request, from a JSON value: PUBLIC where it names none.
 fn grantees_at(alloc: Global, value: &Json<'_>) -> Result<Option<Vec<Option<String>>>, AllocError>
     ensures { IfOk result (λ found. option_map names_of found ≡ grantees_at (value_data value.now)) }
 {
@@ -183,7 +183,7 @@ fn scope_at(alloc: Global, value: &Json<'_>) -> Result<Option<Scope>, AllocError
     }
 }
 
-/// The text at a key, none where the key is not there.
+/// The text of a policy at a key of a JSON value, none where the key is not there.
 fn text_if_at(
     alloc: Global,
     value: &Json<'_>,

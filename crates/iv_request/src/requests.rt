@@ -1,4 +1,4 @@
-//! `command_in`, `read_line`: from a line to its command, by the shape rules: which request a JSON value is.
+//! `command_in`, `read_line`: from a line to its command, by the shape rules: which request a JSON value is; `WireFault`: why there is none.
 ghost use Rattle.std.specs.Prelude.{◌≡◌, IfOk, IsErrOf, option_map, true};
 ghost use Rattle.iv_machine.specs.Well.{is_well_command};
 ghost use Rattle.iv_command.specs.Views.{act_of, command_of};
@@ -34,13 +34,13 @@ impl From<AllocError> for WireFault {
 
     ghost from_gives = { λ _ fault. fault ≡ Memory };
 
-    /// Out of memory, as why a line is no command.
+    /// Out of memory, as why no command is read from a line of JSON.
     fn from(_error: AllocError) -> WireFault {
         WireFault::Memory
     }
 }
 
-/// The session's number.
+/// The number of a request's session, from a JSON value.
 fn session_of(value: &Json<'_>) -> Option<u32>
     ensures { result ≡ session_of (value_data value.now) }
 {
@@ -146,7 +146,7 @@ fn unsubscribe_of(value: &Json<'_>) -> Option<Act>
     }
 }
 
-/// What a request of this word asks, once its keys are those of its form.
+/// The request of this word that a JSON value is, once its keys are tested.
 fn act_for(alloc: Global, word: Word, value: &Json<'_>) -> Result<Option<Act>, AllocError>
     ensures { IfOk result (λ act. option_map act_of act ≡ act_for word (value_data value.now)) }
 {
@@ -169,7 +169,7 @@ fn act_for(alloc: Global, word: Word, value: &Json<'_>) -> Result<Option<Act>, A
     }
 }
 
-/// What a request asks.
+/// Which request a JSON value is, by its word at `do` and its keys.
 fn asked_act(alloc: Global, value: &Json<'_>) -> Result<Option<Act>, AllocError>
     ensures { IfOk result (λ act. option_map act_of act ≡ asked_act (value_data value.now)) }
 {
@@ -185,7 +185,7 @@ fn asked_act(alloc: Global, value: &Json<'_>) -> Result<Option<Act>, AllocError>
     }
 }
 
-/// The command that a value is.
+/// The command that a JSON value is: its session, and which request it is.
 fn request_of(alloc: Global, value: &Json<'_>) -> Result<Option<Command>, AllocError>
     ensures { IfOk result (λ found. option_map command_of found ≡ request (value_data value.now)) }
 {
@@ -198,7 +198,7 @@ fn request_of(alloc: Global, value: &Json<'_>) -> Result<Option<Command>, AllocE
     }
 }
 
-/// The JSON value that a line is, its texts borrowed. A line that is no UTF-8 is none.
+/// The JSON value that a line is, from which its command is made. A line that is no UTF-8 is none.
 fn read_value<'a>(
     alloc: Global,
     line: &'a [u8],

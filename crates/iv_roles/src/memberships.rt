@@ -1,4 +1,4 @@
-//! `Memberships`: which roles are direct members of which, and which roles each role reaches.
+//! `Memberships`: which roles are direct members of which, and which roles each reaches, as rows of flags (`flag_at`).
 //!
 //! There are rows for the roles up to the highest that a membership ever named, and none where there was no
 //! membership. `grant_role` sets flags once there is room for them, so want of memory changes no right; `revoke_role`
@@ -34,7 +34,7 @@ impl Model for Membership {
 }
 
 impl Membership {
-    /// Whether it is the membership of these two.
+    /// Whether it is the direct membership of the member in the role.
     fn is(&self, role: RoleId, member: RoleId) -> bool
         ensures { result ≡ membership_eq (member_of role.0 member.0) self.now }
     {
@@ -70,14 +70,14 @@ impl Model for Memberships {
     ghost invariant = { λ m. AreRows m.direct.items m.rows.items };
 }
 
-/// A row without a flag.
+/// The row of a role that reaches no other: no flag is set.
 fn no_flags() -> [bool; 256]
     ensures { (k : ℕ) → get_or result k false ≡ false }
 {
     [false; 256]
 }
 
-/// The flag at a place of a row.
+/// The flag of a role in a row of roles, such as those that another reaches; false behind the row's end.
 pub fn flag_at(row: &[bool], place: usize) -> bool
     ensures { result ≡ get_or row.now place false }
 {
@@ -87,7 +87,7 @@ pub fn flag_at(row: &[bool], place: usize) -> bool
     }
 }
 
-/// Sets the flags of another row, and that of the role whose row it is.
+/// Sets in a role's row the flags of another role's row, and the flag of that other role.
 fn join(row: &mut [bool; 256], other: &[bool; 256], role: usize)
     requires { role < 256 }
     ensures { (k : ℕ) → get_or row.new k false ≡ (get_or row.old k false || (role == k || get_or other.now k false)) }
@@ -108,7 +108,7 @@ fn pass_on(row: &mut [bool; 256], place: usize, member: usize, other: &[bool; 25
     }
 }
 
-/// What reaches the member also reaches what the role reaches.
+/// Sets in all rows what a membership gives: what reaches the member also reaches what the role reaches.
 fn lead(rows: &mut [[bool; 256]], role: usize, member: usize)
     requires wide { role < 256 }
     requires role { role < length rows.old }
@@ -122,7 +122,7 @@ fn lead(rows: &mut [[bool; 256]], role: usize, member: usize)
     }
 }
 
-/// Takes all flags out.
+/// Takes the flags out of all rows: each role reaches itself alone.
 fn clear(rows: &mut [[bool; 256]])
     ensures flags { (a b : ℕ) → leads rows.new a b ≡ (a == b) }
     ensures length { length rows.new ≡ length rows.old }
@@ -132,7 +132,7 @@ fn clear(rows: &mut [[bool; 256]])
     }
 }
 
-/// The rows of the direct memberships.
+/// Makes the row of each role anew from the direct memberships: the flags of the roles that it reaches.
 fn follow(rows: &mut [[bool; 256]], direct: &[Membership])
     requires { All (IsWithin (length rows.old)) direct.now }
     ensures flags { (a b : ℕ) → leads rows.new a b ≡ reaches direct.now a b }
@@ -148,7 +148,7 @@ fn follow(rows: &mut [[bool; 256]], direct: &[Membership])
     }
 }
 
-/// Adds rows without a flag, up to a number of rows. After an error there may be some more.
+/// Adds rows of roles that reach no other, up to a number of rows. After an error there may be some more.
 fn grow(rows: &mut Vec<[bool; 256]>, count: usize) -> Result<(), AllocError>
     ensures flags { (a b : ℕ) → leads rows.new.items a b ≡ leads rows.old.items a b }
     ensures length { length rows.old.items ≤ length rows.new.items }
@@ -182,14 +182,14 @@ impl Memberships {
         }
     }
 
-    /// Whether the role reaches the other: it is the other, or a member of it, directly or through others. It takes no memory.
+    /// Whether the role reaches the other by memberships, through any number of steps, or is the other. It takes no memory.
     pub fn reaches(&self, role: RoleId, other: RoleId) -> bool
         ensures { result ≡ reaches self.now role.0 other.0 }
     {
         flag_at(self.reached(role), other.0 as usize) || role == other
     }
 
-    /// Whether it was granted directly.
+    /// Whether the member is a direct member of the role.
     fn is_direct(&self, role: RoleId, member: RoleId) -> bool
         ensures { result ≡ is_direct self.now (member_of role.0 member.0) }
     {
@@ -198,7 +198,7 @@ impl Memberships {
             .any(|membership| membership.is(role, member))
     }
 
-    /// The member becomes a member of the role. After an error nothing has changed.
+    /// Makes the member a direct member of the role. After an error nothing has changed.
     ///
     /// # Errors
     /// `AllocError` where a growth of memory was refused.

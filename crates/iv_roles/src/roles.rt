@@ -43,14 +43,14 @@ impl Roles {
         self.names.len()
     }
 
-    /// The number of the next role.
+    /// The number of the role that is added next.
     pub fn next(&self) -> RoleId
         ensures { result.0 ≡ length self.now }
     {
         RoleId(self.names.len() as u32)
     }
 
-    /// The role of a name. It takes no memory.
+    /// The number of the role of a name, if there is one. It takes no memory.
     pub fn number(&self, name: &str) -> Option<RoleId>
         ensures place { option_map (λ r. r.0) result ≡ position (bytes_eq name.now) self.now }
         ensures within { IfSome result (λ r. r.0 < 256) }
@@ -61,7 +61,7 @@ impl Roles {
         }
     }
 
-    /// The name of a role. It takes no memory.
+    /// The name of the role of a number, if there is one. It takes no memory.
     pub fn name(&self, role: RoleId) -> Option<&str>
         ensures { option_map (λ n. n.now) result ≡ slice_get self.now role.0 }
     {

@@ -29,14 +29,14 @@ fn begins_well(bytes: &[u8]) -> bool
     is_first(bytes[0])
 }
 
-/// Whether the text is the word. Most words differ in their length.
+/// Whether the text is this reserved word, which is never a name. Most words differ in their length.
 fn is_word(word: &str, text: &str) -> bool
     ensures { result ≡ bytes_eq word.now text.now }
 {
     word.len() == text.len() && word == text
 }
 
-/// Whether the text is one of the words.
+/// Whether the text is one of these reserved words, which are never names.
 fn is_one_of(words: &[&str], text: &str) -> bool
     ensures { result ≡ list_any (λ word. bytes_eq word.now text.now) words.now }
 {
@@ -84,7 +84,7 @@ fn are_further(bytes: &[u8]) -> bool
     bytes.iter().all(|byte| is_further(*byte))
 }
 
-/// Whether there are at most 63 bytes.
+/// Whether there are at most 63 bytes, as in a name.
 fn is_short(bytes: &[u8]) -> bool
     ensures { result ≡ nat_le (length bytes.now) 63 }
 {

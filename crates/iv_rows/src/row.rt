@@ -1,4 +1,4 @@
-//! `Row`: values that its copies share; how rows are compared, ordered and hashed.
+//! `Row`: values that its copies share; how rows are compared and ordered, and what of them a hasher is fed.
 //!
 //! A row never changes, so a copy of it shares its values: a row stands in memory once, however many tables, totals,
 //! indexes and lines have it. Comparisons of a row are written by hand over those that are derived for `Value`: a derive on a
@@ -50,7 +50,7 @@ impl Row {
         Ok(Row(values))
     }
 
-    /// The values of the columns, from the left.
+    /// The values of the row's columns, from the left.
     pub fn values(&self) -> &[Value]
         ensures { cells_of result.now ≡ self.now }
     {
@@ -72,7 +72,7 @@ impl Row {
         Ok(Row(self.0.clone()?))
     }
 
-    /// Equal values in memory of the same allocator, with room for so many more.
+    /// Values equal to the row's, in memory of the same allocator, with room for so many more.
     ///
     /// # Errors
     /// `AllocError` where a growth of memory was refused.
@@ -101,7 +101,7 @@ impl Row {
     }
 }
 
-/// Appends equal values, in their order.
+/// Appends values equal to a row's, in their order.
 fn copy_values(values: &[Value], copies: &mut Vec<Value>) -> Result<(), AllocError>
     ensures { OnOk result (cells_of copies.new.items ≡ cells_of copies.old.items ++ cells_of values.now) }
 {
@@ -111,14 +111,14 @@ fn copy_values(values: &[Value], copies: &mut Vec<Value>) -> Result<(), AllocErr
     Ok(())
 }
 
-/// Whether a table may hold all the values.
+/// Whether a table may hold all the values of a row.
 fn are_well(values: &[Value]) -> bool
     ensures { result ≡ list_all (λ v. is_well_cell (cell_of v)) values.now }
 {
     values.iter().all(Value::well)
 }
 
-/// Whether the values are equal, column by column. std's comparison of slices takes twice the instructions.
+/// Whether the values of two rows are equal, column by column. std's comparison of slices takes twice the instructions.
 fn are_equal(left: &[Value], right: &[Value]) -> bool
     ensures { result ≡ row_eq (cells_of left.now) (cells_of right.now) }
 {
@@ -174,7 +174,7 @@ impl Ord for Row {
     }
 }
 
-/// Feeds a hasher the number of a text's bytes, and the bytes.
+/// Feeds a hasher a text of a row: the number of its bytes, and the bytes.
 fn feed_text<H: Hasher>(bytes: &[u8], state: &mut H)
     ensures { state.new ≡ fold H.write state.old (text_fed bytes.now) }
 {
@@ -182,7 +182,7 @@ fn feed_text<H: Hasher>(bytes: &[u8], state: &mut H)
     state.write(bytes);
 }
 
-/// Feeds a hasher a value.
+/// Feeds a hasher a value of a row.
 fn feed<H: Hasher>(value: &Value, state: &mut H)
     ensures { state.new ≡ fold H.write state.old (cell_fed (cell_of value.now)) }
 {
@@ -193,7 +193,7 @@ fn feed<H: Hasher>(value: &Value, state: &mut H)
     }
 }
 
-/// Feeds a hasher the values, in their order.
+/// Feeds a hasher the values of a row, in their order.
 fn feed_all<H: Hasher>(values: &[Value], state: &mut H)
     ensures { state.new ≡ fold H.write state.old (row_fed (cells_of values.now)) }
 {

@@ -62,7 +62,7 @@ impl Schema {
         Schema { columns }
     }
 
-    /// The same columns.
+    /// The same schema: equal columns in their order.
     ///
     /// # Errors
     /// `AllocError` where a growth of memory was refused.
@@ -79,7 +79,7 @@ impl Schema {
         Ok(Schema { columns })
     }
 
-    /// The columns, from the left.
+    /// The columns of the schema, from the left.
     pub fn columns(&self) -> &[Column]
         ensures columns { result.now ≡ self.now }
         ensures schema { (has_columns self.now && has_distinct_names self.now) ≡ true }
@@ -87,7 +87,7 @@ impl Schema {
         &self.columns
     }
 
-    /// Whether the row has as many values as there are columns, each of its column's kind.
+    /// Whether the row fits the schema: as many values as columns, each of its column's kind.
     pub fn accepts(&self, row: &Row) -> bool
         ensures { result ≡ accepts (kinds_of self.now) row.now }
     {
@@ -104,7 +104,7 @@ pub fn columns_ok(columns: &[Column]) -> bool
     has_columns(columns) && are_distinct(columns)
 }
 
-/// Whether each value is of its column's kind, and there are as many.
+/// Whether a row's values fit the columns of a schema: as many, each of its column's kind.
 fn are_of(columns: &[Column], values: &[Value]) -> bool
     ensures { result ≡ accepts (kinds_of columns.now) (cells_of values.now) }
 {
@@ -120,14 +120,14 @@ fn are_of(columns: &[Column], values: &[Value]) -> bool
     true
 }
 
-/// Whether there are 1 to 16 columns.
+/// Whether there are 1 to 16 columns, as a schema has.
 fn is_wide(columns: &[Column]) -> bool
     ensures { result ≡ is_wide columns.now }
 {
     1 <= columns.len() && columns.len() <= 16
 }
 
-/// Whether there are 1 to 16 columns, each with a name.
+/// Whether there are 1 to 16 columns, each with a name, as a schema has.
 fn has_columns(columns: &[Column]) -> bool
     ensures { result ≡ has_columns columns.now }
 {
@@ -137,21 +137,21 @@ fn has_columns(columns: &[Column]) -> bool
     are_named(columns)
 }
 
-/// Whether each column's name is one.
+/// Whether each column's name is one, as those of a schema are.
 fn are_named(columns: &[Column]) -> bool
     ensures { result ≡ list_all (λ c. is_name c.name) columns.now }
 {
     columns.iter().all(|column| name_ok(column.name.as_str()))
 }
 
-/// Whether a column has the name.
+/// Whether one of these columns of a schema has the name.
 fn has_name(columns: &[Column], name: &str) -> bool
     ensures { result ≡ list_any (λ c. bytes_eq name.now c.name) columns.now }
 {
     columns.iter().any(|column| name == column.name.as_str())
 }
 
-/// Whether no two columns have one name.
+/// Whether no two columns have one name, as in a schema.
 fn are_distinct(columns: &[Column]) -> bool
     ensures { result ≡ has_distinct_names columns.now }
 {

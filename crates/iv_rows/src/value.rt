@@ -70,14 +70,14 @@ impl Value {
     }
 }
 
-/// Whether the text has at most 1,024 bytes.
+/// Whether the text has at most 1,024 bytes, as one that a table may hold.
 fn is_short(text: &str) -> bool
     ensures { result ≡ nat_le (length text.now) 1024 }
 {
     text.len() <= 1024
 }
 
-/// Whether the text has U+0000.
+/// Whether the text has U+0000, which no table may hold.
 fn has_zero(text: &str) -> bool
     ensures { result ≡ list_any (λ b. b == 0) text.now }
 {

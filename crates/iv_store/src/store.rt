@@ -45,7 +45,7 @@ impl Model for Store {
 }
 
 impl Store {
-    /// One role, `admin`, and nothing else. Rows will be hashed under the seed.
+    /// The store of a new engine: one role, `admin`, and nothing else. Rows will be hashed under the seed.
     pub fn new(alloc: Global, seed: Seed, cap: usize) -> Result<Store, AllocError>
         requires { IsRowLimit cap }
         ensures start { IfOk result (λ store. IsBehind (start cap) (seen store)) }

@@ -1,4 +1,4 @@
-//! `Subscription`: their order; `subscribe`, `unsubscribe`, and `finish`, which closes a session.
+//! `Subscription`: their order; `subscribe`, `unsubscribe`, `finish`, which closes a session, and `close_all`.
 //!
 //! Nothing is sent for what these close.
 ghost use Rattle.std.specs.Prelude.{◌≡◌, [], ◌==◌, ◌≤◌, map, length, IfOk, OnOk, None, count_by, ◌<◌, true, ◌||◌, ◌+◌, ◌^◌, nat_le, string_bytes};
@@ -89,7 +89,7 @@ pub(crate) fn count_of(subscriptions: &[Subscription], session: u32) -> usize
 }
 
 impl Store {
-    /// The role that reads a subscription.
+    /// The role that reads a subscription: the one that acts in its session.
     pub(crate) fn reader(&self, subscription: &Subscription) -> RoleId
         requires { is_open (frame_of self.now) subscription.now.session ≡ true }
         ensures { result.0 ≡ actor (frame_of self.now) subscription.now.session }
@@ -112,7 +112,7 @@ impl Store {
         count_of(&self.subscriptions, session) >= MOST_SUBSCRIPTIONS || self.last >= LAST_NUMBER
     }
 
-    /// The relation of the name, where all tests pass that look at no row.
+    /// The relation of the name, where all tests of a subscription to it pass that look at no row.
     fn check_subscribe(&self, session: u32, rel: &str) -> Result<RelId, Stop>
         requires { IsStored self.now }
         ensures { MayOpen self.now session rel.now result }
@@ -131,7 +131,7 @@ impl Store {
         Ok(number)
     }
 
-    /// Adds a subscription that reads the circuit, and says what it shows.
+    /// Adds a subscription that reads the circuit to the open ones, and says what it shows.
     fn open(&mut self, subscription: Subscription, place: usize) -> Result<Vec<Line>, AllocError>
         requires { place < length self.old.circuits }
         ensures lines { IfOk result (λ lines. AreFirstLines subscription (total_at self.old place) (map line_of lines.items)) }

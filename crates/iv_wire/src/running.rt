@@ -30,7 +30,7 @@ use iv_request::{WireFault, command_in};
 use json::Scratch;
 use std::alloc::{AllocError, Global};
 
-/// The text of the lines that answer a command, in the memory of a text that was sent.
+/// Answers a command through the engine, by the text of its lines, in the memory of a text that was sent.
 fn answer_command(
     alloc: Global,
     engine: &mut Engine,
