@@ -26,6 +26,6 @@ pub use group::group as group_rows;
 pub use iv_zset::LimitFault as AlgFault;
 pub use laws::{copies_are_counted, operators_count_rows, results_depend_on_counts};
 pub use plan::{Agg, Plan};
-pub use pred::{Comparison, Operand, Pred};
+pub use pred::{Comparison, Operand, Pred, kind_of};
 pub use rows::{joined_row, picked, rows_match};
 pub use tables::Tables;

@@ -5,16 +5,16 @@
 
 ghost use Rattle.std.specs.Prelude.{◌≡◌, ◌==◌, ◌<◌, ◌∷◌, length, drop, slice_index, IfOk, IsTrue, option_map, string_bytes};
 ghost use Rattle.std.specs.Char.{is_ascii_digit};
-ghost use Rattle.std.specs.List.{list_any, prefix_len};
+ghost use Rattle.std.specs.List.{prefix_len};
 ghost use Rattle.iv_rows.specs.Texts.{is_well_text};
 ghost use Rattle.iv_query.specs.Tokens.{tok_of};
 ghost use Rattle.iv_query.specs.Lexing.{is_blank, is_letter, is_word_byte, starts_letter, starts_digit, ahead_of, word_symbol, word_token, word_at, sign_at, number_at, negative_at, minus_at, is_plain, after_quote, quoted, text_at, ahead};
 ghost use Rattle.iv_query.specs.TextReading.{lexed, tokens_lexed};
 
 use crate::fault::{Fault, Why};
-use crate::limits::{VALUE_BYTES, WORD_BYTES};
+use crate::limits::WORD_BYTES;
 use crate::token::{Lexeme, Symbol, Token};
-use iv_rows::name_ok;
+use iv_rows::{is_well_text, name_ok};
 use std::alloc::{AllocError, Global};
 
 /// What stands in front of a text, and what stands behind it.
@@ -240,23 +240,6 @@ fn quoted(alloc: Global, text: &str) -> Result<Option<(String, &str)>, AllocErro
         value.push_str("'")?;
         rest = next;
     }
-}
-
-/// Whether the character U+0000 stands in the value of a quoted text.
-fn has_zero(text: &str) -> bool
-    ensures { result ≡ list_any (λ b. b == 0) text.now }
-{
-    text.as_bytes().iter().any(|b| *b == 0)
-}
-
-/// Whether a table may hold the value of a quoted text: at most 1,024 bytes, and no U+0000.
-fn is_well_text(text: &str) -> bool
-    ensures { result ≡ is_well_text text.now }
-{
-    if text.len() > VALUE_BYTES {
-        return false;
-    }
-    !has_zero(text)
 }
 
 /// The token of a quoted text, where `text` begins behind its first quote.

@@ -6,9 +6,6 @@ pub const TEXT_BYTES: usize = 4_096;
 /// Bytes of a word.
 pub const WORD_BYTES: usize = 63;
 
-/// Bytes of a quoted text's value.
-pub const VALUE_BYTES: usize = 1_024;
-
 /// Words `not` and signs `(` that are open at once.
 pub const NESTING: usize = 32;
 

@@ -9,6 +9,6 @@ mod value;
 
 pub use boxes::{boxed, boxed_both, boxed_two};
 pub use name::name_ok;
-pub use row::Row;
+pub use row::{Row, copy_values};
 pub use schema::{Column, RelId, Schema, columns_ok};
-pub use value::{Kind, Value};
+pub use value::{Kind, Value, is_well_text};

@@ -102,7 +102,7 @@ impl Row {
 }
 
 /// Appends values equal to a row's, in their order.
-fn copy_values(values: &[Value], copies: &mut Vec<Value>) -> Result<(), AllocError>
+pub fn copy_values(values: &[Value], copies: &mut Vec<Value>) -> Result<(), AllocError>
     ensures { OnOk result (cells_of copies.new.items ≡ cells_of copies.old.items ++ cells_of values.now) }
 {
     for value in values {

@@ -85,7 +85,7 @@ fn has_zero(text: &str) -> bool
 }
 
 /// Whether a table may hold the text.
-fn is_well_text(text: &str) -> bool
+pub fn is_well_text(text: &str) -> bool
     ensures { result ≡ is_well_text text.now }
 {
     if !is_short(text) {
