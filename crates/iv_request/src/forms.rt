@@ -34,8 +34,8 @@ pub enum Word {
 pub struct Form {
     pub word: Word,
     text: &'static str,
-    required: &'static [&'static str],
-    optional: &'static [&'static str],
+    pub required: &'static [&'static str],
+    pub optional: &'static [&'static str],
 }
 
 /// The forms: of writes first, since most requests are writes, and of the others in the order of docs/PROTOCOL.md.
