@@ -1,3 +1,3 @@
 pub mod Message
-pub mod Told
+pub mod Seen
 pub mod Worked

@@ -1,10 +1,11 @@
 -- What a client says: one JSON object, a request as viewd has it but for the session, with an `id` if it likes.
-use Rattle.std.specs.Prelude.{ℕ, suc, ◌==◌, ◌++◌, Bool, true, false, not, List, [], ◌∷◌, map, codes, length, nat_le, nat_lt, bytes_eq, find, is_some, Option, Some, None, option_map, option_and_then, unwrap_or, if◌then◌else◌}
+use Rattle.std.specs.Prelude.{ℕ, suc, ◌==◌, ◌++◌, Bool, true, false, not, List, [], ◌∷◌, map, codes, length, nat_le, nat_lt, bytes_eq, find, is_some, Option, Some, None, option_map, option_and_then, unwrap_or, Result, Ok, Err, if◌then◌else◌}
 use Rattle.iv_access.specs.declared.policy.PolicyCommand.{PolicyCommand}
 use Rattle.iv_machine.specs.Act.{Act}
 use Rattle.iv_machine.specs.Well.{has_texts}
-use Rattle.serde_json.specs.Data.{Data, null, boolean, number, string, array, object, Items, no_items, item, Members, no_members, member, put}
-use Rattle.serde_json.specs.Find.{get, as_array, as_object, is_float}
+use Rattle.serde_json.specs.Data.{Data, null, boolean, number, string, array, object, Items, no_items, item, Members, no_members, member}
+use Rattle.serde_json.specs.Find.{get, as_array, as_object, as_integer}
+use Rattle.iv_command.specs.RowTexts.{whole}
 use Rattle.iv_request.specs.Forms.{Form, form_of, has, is_among}
 use Rattle.iv_request.specs.Reading.{value_of}
 use Rattle.iv_request.specs.Request.{passing, text_at, name_at, bool_at, positive_of, columns_at, privileges_at, grantee_at, group_at, restrictive_at, policy_command_at, grantees_at, text_if_at, entry_of, entries_at, act_for}
@@ -37,18 +38,18 @@ most_bytes = 65536
 
 -- ---- the id
 
--- a whole number of 64 bits, or a text of at most 64 bytes
-abbrev pub is_id : Data → Bool
-is_id null = false
-is_id (boolean b) = false
-is_id (number n) = not (is_float n)
-is_id (string s) = nat_le (length s) 64
-is_id (array ds) = false
-is_id (object ms) = false
+-- the id that a value is: a whole number of 64 bits, or a text of at most 64 bytes
+abbrev pub id_in : Data → Option Data
+id_in null = None
+id_in (boolean b) = None
+id_in (number n) = option_map whole (as_integer n)
+id_in (string s) = if nat_le (length s) 64 then Some (string s) else None
+id_in (array ds) = None
+id_in (object ms) = None
 
--- what is given back in the reply: nothing where there is no id, or the value there is none
+-- what is given back in the reply: nothing where no id is there, or the value is none
 abbrev pub id_of : Data → Option Data
-id_of d = option_and_then (passing is_id) (get (codes "id") d)
+id_of d = option_and_then id_in (get (codes "id") d)
 
 -- ---- the form
 
@@ -118,9 +119,13 @@ passes w key d = is_some (name_at key d)
 abbrev pub do_fault : Data → Why
 do_fault d = if has (codes "do") d then wrong (codes "do") None else missing (codes "do")
 
+abbrev pub is_good_id : Option Data → Bool
+is_good_id None = true
+is_good_id (Some d) = is_some (id_in d)
+
 -- there is an id, and it is none
 abbrev pub id_fault : Data → Option Why
-id_fault d = if has (codes "id") d then (if is_some (id_of d) then None else Some (wrong (codes "id") None)) else None
+id_fault d = if is_good_id (get (codes "id") d) then None else Some (wrong (codes "id") None)
 
 -- a key that the form requires is not there, in the order of the form
 abbrev pub missing_in : Form → Data → Option Why
@@ -156,25 +161,33 @@ abbrev pub first_of : Option Why → Option Why → Option Why
 first_of None more = more
 first_of (Some why) more = Some why
 
--- why the keys of the form are not those of the object
+-- why the keys are not those of the form
 abbrev pub keys_fault : Form → Data → Option Why
 keys_fault f d = first_of (id_fault d) (first_of (missing_in f d) (unknown_in f d))
 
-abbrev pub by_act : Form → Data → Option Act → Message
-by_act f d None = no_request (id_of d) (wrong_in f d)
-by_act f d (Some act) = request (id_of d) act
+abbrev pub by_act : Form → Data → Option Act → Result Act Why
+by_act f d None = Err (wrong_in f d)
+by_act f d (Some act) = Ok act
 
-abbrev pub by_keys : Form → Data → Option Why → Message
+abbrev pub by_keys : Form → Data → Option Why → Result Act Why
 by_keys f d None = by_act f d (act_for f.word d)
-by_keys f d (Some why) = no_request (id_of d) why
+by_keys f d (Some why) = Err why
 
-abbrev pub by_form : Data → Option Form → Message
-by_form d None = no_request (id_of d) (do_fault d)
+abbrev pub by_form : Data → Option Form → Result Act Why
+by_form d None = Err (do_fault d)
 by_form d (Some f) = by_keys f d (keys_fault f d)
+
+-- what an object asks, or why it is no request
+abbrev pub asked : Data → Result Act Why
+asked d = by_form d (clients_form d)
+
+abbrev pub with_its_id : Option Data → Result Act Why → Message
+with_its_id id (Ok act) = request id act
+with_its_id id (Err why) = no_request id why
 
 abbrev pub message_of_value : Option Data → Message
 message_of_value None = no_json
-message_of_value (Some d) = if is_some (as_object d) then by_form d (clients_form d) else no_object
+message_of_value (Some d) = if is_some (as_object d) then with_its_id (id_of d) (asked d) else no_object
 
 abbrev pub message_of : List ℕ → Message
 message_of text = if nat_lt most_bytes (length text) then too_long else message_of_value (value_of (on_one_line text))
