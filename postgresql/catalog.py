@@ -20,8 +20,9 @@ Connection = psycopg2.extensions.connection
 SETTINGS = ("-c search_path=pg_catalog -c datestyle=ISO,YMD -c timezone=UTC -c intervalstyle=postgres -c row_security=off "
             "-c standard_conforming_strings=on -c quote_all_identifiers=off -c lock_timeout=1s")
 TRIES = 5
-FROM_16 = {"inherits": "m.inherit_option"}  # a membership says itself whether it gives what the role has
-TO_15 = {"inherits": "(select rolinherit from pg_roles where oid = m.member)"}
+FROM_16 = {"inherits": "m.inherit_option", "owner_inherits": "true"}  # a membership says itself whether it gives what the role has
+TO_15 = {"inherits": "(select rolinherit from pg_roles where oid = m.member)",
+         "owner_inherits": "(select rolinherit from pg_roles where oid = d.datdba)"}
 COLLATION = {15: "case datlocprovider when 'c' then datcollate else 'icu' end",
              17: "case datlocprovider when 'c' then datcollate when 'b' then case datlocale when 'C.UTF-8' then 'C' else datlocale end else 'icu' end"}
 RELATIONS = """
@@ -34,6 +35,7 @@ with used as (
     select oid, rolname from pg_roles where rolname !~ '^pg_'
     union select r.oid, r.rolname from pg_roles r join pg_auth_members m on m.roleid = r.oid
     union select oid, rolname from pg_roles where rolname = 'pg_database_owner'
+    union select r.oid, r.rolname from pg_roles r join pg_class c on c.relowner = r.oid where c.oid = any (%(oids)s::oid[])
 ), chosen as (
     select c.* from pg_class c where c.oid = any (%(oids)s::oid[])
 ), usage as (
@@ -83,10 +85,10 @@ select jsonb_build_object(
                   select m.roleid::bigint, m.member::bigint from pg_auth_members m where {inherits}
                   -- nothing is stored of this one
                   union select r.oid::bigint, d.datdba::bigint from pg_roles r, pg_database d
-                        where r.rolname = 'pg_database_owner' and d.datname = current_database()) e(role, member)),
+                        where r.rolname = 'pg_database_owner' and d.datname = current_database() and {owner_inherits}) e(role, member)),
     'collation', (select {collation} from pg_database where datname = current_database()),
     'server', jsonb_build_object('version', current_setting('server_version_num')::int, 'wal_level', current_setting('wal_level'),
-        'user', current_user, 'replication', (select rolreplication or rolsuper from pg_roles where rolname = current_user),
+        'user', current_user, 'encoding', current_setting('server_encoding'), 'replication', (select rolreplication or rolsuper from pg_roles where rolname = current_user),
         'publication', exists (select from pg_publication where pubname = %(publication)s)))
 """
 MARK = """
@@ -173,6 +175,7 @@ class Server:
     version: int
     wal_level: str
     user: str
+    encoding: str
     replication: bool  # the bridge's own role may follow the log
     publication: bool
 

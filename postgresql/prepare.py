@@ -13,15 +13,12 @@ def missing(state: State, settings: Settings) -> list[str]:
         found.append(f"ALTER ROLE {identifier(server.user)} REPLICATION;")
     for it in state.made.values():
         found += [sql for sql in it.sql if sql not in found]
-    return found + publication(state, settings.publication)
-
-
-def publication(state: State, name: str) -> list[str]:
-    tables = [state.catalog.relations[oid] for oid, it in state.made.items() if oid in state.catalog.relations and state.catalog.relations[oid].kind == "r"]
-    absent = [it.sql for it in tables if not it.published and it.persistence == "p" and not it.parts]
-    if not state.catalog.server.publication:
-        return [f"CREATE PUBLICATION {identifier(name)} FOR TABLE {', '.join(absent)};"] if absent else []
-    return [f"ALTER PUBLICATION {identifier(name)} ADD TABLE {it};  -- where it is there in part, DROP TABLE it first" for it in absent]
+    tables = [state.catalog.relations[oid] for oid, it in state.made.items() if it.request and it.request["do"] == "create_table"]
+    found += [f"ALTER TABLE {it.sql} REPLICA IDENTITY FULL;" for it in tables if it.identity != "f"]
+    absent = [it.sql for it in tables if not it.published]
+    if absent and not server.publication:
+        return [*found, f"CREATE PUBLICATION {identifier(settings.publication)} FOR TABLE {', '.join(absent)};"]
+    return found + [f"ALTER PUBLICATION {identifier(settings.publication)} ADD TABLE {it};  -- where it is there in part, DROP TABLE it first" for it in absent]
 
 
 def identifier(name: str) -> str:

@@ -89,7 +89,7 @@ def columns_of(rel: Relation, chosen: list[str] | None, made: Made) -> None:
 def collated(rel: Relation, column: str) -> str:
     """The statement that gives a column of text the order of its bytes. Its type is kept by the format."""
     kind = next((it.type for it in rel.columns if it.name == column), "text")
-    return f'ALTER TABLE {rel.sql} ALTER COLUMN {column} TYPE {kind} COLLATE "C";'
+    return f'ALTER TABLE {rel.sql} ALTER COLUMN {column} TYPE {kind} COLLATE "C";  -- policies and views that name it have to be dropped before, and made again'
 
 
 def table(rel: Relation, made: Made, chosen: list[str] | None, roles: Names, user: str) -> None:
@@ -106,7 +106,6 @@ def table(rel: Relation, made: Made, chosen: list[str] | None, roles: Names, use
         made.sql.append(f"ALTER ROLE {user} BYPASSRLS;")
     if rel.identity != "f":
         made.missing.append(f"its deleted rows are not replicated whole: say ALTER TABLE {rel.sql} REPLICA IDENTITY FULL")
-        made.sql.append(f"ALTER TABLE {rel.sql} REPLICA IDENTITY FULL;")
     if not rel.published:
         made.missing.append("the publication has it not, or not whole (a row filter, a list of columns, not all of insert, update, delete, truncate)")
     if not made.faults:

@@ -12,6 +12,7 @@ from translate import Words, policy
 ROLES, POLICIES, TO = 255, 32, 16  # viewd's limits: roles beside admin, policies of a table, roles of a policy
 NO_NAME = "its name is none of viewd's: nobody can be it; its members have what it has"
 NOT_BOUND = "policies do not bind it (SUPERUSER or BYPASSRLS), and viewd has no such role: nobody can be it"
+NO_USERS = "policies do not bind it (SUPERUSER or BYPASSRLS), and viewd has no such users: nobody can be one"
 NO_USER = "nobody can be it: with [users] sessions are those of users"
 
 
@@ -66,7 +67,7 @@ def with_users(catalog: Catalog, users: Users, names: Names, found: Rights) -> N
     """Users are roles of viewd's own, members of the role in which the application connects."""
     role = next((oid for oid, it in catalog.roles.items() if it.name == users.role), None)
     if users.role and (role is None or catalog.roles[role].super or catalog.roles[role].bypass):
-        found.left_out[f"role {users.role}"] = "there is no such role" if role is None else NOT_BOUND.replace("it", "its users")
+        found.left_out[f"role {users.role}"] = "there is no such role" if role is None else NO_USERS
         return
     for user in users.names if role is not None else ():
         if user in found.roles:
@@ -79,7 +80,7 @@ def with_users(catalog: Catalog, users: Users, names: Names, found: Rights) -> N
 
 def selecting(catalog: Catalog, rel: Relation, reached: Callable[[int], set[int]]) -> set[int]:
     """Who is granted `select`: viewd has no schemas, so who has USAGE and SELECT, by whatever way, has both as one grant."""
-    usage, select = set(rel.usage), set(rel.select)
+    usage, select = set(rel.usage), set(rel.select) & {0, *catalog.roles}  # PostgreSQL's own roles without members are nobody
     everyone = [oid for oid, it in catalog.roles.items() if it.name == "pg_read_all_data"]
     usage |= set(everyone)
     select |= set(everyone)
@@ -117,7 +118,7 @@ def policies(it: Policy, made: Made, words: Words, names: Names) -> list[Request
     """One for each 16 roles: each role is bound by one of them."""
     if it.text is None:
         raise Refused("")
-    using, to, found = policy(it.text, made.columns, words), [names[role] for role in it.roles], []
+    using, to, found = policy(it.text, made.columns, words), [names[role] for role in it.roles if role in names.names], []
     for part in range(0, len(to), TO):
         name = it.name if name_ok(it.name) and part == 0 and not it.name.startswith("viewd_") else f"viewd_policy_{it.oid}_{part}"
         found.append({"do": "create_policy", "on": made.name, "name": name, "restrictive": it.restrictive, "command": "select",

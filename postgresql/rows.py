@@ -24,7 +24,7 @@ def hold(connection: Connection, rel: Relation, made: Made, most: int) -> None:
             try:
                 made.rows[row(made, found)] += 1
             except Refused as why:
-                bad, example = bad + 1, str(why)
+                bad, example = bad + 1, example or str(why)
             if len(made.rows) > most:
                 raise Refused(f"viewd cannot hold its rows: there are more than {most:,} different ones")
     if bad:

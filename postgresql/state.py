@@ -8,7 +8,10 @@ from predicate import Refused
 from relations import Made, Request, close, tables, views, words_of
 from rights import NOT_BOUND, ROLES, Rights, guarded, rights
 from rows import hold, writes
-from settings import Settings, Wrong
+from settings import Settings, Users, Wrong
+
+ANSWERS = """select distinct format_type(p.prorettype, null) from pg_proc p join pg_namespace n on n.oid = p.pronamespace
+             where n.nspname || '.' || p.proname = %(name)s"""
 
 
 @dataclasses.dataclass
@@ -43,24 +46,44 @@ class State:
 
 
 def named(connection: Connection, settings: Settings) -> dict[int, str]:
-    """viewd's names of relations, by oid. Raises Wrong where one that is named is not there."""
-    if settings.relations is not None:
-        names = {}
-        for name, text in settings.relations.items():
-            oid = asked(connection, "select to_regclass(%(text)s)::oid::bigint", {"text": text})[0][0]
-            if oid is None:
-                raise Wrong(f"[relations] {name}: there is no relation {text}")
-            names[int(oid)] = name
-        return names
-    found = asked(connection, RELATIONS)
-    often = [it[2] for it in found]
-    return {oid: name if often.count(name) == 1 else f"{schema}_{name}" for oid, schema, name, _ in found}
+    """viewd's names of relations, by oid. Raises Wrong where one that is named is not there, or two are one."""
+    found: list[tuple[int, str]] = []
+    if settings.relations is None:
+        there = asked(connection, RELATIONS)
+        often = [it[2] for it in there]
+        found = [(oid, name if often.count(name) == 1 else f"{schema}_{name}") for oid, schema, name, _ in there]
+    for name, text in (settings.relations or {}).items():
+        oid = asked(connection, "select to_regclass(%(text)s)::oid::bigint", {"text": text})[0][0]
+        if oid is None:
+            raise Wrong(f"[relations] {name}: there is no relation {text}")
+        found.append((oid, name))
+    for place, one in enumerate(("oid", "name")):
+        if len({it[place] for it in found}) < len(found):
+            raise Wrong(f"two relations have one {one}: name them in [relations]")
+    if unknown := set(settings.columns) - {name for _, name in found}:
+        raise Wrong(f"[columns] {min(unknown)}: there is no such relation")
+    return dict(found)
+
+
+def check_calls(connection: Connection, users: Users) -> None:
+    """viewd's users are texts, and so is what tells who the user is. Raises Wrong."""
+    for call in users.calls:
+        name = call.split("(")[0]
+        of = name if "." in name else f"pg_catalog.{name}"
+        kinds = {str(it[0]) for it in asked(connection, ANSWERS, {"name": of})}
+        if not kinds <= {"text", "character varying", "name"} or not kinds:
+            raise Wrong(f"[users] {call} answers {', '.join(sorted(kinds)) or 'nothing: there is no such function'}; viewd's users are texts")
 
 
 def state(connection: Connection, settings: Settings, most: int) -> State:
     """Raises Wrong, psycopg2.Error."""
+    check_calls(connection, settings.users)
     names = named(connection, settings)
     catalog = read(connection, list(names), settings.publication)
+    if catalog.server.encoding != "UTF8":
+        raise Wrong(f"the database's encoding is {catalog.server.encoding}: viewd orders texts by the bytes of UTF8")
+    if of_views := [name for oid, name in names.items() if name in settings.columns and oid in catalog.relations and catalog.relations[oid].kind != "r"]:
+        raise Wrong(f"[columns] {of_views[0]}: it is no table")
     words = words_of(catalog, settings.users.calls)
     made = tables(catalog, names, settings.columns)
     for oid, it in made.items():

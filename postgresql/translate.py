@@ -344,5 +344,8 @@ class Reader:
 
 def policy(expression: str, columns: Mapping[str, Column], words: Words) -> str:
     """The text for `using`: true exactly where the expression is true. Raises Refused."""
-    statement = parsed(f"select where {expression}")
-    return fit(written(Reader(columns, words, True).says(statement.whereClause, True)))
+    try:
+        statement = parsed(f"select where {expression}")
+        return fit(written(Reader(columns, words, True).says(statement.whereClause, True)))
+    except RecursionError:
+        raise Refused("it is nested too deep") from None

@@ -54,7 +54,10 @@ class ViewReader(Reader):
 
 def view(query: str, relations: Relations, words: Words) -> View:
     """The query for `create_view`, with the columns that PostgreSQL's view has. Raises Refused."""
-    made = _query(parsed(query), relations, words)
+    try:
+        made = _query(parsed(query), relations, words)
+    except RecursionError:
+        raise Refused("it is nested too deep") from None
     names = list(halves(made.columns))
     for name in names:
         if not name_ok(name):
@@ -226,7 +229,10 @@ def _select(node: Node, relations: Relations, words: Words) -> View:
             raise Refused("DISTINCT ON")
         distinct = "distinct "
     if node.groupClause:
-        text += " group by " + ", ".join(_keys(node.groupClause, reader))
+        keys = _keys(node.groupClause, reader)
+        if alone := [it for it in items if "(" not in it and it.split(" as ")[0] not in keys]:
+            raise Refused(f"{alone[0].split(' as ')[0]} is shown and not in GROUP BY")
+        text += " group by " + ", ".join(keys)
     elif aggregates:
         raise Refused("sum or count without GROUP BY")
     steps = sum(it.steps + 1 for it in tables.sources.values()) + 4

@@ -8,6 +8,7 @@ from collections import Counter
 from typing import Any
 
 import psycopg2
+import psycopg2.errors
 import psycopg2.extensions
 
 TOP = pathlib.Path(__file__).resolve().parent.parent.parent
@@ -21,6 +22,7 @@ create role ann; create role bob; create role eve; create role team; create role
 create collation public."C" (provider = icu, locale = 'en');
 create table things (id bigint not null, n integer, owner text not null, note text, code text collate "C", open boolean not null, done boolean, day date, amount numeric);
 create table kinds (id integer not null, owner text not null, key uuid, at timestamp, seen timestamptz(3), mood public.mood, level public.level, small smallint, short varchar(5));
+create table keyed (id integer primary key, owner text not null);
 create table people (name text not null, boss text, rank integer not null);
 insert into things select g, nullif(g % 5 - 1, 3), (array['ann', 'bob', 'eve', 'team', 'Ann', ''])[1 + g % 6], (array['a', 'B', 'b', null, '', 'x''y', 'größe'])[1 + g % 7],
     (array['a', 'B', null, 'b', 'é'])[1 + g % 5], g % 3 = 0, (array[true, false, null])[1 + (g / 2) % 3],
@@ -48,19 +50,20 @@ class Desk:
         self.connection.autocommit = True
         self.cursor = self.connection.cursor()
         for oid, name in ((1082, "date"), (1114, "timestamp"), (1184, "timestamptz"), (1700, "numeric"), (2950, "uuid")):
-            psycopg2.extensions.register_type(psycopg2.extensions.new_type((oid,), name, lambda text, _: text), self.connection)
+            as_text = psycopg2.extensions.new_type((oid,), name, lambda text, _: text)  # type: ignore[no-untyped-call]
+            psycopg2.extensions.register_type(as_text, self.connection)  # type: ignore[no-untyped-call]
 
     def do(self, *statements: str) -> None:
         for it in statements:
             self.cursor.execute(it)
 
-    def program(self, *words: str, config: str | None = None) -> "subprocess.CompletedProcess[str]":
-        given = []
+    def program(self, *words: str, config: str | None = None, dsn: str | None = None) -> "subprocess.CompletedProcess[str]":
+        given: list[str] = []
         if config is not None:
             file = pathlib.Path(self.room()) / "config.toml"
             file.write_text(config)
             given = [str(file)]
-        return subprocess.run(["/usr/bin/python3", PROGRAM, words[0], self.dsn, *given, *words[1:]], capture_output=True, text=True)
+        return subprocess.run(["/usr/bin/python3", PROGRAM, words[0], self.dsn if dsn is None else dsn, *given, *words[1:]], capture_output=True, text=True)
 
     def room(self) -> pathlib.Path:
         folder = pathlib.Path(os.environ["VIEWD_POSTGRESQL_ROOM"])
@@ -69,18 +72,17 @@ class Desk:
 
     def seen(self, role: str, relation: str, *before: str) -> Counter[tuple[Any, ...]] | None:
         """What PostgreSQL shows to the role: none if it refuses. Each value as viewd's clients should see it."""
+        return self.seen_at(role, f"public.{relation}", *before)
+
+    def seen_at(self, role: str, relation: str, *before: str) -> Counter[tuple[Any, ...]] | None:
         self.do("begin", f"set local role {role}", *before)
         try:
-            self.cursor.execute(f"select * from public.{relation}")
+            self.cursor.execute(f"select * from {relation}")
             return Counter(tuple(map(plain, row)) for row in self.cursor.fetchall())
         except psycopg2.errors.InsufficientPrivilege:
             return None
         finally:
             self.do("rollback")
-
-    def columns(self, relation: str) -> list[str]:
-        self.cursor.execute(f"select * from public.{relation} limit 0")
-        return [it.name for it in self.cursor.description or ()]
 
 
 def plain(value: object) -> object:

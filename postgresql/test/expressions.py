@@ -4,6 +4,7 @@ import random
 THINGS = """true
 false
 null
+null::boolean
 not null::boolean
 id = 3
 id <> 3
@@ -206,6 +207,9 @@ small in (0, 1)
 small is null or level is null
 short = 'ann'
 short = owner
+short in ('ann', 'B')
+short not in ('ann', null)
+short = any (array['B', owner])
 short = current_user
 short <> owner
 short::text = 'B'
@@ -275,6 +279,7 @@ select small, n from kinds join things using (id)
 select a.day from things a join things b on a.day = b.day where a.id < 3
 select a.amount from things a join things b on a.amount = b.amount where b.id < 3""".split("\n")
 REFUSED_VIEWS = [
+    ("select id, owner, count(*) as many from keyed group by id", "keyed.owner is shown and not in GROUP BY"),
     ("select id from things limit 3", "LIMIT"), ("select n, sum(n) as total from things group by n", "sum of things.n, which may be NULL"), ("select owner, count(n) as many from things group by owner", "count of things.n, which may be NULL"),
     ("select t.id, p.boss from things t left join people p on t.owner = p.name", "LEFT JOIN"), ("select owner, max(id) as most from things group by owner", "the function max"), ("select 1 as one from things", "1 in the list of columns"),
     ("select name from people union select note from things", "may be NULL on one side alone"), ("select current_user::text as me from things", "CURRENT_USER"), ("select owner, count(*) as many from things group by owner having count(*) > 1", "HAVING"),
@@ -282,7 +287,7 @@ REFUSED_VIEWS = [
     ("select note from things intersect select boss from people", "INTERSECT"), ("select n, note as n_null from things", "its column n_null twice"), ("select owner, avg(id) as it from things group by owner", "the function avg"),
     ("select id, row_number() over () as r from things", "the function row_number"), ("select distinct on (owner) id from things", "DISTINCT ON"), ("select day from things union select at::date from kinds", "a cast to date"),
     ("select day from things where note < 'b'", "viewd orders texts by their bytes"), ("select amount from things union select id from things", "is of two kinds"), ("select sum(amount) as it, owner from things group by owner", "sum of things.amount, which may be NULL")]
-ATOMS = [it for it in THINGS if "(" not in it and " or " not in it and " and " not in it and "array" not in it]
+ATOMS = [it for it in THINGS if it != "null" and "(" not in it and " or " not in it and " and " not in it and "array" not in it]
 ATOMS_KINDS = [it for it in KINDS if "(" not in it and " or " not in it]
 SHAPES = ["({} and {})", "({} or {})", "not ({})", "({} or not {})", "({}) is true", "({}) is not true", "({}) is not false", "({}) is unknown", "(({}) = ({}))", "(({}) <> ({}))", "(({}) < ({}))",
           "(({}) is distinct from ({}))", "(({}) is not distinct from ({}))", "coalesce({}, {})", "case when {} then {} else {} end", "case when {} then {} end", "({}) is null"]

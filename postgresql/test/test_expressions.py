@@ -50,7 +50,7 @@ class Expressions(unittest.TestCase):
 
     def policies(self, table: str, texts: list[str]) -> dict[str, str]:
         """Why those that are refused are."""
-        why = {}
+        why: dict[str, str] = {}
         for start in range(0, len(texts), BATCH):
             names = {f"p{number}": text for number, text in enumerate(texts[start:start + BATCH])}
             for name, text in names.items():
