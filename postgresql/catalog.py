@@ -25,6 +25,9 @@ TO_15 = {"inherits": "(select rolinherit from pg_roles where oid = m.member)",
          "owner_inherits": "(select rolinherit from pg_roles where oid = d.datdba)"}
 COLLATION = {15: "case datlocprovider when 'c' then datcollate else 'icu' end",
              17: "case datlocprovider when 'c' then datcollate when 'b' then case datlocale when 'C.UTF-8' then 'C' else datlocale end else 'icu' end"}
+# Types that viewd carries. An operator or cast of the database's own for one of them may stand where PostgreSQL prints no name of it.
+CARRIED = """(t.typtype = 'e' or t.oid = any ('{{int2,int4,int8,text,varchar,bool,uuid,date,timestamp,timestamptz,numeric}}'::regtype[]))"""
+OWN = 16384  # the least oid of what is not PostgreSQL's own
 RELATIONS = """
 select c.oid::bigint, n.nspname, c.relname, c.relkind::text from pg_class c join pg_namespace n on n.oid = c.relnamespace
 where c.relkind in ('r', 'v', 'p', 'm', 'f') and c.relpersistence <> 't' and n.nspname !~ '^pg_' and n.nspname <> 'information_schema'
@@ -45,7 +48,8 @@ with used as (
 ), published as (
     -- with versions: a table that left and came back has lost rows
     select r.prrelid, concat_ws(',', r.oid, r.xmin, p.xmin) as whole from pg_publication_rel r join pg_publication p on p.oid = r.prpubid
-    where p.pubname = %(publication)s and r.prqual is null and r.prattrs is null and p.pubinsert and p.pubupdate and p.pubdelete and p.pubtruncate
+    where p.pubname = %(publication)s and r.prqual is null and r.prattrs is null
+          and p.pubinsert and p.pubupdate and p.pubdelete and p.pubtruncate
 ), columns as (
     select a.attrelid, jsonb_agg(jsonb_build_object(
         'name', a.attname, 'number', a.attnum, 'version', a.xmin::text, 'notnull', a.attnotnull, 'generated', a.attgenerated <> '',
@@ -86,6 +90,10 @@ select jsonb_build_object(
                   -- nothing is stored of this one
                   union select r.oid::bigint, d.datdba::bigint from pg_roles r, pg_database d
                         where r.rolname = 'pg_database_owner' and d.datname = current_database() and {owner_inherits}) e(role, member)),
+    'equality', exists (select from pg_operator o join pg_type t on t.oid in (o.oprleft, o.oprright) where o.oid >= {own} and o.oprname = '=' and {carried})
+             or exists (select from pg_opclass o join pg_am m on m.oid = o.opcmethod join pg_type t on t.oid = o.opcintype
+                        where o.oid >= {own} and o.opcdefault and m.amname in ('btree', 'hash') and {carried}),
+    'casts', exists (select from pg_cast c join pg_type t on t.oid = c.castsource where c.oid >= {own} and {carried}),
     'collation', (select {collation} from pg_database where datname = current_database()),
     'server', jsonb_build_object('version', current_setting('server_version_num')::int, 'wal_level', current_setting('wal_level'),
         'user', current_user, 'encoding', current_setting('server_encoding'), 'replication', (select rolreplication or rolsuper from pg_roles where rolname = current_user),
@@ -106,6 +114,8 @@ select md5(string_agg(it, ';')) from (
         from pg_publication p join pg_publication_rel r on r.prpubid = p.oid where p.pubname = %(publication)s
     union all select string_agg(concat_ws(',', inhrelid, inhparent, xmin), ' ' order by inhrelid, inhparent) from pg_inherits
         where inhrelid = any (%(oids)s::oid[]) or inhparent = any (%(oids)s::oid[])
+    union all select concat_ws(',', (select string_agg(oid::text, ' ' order by oid) from pg_operator where oid >= 16384),
+        (select string_agg(oid::text, ' ' order by oid) from pg_opclass where oid >= 16384), (select string_agg(oid::text, ' ' order by oid) from pg_cast where oid >= 16384))
     union all select concat_ws(',', oid, xmin) from pg_database where datname = current_database()
 ) parts(it)
 """
@@ -185,6 +195,8 @@ class Catalog:
     relations: dict[int, Relation]
     roles: dict[int, Role]
     members: list[tuple[int, int]]  # a role, and a member that has what it has without asking
+    equality: bool  # the database has an operator = of its own for a type that viewd carries
+    casts: bool  # and a cast of its own
     collation: str  # the database's
     server: Server
 
@@ -206,7 +218,7 @@ def statement(version: int) -> str:
     """CATALOG for a server of this number (150004 is 15.4)."""
     major = version // 10_000
     words = FROM_16 if major >= 16 else TO_15
-    return CATALOG.format(collation=COLLATION[17 if major >= 17 else 15], **words)
+    return CATALOG.format(collation=COLLATION[17 if major >= 17 else 15], own=OWN, carried=CARRIED.format(), **words)
 
 
 def mark(connection: Connection, oids: list[int], publication: str) -> str:
@@ -230,11 +242,12 @@ def made(connection: Connection, found: dict[str, Any]) -> Catalog:
     relations = {}
     for oid, it in found["relations"].items():
         columns = [Attribute(**one) for one in it.pop("columns")]
-        policies = [Policy(**one, text=text(connection, "pg_get_expr(polqual, polrelid) from pg_policy where oid", one["oid"])) for one in it.pop("policies")]
+        policies = [Policy(**one, text=text(connection, "pg_get_expr(polqual, polrelid) from pg_policy where oid", one["oid"]))
+                    for one in it.pop("policies")]
         query = text(connection, "pg_get_viewdef(oid) from pg_class where oid", int(oid)) if it["kind"] == "v" else None
         relations[int(oid)] = Relation(**it, columns=columns, policies=policies, text=query)
     return Catalog(relations, {int(oid): Role(**it) for oid, it in found["roles"].items()}, [(role, member) for role, member in found["members"]],
-                   found["collation"], Server(**found["server"]))
+                   found["equality"], found["casts"], found["collation"], Server(**found["server"]))
 
 
 def text(connection: Connection, what: str, oid: int) -> str | None:

@@ -50,7 +50,7 @@ class Names:
 def words_of(catalog: Catalog, users: tuple[str, ...]) -> Words:
     """What expressions may speak of, beside columns."""
     found = {it.type: enum(it.type, it.labels) for rel in catalog.relations.values() for it in rel.columns if it.labels is not None}
-    return Words(catalog.collation, found, users)
+    return Words(catalog.collation, found, catalog.equality, catalog.casts, users)
 
 
 def kind_of(it: Attribute) -> Kind | None:
@@ -141,7 +141,8 @@ def views(catalog: Catalog, found: dict[int, Made], words: Words) -> dict[int, M
     roles, order = Names(catalog), list[int]()
     waiting = [oid for oid, it in found.items() if not it.faults and not it.request]
     while waiting:
-        known = {(catalog.relations[oid].schema, catalog.relations[oid].name): Source(it.name, it.columns, it.steps) for oid, it in found.items() if it.request}
+        known = {(catalog.relations[oid].schema, catalog.relations[oid].name): Source(it.name, it.columns, it.steps)
+                 for oid, it in found.items() if it.request}
         done = []
         for oid in waiting:
             made, rel = found[oid], catalog.relations[oid]

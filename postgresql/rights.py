@@ -106,7 +106,8 @@ def guarded(catalog: Catalog, rel: Relation, made: Made, words: Words) -> list[R
         try:
             found += policies(it, made, words, names)
         except Refused as why:
-            close(made, f"its policy {it.name} cannot be said in viewd's words: {why}" if it.text is not None else f"the text of its policy {it.name} cannot be read now")
+            close(made, f"its policy {it.name} cannot be said in viewd's words: {why}" if it.text is not None
+                  else f"the text of its policy {it.name} cannot be read now")
             made.sql += [collated(rel, one) for one in why.columns]
             return []
     if len(found) - 1 > POLICIES:

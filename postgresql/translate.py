@@ -29,6 +29,8 @@ class Words(NamedTuple):
 
     collation: str = "C"  # the database's
     enums: Mapping[str, Kind] = {}  # by schema.name
+    equality: bool = False  # the database has an operator = of its own, which may be meant where none is printed
+    casts: bool = False  # and a cast of its own
     users: Sequence[str] = ()  # calls that tell who the user of a session is, as `call` writes them
 
 
@@ -141,6 +143,7 @@ class Reader:
             case ast.A_Expr(kind=enums.A_Expr_Kind.AEXPR_OP) if node.lexpr is not None:
                 return self.compared(self.operator(node), node.lexpr, node.rexpr, value)
             case ast.A_Expr(kind=enums.A_Expr_Kind.AEXPR_DISTINCT | enums.A_Expr_Kind.AEXPR_NOT_DISTINCT):
+                self.printed("IS DISTINCT FROM")
                 self.operator(node)
                 same = self.same(node.lexpr, node.rexpr)
                 return same if (node.kind == enums.A_Expr_Kind.AEXPR_NOT_DISTINCT) == value else negated(same)
@@ -183,6 +186,8 @@ class Reader:
 
     def cases(self, node: Node, value: bool) -> Test:
         """The first case whose condition is true decides; without ELSE it is unknown."""
+        if node.arg is not None:
+            self.printed("CASE .. WHEN a value")
         found: list[Test] = []
         before: Test = TRUE
         for it in node.args:
@@ -200,6 +205,11 @@ class Reader:
             found.append(every([before, test(it)]))
             before = every([before, null(it)])
         return some(found)
+
+    def printed(self, what: str) -> None:
+        """Forms that compare by an operator whose name PostgreSQL does not print."""
+        if self.words.equality:
+            raise Refused(f"{what}: the database has an operator = of its own, which may be meant")
 
     def operator(self, node: Node) -> str:
         if len(node.name) != 1 or node.name[0].sval not in OPERATORS:
@@ -335,7 +345,7 @@ class Reader:
             raise Refused(said(node))
         if found.kind.family == kind.family and kind.size >= found.kind.size:
             return found
-        if kind.family == "text" and (found.kind.family == "uuid" or found.kind.labels):
+        if kind.family == "text" and (found.kind.family == "uuid" or found.kind.labels) and not self.words.casts:
             return found._replace(kind=kind)
         if kind.family == "numeric" and found.kind.family == "int" and not found.column:
             return Value(constant(kind, found.text), kind)

@@ -1,7 +1,7 @@
 """The query of a view in viewd's words, from what `pg_get_viewdef` prints.
 
-A column that may be NULL is two columns of each query that shows it, here as in tables. What stands in the first where it is NULL is always the same, so DISTINCT, GROUP BY,
-UNION and EXCEPT take two NULLs for one, as PostgreSQL does.
+A column that may be NULL is two columns of each query that shows it, here as in tables. What stands in the first where it is NULL is
+always the same, so DISTINCT, GROUP BY, UNION and EXCEPT take two NULLs for one, as PostgreSQL does.
 """
 from collections.abc import Mapping
 from typing import NamedTuple
@@ -91,6 +91,8 @@ def _query(node: Node, relations: Relations, words: Words) -> View:
     word = SETS.get((node.op, bool(node.all)))
     if word is None:
         raise Refused(node.op.name.removeprefix("SETOP_") + (" ALL" if node.all else ""))
+    if not node.all:
+        ViewReader({}, words).printed(node.op.name.removeprefix("SETOP_"))
     if node.rarg.op != enums.SetOperation.SETOP_NONE:
         raise Refused("a set operation on the right of another")
     left, right = _query(node.larg, relations, words), _query(node.rarg, relations, words)
@@ -99,9 +101,14 @@ def _query(node: Node, relations: Relations, words: Words) -> View:
             raise Refused(f"{node.op.name.removeprefix('SETOP_')}: its column {name} is of two kinds")
         if one.nullable != other.nullable:
             raise Refused(f"{node.op.name.removeprefix('SETOP_')}: its column {name} may be NULL on one side alone")
-    columns = {name: one if one.collation == other.collation and one.kind == other.kind else one._replace(collation="two", kind=other.kind._replace(size=8, labels=()))
-               for (name, one), other in zip(left.columns.items(), right.columns.values())}
+    columns = {name: both(one, other) for (name, one), other in zip(left.columns.items(), right.columns.values())}
     return View(f"{left.query} {word} {right.query}", columns, left.steps + right.steps + 2, left.sources + right.sources)
+
+
+def both(one: Column, other: Column) -> Column:
+    """A column of a set operation: of two collations none is its own, and the number has the wider size or more."""
+    kind = one.kind if one.kind == other.kind else one.kind._replace(size=8)
+    return one._replace(kind=kind, collation=one.collation if one.collation == other.collation else "two")
 
 
 def _conjuncts(node: Node) -> list[Node]:
@@ -115,7 +122,8 @@ def _conjuncts(node: Node) -> list[Node]:
 class From:
     """The sources of a query, in their order, and what has to be true of their rows together."""
 
-    def __init__(self, node: Node, relations: Relations):
+    def __init__(self, node: Node, relations: Relations, words: Words):
+        self.words = words
         self.sources: dict[str, Source] = {}
         self.conditions: list[Node] = []
         self.relations = relations
@@ -138,11 +146,14 @@ class From:
                 self.add(node.rarg)
                 aliases = list(self.sources)
                 for using in node.usingClause or ():
-                    one, other = ([a for a in part if using.sval in self.sources[a].columns] for part in (aliases[start:middle], aliases[middle:]))
+                    ViewReader({}, self.words).printed("USING")
+                    sides = aliases[start:middle], aliases[middle:]
+                    one, other = ([a for a in part if using.sval in self.sources[a].columns] for part in sides)
                     if len(one) != 1 or len(other) != 1:
                         raise Refused(f"USING ({using.sval})")
-                    sides = [ast.ColumnRef(fields=(ast.String(it), ast.String(using.sval))) for it in (one[0], other[0])]
-                    self.conditions.append(ast.A_Expr(kind=enums.A_Expr_Kind.AEXPR_OP, name=(ast.String("="),), lexpr=sides[0], rexpr=sides[1]))
+                    left, right = (ast.ColumnRef(fields=(ast.String(it), ast.String(using.sval))) for it in (one[0], other[0]))
+                    equal = ast.A_Expr(kind=enums.A_Expr_Kind.AEXPR_OP, name=(ast.String("="),), lexpr=left, rexpr=right)
+                    self.conditions.append(equal)
                 self.conditions += _conjuncts(node.quals)
             case ast.JoinExpr():
                 raise Refused(node.jointype.name.removeprefix("JOIN_") + " JOIN")
@@ -206,7 +217,7 @@ def _joined(tables: From, reader: ViewReader) -> str:
 
 
 def _select(node: Node, relations: Relations, words: Words) -> View:
-    tables = From(node, relations)
+    tables = From(node, relations, words)
     reader = ViewReader(tables.sources, words)
     text = _joined(tables, reader)
     columns: dict[str, Column] = {}
@@ -224,6 +235,8 @@ def _select(node: Node, relations: Relations, words: Words) -> View:
         columns[name] = column
         items += [f"{item} as {name}", *([f"{item}_null as {name}_null"] if column.nullable else [])]
     distinct = ""
+    if node.distinctClause or node.groupClause:
+        reader.printed("DISTINCT" if node.distinctClause else "GROUP BY")
     if node.distinctClause:
         if node.distinctClause != (None,):
             raise Refused("DISTINCT ON")
@@ -255,11 +268,11 @@ def _shown(node: Node, reader: ViewReader) -> tuple[str, Column, str]:
         raise Refused(f"{found.text} in the list of columns")
     if isinstance(node, ast.TypeCast) and not isinstance(node.arg, ast.ColumnRef):
         raise Refused(said(node))
-    name, column = reader.find(node.arg if isinstance(node, ast.TypeCast) else node) if isinstance(node, (ast.ColumnRef, ast.TypeCast)) else ("", None)
-    if column is None:
+    if not isinstance(node, (ast.ColumnRef, ast.TypeCast)):
         raise Refused(said(node))
+    name, column = reader.find(node.arg if isinstance(node, ast.TypeCast) else node)
     if isinstance(node, ast.TypeCast):
-        column = column._replace(kind=found.kind if found.kind != column.kind else column.kind, collation=found.collation)
+        column = column._replace(kind=found.kind, collation=found.collation)
         if type_of(node) in ("int2", "int4", "int8"):
             column = column._replace(kind=KINDS["bigint"])
     return name.split(".")[1], column, name

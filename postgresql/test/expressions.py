@@ -26,6 +26,10 @@ n in (1, 2)
 n not in (1, 2)
 n in (1, null)
 n not in (1, null)
+not (n in (1, 2))
+not (n in (1, null))
+not (n not in (1, null))
+(n in (1, null)) is false
 n = any (array[]::integer[])
 n <> all (array[]::integer[])
 n = any ('{1,2}'::integer[]) or true
@@ -59,6 +63,9 @@ note <> current_user
 owner = note
 owner <> note
 note is distinct from owner
+note is distinct from code
+note is not distinct from code
+not note is distinct from code
 note is not distinct from owner
 note = 'x''y'
 note = 'größe'
@@ -159,6 +166,10 @@ case n when 1 then open when 2 then done else note = 'a' end
 case when done then n = 1 else n = 2 end
 not case when n = 1 then done end
 (case when n = 1 then done end) is null
+owner = any (array[current_user, 'bob'])
+(open, n) in ((true, 1), (false, 2))
+1::numeric = 1.0
+'a'::text <> 'b'
 coalesce(done, open)
 coalesce(done, false)
 not coalesce(done, true)
@@ -225,7 +236,7 @@ REFUSED = [  # a policy, and words of the refusal
     ("n = any ('{1,2}'::integer[])", "an array that is not written out"), ("nullif(n, 1) = 2", "NULLIF"), ("case when open then n else 1 end = 1", "CASE"), ("id = 1.5", "a cast to numeric"), ("(n, id) < (1, 2)", "RowExpr"),
     ("note is json" if False else "note similar to 'a'", "the operator ~"), ("note = repeat('a', 3)", "the function repeat"),
     (" or ".join(f"(n = {it} or note = '{'x' * 40}{it}')" for it in range(100)), "more than 4,096 bytes"), ("owner::varchar(2) = 'an'", "a cast to varchar with a length"),
-    ("n::numeric(3,1) = amount", "a cast to numeric with a length")]
+    ("n::text = '1'", "a cast to text"), ("day::text = 'x'", "a cast to text"), ("amount::text = '1'", "a cast to text"), ("n::numeric(3,1) = amount", "a cast to numeric with a length")]
 REFUSED_KINDS = [("mood < 'ok'", "viewd orders public.mood by the bytes of its texts"), ("mood >= 'sad'", "viewd orders public.mood"), ("at = seen", "of two kinds"), ("at > '2024-01-01'::date", "of two kinds"),
                  ("at::date = '2024-01-01'", "a cast to date"), ("seen::text = 'x'", "a cast to text"), ("id::smallint = small", "a cast to int2"), ("key::text < 'b'", "viewd orders texts by their bytes"),
                  ("short < 'b'", "viewd orders texts by their bytes"), ("at > '12024-01-01'", "viewd can hold those of the years 1 to 9999"), ("key = owner::uuid", "a cast to uuid")]

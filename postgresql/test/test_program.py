@@ -206,6 +206,24 @@ class Program(unittest.TestCase):
         self.same(shown, ("mia", "noah"), {it: [f"select set_config('app.user', '{it}', true)"] for it in ("mia", "noah")})
         self.assertTrue(shown.rows["mia", "notes"])
 
+    def test_operators_and_casts_of_the_database(self) -> None:
+        """Where PostgreSQL prints no operator, one of the database's own may be meant: all such forms are refused then."""
+        self.desk.do("""create type public.mood as enum ('sad', 'ok'); create function public.other(public.mood, public.mood) returns boolean language sql immutable as $$ select true $$;
+            create function public.told(public.mood) returns text language sql immutable as $$ select 'x' $$; create table kept (m public.mood not null, id int not null)""",
+                     *(f"create table t{number} (like kept); alter table t{number} enable row level security" for number in range(5)),
+                     "create view pairs with (security_invoker = true) as select a.id from kept a join kept b using (m)", "create view ids with (security_invoker = true) as select distinct id from kept",
+                     "create view groups with (security_invoker = true) as select id, count(*) as n from kept group by id", "create view either with (security_invoker = true) as select id from kept union select id from kept")
+        texts = ["m is distinct from 'ok'", "case m when 'ok' then true else false end", "m::text = 'ok'", "m = 'ok'", "case when m = 'ok' then true end"]
+        self.desk.do(*(f"create policy p on t{number} using ({text})" for number, text in enumerate(texts)))
+        self.assertEqual(self.desk.program("show").returncode, 0)
+        self.desk.do("create operator public.= (leftarg = public.mood, rightarg = public.mood, function = public.other)", "create cast (public.mood as text) with function public.told(public.mood)",
+                     "drop policy p on t3", "create policy p on t3 using (m = 'ok')")
+        done = self.desk.program("show")
+        for name, words in (("t0", "IS DISTINCT FROM: the database has an operator = of its own, which may be meant"), ("t1", "CASE .. WHEN a value: the database"), ("t2", "a cast to text"), ("t3", "the operator public.="),
+                            ("pairs", "USING: the database"), ("ids", "DISTINCT: the database"), ("groups", "GROUP BY: the database"), ("either", "UNION: the database")):
+            self.assertRegex(done.stderr, rf"{name} is left out: .*{re.escape(words)}")
+        self.assertNotIn("t4 is left out", done.stderr)
+
     def test_many_rows_and_lines(self) -> None:
         self.desk.do("""create role ann; create role bob; create role eve; create table texts (id int not null, t text not null); insert into texts select g, repeat('é', 512) from generate_series(1, 1500) g;
             insert into texts select 1, repeat('é', 512) from generate_series(1, 5); create table ids (id bigint); insert into ids select g from generate_series(1, 2500) g; insert into ids values (null), (null),
