@@ -19,6 +19,7 @@ Connection = psycopg2.extensions.connection
 # What PostgreSQL prints is canonical by these; and rows that a policy hides from the bridge are an error, and never left out.
 SETTINGS = ("-c search_path=pg_catalog -c datestyle=ISO,YMD -c timezone=UTC -c intervalstyle=postgres -c row_security=off "
             "-c standard_conforming_strings=on -c quote_all_identifiers=off -c lock_timeout=1s")
+PRINTED = (1082, 1114, 1184, 1700, 2950)  # date, timestamps, numeric and uuid are read as the texts that PostgreSQL prints
 TRIES = 5
 FROM_16 = {"inherits": "m.inherit_option", "owner_inherits": "true"}  # a membership says itself whether it gives what the role has
 TO_15 = {"inherits": "(select rolinherit from pg_roles where oid = m.member)",
@@ -79,7 +80,8 @@ select jsonb_build_object(
             'published', coalesce(p.whole, ''), 'file', c.relfilenode::bigint, 'columns', coalesce(k.list, '[]'),
             'readable', c.relkind <> 'r' or has_schema_privilege(n.oid, 'usage') and has_table_privilege(c.oid, 'select'),
             'bound', c.relkind = 'r' and row_security_active(c.oid),
-            'invoker', coalesce((select option_value::boolean from pg_options_to_table(c.reloptions) where option_name = 'security_invoker'), false),
+            'invoker', coalesce((select option_value::boolean from pg_options_to_table(c.reloptions)
+                                 where option_name = 'security_invoker'), false),
             'query', coalesce((select md5(w.ev_action::text) from pg_rewrite w where w.ev_class = c.oid and w.rulename = '_RETURN'), ''))), '{{}}')
         from chosen c join pg_namespace n on n.oid = c.relnamespace left join usage u on u.oid = n.oid left join published p on p.prrelid = c.oid
         left join columns k on k.attrelid = c.oid left join policies o on o.polrelid = c.oid),
@@ -90,7 +92,8 @@ select jsonb_build_object(
                   -- nothing is stored of this one
                   union select r.oid::bigint, d.datdba::bigint from pg_roles r, pg_database d
                         where r.rolname = 'pg_database_owner' and d.datname = current_database() and {owner_inherits}) e(role, member)),
-    'equality', exists (select from pg_operator o join pg_type t on t.oid in (o.oprleft, o.oprright) where o.oid >= {own} and o.oprname = '=' and {carried})
+    'equality', exists (select from pg_operator o join pg_type t on t.oid in (o.oprleft, o.oprright)
+                        where o.oid >= {own} and o.oprname = '=' and {carried})
              or exists (select from pg_opclass o join pg_am m on m.oid = o.opcmethod join pg_type t on t.oid = o.opcintype
                         where o.oid >= {own} and o.opcdefault and m.amname in ('btree', 'hash') and {carried}),
     'casts', exists (select from pg_cast c join pg_type t on t.oid = c.castsource where c.oid >= {own} and {carried}),
@@ -204,6 +207,8 @@ class Catalog:
 def connect(dsn: str) -> Connection:
     """A connection on which every text is printed in one form. Raises psycopg2.Error."""
     connection = psycopg2.connect(dsn, options=SETTINGS, application_name="viewd-postgresql")
+    as_text = psycopg2.extensions.new_type(PRINTED, "PRINTED", lambda text, _: text)  # type: ignore[no-untyped-call]
+    psycopg2.extensions.register_type(as_text, connection)  # type: ignore[no-untyped-call]
     connection.set_session(isolation_level="REPEATABLE READ", readonly=True)
     return connection
 

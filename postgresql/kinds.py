@@ -126,11 +126,6 @@ def constant(kind: Kind, text: str) -> str:
     return quoted(canonical(kind, text))
 
 
-def read(kind: Kind, name: str) -> str:
-    """What reads a column so that `value` can turn it; `name` is its name in SQL."""
-    return name if kind.viewd != "text" else f"{name}::text"
-
-
 def value(kind: Kind, found: object) -> int | str | bool:
     """A value of viewd's. Raises Refused where it cannot hold it."""
     if found is None:

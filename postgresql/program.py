@@ -9,7 +9,7 @@ import psycopg2
 import prepare
 from catalog import connect
 from settings import Settings, Wrong, read
-from state import State, line, state
+from state import State, Unsayable, line, state
 
 GOOD, LEFT_OUT, WRONG, UNREACHED = 0, 1, 2, 3  # exit statuses
 ROWS, LEAST, MOST = 65_536, 1_024, 1_048_576
@@ -91,6 +91,9 @@ def main(words: list[str]) -> int:
     except BrokenPipeError:
         os.dup2(os.open(os.devnull, os.O_WRONLY), sys.stdout.fileno())
         return WRONG
+    except Unsayable as why:
+        print(f"viewd-postgresql: {why}", file=sys.stderr)
+        return LEFT_OUT
     except (Wrong, OSError) as why:
         print(f"viewd-postgresql: {why}", file=sys.stderr)
         return WRONG

@@ -4,7 +4,7 @@ from collections import Counter
 from collections.abc import Iterator
 
 from catalog import Connection, Relation
-from kinds import name_ok, read, value
+from kinds import name_ok, value
 from predicate import Refused
 from relations import Made, Request, Row
 
@@ -15,7 +15,7 @@ PIECE = 2_000  # rows that are fetched at a time
 
 def hold(connection: Connection, rel: Relation, made: Made, most: int) -> None:
     """Reads the rows. Raises Refused where viewd cannot hold them all."""
-    columns = ", ".join(f'{read(it.kind, quoted(name))}' for name, it in made.columns.items())
+    columns = ", ".join(map(quoted, made.columns))
     bad, example = 0, ""
     with connection.cursor(name="rows") as cursor:
         cursor.itersize = PIECE

@@ -14,6 +14,10 @@ ANSWERS = """select distinct format_type(p.prorettype, null) from pg_proc p join
              where n.nspname || '.' || p.proname = %(name)s"""
 
 
+class Unsayable(Exception):
+    """Nothing of the database can be said in viewd's words. The text says why."""
+
+
 @dataclasses.dataclass
 class State:
     catalog: Catalog
@@ -76,12 +80,12 @@ def check_calls(connection: Connection, users: Users) -> None:
 
 
 def state(connection: Connection, settings: Settings, most: int) -> State:
-    """Raises Wrong, psycopg2.Error."""
+    """Raises Wrong, Unsayable, psycopg2.Error."""
     check_calls(connection, settings.users)
     names = named(connection, settings)
     catalog = read(connection, list(names), settings.publication)
     if catalog.server.encoding != "UTF8":
-        raise Wrong(f"the database's encoding is {catalog.server.encoding}: viewd orders texts by the bytes of UTF8")
+        raise Unsayable(f"the database's encoding is {catalog.server.encoding}: viewd orders texts by the bytes of UTF8")
     if of_views := [name for oid, name in names.items() if name in settings.columns and oid in catalog.relations and catalog.relations[oid].kind != "r"]:
         raise Wrong(f"[columns] {of_views[0]}: it is no table")
     words = words_of(catalog, settings.users.calls)
@@ -97,7 +101,7 @@ def state(connection: Connection, settings: Settings, most: int) -> State:
     made = views(catalog, made, words)
     found = State(catalog, made, rights(catalog, made, settings.users))
     if len(found.rights.roles) > ROLES:
-        raise Wrong(f"{len(found.rights.roles)} roles: viewd can have {ROLES}")
+        raise Unsayable(f"{len(found.rights.roles)} roles: viewd can have {ROLES}")
     return found
 
 

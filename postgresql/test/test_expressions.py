@@ -10,7 +10,7 @@ from server import Server, is_installed
 BATCH = 45  # tables at once: viewd can have 64
 LIKELY = ("its text has more than", "too long", "parentheses open at once")
 counts = {"expressions": 0, "said": 0, "relations": 0}
-options = {"random": 60, "seed": 1}
+options = {"random": 45, "seed": 1}
 
 
 @unittest.skipUnless(is_installed(), "no PostgreSQL is installed")
@@ -104,6 +104,16 @@ class Expressions(unittest.TestCase):
         self.assertLessEqual(len(why), 5, why)
         for text, fault in why.items():
             self.assertTrue(any(it in text for it in refused), (text, fault))
+
+    def test_views_nested_at_random(self) -> None:
+        r = random.Random(options["seed"] + 13)
+        atoms = [it for it in ATOMS if "user" not in it and "role" not in it]
+        forms = ["select n, note, done, id from things where {}", "select distinct code, done from things where {}", "select n, done, count(*) as many, sum(id) as total from things where {} group by n, done",
+                 "select note from things where {} union select code from things where {}", "select n, note from things where {} union all select n, code from things where {}", "select n from things where {} except select n from things where {}"]
+        texts = [it.format(*(nested(r, atoms, 2) for _ in range(it.count("{}")))) for it in forms for _ in range(7)]
+        why = self.views(texts)
+        self.assertEqual({text: fault for text, fault in why.items() if not any(it in fault for it in LIKELY)}, {})
+        self.assertLess(len(why), len(texts) // 3)
 
     def test_views_that_are_refused(self) -> None:
         why = self.views([text for text, _ in REFUSED_VIEWS])

@@ -209,7 +209,7 @@ class Program(unittest.TestCase):
     def test_operators_and_casts_of_the_database(self) -> None:
         """Where PostgreSQL prints no operator, one of the database's own may be meant: all such forms are refused then."""
         self.desk.do("""create type public.mood as enum ('sad', 'ok'); create function public.other(public.mood, public.mood) returns boolean language sql immutable as $$ select true $$;
-            create function public.told(public.mood) returns text language sql immutable as $$ select 'x' $$; create table kept (m public.mood not null, id int not null)""",
+            create function public.told(public.mood) returns text language sql immutable as $$ select 'x' $$; create table kept (m public.mood not null, id int not null); insert into kept values ('sad', 1)""",
                      *(f"create table t{number} (like kept); alter table t{number} enable row level security" for number in range(5)),
                      "create view pairs with (security_invoker = true) as select a.id from kept a join kept b using (m)", "create view ids with (security_invoker = true) as select distinct id from kept",
                      "create view groups with (security_invoker = true) as select id, count(*) as n from kept group by id", "create view either with (security_invoker = true) as select id from kept union select id from kept")
@@ -223,6 +223,30 @@ class Program(unittest.TestCase):
                             ("pairs", "USING: the database"), ("ids", "DISTINCT: the database"), ("groups", "GROUP BY: the database"), ("either", "UNION: the database")):
             self.assertRegex(done.stderr, rf"{name} is left out: .*{re.escape(words)}")
         self.assertNotIn("t4 is left out", done.stderr)
+        self.assertIn('"insert":["sad",1]', done.stdout)
+
+    def test_a_locked_table_and_too_many_roles(self) -> None:
+        self.desk.do("create table notes (id int not null); alter table notes enable row level security; create policy p on notes using (id = 1)", "create table free (id int not null)")
+        other = Desk(self.desk.dsn)
+        self.addCleanup(other.connection.close)
+        other.do("begin", "lock table notes in access exclusive mode")
+        done = self.desk.program("show")
+        self.assertIn("notes is left out: the text of its policy p cannot be read now\n", done.stderr)
+        self.assertIn('"name":"free"', done.stdout)
+        other.do("rollback", "create table open (id int not null)", "begin", "lock table open in access exclusive mode")
+        self.assertEqual(self.desk.program("show").returncode, 3)
+        other.do("rollback", "do $$ begin for i in 1..260 loop execute 'create role r' || i; end loop; end $$")
+        done = self.desk.program("show")
+        self.assertEqual((done.returncode, done.stdout), (1, ""))
+        self.assertRegex(done.stderr, "^viewd-postgresql: [0-9]+ roles: viewd can have 255\n$")
+
+    def test_what_is_nested_deep(self) -> None:
+        texts = {"t0": "not " * 1500 + "(done is not null)", "t1": "(done = " * 12 + "true" + ")" * 12, "t2": "coalesce(done, " * 40 + "true" + ")" * 40, "t3": " and ".join(["done"] * 3000)}
+        for name, text in texts.items():
+            self.desk.do(f"create table {name} (done boolean); alter table {name} enable row level security; create policy p on {name} using ({text})")
+        done = self.desk.program("show")
+        self.assertEqual(Shown(done.stdout, ()).refused, [])
+        self.assertIn("t0 is left out: its policy p cannot be said in viewd's words: it is nested too deep", done.stderr)
 
     def test_many_rows_and_lines(self) -> None:
         self.desk.do("""create role ann; create role bob; create role eve; create table texts (id int not null, t text not null); insert into texts select g, repeat('é', 512) from generate_series(1, 1500) g;
