@@ -96,10 +96,12 @@ select jsonb_build_object(
                         where o.oid >= {own} and o.oprname = '=' and {carried})
              or exists (select from pg_opclass o join pg_am m on m.oid = o.opcmethod join pg_type t on t.oid = o.opcintype
                         where o.oid >= {own} and o.opcdefault and m.amname in ('btree', 'hash') and {carried}),
+    'tampered', exists (select from pg_operator where oid >= {own} and oprnamespace = 'pg_catalog'::regnamespace),
     'casts', exists (select from pg_cast c join pg_type t on t.oid = c.castsource where c.oid >= {own} and {carried}),
     'collation', (select {collation} from pg_database where datname = current_database()),
     'server', jsonb_build_object('version', current_setting('server_version_num')::int, 'wal_level', current_setting('wal_level'),
-        'user', current_user, 'encoding', current_setting('server_encoding'), 'replication', (select rolreplication or rolsuper from pg_roles where rolname = current_user),
+        'user', current_user, 'encoding', current_setting('server_encoding'),
+        'replication', (select rolreplication or rolsuper from pg_roles where rolname = current_user),
         'publication', exists (select from pg_publication where pubname = %(publication)s)))
 """
 MARK = """
@@ -118,7 +120,8 @@ select md5(string_agg(it, ';')) from (
     union all select string_agg(concat_ws(',', inhrelid, inhparent, xmin), ' ' order by inhrelid, inhparent) from pg_inherits
         where inhrelid = any (%(oids)s::oid[]) or inhparent = any (%(oids)s::oid[])
     union all select concat_ws(',', (select string_agg(oid::text, ' ' order by oid) from pg_operator where oid >= 16384),
-        (select string_agg(oid::text, ' ' order by oid) from pg_opclass where oid >= 16384), (select string_agg(oid::text, ' ' order by oid) from pg_cast where oid >= 16384))
+        (select string_agg(oid::text, ' ' order by oid) from pg_opclass where oid >= 16384),
+        (select string_agg(oid::text, ' ' order by oid) from pg_cast where oid >= 16384))
     union all select concat_ws(',', oid, xmin) from pg_database where datname = current_database()
 ) parts(it)
 """
@@ -200,6 +203,7 @@ class Catalog:
     members: list[tuple[int, int]]  # a role, and a member that has what it has without asking
     equality: bool  # the database has an operator = of its own for a type that viewd carries
     casts: bool  # and a cast of its own
+    tampered: bool  # it has operators of its own in PostgreSQL's schema
     collation: str  # the database's
     server: Server
 
@@ -252,7 +256,7 @@ def made(connection: Connection, found: dict[str, Any]) -> Catalog:
         query = text(connection, "pg_get_viewdef(oid) from pg_class where oid", int(oid)) if it["kind"] == "v" else None
         relations[int(oid)] = Relation(**it, columns=columns, policies=policies, text=query)
     return Catalog(relations, {int(oid): Role(**it) for oid, it in found["roles"].items()}, [(role, member) for role, member in found["members"]],
-                   found["equality"], found["casts"], found["collation"], Server(**found["server"]))
+                   found["equality"], found["casts"], found["tampered"], found["collation"], Server(**found["server"]))
 
 
 def text(connection: Connection, what: str, oid: int) -> str | None:

@@ -86,6 +86,8 @@ def state(connection: Connection, settings: Settings, most: int) -> State:
     catalog = read(connection, list(names), settings.publication)
     if catalog.server.encoding != "UTF8":
         raise Unsayable(f"the database's encoding is {catalog.server.encoding}: viewd orders texts by the bytes of UTF8")
+    if catalog.tampered:
+        raise Unsayable("the database has operators of its own in pg_catalog, which are printed as PostgreSQL's")
     if of_views := [name for oid, name in names.items() if name in settings.columns and oid in catalog.relations and catalog.relations[oid].kind != "r"]:
         raise Wrong(f"[columns] {of_views[0]}: it is no table")
     words = words_of(catalog, settings.users.calls)

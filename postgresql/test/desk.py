@@ -1,9 +1,13 @@
 """A database to translate: tables with every kind, NULLs among their rows, roles and policies; and who sees what, by PostgreSQL and by viewd."""
+import contextlib
+import io
 import json
 import os
 import pathlib
 import re
 import subprocess
+import sys
+import tempfile
 from collections import Counter
 from typing import Any
 
@@ -14,6 +18,9 @@ import psycopg2.extensions
 TOP = pathlib.Path(__file__).resolve().parent.parent.parent
 VIEWD = pathlib.Path(os.environ.get("VIEWD", TOP / "crates/viewd/out/viewd"))
 PROGRAM = pathlib.Path(os.environ.get("VIEWD_POSTGRESQL", TOP / "postgresql")) / "program.py"
+sys.path.insert(0, str(PROGRAM.parent))
+import program  # noqa: E402
+
 ROLES = ("ann", "bob", "eve")
 TABLES = """
 create type public.mood as enum ('sad', 'ok', 'happy');
@@ -58,17 +65,27 @@ class Desk:
             self.cursor.execute(it)
 
     def program(self, *words: str, config: str | None = None, dsn: str | None = None) -> "subprocess.CompletedProcess[str]":
+        """What the program says and answers to these words. It runs here: to start it takes longer than all that it does."""
         given: list[str] = []
         if config is not None:
-            file = pathlib.Path(self.room()) / "config.toml"
+            file = self.room() / "config.toml"
             file.write_text(config)
             given = [str(file)]
-        return subprocess.run(["/usr/bin/python3", PROGRAM, words[0], self.dsn if dsn is None else dsn, *given, *words[1:]], capture_output=True, text=True)
+        every = [words[0], self.dsn if dsn is None else dsn, *given, *words[1:]]
+        out, err = io.StringIO(), io.StringIO()
+        with contextlib.redirect_stdout(out), contextlib.redirect_stderr(err):
+            try:
+                status = program.main(every)
+            except SystemExit as end:
+                status = int(end.code or 0)
+        return subprocess.CompletedProcess(every, status, out.getvalue(), err.getvalue())
+
+    def started(self, *words: str) -> "subprocess.CompletedProcess[str]":
+        """The same in a process of its own."""
+        return subprocess.run(["/usr/bin/python3", PROGRAM, words[0], self.dsn, *words[1:]], capture_output=True, text=True)
 
     def room(self) -> pathlib.Path:
-        folder = pathlib.Path(os.environ["VIEWD_POSTGRESQL_ROOM"])
-        folder.mkdir(exist_ok=True)
-        return folder
+        return pathlib.Path(os.environ.get("VIEWD_POSTGRESQL_ROOM") or tempfile.gettempdir())
 
     def seen(self, role: str, relation: str, *before: str) -> Counter[tuple[Any, ...]] | None:
         """What PostgreSQL shows to the role: none if it refuses. Each value as viewd's clients should see it."""

@@ -32,7 +32,6 @@ not (n not in (1, null))
 (n in (1, null)) is false
 n = any (array[]::integer[])
 n <> all (array[]::integer[])
-n = any ('{1,2}'::integer[]) or true
 n between 0 and 2
 n not between 0 and 2
 n between symmetric 2 and 0
@@ -234,7 +233,7 @@ REFUSED = [  # a policy, and words of the refusal
     ("amount > 1", "viewd orders numeric by the bytes of its texts"), ("amount = n", "a cast to numeric"), ("day < current_date", "CURRENT_DATE"), ("day > '10000-01-01'", "viewd can hold those of the years 1 to 9999"),
     ("day = '0044-03-15 BC'", "viewd can hold those of the years 1 to 9999"), ("day < timestamp '2024-01-01'", "of two kinds"), ("now() > '2024-01-01'", "the function now"), ("n = any (array[n, 1] || 2)", "the operator ||"),
     ("n = any ('{1,2}'::integer[])", "an array that is not written out"), ("nullif(n, 1) = 2", "NULLIF"), ("case when open then n else 1 end = 1", "CASE"), ("id = 1.5", "a cast to numeric"), ("(n, id) < (1, 2)", "RowExpr"),
-    ("note is json" if False else "note similar to 'a'", "the operator ~"), ("note = repeat('a', 3)", "the function repeat"),
+    ("note similar to 'a'", "the operator ~"), ("note = repeat('a', 3)", "the function repeat"),
     (" or ".join(f"(n = {it} or note = '{'x' * 40}{it}')" for it in range(100)), "more than 4,096 bytes"), ("owner::varchar(2) = 'an'", "a cast to varchar with a length"),
     ("n::text = '1'", "a cast to text"), ("day::text = 'x'", "a cast to text"), ("amount::text = '1'", "a cast to text"), ("n::numeric(3,1) = amount", "a cast to numeric with a length")]
 REFUSED_KINDS = [("mood < 'ok'", "viewd orders public.mood by the bytes of its texts"), ("mood >= 'sad'", "viewd orders public.mood"), ("at = seen", "of two kinds"), ("at > '2024-01-01'::date", "of two kinds"),

@@ -1,4 +1,3 @@
-#!/usr/bin/python3
 """Policies and views beside PostgreSQL's own answers: what viewd shows to each role is what `SET ROLE; SELECT` shows, as bags."""
 import random
 import unittest
@@ -34,7 +33,6 @@ class Expressions(unittest.TestCase):
     def compare(self, names: dict[str, str]) -> dict[str, str]:
         """Compares what is shown of relations; answers why others are left out. `names` says of each what it was made from."""
         done = self.desk.program("show")
-        self.assertNotIn("Traceback", done.stderr, done.stderr)
         left = dict(line.removeprefix("viewd-postgresql: ").split(" is left out: ", 1) for line in done.stderr.splitlines())
         shown = Shown(done.stdout, ROLES)
         self.assertEqual(shown.refused, [], "viewd refused what show said")
@@ -67,8 +65,7 @@ class Expressions(unittest.TestCase):
         return {names[name]: fault for name, fault in self.compare(names).items()}
 
     def test_policies_that_can_be_said(self) -> None:
-        written = [it for it in THINGS if it not in ("n = any ('{1,2}'::integer[]) or true",)]
-        self.assertEqual(self.policies("things", written) | self.policies("kinds", KINDS), {})
+        self.assertEqual(self.policies("things", THINGS) | self.policies("kinds", KINDS), {})
 
     def test_policies_that_are_refused(self) -> None:
         for table, refused in (("things", REFUSED), ("kinds", REFUSED_KINDS)):
@@ -124,7 +121,3 @@ class Expressions(unittest.TestCase):
         texts = ["select n, note, id from things where n is not null or done", "select a.n, b.n as other from v0 a join v0 b on a.note = b.note", "select n, other, count(*) as many from v1 group by n, other",
                  "select many from v2 where n is null and other <> 1", "select sum(many) as total, n from v2 group by n", "select total from v4 where n = 1"]
         self.assertEqual(self.views(texts), {})
-
-
-if __name__ == "__main__":
-    unittest.main()

@@ -1,18 +1,12 @@
-#!/usr/bin/python3
 """The program as a user has it: what check, init and show say, their statuses; roles, grants and users beside PostgreSQL; what is left out, by its words."""
-import os
-import pathlib
 import random
 import re
-import sys
 import unittest
 
-from desk import PROGRAM, ROLES, Desk, Shown, alike
+import catalog
+from desk import ROLES, Desk, Shown, alike
 from server import Server, is_installed
 from test_expressions import counts
-
-sys.path.insert(0, str(PROGRAM.parent))
-import catalog  # noqa: E402
 
 NAMES = ["ann", "bob", "eve", "team", "lead", "boss"]
 USERS = """[users]
@@ -154,10 +148,11 @@ class Program(unittest.TestCase):
         self.assertEqual(self.desk.program("show", dsn="host=127.0.0.1 port=1").returncode, 3)
         self.assertEqual(self.desk.program("nothing").returncode, 2)
         self.assertEqual(self.desk.program("show", "--rows", "5").returncode, 2)
-        done = self.desk.program("show", "--help")
-        self.assertEqual(done.returncode, 0)
-        self.assertIn("DSN", done.stdout)
-        self.assertEqual(self.desk.program("check").returncode, 1)  # nothing would be followed
+        self.assertIn("nothing would be followed", self.desk.program("check").stdout)
+        for words, status, text in ((("show", "--help"), 0, "DSN"), (("check",), 1, "nothing would be followed"), (("show", "--rows", "5"), 2, "--rows is 1,024")):
+            done = self.desk.started(*words)
+            self.assertEqual(done.returncode, status)
+            self.assertIn(text, done.stdout + done.stderr)
 
     def test_roles_and_grants_at_random(self) -> None:
         r = random.Random(3)
@@ -224,6 +219,10 @@ class Program(unittest.TestCase):
             self.assertRegex(done.stderr, rf"{name} is left out: .*{re.escape(words)}")
         self.assertNotIn("t4 is left out", done.stderr)
         self.assertIn('"insert":["sad",1]', done.stdout)
+        self.desk.do("create operator pg_catalog.= (leftarg = public.mood, rightarg = public.mood, function = public.other)")
+        done = self.desk.program("show")
+        self.assertEqual((done.returncode, done.stdout), (1, ""))
+        self.assertIn("the database has operators of its own in pg_catalog, which are printed as PostgreSQL's", done.stderr)
 
     def test_a_locked_table_and_too_many_roles(self) -> None:
         self.desk.do("create table notes (id int not null); alter table notes enable row level security; create policy p on notes using (id = 1)", "create table free (id int not null)")
@@ -280,8 +279,3 @@ class Program(unittest.TestCase):
         self.assertIn("m.inherit_option", catalog.statement(160_001))
         self.assertIn("datlocale", catalog.statement(170_000))
         self.assertNotIn("inherit_option", catalog.statement(150_018))
-
-
-if __name__ == "__main__":
-    os.environ.setdefault("VIEWD_POSTGRESQL_ROOM", str(pathlib.Path("/tmp/viewd-postgresql-room")))
-    unittest.main()
