@@ -57,6 +57,7 @@ with used as (
         'type', case when t.typnamespace = 'pg_catalog'::regnamespace then format_type(a.atttypid, null)
                      when position('.' in t.typnamespace::regnamespace || t.typname) > 0 then 'a name with a dot'
                      else (select nspname from pg_namespace where oid = t.typnamespace) || '.' || t.typname end,
+        'whole', format_type(a.atttypid, a.atttypmod),
         'collation', coalesce(nullif(case when c.collnamespace = 'pg_catalog'::regnamespace then c.collname
                                      else c.collnamespace::regnamespace || '.' || c.collname end, 'default'), ''),
         'deterministic', coalesce(c.collisdeterministic, true),
@@ -137,6 +138,7 @@ class Attribute:
     notnull: bool
     generated: bool
     type: str
+    whole: str  # the type with its length
     collation: str  # empty: the database's
     deterministic: bool
     labels: list[str] | None  # of an enum

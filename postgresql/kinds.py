@@ -9,6 +9,8 @@ from collections.abc import Callable
 from decimal import Decimal, InvalidOperation
 from typing import NamedTuple
 
+from pglast import keywords
+
 from predicate import TEXT, Refused, quoted
 
 WORDS = frozenset("""all and as between by case cast count cross current_user distinct except exists false fetch for from full group having in
@@ -55,6 +57,12 @@ class Column(NamedTuple):
 
 def name_ok(name: str) -> bool:
     return bool(NAME.fullmatch(name)) and name not in WORDS
+
+
+def identifier(name: str) -> str:
+    """A name as SQL writes it."""
+    words = keywords.RESERVED_KEYWORDS | keywords.TYPE_FUNC_NAME_KEYWORDS | keywords.COL_NAME_KEYWORDS
+    return name if NAME.fullmatch(name) and name not in words else '"' + name.replace('"', '""') + '"'
 
 
 def enum(name: str, labels: list[str]) -> Kind:

@@ -1,4 +1,5 @@
 """What has to be said in PostgreSQL before it can be followed, and a configuration to begin with."""
+from kinds import identifier
 from settings import Settings
 from state import State
 
@@ -19,10 +20,6 @@ def missing(state: State, settings: Settings) -> list[str]:
     if absent and not server.publication:
         return [*found, f"CREATE PUBLICATION {identifier(settings.publication)} FOR TABLE {', '.join(absent)};"]
     return found + [f"ALTER PUBLICATION {identifier(settings.publication)} ADD TABLE {it};  -- where it is there in part, DROP TABLE it first" for it in absent]
-
-
-def identifier(name: str) -> str:
-    return name if name.isidentifier() and name.islower() and name.isascii() else '"' + name.replace('"', '""') + '"'
 
 
 def text(value: str) -> str:

@@ -4,7 +4,7 @@ from collections import Counter
 from typing import Any
 
 from catalog import Attribute, Catalog, Relation
-from kinds import KINDS, Column, Kind, enum, name_ok
+from kinds import KINDS, Column, Kind, enum, identifier, name_ok
 from predicate import Refused
 from translate import Words
 from views import COLUMNS, Source, halves, view
@@ -71,7 +71,7 @@ def columns_of(rel: Relation, chosen: list[str] | None, made: Made) -> None:
         elif not it.notnull and (f"{it.name}_null" in names or not name_ok(f"{it.name}_null")):
             made.faults.append(f"column {it.name}: it may be NULL, and {it.name}_null is no name that is free; "
                                f"say ALTER TABLE .. ALTER COLUMN {it.name} SET NOT NULL")
-            made.sql.append(f"ALTER TABLE {rel.sql} ALTER COLUMN {it.name} SET NOT NULL;")
+            made.sql.append(f"ALTER TABLE {rel.sql} ALTER COLUMN {identifier(it.name)} SET NOT NULL;")
         elif it.generated:
             made.faults.append(f"column {it.name}: it is generated, and is not replicated")
         elif not it.deterministic:
@@ -87,9 +87,10 @@ def columns_of(rel: Relation, chosen: list[str] | None, made: Made) -> None:
 
 
 def collated(rel: Relation, column: str) -> str:
-    """The statement that gives a column of text the order of its bytes. Its type is kept by the format."""
-    kind = next((it.type for it in rel.columns if it.name == column), "text")
-    return f'ALTER TABLE {rel.sql} ALTER COLUMN {column} TYPE {kind} COLLATE "C";  -- policies and views that name it have to be dropped before, and made again'
+    """The statement that gives a column of text the order of its bytes."""
+    kind = next((it.whole for it in rel.columns if it.name == column), "text")
+    return (f'ALTER TABLE {rel.sql} ALTER COLUMN {identifier(column)} TYPE {kind} COLLATE "C";'
+            "  -- policies and views that name it have to be dropped before, and made again")
 
 
 def table(rel: Relation, made: Made, chosen: list[str] | None, roles: Names, user: str) -> None:
@@ -100,10 +101,10 @@ def table(rel: Relation, made: Made, chosen: list[str] | None, roles: Names, use
         made.faults.append("it has parts or is one (inheritance, partitions): a SELECT of it shows rows of others")
     if not rel.readable:
         made.faults.append(f"the bridge may not read it: say GRANT pg_read_all_data to its role, or SELECT on {rel.sql} and USAGE on its schema")
-        made.sql.append(f"GRANT pg_read_all_data TO {user};")
+        made.sql.append(f"GRANT pg_read_all_data TO {identifier(user)};")
     if rel.bound:
         made.faults.append("policies bind the bridge's role, so it cannot see all rows: say ALTER ROLE .. BYPASSRLS")
-        made.sql.append(f"ALTER ROLE {user} BYPASSRLS;")
+        made.sql.append(f"ALTER ROLE {identifier(user)} BYPASSRLS;")
     if rel.identity != "f":
         made.missing.append(f"its deleted rows are not replicated whole: say ALTER TABLE {rel.sql} REPLICA IDENTITY FULL")
     if not rel.published:

@@ -122,6 +122,18 @@ class Program(unittest.TestCase):
         self.assertIn("notes: policies bind the bridge's role, so it cannot see all rows: say ALTER ROLE .. BYPASSRLS", done.stdout)
         self.assertIn("ALTER ROLE bridge BYPASSRLS;", done.stdout)
 
+    def test_statements_name_things_as_sql_does(self) -> None:
+        self.desk.do('create role "The Bridge" login; create table texts ("user" varchar(5) not null, "user_null" int); alter table texts enable row level security',
+                     "create policy p on texts using (\"user\" < 'b')", 'create table "Mixed Case" (id int not null)', 'grant select on texts to "The Bridge"')
+        done = self.desk.program("check", dsn=self.desk.dsn.replace("user=postgres", "user='The Bridge'"), config='[postgres]\npublication = "select"\n[relations]\ntexts = "public.texts"\nmixed = "public.\\"Mixed Case\\""')
+        self.assertIn('GRANT pg_read_all_data TO "The Bridge";', done.stdout)
+        self.assertIn('ALTER ROLE "The Bridge" BYPASSRLS;', done.stdout)
+        self.assertIn('ALTER ROLE "The Bridge" REPLICATION;', done.stdout)
+        self.desk.do(*re.findall(r"^  ([A-Z].*;)(?:  --.*)?$", done.stdout.partition("to say in PostgreSQL:")[2], re.M))
+        done = self.desk.program("check", config='[postgres]\npublication = "select"\n[relations]\ntexts = "public.texts"\nmixed = "public.\\"Mixed Case\\""')
+        self.assertIn('ALTER TABLE public.texts ALTER COLUMN "user" TYPE character varying(5) COLLATE "C";', done.stdout)
+        self.assertIn('CREATE PUBLICATION "select" FOR TABLE public."Mixed Case";', done.stdout)
+
     def test_a_configuration(self) -> None:
         self.desk.do("create table notes (id int not null, who text, doc jsonb); create schema other; create table other.notes (id int not null); insert into notes values (1, 'a'), (2, null), (2, null); create role ann")
         path = self.desk.room() / "made.toml"
