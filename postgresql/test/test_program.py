@@ -2,6 +2,7 @@
 import random
 import re
 import unittest
+import unittest.mock
 
 import catalog
 from desk import ROLES, Desk, Shown, alike
@@ -286,6 +287,26 @@ class Program(unittest.TestCase):
         self.assertEqual(catalog.mark(connection, oids, "viewd"), before)
         read = catalog.read(connection, oids, "viewd")
         self.assertEqual(read.relations[oids[0]].columns[1].labels, ["blue", "ok"])
+
+    def test_a_policy_that_changes_is_printed_meanwhile(self) -> None:
+        """A catalog is never answered with texts of another moment."""
+        self.desk.do("create table notes (id int not null)", "create policy p on notes using (id = 1)")
+        connection = catalog.connect(self.desk.dsn)
+        self.addCleanup(connection.close)
+        self.desk.cursor.execute("select 'notes'::regclass::oid::bigint")
+        oid = (self.desk.cursor.fetchone() or (0,))[0]
+        statements = ["alter policy p on notes using (id = 2)", "alter table notes enable row level security"]
+        printed = catalog.text
+
+        def changed(*words: object) -> str | None:
+            """Two changes, one behind each printed text."""
+            found = printed(*words)  # type: ignore[arg-type]
+            self.desk.do(*statements[:1])
+            del statements[:1]
+            return found
+        with unittest.mock.patch.object(catalog, "text", changed):
+            found = catalog.read(connection, [oid], "viewd").relations[oid]
+        self.assertEqual((found.policies[0].text, found.enable), ("(id = 2)", True))
 
     def test_statements_for_later_servers_can_be_written(self) -> None:
         self.assertIn("m.inherit_option", catalog.statement(160_001))
