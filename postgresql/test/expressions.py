@@ -263,16 +263,13 @@ select a.id, b.rank from things a, people b where a.note = b.name and b.boss is 
 select a.name, b.name as top from people a join people b on a.boss = b.name
 select a.name, b.name as top from people a join people b on a.boss = b.boss
 select a.name, b.name as top from people a join people b on a.boss = b.boss where a.boss is distinct from 'zoe'
-select name, boss, rank from people natural join (people p(x, y, z) cross join things) where false
 select t.id, k.key from things t join kinds k using (id)
 select t.id, k.mood, k.at, k.seen, k.level from things t join kinds k on t.id = k.id where k.mood <> 'sad' or t.done
 select id from things where done is not true and (note is null or code < 'b')
-select id, case when open then 1 else 2 end as x from things
 select mood::text as mood, key from kinds
 select a.id from things a join kinds b on a.id = b.id join people c on b.owner = c.name where c.boss is null
 select a.id from kinds a join kinds b on a.key = b.key and a.mood = b.mood where a.small = 1
 select a.id from kinds a join kinds b on a.short = b.owner
-select count(*) as many from things
 select day, at from things join kinds using (id) where day is not null and at is null
 select id as a, id as b from things
 select * from people where name = 'ann' and boss = 'eve'
@@ -289,6 +286,8 @@ select small, n from kinds join things using (id)
 select a.day from things a join things b on a.day = b.day where a.id < 3
 select a.amount from things a join things b on a.amount = b.amount where b.id < 3""".split("\n")
 REFUSED_VIEWS = [
+    ("select name, boss, rank from people natural join (people p(x, y, z) cross join things)", "new names of columns in FROM"),
+    ("select id, case when open then 1 else 2 end as x from things", "CASE"), ("select count(*) as many from things", "sum or count without GROUP BY"),
     ("select id, owner, count(*) as many from keyed group by id", "keyed.owner is shown and not in GROUP BY"),
     ("select id from things limit 3", "LIMIT"), ("select n, sum(n) as total from things group by n", "sum of things.n, which may be NULL"), ("select owner, count(n) as many from things group by owner", "count of things.n, which may be NULL"),
     ("select t.id, p.boss from things t left join people p on t.owner = p.name", "LEFT JOIN"), ("select owner, max(id) as most from things group by owner", "the function max"), ("select 1 as one from things", "1 in the list of columns"),

@@ -96,11 +96,7 @@ class Expressions(unittest.TestCase):
         self.assertEqual(self.compare({f"p{number}": text for number, text in enumerate(texts)}), {})
 
     def test_views(self) -> None:
-        refused = ("case when", "cross join", "count(*) as many from things", "union all select note", "small from kinds union", "union select owner")
-        why = self.views(VIEWS)
-        self.assertLessEqual(len(why), 5, why)
-        for text, fault in why.items():
-            self.assertTrue(any(it in text for it in refused), (text, fault))
+        self.assertEqual(self.views(VIEWS), {})
 
     def test_views_nested_at_random(self) -> None:
         r = random.Random(options["seed"] + 13)
