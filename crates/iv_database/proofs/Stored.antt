@@ -4,7 +4,7 @@ use Rattle.std.specs.Prelude.{Result, Ok, Err, option_map}
 use Rattle.std.specs.List.{AllByRecursion, IsDistinct}
 use Rattle.std.proofs.lemmas.Int.{ints}
 use Rattle.std.proofs.lemmas.List.{map-append}
-use Rattle.iv_zset.specs.RowLimit.{IsRowLimit}
+use Rattle.iv_rows.specs.RowLimit.{IsRowLimit}
 use Rattle.iv_zset.specs.Weights.{Weighed, IsBag, IsZSet}
 use Rattle.iv_rows.specs.Columns.{Column, kinds_of}
 use Rattle.iv_algebra.specs.Contents.{rows_of}

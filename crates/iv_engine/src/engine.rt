@@ -5,7 +5,7 @@
 //! it says that it takes back all that was shown.
 ghost use Rattle.std.specs.Prelude.{◌≡◌, ◌↔◌, [], IfOk, OnOk, OnErr, map, true, false};
 ghost use Rattle.std.specs.List.{list_all};
-ghost use Rattle.iv_zset.specs.RowLimit.{IsRowLimit};
+ghost use Rattle.iv_rows.specs.RowLimit.{IsRowLimit};
 ghost use Rattle.iv_machine.specs.Machine.{hung};
 ghost use Rattle.iv_machine.specs.Reached.{AreNumbersUnique};
 ghost use Rattle.iv_machine.specs.State.{State, start};

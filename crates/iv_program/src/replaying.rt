@@ -1,7 +1,7 @@
 //! `work`: does what the settings ask; `replay`: request lines in, answer lines out, through a new engine.
 
 ghost use Rattle.std.specs.Prelude.{◌≡◌, ℕ, ◌≤◌, ◌+◌, ◌*◌, ◌||◌, OnOk, true, false};
-ghost use Rattle.iv_zset.specs.RowLimit.{IsRowLimit};
+ghost use Rattle.iv_rows.specs.RowLimit.{IsRowLimit};
 ghost use Rattle.iv_machine.specs.State.{start};
 ghost use Rattle.iv_engine.specs.Engine.{IsBehind};
 ghost use Rattle.iv_lines.specs.Cut.{line_room};

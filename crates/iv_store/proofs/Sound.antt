@@ -2,7 +2,7 @@
 use Rattle.std.proofs.Common.{◌≡◌, ℕ, ◌<◌, ◌≤◌, Bool, true, false, cond, ◌&&◌, ◌||◌, List, [], ◌∷◌, ◌++◌, length, length-append, Option, None, Some, refl, sym, ap, subst, ◌∙◌, arith}
 use Rattle.std.specs.Prelude.{◌==◌, is_some, option_map, position, unwrap_or}
 use Rattle.std.specs.List.{AllByRecursion, list_any}
-use Rattle.iv_zset.specs.RowLimit.{IsRowLimit}
+use Rattle.iv_rows.specs.RowLimit.{IsRowLimit}
 use Rattle.iv_zset.specs.Weights.{weight_of}
 use Rattle.iv_rows.specs.Columns.{Column, kinds_of}
 use Rattle.iv_algebra.specs.Plans.{Lists}
