@@ -6,5 +6,4 @@ mod Ending
 mod Joining
 mod Guarding
 mod Numbering
-mod Applying
 pub mod Enrolled

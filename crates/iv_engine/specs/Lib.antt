@@ -1,3 +1,2 @@
-pub mod Applied
 pub mod Restricted
 pub use Rattle.iv_store.specs.Engine

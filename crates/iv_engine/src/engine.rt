@@ -1,18 +1,16 @@
-//! `Engine`: `apply` answers a command, `run_list` many, `hang_up` ends all sessions; one that failed answers none.
+//! `Engine`: `apply` answers a command, `hang_up` ends all sessions; one that failed answers none.
 //!
 //! The clause `known_rows` of `apply` follows from `lines`. It is said all the same: a leak is the worst fault. Of a
 //! change it speaks where the subscription is to a table, since the rows of a view stand in no table; of a last line
 //! it says that it takes back all that was shown.
 ghost use Rattle.std.specs.Prelude.{◌≡◌, ◌↔◌, [], IfOk, OnOk, OnErr, map, true, false};
-ghost use Rattle.std.specs.List.{list_all};
 ghost use Rattle.iv_rows.specs.RowLimit.{IsRowLimit};
 ghost use Rattle.iv_machine.specs.Machine.{hung};
 ghost use Rattle.iv_machine.specs.Reached.{AreNumbersUnique};
 ghost use Rattle.iv_machine.specs.State.{State, start};
 ghost use Rattle.iv_machine.specs.Well.{is_well_command};
-ghost use Rattle.iv_engine.specs.Applied.{AreApplied};
 ghost use Rattle.iv_store.specs.Counting.{AreCountedWhereAccepted};
-ghost use Rattle.iv_store.specs.Engine.{AreLinesOf, AreLinesOfAll, ChangesWhereAccepted, HasKnownRows, HasRoundsOfOpen, IsBehind, IsLeftBy, IsLeftByAll, LinesAddUpBehind, hung_up};
+ghost use Rattle.iv_store.specs.Engine.{AreLinesOf, ChangesWhereAccepted, HasKnownRows, HasRoundsOfOpen, IsBehind, IsLeftBy, hung_up};
 ghost use Rattle.iv_command.specs.Views.{command_of, line_of};
 
 use crate::step::step;
@@ -160,37 +158,5 @@ impl Engine {
                 Err(EngineFault::Memory)
             }
         }
-    }
-
-    /// Answers commands in their order, and stops at the first fault; then no line is handed out.
-    ///
-    /// # Errors
-    /// `Failed` exactly where the engine had failed; `Memory` where a growth of memory was refused. The engine has
-    /// failed after either.
-    pub fn run_list(&mut self, commands: Vec<Command>) -> Result<Vec<Line>, EngineFault>
-        requires { list_all is_well_command (map command_of commands.items) ≡ true }
-        ensures lines { IfOk result (λ lines. AreLinesOfAll self.old (map command_of commands.items) (map line_of lines.items)) }
-        ensures state { OnOk result (IsLeftByAll self.old (map command_of commands.items) self.new) }
-        // Each command is answered as `apply` answers it: known rows, nothing changed where it is refused, and rounds counted.
-        ensures each { IfOk result (λ lines. AreApplied self.old (map command_of commands.items) (map line_of lines.items) self.new) }
-        // For each subscription that its reader did not close, what is sent adds up to what it shows more than before.
-        ensures held { IfOk result (λ lines. LinesAddUpBehind self.old (map command_of commands.items) (map line_of lines.items)) }
-        ensures went_on { OnOk result (self.new.failed ≡ false) }
-        ensures fails { OnErr result (self.new.failed ≡ true) }
-        ensures failed { result ≡ Err EngineFault.Failed ↔ (self.old.failed ≡ true) }
-        ensures failed_unchanged { self.old.failed ≡ true → self.new ≡ self.old }
-    {
-        if self.is_failed() {
-            return Err(EngineFault::Failed);
-        }
-        let mut lines = Vec::new(self.store.alloc);
-        for command in commands {
-            let mut said = self.apply(command)?;
-            if lines.append(&mut said).is_err() {
-                self.fail();
-                return Err(EngineFault::Memory);
-            }
-        }
-        Ok(lines)
     }
 }

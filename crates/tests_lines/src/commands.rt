@@ -6,9 +6,9 @@ ghost use Rattle.iv_command.specs.Views.{command_of};
 
 use crate::replayed::{ANSWERS, REQUESTS};
 use iv_command::{Act, Command, Entry, Line, Op};
+use iv_embedded::{read_line, run_list, well};
 use iv_engine::{Engine, EngineFault};
 use iv_lines::write_line;
-use iv_request::read_line;
 use iv_rows::{Column, Kind, Row, Value};
 use std::alloc::{AllocError, Global};
 use std::test::Fail;
@@ -49,7 +49,7 @@ fn texts(alloc: Global, lines: &[Line]) -> Result<Vec<u8>, AllocError> {
 
 /// The lines that a command is answered, where it keeps the rules on shape and the engine gives an answer.
 fn applied(engine: &mut Engine, command: Command) -> Option<Vec<Line>> {
-    if command.well() {
+    if well(&command) {
         engine.apply(command).ok()
     } else {
         drop(command);
@@ -164,7 +164,7 @@ pub fn are_well(commands: &[Command]) -> bool
     ensures { result ≡ list_all is_well_command (map command_of commands.now) }
 {
     for command in commands {
-        if !command.well() {
+        if !well(command) {
             return false;
         }
     }
@@ -192,7 +192,7 @@ pub fn ran_list(
     commands: Vec<Command>,
 ) -> Option<Result<Vec<Line>, EngineFault>> {
     if are_well(&commands) {
-        Some(engine.run_list(commands))
+        Some(run_list(engine, commands))
     } else {
         None
     }
@@ -242,7 +242,7 @@ fn first_change_as_a_list(rt: HostRuntime) -> Result<(), Fail> {
 
 /// What an engine answers to a command, where the command keeps the rules on shape.
 pub fn fault_of(engine: &mut Engine, command: Command) -> Option<EngineFault> {
-    if command.well() {
+    if well(&command) {
         engine.apply(command).err()
     } else {
         drop(command);
@@ -297,7 +297,7 @@ fn an_engine_fails(rt: HostRuntime) -> Result<(), Fail> {
 /// Whether what a session asks keeps the rules on shape.
 fn is_well(session: u32, act: Act) -> bool {
     let command = Command { session, act };
-    let is_well = command.well();
+    let is_well = well(&command);
     drop(command);
     is_well
 }

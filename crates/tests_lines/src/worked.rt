@@ -1,8 +1,8 @@
 //! Tests of the worked examples, byte for byte, and of one line that is read or written.
 use crate::replayed::{ANSWERS, REQUESTS, answers, joined, replayed, writes};
 use iv_command::{Act, Command, Line, Privilege, Refusal, Reply, SentRows};
+use iv_embedded::read_line;
 use iv_lines::write_line;
-use iv_request::read_line;
 use iv_rows::{Row, Value};
 use std::alloc::{AllocError, Global};
 use std::rc::Rc;
