@@ -1,8 +1,8 @@
 -- What a bound query keeps: its columns are those of a schema, and its plan fits.
-use Rattle.std.proofs.Common.{◌≡◌, ℕ, suc, ◌≤◌, ◌<◌, ◌^◌, Bool, true, false, List, [], ◌∷◌, ◌++◌, map, length, Some, None, option_and_then, Result, Ok, Err, refl, ap, subst, ◌∙◌, arith}
-use Rattle.std.specs.Prelude.{◌&&◌, nat_le, nat_lt, if◌then◌else◌, Contains, IfOk}
+use Rattle.std.proofs.Common.{◌≡◌, ℕ, ◌≤◌, Bool, true, false, List, [], ◌∷◌, ◌++◌, map, length, Some, None, option_and_then, Result, Ok, Err, refl, subst, ◌∙◌, arith}
+use Rattle.std.specs.Prelude.{◌&&◌, nat_le, if◌then◌else◌, Contains, IfOk}
 use Rattle.std.specs.List.{list_all}
-use borrow.Author.Tests.{leb-true, le-leb, lt-ltb}
+use borrow.Author.Tests.{leb-true, le-leb}
 use Rattle.iv_rows.specs.Names.{is_name}
 use Rattle.iv_rows.specs.Columns.{Column, kinds_of, is_wide, has_columns, has_distinct_names}
 use Rattle.iv_rows.specs.declared.value.Kind.{Kind}
@@ -19,15 +19,15 @@ use Rattle.iv_bind.specs.Catalogs.{BoundQuery, CatalogEntry, AreAmong, bound_of,
 use Rattle.iv_bind.specs.Binding.{From, Out, keys_bound, first_aggregate, ungrouped, list_bound, grouped_shape, distinctly, selected, output_of, from_bound, filter_bound, select_bound, combined_plan, combined, place_of_select, query_bound, once, finished, bound}
 use Rattle.iv_query.specs.declared.fault.Fault as reading
 use Rattle.iv_query.specs.TextReading.{read_query}
-use Rattle.iv_bind.specs.BoundTexts.{ReadsWell, of_binding, then_bound, bound_query}
+use Rattle.iv_bind.specs.BoundTexts.{of_binding, then_bound, bound_query}
 use Rattle.iv_query.specs.Well.{IsWellList, IsWellSelect, IsWellQuery}
-use Rattle.iv_bind.specs.Sound.{is_schema, IsTyped, IsSoundView, IsSoundCatalog}
+use Rattle.iv_bind.specs.Sound.{is_schema, IsTyped, IsSoundView, IsSoundCatalog, ReadsWell}
 use Rattle.iv_bind.specs.declared.bound.Bound.{Bound}
 use Rattle.iv_bind.specs.declared.fault.BindFault.{BindFault}
 use Rattle.iv_bind.proofs.Needs.{among_both, among_once}
 use Rattle.iv_bind.proofs.Inversion.{both_ok, then_ok, none_ok}
 use Rattle.iv_bind.proofs.Columns.{kinds_in}
-use Rattle.iv_bind.proofs.Predicates.{and_parts, and_whole}
+use Rattle.iv_bind.proofs.Predicates.{and_whole}
 use Rattle.iv_bind.proofs.Joins.{IsFrom, from_keeps, filter_keeps}
 use Rattle.iv_bind.proofs.Outputs.{at_there, at_kinds, at_length, below, IsOut, listed_keep, starred_keep, keys_keep}
 

@@ -3,7 +3,10 @@ ghost use Rattle.std.specs.Prelude.{◌≡◌, ◌&&◌, ◌^◌, map, nat_le, n
 ghost use Rattle.std.specs.List.{list_all};
 ghost use Rattle.iv_rows.specs.Texts.{is_well};
 ghost use Rattle.iv_machine.specs.Refusing.{rows_in};
-ghost use Rattle.iv_machine.specs.Well.{is_between, is_grantee, is_group, is_positive, is_well_act, is_well_command, is_well_entry, is_well_policy, has_texts};
+ghost use Rattle.iv_machine.specs.Parts.{is_between, is_group, is_positive, has_texts};
+ghost use Rattle.iv_machine.specs.Act.{create_policy};
+ghost use Rattle.iv_machine.specs.Stored.{HasTexts};
+ghost use Rattle.iv_machine.specs.Well.{is_grantee, is_well_act, is_well_command, is_well_entry, is_well_policy};
 ghost use Rattle.iv_command.specs.Entries.{copies_of, op_of};
 ghost use Rattle.iv_command.specs.Views.{act_of, command_of};
 
@@ -25,6 +28,22 @@ impl Command {
         }
         is_well_act(&self.act)
     }
+
+    /// Its texts are in UTF-8, as each `String` is. There is nothing to do.
+    pub fn texts(&self)
+        ensures { HasTexts (command_of self.now).act }
+    {
+        if let Act::CreatePolicy(policy) = &self.act {
+            policy_texts(policy);
+        }
+    }
+}
+
+/// The texts of a policy are in UTF-8.
+fn policy_texts(policy: &PolicyText)
+    ensures { HasTexts (create_policy policy.now) }
+{
+    let _using = &policy.using_text;
 }
 
 /// Whether the number of a command's session keeps the rules on shape: 1 to 2^32 - 1.

@@ -7,4 +7,5 @@ mod Joining
 mod Guarding
 mod Numbering
 mod Applying
+pub mod Sounding
 pub mod Enrolled

@@ -1,5 +1,6 @@
 //! `command_in`, `read_line`: from a line to its command, by the shape rules: which request a JSON value is; `WireFault`: why there is none.
 ghost use Rattle.std.specs.Prelude.{◌≡◌, IfOk, IsErrOf, option_map, true};
+ghost use Rattle.iv_machine.specs.Stored.{IsGiven};
 ghost use Rattle.iv_machine.specs.Well.{is_well_command};
 ghost use Rattle.iv_command.specs.Views.{act_of, command_of};
 ghost use Rattle.iv_request.specs.Request.{session_of, begin_of, create_role_of, create_table_of, create_view_of, write_of, subscribe_of, unsubscribe_of, act_for, asked_act, request};
@@ -219,6 +220,7 @@ fn read_value<'a>(
 pub fn command_in(alloc: Global, line: &[u8], scratch: &mut Scratch) -> Result<Command, WireFault>
     ensures command { IfOk result (λ command. reading_of line.now ≡ asked (command_of command)) }
     ensures well { IfOk result (λ command. is_well_command (command_of command) ≡ true) }
+    ensures given { IfOk result (λ command. IsGiven (command_of command)) }
     ensures bad_json { IsErrOf result WireFault.BadJson → reading_of line.now ≡ bad_json }
     ensures bad_request { IsErrOf result WireFault.BadRequest → reading_of line.now ≡ bad_request }
 {
@@ -226,7 +228,10 @@ pub fn command_in(alloc: Global, line: &[u8], scratch: &mut Scratch) -> Result<C
         None => Err(WireFault::BadJson),
         Some(value) => match request_of(alloc, &value)? {
             None => Err(WireFault::BadRequest),
-            Some(command) => Ok(command),
+            Some(command) => {
+                command.texts();
+                Ok(command)
+            }
         },
     }
 }
@@ -241,6 +246,7 @@ pub fn command_in(alloc: Global, line: &[u8], scratch: &mut Scratch) -> Result<C
 pub fn read_line(alloc: Global, line: &[u8]) -> Result<Command, WireFault>
     ensures command { IfOk result (λ command. reading_of line.now ≡ asked (command_of command)) }
     ensures well { IfOk result (λ command. is_well_command (command_of command) ≡ true) }
+    ensures given { IfOk result (λ command. IsGiven (command_of command)) }
     ensures bad_json { IsErrOf result WireFault.BadJson → reading_of line.now ≡ bad_json }
     ensures bad_request { IsErrOf result WireFault.BadRequest → reading_of line.now ≡ bad_request }
 {

@@ -1,3 +1,4 @@
 pub mod Endings
+pub mod Learned
 pub mod Ran
 pub mod Sums

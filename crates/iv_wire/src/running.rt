@@ -6,12 +6,15 @@
 //!
 //! A line is read, and its answer written, in the memory of the one before: so much stays as the longest answer took.
 ghost use Rattle.std.specs.Prelude.{◌≡◌, ◌≤◌, ◌+◌, ◌*◌, ◌||◌, ◌↔◌, ℕ, take, flat_map, true, false, IfOk, IfErr, IfSome, OnOk, OnErr, IsErrOf};
+ghost use Rattle.std.specs.List.{All};
 ghost use Rattle.std.specs.Io.KnownBytes.{Appends};
 ghost use Rattle.iv_machine.specs.State.{State};
+ghost use Rattle.iv_machine.specs.Stored.{IsGiven};
 ghost use Rattle.iv_machine.specs.Well.{is_well_command};
 ghost use Rattle.iv_engine.specs.Engine.{IsBehind};
+ghost use Rattle.iv_engine.specs.Sound.{IsSoundEngine};
 ghost use Rattle.iv_command.specs.Views.{command_of};
-ghost use Rattle.iv_lines.specs.Answer.{told, readings_of};
+ghost use Rattle.iv_lines.specs.Answer.{commands_of, told, readings_of};
 ghost use Rattle.iv_lines.specs.Cut.{line_room};
 ghost use Rattle.iv_lines.specs.Texts.{line_text};
 ghost use Rattle.iv_machine.specs.Machine.{step};
@@ -58,6 +61,7 @@ fn answer_line(
 ) -> Result<Vec<u8>, AllocError>
     ensures text { IfOk result (λ text. (s : State) → IsBehind s engine.old → text.items ≡ (told s (readings_of line.now)).text) }
     ensures state { OnOk result ((s : State) → IsBehind s engine.old → IsBehind (told s (readings_of line.now)).state engine.new) }
+    ensures given { OnOk result (All IsGiven (commands_of (readings_of line.now))) }
     ensures failed { OnOk result (engine.old.failed ≡ false → engine.new.failed ≡ false) }
 {
     if is_blank_line(line) {
@@ -167,6 +171,9 @@ pub fn run<R: Source, W: Sink>(
           now = engine.new;
         }))) }
     ensures ran { (is_memory result ≡ false) → (s : State) → IsBehind s engine.old → HasRun lines s engine.new }
+    // Where a sound state stood behind the engine, one does afterwards: roles, names, sessions, subscriptions and rows, and the
+    // policies, views and rights that are stored.
+    ensures sound { (is_memory result ≡ false) → IsSoundEngine engine.old → IsSoundEngine engine.new }
     ensures failed { engine.new.failed ≡ (engine.old.failed || is_memory result) }
     ensures refused { IsErrOf result RunFault.Failed ↔ (engine.old.failed ≡ true) }
     ensures untouched { engine.old.failed ≡ true → (reader.new ≡ reader.old) × (writer.new ≡ writer.old) × (engine.new ≡ engine.old) }

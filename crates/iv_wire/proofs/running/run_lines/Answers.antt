@@ -54,7 +54,7 @@ loop-preserved g c =
     let k = rw c.in-Line.is at c.in_ok-next_line.ensures.cut in
     record {
       told = λ s b. told_more s c.loop.engine c.answer_line.new.engine _ (known c.loop.room (g.R.Source.left c.loop.reader)) _ _ (g.W.Sink.taken c.loop.writer) _ c.loop.counter c.in-Line.line _ (c.loop.invariant.told s b) k (tells c.loop.engine c.answer_line.new.engine c.in-Line.line.items _ _ _ c.deref-in-Line.ensures.value c.deref-in-Line-2.ensures.value c.in_ok-text-in-Line.ensures.text c.in_ok-text-in-Line.ensures.state) c.in_ok-send_answer-in-Line.ensures.ok;
-      ran = λ s b. one_more_ran c.loop.counter c.deref-in-Line.result.now s c.loop.engine c.answer_line.new.engine (c.loop.invariant.ran s b) c.in_ok-text-in-Line.ensures.state;
+      ran = λ s b. one_more_ran c.loop.counter c.deref-in-Line.result.now s c.loop.engine c.answer_line.new.engine (c.loop.invariant.ran s b) c.in_ok-text-in-Line.ensures.given c.in_ok-text-in-Line.ensures.state;
       went_on = λ h. c.in_ok-text-in-Line.ensures.failed (c.loop.invariant.went_on h);
       read = c.in_ok-next_line.ensures.failed ∙ (or-false (g.R.Source.has_failed c.loop.reader) ∙ c.loop.invariant.read);
       write = c.in_ok-send_answer-in-Line.ensures.failed ∙ (or-false (g.W.Sink.has_failed c.loop.writer) ∙ c.loop.invariant.write);
@@ -87,4 +87,4 @@ returns-in-Endless-clause-ran g c = λ _ s b. ran_within c.loop.counter c.args.l
 
 pub returns-in_err-send_answer-in-Line-clause-ran : goal.returns-in_err-send_answer-in-Line-clause-ran
 returns-in_err-send_answer-in-Line-clause-ran g c = λ _ s b. ran_within (c.loop.counter + 1) c.args.lines s _ (omega arith)
-    (one_more_ran c.loop.counter c.deref-in-Line.result.now s c.loop.engine c.answer_line.new.engine (c.loop.invariant.ran s b) c.in_ok-text-in-Line.ensures.state)
+    (one_more_ran c.loop.counter c.deref-in-Line.result.now s c.loop.engine c.answer_line.new.engine (c.loop.invariant.ran s b) c.in_ok-text-in-Line.ensures.given c.in_ok-text-in-Line.ensures.state)

@@ -1,3 +1,4 @@
+use Rattle.iv_engine.proofs.Sounding.{sound_after_all}
 use Rattle.std.proofs.Common.{◌≡◌, ◌∙◌, refl, sym, ap, List, map, ◌++◌, [], subst, cond, arith}
 use Rattle.std.specs.List.{list_all}
 use Rattle.std.proofs.lemmas.List.{map-append}
@@ -75,3 +76,6 @@ returns-clause-held c = λ s b k q kept.
     let lines : map line_of c.loop-command.lines.items ≡ (run s (map command_of c.args.commands.items)).lines = nothing_more (map line_of c.loop-command.lines.items) ∙ sym (ap (λ (cs : List Command). map line_of c.loop-command.lines.items ++ (run x.0 (map command_of cs)).lines) none) ∙ x.2 in
     let numbers : AreNumbersUnique s.frame = subst AreNumbersUnique (sym b.frame) (c.is_failed.ensures.numbers c.if-is_failed.false) in
     ap (held k q) lines ∙ adds_up s (map command_of c.args.commands.items) numbers k q kept
+
+pub returns-clause-sound : goal.returns-clause-sound
+returns-clause-sound c = λ g h. sound_after_all c.args.self.now _ (map command_of c.args.commands.items) g (returns-clause-state c) h
