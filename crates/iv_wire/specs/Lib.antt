@@ -1,3 +1,4 @@
 pub mod Endings
 pub mod Ran
 pub mod Sums
+pub mod Turns

@@ -1,8 +1,8 @@
 //! `run`: reads lines, answers each in turn through the engine, and writes and flushes each answer.
 //!
 //! The answer to bytes folds the machine's `run` over the commands among the lines. That the state is one that the
-//! machine reaches is no premise: the engine's invariant gives it. A flush at the end alone would meet the contract;
-//! that each answer is flushed before the next line is read is shown by a dialogue over pipes (`.ci/examples`).
+//! machine reaches is no premise: the engine's invariant gives it. Each read is made in its turn: whole lines that were
+//! read before are answered then, and their answers flushed.
 //!
 //! A line is read, and its answer written, in the memory of the one before: so much stays as the longest answer took.
 ghost use Rattle.std.specs.Prelude.{◌≡◌, ◌≤◌, ◌+◌, ◌*◌, ◌||◌, ◌↔◌, ℕ, take, flat_map, true, false, IfOk, IfErr, IfSome, OnOk, OnErr, IsErrOf};
@@ -19,6 +19,8 @@ ghost use Rattle.iv_lines.specs.Reads.{is_read, is_write, is_memory};
 ghost use Rattle.iv_wire.specs.Endings.{IsAnswered};
 ghost use Rattle.iv_wire.specs.Ran.{HasRun};
 ghost use Rattle.iv_wire.specs.Sums.{HasWritten};
+ghost use Rattle.iv_wire.specs.Turns.{IsInTurn};
+ghost use Rattle.iv_lines.specs.Moments.{ReadsAt};
 
 use iv_command::Command;
 use iv_engine::Engine;
@@ -111,13 +113,15 @@ fn run_lines<R: Source, W: Sink>(
     ensures write { W.has_failed writer.new ≡ (W.has_failed writer.old || is_write result) }
     ensures flushed { (is_write result ≡ false) → W.is_flushed writer.old ≡ true → W.is_flushed writer.new ≡ true }
     ensures reads { R.reads reader.new ≤ R.reads reader.old + (lines * line_room) }
+    ensures turns { W.is_flushed writer.old ≡ true → (s : State) → IsBehind s engine.old
+        → ReadsAt (IsInTurn lines s (R.left reader.old) (W.taken writer.old)) (R.moments reader.old) (R.moments reader.new) }
 {
     let mut room = Room::new();
     let mut scratch = Scratch::new(alloc);
     let mut answered = Vec::new(alloc);
     let mut sent = Vec::new(alloc);
     for _ in 0..lines {
-        match next_line(answered, &mut room, reader)? {
+        match next_line(answered, &mut room, reader, writer)? {
             Next::Nothing => return Ok(End::Input),
             Next::Endless => {
                 let text = write_fault(alloc, 22)?;
@@ -174,6 +178,9 @@ pub fn run<R: Source, W: Sink>(
     ensures write { W.has_failed writer.new ≡ (W.has_failed writer.old || is_write result) }
     ensures flushed { (is_write result ≡ false) → W.is_flushed writer.old ≡ true → W.is_flushed writer.new ≡ true }
     ensures reads { R.reads reader.new ≤ R.reads reader.old + (lines * line_room) }
+    // Whenever the reader is read, all whole lines that it gave before are answered, and their answers written and flushed.
+    ensures turns { W.is_flushed writer.old ≡ true → (s : State) → IsBehind s engine.old
+        → ReadsAt (IsInTurn lines s (R.left reader.old) (W.taken writer.old)) (R.moments reader.old) (R.moments reader.new) }
 {
     if engine.is_failed() {
         return Err(RunFault::Failed);

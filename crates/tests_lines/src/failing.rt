@@ -1,9 +1,9 @@
 //! Tests with readers and writers that fail, that give or take a byte a call, and that record flushes.
-ghost use Rattle.std.specs.Prelude.{◌≡◌, None};
+ghost use Rattle.std.specs.Prelude.{◌≡◌, [], None};
 
 use crate::replayed::{ANSWERS, Ended, REQUESTS, ended, replayed, word_of};
 use iv_engine::Engine;
-use iv_lines::{EndFault, FromRead, FromWrite, RunFault, Source};
+use iv_lines::{EndFault, FromRead, FromWrite, RunFault, Sink, Source};
 use iv_wire::run;
 use std::alloc::{AllocError, Global};
 use std::io;
@@ -26,7 +26,9 @@ impl Source for Giver<'_> {
 
     ghost reads = { λ s. s.reads };
 
-    fn read(&mut self, room: &mut [u8]) -> Result<usize, EndFault> {
+    ghost moments = { λ _. [] };
+
+    fn read<W: Sink>(&mut self, room: &mut [u8], _writer: &W) -> Result<usize, EndFault> {
         self.reads = self.reads.saturating_add(1);
         let count = self.bytes.len().min(room.len()).min(self.step);
         let fails = count == 0;

@@ -2,6 +2,8 @@
 #![tactic(auto)]
 
 #[cfg(test)]
+mod connected;
+#[cfg(test)]
 mod refused;
 #[cfg(test)]
 mod served;

@@ -119,7 +119,7 @@ pub const FIRST_ANSWERS: &[u8] = b"{\"ok\":true,\"session\":1}
 {\"changes\":[[1,[1,\"ann\"]]],\"session\":2,\"sub\":1}
 ";
 
-const READER: &[u8] = b"{\"do\":\"begin\",\"role\":\"ann\",\"session\":2}
+pub const READER: &[u8] = b"{\"do\":\"begin\",\"role\":\"ann\",\"session\":2}
 {\"do\":\"subscribe\",\"on\":\"notes\",\"session\":2}
 ";
 
