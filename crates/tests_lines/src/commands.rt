@@ -1,4 +1,4 @@
-//! Calls of an engine with commands that keep the rules on shape, and a test of one.
+//! Calls of an engine with commands that keep the rules on shape, and a test of one that is read, answered and written.
 ghost use Rattle.std.specs.Prelude.{◌≡◌, map};
 ghost use Rattle.std.specs.List.{list_all};
 ghost use Rattle.iv_machine.specs.Well.{is_well_command};

@@ -1,4 +1,4 @@
-//! Tests of the public calls of iv_request, iv_lines, iv_engine and iv_wire: one line or command, ends that fail, memory that is refused.
+//! Tests of the public calls of iv_request, iv_lines, iv_engine and iv_wire: a command, ends that fail, memory that is refused.
 #![tactic(auto)]
 
 #[cfg(test)]
@@ -9,8 +9,6 @@ mod examples;
 mod failing;
 #[cfg(test)]
 mod failing_once;
-#[cfg(test)]
-mod one_line;
 #[cfg(test)]
 mod refused;
 #[cfg(test)]

@@ -1,6 +1,6 @@
-//! `ended`, `replayed`: how a run of a new engine ends and what it writes, for the other tests.
+//! `ended`: how a run of a new engine ends, for the other tests, and a worked example.
 use iv_engine::Engine;
-use iv_lines::{End, FromRead, FromWrite, RunFault, Sink, Source};
+use iv_lines::{End, RunFault, Sink, Source};
 use iv_wire::run;
 use std::alloc::{AllocError, Global};
 
@@ -68,27 +68,4 @@ pub fn ended<R: Source, W: Sink>(
     let ended = ended_by(alloc, &mut engine, reader, writer, lines);
     drop(engine);
     Ok(ended)
-}
-
-/// How a run over the bytes ends, of which this was written.
-fn ended_of(
-    alloc: Global,
-    bytes: &[u8],
-    written: &mut Vec<u8>,
-    lines: u32,
-) -> Result<Ended, AllocError> {
-    ended(
-        alloc,
-        &mut FromRead::new(bytes),
-        &mut FromWrite::new(written),
-        lines,
-    )
-}
-
-/// What a new engine writes for the bytes, and then how it ends.
-pub fn replayed(alloc: Global, bytes: &[u8], lines: u32) -> Result<Vec<u8>, AllocError> {
-    let mut written: Vec<u8> = Vec::new(alloc);
-    let ended = ended_of(alloc, bytes, &mut written, lines)?;
-    written.extend_from_slice(word_of(ended).as_bytes())?;
-    Ok(written)
 }
