@@ -15,7 +15,7 @@ use crate::privilege::{Missing, Privilege};
 use crate::relations::Relations;
 use iv_roles::{Memberships, RoleId, Roles, flag_at};
 use iv_rows::RelId;
-use iv_zset::Seed;
+use iv_seed::Seed;
 use std::alloc::{AllocError, Global};
 use std::marker::Model;
 

@@ -1,4 +1,5 @@
-//! `NewPolicy`, as asked for, and `Policy`, as kept; `PolicyCommand`, `Check`, `Verdict`; whether a row passes one policy; the tests of an update (`update_tests`).
+//! `NewPolicy`, as asked for, and `Policy`, as kept; `PolicyCommand`, `Check`, `Verdict`; whether a row passes one policy; the tests
+//! of an update (`update_tests`).
 ghost use Rattle.std.specs.Prelude.{◌≡◌, map, option_map};
 ghost use Rattle.iv_algebra.specs.Shapes.{condition_of};
 ghost use Rattle.iv_access.specs.Policies.{covers, is_met, is_named, or_later, passes, update_tests};

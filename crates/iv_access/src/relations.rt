@@ -8,7 +8,7 @@ ghost use Rattle.iv_access.specs.Stored.{relation_at};
 
 use indexmap::IndexMap;
 use iv_rows::{Kind, RelId};
-use iv_zset::Seed;
+use iv_seed::Seed;
 use std::alloc::{AllocError, Global};
 use std::marker::Model;
 

@@ -1,11 +1,8 @@
-pub mod Answering
 pub mod Changing
-pub mod Columns
 pub mod Counting
 pub mod Groups
 pub mod Growing
 pub mod Holding
 pub mod Once
 pub mod Operators
-pub mod Shares
 pub mod Typing

@@ -1,11 +1,8 @@
-pub mod Adding
-pub mod Answers
 pub mod Contents
 pub mod Counting
 pub mod Data
 pub mod Fits
 pub mod Groups
-pub mod Places
 pub mod Plans
 pub mod Predicates
 pub mod Rows

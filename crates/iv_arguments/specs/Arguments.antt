@@ -1,6 +1,6 @@
 -- What holds of the settings that the words on the command line give.
 use Rattle.std.specs.Prelude.{ℕ, ◌≤◌, ◌<◌, ◌^◌}
-use Rattle.iv_zset.specs.RowLimit.{IsRowLimit}
+use Rattle.iv_rows.specs.RowLimit.{IsRowLimit}
 use Rattle.iv_arguments.specs.declared.asked.Settings.{Settings}
 use Rattle.iv_arguments.specs.declared.asked.Settings.TheVariants.{Replay, Serve}
 

@@ -5,7 +5,7 @@
 //! not text is status 1, with a text of ours; `--help` is status 0 even where standard output is closed.
 
 ghost use Rattle.std.specs.Prelude.{◌≤◌, IfOk, IfSome};
-ghost use Rattle.iv_zset.specs.RowLimit.{IsRowLimit};
+ghost use Rattle.iv_rows.specs.RowLimit.{IsRowLimit};
 ghost use Rattle.iv_arguments.specs.Arguments.{InRange};
 
 use crate::asked::Settings;

@@ -3,7 +3,7 @@
 ghost use Rattle.std.specs.Prelude.{◌≡◌, IfErr};
 
 use crate::fault::Fault;
-use iv_zset::Seed;
+use iv_seed::Seed;
 
 /// A seed of the run's own, which nobody who writes rows can know.
 ///

@@ -19,9 +19,9 @@ use Rattle.iv_bind.specs.Catalogs.{BoundQuery, CatalogEntry, AreAmong, bound_of,
 use Rattle.iv_bind.specs.Binding.{From, Out, keys_bound, first_aggregate, ungrouped, list_bound, grouped_shape, distinctly, selected, output_of, from_bound, filter_bound, select_bound, combined_plan, combined, place_of_select, query_bound, once, finished, bound}
 use Rattle.iv_query.specs.declared.fault.Fault as reading
 use Rattle.iv_query.specs.TextReading.{read_query}
-use Rattle.iv_bind.specs.BoundTexts.{ReadsWell, of_binding, then_bound, bound_query}
+use Rattle.iv_bind.specs.BoundTexts.{of_binding, then_bound, bound_query}
 use Rattle.iv_query.specs.Well.{IsWellList, IsWellSelect, IsWellQuery}
-use Rattle.iv_bind.specs.Sound.{is_schema, IsTyped, IsSoundView, IsSoundCatalog}
+use Rattle.iv_bind.specs.Sound.{is_schema, IsTyped, IsSoundView, IsSoundCatalog, ReadsWell}
 use Rattle.iv_bind.specs.declared.bound.Bound.{Bound}
 use Rattle.iv_bind.specs.declared.fault.BindFault.{BindFault}
 use Rattle.iv_bind.proofs.Needs.{among_both, among_once}

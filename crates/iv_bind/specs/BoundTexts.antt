@@ -1,5 +1,5 @@
 -- From the bytes of a text to its plan or its condition, or its first fault.
-use Rattle.std.specs.Prelude.{◌≡◌, ℕ, List, Result, Ok, Err}
+use Rattle.std.specs.Prelude.{ℕ, List, Result, Ok, Err}
 use Rattle.iv_rows.specs.Columns.{Column}
 use Rattle.iv_query.specs.declared.fault.Why.{Why}
 use Rattle.iv_query.specs.declared.fault.Fault as reading
@@ -8,8 +8,6 @@ use Rattle.iv_bind.specs.Faults as binding
 use Rattle.iv_algebra.specs.Shapes.{Condition}
 use Rattle.iv_bind.specs.Catalogs.{BoundQuery, CatalogEntry}
 use Rattle.iv_bind.specs.Binding.{bound, bound_pred}
-use Rattle.iv_query.specs.Trees.{QueryTree}
-use Rattle.iv_query.specs.Well.{IsWellQuery}
 use Rattle.iv_query.specs.TextReading.{read_query, read_pred}
 
 -- what is wrong with a text: it is not in the grammar, or it does not go with the catalog
@@ -29,10 +27,6 @@ of_binding (Err (binding.FaultAt place why)) = Err (FaultAt place (Binding why))
 abbrev pub then_bound : {T A : Type 0} → (T → Result A binding.Fault) → Result T reading.Fault → Result A TextFault
 then_bound bind (Ok tree) = of_binding (bind tree)
 then_bound bind (Err fault) = Err (FaultAt fault.place (Reading fault.why))
-
--- what the text is read as keeps the rules of trees
-abbrev pub ReadsWell : List ℕ → Type 0
-ReadsWell text = (q : QueryTree) → read_query text ≡ Ok q → IsWellQuery q
 
 -- the plan, columns and needs of a view's text
 abbrev pub bound_query : List CatalogEntry → List ℕ → Result BoundQuery TextFault

@@ -1,10 +1,13 @@
 -- What each relation of a catalog keeps.
-use Rattle.std.specs.Prelude.{◌≡◌, ℕ, Bool, true, ◌&&◌, List, [], ◌∷◌, Option, Some, None}
+use Rattle.std.specs.Prelude.{◌≡◌, ℕ, Bool, true, ◌&&◌, List, [], ◌∷◌, Option, Some, None, Ok}
 use Rattle.iv_rows.specs.Columns.{Column, kinds_of, has_columns, has_distinct_names}
 use Rattle.iv_rows.specs.declared.value.Kind.{Kind}
 use Rattle.iv_rows.specs.declared.value.Kind.TheVariants.{Text}
 use Rattle.iv_query.specs.declared.tree.Dialect.{Dialect}
 use Rattle.iv_query.specs.declared.tree.Dialect.TheVariants.{Query, Policy}
+use Rattle.iv_query.specs.TextReading.{read_query}
+use Rattle.iv_query.specs.Trees.{QueryTree}
+use Rattle.iv_query.specs.Well.{IsWellQuery}
 use Rattle.iv_algebra.specs.Fits.{Heads, type_of}
 use Rattle.iv_algebra.specs.Shapes.{scans}
 use Rattle.iv_bind.specs.Catalogs.{BoundQuery, Held, Table, View, CatalogEntry, AreAmong}
@@ -49,3 +52,7 @@ AreSound catalog (e ∷ es) = HeldIsSound catalog e.held × AreSound catalog es
 -- each table has the columns of a schema, and each view is sound
 abbrev pub IsSoundCatalog : List CatalogEntry → Type 0
 IsSoundCatalog catalog = AreSound catalog catalog
+
+-- what the text is read as keeps the rules of trees
+abbrev pub ReadsWell : List ℕ → Type 0
+ReadsWell text = (q : QueryTree) → read_query text ≡ Ok q → IsWellQuery q

@@ -4,9 +4,9 @@ ghost use Rattle.std.specs.Prelude.{ℕ, List, IfOk};
 ghost use Rattle.iv_query.specs.Trees.{QueryTree};
 ghost use Rattle.iv_query.specs.Well.{IsWellQuery};
 ghost use Rattle.iv_bind.specs.Binding.{bound};
-ghost use Rattle.iv_bind.specs.BoundTexts.{ReadsWell, bound_query};
+ghost use Rattle.iv_bind.specs.BoundTexts.{bound_query};
 ghost use Rattle.iv_bind.specs.Catalogs.{CatalogEntry, Held, extended};
-ghost use Rattle.iv_bind.specs.Sound.{IsSoundCatalog, IsSoundView, HeldIsSound};
+ghost use Rattle.iv_bind.specs.Sound.{IsSoundCatalog, IsSoundView, HeldIsSound, ReadsWell};
 ghost use Rattle.iv_bind.specs.Examples.{JoinedTables, GroupedSums, ViewInUnion, UnknownColumn, OneSide, DuplicateName, NoSuchColumn, NoGroup};
 
 /// Worked examples of binding, and of its faults: tables a (k, x) and b (k, y), and notes (id, who).

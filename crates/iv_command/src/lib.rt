@@ -6,8 +6,8 @@
 mod answer;
 mod command;
 mod rows;
+mod shape;
 mod stop;
-mod well;
 
 pub use answer::{Answer, lines_of};
 pub use command::{Act, Command, Entry, Line, Op, PolicyText, Reason, Refusal, Reply, SharedRows};
@@ -16,5 +16,5 @@ pub use iv_bind::BindWhy;
 pub use iv_machine::Cause;
 pub use iv_query::Why;
 pub use rows::SentRows;
+pub use shape::{LAST_NUMBER, has_texts};
 pub use stop::Stop;
-pub use well::{LAST_NUMBER, has_texts};

@@ -12,8 +12,7 @@ use Rattle.iv_access.specs.declared.policy.Check.{Check}
 use Rattle.iv_access.specs.declared.privilege.Privilege.{Privilege}
 use Rattle.iv_machine.specs.Act as machine
 use Rattle.iv_machine.specs.Act.{Entry, Op, write}
-use Rattle.iv_machine.specs.Refusing.{checks_for, each_entry, entry_check, entry_policies, entry_privileges, entry_shape, first, missing, or_else, rows_in, test}
-use Rattle.iv_machine.specs.Split.{frame_refusal}
+use Rattle.iv_machine.specs.Refusing.{checks_for, each_entry, entry_check, entry_policies, entry_privileges, entry_shape, first, frame_refusal, missing, or_else, rows_in, test}
 use Rattle.iv_machine.specs.State.{Frame, name_of, session_of, table_columns}
 use Rattle.iv_database.specs.Database.{Database, frame_of}
 use Rattle.iv_database.specs.Placed.{Placed, entry_of, first_of}

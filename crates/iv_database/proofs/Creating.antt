@@ -17,8 +17,7 @@ use Rattle.iv_roles.specs.declared.role.RoleId.{RoleId}
 use Rattle.iv_machine.specs.Act as machine
 use Rattle.iv_machine.specs.Act.{create_view}
 use Rattle.iv_machine.specs.Changing.{view_held, with_held}
-use Rattle.iv_machine.specs.Refusing.{administrator, bad_text, first, free_relation, full, known_role, or_else, test, views}
-use Rattle.iv_machine.specs.Split.{frame_refusal}
+use Rattle.iv_machine.specs.Refusing.{administrator, bad_text, first, frame_refusal, free_relation, full, known_role, or_else, test, views}
 use Rattle.iv_machine.specs.State.{actor, session_of}
 use Rattle.iv_database.specs.Defined.{IsBoundView, IsCreator, IsViewAdded, MayAdd, creator_tests, has_view_room}
 use Rattle.iv_database.specs.Database.{Database, IsDatabase, frame_of, relation_in}

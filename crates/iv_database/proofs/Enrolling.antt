@@ -11,8 +11,7 @@ use Rattle.iv_access.specs.declared.fault.AccessFault.{AccessFault}
 use Rattle.iv_access.specs.declared.fault.AccessFault.TheVariants as fault
 use Rattle.iv_machine.specs.Act as machine
 use Rattle.iv_machine.specs.Act.{Act, Refusal, grant_role, revoke_role}
-use Rattle.iv_machine.specs.Refusing.{or_else, test}
-use Rattle.iv_machine.specs.Split.{frame_refusal}
+use Rattle.iv_machine.specs.Refusing.{frame_refusal, or_else, test}
 use Rattle.iv_machine.specs.State.{session_of}
 use Rattle.iv_database.specs.Database.{Database, frame_of, with_rights}
 use Rattle.iv_database.specs.Next.{IsDone, database_after}

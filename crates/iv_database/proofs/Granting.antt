@@ -13,8 +13,7 @@ use Rattle.iv_access.specs.declared.fault.AccessFault.TheVariants as fault
 use Rattle.iv_access.specs.declared.privilege.Privilege.{Privilege}
 use Rattle.iv_machine.specs.Act as machine
 use Rattle.iv_machine.specs.Act.{Act, Refusal, grant, revoke}
-use Rattle.iv_machine.specs.Refusing.{known_grantee, or_else, test}
-use Rattle.iv_machine.specs.Split.{frame_refusal}
+use Rattle.iv_machine.specs.Refusing.{frame_refusal, known_grantee, or_else, test}
 use Rattle.iv_machine.specs.State.{rel_of}
 use Rattle.iv_database.specs.Database.{Database, frame_of, with_rights}
 use Rattle.iv_database.specs.Next.{IsDone}

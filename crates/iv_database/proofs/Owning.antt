@@ -16,8 +16,7 @@ use Rattle.iv_machine.specs.Changing.{policy_for}
 use Rattle.iv_access.specs.NewPolicies.{policy_from}
 use Rattle.iv_access.specs.Changing.{with_policy}
 use Rattle.iv_database.specs.Next.{IsDone, database_after}
-use Rattle.iv_machine.specs.Refusing.{bad_policy_text, first, full, known_grantee, or_else, owner_alone, table_alone, test}
-use Rattle.iv_machine.specs.Split.{frame_refusal, policy_refusal}
+use Rattle.iv_machine.specs.Refusing.{bad_policy_text, first, frame_refusal, full, has_policy, known_grantee, or_else, owner_alone, policies, table_alone, test}
 use Rattle.iv_machine.specs.State.{Frame, actor, columns_at, rel_of, table_columns}
 use Rattle.iv_database.specs.Database.{Database, frame_of, with_rights}
 use Rattle.iv_database.specs.Owned.{AreBound, IsChecked, IsGuarded, IsOwned, IsOwner, IsReady, asked, has_room, name_tests, owner_tests, text_tests, with_asked}
@@ -79,26 +78,27 @@ module _ (e : Database) (n : ℕ) (p : PolicyText) (t : RelId) (o : IsOwner e n 
   abbrev many : Option machine.Refusal
   many = full 32 (length (policies_of (slice_get r.guards t.0)))
 
-  pub policy_tests : frame_refusal (frame_of e) n (create_policy p) ≡ or_else (or_else (name_tests r t.0 p) (or_else (text_tests columns p) (or_else many None))) None
+  pub policy_tests : frame_refusal (frame_of e) n (create_policy p) ≡ or_else (name_tests r t.0 p) (or_else (text_tests columns p) (or_else many None))
   policy_tests =
       let using = bad_policy_text columns p.using_text in
       let check = bad_policy_text columns p.check_text in
       let roles = test (not (list_all (is_grantee r) p.to)) machine.unknown_role in
       let free = test (is_some (policy_of r t.0 p.name)) machine.name_taken in
-      owner_passes e n p.rel t o (policy_refusal (frame_of e) p ∷ [])
-      ∙ (λ i. or_else (first (roles_known e p.to i ∷ test (is_some (policy_of r (o.number i) p.name)) machine.name_taken ∷ using ∷ check ∷ full 32 (length (policies_of (slice_get r.guards (o.number i)))) ∷ [])) None)
-      ∙ ap (λ x. or_else (or_else roles (or_else free x)) None) (grouped using check (or_else many None))
-      ∙ ap (λ x. or_else x None) (grouped roles free (or_else (text_tests columns p) (or_else many None)))
+      let f = frame_of e in
+      owner_passes e n p.rel t o (first (map (known_grantee f) p.to) ∷ test (has_policy f p.rel p.name) machine.name_taken ∷ using ∷ check ∷ full 32 (policies f p.rel) ∷ [])
+      ∙ (λ i. first (roles_known e p.to i ∷ test (is_some (policy_of r (o.number i) p.name)) machine.name_taken ∷ using ∷ check ∷ full 32 (length (policies_of (slice_get r.guards (o.number i)))) ∷ []))
+      ∙ ap (λ x. or_else roles (or_else free x)) (grouped using check (or_else many None))
+      ∙ grouped roles free (or_else (text_tests columns p) (or_else many None))
 
   names_refuse : (x : machine.Refusal) → name_tests r t.0 p ≡ Some x → frame_refusal (frame_of e) n (create_policy p) ≡ Some x
-  names_refuse x h = policy_tests ∙ ap (λ t. or_else (or_else t (or_else (text_tests columns p) (or_else many None))) None) h
+  names_refuse x h = policy_tests ∙ ap (λ t. or_else t (or_else (text_tests columns p) (or_else many None))) h
 
   pub names_stop : (stop : Stop) → IsTested (name_tests r t.0 p) (Err stop) → IsChecked e n p (Err stop)
   names_stop (Refused x) h = names_refuse (refusal_of x) h
   names_stop Memory h = tt
 
   pub texts_refuse : (x : machine.Refusal) → name_tests r t.0 p ≡ None → text_tests columns p ≡ Some x → frame_refusal (frame_of e) n (create_policy p) ≡ Some x
-  texts_refuse x h k = policy_tests ∙ (λ i. or_else (or_else (h i) (or_else (k i) (or_else many None))) None)
+  texts_refuse x h k = policy_tests ∙ (λ i. or_else (h i) (or_else (k i) (or_else many None)))
 
   pub columns_are : (c : List Column) → Some c ≡ schema_of e.catalog t.0 → columns ≡ c
   columns_are c h = ap (λ (x : Option (List Column)). unwrap_or x []) (o.columns ∙ sym h)
@@ -113,14 +113,14 @@ module _ (e : Database) (n : ℕ) (p : PolicyText) (t : RelId) (preds : Predicat
   abbrev rights : Rights
   rights = e.known.rights
 
-  ready_tests : frame_refusal (frame_of e) n (create_policy p) ≡ or_else (or_else (full 32 (length (policies_of (slice_get rights.guards t.0)))) None) None
-  ready_tests = policy_tests e n p t ready.owner ∙ (λ i. or_else (or_else (ready.names i) (or_else (ready.texts.0 i) (or_else (full 32 (length (policies_of (slice_get rights.guards t.0)))) None))) None)
+  ready_tests : frame_refusal (frame_of e) n (create_policy p) ≡ or_else (full 32 (length (policies_of (slice_get rights.guards t.0)))) None
+  ready_tests = policy_tests e n p t ready.owner ∙ (λ i. or_else (ready.names i) (or_else (ready.texts.0 i) (or_else (full 32 (length (policies_of (slice_get rights.guards t.0)))) None)))
 
-  room_by : (b : Bool) → not b ≡ true → or_else (or_else (test b machine.too_many) None) None ≡ None
+  room_by : (b : Bool) → not b ≡ true → or_else (test b machine.too_many) None ≡ None
   room_by true h = cc
   room_by false h = refl
 
-  full_by : (b : Bool) → not b ≡ false → or_else (or_else (test b machine.too_many) None) None ≡ Some machine.too_many
+  full_by : (b : Bool) → not b ≡ false → or_else (test b machine.too_many) None ≡ Some machine.too_many
   full_by true h = refl
   full_by false h = cc
 

@@ -4,7 +4,7 @@ use Rattle.std.specs.Prelude.{Result, Ok, Err, option_map}
 use Rattle.std.specs.List.{AllByRecursion, IsDistinct}
 use Rattle.std.proofs.lemmas.Int.{ints}
 use Rattle.std.proofs.lemmas.List.{map-append}
-use Rattle.iv_zset.specs.RowLimit.{IsRowLimit}
+use Rattle.iv_rows.specs.RowLimit.{IsRowLimit}
 use Rattle.iv_zset.specs.Weights.{Weighed, IsBag, IsZSet}
 use Rattle.iv_rows.specs.Columns.{Column, kinds_of}
 use Rattle.iv_algebra.specs.Contents.{rows_of}
@@ -15,8 +15,7 @@ use Rattle.iv_access.specs.Rights.{Guard, Name, Rights}
 use Rattle.iv_machine.specs.State.{Session, actor, is_open}
 use Rattle.iv_machine.specs.Act.{begin, create_role, create_table, create_view, no_session}
 use Rattle.iv_machine.specs.Changing.{view_held, with_held}
-use Rattle.iv_machine.specs.Refusing.{administrator, bad_text, free_relation, known_role, test}
-use Rattle.iv_machine.specs.Split.{frame_refusal, role_refusal}
+use Rattle.iv_machine.specs.Refusing.{administrator, bad_text, first, frame_refusal, free_relation, known_role, test, tests_by}
 use Rattle.iv_machine.proofs.Placing.{roles_after}
 use Rattle.iv_machine.proofs.Serving.{or_none}
 use Rattle.iv_database.specs.Database.{Database, HoldsKinds, IsDatabase, at_start, frame_of, relation_in, with_rights}
@@ -122,7 +121,7 @@ module _ (d : Database) (h : IsDatabase d) where
     view_bound : (a : BoundQuery) × (o ≡ Ok a)
     view_bound =
         let f = frame_of d in
-        let s = or_none (test (not (is_open f n)) no_session) (role_refusal f n (actor f n) (create_view name owner query)) passed in
+        let s = or_none (test (not (is_open f n)) no_session) (first (tests_by f n (actor f n) (create_view name owner query))) passed in
         let a = or_none (administrator (actor f n)) _ s.1 in
         let b = or_none (known_role f owner) _ a.1 in
         let c = or_none (free_relation f name) _ b.1 in

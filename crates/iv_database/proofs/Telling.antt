@@ -17,8 +17,7 @@ use Rattle.iv_access.specs.declared.fault.AccessFault.{AccessFault}
 use Rattle.iv_access.specs.declared.fault.AccessFault.TheVariants as fault
 use Rattle.iv_machine.specs.Act as machine
 use Rattle.iv_machine.specs.Act.{Act, create_table, Refusal}
-use Rattle.iv_machine.specs.Refusing.{test, or_else}
-use Rattle.iv_machine.specs.Split.{role_refusal, frame_refusal}
+use Rattle.iv_machine.specs.Refusing.{test, or_else, first, frame_refusal, tests_by}
 use Rattle.iv_machine.specs.State.{Session, session_of, name_of, table_columns, rel_of, next_rel, is_open, actor}
 use Rattle.std.proofs.lemmas.List.{length-map}
 use Rattle.iv_database.specs.Database.{Database, IsDatabase, frame_of, relation_in}
@@ -36,9 +35,9 @@ opened (Some s) a d h = let e : s.role ≡ a = cc in (refl, e)
 
 -- where the session is open, the tests are those of its role
 pub acts : (e : Database) (n a : ℕ) (act : Act) → Some a ≡ option_map (λ s. s.role) (session_of e.sessions n)
-    → or_else (test (not (is_open (frame_of e) n)) machine.no_session) (role_refusal (frame_of e) n (actor (frame_of e) n) act) ≡ role_refusal (frame_of e) n a act
+    → or_else (test (not (is_open (frame_of e) n)) machine.no_session) (first (tests_by (frame_of e) n (actor (frame_of e) n) act)) ≡ first (tests_by (frame_of e) n a act)
 acts e n a act h = let o = opened (session_of e.sessions n) a (length e.known.rights.roles) h in
-    (λ i. or_else (test (not (o.0 i)) machine.no_session) (role_refusal (frame_of e) n (o.1 i) act))
+    (λ i. or_else (test (not (o.0 i)) machine.no_session) (first (tests_by (frame_of e) n (o.1 i) act)))
 
 pub closed : (o : Option Session) → None ≡ option_map (λ s. s.role) o → is_some o ≡ false
 closed None h = refl

@@ -2,7 +2,7 @@
 use Rattle.std.specs.Prelude.{◌≡◌, ℕ, ◌<◌, ◌≤◌, ◌==◌, Bool, false, List, [], Option, None, Some, filter, length, map, not, option_map}
 use Rattle.std.specs.List.{AllByRecursion}
 use Rattle.iv_rows.specs.Columns.{Column, kinds_of}
-use Rattle.iv_zset.specs.RowLimit.{IsRowLimit}
+use Rattle.iv_rows.specs.RowLimit.{IsRowLimit}
 use Rattle.iv_zset.specs.Weights.{Weighed, IsBag, IsZSet}
 use Rattle.iv_algebra.specs.Contents.{AreOf, heads_of, rows_of}
 use Rattle.iv_algebra.specs.Fits.{Heads}

@@ -8,7 +8,7 @@ use Rattle.iv_access.specs.Changing.{with_relation}
 use Rattle.iv_access.specs.Access.{Relation, role_number}
 use Rattle.iv_access.specs.Rights.{Name}
 use Rattle.iv_machine.specs.Act.{Act, create_table, create_view}
-use Rattle.iv_machine.specs.Split.{frame_refusal}
+use Rattle.iv_machine.specs.Refusing.{frame_refusal}
 use Rattle.iv_machine.specs.Changing.{after_catalog, after_rights, after_sessions}
 use Rattle.iv_database.specs.Database.{Database, frame_of}
 use Rattle.iv_command.specs.Views.{refusal_of}

@@ -15,8 +15,7 @@ use Rattle.iv_access.specs.Rights.{Name, Rights}
 use Rattle.iv_rows.specs.declared.schema.RelId.{RelId}
 use Rattle.iv_machine.specs.Act.{Act, PolicyText, Refusal, create_policy, name_taken, no_session, unknown_role}
 use Rattle.iv_machine.specs.Changing as machine
-use Rattle.iv_machine.specs.Refusing.{bad_policy_text, bad_text, first, known_relation, or_else, owner_alone, table_alone, test}
-use Rattle.iv_machine.specs.Split.{frame_refusal}
+use Rattle.iv_machine.specs.Refusing.{bad_policy_text, bad_text, first, frame_refusal, known_relation, or_else, owner_alone, table_alone, test}
 use Rattle.iv_machine.specs.State.{Frame, actor, columns_at, is_open, rel_of, table_columns}
 use Rattle.iv_database.specs.Database.{Database, frame_of, with_rights}
 use Rattle.iv_database.specs.Next.{database_after}

@@ -6,7 +6,7 @@ use Rattle.iv_access.specs.Rights.{Grant, Name, Rights}
 use Rattle.iv_access.specs.declared.privilege.Privilege.{Privilege}
 use Rattle.iv_circuit.specs.Nodes.{scans_of}
 use Rattle.iv_machine.specs.Act.{revoke}
-use Rattle.iv_machine.specs.Split.{frame_refusal}
+use Rattle.iv_machine.specs.Refusing.{frame_refusal}
 use Rattle.iv_machine.specs.State.{actor, plan_at, rel_of}
 use Rattle.iv_database.specs.Database as database
 use Rattle.iv_database.specs.Database.{Database}

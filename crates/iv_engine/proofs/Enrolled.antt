@@ -5,7 +5,7 @@ use Rattle.iv_access.specs.Privileges.{role_of}
 use Rattle.iv_access.specs.Rights.{Name}
 use Rattle.iv_roles.specs.declared.role.RoleId.{RoleId}
 use Rattle.iv_machine.specs.Act.{Act, grant_role, revoke_role}
-use Rattle.iv_machine.specs.Split.{frame_refusal}
+use Rattle.iv_machine.specs.Refusing.{frame_refusal}
 use Rattle.iv_database.specs.Database as database
 use Rattle.iv_database.specs.Database.{Database}
 use Rattle.iv_database.specs.Next.{database_after}

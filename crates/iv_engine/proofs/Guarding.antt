@@ -15,7 +15,7 @@ use Rattle.iv_access.specs.Changing.{changed_at, insert_policy, remove_policy}
 use Rattle.iv_access.specs.Rights.{Guard, Name}
 use Rattle.iv_circuit.specs.Nodes.{Scanned, scans_of}
 use Rattle.iv_machine.specs.Act.{Act, PolicyText, create_policy, drop_policy, row_security}
-use Rattle.iv_machine.specs.Split.{frame_refusal}
+use Rattle.iv_machine.specs.Refusing.{frame_refusal}
 use Rattle.iv_machine.specs.Changing.{policy_for}
 use Rattle.iv_machine.specs.State.{plan_at, rel_of}
 use Rattle.iv_store.specs.Answering.{IsAccepted, IsStep}

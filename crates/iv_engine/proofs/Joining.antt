@@ -14,8 +14,7 @@ use Rattle.iv_roles.proofs.Chains.{come_apart, gone_apart}
 use Rattle.iv_circuit.specs.Nodes.{scans_of}
 use Rattle.iv_machine.specs.Act as machine
 use Rattle.iv_machine.specs.Act.{Act, Refusal, grant_role, revoke_role}
-use Rattle.iv_machine.specs.Refusing.{first, known_role, or_else, test}
-use Rattle.iv_machine.specs.Split.{frame_refusal}
+use Rattle.iv_machine.specs.Refusing.{first, frame_refusal, known_role, or_else, test}
 use Rattle.iv_machine.specs.State.{Subscription, actor, is_open, plan_at}
 use Rattle.iv_store.specs.Answering.{IsAccepted}
 use Rattle.iv_readers.specs.Flags.{differ, differing}

@@ -6,5 +6,5 @@ mod Ending
 mod Joining
 mod Guarding
 mod Numbering
-mod Applying
+pub mod Sounding
 pub mod Enrolled

@@ -15,12 +15,10 @@ use Rattle.iv_machine.specs.Act as machine
 use Rattle.iv_machine.specs.Act.{Act}
 use Rattle.iv_machine.specs.Changing.{after}
 use Rattle.iv_machine.specs.Machine.{changes, difference, ending, ending_by, first_cause, line_for, lines_told as machine_line, reply_to, settled}
-use Rattle.iv_machine.specs.Refusing.{or_else, refusal}
-use Rattle.iv_machine.specs.Split.{frame_refusal, rows_refusal}
+use Rattle.iv_machine.specs.Refusing.{frame_refusal, or_else, refusal, rows_refusal}
 use Rattle.iv_machine.specs.State.{State, Subscription, actor, is_within, missing_for, needs_at, plan_at, subscription_of, view_shown}
 use Rattle.iv_machine.specs.declared.Cause.{Cause}
 use Rattle.iv_machine.proofs.Reached.{given_kept, unique_kept}
-use Rattle.iv_machine.proofs.Splitting.{split}
 use Rattle.iv_store.specs.Answering.{IsAccepted, seen, sent}
 use Rattle.iv_store.specs.Counting.{TurnsRounds}
 use Rattle.iv_readers.specs.Each.{Each}
@@ -235,7 +233,7 @@ module _ (e : Store) (ms : List Membership) (us : List Guard) (gs : List Grant) 
           ∙ lines_are h T
 
       act_refusal : frame_refusal (frame_of e) n act ≡ None → refusal (at e T) n act ≡ None
-      act_refusal passed = split (at e T) n act ∙ (λ i. or_else (passed i) (g.rows T i))
+      act_refusal passed = (λ i. or_else (passed i) (g.rows T i))
 
     -- the circuits show what was shown before
     all_showed : (T : Lists) → Stands T e.tables → AreShowed c (shown_rows e T)

@@ -1,3 +1,3 @@
-pub mod Applied
 pub mod Restricted
+pub mod Sound
 pub use Rattle.iv_store.specs.Engine

@@ -1,18 +1,18 @@
-//! `Engine`: `apply` answers a command, `run_list` many, `hang_up` ends all sessions; one that failed answers none.
+//! `Engine`: `apply` answers a command, `hang_up` ends all sessions; one that failed answers none.
 //!
 //! The clause `known_rows` of `apply` follows from `lines`. It is said all the same: a leak is the worst fault. Of a
 //! change it speaks where the subscription is to a table, since the rows of a view stand in no table; of a last line
 //! it says that it takes back all that was shown.
 ghost use Rattle.std.specs.Prelude.{◌≡◌, ◌↔◌, [], IfOk, OnOk, OnErr, map, true, false};
-ghost use Rattle.std.specs.List.{list_all};
-ghost use Rattle.iv_zset.specs.RowLimit.{IsRowLimit};
+ghost use Rattle.iv_rows.specs.RowLimit.{IsRowLimit};
 ghost use Rattle.iv_machine.specs.Machine.{hung};
 ghost use Rattle.iv_machine.specs.Reached.{AreNumbersUnique};
 ghost use Rattle.iv_machine.specs.State.{State, start};
+ghost use Rattle.iv_machine.specs.Stored.{IsGiven};
 ghost use Rattle.iv_machine.specs.Well.{is_well_command};
-ghost use Rattle.iv_engine.specs.Applied.{AreApplied};
+ghost use Rattle.iv_engine.specs.Sound.{IsSoundEngine};
 ghost use Rattle.iv_store.specs.Counting.{AreCountedWhereAccepted};
-ghost use Rattle.iv_store.specs.Engine.{AreLinesOf, AreLinesOfAll, ChangesWhereAccepted, HasKnownRows, HasRoundsOfOpen, IsBehind, IsLeftBy, IsLeftByAll, LinesAddUpBehind, hung_up};
+ghost use Rattle.iv_store.specs.Engine.{AreLinesOf, ChangesWhereAccepted, HasKnownRows, HasRoundsOfOpen, IsBehind, IsLeftBy, hung_up};
 ghost use Rattle.iv_command.specs.Views.{command_of, line_of};
 
 use crate::step::step;
@@ -76,6 +76,7 @@ impl Engine {
     pub fn new(alloc: Global, cap: u32) -> Result<Engine, AllocError>
         requires { IsRowLimit cap }
         ensures start { IfOk result (λ engine. IsBehind (start cap) engine) }
+        ensures sound { IfOk result (λ engine. IsSoundEngine engine) }
         ensures rounds { IfOk result (λ engine. engine.rounds ≡ []) }
         ensures failed { IfOk result (λ engine. engine.failed ≡ false) }
     {
@@ -89,6 +90,7 @@ impl Engine {
     pub fn with_seed(alloc: Global, seed: Seed, cap: u32) -> Result<Engine, AllocError>
         requires { IsRowLimit cap }
         ensures start { IfOk result (λ engine. IsBehind (start cap) engine) }
+        ensures sound { IfOk result (λ engine. IsSoundEngine engine) }
         ensures rounds { IfOk result (λ engine. engine.rounds ≡ []) }
         ensures failed { IfOk result (λ engine. engine.failed ≡ false) }
     {
@@ -99,8 +101,8 @@ impl Engine {
         })
     }
 
-    /// Whether the engine has failed: then no command is answered any more. Until then its frame is one that the machine
-    /// reaches, and it tells the rounds of its open subscriptions and of no others.
+    /// Whether the engine has failed: then no command is answered any more. Until then no two open subscriptions have one number
+    /// or one that was not given, and it tells the rounds of its open subscriptions and of no others.
     pub fn is_failed(&self) -> bool
         ensures failed { result ≡ self.now.failed }
         ensures numbers { result ≡ false → AreNumbersUnique self.now.frame }
@@ -121,6 +123,7 @@ impl Engine {
     pub fn hang_up(&mut self)
         ensures hung { self.old.failed ≡ false → (s : State) → IsBehind s self.old → IsBehind (hung s) self.new }
         ensures closed { self.old.failed ≡ false → self.new ≡ hung_up self.old }
+        ensures sound { IsSoundEngine self.old → IsSoundEngine self.new }
         ensures failed_unchanged { self.old.failed ≡ true → self.new ≡ self.old }
     {
         if !self.failed {
@@ -139,6 +142,8 @@ impl Engine {
         requires { is_well_command (command_of command) ≡ true }
         ensures lines { IfOk result (λ lines. AreLinesOf self.old (command_of command) (map line_of lines.items)) }
         ensures state { OnOk result (IsLeftBy self.old (command_of command) self.new) }
+        // What a command whose texts are in UTF-8 leaves of rights, catalog, policies and rows is sound.
+        ensures sound { OnOk result (IsGiven (command_of command) → IsSoundEngine self.old → IsSoundEngine self.new) }
         ensures known_rows { IfOk result (λ lines. HasKnownRows self.old (command_of command) (map line_of lines.items)) }
         ensures refused { IfOk result (λ lines. ChangesWhereAccepted self.old (map line_of lines.items) self.new) }
         // An accepted write counts one round more for exactly the subscriptions that scan a table whose counts changed; a
@@ -160,37 +165,5 @@ impl Engine {
                 Err(EngineFault::Memory)
             }
         }
-    }
-
-    /// Answers commands in their order, and stops at the first fault; then no line is handed out.
-    ///
-    /// # Errors
-    /// `Failed` exactly where the engine had failed; `Memory` where a growth of memory was refused. The engine has
-    /// failed after either.
-    pub fn run_list(&mut self, commands: Vec<Command>) -> Result<Vec<Line>, EngineFault>
-        requires { list_all is_well_command (map command_of commands.items) ≡ true }
-        ensures lines { IfOk result (λ lines. AreLinesOfAll self.old (map command_of commands.items) (map line_of lines.items)) }
-        ensures state { OnOk result (IsLeftByAll self.old (map command_of commands.items) self.new) }
-        // Each command is answered as `apply` answers it: known rows, nothing changed where it is refused, and rounds counted.
-        ensures each { IfOk result (λ lines. AreApplied self.old (map command_of commands.items) (map line_of lines.items) self.new) }
-        // For each subscription that its reader did not close, what is sent adds up to what it shows more than before.
-        ensures held { IfOk result (λ lines. LinesAddUpBehind self.old (map command_of commands.items) (map line_of lines.items)) }
-        ensures went_on { OnOk result (self.new.failed ≡ false) }
-        ensures fails { OnErr result (self.new.failed ≡ true) }
-        ensures failed { result ≡ Err EngineFault.Failed ↔ (self.old.failed ≡ true) }
-        ensures failed_unchanged { self.old.failed ≡ true → self.new ≡ self.old }
-    {
-        if self.is_failed() {
-            return Err(EngineFault::Failed);
-        }
-        let mut lines = Vec::new(self.store.alloc);
-        for command in commands {
-            let mut said = self.apply(command)?;
-            if lines.append(&mut said).is_err() {
-                self.fail();
-                return Err(EngineFault::Memory);
-            }
-        }
-        Ok(lines)
     }
 }

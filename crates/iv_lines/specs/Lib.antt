@@ -2,6 +2,7 @@ pub mod Ahead
 pub mod Answer
 pub mod Calls
 pub mod Cut
+pub mod Moments
 pub mod Parts
 pub mod Reads
 pub mod Texts

@@ -1,6 +1,7 @@
 //! `Source` and `Sink`: what bytes are read from and written to; `write_all`.
 ghost use Rattle.std.specs.Prelude.{◌≡◌, ◌≤◌, ◌<◌, ◌+◌, ◌||◌, ℕ, List, Bool, Option, true, length, take, IfOk, OnOk, OnErr, is_err};
 ghost use Rattle.std.specs.Io.KnownBytes.{Appends, Keeps, ReadConsumes, WriteAppends};
+ghost use Rattle.iv_lines.specs.Moments.{Moment, IsMoment, ReadsAt};
 
 /// A read, a write or a flush has failed.
 #[derive(Clone, Copy, Debug, PartialEq, Eq)]
@@ -17,15 +18,21 @@ pub trait Source {
     /// How many reads were made, where the end counts them.
     ghost reads: { Self → ℕ };
 
-    /// Reads some bytes from the source. It answers 0 only where there is no room or no byte is left.
+    /// At which moments it was read, where the end tells them.
+    ghost moments: { Self → List Moment };
+
+    /// Reads some bytes from the source, whose answers go to the writer. It answers 0 only where there is no room or no byte
+    /// is left. The writer is not touched: contracts see what it had taken when the source was read.
     ///
     /// # Errors
     /// Where the end fails. What is left is as it was.
-    fn read(&mut self, room: &mut [u8]) -> Result<usize, EndFault>
+    fn read<W: Sink>(&mut self, room: &mut [u8], writer: &W) -> Result<usize, EndFault>
         ensures bound { IfOk result (λ n. n ≤ length room.new) }
         ensures bytes { ReadConsumes (left self.old) (left self.new) result room.new }
         ensures failed { has_failed self.new ≡ (has_failed self.old || is_err result) }
-        ensures counted { reads self.new ≤ reads self.old + 1 };
+        ensures counted { reads self.new ≤ reads self.old + 1 }
+        ensures moment { ReadsAt (IsMoment (left self.old) (W.taken writer.now) (W.is_flushed writer.now))
+            (moments self.old) (moments self.new) };
 }
 
 /// What bytes are written to.

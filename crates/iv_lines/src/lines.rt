@@ -3,8 +3,9 @@ ghost use Rattle.std.specs.Prelude.{◌≡◌, ◌≤◌, ◌+◌, ◌||◌, ◌
 ghost use Rattle.iv_lines.specs.Cut.{is_blank_line, line_room};
 ghost use Rattle.iv_lines.specs.Ahead.{known};
 ghost use Rattle.iv_lines.specs.Reads.{IsCut, IsCutShort, is_read};
+ghost use Rattle.iv_lines.specs.Moments.{IsWithinLine, ReadsAt};
 
-use crate::ends::Source;
+use crate::ends::{Sink, Source};
 use crate::room::{LINE_ROOM, Room};
 use std::alloc::{AllocError, AllocFailed};
 
@@ -67,21 +68,24 @@ pub enum Next {
     Endless,
 }
 
-/// The next line, in the memory of a line that was answered.
-pub fn next_line<R: Source>(
+/// The next line, in the memory of a line that was answered. Its answer will go to the writer, which is not touched.
+pub fn next_line<R: Source, W: Sink>(
     mut line: Vec<u8>,
     room: &mut Room,
     reader: &mut R,
+    writer: &W,
 ) -> Result<Next, RunFault>
     ensures cut { IfOk result (λ next. IsCut (known room.old (R.left reader.old)) next (known room.new (R.left reader.new))) }
     ensures fault { IfErr result (λ e. (e ≡ RunFault.Read) ⊎ (e ≡ RunFault.Memory)) }
     ensures short { IsErrOf result RunFault.Read → IsCutShort (known room.old (R.left reader.old)) (R.left reader.new) }
     ensures failed { R.has_failed reader.new ≡ (R.has_failed reader.old || is_read result) }
     ensures reads { R.reads reader.new ≤ R.reads reader.old + line_room }
+    ensures moments { ReadsAt (IsWithinLine (known room.old (R.left reader.old)) (W.taken writer.now) (W.is_flushed writer.now))
+        (R.moments reader.old) (R.moments reader.new) }
 {
     line.clear();
     while line.len() < LINE_ROOM {
-        if room.fill(reader).is_err() {
+        if room.fill(reader, writer).is_err() {
             return Err(RunFault::Read);
         }
         if room.is_empty() {

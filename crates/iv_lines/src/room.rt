@@ -4,8 +4,9 @@
 //! which `memchr` finds, are moved at once.
 ghost use Rattle.std.specs.Prelude.{◌≡◌, ◌≤◌, ◌<◌, ◌+◌, ◌||◌, ◌==◌, [], true, false, length, position, IfOk, OnOk, OnErr, is_err};
 ghost use Rattle.std.specs.Io.KnownBytes.{Keeps, IsAtEnd};
+ghost use Rattle.iv_lines.specs.Moments.{IsMoment, ReadsAt};
 
-use crate::ends::{EndFault, Source};
+use crate::ends::{EndFault, Sink, Source};
 use memchr::memchr;
 use std::alloc::AllocError;
 
@@ -42,32 +43,40 @@ impl Room {
 
     /// Reads bytes ahead, where all that were ahead have been taken.
     #[tactic(auto, using(crate::proofs::Ahead::ahead_empty))]
-    fn refill<R: Source>(&mut self, reader: &mut R) -> Result<(), EndFault>
+    fn refill<R: Source, W: Sink>(&mut self, reader: &mut R, writer: &W) -> Result<(), EndFault>
         requires { self.old.at ≡ self.old.filled }
         ensures ok { OnOk result (Keeps (R.left reader.old) (known self.new (R.left reader.new))) }
         ensures end { OnOk result (ahead self.new ≡ [] → IsAtEnd (R.left reader.new)) }
         ensures err { OnErr result (Keeps (R.left reader.old) (R.left reader.new)) }
         ensures failed { R.has_failed reader.new ≡ (R.has_failed reader.old || is_err result) }
         ensures counted { R.reads reader.new ≤ R.reads reader.old + 1 }
+        ensures moment { ReadsAt (IsMoment (R.left reader.old) (W.taken writer.now) (W.is_flushed writer.now))
+            (R.moments reader.old) (R.moments reader.new) }
     {
-        let count = reader.read(&mut self.bytes)?;
+        let count = reader.read(&mut self.bytes, writer)?;
         self.at = 0;
         self.filled = count;
         Ok(())
     }
 
     /// Reads bytes ahead, unless some are ahead. Nothing is ahead then only where no byte is left.
-    pub(crate) fn fill<R: Source>(&mut self, reader: &mut R) -> Result<(), EndFault>
+    pub(crate) fn fill<R: Source, W: Sink>(
+        &mut self,
+        reader: &mut R,
+        writer: &W,
+    ) -> Result<(), EndFault>
         ensures ok { OnOk result (Keeps (known self.old (R.left reader.old)) (known self.new (R.left reader.new))) }
         ensures end { OnOk result (ahead self.new ≡ [] → IsAtEnd (R.left reader.new)) }
         ensures err { OnErr result (Keeps (known self.old (R.left reader.old)) (R.left reader.new)) }
         ensures failed { R.has_failed reader.new ≡ (R.has_failed reader.old || is_err result) }
         ensures counted { R.reads reader.new ≤ R.reads reader.old + 1 }
+        ensures moment { ReadsAt (IsMoment (known self.old (R.left reader.old)) (W.taken writer.now) (W.is_flushed writer.now))
+            (R.moments reader.old) (R.moments reader.new) }
     {
         if self.at < self.filled {
             return Ok(());
         }
-        self.refill(reader)
+        self.refill(reader, writer)
     }
 
     /// Whether no byte that was read ahead is left to take.

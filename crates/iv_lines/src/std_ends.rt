@@ -1,5 +1,5 @@
 //! `FromRead`, `FromWrite`: a reader and a writer of std as a source and a sink.
-ghost use Rattle.std.specs.Prelude.{◌≡◌, ◌||◌, false};
+ghost use Rattle.std.specs.Prelude.{◌≡◌, ◌||◌, [], false};
 ghost use Rattle.iv_lines.specs.Calls.{unused};
 
 use crate::ends::{EndFault, Sink, Source};
@@ -39,8 +39,10 @@ impl<R: Read> Source for FromRead<R> {
 
     ghost reads = { λ s. s.calls };
 
+    ghost moments = { λ _. [] };
+
     /// Reads by one call of std's reader, whose error is a fault of the source.
-    fn read(&mut self, room: &mut [u8]) -> Result<usize, EndFault> {
+    fn read<W: Sink>(&mut self, room: &mut [u8], _writer: &W) -> Result<usize, EndFault> {
         match self.reader.read(room) {
             Ok(count) => Ok(count),
             Err(_) => Err(EndFault),

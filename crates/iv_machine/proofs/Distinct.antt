@@ -13,8 +13,7 @@ use Rattle.iv_access.specs.Access.{role_number}
 use Rattle.iv_access.specs.Rights.{Name}
 use Rattle.iv_machine.specs.Act.{Act, begin, finish, create_role, create_table, create_view, session_in_use, no_session, name_taken, Refusal}
 use Rattle.iv_machine.specs.State.{Frame, Session, is_open, actor, next_rel, start_frame}
-use Rattle.iv_machine.specs.Refusing.{test, administrator, known_role, free_role, free_relation, or_else}
-use Rattle.iv_machine.specs.Split.{role_refusal, frame_refusal}
+use Rattle.iv_machine.specs.Refusing.{test, administrator, known_role, free_role, free_relation, or_else, first, frame_refusal, tests_by}
 use Rattle.iv_machine.specs.Changing.{with_held, view_held, after_frame}
 use Rattle.iv_machine.specs.Sound.{AreNamesDistinct}
 use Rattle.iv_machine.proofs.Serving.{or_none}
@@ -135,7 +134,7 @@ names_after f n finish h d = record {
   sessions = distinct_kept (λ (m k : ℕ). m == k) (λ (e : Session). e.number) (λ (e : Session). not (n == e.number)) f.sessions d.sessions;
 }
 names_after f n (create_role name) h d =
-    let a = or_none (test (not (is_open f n)) no_session) (role_refusal f n (actor f n) (create_role name)) h in
+    let a = or_none (test (not (is_open f n)) no_session) (first (tests_by f n (actor f n) (create_role name))) h in
     let b = or_none (administrator (actor f n)) _ a.1 in
     let free = (or_none (free_role f name) _ b.1).0 in
     record {
@@ -144,10 +143,10 @@ names_after f n (create_role name) h d =
       sessions = d.sessions;
     }
 names_after f n (create_table name owner columns) h d =
-    let a = or_none (test (not (is_open f n)) no_session) (role_refusal f n (actor f n) (create_table name owner columns)) h in
+    let a = or_none (test (not (is_open f n)) no_session) (first (tests_by f n (actor f n) (create_table name owner columns))) h in
     record { roles = d.roles; relations = new_relation f name (Table columns) (free_name f (actor f n) owner name _ a.1) d.relations; sessions = d.sessions }
 names_after f n (create_view name owner query) h d =
-    let a = or_none (test (not (is_open f n)) no_session) (role_refusal f n (actor f n) (create_view name owner query)) h in
+    let a = or_none (test (not (is_open f n)) no_session) (first (tests_by f n (actor f n) (create_view name owner query))) h in
     record { roles = d.roles; relations = new_view f name (bound_query f.catalog query) (free_name f (actor f n) owner name _ a.1) d.relations; sessions = d.sessions }
 names_after f n _ h d = record { roles = d.roles; relations = d.relations; sessions = d.sessions }
 

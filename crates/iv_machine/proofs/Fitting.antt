@@ -16,8 +16,7 @@ use Rattle.iv_rows.specs.Options.{if_some}
 use Rattle.iv_access.specs.Rights.{Name}
 use Rattle.iv_machine.specs.Act.{Act, create_table, create_view, write, Op, insert, delete, update, Entry, no_session, unknown_relation, not_a_table, bad_row, limit}
 use Rattle.iv_machine.specs.State.{State, Frame, actor, columns_at, is_open, is_within, next_rel, rel_of, table_columns}
-use Rattle.iv_machine.specs.Refusing.{test, each_entry, entry_shape, rows_in, known_relation, table_alone, entries_present, all_within}
-use Rattle.iv_machine.specs.Split.{role_refusal, frame_refusal, rows_refusal}
+use Rattle.iv_machine.specs.Refusing.{test, each_entry, entry_shape, rows_in, known_relation, table_alone, entries_present, all_within, first, frame_refusal, rows_refusal, tests_by}
 use Rattle.iv_machine.specs.Changing.{times, without, changed_by, after_entry, written, with_held, view_held, after}
 use Rattle.iv_machine.specs.Numbered.{IsNumbered}
 use Rattle.iv_machine.specs.Sound.{HasKinds}
@@ -109,7 +108,7 @@ pub kinds_after : (s : State) (n : ℕ) (act : Act) → IsNumbered s.frame → f
 kinds_after s n (create_table name owner columns) a r k = held_kinds s.frame.catalog name (Some (Table columns)) s.rows k
 kinds_after s n (create_view name owner query) a r k = held_kinds s.frame.catalog name (view_held (bound_query s.frame.catalog query)) s.rows k
 kinds_after s n (write es) a r k =
-    let x = or_none (test (not (is_open s.frame n)) no_session) (role_refusal s.frame n (actor s.frame n) (write es)) r in
+    let x = or_none (test (not (is_open s.frame n)) no_session) (first (tests_by s.frame n (actor s.frame n) (write es))) r in
     let y = or_none (each_entry (entry_shape s.frame) 1 es) _ x.1 in
     written_kinds s.frame 1 es s.rows a y.0 k
 kinds_after s n _ a r k = k

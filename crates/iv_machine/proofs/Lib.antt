@@ -7,7 +7,6 @@ pub mod Alike
 pub mod Counting
 pub mod Numbering
 pub mod Order
-pub mod Splitting
 pub mod Reached
 pub mod Rising
 pub mod Sending
@@ -16,9 +15,14 @@ pub mod Sound
 pub mod Numbers
 pub mod Readers
 pub mod Learning
+pub mod Staying
+pub mod Quieting
 pub mod Storing
 pub mod Knowing
+pub mod Bounding
 pub mod Needing
+pub mod Scanning
+pub mod Selecting
 pub mod Standing
 pub mod Telling
 pub mod Seeing

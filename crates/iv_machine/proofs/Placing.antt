@@ -11,8 +11,7 @@ use Rattle.iv_access.specs.Access.{role_number}
 use Rattle.iv_access.specs.Rights.{Name}
 use Rattle.iv_machine.specs.Act.{Act, begin, finish, create_role, create_table, create_view, subscribe, unsubscribe, no_session, session_in_use, unknown_role, unknown_relation}
 use Rattle.iv_machine.specs.State.{Frame, Session, Subscription, is_open, actor, next_rel, rel_of}
-use Rattle.iv_machine.specs.Refusing.{test, known_role, known_relation}
-use Rattle.iv_machine.specs.Split.{role_refusal, frame_refusal}
+use Rattle.iv_machine.specs.Refusing.{test, known_role, known_relation, first, frame_refusal, tests_by}
 use Rattle.iv_machine.specs.Changing.{with_held, view_held, opened_by, insert_subscription, after_frame}
 use Rattle.iv_machine.specs.Numbered.{AreNumbered, IsNumbered}
 use Rattle.iv_machine.proofs.Serving.{or_none, passed}
@@ -127,7 +126,7 @@ more_known f name (Some held) k h = find_more (λ (x : catalogs.CatalogEntry). k
 
 placed_opened : (f : Frame) (n : ℕ) (rel : Name) → IsNumbered f → frame_refusal f n (subscribe rel) ≡ None → IsPlaced (after_frame f n (subscribe rel)) (opened_by f n rel)
 placed_opened f n rel a h =
-    let s = or_none (test (not (is_open f n)) no_session) (role_refusal f n (actor f n) (subscribe rel)) h in
+    let s = or_none (test (not (is_open f n)) no_session) (first (tests_by f n (actor f n) (subscribe rel))) h in
     let r = or_none (known_relation f rel) _ s.1 in
     (passed (is_open f n) no_session s.0, known_number f rel a (passed (is_some (named f.catalog rel)) unknown_relation r.0))
 

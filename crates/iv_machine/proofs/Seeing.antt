@@ -1,5 +1,5 @@
 -- Which rows the lines of a command show.
-use Rattle.std.proofs.Common.{◌≡◌, ◌⊎◌, inl, inr, ⊎_elim, ℕ, zero, suc, ◌+◌, ◌<◌, Bool, true, false, cond, not, List, [], ◌∷◌, ◌++◌, ℤ, pos, Option, Some, None, ap, ◌∙◌, sym, refl, subst, arith}
+use Rattle.std.proofs.Common.{◌≡◌, ◌⊎◌, inl, inr, ⊎_elim, ℕ, zero, suc, ◌+◌, ◌<◌, Bool, true, false, cond, not, List, [], ◌∷◌, ◌++◌, ℤ, pos, Option, Some, None, ap, ◌∙◌, refl, subst, arith}
 use Rattle.std.proofs.lemmas.Bool.Decides.{nat_tests}
 use Rattle.std.proofs.lemmas.List.Elements.{All-nil, All-cons, All-append}
 use Rattle.std.specs.Prelude.{filter, flat_map, map, is_some, ◌==◌, ◌-ℤ◌}
@@ -18,15 +18,13 @@ use Rattle.iv_access.specs.Policies.{may_see, allowed}
 use Rattle.iv_machine.specs.declared.Cause.{Cause}
 use Rattle.iv_machine.specs.Act.{Act, subscribe, write, Entry, no_such_row, limit, Command, reply, change, ended, refused, Refusal}
 use Rattle.iv_machine.specs.State.{State, Frame, Subscription, actor, is_within_for, rel_of, shown, view_shown}
-use Rattle.iv_machine.specs.Refusing.{test, or_else, is_present, entries_present, all_within, refusal}
-use Rattle.iv_machine.specs.Split.{frame_refusal, rows_refusal}
+use Rattle.iv_machine.specs.Refusing.{test, or_else, is_present, entries_present, all_within, refusal, frame_refusal, rows_refusal}
 use Rattle.iv_machine.specs.Changing.{after_entry, after}
 use Rattle.iv_machine.specs.Machine.{weight, weighted, is_change, rising_rows, difference, lines_told, line_for, changes, ending_by, reply_to, settled, outcome, step}
 use Rattle.iv_machine.specs.Reached.{AreUnique, AreNumbersUnique}
 use Rattle.iv_machine.specs.Readers.{IsAllowed, IsKnownRow, AreKnownRows, ShowsKnownRows, looks_at_rows}
 use Rattle.iv_machine.proofs.Reached.{has_number, both_false, neither, none_kept, after_numbers}
 use Rattle.iv_machine.proofs.Adding.{shows_nothing}
-use Rattle.iv_machine.proofs.Splitting.{split}
 
 -- ---- a row of a difference stands in one of the two lists
 
@@ -164,4 +162,4 @@ pub refused_alike : (f : Frame) (S T : Lists) (n : ℕ) (act : Act) (r : Refusal
 refused_alike f S T n act r h k =
     let s : State = record { frame = f; rows = S } in
     let t : State = record { frame = f; rows = T } in
-    split t n act ∙ by_frame (frame_refusal f n act) (rows_refusal s n act) (rows_refusal t n act) r (rows_look s n act r) h (sym (split s n act) ∙ k)
+    by_frame (frame_refusal f n act) (rows_refusal s n act) (rows_refusal t n act) r (rows_look s n act r) h k

@@ -1,16 +1,14 @@
 -- Every open subscription may be read and is within the limits.
-use Rattle.std.proofs.Common.{◌≡◌, ℕ, Bool, true, false, cond, not, ◌&&◌, List, [], ◌∷◌, Option, Some, None, ◌∙◌, sym, refl}
+use Rattle.std.proofs.Common.{◌≡◌, ℕ, Bool, true, false, cond, not, ◌&&◌, List, [], ◌∷◌, Option, Some, None, refl}
 use Rattle.std.specs.Prelude.{filter, is_some}
 use Rattle.std.specs.List.{list_all, AllByRecursion}
 use Rattle.iv_machine.specs.Act.{Act, write, Command, Refusal, limit, Entry}
 use Rattle.iv_machine.specs.State.{State, Subscription, actor, missing_for, is_within}
-use Rattle.iv_machine.specs.Refusing.{test, or_else, all_within, entries_present, refusal}
-use Rattle.iv_machine.specs.Split.{frame_refusal, rows_refusal}
+use Rattle.iv_machine.specs.Refusing.{test, or_else, all_within, entries_present, refusal, frame_refusal, rows_refusal}
 use Rattle.iv_machine.specs.Changing.{after_frame, after}
 use Rattle.iv_machine.specs.Machine.{first_cause, ending, settled, outcome, step, run}
 use Rattle.iv_machine.specs.Served.{AreServed}
 use Rattle.iv_machine.specs.declared.Cause.{Cause}
-use Rattle.iv_machine.proofs.Splitting.{split}
 
 none_is : (o : Option Cause) → is_some o ≡ false → o ≡ None
 none_is None h = refl
@@ -32,7 +30,7 @@ or_none (Some r) p h = cc
 
 -- neither the tests that look at no row nor those that do refuse it
 pub none_refuses : (s : State) (n : ℕ) (act : Act) → refusal s n act ≡ None → (frame_refusal s.frame n act ≡ None) × (rows_refusal s n act ≡ None)
-none_refuses s n act h = or_none (frame_refusal s.frame n act) (rows_refusal s n act) (sym (split s n act) ∙ h)
+none_refuses s n act h = or_none (frame_refusal s.frame n act) (rows_refusal s n act) h
 
 pub passed : (b : Bool) (r : Refusal) → test (not b) r ≡ None → b ≡ true
 passed true r h = refl

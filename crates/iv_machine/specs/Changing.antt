@@ -89,11 +89,7 @@ after_rights f (revoke_role role to) = without_member (role_number f.rights role
 after_rights f (row_security rel enable force) = with_security (rel_of f.catalog rel) enable force f.rights
 after_rights f (create_policy p) = with_policy (rel_of f.catalog p.rel) (policy_for f p) f.rights
 after_rights f (drop_policy rel name) = without_policy (rel_of f.catalog rel) name f.rights
-after_rights f (begin role) = f.rights
-after_rights f finish = f.rights
-after_rights f (subscribe rel) = f.rights
-after_rights f (unsubscribe k) = f.rights
-after_rights f (write entries) = f.rights
+after_rights f _ = f.rights
 
 abbrev pub with_held : Name → Option Held → List catalogs.CatalogEntry → List catalogs.CatalogEntry
 with_held name None catalog = catalog
@@ -106,70 +102,22 @@ view_held (Err fault) = None
 abbrev pub after_catalog : Frame → Act → List catalogs.CatalogEntry
 after_catalog f (create_table name owner columns) = with_held name (Some (Table columns)) f.catalog
 after_catalog f (create_view name owner query) = with_held name (view_held (bound_query f.catalog query)) f.catalog
-after_catalog f (begin role) = f.catalog
-after_catalog f finish = f.catalog
-after_catalog f (create_role name) = f.catalog
-after_catalog f (grant rel privileges to) = f.catalog
-after_catalog f (revoke rel privileges to) = f.catalog
-after_catalog f (grant_role role to) = f.catalog
-after_catalog f (revoke_role role to) = f.catalog
-after_catalog f (row_security rel enable force) = f.catalog
-after_catalog f (create_policy p) = f.catalog
-after_catalog f (drop_policy rel name) = f.catalog
-after_catalog f (subscribe rel) = f.catalog
-after_catalog f (unsubscribe k) = f.catalog
-after_catalog f (write entries) = f.catalog
+after_catalog f _ = f.catalog
 
 abbrev pub after_sessions : Frame → ℕ → Act → List Session
 after_sessions f n (begin role) = f.sessions ++ record { number = n; role = role_number f.rights role } ∷ []
 after_sessions f n finish = filter (λ e. not (n == e.number)) f.sessions
-after_sessions f n (create_role name) = f.sessions
-after_sessions f n (create_table name owner columns) = f.sessions
-after_sessions f n (create_view name owner query) = f.sessions
-after_sessions f n (grant rel privileges to) = f.sessions
-after_sessions f n (revoke rel privileges to) = f.sessions
-after_sessions f n (grant_role role to) = f.sessions
-after_sessions f n (revoke_role role to) = f.sessions
-after_sessions f n (row_security rel enable force) = f.sessions
-after_sessions f n (create_policy p) = f.sessions
-after_sessions f n (drop_policy rel name) = f.sessions
-after_sessions f n (subscribe rel) = f.sessions
-after_sessions f n (unsubscribe k) = f.sessions
-after_sessions f n (write entries) = f.sessions
+after_sessions f n _ = f.sessions
 
 abbrev pub after_subscriptions : Frame → ℕ → Act → List Subscription
 after_subscriptions f n finish = filter (λ e. not (n == e.session)) f.subscriptions
 after_subscriptions f n (subscribe rel) = insert_subscription (opened_by f n rel) f.subscriptions
 after_subscriptions f n (unsubscribe k) = filter (λ e. not (k == e.number)) f.subscriptions
-after_subscriptions f n (begin role) = f.subscriptions
-after_subscriptions f n (create_role name) = f.subscriptions
-after_subscriptions f n (create_table name owner columns) = f.subscriptions
-after_subscriptions f n (create_view name owner query) = f.subscriptions
-after_subscriptions f n (grant rel privileges to) = f.subscriptions
-after_subscriptions f n (revoke rel privileges to) = f.subscriptions
-after_subscriptions f n (grant_role role to) = f.subscriptions
-after_subscriptions f n (revoke_role role to) = f.subscriptions
-after_subscriptions f n (row_security rel enable force) = f.subscriptions
-after_subscriptions f n (create_policy p) = f.subscriptions
-after_subscriptions f n (drop_policy rel name) = f.subscriptions
-after_subscriptions f n (write entries) = f.subscriptions
+after_subscriptions f n _ = f.subscriptions
 
 abbrev pub after_last : Frame → Act → ℕ
 after_last f (subscribe rel) = f.last + 1
-after_last f (begin role) = f.last
-after_last f finish = f.last
-after_last f (create_role name) = f.last
-after_last f (create_table name owner columns) = f.last
-after_last f (create_view name owner query) = f.last
-after_last f (grant rel privileges to) = f.last
-after_last f (revoke rel privileges to) = f.last
-after_last f (grant_role role to) = f.last
-after_last f (revoke_role role to) = f.last
-after_last f (row_security rel enable force) = f.last
-after_last f (create_policy p) = f.last
-after_last f (drop_policy rel name) = f.last
-after_last f (unsubscribe k) = f.last
-after_last f (write entries) = f.last
+after_last f _ = f.last
 
 abbrev pub after_frame : Frame → ℕ → Act → Frame
 after_frame f n act = record {
@@ -185,20 +133,7 @@ after_frame f n act = record {
 
 abbrev pub after_rows : State → Act → Lists
 after_rows s (write entries) = written s.frame.catalog entries s.rows
-after_rows s (begin role) = s.rows
-after_rows s finish = s.rows
-after_rows s (create_role name) = s.rows
-after_rows s (create_table name owner columns) = s.rows
-after_rows s (create_view name owner query) = s.rows
-after_rows s (grant rel privileges to) = s.rows
-after_rows s (revoke rel privileges to) = s.rows
-after_rows s (grant_role role to) = s.rows
-after_rows s (revoke_role role to) = s.rows
-after_rows s (row_security rel enable force) = s.rows
-after_rows s (create_policy p) = s.rows
-after_rows s (drop_policy rel name) = s.rows
-after_rows s (subscribe rel) = s.rows
-after_rows s (unsubscribe k) = s.rows
+after_rows s _ = s.rows
 
 abbrev pub after : State → ℕ → Act → State
 after s n act = record { frame = after_frame s.frame n act; rows = after_rows s act }

@@ -3,7 +3,7 @@ use Rattle.std.specs.Prelude.{ℕ, ◌==◌, List, [], ◌∷◌, ◌++◌, map,
 use Rattle.std.specs.List.{filter}
 use Rattle.iv_rows.specs.Cell.{Cell}
 use Rattle.iv_zset.specs.Weights.{weight_of}
-use Rattle.iv_machine.specs.Act.{Act, begin, finish, create_role, create_table, create_view, grant, revoke, grant_role, revoke_role, row_security, create_policy, drop_policy, subscribe, unsubscribe, write, Command, Refusal, Line, reply, change, ended}
+use Rattle.iv_machine.specs.Act.{Act, finish, unsubscribe, Command, Refusal, Line, reply, change, ended}
 use Rattle.iv_machine.specs.State.{State, Frame}
 use Rattle.iv_machine.specs.Refusing.{refusal}
 use Rattle.iv_machine.specs.Machine.{step}
@@ -23,19 +23,7 @@ held k q (l ∷ ls) = line_weight k q l +ℤ held k q ls
 abbrev pub closed_by : Frame → ℕ → Act → List ℕ
 closed_by f n finish = map (λ e. e.number) (filter (λ e. n == e.session) f.subscriptions)
 closed_by f n (unsubscribe k) = k ∷ []
-closed_by f n (begin role) = []
-closed_by f n (create_role name) = []
-closed_by f n (create_table name owner columns) = []
-closed_by f n (create_view name owner query) = []
-closed_by f n (grant rel privileges to) = []
-closed_by f n (revoke rel privileges to) = []
-closed_by f n (grant_role role to) = []
-closed_by f n (revoke_role role to) = []
-closed_by f n (row_security rel enable force) = []
-closed_by f n (create_policy p) = []
-closed_by f n (drop_policy rel name) = []
-closed_by f n (subscribe rel) = []
-closed_by f n (write entries) = []
+closed_by f n _ = []
 
 abbrev pub closed_in : State → Command → Option Refusal → List ℕ
 closed_in s c (Some r) = []

@@ -2,7 +2,6 @@ pub mod Act
 pub mod State
 pub mod Changing
 pub mod Refusing
-pub mod Split
 pub mod Machine
 pub mod Held
 pub mod Reached
@@ -14,6 +13,7 @@ pub mod Given
 pub mod Sound
 pub mod Readers
 pub mod Typed
+pub mod Parts
 pub mod Well
 pub mod Learned
 pub mod Stored

@@ -1,12 +1,12 @@
 -- One step of the machine, and a run of it.
-use Rattle.std.specs.Prelude.{◌≡◌, ℕ, ◌+◌, Bool, true, false, not, List, [], ◌∷◌, ◌++◌, map, filter, flat_map, ℤ, pos, ◌-ℤ◌, Option, Some, None, is_some}
+use Rattle.std.specs.Prelude.{◌+◌, Bool, true, false, not, List, [], ◌∷◌, ◌++◌, map, filter, flat_map, ℤ, pos, ◌-ℤ◌, Option, Some, None, is_some}
 use Rattle.std.specs.Ordering.{int_eq}
 use Rattle.std.specs.declared.cmp.Ordering.{Ordering}
 use Rattle.std.specs.declared.cmp.Ordering.TheVariants.{Less, Equal, Greater}
 use Rattle.iv_rows.specs.Cell.{Cell}
 use Rattle.iv_rows.specs.Order.{row_cmp}
 use Rattle.iv_zset.specs.Limits.{copies}
-use Rattle.iv_machine.specs.Act.{Act, begin, finish, create_role, create_table, create_view, grant, revoke, grant_role, revoke_role, row_security, create_policy, drop_policy, subscribe, unsubscribe, write, Command, Refusal, Reply, done, subscribed, refused, Line, reply, change, ended}
+use Rattle.iv_machine.specs.Act.{Act, subscribe, write, Command, Refusal, Reply, done, subscribed, refused, Line, reply, change, ended}
 use Rattle.iv_machine.specs.State.{State, Frame, Subscription, actor, missing_for, is_within, shown}
 use Rattle.iv_machine.specs.Refusing.{refusal}
 use Rattle.iv_machine.specs.Changing.{after}
@@ -58,20 +58,7 @@ ending s e = first_cause (is_some (missing_for s.frame (actor s.frame e.session)
 -- a write ends none; it is refused where a view would not be within the limits
 abbrev pub ending_by : Act → State → Subscription → Option Cause
 ending_by (write entries) s e = None
-ending_by (begin role) s e = ending s e
-ending_by finish s e = ending s e
-ending_by (create_role name) s e = ending s e
-ending_by (create_table name owner columns) s e = ending s e
-ending_by (create_view name owner query) s e = ending s e
-ending_by (grant rel privileges to) s e = ending s e
-ending_by (revoke rel privileges to) s e = ending s e
-ending_by (grant_role role to) s e = ending s e
-ending_by (revoke_role role to) s e = ending s e
-ending_by (row_security rel enable force) s e = ending s e
-ending_by (create_policy p) s e = ending s e
-ending_by (drop_policy rel name) s e = ending s e
-ending_by (subscribe rel) s e = ending s e
-ending_by (unsubscribe k) s e = ending s e
+ending_by _ s e = ending s e
 
 -- without the subscriptions that end
 abbrev pub settled : Act → State → State
@@ -81,20 +68,7 @@ settled act s = record s { frame = record s.frame { subscriptions = filter (λ e
 
 abbrev pub reply_to : Frame → Act → Reply
 reply_to f (subscribe rel) = subscribed (f.last + 1)
-reply_to f (begin role) = done
-reply_to f finish = done
-reply_to f (create_role name) = done
-reply_to f (create_table name owner columns) = done
-reply_to f (create_view name owner query) = done
-reply_to f (grant rel privileges to) = done
-reply_to f (revoke rel privileges to) = done
-reply_to f (grant_role role to) = done
-reply_to f (revoke_role role to) = done
-reply_to f (row_security rel enable force) = done
-reply_to f (create_policy p) = done
-reply_to f (drop_policy rel name) = done
-reply_to f (unsubscribe k) = done
-reply_to f (write entries) = done
+reply_to f _ = done
 
 -- a last line where the subscription ends, also with no row; else no line where nothing changes
 abbrev pub lines_told : Option Cause → Subscription → List (List Cell × ℤ) → List Line
@@ -131,10 +105,6 @@ step s c = outcome s c (refusal s c.session c.act)
 abbrev pub run : State → List Command → Outcome
 run s [] = record { state = s; lines = [] }
 run s (c ∷ cs) = let one = step s c in let rest = run one.state cs in record { state = rest.state; lines = one.lines ++ rest.lines }
-
--- the first line of the command is the refusal r, for session n
-abbrev pub Refuses : State → Command → ℕ → Refusal → List Line → Type 0
-Refuses s c n r later = (step s c).lines ≡ reply n (refused r) ∷ later
 
 -- all sessions and subscriptions are closed, without a line
 abbrev pub hung : State → State

@@ -1,5 +1,5 @@
 -- Who is sent the lines of a command, and which rows they show.
-use Rattle.std.specs.Prelude.{◌≡◌, ◌⊎◌, ℕ, ◌<◌, ℤ, Bool, true, false, List, [], Some}
+use Rattle.std.specs.Prelude.{◌≡◌, ◌⊎◌, ℕ, ◌<◌, ℤ, Bool, true, false, List, [], ◌∷◌, Some}
 use Rattle.std.specs.List.{All}
 use Rattle.iv_rows.specs.Cell.{Cell}
 use Rattle.iv_zset.specs.Limits.{copies}
@@ -7,8 +7,8 @@ use Rattle.iv_algebra.specs.Counting.{SameCopies, SameTables}
 use Rattle.iv_algebra.specs.Plans.{Lists}
 use Rattle.iv_algebra.specs.Shapes.{Scan}
 use Rattle.iv_access.specs.Policies.{may_see, allowed}
-use Rattle.iv_machine.specs.Act.{Act, Line, reply, change, ended, Refusal, no_such_row, limit}
-use Rattle.iv_machine.specs.Machine.{difference}
+use Rattle.iv_machine.specs.Act.{Act, Command, Line, reply, change, ended, Refusal, no_such_row, limit, refused}
+use Rattle.iv_machine.specs.Machine.{difference, step}
 use Rattle.iv_machine.specs.Refusing.{has_subscription, refusal}
 use Rattle.iv_machine.specs.Sound.{MayRead}
 use Rattle.iv_machine.specs.State.{State, Frame, Subscription, actor, is_within_for, plan_at, shown, subscription_of, view_for}
@@ -48,7 +48,11 @@ ShowsKnownRows old new (reply n r) = Unit {0}
 ShowsKnownRows old new (change n k rows) = AreKnownRows old new k rows
 ShowsKnownRows old new (ended n k why rows) = rows ≡ difference (shown old k) []
 
--- ---- refusals that rows decide
+-- ---- refusals
+
+-- the first line of the command is the refusal r, for session n
+abbrev pub Refuses : State → Command → ℕ → Refusal → List Line → Type 0
+Refuses s c n r later = (step s c).lines ≡ reply n (refused r) ∷ later
 
 -- the table's rows, or the limits, decide the refusal
 abbrev pub looks_at_rows : Refusal → Bool

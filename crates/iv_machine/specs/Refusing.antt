@@ -43,10 +43,6 @@ each_entry f n (e ∷ es) = or_else (f n e) (each_entry f (n + 1) es)
 
 -- ---- tests that several requests have
 
--- session n is open
-abbrev pub opened : Frame → ℕ → Option Refusal
-opened f n = test (not (is_open f n)) no_session
-
 abbrev pub administrator : ℕ → Option Refusal
 administrator role = test (not (is_admin role)) not_administrator
 
@@ -174,69 +170,41 @@ views f = count_by (λ e. is_some (view_in e.held)) f.catalog
 abbrev pub has_subscription : Frame → ℕ → ℕ → Bool
 has_subscription f n k = list_any (λ e. (n == e.session) && (k == e.number)) f.subscriptions
 
--- the tests of each request, in their order: f is the frame of s, and role acts in session n
-abbrev pub tests_by : State → Frame → (n role : ℕ) → Act → List (Option Refusal)
-tests_by s f n role (begin name) =
-    test (is_open f n) session_in_use
-    ∷ known_role f name
-    ∷ full 256 (length f.sessions)
-    ∷ []
-tests_by s f n role finish = opened f n ∷ []
-tests_by s f n role (create_role name) =
-    opened f n
-    ∷ administrator role
-    ∷ free_role f name
-    ∷ full 256 (length f.rights.roles)
-    ∷ []
-tests_by s f n role (create_table name owner columns) =
-    opened f n
-    ∷ administrator role
+-- `begin` takes a session that is not open, each other request one that is
+abbrev pub session_test : Frame → ℕ → Act → Option Refusal
+session_test f n (begin name) = test (is_open f n) session_in_use
+session_test f n _ = test (not (is_open f n)) no_session
+
+-- the further tests of each request that look at no row, in their order, where role acts in session n
+abbrev pub tests_by : Frame → (n role : ℕ) → Act → List (Option Refusal)
+tests_by f n role (begin name) = known_role f name ∷ full 256 (length f.sessions) ∷ []
+tests_by f n role finish = []
+tests_by f n role (create_role name) = administrator role ∷ free_role f name ∷ full 256 (length f.rights.roles) ∷ []
+tests_by f n role (create_table name owner columns) =
+    administrator role
     ∷ known_role f owner
     ∷ free_relation f name
     ∷ full 64 (tables f)
     ∷ []
-tests_by s f n role (create_view name owner query) =
-    opened f n
-    ∷ administrator role
+tests_by f n role (create_view name owner query) =
+    administrator role
     ∷ known_role f owner
     ∷ free_relation f name
     ∷ bad_text (bound_query f.catalog query)
     ∷ full 64 (views f)
     ∷ []
-tests_by s f n role (grant rel privileges to) =
-    opened f n
-    ∷ known_relation f rel
-    ∷ owner_alone f role rel
-    ∷ known_grantee f to
-    ∷ []
-tests_by s f n role (revoke rel privileges to) =
-    opened f n
-    ∷ known_relation f rel
-    ∷ owner_alone f role rel
-    ∷ known_grantee f to
-    ∷ []
-tests_by s f n role (grant_role group to) =
-    opened f n
-    ∷ administrator role
+tests_by f n role (grant rel privileges to) = known_relation f rel ∷ owner_alone f role rel ∷ known_grantee f to ∷ []
+tests_by f n role (revoke rel privileges to) = known_relation f rel ∷ owner_alone f role rel ∷ known_grantee f to ∷ []
+tests_by f n role (grant_role group to) =
+    administrator role
     ∷ known_role f group
     ∷ known_role f to
     ∷ test (acts_as f.rights (role_number f.rights group) (role_number f.rights to)) membership_loop
     ∷ []
-tests_by s f n role (revoke_role group to) =
-    opened f n
-    ∷ administrator role
-    ∷ known_role f group
-    ∷ known_role f to
-    ∷ []
-tests_by s f n role (row_security rel enable force) =
-    opened f n
-    ∷ known_relation f rel
-    ∷ table_alone f rel
-    ∷ owner_alone f role rel
-    ∷ []
-tests_by s f n role (create_policy p) =
-    opened f n
-    ∷ known_relation f p.rel
+tests_by f n role (revoke_role group to) = administrator role ∷ known_role f group ∷ known_role f to ∷ []
+tests_by f n role (row_security rel enable force) = known_relation f rel ∷ table_alone f rel ∷ owner_alone f role rel ∷ []
+tests_by f n role (create_policy p) =
+    known_relation f p.rel
     ∷ table_alone f p.rel
     ∷ owner_alone f role p.rel
     ∷ first (map (known_grantee f) p.to)
@@ -245,37 +213,38 @@ tests_by s f n role (create_policy p) =
     ∷ bad_policy_text (columns_at f.catalog p.rel) p.check_text
     ∷ full 32 (policies f p.rel)
     ∷ []
-tests_by s f n role (drop_policy rel name) =
-    opened f n
-    ∷ known_relation f rel
+tests_by f n role (drop_policy rel name) =
+    known_relation f rel
     ∷ table_alone f rel
     ∷ owner_alone f role rel
     ∷ test (not (has_policy f rel name)) unknown_policy
     ∷ []
-tests_by s f n role (subscribe rel) =
-    opened f n
-    ∷ known_relation f rel
+tests_by f n role (subscribe rel) =
+    known_relation f rel
     ∷ missing f (missing_for f role (rel_of f.catalog rel))
     ∷ full 16 (count_by (λ e. n == e.session) f.subscriptions)
     ∷ full (2 ^ 63) (f.last + 1)
-    ∷ test (not (is_within_for s role (rel_of f.catalog rel))) limit
     ∷ []
-tests_by s f n role (unsubscribe k) =
-    opened f n
-    ∷ test (not (has_subscription f n k)) unknown_subscription
-    ∷ []
-tests_by s f n role (write entries) =
-    opened f n
-    ∷ each_entry (entry_shape f) 1 entries
+tests_by f n role (unsubscribe k) = test (not (has_subscription f n k)) unknown_subscription ∷ []
+tests_by f n role (write entries) =
+    each_entry (entry_shape f) 1 entries
     ∷ each_entry (entry_privileges f role) 1 entries
     ∷ each_entry (entry_policies f role) 1 entries
-    ∷ entries_present f.catalog 1 entries s.rows
-    ∷ test (not (all_within (after s n (write entries)))) limit
     ∷ []
 
-abbrev pub tests : State → ℕ → Act → List (Option Refusal)
-tests s n act = tests_by s s.frame n (actor s.frame n) act
+-- the first test that fails, of those that look at no row
+abbrev pub frame_refusal : Frame → ℕ → Act → Option Refusal
+frame_refusal f n act = or_else (session_test f n act) (first (tests_by f n (actor f n) act))
 
--- the first test that fails gives its refusal
+-- the first of those that look at rows
+abbrev pub rows_refusal : State → ℕ → Act → Option Refusal
+rows_refusal s n (subscribe rel) = test (not (is_within_for s (actor s.frame n) (rel_of s.frame.catalog rel))) limit
+rows_refusal s n (write entries) = first (
+    entries_present s.frame.catalog 1 entries s.rows
+    ∷ test (not (all_within (after s n (write entries)))) limit
+    ∷ [])
+rows_refusal s n _ = None
+
+-- tests that look at rows come last
 abbrev pub refusal : State → ℕ → Act → Option Refusal
-refusal s n act = first (tests s n act)
+refusal s n act = or_else (frame_refusal s.frame n act) (rows_refusal s n act)

@@ -1,39 +1,18 @@
 -- The commands that a line may give: what the front end promises of each part before the machine looks at it.
-use Rattle.std.specs.Prelude.{ℕ, ◌^◌, ◌&&◌, Bool, true, not, List, length, bytes_eq, codes, nat_le, nat_lt, Option, Some, None, is_some, is_none}
+use Rattle.std.specs.Prelude.{◌^◌, ◌&&◌, Bool, true, length, nat_le, nat_lt, Option, Some, None}
 use Rattle.std.specs.List.{list_all}
 use Rattle.iv_rows.specs.Columns.{has_columns, has_distinct_names}
 use Rattle.iv_rows.specs.Names.{is_name}
 use Rattle.iv_rows.specs.Texts.{is_well}
-use Rattle.iv_access.specs.declared.policy.PolicyCommand.{PolicyCommand}
-use Rattle.iv_access.specs.declared.policy.PolicyCommand.TheVariants.{All, Select, Insert, Update, Delete}
 use Rattle.iv_access.specs.Rights.{Name}
 use Rattle.iv_machine.specs.Act.{Act, begin, finish, create_role, create_table, create_view, grant, revoke, grant_role, revoke_role, row_security, create_policy, drop_policy, subscribe, unsubscribe, write, PolicyText, Entry, Command}
+use Rattle.iv_machine.specs.Parts.{is_between, is_group, is_positive, has_texts}
 use Rattle.iv_machine.specs.Refusing.{rows_in}
-
-abbrev pub is_between : ℕ → ℕ → ℕ → Bool
-is_between low high n = nat_le low n && nat_le n high
-
--- 1 to 2^63 - 1
-abbrev pub is_positive : ℕ → Bool
-is_positive n = nat_le 1 n && nat_lt n (2 ^ 63)
-
--- the superuser has no members
-abbrev pub is_group : Name → Bool
-is_group role = is_name role && not (bytes_eq role (codes "admin"))
 
 -- PUBLIC, or a name
 abbrev pub is_grantee : Option Name → Bool
 is_grantee None = true
 is_grantee (Some name) = is_name name
-
--- which texts a policy for a command has (PostgreSQL 16, CREATE POLICY); one that reads or removes rows, or replaces
--- them, has `using`
-abbrev pub has_texts : PolicyCommand → (using check : Option (List ℕ)) → Bool
-has_texts All using check = is_some using
-has_texts Select using check = is_some using && is_none check
-has_texts Insert using check = is_none using && is_some check
-has_texts Update using check = is_some using
-has_texts Delete using check = is_some using && is_none check
 
 -- it goes to 1 to 16
 abbrev pub is_well_policy : PolicyText → Bool

@@ -1,13 +1,14 @@
 -- Connections behind connections.
-use Rattle.std.proofs.Common.{◌≡◌, ℕ, ◌+◌, List, [], ◌∷◌, ◌++◌, length, length-append, take, Bool, true, false, ◌||◌, Option, refl, sym, subst, ◌∙◌}
+use Rattle.std.proofs.Common.{◌≡◌, ℕ, ◌+◌, List, [], ◌∷◌, ◌++◌, length, length-append, take, Bool, true, false, ◌||◌, Option, refl, ap, sym, subst, ◌∙◌}
 use Rattle.std.proofs.Math.Seq.{take-length}
 use Rattle.std.specs.Io.KnownBytes.{Appends}
+use Rattle.std.specs.Prelude.{Result, Ok, Err, OnOk}
 use Rattle.std.specs.List.{AllByRecursion}
 use Rattle.iv_machine.specs.Act.{Command}
 use Rattle.iv_machine.specs.Machine.{hung, run}
 use Rattle.iv_machine.specs.Reached.{AreGiven, AreUnique, AreNumbersUnique}
 use Rattle.iv_machine.specs.State.{Frame, State}
-use Rattle.iv_engine.specs.Engine.{Engine, IsBehind}
+use Rattle.iv_engine.specs.Engine.{Engine, IsBehind, hung_up}
 use Rattle.iv_wire.specs.Ran.{HasRun}
 use Rattle.iv_program.specs.Serves.{HasServed, IsClosed, served}
 
@@ -48,6 +49,26 @@ closed_numbers f h = record {
 pub all_front : (old new : Option (List ℕ)) (bytes : List ℕ) → Appends old new bytes → (n : ℕ) × Appends old new (take n bytes)
 all_front old new bytes h = (length bytes, subst (Appends old new) (sym (take-length bytes)) h)
 
-pub not_second : (a b new : Bool) → new ≡ (a || b) → a ≡ false → new ≡ false → b ≡ false
-not_second true b new e f g = cc
-not_second false b new e f g = sym e ∙ g
+pub second : (a b new : Bool) → new ≡ (a || b) → a ≡ false → new ≡ b
+second true b new e f = cc
+second false b new e f = e
+
+-- where a result is Ok, what holds of each state behind
+pub at_ok : {T E : Type 0} (r : Result T E) (P Q : State → Type 0) → OnOk r ((s : State) → P s → Q s) → (s : State) → P s → OnOk r (Q s)
+at_ok (Ok x) P Q h s p = h s p
+at_ok (Err e) P Q h s p = tt
+
+-- ---- hanging up
+
+pub closed_by : (old new : Engine) → new ≡ hung_up old → IsClosed new.frame
+closed_by old new e = record {
+  sessions = ap (λ (x : Engine). x.frame.sessions) e;
+  subscriptions = ap (λ (x : Engine). x.frame.subscriptions) e;
+}
+
+pub stays_failed : (old new : Engine) → (old.failed ≡ false → new ≡ hung_up old) → (old.failed ≡ true → new ≡ old) → new.failed ≡ old.failed
+stays_failed old new f g = by old.failed refl
+  where
+    by : (b : Bool) → old.failed ≡ b → new.failed ≡ old.failed
+    by true e = ap (λ (x : Engine). x.failed) (g e)
+    by false e = ap (λ (x : Engine). x.failed) (f e)

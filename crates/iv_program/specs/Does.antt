@@ -4,7 +4,9 @@ use Rattle.std.specs.Io.KnownBytes.{Appends}
 use Rattle.iv_machine.specs.State.{start}
 use Rattle.iv_engine.specs.Engine.{Engine}
 use Rattle.iv_wire.specs.Endings.{Run}
+use Rattle.iv_lines.specs.Moments.{Moment}
 use Rattle.iv_wire.specs.Sums.{HasWritten}
+use Rattle.iv_wire.specs.Turns.{IsInTurn}
 use Rattle.iv_program.specs.Replays.{Replays}
 use Rattle.iv_arguments.specs.declared.asked.Settings.{Settings}
 use Rattle.iv_arguments.specs.declared.asked.Settings.TheVariants.{Replay, Serve}
@@ -44,3 +46,8 @@ Does (Serve port connections lines rows) e result = Listens port e.taken e.writt
 abbrev pub LinesAddUp : Settings → Ends → Type 0
 LinesAddUp (Replay lines rows) e = (now : Engine) × IfSome e.given (λ _. HasWritten (start rows) (run_of lines e now))
 LinesAddUp (Serve port connections lines rows) e = ⊤
+
+-- the reader is read in its turn; where those of connections are answered it is not read
+abbrev pub IsTurnOf : Settings → (given taken : Option (List ℕ)) → Moment → Type 0
+IsTurnOf (Replay lines rows) given taken m = IsInTurn lines (start rows) given taken m
+IsTurnOf (Serve port connections lines rows) given taken m = ⊥

@@ -1,3 +1,4 @@
+pub mod Connection
 pub mod Does
 pub mod Replays
 pub mod Serves

@@ -1,12 +1,13 @@
 //! `work`: does what the settings ask; `replay`: request lines in, answer lines out, through a new engine.
 
 ghost use Rattle.std.specs.Prelude.{◌≡◌, ℕ, ◌≤◌, ◌+◌, ◌*◌, ◌||◌, OnOk, true, false};
-ghost use Rattle.iv_zset.specs.RowLimit.{IsRowLimit};
+ghost use Rattle.iv_rows.specs.RowLimit.{IsRowLimit};
 ghost use Rattle.iv_machine.specs.State.{start};
 ghost use Rattle.iv_engine.specs.Engine.{IsBehind};
 ghost use Rattle.iv_lines.specs.Cut.{line_room};
 ghost use Rattle.iv_arguments.specs.Arguments.{InRange, lines_of};
-ghost use Rattle.iv_program.specs.Does.{LinesAddUp, Does};
+ghost use Rattle.iv_lines.specs.Moments.{ReadsAt};
+ghost use Rattle.iv_program.specs.Does.{LinesAddUp, Does, IsTurnOf};
 ghost use Rattle.iv_program.specs.Replays.{is_read, is_write};
 ghost use Rattle.iv_arguments.specs.declared.asked.Settings.TheVariants.{Replay};
 
@@ -46,6 +47,8 @@ fn replay_on<R: Source, W: Sink>(
     ensures write { W.has_failed writer.new ≡ (W.has_failed writer.old || is_write result) }
     ensures flushed { (is_write result ≡ false) → W.is_flushed writer.old ≡ true → W.is_flushed writer.new ≡ true }
     ensures reads { R.reads reader.new ≤ R.reads reader.old + lines * line_room }
+    ensures turns { W.is_flushed writer.old ≡ true → (cap : ℕ) → IsBehind (start cap) engine.old
+        → ReadsAt (IsTurnOf (Replay lines cap) (R.left reader.old) (W.taken writer.old)) (R.moments reader.old) (R.moments reader.new) }
 {
     match run(alloc, engine, reader, writer, lines) {
         Ok(_) => Ok(()),
@@ -88,6 +91,8 @@ fn replay<R: Source, W: Sink>(
     ensures write { W.has_failed writer.new ≡ (W.has_failed writer.old || is_write result) }
     ensures flushed { (is_write result ≡ false) → W.is_flushed writer.old ≡ true → W.is_flushed writer.new ≡ true }
     ensures reads { R.reads reader.new ≤ R.reads reader.old + lines * line_room }
+    ensures turns { W.is_flushed writer.old ≡ true
+        → ReadsAt (IsTurnOf (Replay lines rows) (R.left reader.old) (W.taken writer.old)) (R.moments reader.old) (R.moments reader.new) }
 {
     let Ok(mut engine) = Engine::with_seed(alloc, seed, rows) else {
         return Err(Fault::Memory);
@@ -127,6 +132,9 @@ pub fn work<R: Source, W: Sink>(
     ensures write { W.has_failed writer.new ≡ (W.has_failed writer.old || is_write result) }
     ensures flushed { (is_write result ≡ false) → W.is_flushed writer.old ≡ true → W.is_flushed writer.new ≡ true }
     ensures reads { R.reads reader.new ≤ R.reads reader.old + (lines_of settings * line_room) }
+    // Whenever the reader is read, all whole lines that it gave before are answered, and their answers written and flushed.
+    ensures turns { W.is_flushed writer.old ≡ true
+        → ReadsAt (IsTurnOf settings (R.left reader.old) (W.taken writer.old)) (R.moments reader.old) (R.moments reader.new) }
 {
     match settings {
         Settings::Replay { lines, rows } => replay(rt.alloc(), seed, reader, writer, lines, rows),

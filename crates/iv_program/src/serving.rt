@@ -1,18 +1,20 @@
 //! `serve`, `serve_on`: listens on a port, and answers connections one after another through one engine.
 //!
-//! A failed engine is answered before an accept, which a test shows: no contract of a listener tells its accepts.
-//! After a run it is the engine that is asked whether it failed: of a run's faults the read and the write end the
-//! connection alone. An accept that fails ends the program, also where another try might do; std's accept tries again
-//! after a signal.
+//! A failed engine is answered before an accept, which a test shows: no contract of a listener tells its accepts, nor
+//! where it listens. What is done with a connection has its contract in `answer_connection`. Behind it the engine is asked
+//! whether it failed: a read or a write that fails ends the connection alone, so a network fault comes from an accept. An
+//! accept that fails ends the program, also where another try might do; std's accept tries again after a signal.
 //!
-//! Each answer is one write, so `TCP_NODELAY` is set; where it can't be, answers may come later and are the same. What is
-//! done with a connection can only lack memory, by its type, so a network fault comes from an accept. Tests show it
-//! (`.ci/socket`), with connections of which no option can be set, and with one that is reset before it is accepted. The
-//! engine is made before the port is taken, so want of memory there leaves no line `listening on ..`, which is
-//! written by the same kind of end as answers: its text and its faults are in a contract.
+//! Each answer is one write, so `TCP_NODELAY` is set; where it can't be, answers may come later and are the same. Tests
+//! (`.ci/socket`) have connections of which no option can be set, one that is reset before it is accepted, and one to
+//! another address of the host, which is refused. The engine is made before the port is taken, so want of memory there
+//! leaves no line `listening on ..`, which is written by the same kind of end as answers: its text and its faults are in a
+//! contract.
 
-ghost use Rattle.std.specs.Prelude.{◌≡◌, ◌≤◌, ◌||◌, ◌↔◌, true, false, IsErrOf, OnOk, is_err};
-ghost use Rattle.iv_zset.specs.RowLimit.{IsRowLimit};
+ghost use Rattle.std.specs.Prelude.{◌≡◌, ◌≤◌, ◌||◌, ◌↔◌, ◌∷◌, [], true, false, IsErrOf, OnOk};
+ghost use Rattle.std.specs.Net.Addr.{ipv4_octets};
+ghost use Rattle.std.specs.Net.Socket.{v4_ip, v4_port};
+ghost use Rattle.iv_rows.specs.RowLimit.{IsRowLimit};
 ghost use Rattle.iv_machine.specs.Reached.{AreNumbersUnique};
 ghost use Rattle.iv_machine.specs.State.{State};
 ghost use Rattle.iv_engine.specs.Engine.{IsBehind};
@@ -20,12 +22,12 @@ ghost use Rattle.iv_program.specs.Does.{Listens};
 ghost use Rattle.iv_program.specs.Replays.{is_write};
 ghost use Rattle.iv_program.specs.Serves.{HasServed, IsClosed, Serves, is_memory};
 
+use crate::connection::answer_connection;
 use iv_arguments::Fault;
 use iv_engine::{Engine, Seed};
 use iv_lines::{EndFault, FromRead, FromWrite, Sink, write_all};
-use iv_wire::run;
-use std::alloc::{AllocError, Global};
-use std::net::{Ipv4Addr, SocketAddrV4, TcpListener, TcpStream};
+use std::alloc::Global;
+use std::net::{Ipv4Addr, SocketAddrV4, TcpListener};
 
 /// Why no more connections are served.
 #[derive(Clone, Copy, Debug, PartialEq, Eq)]
@@ -36,35 +38,6 @@ pub enum ServeFault {
     Memory,
     /// The engine had failed before.
     Failed,
-}
-
-/// Answers at most `lines` lines of a connection, and then hangs up.
-///
-/// # Errors
-/// `AllocError` where a growth of memory was refused: the engine has failed then. A read or a write of the connection
-/// that fails is none: it ends the connection.
-fn answer_connection(
-    alloc: Global,
-    engine: &mut Engine,
-    stream: &TcpStream,
-    lines: u32,
-) -> Result<(), AllocError>
-    requires { engine.old.failed ≡ false }
-    ensures served { OnOk result ((s : State) → IsBehind s engine.old → HasServed lines 1 s engine.new) }
-    ensures closed { OnOk result (IsClosed engine.new.frame) }
-    ensures failed { engine.new.failed ≡ is_err result }
-{
-    // an answer need not wait for the next one
-    let _ = stream.set_nodelay(true);
-    let mut reader = FromRead::new(stream);
-    let mut writer = FromWrite::new(stream);
-    // where its read or write fails, the connection ends, and the engine goes on
-    let _ = run(alloc, engine, &mut reader, &mut writer, lines);
-    if engine.is_failed() {
-        return Err(AllocError);
-    }
-    engine.hang_up();
-    Ok(())
 }
 
 /// Serves so many connections of the listener, one after another on the one engine, with at most `lines` lines of each.
@@ -95,12 +68,25 @@ pub fn serve_on(
         let Ok((stream, _)) = listener.accept() else {
             return Err(ServeFault::Network);
         };
-        match answer_connection(alloc, engine, &stream, lines) {
-            Ok(()) => {}
-            Err(AllocError) => return Err(ServeFault::Memory),
+        // an answer need not wait for the next one
+        let _ = stream.set_nodelay(true);
+        let mut reader = FromRead::new(&stream);
+        let mut writer = FromWrite::new(&stream);
+        // where its read or write fails, the connection ends, and the next one is served
+        let _ = answer_connection(alloc, engine, &mut reader, &mut writer, lines);
+        if engine.is_failed() {
+            return Err(ServeFault::Memory);
         }
     }
     Ok(())
+}
+
+/// The address that is listened on: 127.0.0.1, which no other machine reaches, and the port.
+pub fn address_of(port: u16) -> SocketAddrV4
+    ensures octets { ipv4_octets (v4_ip result) ≡ 127 ∷ 0 ∷ 0 ∷ 1 ∷ [] }
+    ensures port { v4_port result ≡ port }
+{
+    SocketAddrV4::new(Ipv4Addr::new(127, 0, 0, 1), port)
 }
 
 /// Tells on the writer where the program listens.
@@ -141,7 +127,7 @@ fn serve_through<W: Sink>(
     ensures flushed { (is_write result ≡ false) → W.is_flushed writer.old ≡ true → W.is_flushed writer.new ≡ true }
 {
     let alloc = rt.alloc();
-    let Ok(listener) = TcpListener::bind(rt, SocketAddrV4::new(Ipv4Addr::LOCALHOST, port)) else {
+    let Ok(listener) = TcpListener::bind(rt, address_of(port)) else {
         return Err(Fault::Network);
     };
     tell_port(alloc, writer, port)?;

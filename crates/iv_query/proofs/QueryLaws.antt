@@ -4,8 +4,9 @@ use Rattle.iv_query.specs.declared.fault.Fault.{Fault}
 use Rattle.iv_query.specs.declared.token.Symbol.TheVariants.{And, As, Equal, Inner, Join, On}
 use Rattle.iv_query.specs.Tokens.{Tok, Fixed, Name, Number, Quoted, after_symbol, first_place}
 use Rattle.iv_query.specs.Trees.{NameTree, Called, SourceTree, PairTree, JoinTree}
-use Rattle.iv_query.specs.Rules.{IsName, name_is, NameFault, no_name, push}
-use Rattle.iv_query.specs.Query.{IsAlias, as_alias, bare_alias, AliasFault, no_as_alias, no_bare_alias, starts_alias, MayAlias, some_alias, no_alias, MayAliasFault, in_alias, IsSource, source_is, long, SourceFault, no_source, one_too_many, in_source_alias, IsPair, pair_is, PairFault, no_left, no_equal, no_right, IsPairs, pairs_is, PairsFault, first_pair, later_pair, IsPlainJoin, plain_join_is, PlainJoinFault, no_join, no_join_source, no_on, no_pairs, IsJoin, inner_join, bare_join, JoinFault, in_inner_join, in_bare_join, starts_join, at_join, AreJoins, JoinsFault}
+use Rattle.iv_query.specs.Rules.{IsName, name_is, NameFault, no_name}
+use Rattle.iv_query.specs.Parts.{push, starts_alias, long, starts_join, at_join}
+use Rattle.iv_query.specs.Query.{IsAlias, as_alias, bare_alias, AliasFault, no_as_alias, no_bare_alias, MayAlias, some_alias, no_alias, MayAliasFault, in_alias, IsSource, source_is, SourceFault, no_source, one_too_many, in_source_alias, IsPair, pair_is, PairFault, no_left, no_equal, no_right, IsPairs, pairs_is, PairsFault, first_pair, later_pair, IsPlainJoin, plain_join_is, PlainJoinFault, no_join, no_join_source, no_on, no_pairs, IsJoin, inner_join, bare_join, JoinFault, in_inner_join, in_bare_join, AreJoins, JoinsFault}
 use Rattle.iv_query.specs.Reading.{list_of, name_at, column_at}
 use Rattle.iv_query.specs.QueryReading.{alias_at, may_alias_at, source_at, pair_at, plain_join_at, join_at, joins_at}
 use Rattle.iv_query.proofs.Steps.{Outcome, good, bad, bind, comes, needs, needs_not, first_shorter, after_first, needed, skipped, tested, weaken}

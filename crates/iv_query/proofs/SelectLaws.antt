@@ -8,8 +8,9 @@ use Rattle.iv_query.specs.Tokens.{Tok, after_symbol, first_place}
 use Rattle.iv_rows.specs.Options.{if_some}
 use Rattle.iv_query.specs.Trees.{ColumnTree, PredTree, ItemTree, ListTree, SelectTree, QueryTree, One}
 use Rattle.iv_query.specs.Grammar.{IsColumn, ColumnFault}
-use Rattle.iv_query.specs.Rules.{First, first, Many, push}
-use Rattle.iv_query.specs.Query.{IsItem, column_item, sum_item, count_item, ItemFault, no_item, in_item_alias, no_sum_open, no_sum_column, no_sum_close, no_sum_alias, no_count_open, no_count_star, no_count_close, no_count_alias, IsList, star_is, items_is, ListFault, first_item, later_item, HeadTree, HeadOf, IsHead, distinct_is, head_is, HeadFault, no_select, no_distinct_list, no_list, FromTree, FromOf, IsFrom, from_is, FromFault, no_from, no_first_source, in_joins, MayFilter, some_filter, no_filter, FilterFault, in_filter, MayGroup, some_group, no_group, GroupFault, no_by, first_key, later_key, IsSelect, select_is, SelectFault, in_head, in_from, in_where, in_group, IsSetOp, union_all_is, union_is, except_is, starts_set_op, at_set_op, NextTree, IsNext, next_is, NextFault, in_next, combine, sources_of, IsQuery, query_is, IsQueryFault, first_select, later_select}
+use Rattle.iv_query.specs.Rules.{First, first, Many}
+use Rattle.iv_query.specs.Parts.{push, HeadTree, HeadOf, FromTree, FromOf, starts_set_op, at_set_op, NextTree, combine, sources_of}
+use Rattle.iv_query.specs.Query.{IsItem, column_item, sum_item, count_item, ItemFault, no_item, in_item_alias, no_sum_open, no_sum_column, no_sum_close, no_sum_alias, no_count_open, no_count_star, no_count_close, no_count_alias, IsList, star_is, items_is, ListFault, first_item, later_item, IsHead, distinct_is, head_is, HeadFault, no_select, no_distinct_list, no_list, IsFrom, from_is, FromFault, no_from, no_first_source, in_joins, MayFilter, some_filter, no_filter, FilterFault, in_filter, MayGroup, some_group, no_group, GroupFault, no_by, first_key, later_key, IsSelect, select_is, SelectFault, in_head, in_from, in_where, in_group, IsSetOp, union_all_is, union_is, except_is, IsNext, next_is, NextFault, in_next, IsQuery, query_is, IsQueryFault, first_select, later_select}
 use Rattle.iv_query.specs.Reading.{list_of, ◌>>=◌, column_at, pred_at, term_at}
 use Rattle.iv_query.specs.QueryReading.{alias_at, may_alias_at, column_item_at, sum_at, count_at, item_at, list_at, head_at, source_at, joins_at, from_at, filter_at, group_at, select_of, select_at, set_op_at, next_at, query_at}
 use Rattle.iv_query.proofs.Steps.{Outcome, good, bind, comes, needs, needs_not, stands, first_shorter, after_first, needed, chosen, weaken}

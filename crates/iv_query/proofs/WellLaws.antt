@@ -13,8 +13,9 @@ use Rattle.iv_query.specs.declared.tree.Dialect.TheVariants.{Query, Policy}
 use Rattle.iv_query.specs.Tokens.{Tok, Fixed, Name, Number, Quoted, after_symbol}
 use Rattle.iv_query.specs.Trees.{NameTree, ColumnTree, OperandTree, PredTree, SourceTree, PairTree, JoinTree, ItemTree, ListTree, SelectTree, QueryTree}
 use Rattle.iv_query.specs.Grammar.{IsColumn, plain, dotted, IsOperand, column_is, name_is as name_operand, number_is, text_is as text_operand, true_is, false_is, user_is, Part, pred, conj, term, ors, ands, Reads, pred_is, ors_end, ors_more, conj_is, ands_end, ands_more, not_is, group_is, holds_is, fails_is, comparison_is}
-use Rattle.iv_query.specs.Rules.{First, first, IsName, name_is, Many, many_end, many_more, push}
-use Rattle.iv_query.specs.Query.{IsAlias, as_alias, bare_alias, MayAlias, some_alias, no_alias, IsSource, source_is, IsPair, pair_is, IsPairs, pairs_is, IsPlainJoin, plain_join_is, IsJoin, inner_join, bare_join, starts_join, AreJoins, IsItem, column_item, sum_item, count_item, IsList, star_is, items_is, HeadTree, HeadOf, IsHead, distinct_is, head_is, FromTree, FromOf, IsFrom, from_is, MayFilter, some_filter, no_filter, MayGroup, some_group, no_group, IsSelect, select_is, IsSetOp, union_all_is, union_is, except_is, starts_set_op, NextTree, IsNext, next_is, combine, sources_in, sources_of, IsQuery, query_is}
+use Rattle.iv_query.specs.Rules.{First, first, IsName, name_is, Many, many_end, many_more}
+use Rattle.iv_query.specs.Parts.{push, starts_join, HeadTree, HeadOf, FromTree, FromOf, starts_set_op, NextTree, combine, sources_in, sources_of}
+use Rattle.iv_query.specs.Query.{IsAlias, as_alias, bare_alias, MayAlias, some_alias, no_alias, IsSource, source_is, IsPair, pair_is, IsPairs, pairs_is, IsPlainJoin, plain_join_is, IsJoin, inner_join, bare_join, AreJoins, IsItem, column_item, sum_item, count_item, IsList, star_is, items_is, IsHead, distinct_is, head_is, IsFrom, from_is, MayFilter, some_filter, no_filter, MayGroup, some_group, no_group, IsSelect, select_is, IsSetOp, union_all_is, union_is, except_is, IsNext, next_is, IsQuery, query_is}
 use Rattle.iv_query.specs.Well.{IsWellName, IsWellColumn, IsWellOperand, IsWellPred, IsWellSource, IsWellPair, IsWellJoin, IsWellItem, IsWellList, IsWellSelect, IsWellQuery}
 use Rattle.iv_query.proofs.Steps.{after_first}
 

@@ -16,7 +16,8 @@ use Rattle.iv_rows.specs.Options.{if_some}
 use Rattle.iv_query.specs.Trees.{PredTree, QueryTree}
 use Rattle.iv_query.specs.Lexing.{is_blank, is_letter, is_word_byte, quoted, starts_letter, starts_digit, number_at, negative_at, minus_at, text_at, Ahead, Gap, Nothing, word_symbol, word_token, word_at, less_at, greater_at, not_equal_at, sign_at, ahead, Lexes, at_end, gap, token, broken}
 use Rattle.iv_query.specs.Lexing as lexing
-use Rattle.iv_query.specs.Query.{sources_of, IsQuery}
+use Rattle.iv_query.specs.Query.{IsQuery}
+use Rattle.iv_query.specs.Parts.{sources_of}
 use Rattle.iv_query.specs.Grammar.{Reads, pred}
 use Rattle.iv_query.specs.Texts.{IsText, text_is}
 use Rattle.iv_query.specs.Well.{IsWellPred, IsWellQuery}

@@ -1,6 +1,7 @@
 pub mod Limits
 pub mod Tokens
 pub mod Trees
+pub mod Parts
 pub mod Answers
 pub mod Grammar
 pub mod Reading

@@ -1,16 +1,16 @@
 -- The grammar of queries: which trees a list of tokens has, and which fault a list without one has.
-use Rattle.std.specs.Prelude.{◌≡◌, ℕ, suc, ◌+◌, ◌-◌, Bool, true, false, ◌||◌, if◌then◌else◌, List, [], ◌∷◌, length, Option, Some, None, is_some}
+use Rattle.std.specs.Prelude.{◌≡◌, ℕ, suc, ◌-◌, Bool, true, false, List, [], ◌∷◌, length, Option, Some, None}
 use Rattle.iv_query.specs.Limits.{nesting, sources}
 use Rattle.iv_query.specs.declared.fault.Fault.{Fault}
-use Rattle.iv_query.specs.declared.fault.Why.TheVariants as why
 use Rattle.iv_query.specs.declared.token.Symbol.TheVariants.{All, And, As, By, Close, Comma, Count, Distinct, Equal, Except, From, Group, Inner, Join, On, Open, Select, Star, Sum, Union, Where}
 use Rattle.iv_query.specs.declared.tree.Dialect.TheVariants as dialect
 use Rattle.iv_query.specs.declared.tree.SetOp.{SetOp}
 use Rattle.iv_query.specs.declared.tree.SetOp.TheVariants as set
-use Rattle.iv_query.specs.Tokens.{Tok, after_symbol, starts_name, unexpected}
-use Rattle.iv_query.specs.Trees.{NameTree, Called, ColumnTree, PredTree, SourceTree, SourceOf, PairTree, PairOf, JoinTree, JoinOf, ItemTree, ItemOf, SumOf, CountOf, ListTree, StarAt, ItemsOf, SelectTree, SelectOf, QueryTree, One, Combined}
+use Rattle.iv_query.specs.Tokens.{Tok, after_symbol, unexpected}
+use Rattle.iv_query.specs.Trees.{NameTree, Called, ColumnTree, PredTree, SourceTree, SourceOf, PairTree, PairOf, JoinTree, JoinOf, ItemTree, ItemOf, SumOf, CountOf, ListTree, StarAt, ItemsOf, SelectTree, SelectOf, QueryTree, One}
 use Rattle.iv_query.specs.Grammar.{IsColumn, ColumnFault, pred, Reads, Faults}
-use Rattle.iv_query.specs.Rules.{First, IsName, NameFault, Many, ManyFault, push}
+use Rattle.iv_query.specs.Rules.{First, IsName, NameFault, Many, ManyFault}
+use Rattle.iv_query.specs.Parts.{push, starts_alias, long, at_join, HeadTree, HeadOf, FromTree, FromOf, at_set_op, NextTree, NextOf, combine, sources_of}
 
 -- alias = [ "as" ] name
 pub data IsAlias : List Tok → NameTree → List Tok → Type 0 where
@@ -22,9 +22,6 @@ pub data AliasFault (stop : Fault) : List Tok → Fault → Type 0 where
   no_bare_alias : {ts : List Tok} {f : Fault} → after_symbol As ts ≡ None → NameFault stop ts f → AliasFault stop ts f
 
 -- [ alias ]
-abbrev pub starts_alias : List Tok → Bool
-starts_alias ts = is_some (after_symbol As ts) || starts_name ts
-
 pub data MayAlias : List Tok → Option NameTree → List Tok → Type 0 where
   some_alias : {ts us : List Tok} {n : NameTree} → starts_alias ts ≡ true → IsAlias ts n us → MayAlias ts (Some n) us
   no_alias : {ts : List Tok} → starts_alias ts ≡ false → MayAlias ts None ts
@@ -36,10 +33,6 @@ pub data MayAliasFault (stop : Fault) : List Tok → Fault → Type 0 where
 pub data IsSource : ℕ → List Tok → SourceTree → List Tok → Type 0 where
   source_is : {left : ℕ} {ts us vs : List Tok} {n : NameTree} {a : Option NameTree}
       → IsName ts n us → MayAlias us a vs → IsSource (suc left) ts (SourceOf n a) vs
-
--- too long at a place
-abbrev pub long : ℕ → Fault
-long p = record { place = p; why = why.TooLong }
 
 pub data SourceFault (stop : Fault) : ℕ → List Tok → Fault → Type 0 where
   no_source : {left : ℕ} {ts : List Tok} {f : Fault} → NameFault stop ts f → SourceFault stop left ts f
@@ -90,13 +83,6 @@ pub data IsJoin : ℕ → List Tok → JoinTree → List Tok → Type 0 where
 pub data JoinFault (stop : Fault) : ℕ → List Tok → Fault → Type 0 where
   in_inner_join : {left p : ℕ} {ts us : List Tok} {f : Fault} → First Inner p ts us → PlainJoinFault stop left us f → JoinFault stop left ts f
   in_bare_join : {left : ℕ} {ts : List Tok} {f : Fault} → after_symbol Inner ts ≡ None → PlainJoinFault stop left ts f → JoinFault stop left ts f
-
-abbrev pub starts_join : List Tok → Bool
-starts_join ts = is_some (after_symbol Inner ts) || is_some (after_symbol Join ts)
-
--- the tokens, where a join begins
-abbrev pub at_join : List Tok → Option (List Tok)
-at_join ts = if starts_join ts then Some ts else None
 
 -- { join }
 abbrev pub AreJoins : ℕ → List Tok → List JoinTree → List Tok → Type 0
@@ -153,9 +139,6 @@ pub data ListFault (stop : Fault) : List Tok → Fault → Type 0 where
       → ManyFault (after_symbol Comma) (λ _. IsItem) (λ _. ItemFault stop) push (i ∷ []) us f → ListFault stop ts f
 
 -- "select" [ "distinct" ] list
-pub data HeadTree : Type 0 where
-  HeadOf : ℕ → Bool → ListTree → HeadTree
-
 pub data IsHead : List Tok → HeadTree → List Tok → Type 0 where
   distinct_is : {p q : ℕ} {ts us vs ws : List Tok} {l : ListTree}
       → First Select p ts us → First Distinct q us vs → IsList vs l ws → IsHead ts (HeadOf p true l) ws
@@ -168,9 +151,6 @@ pub data HeadFault (stop : Fault) : List Tok → Fault → Type 0 where
   no_list : {p : ℕ} {ts us : List Tok} {f : Fault} → First Select p ts us → after_symbol Distinct us ≡ None → ListFault stop us f → HeadFault stop ts f
 
 -- "from" source { join }
-pub data FromTree : Type 0 where
-  FromOf : SourceTree → List JoinTree → FromTree
-
 pub data IsFrom : ℕ → List Tok → FromTree → List Tok → Type 0 where
   from_is : {left p : ℕ} {ts us vs ws : List Tok} {s : SourceTree} {js : List JoinTree}
       → First From p ts us → IsSource left us s vs → AreJoins (left - 1) vs js ws → IsFrom left ts (FromOf s js) ws
@@ -224,33 +204,12 @@ pub data IsSetOp : List Tok → SetOp → List Tok → Type 0 where
   union_is : {p : ℕ} {ts us : List Tok} → First Union p ts us → after_symbol All us ≡ None → IsSetOp ts set.Union us
   except_is : {p : ℕ} {ts us : List Tok} → First Except p ts us → IsSetOp ts set.Except us
 
-abbrev pub starts_set_op : List Tok → Bool
-starts_set_op ts = is_some (after_symbol Union ts) || is_some (after_symbol Except ts)
-
--- the tokens, where a set operation begins
-abbrev pub at_set_op : List Tok → Option (List Tok)
-at_set_op ts = if starts_set_op ts then Some ts else None
-
 -- ( "union" [ "all" ] | "except" ) select
-pub data NextTree : Type 0 where
-  NextOf : SetOp → SelectTree → NextTree
-
 pub data IsNext : ℕ → List Tok → NextTree → List Tok → Type 0 where
   next_is : {left : ℕ} {ts us vs : List Tok} {o : SetOp} {s : SelectTree} → IsSetOp ts o us → IsSelect left us s vs → IsNext left ts (NextOf o s) vs
 
 pub data NextFault (stop : Fault) : ℕ → List Tok → Fault → Type 0 where
   in_next : {left : ℕ} {ts us : List Tok} {o : SetOp} {f : Fault} → IsSetOp ts o us → SelectFault stop left us f → NextFault stop left ts f
-
-abbrev pub combine : QueryTree → NextTree → QueryTree
-combine q (NextOf o s) = Combined q o s
-
--- how many sources are named
-abbrev pub sources_in : SelectTree → ℕ
-sources_in (SelectOf p d l s js w g) = 1 + length js
-
-abbrev pub sources_of : QueryTree → ℕ
-sources_of (One s) = sources_in s
-sources_of (Combined q o s) = sources_of q + sources_in s
 
 -- query = select { ( "union" [ "all" ] | "except" ) select }, grouped from the left, with at most eight sources
 pub data IsQuery : List Tok → QueryTree → List Tok → Type 0 where

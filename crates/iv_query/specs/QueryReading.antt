@@ -10,8 +10,7 @@ use Rattle.iv_query.specs.declared.tree.SetOp.TheVariants as set
 use Rattle.iv_query.specs.Tokens.{Tok, after_symbol, first_place}
 use Rattle.iv_rows.specs.Options.{if_some}
 use Rattle.iv_query.specs.Trees.{NameTree, ColumnTree, PredTree, SourceTree, SourceOf, PairTree, PairOf, JoinTree, JoinOf, ItemTree, ItemOf, SumOf, CountOf, ListTree, StarAt, ItemsOf, SelectTree, SelectOf, QueryTree, One}
-use Rattle.iv_query.specs.Rules.{push}
-use Rattle.iv_query.specs.Query.{starts_alias, long, at_join, HeadTree, HeadOf, FromTree, FromOf, at_set_op, NextTree, NextOf, combine, sources_of}
+use Rattle.iv_query.specs.Parts.{push, starts_alias, long, at_join, HeadTree, HeadOf, FromTree, FromOf, at_set_op, NextTree, NextOf, combine, sources_of}
 use Rattle.iv_query.specs.Reading.{◌>>=◌, Read, need, name_at, column_at, many_at, list_of, pred_at, term_at}
 
 -- what stands behind the symbol if it comes first, else all

@@ -8,7 +8,7 @@ use Rattle.iv_query.specs.declared.tree.Dialect.{Dialect}
 use Rattle.iv_query.specs.declared.tree.Dialect.TheVariants as dialect
 use Rattle.iv_query.specs.Tokens.{Tok, Fixed, Name, Number, Quoted, after_symbol, first_place, unexpected, deep, after_op}
 use Rattle.iv_rows.specs.Options.{if_some}
-use Rattle.iv_query.specs.Rules.{push}
+use Rattle.iv_query.specs.Parts.{push}
 use Rattle.iv_query.specs.Trees.{NameTree, Called, ColumnTree, ColumnAt, OperandTree, OfColumn, Literal, CurrentUser, PredTree, Either, Both, Negation, Constant, Comparison}
 
 infixl 10 ◌>>=◌

@@ -1,5 +1,5 @@
 -- What the rules of queries share.
-use Rattle.std.specs.Prelude.{◌≡◌, ℕ, false, List, [], ◌∷◌, ◌++◌, Option, Some, None}
+use Rattle.std.specs.Prelude.{◌≡◌, ℕ, false, List, ◌∷◌, Option, Some, None}
 use Rattle.iv_query.specs.declared.fault.Fault.{Fault}
 use Rattle.iv_query.specs.declared.token.Symbol.{Symbol}
 use Rattle.iv_query.specs.Tokens.{Tok, Fixed, Name, starts_name, unexpected}
@@ -29,7 +29,3 @@ pub data ManyFault {A B : Type 0} (sign : List Tok → Option (List Tok)) (Item 
   many_later : {a : A} {b : B} {ts us vs : List Tok} {f : Fault}
       → sign ts ≡ Some us → Item a us b vs → ManyFault sign Item ItemFault join (join a b) vs f
       → ManyFault sign Item ItemFault join a ts f
-
--- one more at the end
-abbrev pub push : {B : Type 0} → List B → B → List B
-push bs b = bs ++ b ∷ []

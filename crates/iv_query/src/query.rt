@@ -5,7 +5,7 @@ ghost use Rattle.iv_query.specs.Tokens.{starts_name, toks};
 ghost use Rattle.iv_query.specs.Trees.{ColumnTree, PairTree, ItemTree, name_tree, column_tree, source_tree, pair_tree, join_tree, item_tree, list_tree, pred_tree, select_tree, query_tree, Combined};
 ghost use Rattle.iv_query.specs.Answers.{at, Gives};
 ghost use Rattle.iv_query.specs.Reading.{column_at};
-ghost use Rattle.iv_query.specs.Query.{starts_alias, long, starts_join, starts_set_op, HeadOf, FromOf, NextOf, sources_in};
+ghost use Rattle.iv_query.specs.Parts.{starts_alias, long, starts_join, starts_set_op, HeadOf, FromOf, NextOf, sources_in};
 ghost use Rattle.iv_query.specs.QueryReading.{skip, alias_at, may_alias_at, source_at, pair_at, plain_join_at, join_at, joins_at, column_item_at, sum_at, count_at, item_at, list_at, head_at, from_at, filter_at, group_at, tail_at, select_at, set_op_at, next_at, query_at};
 
 use crate::fault::{Fault, QueryFault, Why};

@@ -13,7 +13,7 @@ ghost use Rattle.iv_query.specs.Trees.{pred_tree, query_tree};
 ghost use Rattle.iv_query.specs.Answers.{Gives, IfAt};
 ghost use Rattle.iv_query.specs.Reading.{end_at};
 ghost use Rattle.iv_query.specs.QueryReading.{query_at};
-ghost use Rattle.iv_query.specs.Query.{sources_of};
+ghost use Rattle.iv_query.specs.Parts.{sources_of};
 ghost use Rattle.iv_query.specs.Well.{IsWellPred, IsWellQuery};
 ghost use Rattle.iv_query.specs.TextReading.{lexed, tokens_lexed, read_tokens, policy_condition_at, read_pred, read_query};
 

@@ -6,5 +6,6 @@ pub mod Alike
 pub mod Bags
 pub mod Partly
 pub mod Placing
+pub mod Left
 pub mod Turning
 pub mod Flagging

@@ -1,6 +1,6 @@
 -- Which circuits are held, and which of them roles read.
-use Rattle.std.specs.Prelude.{◌≡◌, ℕ, Bool, true, false, List, [], ◌∷◌, ◌++◌, Option, get_or, is_some, set, slice_get, unwrap_or}
-use Rattle.std.specs.List.{AllByRecursion}
+use Rattle.std.specs.Prelude.{◌≡◌, ◌==◌, ℕ, Bool, true, false, List, [], ◌∷◌, ◌++◌, Option, get_or, is_some, set, slice_get, unwrap_or}
+use Rattle.std.specs.List.{AllByRecursion, list_any}
 use Rattle.iv_rows.specs.Options.{if_some}
 use Rattle.iv_circuit.specs.Circuits.{Running}
 use Rattle.iv_circuit.specs.declared.node.Node.TheVariants.{Scan}
@@ -35,6 +35,15 @@ read_from hs r = record { role = r.role; rel = r.rel; at = r.at; circuit = held_
 abbrev pub AreHeld : List (Option Running) → List Reading → Type 0
 AreHeld hs rs = AllByRecursion (λ r. is_held hs r.at ≡ true) rs
 
+-- some role reads the circuit at the place
+abbrev pub is_read_at : List Reading → ℕ → Bool
+is_read_at rs i = list_any (λ r. r.at == i) rs
+
+-- the circuits that are held are those that some role reads
+pub record AreThoseRead (rs : List Reading) (hs : List (Option Running)) : Type 0 where
+  pub held : AreHeld hs rs
+  pub read : (i : ℕ) → is_held hs i ≡ true → is_read_at rs i ≡ true
+
 -- ---- readers more, and readers of other circuits
 
 -- the role that has come to the circuit of the place
@@ -51,9 +60,15 @@ pub record HasMovedTo (old : List RoleCircuit) (place : ℕ) (c : Running) (new 
   pub at : ℕ
   pub moved : (k : RoleCircuit) → k ≡ get_or old place k → new ≡ set old place (moved_to at c k)
 
--- ---- circuits more
+-- ---- circuits more and less
 
 -- at all other places the same is held
 pub record AreSameBut (at : ℕ) (old new : List (Option Running)) : Type 0 where
   pub there : (i : ℕ) → (i ≡ at → ⊥) → is_held new i ≡ is_held old i
   pub same : (i : ℕ) → (i ≡ at → ⊥) → held_at new i ≡ held_at old i
+
+-- those that some role reads are held as before, and no others
+pub record AreLeftTo (rs : List Reading) (old new : List (Option Running)) : Type 0 where
+  pub there : (i : ℕ) → is_read_at rs i ≡ true → is_held new i ≡ is_held old i
+  pub same : (i : ℕ) → is_read_at rs i ≡ true → held_at new i ≡ held_at old i
+  pub read : (i : ℕ) → is_held new i ≡ true → is_read_at rs i ≡ true

@@ -1,10 +1,10 @@
 -- Which role reads which circuit of a relation.
 use Rattle.std.specs.Prelude.{◌≡◌, ℕ, zero, suc, ◌<◌, ◌≤◌, ◌==◌, ◌&&◌, Bool, List, [], ◌∷◌, filter, get_or, length}
-use Rattle.std.specs.List.{AllByRecursion}
+use Rattle.std.specs.List.{AllByRecursion, list_any}
 use Rattle.iv_rows.specs.declared.schema.RelId.{RelId}
 use Rattle.iv_access.specs.Rights.{Rights}
 use Rattle.iv_roles.specs.declared.role.RoleId.{RoleId}
-use Rattle.iv_circuit.specs.Circuits.{Running, Serves}
+use Rattle.iv_circuit.specs.Circuits.{Running, Serves, are_exempt}
 
 -- the circuit of what a relation shows to a role, and its place among all circuits, which others have too who read it; how
 -- many rounds it had when the role came to it; and the numbers of the role's subscriptions that were opened on it since, the
@@ -50,6 +50,10 @@ pub record IsServed (ks : List RoleCircuit) (r : Rights) (role rel place : ℕ) 
   pub low : place < length ks
   pub shows : (k : RoleCircuit) → k ≡ get_or ks place k → k.rel ≡ rel
   pub serves : (k : RoleCircuit) → k ≡ get_or ks place k → Serves r role k.circuit.node
+
+-- policies have no effect on the role, and had none on some reader of the relation
+abbrev pub some_exempt : List RoleCircuit → Rights → (role rel : ℕ) → Bool
+some_exempt ks r role rel = list_any (λ k. (k.rel == rel) && are_exempt r role k.circuit.node) ks
 
 -- those readers are left, in their order, of whose role and relation it holds
 abbrev pub AreLeft : (stays : RoleId → RelId → Bool → Type 0) → (old new : List RoleCircuit) → Type 0

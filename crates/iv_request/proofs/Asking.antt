@@ -14,7 +14,8 @@ use Rattle.iv_rows.specs.declared.value.Kind.{Kind}
 use Rattle.iv_rows.specs.declared.value.Kind.TheVariants.{Int, Text, Flag}
 use Rattle.iv_machine.specs.Act.{Act, begin, finish, create_role, create_table, create_view, grant, revoke, grant_role, revoke_role, row_security, create_policy, drop_policy, subscribe, unsubscribe, write, Command, Entry, Op, insert, delete, update}
 use Rattle.iv_machine.specs.Refusing.{rows_in}
-use Rattle.iv_machine.specs.Well.{has_texts, is_between, is_grantee, is_group, is_positive, is_well_entry, is_well_act, is_well_command}
+use Rattle.iv_machine.specs.Parts.{has_texts, is_between, is_group, is_positive}
+use Rattle.iv_machine.specs.Well.{is_grantee, is_well_entry, is_well_act, is_well_command}
 use Rattle.iv_access.specs.declared.policy.PolicyCommand.{PolicyCommand}
 use Rattle.iv_access.specs.declared.policy.PolicyCommand.TheVariants as policy_command
 use Rattle.iv_access.specs.declared.privilege.Privilege.{Privilege}

@@ -11,7 +11,7 @@ use Rattle.serde_json.specs.Events.{items_len}
 use Rattle.serde_json.specs.Find.{get, get_member, get_item, at, as_array, as_bool, as_object, as_str, as_number, as_u64}
 use Rattle.iv_rows.specs.Names.{is_name}
 use Rattle.iv_machine.specs.Act as machine
-use Rattle.iv_machine.specs.Well.{is_between, is_group, is_positive}
+use Rattle.iv_machine.specs.Parts.{is_between, is_group, is_positive}
 use Rattle.iv_access.specs.declared.policy.PolicyCommand.TheVariants as policy_command
 use Rattle.iv_request.specs.declared.forms.Word.{Word}
 use Rattle.iv_request.specs.declared.forms.Word.TheVariants.{Begin, Finish, CreateRole, CreateTable, CreateView, Grant, Revoke, GrantRole, RevokeRole, RowSecurity, CreatePolicy, DropPolicy, Write, Subscribe, Unsubscribe}

@@ -10,7 +10,8 @@ use Rattle.iv_rows.specs.Names.{is_name}
 use Rattle.iv_rows.specs.Texts.{is_well, is_well_cell}
 use Rattle.iv_machine.specs.Act as machine
 use Rattle.iv_machine.specs.Refusing.{rows_in}
-use Rattle.iv_machine.specs.Well.{is_grantee, is_group, is_positive, is_well_entry, is_well_act, is_well_command, is_between}
+use Rattle.iv_machine.specs.Parts.{is_group, is_positive, is_between}
+use Rattle.iv_machine.specs.Well.{is_grantee, is_well_entry, is_well_act, is_well_command}
 use Rattle.iv_access.specs.declared.privilege.Privilege.{Privilege}
 use Rattle.iv_access.specs.declared.policy.PolicyCommand.{PolicyCommand}
 use Rattle.iv_access.specs.declared.policy.PolicyCommand.TheVariants as policy_command

@@ -7,7 +7,7 @@ use Rattle.iv_rows.specs.Texts.{is_well_cell}
 use Rattle.iv_rows.specs.declared.value.Kind.{Kind}
 use Rattle.iv_rows.specs.declared.value.Kind.TheVariants.{Int, Text, Flag}
 use Rattle.iv_machine.specs.Act as machine
-use Rattle.iv_machine.specs.Well.{is_between, is_group, is_positive, has_texts}
+use Rattle.iv_machine.specs.Parts.{is_between, is_group, is_positive, has_texts}
 use Rattle.iv_access.specs.declared.privilege.Privilege.{Privilege}
 use Rattle.iv_access.specs.declared.privilege.Privilege.TheVariants.{Select, Insert, Update, Delete}
 use Rattle.iv_access.specs.declared.policy.PolicyCommand.{PolicyCommand}

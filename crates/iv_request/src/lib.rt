@@ -12,4 +12,4 @@ mod parts;
 mod policies;
 mod requests;
 
-pub use requests::{WireFault, command_in, read_line};
+pub use requests::{WireFault, command_in};

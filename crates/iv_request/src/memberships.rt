@@ -1,6 +1,6 @@
 //! `membership_of`: the role and the member that are named to grant or revoke a role, from a JSON value.
 ghost use Rattle.std.specs.Prelude.{◌≡◌, IfOk, option_map, string_bytes};
-ghost use Rattle.iv_machine.specs.Well.{is_group};
+ghost use Rattle.iv_machine.specs.Parts.{is_group};
 ghost use Rattle.iv_request.specs.Documents.{value_data};
 ghost use Rattle.iv_command.specs.Views.{act_of};
 ghost use Rattle.iv_request.specs.Request.{group_at, membership_of, grant_role_by, revoke_role_by};

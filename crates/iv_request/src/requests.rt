@@ -1,5 +1,6 @@
-//! `command_in`, `read_line`: from a line to its command, by the shape rules: which request a JSON value is; `WireFault`: why there is none.
+//! `command_in`: from a line to its command, by the shape rules: which request a JSON value is; `WireFault`: why there is none.
 ghost use Rattle.std.specs.Prelude.{◌≡◌, IfOk, IsErrOf, option_map, true};
+ghost use Rattle.iv_machine.specs.Stored.{IsGiven};
 ghost use Rattle.iv_machine.specs.Well.{is_well_command};
 ghost use Rattle.iv_command.specs.Views.{act_of, command_of};
 ghost use Rattle.iv_request.specs.Request.{session_of, begin_of, create_role_of, create_table_of, create_view_of, write_of, subscribe_of, unsubscribe_of, act_for, asked_act, request};
@@ -212,13 +213,17 @@ fn read_value<'a>(
     }
 }
 
-/// The command that a line asks for, read by means of room that is kept from line to line.
+/// The command that a line asks for, without its newline, read by means of room that is kept from line to line.
 ///
 /// # Errors
-/// As those of `read_line`.
+/// `BadJson` where the line is no JSON value; `BadRequest` where the value is no request; `Memory` where a growth of
+/// memory was refused, which may come in place of the others.
+///
+/// Source: RFC 8259; docs/PROTOCOL.md, Requests.
 pub fn command_in(alloc: Global, line: &[u8], scratch: &mut Scratch) -> Result<Command, WireFault>
     ensures command { IfOk result (λ command. reading_of line.now ≡ asked (command_of command)) }
     ensures well { IfOk result (λ command. is_well_command (command_of command) ≡ true) }
+    ensures given { IfOk result (λ command. IsGiven (command_of command)) }
     ensures bad_json { IsErrOf result WireFault.BadJson → reading_of line.now ≡ bad_json }
     ensures bad_request { IsErrOf result WireFault.BadRequest → reading_of line.now ≡ bad_request }
 {
@@ -226,23 +231,10 @@ pub fn command_in(alloc: Global, line: &[u8], scratch: &mut Scratch) -> Result<C
         None => Err(WireFault::BadJson),
         Some(value) => match request_of(alloc, &value)? {
             None => Err(WireFault::BadRequest),
-            Some(command) => Ok(command),
+            Some(command) => {
+                command.texts();
+                Ok(command)
+            }
         },
     }
-}
-
-/// The command that a line asks for, without its newline.
-///
-/// # Errors
-/// `BadJson` where the line is no JSON value; `BadRequest` where the value is no request; `Memory` where a growth of
-/// memory was refused, which may come in place of the others.
-///
-/// Source: RFC 8259; docs/PROTOCOL.md, Requests.
-pub fn read_line(alloc: Global, line: &[u8]) -> Result<Command, WireFault>
-    ensures command { IfOk result (λ command. reading_of line.now ≡ asked (command_of command)) }
-    ensures well { IfOk result (λ command. is_well_command (command_of command) ≡ true) }
-    ensures bad_json { IsErrOf result WireFault.BadJson → reading_of line.now ≡ bad_json }
-    ensures bad_request { IsErrOf result WireFault.BadRequest → reading_of line.now ≡ bad_request }
-{
-    command_in(alloc, line, &mut Scratch::new(alloc))
 }

@@ -3,7 +3,7 @@ ghost use Rattle.std.specs.Prelude.{◌≡◌, ◌<◌, ◌≤◌, ◌∷◌, []
 
 use crate::role::RoleId;
 use indexmap::IndexSet;
-use iv_zset::Seed;
+use iv_seed::Seed;
 use std::alloc::{AllocError, Global};
 use std::marker::Model;
 

@@ -5,5 +5,6 @@ pub mod Names
 pub mod Options
 pub mod Order
 pub mod OrderLaws
+pub mod RowLimit
 pub mod Texts
 pub mod View

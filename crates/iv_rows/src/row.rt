@@ -3,7 +3,7 @@
 //! A row never changes, so a copy of it shares its values: a row stands in memory once, however many tables, totals,
 //! indexes and lines have it. Comparisons of a row are written by hand over those that are derived for `Value`: a derive on a
 //! type with such a view asks for an inverse of the view, and there is none.
-ghost use Rattle.std.specs.Prelude.{◌≡◌, ◌++◌, IfOk, IsTrue, OnOk, ◌↔◌, refl};
+ghost use Rattle.std.specs.Prelude.{◌≡◌, ◌++◌, IfOk, OnOk, refl};
 ghost use Rattle.std.specs.Cmp.{partial_equiv_from_equiv, partial_order_from_total};
 ghost use Rattle.std.specs.List.{fold, list_all};
 ghost use Rattle.std.specs.Ordering.{as_partial_cmp};
@@ -90,14 +90,6 @@ impl Row {
         ensures { result ≡ is_well self.now }
     {
         are_well(self.values())
-    }
-
-    /// Whether the two are one row.
-    #[tactic(auto, using(crate::specs::OrderLaws::row_eq_decides))]
-    pub fn same(&self, other: &Row) -> bool
-        ensures { IsTrue result ↔ (self.now ≡ other.now) }
-    {
-        *self == *other
     }
 }
 

@@ -141,7 +141,7 @@ module _ (e new : Store) (n : ℕ) (lines : Vec Line) (h : IsSoundStore e) (none
       let same = λ (s : Subscription) (x : p s ≡ true). others_stay e.sessions n s.session (stays (n == s.session) x) in
       record {
         answer = λ T s. (
-          ap (λ b. or_else (test (not b) machine.no_session) None) opened,
+          ap (λ b. or_else (or_else (test (not b) machine.no_session) None) None) opened,
           refl,
           ap (map line_of) none ∙ sym (left_sent e h ss p roles same T s),
         );
@@ -160,7 +160,7 @@ module _ (e new : Store) (n : ℕ) (lines : Vec Line) (h : IsSoundStore e) (none
       let same = λ (s : Subscription) (x : p s ≡ true). refl in
       record {
         answer = λ T s. (
-          (λ i. or_else (test (not (opened i)) machine.no_session) (or_else (test (not (has i)) machine.unknown_subscription) None)),
+          (λ i. or_else (or_else (test (not (opened i)) machine.no_session) (or_else (test (not (has i)) machine.unknown_subscription) None)) None),
           refl,
           ap (map line_of) none ∙ sym (left_sent e h e.sessions p h.stored.database.roles same T s),
         );

@@ -13,14 +13,12 @@ use Rattle.iv_circuit.specs.Circuits.{Running}
 use Rattle.iv_circuit.specs.Nodes.{total_of}
 use Rattle.iv_machine.specs.Act as machine
 use Rattle.iv_machine.specs.Act.{subscribe}
-use Rattle.iv_machine.specs.Refusing.{full, missing, refusal, or_else, test}
-use Rattle.iv_machine.specs.Split.{rows_refusal}
+use Rattle.iv_machine.specs.Refusing.{full, missing, refusal, or_else, test, rows_refusal}
 use Rattle.iv_machine.specs.State.{State, Subscription, actor, is_within, is_within_for, missing_for, plan_at, rel_of, subscription_of, shown, view_shown}
 use Rattle.iv_machine.specs.Changing.{after, insert_subscription}
 use Rattle.iv_machine.specs.Machine.{changes, line_for, lines_told as machine_line, ending, settled, difference}
 use Rattle.iv_machine.specs.Reached.{AreNumbersUnique}
 use Rattle.iv_machine.proofs.Reached.{after_numbers, next_is_new}
-use Rattle.iv_machine.proofs.Splitting.{split}
 use Rattle.iv_store.specs.Answering.{IsAccepted, IsRefused, IsStep, seen, sent}
 use Rattle.iv_readers.specs.Rows.{AreInOrder}
 use Rattle.iv_store.specs.Built.{IsBeyond}
@@ -142,8 +140,7 @@ asked e n k = record { session = n; number = e.last + 1; rel = k }
 -- the test that looks at rows
 module _ (e : Store) (n k : ℕ) (name : Name) (x : IsOpenable e n name k) (T : Lists) where
   rows_test : refusal (at e T) n (subscribe name) ≡ test (not (is_within (at e T) (asked e n k))) machine.limit
-  rows_test = split (at e T) n (subscribe name)
-      ∙ (λ i. or_else (x.passed i) (rows_refusal (at e T) n (subscribe name)))
+  rows_test = (λ i. or_else (x.passed i) (rows_refusal (at e T) n (subscribe name)))
       ∙ ap (λ j. test (not (is_within_for (at e T) (actor (frame_of e) n) j)) machine.limit) x.number
 
   pub beyond : is_within (at e T) (asked e n k) ≡ false → refusal (at e T) n (subscribe name) ≡ Some machine.limit

@@ -2,7 +2,7 @@
 use Rattle.std.proofs.Common.{◌≡◌, ℕ, ◌<◌, ◌≤◌, Bool, true, false, cond, ◌&&◌, ◌||◌, List, [], ◌∷◌, ◌++◌, length, length-append, Option, None, Some, refl, sym, ap, subst, ◌∙◌, arith}
 use Rattle.std.specs.Prelude.{◌==◌, is_some, option_map, position, unwrap_or}
 use Rattle.std.specs.List.{AllByRecursion, list_any}
-use Rattle.iv_zset.specs.RowLimit.{IsRowLimit}
+use Rattle.iv_rows.specs.RowLimit.{IsRowLimit}
 use Rattle.iv_zset.specs.Weights.{weight_of}
 use Rattle.iv_rows.specs.Columns.{Column, kinds_of}
 use Rattle.iv_algebra.specs.Plans.{Lists}
@@ -21,8 +21,7 @@ use Rattle.iv_access.specs.Changing.{grant_eq, granted, for_each, all_privileges
 use Rattle.iv_circuit.specs.Circuits.{Running}
 use Rattle.iv_machine.specs.State.{Session, Subscription, actor, plan_at, rel_of, session_of}
 use Rattle.iv_machine.specs.Act.{begin, create_role, create_table, create_view, grant}
-use Rattle.iv_machine.specs.Refusing.{test}
-use Rattle.iv_machine.specs.Split.{frame_refusal}
+use Rattle.iv_machine.specs.Refusing.{frame_refusal, test}
 use Rattle.iv_store.specs.Store.{database_of, with_database, IsCircuitFor, IsOpen, IsRoleCircuit, IsSoundStore, IsWithin, Store, frame_of, is_read, may_read, place_of, shown_rows}
 use Rattle.iv_readers.specs.Readers.{RoleCircuit, is_for as is_circuit_for}
 use Rattle.iv_store.specs.Next.{kept_after}

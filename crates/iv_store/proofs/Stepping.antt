@@ -12,12 +12,10 @@ use Rattle.iv_access.specs.Rights.{Name}
 use Rattle.iv_machine.specs.Act as machine
 use Rattle.iv_machine.specs.Act.{Act, begin, create_role, create_table, create_view, grant}
 use Rattle.iv_machine.specs.State.{State, Subscription, actor, subscription_of}
-use Rattle.iv_machine.specs.Refusing.{refusal, or_else}
-use Rattle.iv_machine.specs.Split.{frame_refusal, rows_refusal}
+use Rattle.iv_machine.specs.Refusing.{refusal, or_else, frame_refusal, rows_refusal}
 use Rattle.iv_machine.specs.Changing.{after}
 use Rattle.iv_machine.specs.declared.Cause.{Cause}
 use Rattle.iv_machine.specs.Machine.{changes, line_for, lines_told as machine_line, ending, ending_by, settled, reply_to, difference}
-use Rattle.iv_machine.proofs.Splitting.{split}
 use Rattle.iv_store.specs.Answering.{IsAccepted, IsPlain, IsRefused, IsStep, change_line, seen, sent}
 use Rattle.iv_store.specs.Counting.{AreCounted, TurnsRounds}
 use Rattle.iv_store.specs.Store.{database_of, with_database, Store, IsOpen, IsSoundStore, IsStored, IsWithin, at, frame_of, may_read, shown_rows}
@@ -108,7 +106,7 @@ module _ (e : Store) (n : ℕ) (act : Act) (q : KeepsRows e n act) (h : IsSoundS
   left = kept_after e n act
 
   pub decided : refusal (at e T) n act ≡ frame_refusal (frame_of e) n act
-  decided = split (at e T) n act ∙ or_nothing (frame_refusal (frame_of e) n act) (rows_refusal (at e T) n act) (q.rows T)
+  decided = or_nothing (frame_refusal (frame_of e) n act) (rows_refusal (at e T) n act) (q.rows T)
 
   module _ (passed : frame_refusal (frame_of e) n act ≡ None) where
     -- each subscription is sent what it shows now and did not show before
@@ -175,7 +173,7 @@ no_refusal reply h r k = let e : machine.done ≡ machine.refused r = sym (ap re
 
 -- a refused request
 pub refused_step : (e new : Store) (n : ℕ) (act : Act) (r : Refusal) → frame_refusal (frame_of e) n act ≡ Some (refusal_of r) → new ≡ e → IsRefused e n act r new
-refused_step e new n act r h k = record { told = λ T s. split (at e T) n act ∙ ap (λ o. or_else o (rows_refusal (at e T) n act)) h; kept = k }
+refused_step e new n act r h k = record { told = λ T s. ap (λ o. or_else o (rows_refusal (at e T) n act)) h; kept = k }
 
 -- an accepted one leaves the rounds
 same_counted : (e : Store) (n : ℕ) (act : Act) → KeepsRows e n act → IsSoundStore e → frame_refusal (frame_of e) n act ≡ None → AreActors e (kept_after e n act) → AreCounted (seen e) act (seen (kept_after e n act))

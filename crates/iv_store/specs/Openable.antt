@@ -10,7 +10,7 @@ use Rattle.iv_machine.specs.Act as machine
 use Rattle.iv_machine.specs.Act.{subscribe}
 use Rattle.iv_machine.specs.Changing.{insert_subscription}
 use Rattle.iv_machine.specs.Machine.{difference, lines_told as machine_line}
-use Rattle.iv_machine.specs.Split.{frame_refusal}
+use Rattle.iv_machine.specs.Refusing.{frame_refusal}
 use Rattle.iv_machine.specs.State.{Subscription, actor, is_open, missing_for, plan_at, rel_of}
 use Rattle.iv_store.specs.Built.{IsBeyond}
 use Rattle.iv_store.specs.Store.{IsCircuitFor, Store, frame_of}

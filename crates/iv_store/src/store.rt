@@ -3,7 +3,7 @@
 //! The invariant of requests says that the database is one, that each open subscription may be read and is within the
 //! limits (so what it showed can always be taken back), and that the circuits are those of open subscriptions and no others.
 ghost use Rattle.std.specs.Prelude.{IfOk};
-ghost use Rattle.iv_zset.specs.RowLimit.{IsRowLimit};
+ghost use Rattle.iv_rows.specs.RowLimit.{IsRowLimit};
 ghost use Rattle.iv_machine.specs.State.{start};
 ghost use Rattle.iv_store.specs.Answering.{seen};
 ghost use Rattle.iv_store.specs.Store.{IsSoundStore};

@@ -1,3 +1,4 @@
 pub mod Answering
 pub mod Ran
 pub mod Sums
+pub mod Turns

@@ -1,9 +1,15 @@
 -- Commands behind commands.
-use Rattle.std.proofs.Common.{◌≡◌, if◌then◌else◌, ℕ, ◌+◌, ◌≤◌, List, [], ◌∷◌, ◌++◌, length, length-append, Bool, true, false, refl, subst, arith}
+use Rattle.std.proofs.Common.{◌≡◌, if◌then◌else◌, ℕ, ◌+◌, ◌≤◌, List, [], ◌∷◌, ◌++◌, length, length-append, Bool, true, false, refl, subst, sym, arith}
+use Rattle.std.proofs.lemmas.List.Elements.{All-append, All-cons, All-nil}
+use Rattle.std.specs.List.{All}
 use Rattle.iv_machine.specs.Act.{Command}
 use Rattle.iv_machine.specs.Machine.{run, step}
 use Rattle.iv_machine.specs.State.{State}
+use Rattle.iv_machine.specs.Stored.{IsGiven, IsStoredSound}
+use Rattle.iv_machine.proofs.Standing.{run_stays}
 use Rattle.iv_engine.specs.Engine.{Engine, IsBehind}
+use Rattle.iv_engine.specs.Sound.{IsSoundEngine}
+use Rattle.iv_engine.proofs.Sounding.{sound_of}
 use Rattle.iv_request.specs.Reading.{Reading, faulty, asked, reading_of}
 use Rattle.iv_lines.specs.Answer.{commands_of, readings_of, told}
 use Rattle.iv_lines.specs.Cut.{is_blank_line}
@@ -26,17 +32,36 @@ line_has_one line = by (is_blank_line line)
     by false = one_at_most (reading_of line)
 
 pub none_ran : (s : State) (e : Engine) → IsBehind s e → HasRun 0 s e
-none_ran s e b = record { commands = []; most = omega arith; behind = b }
+none_ran s e b = record { commands = []; most = omega arith; given = All-nil IsGiven; behind = b }
 
 pub ran_within : (n lines : ℕ) (s : State) (e : Engine) → n ≤ lines → HasRun n s e → HasRun lines s e
-ran_within n lines s e le h = record { commands = h.commands; most = omega (arith, le, h.most); behind = h.behind }
+ran_within n lines s e le h = record { commands = h.commands; most = omega (arith, le, h.most); given = h.given; behind = h.behind }
 
 -- and one line more
-pub one_more_ran : (n : ℕ) (line : List ℕ) (s : State) (old new : Engine) → HasRun n s old → ((t : State) → IsBehind t old → IsBehind (told t (readings_of line)).state new) → HasRun (n + 1) s new
-one_more_ran n line s old new h f =
+pub one_more_ran : (n : ℕ) (line : List ℕ) (s : State) (old new : Engine) → HasRun n s old → All IsGiven (commands_of (readings_of line)) → ((t : State) → IsBehind t old → IsBehind (told t (readings_of line)).state new) → HasRun (n + 1) s new
+one_more_ran n line s old new h g f =
     let more = commands_of (readings_of line) in
     record {
       commands = h.commands ++ more;
       most = omega (arith, h.most, line_has_one line, length-append h.commands more);
+      given = All-append IsGiven h.commands more h.given g;
       behind = subst (λ (t : State). IsBehind t new) (run_joins s h.commands more) (f (run s h.commands).state h.behind);
     }
+
+-- ---- the commands of a line
+
+-- none, where it asks for none
+pub none_given : (line : List ℕ) (n : ℕ) → is_blank_line line ≡ false → reading_of line ≡ faulty n → All IsGiven (commands_of (readings_of line))
+none_given line n b h = rw (b, h) (All-nil IsGiven)
+
+pub blank_given : (line : List ℕ) → is_blank_line line ≡ true → All IsGiven (commands_of (readings_of line))
+blank_given line b = rw b (All-nil IsGiven)
+
+pub one_given : (line : List ℕ) (c : Command) → is_blank_line line ≡ false → reading_of line ≡ asked c → IsGiven c → All IsGiven (commands_of (readings_of line))
+one_given line c b h g = rw (b, h) (All-cons IsGiven c [] g (All-nil IsGiven))
+
+-- ---- a run keeps what is sound
+
+pub sound_by_run : (lines : ℕ) (old new : Engine) → ((s : State) → IsBehind s old → HasRun lines s new) → IsSoundEngine old → IsSoundEngine new
+sound_by_run lines old new f h = let r = f h.state h.behind in
+    sound_of (run h.state r.commands).state new r.behind (run_stays h.state r.commands r.given (h.sound, subst IsStoredSound (sym h.behind.frame) h.stored))

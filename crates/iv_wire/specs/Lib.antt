@@ -1,3 +1,5 @@
 pub mod Endings
+pub mod Learned
 pub mod Ran
 pub mod Sums
+pub mod Turns

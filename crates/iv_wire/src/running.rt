@@ -1,17 +1,20 @@
 //! `run`: reads lines, answers each in turn through the engine, and writes and flushes each answer.
 //!
 //! The answer to bytes folds the machine's `run` over the commands among the lines. That the state is one that the
-//! machine reaches is no premise: the engine's invariant gives it. A flush at the end alone would meet the contract;
-//! that each answer is flushed before the next line is read is shown by a dialogue over pipes (`.ci/examples`).
+//! machine reaches is no premise: the engine's invariant gives it. Each read is made in its turn: whole lines that were
+//! read before are answered then, and their answers flushed.
 //!
 //! A line is read, and its answer written, in the memory of the one before: so much stays as the longest answer took.
 ghost use Rattle.std.specs.Prelude.{◌≡◌, ◌≤◌, ◌+◌, ◌*◌, ◌||◌, ◌↔◌, ℕ, take, flat_map, true, false, IfOk, IfErr, IfSome, OnOk, OnErr, IsErrOf};
+ghost use Rattle.std.specs.List.{All};
 ghost use Rattle.std.specs.Io.KnownBytes.{Appends};
 ghost use Rattle.iv_machine.specs.State.{State};
+ghost use Rattle.iv_machine.specs.Stored.{IsGiven};
 ghost use Rattle.iv_machine.specs.Well.{is_well_command};
 ghost use Rattle.iv_engine.specs.Engine.{IsBehind};
+ghost use Rattle.iv_engine.specs.Sound.{IsSoundEngine};
 ghost use Rattle.iv_command.specs.Views.{command_of};
-ghost use Rattle.iv_lines.specs.Answer.{told, readings_of};
+ghost use Rattle.iv_lines.specs.Answer.{commands_of, told, readings_of};
 ghost use Rattle.iv_lines.specs.Cut.{line_room};
 ghost use Rattle.iv_lines.specs.Texts.{line_text};
 ghost use Rattle.iv_machine.specs.Machine.{step};
@@ -19,6 +22,8 @@ ghost use Rattle.iv_lines.specs.Reads.{is_read, is_write, is_memory};
 ghost use Rattle.iv_wire.specs.Endings.{IsAnswered};
 ghost use Rattle.iv_wire.specs.Ran.{HasRun};
 ghost use Rattle.iv_wire.specs.Sums.{HasWritten};
+ghost use Rattle.iv_wire.specs.Turns.{IsInTurn};
+ghost use Rattle.iv_lines.specs.Moments.{ReadsAt};
 
 use iv_command::Command;
 use iv_engine::Engine;
@@ -58,6 +63,7 @@ fn answer_line(
 ) -> Result<Vec<u8>, AllocError>
     ensures text { IfOk result (λ text. (s : State) → IsBehind s engine.old → text.items ≡ (told s (readings_of line.now)).text) }
     ensures state { OnOk result ((s : State) → IsBehind s engine.old → IsBehind (told s (readings_of line.now)).state engine.new) }
+    ensures given { OnOk result (All IsGiven (commands_of (readings_of line.now))) }
     ensures failed { OnOk result (engine.old.failed ≡ false → engine.new.failed ≡ false) }
 {
     if is_blank_line(line) {
@@ -111,13 +117,15 @@ fn run_lines<R: Source, W: Sink>(
     ensures write { W.has_failed writer.new ≡ (W.has_failed writer.old || is_write result) }
     ensures flushed { (is_write result ≡ false) → W.is_flushed writer.old ≡ true → W.is_flushed writer.new ≡ true }
     ensures reads { R.reads reader.new ≤ R.reads reader.old + (lines * line_room) }
+    ensures turns { W.is_flushed writer.old ≡ true → (s : State) → IsBehind s engine.old
+        → ReadsAt (IsInTurn lines s (R.left reader.old) (W.taken writer.old)) (R.moments reader.old) (R.moments reader.new) }
 {
     let mut room = Room::new();
     let mut scratch = Scratch::new(alloc);
     let mut answered = Vec::new(alloc);
     let mut sent = Vec::new(alloc);
     for _ in 0..lines {
-        match next_line(answered, &mut room, reader)? {
+        match next_line(answered, &mut room, reader, writer)? {
             Next::Nothing => return Ok(End::Input),
             Next::Endless => {
                 let text = write_fault(alloc, 22)?;
@@ -167,6 +175,9 @@ pub fn run<R: Source, W: Sink>(
           now = engine.new;
         }))) }
     ensures ran { (is_memory result ≡ false) → (s : State) → IsBehind s engine.old → HasRun lines s engine.new }
+    // Where a sound state stood behind the engine, one does afterwards: roles, names, sessions, subscriptions and rows, and the
+    // policies, views and rights that are stored.
+    ensures sound { (is_memory result ≡ false) → IsSoundEngine engine.old → IsSoundEngine engine.new }
     ensures failed { engine.new.failed ≡ (engine.old.failed || is_memory result) }
     ensures refused { IsErrOf result RunFault.Failed ↔ (engine.old.failed ≡ true) }
     ensures untouched { engine.old.failed ≡ true → (reader.new ≡ reader.old) × (writer.new ≡ writer.old) × (engine.new ≡ engine.old) }
@@ -174,6 +185,9 @@ pub fn run<R: Source, W: Sink>(
     ensures write { W.has_failed writer.new ≡ (W.has_failed writer.old || is_write result) }
     ensures flushed { (is_write result ≡ false) → W.is_flushed writer.old ≡ true → W.is_flushed writer.new ≡ true }
     ensures reads { R.reads reader.new ≤ R.reads reader.old + (lines * line_room) }
+    // Whenever the reader is read, all whole lines that it gave before are answered, and their answers written and flushed.
+    ensures turns { W.is_flushed writer.old ≡ true → (s : State) → IsBehind s engine.old
+        → ReadsAt (IsInTurn lines s (R.left reader.old) (W.taken writer.old)) (R.moments reader.old) (R.moments reader.new) }
 {
     if engine.is_failed() {
         return Err(RunFault::Failed);

@@ -8,6 +8,8 @@ mod grants;
 #[cfg(test)]
 mod memberships;
 #[cfg(test)]
+mod out;
+#[cfg(test)]
 mod policies;
 #[cfg(test)]
 mod prefixes;

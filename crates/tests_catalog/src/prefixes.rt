@@ -3,6 +3,8 @@
 //! `read`, `ends` where the text ends too soon, or the place and the reason of the fault. They follow from the grammar:
 //! `select id from not` has a word that is kept, and is no query, and `select id from no` is one.
 
+use crate::out::Out;
+use crate::shown::reason;
 use iv_query::{QueryFault, Why, read_query};
 use std::alloc::Global;
 
@@ -28,20 +30,10 @@ fn fault_of(alloc: Global, text: &str) -> Option<QueryFault> {
     read_query(alloc, text).err()
 }
 
-fn reason(why: Why) -> &'static str {
-    match why {
-        Why::Token => "token",
-        Why::Unexpected => "unexpected",
-        Why::TooDeep => "too deep",
-        Why::TooLong => "too long",
-    }
-}
-
 fn is_fault(alloc: Global, place: usize, why: Why, want: &str) -> bool {
-    match format!(in alloc; "{place} {}", reason(why)) {
-        Ok(fault) => fault.as_str() == want,
-        Err(_) => false,
-    }
+    let mut fault = Out::new(alloc);
+    fault.put_fault(place, reason(why));
+    fault.is(want)
 }
 
 /// Want of memory is none of the outcomes.

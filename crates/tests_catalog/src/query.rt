@@ -1,30 +1,20 @@
-//! Tests of reading queries and policies: tables with a text a line, ` => `, and the tree with all places or the fault.
+//! Tests of reading queries and policies: a table of each with a text a line, ` => `, and the tree with all places or the fault.
 
-use crate::shown::{Kind, shown};
-use iv_query::{read_pred, read_query};
-use std::alloc::{AllocError, Global};
-
-fn is(alloc: Global, kind: Kind, text: &str, want: &str) -> bool {
-    match shown(alloc, kind, text) {
-        Ok(found) => found.as_str() == want,
-        Err(_) => false,
-    }
-}
+use crate::shown::{Kind, is_shown};
+use std::alloc::Global;
 
 /// The first line of a table that does not hold.
 fn first_wrong(alloc: Global, kind: Kind, table: &str) -> Option<&str> {
     for line in table.lines() {
         match line.split_once(" => ") {
-            Some((text, want)) if is(alloc, kind, text, want) => {}
+            Some((text, want)) if is_shown(alloc, kind, text, want) => {}
             _ => return Some(line),
         }
     }
     None
 }
 
-#[test]
-fn views_of_the_worked_examples(rt: HostRuntime) {
-    let table = "\
+const VIEWS: &str = "\
 select who, sum(id) as s, count(*) as n from notes where id < 100 group by who => select@0 who@7 sum@12(id@16) as s@23 count@26 as n@38 from notes@45 where id@57 < 100@62 by who@75
 select a.x, b.y from a join b on a.k = b.k => select@0 a.x@7 b.y@12 from a@21 join b@28 on a.k@33 = b.k@39
 select x from a union select y from b => [select@0 x@7 from a@14] union select@22 y@29 from b@36
@@ -34,36 +24,22 @@ select id from notes => select@0 id@7 from notes@15
 select id from v => select@0 id@7 from v@15
 select id, from notes => 11 unexpected
 select nope from notes => select@0 nope@7 from notes@17
-select who, count(*) as n from notes => select@0 who@7 count@12 as n@24 from notes@31";
-    assert_eq!(rt; first_wrong(rt.alloc(), Kind::View, table), None);
-}
-
-#[test]
-fn view_texts_of_the_table(rt: HostRuntime) {
-    let table = "\
+select who, count(*) as n from notes => select@0 who@7 count@12 as n@24 from notes@31
 select x from a where x = 1-1 => 27 unexpected
  => 0 unexpected
 select x from a where x = 1a => 26 token
 select x from a where x = 9223372036854775808 => 26 token
 select a.x from a join b on a.k = b.z => select@0 a.x@7 from a@16 join b@23 on a.k@28 = b.z@34
 select a.x from a join b on a.k = a.x => select@0 a.x@7 from a@16 join b@23 on a.k@28 = a.x@34
-select * from a join b on a.k = b.k => select@0 *@7 from a@14 join b@21 on a.k@26 = b.k@32";
-    assert_eq!(rt; first_wrong(rt.alloc(), Kind::View, table), None);
-}
-
-#[test]
-fn forms_of_queries(rt: HostRuntime) {
-    let table = "\
+select * from a join b on a.k = b.k => select@0 *@7 from a@14 join b@21 on a.k@26 = b.k@32
 SELECT DISTINCT n.Id AS i, who w FROM Notes AS n INNER JOIN b x ON n.id = x.k AND x.y = n.id => select@0 distinct n.id@16 as i@24 who@27 as w@31 from notes@38 as n@47 join b@60 as x@62 on n.id@67 = x.k@74 x.y@82 = n.id@88
 select a from t union select b from u except select c from v union all select d from w => [[[select@0 a@7 from t@14] union select@22 b@29 from u@36] except select@45 c@52 from v@59] union all select@71 d@78 from w@85
 select k,sum(x)as s,count(*)c from a where not x<>1 and(k='it''s'or true)group by k,a.x => select@0 k@7 sum@9(x@13) as s@18 count@20 as c@28 from a@35 where (not x@47 <> 1@50 and (k@56 = 'it's'@58 or true)) by k@82 by a.x@84
-select x from a join b on a.k = b.k join c on c.k = a.k where x >= -5 or y <= 007 and x > y or z < 'a' => select@0 x@7 from a@14 join b@21 on a.k@26 = b.k@32 join c@41 on c.k@46 = a.k@52 where ((x@62 >= -5@67 or (y@73 <= 7@78 and x@86 > y@90)) or z@95 < 'a'@99)";
-    assert_eq!(rt; first_wrong(rt.alloc(), Kind::View, table), None);
-}
-
-#[test]
-fn faults_of_queries(rt: HostRuntime) {
-    let table = "\
+select x from a join b on a.k = b.k join c on c.k = a.k where x >= -5 or y <= 007 and x > y or z < 'a' => select@0 x@7 from a@14 join b@21 on a.k@26 = b.k@32 join c@41 on c.k@46 = a.k@52 where ((x@62 >= -5@67 or (y@73 <= 7@78 and x@86 > y@90)) or z@95 < 'a'@99)
+select x from a join b on k = k join c on k = k join d on k = k join e on k = k join f on k = k join g on k = k join h on k = k join i on k = k => 133 too long
+select x from a union select x from b union select x from c union select x from d union select x from e union select x from f union select x from g union select x from h union select x from i as => 190 too long
+select x from a join b on k = k join c on k = k join d on k = k union select x from e join f on k = k join g on k = k except select x from h union all select x from ? => 165 token
+select x from a join b on k = k join c on k = k join d on k = k union select x from e join f on k = k join g on k = k except select x from h inner join i i on k = k => 152 too long
 selec x from a => 0 unexpected
 select => 6 unexpected
 select distinct => 15 unexpected
@@ -120,12 +96,13 @@ select x from a where x = 1_ => 26 token
 select x from a where x = 1é => 27 token
 select x ? from select => 9 token
 select x from ? where => 14 token";
-    assert_eq!(rt; first_wrong(rt.alloc(), Kind::View, table), None);
-}
 
 #[test]
-fn policies(rt: HostRuntime) {
-    let table = "\
+fn views(rt: HostRuntime) {
+    assert_eq!(rt; first_wrong(rt.alloc(), Kind::View, VIEWS), None);
+}
+
+const POLICIES: &str = "\
 who = Current_User => who@0 = current_user@6
 1 = 'a' => 1@0 = 'a'@4
 true = false => true@0 = false@7
@@ -146,14 +123,15 @@ _x9 >= '' and current_user <> 'a''b' => (_x9@0 >= ''@7 and current_user@14 <> 'a
 x = -9223372036854775808 => x@0 = -9223372036854775808@4
 x = 00012 => x@0 = 12@4
 x = -0 => x@0 = 0@4
-x = 'ä''ö' => x@0 = 'ä'ö'@4";
-    assert_eq!(rt; first_wrong(rt.alloc(), Kind::Policy, table), None);
-    assert!(rt; is(rt.alloc(), Kind::Policy, "\tx\n=\r1", "x@1 = 1@5"));
-}
-
-#[test]
-fn faults_of_policies(rt: HostRuntime) {
-    let table = "\
+x = 'ä''ö' => x@0 = 'ä'ö'@4
+not not not not not not not not not not not not not not not not not not not not not not not not not not not not not not not not true => not not not not not not not not not not not not not not not not not not not not not not not not not not not not not not not not true
+not not not not not not not not not not not not not not not not not not not not not not not not not not not not not not not not not true => 128 too deep
+not not not not not not not not not not not not not not not not not not not not not not not not not not not not not not not not  => 128 unexpected
+((((((((((((((((((((((((((((((((true)))))))))))))))))))))))))))))))) => true
+(((((((((((((((((((((((((((((((((true => 32 too deep
+(true) and (true) and (true) and (true) and (true) and (true) and (true) and (true) and (true) => ((((((((true and true) and true) and true) and true) and true) and true) and true) and true)
+aaaaaaaaaaaaaaaaaaaaaaaaaaaaaaaaaaaaaaaaaaaaaaaaaaaaaaaaaaaaaaa = 1 => aaaaaaaaaaaaaaaaaaaaaaaaaaaaaaaaaaaaaaaaaaaaaaaaaaaaaaaaaaaaaaa@0 = 1@66
+aaaaaaaaaaaaaaaaaaaaaaaaaaaaaaaaaaaaaaaaaaaaaaaaaaaaaaaaaaaaaaaa = 1 => 0 token
 ä = 1 => 0 token
  => 0 unexpected
 x => 1 unexpected
@@ -181,153 +159,9 @@ x = 'a => 4 token
 x = 'a'' => 4 token
 x = 'a\0b' => 4 token
 x = 1; => 5 token";
-    assert_eq!(rt; first_wrong(rt.alloc(), Kind::Policy, table), None);
-}
-
-/// `part` so many times, and then `end`.
-fn repeated(alloc: Global, part: &str, times: usize, end: &str) -> Result<String, AllocError> {
-    let mut text = String::new(alloc);
-    for _ in 0..times {
-        text.push_str(part)?;
-    }
-    text.push_str(end)?;
-    Ok(text)
-}
-
-fn repeated_is(alloc: Global, part: &str, times: usize, end: &str, want: &str) -> bool {
-    match repeated(alloc, part, times, end) {
-        Ok(text) => is(alloc, Kind::Policy, &text, want),
-        Err(_) => false,
-    }
-}
-
-fn pred_is_read(alloc: Global, text: &str) -> bool {
-    match read_pred(alloc, text) {
-        Ok(tree) => {
-            drop(tree);
-            true
-        }
-        Err(_) => false,
-    }
-}
-
-fn repeated_is_read(alloc: Global, part: &str, times: usize, end: &str) -> bool {
-    match repeated(alloc, part, times, end) {
-        Ok(text) => pred_is_read(alloc, &text),
-        Err(_) => false,
-    }
-}
-
-/// The part of the first text that is not read, where a text is a part so many times and an end.
-fn first_unread<'a>(alloc: Global, texts: &[(&'a str, usize, &str)]) -> Option<&'a str> {
-    for (part, times, end) in texts {
-        if !repeated_is_read(alloc, part, *times, end) {
-            return Some(*part);
-        }
-    }
-    None
-}
-
-/// What the first text should give that gives something else.
-fn first_other<'a>(alloc: Global, texts: &[(&str, usize, &str, &'a str)]) -> Option<&'a str> {
-    for (part, times, end, want) in texts {
-        if !repeated_is(alloc, part, *times, end, want) {
-            return Some(*want);
-        }
-    }
-    None
-}
-
-const NESTED: [(&str, usize, &str); 2] = [("not ", 32, "true"), ("(true) and ", 40, "(true)")];
-
-const NESTED_OTHERS: [(&str, usize, &str, &str); 4] = [
-    ("not ", 33, "true", "128 too deep"),
-    ("not ", 32, "", "128 unexpected"),
-    ("(", 32, "true))))))))))))))))))))))))))))))))", "true"),
-    ("(", 33, "true", "32 too deep"),
-];
 
 #[test]
-fn nesting(rt: HostRuntime) {
-    assert!(rt; first_unread(rt.alloc(), &NESTED) == None);
-    assert!(rt; first_other(rt.alloc(), &NESTED_OTHERS) == None);
-}
-
-fn padded_query(alloc: Global, spaces: usize) -> Result<String, AllocError> {
-    repeated(alloc, " ", spaces, "select x from a")
-}
-
-fn padded_is(alloc: Global, spaces: usize, want: &str) -> bool {
-    match padded_query(alloc, spaces) {
-        Ok(text) => is(alloc, Kind::View, &text, want),
-        Err(_) => false,
-    }
-}
-
-#[test]
-fn lengths_of_queries(rt: HostRuntime) {
-    // A text of 4,096 bytes, whose last 15 are the query, and one of 4,097.
-    let query = "select@4081 x@4088 from a@4095";
-    assert!(rt; padded_is(rt.alloc(), 4081, query));
-    assert!(rt; padded_is(rt.alloc(), 4082, "4096 too long"));
-}
-
-// A word of 63 bytes, and a text of 4,096.
-const LONG: [(&str, usize, &str); 2] = [("a", 63, " = 1"), (" ", 4091, "x = 1")];
-
-// A word of 64 bytes, and texts of 4,097 and of 4,096.
-const LONG_OTHERS: [(&str, usize, &str, &str); 4] = [
-    ("a", 64, " = 1", "0 token"),
-    (" ", 4092, "x = 1", "4096 too long"),
-    ("?", 4097, "", "4096 too long"),
-    (" ", 4096, "", "4096 unexpected"),
-];
-
-#[test]
-fn lengths(rt: HostRuntime) {
-    assert!(rt; first_unread(rt.alloc(), &LONG) == None);
-    assert!(rt; first_other(rt.alloc(), &LONG_OTHERS) == None);
-    // Values of 1,024 bytes and of 1,025: the first quote stands behind `x = `.
-    assert!(rt; quoted_is_read(rt.alloc(), 1024));
-    assert!(rt; !quoted_is_read(rt.alloc(), 1025));
-}
-
-fn quoted_is_read(alloc: Global, times: usize) -> bool {
-    match quoted_text(alloc, times) {
-        Ok(text) => pred_is_read(alloc, &text),
-        Err(_) => false,
-    }
-}
-
-/// A comparison with a value of so many bytes, each a doubled quote.
-fn quoted_text(alloc: Global, times: usize) -> Result<String, AllocError> {
-    let mut text = String::from_str(alloc, "x = '")?;
-    for _ in 0..times {
-        text.push_str("''")?;
-    }
-    text.push('\'')?;
-    Ok(text)
-}
-
-fn query_is_read(alloc: Global, text: &str) -> bool {
-    match read_query(alloc, text) {
-        Ok(tree) => {
-            drop(tree);
-            true
-        }
-        Err(_) => false,
-    }
-}
-
-#[test]
-fn nine_sources(rt: HostRuntime) {
-    let table = "\
-select x from a join b on k = k join c on k = k join d on k = k join e on k = k join f on k = k join g on k = k join h on k = k join i on k = k => 133 too long
-select x from a union select x from b union select x from c union select x from d union select x from e union select x from f union select x from g union select x from h union select x from i as => 190 too long
-select x from a join b on k = k join c on k = k join d on k = k union select x from e join f on k = k join g on k = k except select x from h union all select x from ? => 165 token
-select x from a join b on k = k join c on k = k join d on k = k union select x from e join f on k = k join g on k = k except select x from h inner join i i on k = k => 152 too long";
-    assert_eq!(rt; first_wrong(rt.alloc(), Kind::View, table), None);
-    let eight =
-        "select x from a join b on k = k join c on k = k join d on k = k union select x from e join f on k = k join g on k = k except select x from h";
-    assert!(rt; query_is_read(rt.alloc(), eight));
+fn policies(rt: HostRuntime) {
+    assert_eq!(rt; first_wrong(rt.alloc(), Kind::Policy, POLICIES), None);
+    assert!(rt; is_shown(rt.alloc(), Kind::Policy, "\tx\n=\r1", "x@1 = 1@5"));
 }

@@ -1,47 +1,49 @@
-//! `shown`: writes out the tree of a text with all places, for tests.
+//! `is_shown`: compares the tree of a text, written out with all places, for tests.
 
+use crate::out::Out;
 use iv_query::{
     Column, Columns, Item, Join, Name, Op, Operand, Pred, Query, QueryFault, Select, SetOp, Source,
     Why, read_pred, read_query,
 };
 use iv_rows::Value;
-use std::alloc::{AllocError, Global};
+use std::alloc::Global;
 
-/// Writes a text with its place.
-fn add_placed(alloc: Global, out: &mut String, text: &str, place: usize) -> Result<(), AllocError> {
-    out.push_str(&format!(in alloc; "{text}@{place}")?)
-}
-
-fn add_alias(alloc: Global, out: &mut String, alias: &Option<Name>) -> Result<(), AllocError> {
+fn add_alias(out: &mut Out, alias: &Option<Name>) {
     if let Some(name) = alias {
-        out.push_str(" as ")?;
-        add_placed(alloc, out, &name.text, name.place)?;
+        out.put(" as ");
+        out.put_placed(&name.text, name.place);
     }
-    Ok(())
 }
 
-fn add_column(alloc: Global, out: &mut String, column: &Column) -> Result<(), AllocError> {
+fn add_column(out: &mut Out, column: &Column) {
     if let Some(source) = &column.source {
-        out.push_str(&format!(in alloc; "{source}.")?)?;
+        out.put(source);
+        out.put(".");
     }
-    add_placed(alloc, out, &column.name, column.place)
+    out.put_placed(&column.name, column.place);
 }
 
-fn literal_text(alloc: Global, value: &Value) -> Result<String, AllocError> {
+fn add_literal(out: &mut Out, value: &Value) {
     match value {
-        Value::Int(number) => format!(in alloc; "{number}"),
-        Value::Text(text) => format!(in alloc; "'{text}'"),
-        Value::Flag(flag) => format!(in alloc; "{flag}"),
+        Value::Int(number) => out.put_number(i128::from(*number)),
+        Value::Text(text) => {
+            out.put("'");
+            out.put(text);
+            out.put("'");
+        }
+        Value::Flag(true) => out.put("true"),
+        Value::Flag(false) => out.put("false"),
     }
 }
 
-fn add_operand(alloc: Global, out: &mut String, operand: &Operand) -> Result<(), AllocError> {
+fn add_operand(out: &mut Out, operand: &Operand) {
     match operand {
-        Operand::Column(column) => add_column(alloc, out, column),
+        Operand::Column(column) => add_column(out, column),
         Operand::Literal { place, value } => {
-            add_placed(alloc, out, &literal_text(alloc, value)?, *place)
+            add_literal(out, value);
+            out.put_placed("", *place);
         }
-        Operand::CurrentUser { place } => add_placed(alloc, out, "current_user", *place),
+        Operand::CurrentUser { place } => out.put_placed("current_user", *place),
     }
 }
 
@@ -56,121 +58,117 @@ fn op_text(op: Op) -> &'static str {
     }
 }
 
-fn add_pred(alloc: Global, out: &mut String, pred: &Pred) -> Result<(), AllocError> {
+fn add_pred(out: &mut Out, pred: &Pred) {
     match pred {
         Pred::Or(a, b) => {
-            out.push_str("(")?;
-            add_pred(alloc, out, a)?;
-            out.push_str(" or ")?;
-            add_pred(alloc, out, b)?;
-            out.push_str(")")
+            out.put("(");
+            add_pred(out, a);
+            out.put(" or ");
+            add_pred(out, b);
+            out.put(")");
         }
         Pred::And(a, b) => {
-            out.push_str("(")?;
-            add_pred(alloc, out, a)?;
-            out.push_str(" and ")?;
-            add_pred(alloc, out, b)?;
-            out.push_str(")")
+            out.put("(");
+            add_pred(out, a);
+            out.put(" and ");
+            add_pred(out, b);
+            out.put(")");
         }
         Pred::Not(a) => {
-            out.push_str("not ")?;
-            add_pred(alloc, out, a)
+            out.put("not ");
+            add_pred(out, a);
         }
-        Pred::Constant(true) => out.push_str("true"),
-        Pred::Constant(false) => out.push_str("false"),
+        Pred::Constant(true) => out.put("true"),
+        Pred::Constant(false) => out.put("false"),
         Pred::Compare(a, op, b) => {
-            add_operand(alloc, out, a)?;
-            out.push_str(op_text(*op))?;
-            add_operand(alloc, out, b)
+            add_operand(out, a);
+            out.put(op_text(*op));
+            add_operand(out, b);
         }
     }
 }
 
-fn add_item(alloc: Global, out: &mut String, item: &Item) -> Result<(), AllocError> {
+fn add_item(out: &mut Out, item: &Item) {
     match item {
         Item::Column { column, alias } => {
-            add_column(alloc, out, column)?;
-            add_alias(alloc, out, alias)
+            add_column(out, column);
+            add_alias(out, alias);
         }
         Item::Sum {
             place,
             column,
             alias,
         } => {
-            add_placed(alloc, out, "sum", *place)?;
-            out.push_str("(")?;
-            add_column(alloc, out, column)?;
-            out.push_str(") as ")?;
-            add_placed(alloc, out, &alias.text, alias.place)
+            out.put_placed("sum", *place);
+            out.put("(");
+            add_column(out, column);
+            out.put(") as ");
+            out.put_placed(&alias.text, alias.place);
         }
         Item::Count { place, alias } => {
-            add_placed(alloc, out, "count", *place)?;
-            out.push_str(" as ")?;
-            add_placed(alloc, out, &alias.text, alias.place)
+            out.put_placed("count", *place);
+            out.put(" as ");
+            out.put_placed(&alias.text, alias.place);
         }
     }
 }
 
-fn add_columns(alloc: Global, out: &mut String, columns: &Columns) -> Result<(), AllocError> {
+fn add_columns(out: &mut Out, columns: &Columns) {
     match columns {
-        Columns::All { place } => add_placed(alloc, out, " *", *place),
+        Columns::All { place } => out.put_placed(" *", *place),
         Columns::Items(items) => {
             for item in items {
-                out.push_str(" ")?;
-                add_item(alloc, out, item)?;
+                out.put(" ");
+                add_item(out, item);
             }
-            Ok(())
         }
     }
 }
 
-fn add_source(alloc: Global, out: &mut String, source: &Source) -> Result<(), AllocError> {
-    add_placed(alloc, out, &source.name.text, source.name.place)?;
-    add_alias(alloc, out, &source.alias)
+fn add_source(out: &mut Out, source: &Source) {
+    out.put_placed(&source.name.text, source.name.place);
+    add_alias(out, &source.alias);
 }
 
-fn add_join(alloc: Global, out: &mut String, join: &Join) -> Result<(), AllocError> {
-    out.push_str(" join ")?;
-    add_source(alloc, out, &join.source)?;
-    out.push_str(" on")?;
+fn add_join(out: &mut Out, join: &Join) {
+    out.put(" join ");
+    add_source(out, &join.source);
+    out.put(" on");
     for pair in &join.on {
-        out.push_str(" ")?;
-        add_column(alloc, out, &pair.left)?;
-        out.push_str(" = ")?;
-        add_column(alloc, out, &pair.right)?;
+        out.put(" ");
+        add_column(out, &pair.left);
+        out.put(" = ");
+        add_column(out, &pair.right);
     }
-    Ok(())
 }
 
-fn add_joins(alloc: Global, out: &mut String, joins: &[Join]) -> Result<(), AllocError> {
+fn add_joins(out: &mut Out, joins: &[Join]) {
     for join in joins {
-        add_join(alloc, out, join)?;
+        add_join(out, join);
     }
-    Ok(())
 }
 
-fn add_keys(alloc: Global, out: &mut String, keys: &[Column]) -> Result<(), AllocError> {
+fn add_keys(out: &mut Out, keys: &[Column]) {
     for key in keys {
-        out.push_str(" by ")?;
-        add_column(alloc, out, key)?;
+        out.put(" by ");
+        add_column(out, key);
     }
-    Ok(())
 }
 
-fn add_select(alloc: Global, out: &mut String, select: &Select) -> Result<(), AllocError> {
-    add_placed(alloc, out, "select", select.place)?;
+fn add_select(out: &mut Out, select: &Select) {
+    out.put_placed("select", select.place);
     if select.distinct {
-        out.push_str(" distinct")?;
+        out.put(" distinct");
     }
-    add_columns(alloc, out, &select.columns)?;
-    out.push_str(" from ")?;
-    add_source(alloc, out, &select.source)?;
-    add_joins(alloc, out, &select.joins)?;
+    add_columns(out, &select.columns);
+    out.put(" from ");
+    add_source(out, &select.source);
+    add_joins(out, &select.joins);
     if let Some(filter) = &select.filter {
-        out.push_str(" where ")?;
-        add_pred(alloc, out, filter)?;
+        out.put(" where ");
+        add_pred(out, filter);
     }
-    add_keys(alloc, out, &select.group)
+    add_keys(out, &select.group);
 }
 
 fn set_op_text(op: SetOp) -> &'static str {
@@ -181,30 +179,33 @@ fn set_op_text(op: SetOp) -> &'static str {
     }
 }
 
-fn add_query(alloc: Global, out: &mut String, query: &Query) -> Result<(), AllocError> {
+fn add_query(out: &mut Out, query: &Query) {
     match query {
-        Query::Select(select) => add_select(alloc, out, select),
+        Query::Select(select) => add_select(out, select),
         Query::Combined(left, op, right) => {
-            out.push_str("[")?;
-            add_query(alloc, out, left)?;
-            out.push_str(set_op_text(*op))?;
-            add_select(alloc, out, right)
+            out.put("[");
+            add_query(out, left);
+            out.put(set_op_text(*op));
+            add_select(out, right);
         }
     }
 }
 
-fn add_fault(alloc: Global, out: &mut String, fault: &QueryFault) -> Result<(), AllocError> {
+/// The reason of a fault, as the protocol has it.
+pub fn reason(why: Why) -> &'static str {
+    match why {
+        Why::Token => "token",
+        Why::Unexpected => "unexpected",
+        Why::TooDeep => "too deep",
+        Why::TooLong => "too long",
+    }
+}
+
+/// Adds the place and the reason of a fault.
+pub fn add_fault(out: &mut Out, fault: QueryFault) {
     match fault {
-        QueryFault::At { place, why } => {
-            out.push_str(&format!(in alloc; "{}", *place)?)?;
-            out.push_str(match why {
-                Why::Token => " token",
-                Why::Unexpected => " unexpected",
-                Why::TooDeep => " too deep",
-                Why::TooLong => " too long",
-            })
-        }
-        QueryFault::Memory => out.push_str("memory"),
+        QueryFault::At { place, why } => out.put_fault(place, reason(why)),
+        QueryFault::Memory => out.refuse(),
     }
 }
 
@@ -215,34 +216,32 @@ pub enum Kind {
     Policy,
 }
 
-fn write_query(alloc: Global, out: &mut String, text: &str) -> Result<(), AllocError> {
-    match read_query(alloc, text) {
+fn write_query(out: &mut Out, text: &str) {
+    match read_query(out.alloc(), text) {
         Ok(query) => {
-            let written = add_query(alloc, out, &query);
+            add_query(out, &query);
             drop(query);
-            written
         }
-        Err(fault) => add_fault(alloc, out, &fault),
+        Err(fault) => add_fault(out, fault),
     }
 }
 
-fn write_pred(alloc: Global, out: &mut String, text: &str) -> Result<(), AllocError> {
-    match read_pred(alloc, text) {
+fn write_pred(out: &mut Out, text: &str) {
+    match read_pred(out.alloc(), text) {
         Ok(tree) => {
-            let written = add_pred(alloc, out, &tree.pred);
+            add_pred(out, &tree.pred);
             drop(tree);
-            written
         }
-        Err(fault) => add_fault(alloc, out, &fault),
+        Err(fault) => add_fault(out, fault),
     }
 }
 
-/// What a text is read as, written out with all places.
-pub fn shown(alloc: Global, kind: Kind, text: &str) -> Result<String, AllocError> {
-    let mut out = String::new(alloc);
+/// Whether a text is read as this, written out with all places.
+pub fn is_shown(alloc: Global, kind: Kind, text: &str, want: &str) -> bool {
+    let mut out = Out::new(alloc);
     match kind {
-        Kind::View => write_query(alloc, &mut out, text)?,
-        Kind::Policy => write_pred(alloc, &mut out, text)?,
+        Kind::View => write_query(&mut out, text),
+        Kind::Policy => write_pred(&mut out, text),
     }
-    Ok(out)
+    out.is(want)
 }

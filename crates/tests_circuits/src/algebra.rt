@@ -2,7 +2,8 @@
 ghost use Rattle.std.specs.Prelude.{◌≡◌};
 ghost use Rattle.iv_zset.specs.Weights.{weight_of};
 
-use iv_algebra::{Agg, AlgFault, Comparison, Operand, Plan, Pred, Tables, eval};
+use iv_algebra::{Agg, Comparison, Operand, Plan, Pred, Tables};
+use iv_reference::{AlgFault, eval, fits, pred_fits};
 use iv_rows::{Column, Kind, RelId, Row, Schema, Value, columns_ok};
 use iv_zset::{Meter, ZFault, ZSet};
 use std::alloc::{AllocError, Global};
@@ -257,7 +258,7 @@ fn made(alloc: Global, asked: Asked) -> Result<Box<Plan>, AllocError> {
 
 /// What the plan gives; none where it does not fit.
 fn evaluated(alloc: Global, plan: &Plan, tables: &Tables) -> Option<Result<ZSet, AlgFault>> {
-    if plan.fits(tables) {
+    if fits(plan, tables) {
         Some(eval(alloc, plan, tables, 1_024, &mut Meter::new()))
     } else {
         None
@@ -543,7 +544,7 @@ fn holds(alloc: Global, comparison: Comparison, user: &str) -> Result<bool, Allo
 
 /// Whether k can be compared with the name of the user in columns of these kinds.
 fn own_fits(kinds: &[Kind]) -> bool {
-    is_own(Comparison::Equal).fits(kinds)
+    pred_fits(&is_own(Comparison::Equal), kinds)
 }
 
 #[test]
@@ -657,13 +658,13 @@ fn predicates_are_copied(rt: HostRuntime) {
 /// Whether the plan fits the notes.
 fn fits_notes(alloc: Global, plan: &Plan) -> Result<bool, Fail> {
     let tables = no_notes(alloc)?;
-    let answer = plan.fits(&tables);
+    let answer = fits(plan, &tables);
     drop(tables);
     Ok(answer)
 }
 
 /// Whether the plan fits the notes.
-fn fits(alloc: Global, asked: Asked) -> Result<bool, Fail> {
+fn asked_fits(alloc: Global, asked: Asked) -> Result<bool, Fail> {
     let plan = made(alloc, asked)?;
     let answer = fits_notes(alloc, &plan);
     drop(plan);
@@ -684,7 +685,7 @@ const FITTING: [(&str, Asked, bool); 8] = [
 #[test]
 fn plans_fit_tables_and_kinds(rt: HostRuntime) -> Result<(), Fail> {
     for (name, asked, want) in &FITTING {
-        assert!(rt; fits(rt.alloc(), *asked)? == *want, "{name}");
+        assert!(rt; asked_fits(rt.alloc(), *asked)? == *want, "{name}");
     }
     Ok(())
 }

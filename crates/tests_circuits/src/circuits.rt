@@ -8,6 +8,7 @@ use crate::plans::joined;
 use iv_access::{ADMIN, Access};
 use iv_algebra::{Plan, Tables};
 use iv_circuit::Circuit;
+use iv_reference::fits;
 use iv_rows::Kind;
 use std::alloc::Global;
 
@@ -16,7 +17,7 @@ fn built(alloc: Global, plan: &Plan, access: &Access, tables: &Tables) -> Option
     ensures plan { IfSome result (λ circuit. plan_of circuit.node ≡ shape_of plan.now) }
     ensures reader { IfSome result (λ circuit. IsReader tables.now circuit) }
 {
-    if !plan.fits(tables) {
+    if !fits(plan, tables) {
         return None;
     }
     match Circuit::build(alloc, plan, access, ADMIN, tables, 1_024) {

@@ -6,8 +6,9 @@ ghost use Rattle.iv_delta.specs.OnLists.{HasGroups};
 ghost use Rattle.iv_delta.specs.Sizes.{IsFew};
 
 use crate::sets::{Seen, seen_of, two};
-use iv_algebra::{Agg, group_rows};
+use iv_algebra::Agg;
 use iv_delta::{DeltaFault, GroupIndex, step_group_kept};
+use iv_reference::group_rows;
 use iv_zset::{Meter, ZSet};
 use std::alloc::Global;
 

@@ -1,4 +1,4 @@
-//! Tests of the public calls of iv_rows, iv_zset, iv_algebra, iv_delta and iv_circuit, from rows to circuits.
+//! Tests of the public calls of iv_rows, iv_zset, iv_algebra, iv_delta, iv_circuit and iv_reference, from rows to circuits.
 //!
 //! The steps are tried with operators of their own, too, that the laws of iv_delta carry. One test of circuits counts: a batch
 //! over a join in which all left rows of a key go and right rows of it come. One holds whichever request for memory is refused.

@@ -7,7 +7,8 @@ ghost use Rattle.tests_circuits.specs.Pairs.{MakesPair};
 use crate::product::Product;
 use crate::sets::{Seen, fill, seen_of};
 use iv_algebra::Agg;
-use iv_delta::{Bilinear, DeltaFault, Join, step_bilinear, step_group};
+use iv_delta::{DeltaFault, Join};
+use iv_reference::{Bilinear, step_bilinear, step_group};
 use iv_zset::{Meter, ZSet};
 use std::alloc::{AllocError, Global};
 

@@ -1,4 +1,5 @@
 //! Tests of rows, names and schemas: copies, the order of rows, reserved words, and which rows a table may hold.
+use iv_reference::same;
 use iv_rows::{Column, Kind, RelId, Row, Schema, Value, columns_ok, name_ok};
 use std::alloc::{AllocError, Global};
 use std::cmp::Ordering;
@@ -22,7 +23,10 @@ fn row_of_flag(alloc: Global, number: i64, flag: bool) -> Result<Row, AllocError
 /// Whether a copy of the row is equal to it, and has two values, of which the second is 2.
 fn copied_row(row: &Row) -> Result<[bool; 2], AllocError> {
     let copy = row.copy()?;
-    Ok([copy.same(row), matches!(copy.values(), [_, Value::Int(2)])])
+    Ok([
+        same(&copy, row),
+        matches!(copy.values(), [_, Value::Int(2)]),
+    ])
 }
 
 /// The same of a row of k and 2, and whether the copy of a flag is a flag.

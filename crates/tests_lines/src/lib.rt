@@ -1,12 +1,8 @@
-//! Tests of the public calls of iv_command, iv_request, iv_engine and iv_wire, most of them as lines in and lines out.
+//! Tests of the public calls of iv_request, iv_lines, iv_engine and iv_wire: a command, ends that fail, memory that is refused.
 #![tactic(auto)]
 
 #[cfg(test)]
-mod batches;
-#[cfg(test)]
 mod commands;
-#[cfg(test)]
-mod damaged;
 #[cfg(test)]
 mod examples;
 #[cfg(test)]
@@ -14,16 +10,6 @@ mod failing;
 #[cfg(test)]
 mod failing_once;
 #[cfg(test)]
-mod limits;
-#[cfg(test)]
-mod numbered;
-#[cfg(test)]
-mod query_limits;
-#[cfg(test)]
 mod refused;
 #[cfg(test)]
 mod replayed;
-#[cfg(test)]
-mod views;
-#[cfg(test)]
-mod worked;

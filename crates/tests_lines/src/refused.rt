@@ -9,9 +9,10 @@ use crate::examples::{
 };
 use crate::replayed::{ANSWERS, Ended, REQUESTS};
 use iv_command::{Act, Command, Line};
+use iv_embedded::read_line;
 use iv_engine::{Engine, EngineFault};
 use iv_lines::{End, EndFault, FromRead, RunFault, Sink, write_line};
-use iv_request::{WireFault, read_line};
+use iv_request::WireFault;
 use iv_wire::run;
 use std::alloc::{AllocError, Global};
 use std::io::Read;

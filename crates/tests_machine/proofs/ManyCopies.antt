@@ -16,13 +16,11 @@ use Rattle.iv_machine.specs.Act.{Act, write, insert, delete, Entry, Command, Lin
 use Rattle.iv_machine.specs.Changing.{after, times, without}
 use Rattle.iv_machine.specs.Machine.{difference, lines_told, outcome, run}
 use Rattle.tests_machine.specs.OfCopies.{batch, copies_limit, no_sums, summed, sums_limit, unread}
-use Rattle.iv_machine.specs.Refusing.{test, or_else, all_within, entries_present, refusal}
-use Rattle.iv_machine.specs.Split.{frame_refusal}
+use Rattle.iv_machine.specs.Refusing.{test, or_else, all_within, entries_present, refusal, frame_refusal}
 use Rattle.iv_machine.specs.State.{State, Subscription, is_within}
 use Rattle.tests_machine.specs.Worked.{Computes, first, many, notes, of_ann, of_x, put}
 use Rattle.tests_machine.proofs.Computing.{texts_compute}
 use Rattle.iv_machine.proofs.Counting.{copies-append}
-use Rattle.iv_machine.proofs.Splitting.{split}
 use Rattle.tests_machine.proofs.Copies.{filter_times, within_times, without_times, and_false, one_fails, one_more_not_within, own_copies}
 
 -- c copies of a row
@@ -101,7 +99,7 @@ last_fails p x y h = and_false (p x) (p y && true) (ap (λ b. b && true) h)
 -- a write after which the view of the second subscription is not within the limits
 write_over : (s : State) (n : ℕ) (es : List Entry) (x y : Subscription) → frame_refusal s.frame n (write es) ≡ None → entries_present s.frame.catalog 1 es s.rows ≡ None
     → s.frame.subscriptions ≡ x ∷ y ∷ [] → is_within (after s n (write es)) y ≡ false → refusal s n (write es) ≡ Some limit
-write_over s n es x y h p subs w = split s n (write es) ∙ (λ i. or_else (h i) (or_else (p i) (or_else (test (not (over i)) limit) None)))
+write_over s n es x y h p subs w = (λ i. or_else (h i) (or_else (p i) (or_else (test (not (over i)) limit) None)))
   where
     over : all_within (after s n (write es)) ≡ false
     over = and_false _ (list_all (is_within (after s n (write es))) s.frame.subscriptions) (ap (list_all (is_within (after s n (write es)))) subs ∙ last_fails (is_within (after s n (write es))) x y w)

@@ -6,3 +6,4 @@ pub mod OfViews
 pub mod OfCopies
 pub mod Counts
 pub mod Shapes
+pub mod OfLearning

@@ -9,11 +9,11 @@ ghost use Rattle.iv_machine.specs.Act.{begin, create_role, create_table, subscri
 ghost use Rattle.tests_machine.specs.Counts as counts;
 ghost use Rattle.tests_machine.specs.OfCopies as copies;
 ghost use Rattle.tests_machine.specs.OfGrants as grants;
+ghost use Rattle.tests_machine.specs.OfLearning.{RowsAreNews, SubscriptionsAreNews, WithoutAnswer, WithoutBefore, WithoutFrame, WithoutLater};
 ghost use Rattle.tests_machine.specs.OfPolicies as policies;
 ghost use Rattle.tests_machine.specs.OfRoles as roles;
 ghost use Rattle.tests_machine.specs.OfViews as views;
-ghost use Rattle.iv_machine.specs.Refusing.{refusal};
-ghost use Rattle.iv_machine.specs.Split.{frame_refusal};
+ghost use Rattle.iv_machine.specs.Refusing.{frame_refusal, refusal};
 ghost use Rattle.tests_machine.specs.Shapes as shapes;
 ghost use Rattle.iv_machine.specs.State.{start};
 ghost use Rattle.iv_machine.specs.Well.{is_well_act, is_well_command};
@@ -50,6 +50,21 @@ pub fn memberships_compute()
     ensures revoke_ends_and_takes { Computes first roles.revoke_ends_and_takes }
     ensures members_keep_their_names { Computes first roles.members_keep_their_names }
     ensures membership_refusals { Computes first roles.membership_refusals }
+{}
+
+/// No premise of the law on what a role learns may go: without one of them, ann is told different lines. Each pair of states has
+/// the other premises. `answered` is also what a limit tells: her own write is refused for a row that she may not see.
+pub fn premises_are_needed()
+    ensures frame { WithoutFrame }
+    ensures before { WithoutBefore }
+    ensures later { WithoutLater }
+    ensures answered { WithoutAnswer }
+{}
+
+/// Without news a role is told nothing but a reply. Rows that it sees are news, and so is a subscription.
+pub fn news_is_told()
+    ensures rows { RowsAreNews }
+    ensures subscription { SubscriptionsAreNews }
 {}
 
 /// Row security, policies and checked writes.

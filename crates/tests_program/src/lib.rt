@@ -1,8 +1,8 @@
-//! Tests of what the program does: words, faults, connections over loopback.
+//! Tests of what the program does: words and connections over loopback.
 #![tactic(auto)]
 
 #[cfg(test)]
-mod refused;
+mod connected;
 #[cfg(test)]
 mod served;
 #[cfg(test)]

@@ -4,6 +4,7 @@ use Rattle.iv_lines.proofs.Known.{or_false}
 use Rattle.iv_lines.proofs.Cutting.{ends_nothing, ends_last, takes_newline, takes_more, keeps_begun, plain_more, grows, overflows, begun_nothing, when_ok, at_end}
 use Rattle.iv_lines.specs.Ahead.{ahead, known}
 use Rattle.iv_lines.specs.Reads.{IsBegun}
+use Rattle.iv_lines.proofs.Moments.{reads_none, reads_within}
 use Rattle.iv_lines.proofs.lines.next_line.Goals as goal
 
 pub loop-room-init : goal.loop-room-init
@@ -13,6 +14,7 @@ loop-room-init g c = record {
   within = rw c.clear.ensures.items (omega arith);
   failed = search rules;
   reads = omega arith;
+  moments = reads_none _ _;
 }
 
 pub returns-then-is_empty-2-clause-cut : goal.returns-then-is_empty-2-clause-cut
@@ -49,9 +51,25 @@ loop-room-preserved g c =
       within = took.within;
       failed = grind (arith, c.fill.ensures.failed, c.loop-room.invariant.failed, or_false, c.is_err.ensures.value, c.if-is_err.false);
       reads = omega (arith, c.fill.ensures.counted);
+      moments = reads_within _ (known c.loop-room.room (g.R.Source.left c.loop-room.reader)) _ _ c.loop-room.line.items _ _ _ _ c.loop-room.invariant.plain (omega (arith, c.loop-room.line.ok.0)) c.loop-room.invariant.begun c.loop-room.invariant.moments c.fill.ensures.moment;
     }
 
 pub returns-clause-cut : goal.returns-clause-cut
 returns-clause-cut g c =
     let e : 65537 - length c.loop-room.line.items ≡ 0 = omega (arith, c.loop-room.line.ok.0) in
     overflows _ (known c.loop-room.room (g.R.Source.left c.loop-room.reader)) c.loop-room.line.items (subst (λ k. IsBegun k c.loop-room.line.items (known c.args.room.now (g.R.Source.left c.args.reader.now)) (known c.loop-room.room (g.R.Source.left c.loop-room.reader))) e c.loop-room.invariant.begun)
+
+pub returns-then-is_err-clause-moments : goal.returns-then-is_err-clause-moments
+returns-then-is_err-clause-moments g c = reads_within _ (known c.loop-room.room (g.R.Source.left c.loop-room.reader)) _ _ c.loop-room.line.items _ _ _ _ c.loop-room.invariant.plain (omega (arith, c.loop-room.line.ok.0)) c.loop-room.invariant.begun c.loop-room.invariant.moments c.fill.ensures.moment
+
+pub returns-then-is_empty-2-clause-moments : goal.returns-then-is_empty-2-clause-moments
+returns-then-is_empty-2-clause-moments g c = reads_within _ (known c.loop-room.room (g.R.Source.left c.loop-room.reader)) _ _ c.loop-room.line.items _ _ _ _ c.loop-room.invariant.plain (omega (arith, c.loop-room.line.ok.0)) c.loop-room.invariant.begun c.loop-room.invariant.moments c.fill.ensures.moment
+
+pub returns-then-is_empty-clause-moments : goal.returns-then-is_empty-clause-moments
+returns-then-is_empty-clause-moments g c = reads_within _ (known c.loop-room.room (g.R.Source.left c.loop-room.reader)) _ _ c.loop-room.line.items _ _ _ _ c.loop-room.invariant.plain (omega (arith, c.loop-room.line.ok.0)) c.loop-room.invariant.begun c.loop-room.invariant.moments c.fill.ensures.moment
+
+pub returns-in_err-take_part-clause-moments : goal.returns-in_err-take_part-clause-moments
+returns-in_err-take_part-clause-moments g c = reads_within _ (known c.loop-room.room (g.R.Source.left c.loop-room.reader)) _ _ c.loop-room.line.items _ _ _ _ c.loop-room.invariant.plain (omega (arith, c.loop-room.line.ok.0)) c.loop-room.invariant.begun c.loop-room.invariant.moments c.fill.ensures.moment
+
+pub returns-then-branch-clause-moments : goal.returns-then-branch-clause-moments
+returns-then-branch-clause-moments g c = reads_within _ (known c.loop-room.room (g.R.Source.left c.loop-room.reader)) _ _ c.loop-room.line.items _ _ _ _ c.loop-room.invariant.plain (omega (arith, c.loop-room.line.ok.0)) c.loop-room.invariant.begun c.loop-room.invariant.moments c.fill.ensures.moment

@@ -65,3 +65,15 @@ returns-in-Err-Memory-clause-flushed g c = rw c.in-Err-Memory.field-0-is at c.in
 
 pub returns-in-Err-Memory-clause-reads : goal.returns-in-Err-Memory-clause-reads
 returns-in-Err-Memory-clause-reads g c = c.in-Err-Memory.ensures.reads
+
+pub returns-in-Ok-clause-turns : goal.returns-in-Ok-clause-turns
+returns-in-Ok-clause-turns g c = λ f cap behind. c.in-Ok.ensures.turns f (start cap) behind
+
+pub returns-in-Err-Read-clause-turns : goal.returns-in-Err-Read-clause-turns
+returns-in-Err-Read-clause-turns g c = λ f cap behind. c.in-Err-Read.ensures.turns f (start cap) behind
+
+pub returns-in-Err-Write-clause-turns : goal.returns-in-Err-Write-clause-turns
+returns-in-Err-Write-clause-turns g c = λ f cap behind. c.in-Err-Write.ensures.turns f (start cap) behind
+
+pub returns-in-Err-Memory-clause-turns : goal.returns-in-Err-Memory-clause-turns
+returns-in-Err-Memory-clause-turns g c = λ f cap behind. c.in-Err-Memory.ensures.turns f (start cap) behind

@@ -2,7 +2,7 @@ use Rattle.std.proofs.Common.{◌-◌, length, map, sym, ◌∙◌}
 use Rattle.std.proofs.lemmas.List.{map_push}
 use Rattle.std.proofs.lemmas.Result.{err_from_is_err_and}
 use Rattle.iv_query.specs.Tokens.{toks, after_symbol}
-use Rattle.iv_query.specs.Rules.{push}
+use Rattle.iv_query.specs.Parts.{push}
 use Rattle.iv_query.proofs.Loop.{goes_on, fails_there, is_last, is_done}
 use Rattle.iv_query.proofs.list.list_of.Goals as goal
 

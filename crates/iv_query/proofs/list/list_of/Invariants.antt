@@ -1,6 +1,6 @@
 use Rattle.std.proofs.Common.{◌≡◌, ◌-◌, map}
 use Rattle.iv_query.specs.Tokens.{toks, after_symbol}
-use Rattle.iv_query.specs.Rules.{push}
+use Rattle.iv_query.specs.Parts.{push}
 use Rattle.iv_query.specs.Reading.{many_at, list_of}
 use Rattle.iv_query.proofs.list.list_of.Given as goal
 

@@ -4,9 +4,8 @@ use Rattle.std.proofs.lemmas.List.{map_push, length-map}
 use Rattle.std.proofs.lemmas.Result.{err_from_is_err_and}
 use Rattle.iv_query.specs.Tokens.{Tok, toks}
 use Rattle.iv_query.specs.Trees.{JoinTree, join_tree}
-use Rattle.iv_query.specs.Rules.{push}
+use Rattle.iv_query.specs.Parts.{push, starts_join, at_join}
 use Rattle.iv_query.specs.Answers.{Fails}
-use Rattle.iv_query.specs.Query.{starts_join, at_join}
 use Rattle.iv_query.specs.QueryReading.{join_at}
 use Rattle.iv_query.proofs.Loop.{goes_on, fails_there, is_last, is_done}
 use Rattle.iv_query.proofs.query.joins.Goals as goal

@@ -1,8 +1,7 @@
 use Rattle.std.proofs.Common.{◌≡◌, ◌-◌, map, length}
 use Rattle.iv_query.specs.Tokens.{toks}
 use Rattle.iv_query.specs.Trees.{join_tree}
-use Rattle.iv_query.specs.Rules.{push}
-use Rattle.iv_query.specs.Query.{at_join}
+use Rattle.iv_query.specs.Parts.{push, at_join}
 use Rattle.iv_query.specs.Reading.{many_at}
 use Rattle.iv_query.specs.QueryReading.{join_at, joins_at}
 use Rattle.iv_query.proofs.query.joins.Given as goal

@@ -2,7 +2,7 @@ use Rattle.std.proofs.Common.{◌≡◌, ◌+◌, ◌-◌, ℕ, List, Some, None
 use Rattle.iv_query.specs.Tokens.{Tok, toks}
 use Rattle.iv_query.specs.Trees.{QueryTree, select_tree, query_tree}
 use Rattle.iv_query.specs.Answers.{Fails}
-use Rattle.iv_query.specs.Query.{starts_set_op, at_set_op, NextOf, combine, sources_in, sources_of}
+use Rattle.iv_query.specs.Parts.{starts_set_op, at_set_op, NextOf, combine, sources_in, sources_of}
 use Rattle.iv_query.specs.QueryReading.{next_at}
 use Rattle.iv_query.proofs.Loop.{goes_on, fails_there, is_last, is_done}
 use Rattle.iv_query.proofs.query.query.Goals as goal

@@ -1,7 +1,7 @@
 use Rattle.std.proofs.Common.{◌≡◌, ◌-◌}
 use Rattle.iv_query.specs.Tokens.{toks}
 use Rattle.iv_query.specs.Trees.{QueryTree, query_tree}
-use Rattle.iv_query.specs.Query.{at_set_op, combine, sources_of}
+use Rattle.iv_query.specs.Parts.{at_set_op, combine, sources_of}
 use Rattle.iv_query.specs.Reading.{many_at}
 use Rattle.iv_query.specs.QueryReading.{next_at, query_at}
 use Rattle.iv_query.proofs.query.query.Given as goal

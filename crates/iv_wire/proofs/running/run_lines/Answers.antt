@@ -4,6 +4,8 @@ use Rattle.std.proofs.lemmas.Result.{err_from_is_err_and}
 use Rattle.iv_lines.specs.Ahead.{known}
 use Rattle.iv_wire.proofs.Ran.{none_ran, one_more_ran, ran_within}
 use Rattle.iv_wire.proofs.Answering.{told_first, told_more, tells, answered_input, answered_endless, answered_lines, answered_read, answered_memory, answered_write, answered_write_endless}
+use Rattle.iv_lines.proofs.Moments.{reads_none}
+use Rattle.iv_wire.proofs.Turns.{one_more_turn}
 use Rattle.iv_wire.proofs.running.run_lines.Goals as goal
 
 pub loop-init : goal.loop-init
@@ -15,6 +17,7 @@ loop-init g c = record {
   write = search rules;
   flushed = search rules;
   reads = omega arith;
+  turns = λ _ s b. reads_none _ _;
 }
 
 pub returns-in-Nothing-clause-answered : goal.returns-in-Nothing-clause-answered
@@ -54,12 +57,13 @@ loop-preserved g c =
     let k = rw c.in-Line.is at c.in_ok-next_line.ensures.cut in
     record {
       told = λ s b. told_more s c.loop.engine c.answer_line.new.engine _ (known c.loop.room (g.R.Source.left c.loop.reader)) _ _ (g.W.Sink.taken c.loop.writer) _ c.loop.counter c.in-Line.line _ (c.loop.invariant.told s b) k (tells c.loop.engine c.answer_line.new.engine c.in-Line.line.items _ _ _ c.deref-in-Line.ensures.value c.deref-in-Line-2.ensures.value c.in_ok-text-in-Line.ensures.text c.in_ok-text-in-Line.ensures.state) c.in_ok-send_answer-in-Line.ensures.ok;
-      ran = λ s b. one_more_ran c.loop.counter c.deref-in-Line.result.now s c.loop.engine c.answer_line.new.engine (c.loop.invariant.ran s b) c.in_ok-text-in-Line.ensures.state;
+      ran = λ s b. one_more_ran c.loop.counter c.deref-in-Line.result.now s c.loop.engine c.answer_line.new.engine (c.loop.invariant.ran s b) c.in_ok-text-in-Line.ensures.given c.in_ok-text-in-Line.ensures.state;
       went_on = λ h. c.in_ok-text-in-Line.ensures.failed (c.loop.invariant.went_on h);
       read = c.in_ok-next_line.ensures.failed ∙ (or-false (g.R.Source.has_failed c.loop.reader) ∙ c.loop.invariant.read);
       write = c.in_ok-send_answer-in-Line.ensures.failed ∙ (or-false (g.W.Sink.has_failed c.loop.writer) ∙ c.loop.invariant.write);
       flushed = λ _. c.in_ok-send_answer-in-Line.ensures.flushed;
       reads = omega (arith, c.in_ok-next_line.ensures.reads);
+      turns = λ f s b. one_more_turn c.args.lines c.loop.counter s _ (known c.loop.room (g.R.Source.left c.loop.reader)) _ _ c.loop.engine _ _ _ _ c.loop-test.true (c.loop.invariant.told s b) (c.loop.invariant.flushed f) (c.loop.invariant.turns f s b) c.in_ok-next_line.ensures.moments;
     }
 
 pub returns-clause-answered : goal.returns-clause-answered
@@ -87,4 +91,25 @@ returns-in-Endless-clause-ran g c = λ _ s b. ran_within c.loop.counter c.args.l
 
 pub returns-in_err-send_answer-in-Line-clause-ran : goal.returns-in_err-send_answer-in-Line-clause-ran
 returns-in_err-send_answer-in-Line-clause-ran g c = λ _ s b. ran_within (c.loop.counter + 1) c.args.lines s _ (omega arith)
-    (one_more_ran c.loop.counter c.deref-in-Line.result.now s c.loop.engine c.answer_line.new.engine (c.loop.invariant.ran s b) c.in_ok-text-in-Line.ensures.state)
+    (one_more_ran c.loop.counter c.deref-in-Line.result.now s c.loop.engine c.answer_line.new.engine (c.loop.invariant.ran s b) c.in_ok-text-in-Line.ensures.given c.in_ok-text-in-Line.ensures.state)
+
+pub returns-in-Nothing-clause-turns : goal.returns-in-Nothing-clause-turns
+returns-in-Nothing-clause-turns g c = λ f s b. one_more_turn c.args.lines c.loop.counter s _ (known c.loop.room (g.R.Source.left c.loop.reader)) _ _ c.loop.engine _ _ _ _ c.loop-test.true (c.loop.invariant.told s b) (c.loop.invariant.flushed f) (c.loop.invariant.turns f s b) c.in_ok-next_line.ensures.moments
+
+pub returns-in_err-text-in-Endless-clause-turns : goal.returns-in_err-text-in-Endless-clause-turns
+returns-in_err-text-in-Endless-clause-turns g c = λ f s b. one_more_turn c.args.lines c.loop.counter s _ (known c.loop.room (g.R.Source.left c.loop.reader)) _ _ c.loop.engine _ _ _ _ c.loop-test.true (c.loop.invariant.told s b) (c.loop.invariant.flushed f) (c.loop.invariant.turns f s b) c.in_ok-next_line.ensures.moments
+
+pub returns-in_err-send_answer-in-Endless-clause-turns : goal.returns-in_err-send_answer-in-Endless-clause-turns
+returns-in_err-send_answer-in-Endless-clause-turns g c = λ f s b. one_more_turn c.args.lines c.loop.counter s _ (known c.loop.room (g.R.Source.left c.loop.reader)) _ _ c.loop.engine _ _ _ _ c.loop-test.true (c.loop.invariant.told s b) (c.loop.invariant.flushed f) (c.loop.invariant.turns f s b) c.in_ok-next_line.ensures.moments
+
+pub returns-in-Endless-clause-turns : goal.returns-in-Endless-clause-turns
+returns-in-Endless-clause-turns g c = λ f s b. one_more_turn c.args.lines c.loop.counter s _ (known c.loop.room (g.R.Source.left c.loop.reader)) _ _ c.loop.engine _ _ _ _ c.loop-test.true (c.loop.invariant.told s b) (c.loop.invariant.flushed f) (c.loop.invariant.turns f s b) c.in_ok-next_line.ensures.moments
+
+pub returns-in_err-text-in-Line-clause-turns : goal.returns-in_err-text-in-Line-clause-turns
+returns-in_err-text-in-Line-clause-turns g c = λ f s b. one_more_turn c.args.lines c.loop.counter s _ (known c.loop.room (g.R.Source.left c.loop.reader)) _ _ c.loop.engine _ _ _ _ c.loop-test.true (c.loop.invariant.told s b) (c.loop.invariant.flushed f) (c.loop.invariant.turns f s b) c.in_ok-next_line.ensures.moments
+
+pub returns-in_err-send_answer-in-Line-clause-turns : goal.returns-in_err-send_answer-in-Line-clause-turns
+returns-in_err-send_answer-in-Line-clause-turns g c = λ f s b. one_more_turn c.args.lines c.loop.counter s _ (known c.loop.room (g.R.Source.left c.loop.reader)) _ _ c.loop.engine _ _ _ _ c.loop-test.true (c.loop.invariant.told s b) (c.loop.invariant.flushed f) (c.loop.invariant.turns f s b) c.in_ok-next_line.ensures.moments
+
+pub returns-in_err-next_line-clause-turns : goal.returns-in_err-next_line-clause-turns
+returns-in_err-next_line-clause-turns g c = λ f s b. one_more_turn c.args.lines c.loop.counter s _ (known c.loop.room (g.R.Source.left c.loop.reader)) _ _ c.loop.engine _ _ _ _ c.loop-test.true (c.loop.invariant.told s b) (c.loop.invariant.flushed f) (c.loop.invariant.turns f s b) c.in_err-next_line.ensures.moments

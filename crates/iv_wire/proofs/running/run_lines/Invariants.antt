@@ -2,7 +2,9 @@ use Rattle.std.proofs.Common.{◌≡◌, ◌≤◌, ◌+◌, ◌*◌, true, fals
 use Rattle.iv_machine.specs.State.{State}
 use Rattle.iv_engine.specs.Engine.{IsBehind}
 use Rattle.iv_lines.specs.Ahead.{known}
+use Rattle.iv_lines.specs.Moments.{ReadsAt}
 use Rattle.iv_wire.specs.Ran.{HasRun}
+use Rattle.iv_wire.specs.Turns.{IsInTurn}
 use Rattle.iv_wire.proofs.Answering.{HasTold}
 use Rattle.iv_wire.proofs.running.run_lines.Given as goal
 
@@ -15,4 +17,5 @@ invariant-loop g l = record {
   write : g.W.Sink.has_failed l.writer ≡ g.W.Sink.has_failed l.fn.writer;
   flushed : g.W.Sink.is_flushed l.fn.writer ≡ true → g.W.Sink.is_flushed l.writer ≡ true;
   reads : g.R.Source.reads l.reader ≤ g.R.Source.reads l.fn.reader + l.counter * 65537;
+  turns : g.W.Sink.is_flushed l.fn.writer ≡ true → (s : State) → IsBehind s l.fn.engine → ReadsAt (IsInTurn l.lines s (g.R.Source.left l.fn.reader) (g.W.Sink.taken l.fn.writer)) (g.R.Source.moments l.fn.reader) (g.R.Source.moments l.reader);
 }

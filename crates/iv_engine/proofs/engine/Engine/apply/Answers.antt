@@ -1,3 +1,4 @@
+use Rattle.iv_engine.proofs.Sounding.{sound_after}
 use Rattle.std.proofs.Common.{◌≡◌, ◌∙◌, false, map, sym, ap, subst}
 use Rattle.iv_machine.specs.Machine.{step}
 use Rattle.iv_machine.specs.State.{Frame}
@@ -41,3 +42,6 @@ pub returns-in-Ok-clause-rounds : goal.returns-in-Ok-clause-rounds
 returns-in-Ok-clause-rounds c =
     let off : c.self.inside.failed ≡ false = ap (λ (v : Engine). v.failed) c.self.view_is ∙ sym c.is_failed.ensures.failed ∙ c.if-is_failed.false in
     counted_seen c.self.inside.store c.step.new.store c.args.self.now c.self.inside.failed (command_of c.args.command) (map line_of c.in-Ok.lines.items) off c.self.view_is c.in-Ok.ensures.rounds
+
+pub returns-in-Ok-clause-sound : goal.returns-in-Ok-clause-sound
+returns-in-Ok-clause-sound c = λ g h. sound_after c.args.self.now _ (command_of c.args.command) g (returns-in-Ok-clause-state c) h

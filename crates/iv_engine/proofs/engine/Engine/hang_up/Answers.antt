@@ -1,3 +1,4 @@
+use Rattle.iv_engine.proofs.Sounding.{sound_hung}
 use Rattle.std.proofs.Common.{◌∙◌, ap, rules, subst, sym}
 use Rattle.iv_store.specs.Engine.{Engine, IsBehind, hung_up}
 use Rattle.iv_store.proofs.Hanging.{closed_behind, closed_shown}
@@ -13,3 +14,8 @@ returns-then-not-self-clause-closed c = λ _. closed_shown c.self.inside.store c
 
 pub returns-else-not-self-clause-failed_unchanged : goal.returns-else-not-self-clause-failed_unchanged
 returns-else-not-self-clause-failed_unchanged c = search rules
+
+pub returns-then-not-self-clause-sound : goal.returns-then-not-self-clause-sound
+returns-then-not-self-clause-sound c = λ h. sound_hung c.args.self.now _ (λ s b. closed_behind s _ _
+    (closed_shown c.self.inside.store c.close_all.new.self c.self.inside.failed c.close_all.ensures.closed)
+    (subst (λ (e : Engine). IsBehind s e) (sym c.self.view_is) b)) h
