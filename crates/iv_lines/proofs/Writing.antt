@@ -4,8 +4,8 @@ use Rattle.std.specs.Prelude.{flat_map}
 use Rattle.std.proofs.lemmas.List.{take_all}
 use Rattle.serde_json.specs.Written.{has_float}
 use Rattle.iv_machine.specs.Act as machine
-use Rattle.iv_machine.specs.Act.{Refusal}
-use Rattle.iv_lines.specs.Texts.{refused_data}
+use Rattle.iv_machine.specs.Act.{Refusal, refused}
+use Rattle.iv_lines.specs.Texts.{reply_data}
 
 pub flat_map-map : {X Y Z : Type 0} (g : Y → List Z) (f : X → Y) (xs : List X) → flat_map g (map f xs) ≡ flat_map (λ x. g (f x)) xs
 flat_map-map g f [] = refl
@@ -16,7 +16,7 @@ all_texts g f xs sofar i l h = h ∙ (ap (flat_map (λ x. g (f x))) (take_all i 
 
 -- ---- refusals
 
-pub plain_refused : (n : ℕ) (r : Refusal) → has_float (refused_data n r) ≡ false
+pub plain_refused : (n : ℕ) (r : Refusal) → has_float (reply_data n (refused r)) ≡ false
 plain_refused n machine.no_session = refl
 plain_refused n machine.session_in_use = refl
 plain_refused n machine.unknown_role = refl

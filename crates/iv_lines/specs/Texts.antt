@@ -12,7 +12,7 @@ use Rattle.iv_machine.specs.Act as machine
 use Rattle.iv_machine.specs.Act.{Refusal, Reply, done, subscribed, refused, Line, reply, change, ended}
 use Rattle.iv_machine.specs.declared.Cause.{Cause}
 use Rattle.iv_machine.specs.declared.Cause.TheVariants as cause
-use Rattle.serde_json.specs.Data.{Data, string, boolean, object, member, no_members}
+use Rattle.serde_json.specs.Data.{Data, string, boolean, object, Members, member, no_members, put}
 use Rattle.serde_json.specs.Written.{compact_text}
 use Rattle.iv_command.specs.RowTexts.{rows_data}
 use Rattle.iv_request.specs.Values.{natural, privilege_text}
@@ -51,62 +51,63 @@ abbrev pub reason_text : Reason → List ℕ
 reason_text (Reading why) = reading_text why
 reason_text (Binding why) = binding_text why
 
--- ---- replies
+-- ---- replies, but for the session
 
 -- the number of a refusal alone
-abbrev pub plain_data : ℕ → ℕ → Data
-plain_data c n = object (member (codes "error") (natural c) (member (codes "session") (natural n) no_members))
+abbrev pub plain_members : ℕ → Members
+plain_members c = member (codes "error") (natural c) no_members
 
 -- with the number of an entry, from 1
-abbrev pub entry_refused : ℕ → ℕ → ℕ → Data
-entry_refused c n entry = object (member (codes "entry") (natural entry) (member (codes "error") (natural c) (member (codes "session") (natural n) no_members)))
+abbrev pub entry_refused : ℕ → ℕ → Members
+entry_refused c entry = member (codes "entry") (natural entry) (plain_members c)
 
-abbrev pub refused_data : ℕ → Refusal → Data
-refused_data n machine.no_session = plain_data 3 n
-refused_data n machine.session_in_use = plain_data 4 n
-refused_data n machine.unknown_role = plain_data 5 n
-refused_data n machine.name_taken = plain_data 6 n
-refused_data n machine.unknown_relation = plain_data 7 n
-refused_data n machine.not_a_table = plain_data 8 n
-refused_data n (machine.bad_row entry) = entry_refused 9 n entry
-refused_data n (machine.bad_query place why) = object (
+abbrev pub refused_members : Refusal → Members
+refused_members machine.no_session = plain_members 3
+refused_members machine.session_in_use = plain_members 4
+refused_members machine.unknown_role = plain_members 5
+refused_members machine.name_taken = plain_members 6
+refused_members machine.unknown_relation = plain_members 7
+refused_members machine.not_a_table = plain_members 8
+refused_members (machine.bad_row entry) = entry_refused 9 entry
+refused_members (machine.bad_query place why) =
     member (codes "error") (natural 10)
     (member (codes "place") (natural place)
-    (member (codes "session") (natural n)
-    (member (codes "why") (string (reason_text why)) no_members))))
-refused_data n machine.not_administrator = plain_data 11 n
-refused_data n (machine.not_owner rel) = object
-    (member (codes "error") (natural 12)
-    (member (codes "on") (string rel) (member (codes "session") (natural n) no_members)))
-refused_data n (machine.missing_privilege p rel) = object (
+    (member (codes "why") (string (reason_text why)) no_members))
+refused_members machine.not_administrator = plain_members 11
+refused_members (machine.not_owner rel) = member (codes "error") (natural 12) (member (codes "on") (string rel) no_members)
+refused_members (machine.missing_privilege p rel) =
     member (codes "error") (natural 13)
     (member (codes "on") (string rel)
-    (member (codes "privilege") (string (privilege_text p))
-    (member (codes "session") (natural n) no_members))))
-refused_data n (machine.no_permissive rel test entry) = object (
+    (member (codes "privilege") (string (privilege_text p)) no_members))
+refused_members (machine.no_permissive rel test entry) =
     member (codes "check") (string (check_text test))
     (member (codes "entry") (natural entry)
     (member (codes "error") (natural 14)
-    (member (codes "on") (string rel)
-    (member (codes "session") (natural n) no_members)))))
-refused_data n (machine.restrictive_failed policy rel test entry) = object (
+    (member (codes "on") (string rel) no_members)))
+refused_members (machine.restrictive_failed policy rel test entry) =
     member (codes "check") (string (check_text test))
     (member (codes "entry") (natural entry)
     (member (codes "error") (natural 15)
     (member (codes "on") (string rel)
-    (member (codes "policy") (string policy)
-    (member (codes "session") (natural n) no_members))))))
-refused_data n (machine.no_such_row entry) = entry_refused 16 n entry
-refused_data n machine.limit = plain_data 17 n
-refused_data n machine.unknown_policy = plain_data 18 n
-refused_data n machine.unknown_subscription = plain_data 19 n
-refused_data n machine.too_many = plain_data 20 n
-refused_data n machine.membership_loop = plain_data 23 n
+    (member (codes "policy") (string policy) no_members))))
+refused_members (machine.no_such_row entry) = entry_refused 16 entry
+refused_members machine.limit = plain_members 17
+refused_members machine.unknown_policy = plain_members 18
+refused_members machine.unknown_subscription = plain_members 19
+refused_members machine.too_many = plain_members 20
+refused_members machine.membership_loop = plain_members 23
+
+abbrev pub reply_members : Reply → Members
+reply_members done = member (codes "ok") (boolean true) no_members
+reply_members (subscribed k) = member (codes "ok") (boolean true) (member (codes "sub") (natural k) no_members)
+reply_members (refused r) = refused_members r
+
+-- the session comes in, in the order of keys
+abbrev pub of_session : ℕ → Members → Data
+of_session n ms = object (put (codes "session") (natural n) ms)
 
 abbrev pub reply_data : ℕ → Reply → Data
-reply_data n done = object (member (codes "ok") (boolean true) (member (codes "session") (natural n) no_members))
-reply_data n (subscribed k) = object (member (codes "ok") (boolean true) (member (codes "session") (natural n) (member (codes "sub") (natural k) no_members)))
-reply_data n (refused r) = refused_data n r
+reply_data n r = of_session n (reply_members r)
 
 -- ---- changes
 

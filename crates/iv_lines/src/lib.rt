@@ -16,4 +16,4 @@ pub use ends::{EndFault, Sink, Source, write_all};
 pub use lines::{End, Next, RunFault, is_blank_line, next_line};
 pub use room::Room;
 pub use std_ends::{FromRead, FromWrite};
-pub use texts::write_fault;
+pub use texts::{put_number, put_refused, put_text, text_of, write_fault};

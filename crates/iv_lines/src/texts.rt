@@ -78,7 +78,7 @@ fn reason_text(why: Reason) -> &'static str
 }
 
 /// Adds a JSON member of a refusal or a fault that is a number.
-fn put_number(
+pub fn put_number(
     alloc: Global,
     members: &mut Map<String, Json>,
     key: &str,
@@ -90,7 +90,7 @@ fn put_number(
 }
 
 /// Adds a JSON member of a refusal that is a text.
-fn put_text(
+pub fn put_text(
     alloc: Global,
     members: &mut Map<String, Json>,
     key: &str,
@@ -102,81 +102,67 @@ fn put_text(
 }
 
 /// Adds the JSON members of a refusal without further keys.
-fn put_plain(
-    alloc: Global,
-    members: &mut Map<String, Json>,
-    session: u32,
-    number: u64,
-) -> Result<(), AllocError>
+fn put_plain(alloc: Global, members: &mut Map<String, Json>, number: u64) -> Result<(), AllocError>
     requires { members_view members.old.entries ≡ no_members }
-    ensures { OnOk result (object (members_view members.new.entries) ≡ texts.plain_data number session) }
+    ensures { OnOk result (members_view members.new.entries ≡ texts.plain_members number) }
 {
-    put_number(alloc, members, "error", number)?;
-    put_number(alloc, members, "session", session as u64)
+    put_number(alloc, members, "error", number)
 }
 
 /// Adds the JSON members of the refusal that the role is neither the relation's owner nor `admin`.
 fn put_not_owner(
     alloc: Global,
     members: &mut Map<String, Json>,
-    session: u32,
     rel: &str,
 ) -> Result<(), AllocError>
     requires { members_view members.old.entries ≡ no_members }
-    ensures { OnOk result (object (members_view members.new.entries) ≡ texts.refused_data session (machine.not_owner rel.now)) }
+    ensures { OnOk result (members_view members.new.entries ≡ texts.refused_members (machine.not_owner rel.now)) }
 {
     put_number(alloc, members, "error", 12)?;
-    put_text(alloc, members, "on", rel)?;
-    put_number(alloc, members, "session", session as u64)
+    put_text(alloc, members, "on", rel)
 }
 
 /// Adds the JSON members of the refusal that the role lacks a privilege on a relation.
 fn put_missing(
     alloc: Global,
     members: &mut Map<String, Json>,
-    session: u32,
     privilege: Privilege,
     rel: &str,
 ) -> Result<(), AllocError>
     requires { members_view members.old.entries ≡ no_members }
-    ensures { OnOk result (object (members_view members.new.entries) ≡ texts.refused_data session (machine.missing_privilege privilege rel.now)) }
+    ensures { OnOk result (members_view members.new.entries ≡ texts.refused_members (machine.missing_privilege privilege rel.now)) }
 {
     put_number(alloc, members, "error", 13)?;
     put_text(alloc, members, "on", rel)?;
-    put_text(alloc, members, "privilege", privilege_text(privilege))?;
-    put_number(alloc, members, "session", session as u64)
+    put_text(alloc, members, "privilege", privilege_text(privilege))
 }
 
 /// Adds the JSON members of a refusal of an entry.
 fn put_entry_refused(
     alloc: Global,
     members: &mut Map<String, Json>,
-    session: u32,
     number: u64,
     entry: usize,
 ) -> Result<(), AllocError>
     requires { members_view members.old.entries ≡ no_members }
-    ensures { OnOk result (object (members_view members.new.entries) ≡ texts.entry_refused number session entry) }
+    ensures { OnOk result (members_view members.new.entries ≡ texts.entry_refused number entry) }
 {
     put_number(alloc, members, "entry", entry as u64)?;
-    put_number(alloc, members, "error", number)?;
-    put_number(alloc, members, "session", session as u64)
+    put_number(alloc, members, "error", number)
 }
 
 /// Adds the JSON members of the refusal that a text has a fault: its place and why.
 fn put_bad_query(
     alloc: Global,
     members: &mut Map<String, Json>,
-    session: u32,
     place: usize,
     why: Reason,
 ) -> Result<(), AllocError>
     requires { members_view members.old.entries ≡ no_members }
-    ensures { OnOk result (object (members_view members.new.entries) ≡ texts.refused_data session (machine.bad_query place (reason_of why))) }
+    ensures { OnOk result (members_view members.new.entries ≡ texts.refused_members (machine.bad_query place (reason_of why))) }
 {
     put_number(alloc, members, "error", 10)?;
     put_number(alloc, members, "place", place as u64)?;
-    put_number(alloc, members, "session", session as u64)?;
     put_text(alloc, members, "why", reason_text(why))
 }
 
@@ -184,68 +170,63 @@ fn put_bad_query(
 fn put_no_permissive(
     alloc: Global,
     members: &mut Map<String, Json>,
-    session: u32,
     rel: &str,
     check: Check,
     entry: usize,
 ) -> Result<(), AllocError>
     requires { members_view members.old.entries ≡ no_members }
-    ensures { OnOk result (object (members_view members.new.entries) ≡ texts.refused_data session (machine.no_permissive rel.now check entry)) }
+    ensures { OnOk result (members_view members.new.entries ≡ texts.refused_members (machine.no_permissive rel.now check entry)) }
 {
     put_text(alloc, members, "check", check_text(check))?;
     put_number(alloc, members, "entry", entry as u64)?;
     put_number(alloc, members, "error", 14)?;
-    put_text(alloc, members, "on", rel)?;
-    put_number(alloc, members, "session", session as u64)
+    put_text(alloc, members, "on", rel)
 }
 
 /// Adds the JSON members of the refusal that a restrictive policy does not let a row of an entry through.
 fn put_restrictive(
     alloc: Global,
     members: &mut Map<String, Json>,
-    session: u32,
     policy: &str,
     rel: &str,
     check: Check,
     entry: usize,
 ) -> Result<(), AllocError>
     requires { members_view members.old.entries ≡ no_members }
-    ensures { OnOk result (object (members_view members.new.entries) ≡ texts.refused_data session (machine.restrictive_failed policy.now rel.now check entry)) }
+    ensures { OnOk result (members_view members.new.entries ≡ texts.refused_members (machine.restrictive_failed policy.now rel.now check entry)) }
 {
     put_text(alloc, members, "check", check_text(check))?;
     put_number(alloc, members, "entry", entry as u64)?;
     put_number(alloc, members, "error", 15)?;
     put_text(alloc, members, "on", rel)?;
-    put_text(alloc, members, "policy", policy)?;
-    put_number(alloc, members, "session", session as u64)
+    put_text(alloc, members, "policy", policy)
 }
 
 /// Adds the members of a refusal, whichever it is, to a JSON object.
-fn put_refused(
+pub fn put_refused(
     alloc: Global,
     members: &mut Map<String, Json>,
-    session: u32,
     refusal: &Refusal,
 ) -> Result<(), AllocError>
     requires { members_view members.old.entries ≡ no_members }
-    ensures { OnOk result (object (members_view members.new.entries) ≡ texts.refused_data session (refusal_of refusal.now)) }
+    ensures { OnOk result (members_view members.new.entries ≡ texts.refused_members (refusal_of refusal.now)) }
 {
     match refusal {
-        Refusal::NoSession => put_plain(alloc, members, session, 3),
-        Refusal::SessionInUse => put_plain(alloc, members, session, 4),
-        Refusal::UnknownRole => put_plain(alloc, members, session, 5),
-        Refusal::NameTaken => put_plain(alloc, members, session, 6),
-        Refusal::UnknownRelation => put_plain(alloc, members, session, 7),
-        Refusal::NotATable => put_plain(alloc, members, session, 8),
-        Refusal::BadRow { entry } => put_entry_refused(alloc, members, session, 9, *entry),
-        Refusal::BadQuery { place, why } => put_bad_query(alloc, members, session, *place, *why),
-        Refusal::NotAdministrator => put_plain(alloc, members, session, 11),
-        Refusal::NotOwner { rel } => put_not_owner(alloc, members, session, rel.as_str()),
+        Refusal::NoSession => put_plain(alloc, members, 3),
+        Refusal::SessionInUse => put_plain(alloc, members, 4),
+        Refusal::UnknownRole => put_plain(alloc, members, 5),
+        Refusal::NameTaken => put_plain(alloc, members, 6),
+        Refusal::UnknownRelation => put_plain(alloc, members, 7),
+        Refusal::NotATable => put_plain(alloc, members, 8),
+        Refusal::BadRow { entry } => put_entry_refused(alloc, members, 9, *entry),
+        Refusal::BadQuery { place, why } => put_bad_query(alloc, members, *place, *why),
+        Refusal::NotAdministrator => put_plain(alloc, members, 11),
+        Refusal::NotOwner { rel } => put_not_owner(alloc, members, rel.as_str()),
         Refusal::MissingPrivilege { privilege, rel } => {
-            put_missing(alloc, members, session, *privilege, rel.as_str())
+            put_missing(alloc, members, *privilege, rel.as_str())
         }
         Refusal::NoPermissive { rel, check, entry } => {
-            put_no_permissive(alloc, members, session, rel.as_str(), *check, *entry)
+            put_no_permissive(alloc, members, rel.as_str(), *check, *entry)
         }
         Refusal::RestrictiveFailed {
             policy,
@@ -255,23 +236,22 @@ fn put_refused(
         } => put_restrictive(
             alloc,
             members,
-            session,
             policy.as_str(),
             rel.as_str(),
             *check,
             *entry,
         ),
-        Refusal::NoSuchRow { entry } => put_entry_refused(alloc, members, session, 16, *entry),
-        Refusal::Limit => put_plain(alloc, members, session, 17),
-        Refusal::UnknownPolicy => put_plain(alloc, members, session, 18),
-        Refusal::UnknownSubscription => put_plain(alloc, members, session, 19),
-        Refusal::TooMany => put_plain(alloc, members, session, 20),
-        Refusal::MembershipLoop => put_plain(alloc, members, session, 23),
+        Refusal::NoSuchRow { entry } => put_entry_refused(alloc, members, 16, *entry),
+        Refusal::Limit => put_plain(alloc, members, 17),
+        Refusal::UnknownPolicy => put_plain(alloc, members, 18),
+        Refusal::UnknownSubscription => put_plain(alloc, members, 19),
+        Refusal::TooMany => put_plain(alloc, members, 20),
+        Refusal::MembershipLoop => put_plain(alloc, members, 23),
     }
 }
 
 /// The compact JSON text of a refusal or a fault with these members, with a newline.
-fn text_of(alloc: Global, members: Map<String, Json>) -> Result<Vec<u8>, AllocError>
+pub fn text_of(alloc: Global, members: Map<String, Json>) -> Result<Vec<u8>, AllocError>
     ensures { IfOk result (λ text. has_float (object (members_view members.entries)) ≡ false → text.items ≡ text_of (object (members_view members.entries))) }
 {
     let value = Json::Object(members);
@@ -282,12 +262,26 @@ fn text_of(alloc: Global, members: Map<String, Json>) -> Result<Vec<u8>, AllocEr
     Ok(text)
 }
 
+/// Adds the members of a refusal, and the session, to a JSON object.
+fn put_reply(
+    alloc: Global,
+    members: &mut Map<String, Json>,
+    session: u32,
+    refusal: &Refusal,
+) -> Result<(), AllocError>
+    requires { members_view members.old.entries ≡ no_members }
+    ensures { OnOk result (object (members_view members.new.entries) ≡ texts.reply_data session (machine.refused (refusal_of refusal.now))) }
+{
+    put_refused(alloc, members, refusal)?;
+    put_number(alloc, members, "session", session as u64)
+}
+
 /// The text of a refusal, with its newline.
 pub fn write_refusal(alloc: Global, session: u32, refusal: &Refusal) -> Result<Vec<u8>, AllocError>
     ensures { IfOk result (λ text. text.items ≡ line_text (machine.reply session (machine.refused (refusal_of refusal.now)))) }
 {
     let mut members = Map::new(alloc);
-    match put_refused(alloc, &mut members, session, refusal) {
+    match put_reply(alloc, &mut members, session, refusal) {
         Ok(()) => text_of(alloc, members),
         Err(error) => {
             drop(members);

@@ -21,11 +21,11 @@ all_join P [] ys a b = b
 all_join P (x ∷ xs) ys a b = (a.0, all_join P xs ys a.1 b)
 
 pub none_served : (lines : ℕ) (s : State) (e : Engine) → IsBehind s e → HasServed lines 0 s e
-none_served lines s e b = record { commands = []; count = refl; most = tt; behind = b }
+none_served lines s e b = record { commands = []; count = refl; most = tt; given = tt; behind = b }
 
 -- a run, and then all is hung up
 pub one_served : (lines : ℕ) (s : State) (mid new : Engine) → HasRun lines s mid → ((t : State) → IsBehind t mid → IsBehind (hung t) new) → HasServed lines 1 s new
-one_served lines s mid new h f = record { commands = h.commands ∷ []; count = refl; most = (h.most, tt); behind = f (run s h.commands).state h.behind }
+one_served lines s mid new h f = record { commands = h.commands ∷ []; count = refl; most = (h.most, tt); given = (h.given, tt); behind = f (run s h.commands).state h.behind }
 
 pub more_served : (lines n m : ℕ) (s : State) (mid new : Engine) → HasServed lines n s mid → ((t : State) → IsBehind t mid → HasServed lines m t new) → HasServed lines (n + m) s new
 more_served lines n m s mid new h f =
@@ -34,6 +34,7 @@ more_served lines n m s mid new h f =
       commands = h.commands ++ last.commands;
       count = length-append h.commands last.commands ∙ (λ i. h.count i + last.count i);
       most = all_join _ h.commands last.commands h.most last.most;
+      given = all_join _ h.commands last.commands h.given last.given;
       behind = subst (λ (t : State). IsBehind t new) (served_behind s h.commands last.commands) last.behind;
     }
 

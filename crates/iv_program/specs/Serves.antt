@@ -1,9 +1,10 @@
 -- What connections do to the engine, and what serving them tells.
 use Rattle.std.specs.Prelude.{◌≡◌, ℕ, ◌≤◌, ◌<◌, Bool, true, false, List, [], ◌∷◌, length, Result, Ok, Err, ⊤}
-use Rattle.std.specs.List.{AllByRecursion}
+use Rattle.std.specs.List.{All, AllByRecursion}
 use Rattle.iv_machine.specs.Act.{Command}
 use Rattle.iv_machine.specs.Machine.{hung, run}
 use Rattle.iv_machine.specs.State.{Frame, State}
+use Rattle.iv_machine.specs.Stored.{IsGiven}
 use Rattle.iv_engine.specs.Engine.{Engine, IsBehind}
 use Rattle.iv_program.specs.declared.serving.ServeFault.{ServeFault}
 use Rattle.iv_program.specs.declared.serving.ServeFault.TheVariants.{Network, Memory, Failed}
@@ -13,12 +14,13 @@ abbrev pub served : State → List (List Command) → State
 served s [] = s
 served s (commands ∷ more) = served (hung (run s commands).state) more
 
--- so many connections were answered, each with no more commands than lines, and the machine's state then stands behind
--- the engine
+-- so many connections were answered, each with commands that lines may give, no more than lines, and the machine's state
+-- then stands behind the engine
 pub record HasServed (lines connections : ℕ) (before : State) (now : Engine) : Type 0 where
   pub commands : List (List Command)
   pub count : length commands ≡ connections
   pub most : AllByRecursion (λ cs. length cs ≤ lines) commands
+  pub given : AllByRecursion (All IsGiven) commands
   pub behind : IsBehind (served before commands) now
 
 -- all connections were answered, or as many as came before the network failed

@@ -1,11 +1,12 @@
 //! `answer_connection`: answers the lines of one connection, and hangs up.
 //!
-//! It is over any source and sink, so that its contract names what is read and what is written. Of a socket no contract
-//! does.
+//! It is over any reader and writer. Where these tell their bytes, its contract names what is read and what is written. A
+//! socket tells none.
 
 ghost use Rattle.std.specs.Prelude.{◌≡◌, ◌≤◌, ◌+◌, ◌*◌, ◌||◌, true, false, IsErrOf};
 ghost use Rattle.iv_machine.specs.State.{State};
 ghost use Rattle.iv_engine.specs.Engine.{IsBehind};
+ghost use Rattle.iv_engine.specs.Sound.{IsSoundEngine};
 ghost use Rattle.iv_lines.specs.Cut.{line_room};
 ghost use Rattle.iv_lines.specs.Moments.{ReadsAt};
 ghost use Rattle.iv_lines.specs.Reads.{is_memory, is_read, is_write};
@@ -41,6 +42,8 @@ pub fn answer_connection<R: Source, W: Sink>(
       now = engine.new;
     }) result }
     ensures served { (is_memory result ≡ false) → (s : State) → IsBehind s engine.old → HasServed lines 1 s engine.new }
+    // Where a sound state stood behind the engine, one does afterwards.
+    ensures sound { (is_memory result ≡ false) → IsSoundEngine engine.old → IsSoundEngine engine.new }
     ensures closed { (is_memory result ≡ false) → IsClosed engine.new.frame }
     ensures failed { engine.new.failed ≡ is_memory result }
     ensures fault { IsErrOf result RunFault.Failed → ⊥ }

@@ -18,6 +18,7 @@ ghost use Rattle.iv_rows.specs.RowLimit.{IsRowLimit};
 ghost use Rattle.iv_machine.specs.Reached.{AreNumbersUnique};
 ghost use Rattle.iv_machine.specs.State.{State};
 ghost use Rattle.iv_engine.specs.Engine.{IsBehind};
+ghost use Rattle.iv_engine.specs.Sound.{IsSoundEngine};
 ghost use Rattle.iv_program.specs.Does.{Listens};
 ghost use Rattle.iv_program.specs.Replays.{is_write};
 ghost use Rattle.iv_program.specs.Serves.{HasServed, IsClosed, Serves, is_memory};
@@ -55,6 +56,8 @@ pub fn serve_on(
     lines: u32,
 ) -> Result<(), ServeFault>
     ensures served { (s : State) → IsBehind s engine.old → Serves lines connections s engine.new result }
+    // Where a sound state stood behind the engine, one does afterwards.
+    ensures sound { (is_memory result ≡ false) → IsSoundEngine engine.old → IsSoundEngine engine.new }
     ensures closed { OnOk result (1 ≤ connections → IsClosed engine.new.frame) }
     ensures numbers { engine.new.failed ≡ false → AreNumbersUnique engine.new.frame }
     ensures failed { engine.new.failed ≡ (engine.old.failed || is_memory result) }

@@ -310,3 +310,7 @@ request_well d =
 -- the command that was read
 pub well_by : (d : Data) (c : machine.Command) → Some c ≡ request d → is_well_command c ≡ true
 well_by d c e = let P : Option machine.Command → Type 0 = λ o. IfSome o (λ k. is_well_command k ≡ true) in subst P (sym e) (request_well d)
+
+-- the act that was read
+pub act_by : (word : Word) (d : Data) (a : machine.Act) → Some a ≡ act_for word d → is_well_act a ≡ true
+act_by word d a e = let P : Option machine.Act → Type 0 = λ o. IfSome o IsWellAct in subst P (sym e) (act_well word d)

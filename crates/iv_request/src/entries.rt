@@ -132,7 +132,7 @@ fn does_at(value: &Json<'_>) -> &'static str
 }
 
 /// The entry of a write that a JSON value is.
-fn entry_of(alloc: Global, value: &Json<'_>) -> Result<Option<Entry>, AllocError>
+pub fn entry_of(alloc: Global, value: &Json<'_>) -> Result<Option<Entry>, AllocError>
     ensures { IfOk result (λ found. found ≡ entry_of (value_data value.now)) }
 {
     if !has_only(value, &["on"], &[does_at(value)], &["copies"]) {

@@ -34,8 +34,8 @@ pub enum Word {
 pub struct Form {
     pub word: Word,
     text: &'static str,
-    required: &'static [&'static str],
-    optional: &'static [&'static str],
+    pub required: &'static [&'static str],
+    pub optional: &'static [&'static str],
 }
 
 /// The forms: of writes first, since most requests are writes, and of the others in the order of docs/PROTOCOL.md.
@@ -158,7 +158,7 @@ fn is_among(keys: &[&str], key: &str) -> bool
 
 /// Whether a key is in one of three lists of keys, of those that a request or an entry may have.
 #[tactic(auto, using(crate::proofs::Keys::in_three))]
-fn is_in(first: &[&str], second: &[&str], third: &[&str], key: &str) -> bool
+pub fn is_in(first: &[&str], second: &[&str], third: &[&str], key: &str) -> bool
     ensures { result ≡ is_among (keys_seen first.now ++ (keys_seen second.now ++ keys_seen third.now)) key.now }
 {
     is_among(first, key) || is_among(second, key) || is_among(third, key)

@@ -56,7 +56,7 @@ fn privileges_of(alloc: Global, items: &[Json<'_>]) -> Result<Option<Vec<Privile
 }
 
 /// The 1 to 4 privileges of a grant or a revoke, from a JSON value.
-fn privileges_at(alloc: Global, value: &Json<'_>) -> Result<Option<Vec<Privilege>>, AllocError>
+pub fn privileges_at(alloc: Global, value: &Json<'_>) -> Result<Option<Vec<Privilege>>, AllocError>
     ensures { IfOk result (λ found. option_map (λ v. v.items) found ≡ privileges_at (value_data value.now)) }
 {
     match items_at(value, "privileges") {
@@ -88,7 +88,7 @@ pub fn grantee_named(alloc: Global, word: &str) -> Result<Option<Option<String>>
 }
 
 /// The grantee of a grant or a revoke, from a JSON value: a role, or none where it is PUBLIC.
-fn grantee_at(alloc: Global, value: &Json<'_>) -> Result<Option<Option<String>>, AllocError>
+pub fn grantee_at(alloc: Global, value: &Json<'_>) -> Result<Option<Option<String>>, AllocError>
     ensures { IfOk result (λ found. option_map (λ to. option_map string_bytes to) found ≡ grantee_at (value_data value.now)) }
 {
     match text_at(value, "to") {

@@ -20,7 +20,7 @@ fn is_group(name: &str) -> bool
 }
 
 /// The name at a key of the role that a request grants or revokes, in memory of its own.
-fn group_at(alloc: Global, value: &Json<'_>, key: &str) -> Result<Option<String>, AllocError>
+pub fn group_at(alloc: Global, value: &Json<'_>, key: &str) -> Result<Option<String>, AllocError>
     ensures { IfOk result (λ found. option_map string_bytes found ≡ group_at key.now (value_data value.now)) }
 {
     match text_at(value, key) {

@@ -62,7 +62,7 @@ fn policy_command_of(value: &Json<'_>) -> Option<PolicyCommand>
 }
 
 /// What the policy of a request is for, from a JSON value: all where it does not say it.
-fn command_at(value: &Json<'_>) -> Option<PolicyCommand>
+pub fn command_at(value: &Json<'_>) -> Option<PolicyCommand>
     ensures { result ≡ policy_command_at (value_data value.now) }
 {
     match get(value, "command") {
@@ -72,7 +72,7 @@ fn command_at(value: &Json<'_>) -> Option<PolicyCommand>
 }
 
 /// Whether the policy of a request is restrictive, from a JSON value: not where it does not say it.
-fn restrictive_at(value: &Json<'_>) -> Option<bool>
+pub fn restrictive_at(value: &Json<'_>) -> Option<bool>
     ensures { result ≡ restrictive_at (value_data value.now) }
 {
     match get(value, "restrictive") {
@@ -137,7 +137,10 @@ fn everyone(alloc: Global) -> Result<Vec<Option<String>>, AllocError>
 }
 
 /// The grantees of the policy of a request, from a JSON value: PUBLIC where it names none.
-fn grantees_at(alloc: Global, value: &Json<'_>) -> Result<Option<Vec<Option<String>>>, AllocError>
+pub fn grantees_at(
+    alloc: Global,
+    value: &Json<'_>,
+) -> Result<Option<Vec<Option<String>>>, AllocError>
     ensures { IfOk result (λ found. option_map names_of found ≡ grantees_at (value_data value.now)) }
 {
     match get(value, "to") {
@@ -184,7 +187,7 @@ fn scope_at(alloc: Global, value: &Json<'_>) -> Result<Option<Scope>, AllocError
 }
 
 /// The text of a policy at a key of a JSON value, none where the key is not there.
-fn text_if_at(
+pub fn text_if_at(
     alloc: Global,
     value: &Json<'_>,
     key: &str,

@@ -1,7 +1,7 @@
 //! `command_in`: from a line to its command, by the shape rules: which request a JSON value is; `WireFault`: why there is none.
-ghost use Rattle.std.specs.Prelude.{◌≡◌, IfOk, IsErrOf, option_map, true};
+ghost use Rattle.std.specs.Prelude.{◌≡◌, IfOk, IfSome, IsErrOf, option_map, true};
 ghost use Rattle.iv_machine.specs.Stored.{IsGiven};
-ghost use Rattle.iv_machine.specs.Well.{is_well_command};
+ghost use Rattle.iv_machine.specs.Well.{is_well_act, is_well_command};
 ghost use Rattle.iv_command.specs.Views.{act_of, command_of};
 ghost use Rattle.iv_request.specs.Request.{session_of, begin_of, create_role_of, create_table_of, create_view_of, write_of, subscribe_of, unsubscribe_of, act_for, asked_act, request};
 ghost use Rattle.iv_request.specs.Documents.{value_data};
@@ -170,6 +170,18 @@ fn act_for(alloc: Global, word: Word, value: &Json<'_>) -> Result<Option<Act>, A
     }
 }
 
+/// The request of this word that a JSON value is, whichever further keys it has.
+///
+/// # Errors
+/// `AllocError` where a growth of memory was refused.
+pub fn act_of_word(alloc: Global, word: Word, value: &Json<'_>) -> Result<Option<Act>, AllocError>
+    ensures act { IfOk result (λ act. option_map act_of act ≡ act_for word (value_data value.now)) }
+    ensures well { IfOk result (λ act. IfSome act (λ a. is_well_act (act_of a) ≡ true)) }
+{
+    let act = act_for(alloc, word, value)?;
+    Ok(act)
+}
+
 /// Which request a JSON value is, by its word at `do` and its keys.
 fn asked_act(alloc: Global, value: &Json<'_>) -> Result<Option<Act>, AllocError>
     ensures { IfOk result (λ act. option_map act_of act ≡ asked_act (value_data value.now)) }
@@ -200,7 +212,7 @@ fn request_of(alloc: Global, value: &Json<'_>) -> Result<Option<Command>, AllocE
 }
 
 /// The JSON value that a line is, from which its command is made. A line that is no UTF-8 is none.
-fn read_value<'a>(
+pub fn read_value<'a>(
     alloc: Global,
     line: &'a [u8],
     scratch: &'a mut Scratch,

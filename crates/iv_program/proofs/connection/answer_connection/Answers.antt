@@ -15,6 +15,9 @@ returns-clause-served g c = λ m s b. one_served c.args.lines s c.run-ended.new.
     (c.run-ended.ensures.ran m s b)
     (c.hang_up.ensures.hung (second _ _ _ c.run-ended.ensures.failed c.requires ∙ m))
 
+pub returns-clause-sound : goal.returns-clause-sound
+returns-clause-sound g c = λ m h. c.hang_up.ensures.sound (c.run-ended.ensures.sound m h)
+
 pub returns-clause-closed : goal.returns-clause-closed
 returns-clause-closed g c = λ m. closed_by c.run-ended.new.engine _ (c.hang_up.ensures.closed (second _ _ _ c.run-ended.ensures.failed c.requires ∙ m))
 

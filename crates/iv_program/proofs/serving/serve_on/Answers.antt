@@ -8,6 +8,7 @@ loop-preserved c =
     let works = sym c.is_failed-in-loop.ensures.failed ∙ c.if-is_failed-2.false in
     let kept = sym one.failed ∙ works in record {
       served = λ s b. more_served c.args.lines c.loop.counter 1 s c.loop.engine _ (c.loop.invariant.served s b) (one.served kept);
+      sound = λ h. one.sound kept (c.loop.invariant.sound h);
       closed = λ _. one.closed kept;
       numbers = closed_numbers _ (one.closed kept);
       failed = works;

@@ -1,0 +1,74 @@
+-- What a client is told, and its text: compact JSON with keys in the order of their bytes, and a newline.
+use Rattle.std.specs.Prelude.{ℕ, ℤ, true, List, map, codes, Option, Some, None}
+use Rattle.iv_rows.specs.Cell.{Cell}
+use Rattle.iv_rows.specs.Columns.{Column}
+use Rattle.iv_access.specs.Rights.{Name}
+use Rattle.iv_machine.specs.Act.{Reply}
+use Rattle.iv_machine.specs.declared.Cause.{Cause}
+use Rattle.serde_json.specs.Data.{Data, string, boolean, array, object, Members, no_members, member, put}
+use Rattle.serde_json.specs.View.{items_of}
+use Rattle.iv_command.specs.RowTexts.{rows_data}
+use Rattle.iv_request.specs.Asked.{column_data}
+use Rattle.iv_request.specs.Values.{natural}
+use Rattle.iv_lines.specs.Texts.{cause_text, fault_data, reply_members, text_of}
+use Rattle.iv_message.specs.Message.{Why, missing, unknown, wrong}
+
+-- `own` is the client's own number of a subscription, and `rel` the relation that it asked for
+pub data Told : Type 0 where
+  welcome : (role : Name) → Told
+  replied : (id : Option Data) → Reply → Told
+  opened : (id : Option Data) → (own : ℕ) → List Column → Told
+  fault : (number : ℕ) → Told
+  unasked : (id : Option Data) → Why → Told
+  changed : (own : ℕ) → (rows : List (List Cell × ℤ)) → Told
+  over : (own : ℕ) → (rel : Name) → Cause → (rows : List (List Cell × ℤ)) → Told
+  settled : Told
+  granted : (rel : Name) → Told
+  alive : Told
+
+-- the id that the client gave comes in, in the order of keys
+abbrev pub with_id : Option Data → Members → Data
+with_id None ms = object ms
+with_id (Some id) ms = object (put (codes "id") id ms)
+
+abbrev pub opened_members : ℕ → List Column → Members
+opened_members own columns =
+    member (codes "columns") (array (items_of (map column_data columns)))
+    (member (codes "ok") (boolean true)
+    (member (codes "sub") (natural own) no_members))
+
+-- refusal 2, with the word for its reason
+abbrev pub reason_members : List ℕ → List ℕ → Members
+reason_members word key = member (codes "error") (natural 2) (member (codes "key") (string key) (member (codes "why") (string word) no_members))
+
+abbrev pub why_members : Why → Members
+why_members (missing key) = reason_members (codes "missing") key
+why_members (unknown key) = reason_members (codes "unknown") key
+why_members (wrong key None) = reason_members (codes "wrong") key
+why_members (wrong key (Some entry)) = member (codes "entry") (natural entry) (reason_members (codes "wrong") key)
+
+abbrev pub changed_data : ℕ → List (List Cell × ℤ) → Data
+changed_data own rows = object (member (codes "changes") (rows_data rows) (member (codes "sub") (natural own) no_members))
+
+abbrev pub over_data : ℕ → Name → Cause → List (List Cell × ℤ) → Data
+over_data own rel cause rows = object (
+    member (codes "changes") (rows_data rows)
+    (member (codes "ended") (string (cause_text cause))
+    (member (codes "on") (string rel)
+    (member (codes "sub") (natural own) no_members))))
+
+-- a reply is viewd's, but for the session
+abbrev pub told_data : Told → Data
+told_data (welcome role) = object (member (codes "role") (string role) no_members)
+told_data (replied id r) = with_id id (reply_members r)
+told_data (opened id own columns) = with_id id (opened_members own columns)
+told_data (fault number) = fault_data number
+told_data (unasked id why) = with_id id (why_members why)
+told_data (changed own rows) = changed_data own rows
+told_data (over own rel cause rows) = over_data own rel cause rows
+told_data settled = object (member (codes "settled") (boolean true) no_members)
+told_data (granted rel) = object (member (codes "granted") (string rel) no_members)
+told_data alive = object (member (codes "alive") (boolean true) no_members)
+
+abbrev pub told_text : Told → List ℕ
+told_text t = text_of (told_data t)

@@ -1,0 +1,145 @@
+"""PostgreSQL's types as viewd carries them: each in one of its three kinds, in one canonical form.
+
+Equality of the canonical forms is equality in PostgreSQL, for every kind here. Order is so for those that say it (`ordered`); for
+texts it is a matter of their collation. A canonical form is what PostgreSQL prints with DateStyle ISO and TimeZone UTC; a
+numeric is without the zeros behind, since 1.0 = 1.00.
+"""
+import re
+from collections.abc import Callable
+from decimal import Decimal, InvalidOperation
+from typing import NamedTuple
+
+from pglast import keywords
+
+from predicate import TEXT, Refused, quoted
+
+WORDS = frozenset("""all and as between by case cast count cross current_user distinct except exists false fetch for from full group having in
+inner intersect is join left like limit natural not null offset on or order outer public right select sum true union using where window
+with""".split())
+NAME = re.compile("[a-z_][a-z0-9_]{0,62}")
+LEAST, MOST = -(1 << 63), (1 << 63) - 1
+BYTEWISE = ("C", "POSIX", "ucs_basic")  # collations that order texts by their bytes
+EMPTY: dict[str, int | str | bool] = {"int": 0, "text": "", "flag": False}  # stands where a value is NULL
+YEARS = "of the years 1 to 9999"
+DAY = "[0-9]{4}-[0-9]{2}-[0-9]{2}"
+TIME = "[0-9]{2}:[0-9]{2}:[0-9]{2}([.][0-9]{1,6})?"
+
+
+class Kind(NamedTuple):
+    """Two types of one family are compared by viewd as they are."""
+
+    family: str
+    viewd: str = "text"  # its kind: int, text or flag
+    ordered: bool = True  # viewd orders it as PostgreSQL does; texts by their collation
+    size: int = 0  # bytes of a number
+    labels: tuple[str, ...] = ()  # of an enum, in its order
+
+
+KINDS = {
+    "smallint": Kind("int", "int", size=2), "integer": Kind("int", "int", size=4), "bigint": Kind("int", "int", size=8),
+    "text": Kind("text"), "character varying": Kind("text"), "boolean": Kind("bool", "flag"), "uuid": Kind("uuid"),
+    "date": Kind("date"), "timestamp without time zone": Kind("timestamp"), "timestamp with time zone": Kind("timestamptz"),
+    "numeric": Kind("numeric", ordered=False)}
+CASTS = {  # as the parser calls them
+    "int2": KINDS["smallint"], "int4": KINDS["integer"], "int8": KINDS["bigint"], "text": KINDS["text"], "varchar": KINDS["text"],
+    "bool": KINDS["boolean"], "uuid": KINDS["uuid"], "date": KINDS["date"], "timestamp": KINDS["timestamp without time zone"],
+    "timestamptz": KINDS["timestamp with time zone"], "numeric": KINDS["numeric"]}
+SUM = Kind("sum", "int")  # of bigint: a numeric in PostgreSQL and a number in viewd, so it is compared with nothing else
+
+
+class Column(NamedTuple):
+    """A column that viewd holds; where it may be NULL, as two: this one and NAME_null."""
+
+    kind: Kind
+    nullable: bool = False
+    collation: str = ""  # another one than the database's
+
+
+def name_ok(name: str) -> bool:
+    return bool(NAME.fullmatch(name)) and name not in WORDS
+
+
+def identifier(name: str) -> str:
+    """A name as SQL writes it."""
+    words = keywords.RESERVED_KEYWORDS | keywords.TYPE_FUNC_NAME_KEYWORDS | keywords.COL_NAME_KEYWORDS
+    return name if NAME.fullmatch(name) and name not in words else '"' + name.replace('"', '""') + '"'
+
+
+def enum(name: str, labels: list[str]) -> Kind:
+    """Its order is that of its labels; viewd's is that of their bytes."""
+    return Kind(name, ordered=[it.encode() for it in labels] == sorted(it.encode() for it in labels), labels=tuple(labels))
+
+
+def decimal(text: str) -> str:
+    """A numeric without the zeros behind."""
+    if text in ("NaN", "Infinity", "-Infinity"):
+        return text
+    try:
+        plain = format(Decimal(text), "f")
+    except InvalidOperation:
+        raise Refused(f"the number {text}") from None
+    if "." in plain:
+        plain = plain.rstrip("0").rstrip(".")
+    return "0" if plain == "-0" else plain
+
+
+def date(text: str) -> str:
+    return held(text, DAY, f"the date {text}: viewd can hold those {YEARS}")
+
+
+def timestamp(text: str) -> str:
+    return held(text, f"{DAY} {TIME}", f"the timestamp {text}: viewd can hold those {YEARS}")
+
+
+def timestamptz(text: str) -> str:
+    return held(text, f"{DAY} {TIME}[+]00", f"the timestamp {text}: viewd can hold those {YEARS}")
+
+
+def held(text: str, form: str, fault: str) -> str:
+    if not re.fullmatch(f"{form}|-?infinity", text):
+        raise Refused(fault)
+    return text
+
+
+def uuid(text: str) -> str:
+    if not re.fullmatch("[0-9a-f]{8}(-[0-9a-f]{4}){3}-[0-9a-f]{12}", text):
+        raise Refused(f"the uuid {text}")
+    return text
+
+
+CANONICAL: dict[str, Callable[[str], str]] = {"numeric": decimal, "date": date, "timestamp": timestamp, "timestamptz": timestamptz, "uuid": uuid}
+
+
+def canonical(kind: Kind, text: str) -> str:
+    """A text that PostgreSQL prints for a value of the kind, in its canonical form. Raises Refused where viewd cannot hold it."""
+    if kind.labels and text not in kind.labels:
+        raise Refused(f"{kind.family} has no {text}")
+    form = CANONICAL.get(kind.family, str)(text)
+    if len(form.encode()) > TEXT:
+        raise Refused(f"a text of more than {TEXT:,} bytes")
+    return form
+
+
+def constant(kind: Kind, text: str) -> str:
+    """A constant as viewd writes it."""
+    match kind.viewd:
+        case "int":
+            if not re.fullmatch("-?[0-9]+", text) or not LEAST <= int(text) <= MOST:
+                raise Refused(f"the number {text}")
+            return str(int(text))
+        case "flag":
+            if text not in ("t", "f", "true", "false"):
+                raise Refused(f"the boolean {text}")
+            return "true" if text[0] == "t" else "false"
+    return quoted(canonical(kind, text))
+
+
+def value(kind: Kind, found: object) -> int | str | bool:
+    """A value of viewd's. Raises Refused where it cannot hold it."""
+    if found is None:
+        return EMPTY[kind.viewd]
+    if isinstance(found, str):
+        return canonical(kind, found)
+    if isinstance(found, int):  # and True and False
+        return found
+    raise TypeError(f"{found!r} was read for {kind.family}")

@@ -1,0 +1,60 @@
+"""What has to be said in PostgreSQL before it can be followed, and a configuration to begin with."""
+from kinds import identifier
+from settings import Settings
+from state import State
+
+
+def missing(state: State, settings: Settings) -> list[str]:
+    """Statements for the database's administrator, in an order in which they can be run."""
+    server = state.catalog.server
+    found: list[str] = []
+    if server.wal_level != "logical":
+        found.append("ALTER SYSTEM SET wal_level = logical;  -- and start PostgreSQL again")
+    if not server.replication:
+        found.append(f"ALTER ROLE {identifier(server.user)} REPLICATION;")
+    for it in state.made.values():
+        found += [sql for sql in it.sql if sql not in found]
+    tables = [state.catalog.relations[oid] for oid, it in state.made.items() if it.request and it.request["do"] == "create_table"]
+    found += [f"ALTER TABLE {it.sql} REPLICA IDENTITY FULL;" for it in tables if it.identity != "f"]
+    absent = [it.sql for it in tables if not it.published]
+    if absent and not server.publication:
+        return [*found, f"CREATE PUBLICATION {identifier(settings.publication)} FOR TABLE {', '.join(absent)};"]
+    return found + [f"ALTER PUBLICATION {identifier(settings.publication)} ADD TABLE {it};  -- where it is there in part, DROP TABLE it first" for it in absent]
+
+
+def text(value: str) -> str:
+    """A text of TOML."""
+    return '"' + "".join(f"\\u{ord(it):04x}" if ord(it) < 32 or it in '"\\\x7f' else it for it in value) + '"'
+
+
+def configuration(state: State, settings: Settings) -> str:
+    """A file for what is in the database, with what viewd cannot have behind a `#`."""
+    lines = ["# What viewd follows of a PostgreSQL: docs/POSTGRESQL.md", "", "[postgres]", f"dsn = {text(settings.dsn)}",
+             f"slot = {text(settings.slot)}", f"publication = {text(settings.publication)}", "", "[relations]  # viewd's name = PostgreSQL's"]
+    for oid, it in state.made.items():
+        fault = "; ".join(it.faults).replace("\n", " ")
+        rel = state.catalog.relations.get(oid)
+        if rel is not None:
+            lines.append(f"{it.name} = {text(rel.sql)}" if not fault else f"# {it.name} = {text(rel.sql)}: {fault}")
+    lines += ["", "# [columns]  # of those of which not all are followed", '# tickets = ["id", "agent"]', "",
+              "# [users]  # who are no roles: a session has the role, and the calls answer who it is", '# role = "app"',
+              """# calls = ["current_setting('app.user')"]""", '# names = ["ann", "bob"]']
+    return "\n".join(lines) + "\n"
+
+
+def told(state: State, settings: Settings) -> tuple[str, bool]:
+    """The report of `check`, and whether all can be followed as it is."""
+    held = [it for it in state.made.values() if it.request]
+    lines = [f"PostgreSQL {state.catalog.server.version // 10_000}, as {state.catalog.server.user}"]
+    lines += ["", "would be followed:"] if held else ["", "nothing would be followed"]
+    for it in held:
+        kind = f"a table of {it.rows.total():,} rows" if it.request and it.request["do"] == "create_table" else "a view"
+        null = [name for name, column in it.columns.items() if column.nullable]
+        lines.append(f"  {it.name}: {kind}" + (f"; may be NULL, and is two: {', '.join(null)}" if null else ""))
+    left = list(state.left_out())
+    lines += ["", "would be left out:", *(f"  {name}: {why}" for name, why in left)] if left else []
+    late = [(it.name, why) for it in held for why in it.missing]
+    lines += ["", "cannot be followed yet:", *(f"  {name}: {why}" for name, why in late)] if late else []
+    sql = missing(state, settings)
+    lines += ["", "to say in PostgreSQL:", *(f"  {it}" for it in sql)] if sql else []
+    return "\n".join(lines) + "\n", bool(held) and state.is_whole() and not (late or sql)

@@ -1,0 +1,106 @@
+"""The command line of viewd-postgresql."""
+import argparse
+import os
+import pathlib
+import sys
+
+import psycopg2
+
+import prepare
+from catalog import connect
+from settings import Settings, Wrong, read
+from state import State, Unsayable, line, state
+
+GOOD, LEFT_OUT, WRONG, UNREACHED = 0, 1, 2, 3  # exit statuses
+ROWS, LEAST, MOST = 65_536, 1_024, 1_048_576
+EPILOG = """examples:
+  viewd-postgresql check "host=127.0.0.1 dbname=desk user=viewd"
+      what viewd could have of the database, what not and why, and the SQL that is missing
+  viewd-postgresql init "host=127.0.0.1 dbname=desk user=viewd" viewd.toml
+      writes a configuration with all relations that it could have
+  viewd-postgresql show "host=127.0.0.1 dbname=desk user=viewd" viewd.toml | ./viewd replay
+      tells a viewd all of it, as it is now
+
+exit status: 0 if all is well; 1 if something is left out or missing (its words are on standard output, or for show and init
+on standard error); 2 if the words or the configuration are wrong; 3 if PostgreSQL cannot be reached or refuses.
+
+docs/POSTGRESQL.md says what becomes what, and what is refused.
+"""
+
+
+def arguments(words: list[str]) -> argparse.Namespace:
+    parser = argparse.ArgumentParser(prog="viewd-postgresql", description="viewd beside a PostgreSQL that stays as it is.", epilog=EPILOG,
+                                     formatter_class=argparse.RawDescriptionHelpFormatter)
+    commands = parser.add_subparsers(dest="command", required=True, metavar="check|init|show")
+    for name, what in (("check", "say what viewd could have of a database, and what is missing"), ("show", "print the requests that tell a viewd all of it"),
+                       ("init", "write a configuration")):
+        one = commands.add_parser(name, help=what, description=what)
+        one.add_argument("dsn", metavar="DSN", help="which database, as libpq says it; \"\" for the one of the configuration")
+        file = "where it is written, standard output if left out" if name == "init" else "the configuration, a file of TOML; all relations if left out"
+        one.add_argument("config", metavar="CONFIG", nargs="?", type=pathlib.Path, help=file)
+        one.add_argument("--rows", type=int, default=ROWS, help=f"different rows of a table, as for viewd: {LEAST:,} to {MOST:,}, {ROWS:,} if left out")
+    given = parser.parse_args(words)
+    if not LEAST <= given.rows <= MOST:
+        parser.error(f"--rows is {LEAST:,} to {MOST:,}")
+    return given
+
+
+def show(found: State) -> int:
+    for request in found.requests():
+        print(line(request))
+    for name, why in found.left_out():
+        print(f"viewd-postgresql: {name} is left out: {why}", file=sys.stderr)
+    return GOOD if found.is_whole() else LEFT_OUT
+
+
+def init(found: State, settings: Settings, path: pathlib.Path | None) -> int:
+    text = prepare.configuration(found, settings)
+    if path is None:
+        print(text, end="")
+    else:
+        with path.open("x", encoding="utf-8") as file:  # a DSN may have a password
+            os.fchmod(file.fileno(), 0o600)
+            file.write(text)
+    left = [it.name for it in found.made.values() if it.faults]
+    if left:
+        print(f"viewd-postgresql: left out: {', '.join(left)}; check says why", file=sys.stderr)
+    return LEFT_OUT if left else GOOD
+
+
+def run(given: argparse.Namespace) -> int:
+    settings = read(given.config, given.dsn) if given.config and given.command != "init" else Settings(given.dsn)
+    connection = connect(settings.dsn)
+    try:
+        found = state(connection, settings, given.rows)
+    finally:
+        connection.close()
+    if given.command == "show":
+        return show(found)
+    if given.command == "init":
+        return init(found, settings, given.config)
+    report, good = prepare.told(found, settings)
+    print(report, end="")
+    return GOOD if good else LEFT_OUT
+
+
+def main(words: list[str]) -> int:
+    try:
+        status = run(arguments(words))
+        sys.stdout.flush()
+        return status
+    except BrokenPipeError:
+        os.dup2(os.open(os.devnull, os.O_WRONLY), sys.stdout.fileno())
+        return WRONG
+    except Unsayable as why:
+        print(f"viewd-postgresql: {why}", file=sys.stderr)
+        return LEFT_OUT
+    except (Wrong, OSError) as why:
+        print(f"viewd-postgresql: {why}", file=sys.stderr)
+        return WRONG
+    except psycopg2.Error as why:
+        print(f"viewd-postgresql: PostgreSQL: {str(why).strip()}", file=sys.stderr)
+        return UNREACHED
+
+
+if __name__ == "__main__":
+    sys.exit(main(sys.argv[1:]))

@@ -1,0 +1,111 @@
+"""All that viewd is told of a database at one moment: relations with their rows, and rights."""
+import dataclasses
+import json
+from collections.abc import Iterator
+
+from catalog import RELATIONS, Catalog, Connection, asked, read
+from predicate import Refused
+from relations import Made, Request, close, tables, views, words_of
+from rights import NOT_BOUND, ROLES, Rights, guarded, rights
+from rows import hold, writes
+from settings import Settings, Users, Wrong
+
+ANSWERS = """select distinct format_type(p.prorettype, null) from pg_proc p join pg_namespace n on n.oid = p.pronamespace
+             where n.nspname || '.' || p.proname = %(name)s"""
+
+
+class Unsayable(Exception):
+    """Nothing of the database can be said in viewd's words. The text says why."""
+
+
+@dataclasses.dataclass
+class State:
+    catalog: Catalog
+    made: dict[int, Made]
+    rights: Rights
+
+    def left_out(self) -> Iterator[tuple[str, str]]:
+        """What viewd will not have, and why."""
+        for it in self.made.values():
+            if it.request is None:
+                yield it.name, "; ".join(it.faults)
+        yield from self.rights.left_out.items()
+
+    def is_whole(self) -> bool:
+        """Nothing is left out but roles that no policy binds, of which each database has one."""
+        return all(why == NOT_BOUND for _, why in self.left_out())
+
+    def requests(self) -> Iterator[Request]:
+        """Those that bring an empty viewd here, of a session of admin. Policies stand before rows: no reader is shown more for a moment."""
+        yield {"do": "begin", "role": "admin"}
+        yield from ({"do": "create_role", "name": it} for it in self.rights.roles)
+        yield from ({"do": "grant_role", "role": role, "to": to} for role, to in self.rights.members)
+        held = [it for it in self.made.values() if it.request]
+        yield from (it.request for it in held if it.request)
+        for it in held:
+            yield from it.guards
+        for it in held:
+            yield from writes(it)
+        yield from self.rights.grants
+
+
+def named(connection: Connection, settings: Settings) -> dict[int, str]:
+    """viewd's names of relations, by oid. Raises Wrong where one that is named is not there, or two are one."""
+    found: list[tuple[int, str]] = []
+    if settings.relations is None:
+        there = asked(connection, RELATIONS)
+        often = [it[2] for it in there]
+        found = [(oid, name if often.count(name) == 1 else f"{schema}_{name}") for oid, schema, name, _ in there]
+    for name, text in (settings.relations or {}).items():
+        oid = asked(connection, "select to_regclass(%(text)s)::oid::bigint", {"text": text})[0][0]
+        if oid is None:
+            raise Wrong(f"[relations] {name}: there is no relation {text}")
+        found.append((oid, name))
+    for place, one in enumerate(("oid", "name")):
+        if len({it[place] for it in found}) < len(found):
+            raise Wrong(f"two relations have one {one}: name them in [relations]")
+    if unknown := set(settings.columns) - {name for _, name in found}:
+        raise Wrong(f"[columns] {min(unknown)}: there is no such relation")
+    return dict(found)
+
+
+def check_calls(connection: Connection, users: Users) -> None:
+    """viewd's users are texts, and so is what tells who the user is. Raises Wrong."""
+    for call in users.calls:
+        name = call.split("(")[0]
+        of = name if "." in name else f"pg_catalog.{name}"
+        kinds = {str(it[0]) for it in asked(connection, ANSWERS, {"name": of})}
+        if not kinds <= {"text", "character varying", "name"} or not kinds:
+            raise Wrong(f"[users] {call} answers {', '.join(sorted(kinds)) or 'nothing: there is no such function'}; viewd's users are texts")
+
+
+def state(connection: Connection, settings: Settings, most: int) -> State:
+    """Raises Wrong, Unsayable, psycopg2.Error."""
+    check_calls(connection, settings.users)
+    names = named(connection, settings)
+    catalog = read(connection, list(names), settings.publication)
+    if catalog.server.encoding != "UTF8":
+        raise Unsayable(f"the database's encoding is {catalog.server.encoding}: viewd orders texts by the bytes of UTF8")
+    if catalog.tampered:
+        raise Unsayable("the database has operators of its own in pg_catalog, which are printed as PostgreSQL's")
+    if of_views := [name for oid, name in names.items() if name in settings.columns and oid in catalog.relations and catalog.relations[oid].kind != "r"]:
+        raise Wrong(f"[columns] {of_views[0]}: it is no table")
+    words = words_of(catalog, settings.users.calls)
+    made = tables(catalog, names, settings.columns)
+    for oid, it in made.items():
+        if it.request:
+            it.guards = guarded(catalog, catalog.relations[oid], it, words)
+        if it.request:
+            try:
+                hold(connection, catalog.relations[oid], it, most)
+            except Refused as why:
+                close(it, str(why))
+    made = views(catalog, made, words)
+    found = State(catalog, made, rights(catalog, made, settings.users))
+    if len(found.rights.roles) > ROLES:
+        raise Unsayable(f"{len(found.rights.roles)} roles: viewd can have {ROLES}")
+    return found
+
+
+def line(request: Request) -> str:
+    return json.dumps({"session": 1} | request, ensure_ascii=False, separators=(",", ":"))
