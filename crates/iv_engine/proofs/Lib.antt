@@ -8,3 +8,4 @@ mod Guarding
 mod Numbering
 pub mod Sounding
 pub mod Enrolled
+mod Knowing

@@ -46,7 +46,7 @@ impl From<AllocError> for EngineFault {
 /// access machine does, and after a refused growth of memory none any more.
 #[derive(Drop)]
 pub struct Engine {
-    store: Store,
+    pub(crate) store: Store,
     failed: bool,
 }
 

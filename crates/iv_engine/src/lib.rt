@@ -2,6 +2,7 @@
 #![tactic(auto)]
 
 mod engine;
+mod known;
 mod memberships;
 mod policies;
 mod privileges;

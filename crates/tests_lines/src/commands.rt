@@ -46,7 +46,7 @@ pub fn fault_of(engine: &mut Engine, command: Command) -> Option<EngineFault> {
 }
 
 /// What an engine answers to the command of a line; none where it is no command or memory was refused.
-fn told(alloc: Global, engine: &mut Engine, line: &str) -> Option<Vec<Line>> {
+pub fn told(alloc: Global, engine: &mut Engine, line: &str) -> Option<Vec<Line>> {
     match read_line(alloc, line.as_bytes()) {
         Ok(command) => engine.apply(command).ok(),
         Err(_) => None,

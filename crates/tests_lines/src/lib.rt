@@ -10,6 +10,8 @@ mod failing;
 #[cfg(test)]
 mod failing_once;
 #[cfg(test)]
+mod known;
+#[cfg(test)]
 mod messages;
 #[cfg(test)]
 mod refused;
