@@ -1,0 +1,4 @@
+pub mod Socket
+pub mod Hearing
+pub mod Lives
+pub mod Reading
