@@ -7,3 +7,4 @@ pub mod OfCopies
 pub mod Counts
 pub mod Shapes
 pub mod OfLearning
+pub mod OfSoundness

@@ -12,12 +12,16 @@ ghost use Rattle.tests_machine.specs.OfGrants as grants;
 ghost use Rattle.tests_machine.specs.OfLearning.{RowsAreNews, SubscriptionsAreNews, WithoutAnswer, WithoutBefore, WithoutFrame, WithoutLater};
 ghost use Rattle.tests_machine.specs.OfPolicies as policies;
 ghost use Rattle.tests_machine.specs.OfRoles as roles;
+ghost use Rattle.tests_machine.specs.OfSoundness.{UnsoundIsLoud, UnsoundLeaves, UnsoundOrder, UnsoundReads, UnsoundSubscribes, UnsoundTells, watched};
 ghost use Rattle.tests_machine.specs.OfViews as views;
 ghost use Rattle.iv_machine.specs.Refusing.{frame_refusal, refusal};
 ghost use Rattle.tests_machine.specs.Shapes as shapes;
+ghost use Rattle.iv_machine.specs.Sound.{IsSoundState};
 ghost use Rattle.iv_machine.specs.State.{start};
 ghost use Rattle.iv_machine.specs.Well.{is_well_act, is_well_command};
 ghost use Rattle.tests_machine.specs.Worked.{admin, after_steps, before_first, commands, Computes, first, first_change, least_cap, notes, opened, row_security_then_policy, secured, true_text};
+
+use iv_machine::laws::steps_keep_sound;
 
 /// A reader is sent what is written.
 pub fn first_changes()
@@ -60,6 +64,20 @@ pub fn premises_are_needed()
     ensures later { WithoutLater }
     ensures answered { WithoutAnswer }
 {}
+
+/// Nor may the premise go that states are sound: for each law on lines and refusals that has it, states that are not, and what is
+/// told. The frames differ behind `crowded` and `watched`, of which the second is sound: so each of two states must be.
+pub fn soundness_is_needed()
+    ensures told { UnsoundTells }
+    ensures later { UnsoundLeaves }
+    ensures sound { IsSoundState watched }
+    ensures subscribe { UnsoundSubscribes }
+    ensures quiet { UnsoundIsLoud }
+    ensures readers { UnsoundReads }
+    ensures ordered { UnsoundOrder }
+{
+    steps_keep_sound();
+}
 
 /// Without news a role is told nothing but a reply. Rows that it sees are news, and so is a subscription.
 pub fn news_is_told()
