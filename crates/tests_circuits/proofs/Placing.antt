@@ -1,7 +1,6 @@
 -- Tables that change, and circuits over them.
-use Rattle.std.proofs.Common.{◌≡◌, ◌≢◌, ◌∙◌, ℕ, ℤ, pos, ◌+ℤ◌, ◌-ℤ◌, ◌≤ℤ◌, ◌≤◌, true, List, [], ◌∷◌, ◌++◌, filter, length, ap, sym, subst, refl, arith, ⊎_elim}
+use Rattle.std.proofs.Common.{◌≡◌, ◌≢◌, ◌∙◌, ℕ, ℤ, pos, ◌+ℤ◌, ◌-ℤ◌, ◌≤ℤ◌, true, List, [], ◌∷◌, ◌++◌, ap, sym, subst, refl, arith, ⊎_elim}
 use Rattle.std.specs.Prelude.{◌⊎◌, Option, option_map}
-use Rattle.std.specs.List.{All}
 use Rattle.std.proofs.lemmas.Int.{ints}
 use Rattle.iv_rows.specs.Columns.{accepts, kinds_of}
 use Rattle.iv_zset.specs.Limits.{copies, Counts}
@@ -11,17 +10,13 @@ use Rattle.iv_zset.proofs.Places.{weight_of-append}
 use Rattle.iv_zset.proofs.Sums.{weight_at}
 use Rattle.iv_algebra.specs.Contents.{AreOf, heads_of, rows_of, rows_or_none, table_of}
 use Rattle.iv_algebra.specs.Fits.{or_nothing}
-use Rattle.iv_algebra.specs.Plans.{Lists}
 use Rattle.iv_algebra.specs.Rows.{Cells}
 use Rattle.iv_algebra.specs.declared.tables.Table.{Table}
-use Rattle.iv_algebra.specs.Shapes.{Join, Scan}
-use Rattle.iv_access.specs.Policies.{allowed, may_see}
-use Rattle.iv_delta.specs.Pairs.{Pairs}
+use Rattle.iv_access.specs.Policies.{allowed}
 use Rattle.iv_circuit.specs.Changing.{Given, IsReady}
 use Rattle.iv_circuit.specs.Circuits.{IsTurned, ReadersFollow, Running}
-use Rattle.iv_circuit.specs.Nodes.{Scanned, plan_of}
+use Rattle.iv_circuit.specs.Nodes.{Scanned}
 use Rattle.iv_circuit.proofs.Filled.{all_from}
-use Rattle.tests_circuits.specs.Swaps.{IsSwap}
 use Rattle.tests_circuits.specs.Worlds.{AreSound, HasMore, IsReader, IsSound, LeadTo, SameHeads}
 
 pub same_or_not : (m n : ℕ) → (m ≡ n) ⊎ (m ≢ n)
@@ -102,20 +97,4 @@ module _ (old new : List Table) (c : Running) (given : Given) (follow : ReadersF
     after = allowed reader.rights reader.role (λ n. list_behind (rows_of new n));
     stands = reader.stands (λ n. list_behind (rows_of old n)) (λ n there. lists (rows_of old n) (before n).bag);
     leads = follow (heads_of old) reader.rights reader.role c.node given (λ n. list_behind (rows_of old n)) (λ n. list_behind (rows_of new n)) reader.scans (λ k d lt. turned _);
-  }
-
-  -- all rows of table 0 go, and rows come into table 1
-  pub swapping : (most : ℕ) (pairs : Pairs) → plan_of c.node ≡ Join (Scan 0) (Scan 1) pairs → rows_of old 1 ≡ [] → rows_of new 0 ≡ [] → length (given 0) ≤ most → length (given 1) ≤ most
-      → IsSwap most c given
-  swapping most pairs plan had has l r = record {
-    pairs = pairs;
-    plan = plan;
-    before = allowed reader.rights reader.role (λ n. list_behind (rows_of old n));
-    after = allowed reader.rights reader.role (λ n. list_behind (rows_of new n));
-    stands = reader.stands (λ n. list_behind (rows_of old n)) (λ n there. lists (rows_of old n) (before n).bag);
-    leads = follow (heads_of old) reader.rights reader.role c.node given (λ n. list_behind (rows_of old n)) (λ n. list_behind (rows_of new n)) reader.scans (λ k d lt. turned _);
-    none_right = ap (λ es. filter (may_see reader.rights reader.role 1) (list_behind es)) had;
-    none_left = ap (λ es. filter (may_see reader.rights reader.role 0) (list_behind es)) has;
-    few_left = l;
-    few_right = r;
   }

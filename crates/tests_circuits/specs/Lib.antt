@@ -1,5 +1,4 @@
 pub mod Lines
 pub mod Pairs
 pub mod Signs
-pub mod Swaps
 pub mod Worlds

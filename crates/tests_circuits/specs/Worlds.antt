@@ -1,6 +1,6 @@
 -- Tables of small tests, and what leads from one state of them to another.
-use Rattle.std.specs.Prelude.{◌≡◌, ◌≢◌, ℕ, ℤ, List, [], ◌∷◌, ◌++◌}
-use Rattle.iv_zset.specs.Weights.{Weighed, SameZ, IsBag}
+use Rattle.std.specs.Prelude.{◌≡◌, ◌≢◌, ℕ, ℤ, List, ◌∷◌, ◌++◌}
+use Rattle.iv_zset.specs.Weights.{SameZ, IsBag}
 use Rattle.iv_algebra.specs.Contents.{AreOf, heads_of, Hold, rows_of}
 use Rattle.iv_algebra.specs.Fits.{or_nothing}
 use Rattle.iv_algebra.specs.Plans.{Lists}

@@ -1,10 +1,7 @@
 //! Makes the circuits of plans over the two tables, as `admin` reads them.
-ghost use Rattle.std.specs.Prelude.{◌≡◌, [], ◌∷◌, IfSome};
-ghost use Rattle.iv_algebra.specs.Shapes.{Join, Scan, shape_of};
-ghost use Rattle.iv_circuit.specs.Nodes.{plan_of};
+ghost use Rattle.std.specs.Prelude.{IfSome};
 ghost use Rattle.tests_circuits.specs.Worlds.{IsReader};
 
-use crate::plans::joined;
 use iv_access::{ADMIN, Access};
 use iv_algebra::{Plan, Tables};
 use iv_circuit::Circuit;
@@ -14,8 +11,7 @@ use std::alloc::Global;
 
 /// The circuit of a plan under the rights, where the plan is for the tables.
 fn built(alloc: Global, plan: &Plan, access: &Access, tables: &Tables) -> Option<Circuit>
-    ensures plan { IfSome result (λ circuit. plan_of circuit.node ≡ shape_of plan.now) }
-    ensures reader { IfSome result (λ circuit. IsReader tables.now circuit) }
+    ensures { IfSome result (λ circuit. IsReader tables.now circuit) }
 {
     if !fits(plan, tables) {
         return None;
@@ -44,8 +40,7 @@ fn add_relations(alloc: Global, access: &mut Access) -> bool {
 
 /// The same under new rights, which know the two tables.
 pub(crate) fn planned(alloc: Global, plan: &Plan, tables: &Tables) -> Option<Circuit>
-    ensures plan { IfSome result (λ circuit. plan_of circuit.node ≡ shape_of plan.now) }
-    ensures reader { IfSome result (λ circuit. IsReader tables.now circuit) }
+    ensures { IfSome result (λ circuit. IsReader tables.now circuit) }
 {
     let Ok(mut access) = Access::new(alloc) else {
         return None;
@@ -56,18 +51,5 @@ pub(crate) fn planned(alloc: Global, plan: &Plan, tables: &Tables) -> Option<Cir
         None
     };
     drop(access);
-    circuit
-}
-
-/// The circuit of the join.
-pub(crate) fn opened(alloc: Global, tables: &Tables) -> Option<Circuit>
-    ensures plan { IfSome result (λ circuit. plan_of circuit.node ≡ Join (Scan 0) (Scan 1) ((0, 0) ∷ [])) }
-    ensures reader { IfSome result (λ circuit. IsReader tables.now circuit) }
-{
-    let Ok(plan) = joined(alloc) else {
-        return None;
-    };
-    let circuit = planned(alloc, &plan, tables);
-    drop(plan);
     circuit
 }

@@ -1,7 +1,7 @@
 //! Tests of the public calls of iv_rows, iv_zset, iv_algebra, iv_delta, iv_circuit and iv_reference, from rows to circuits.
 //!
-//! The steps are tried with operators of their own, too, that the laws of iv_delta carry. One test of circuits counts: a batch
-//! over a join in which all left rows of a key go and right rows of it come. One holds whichever request for memory is refused.
+//! The steps are tried with operators of their own, too, that the laws of iv_delta carry. One test of circuits holds whichever request
+//! for memory is refused.
 #![tactic(auto)]
 
 #[cfg(test)]
@@ -14,8 +14,6 @@ mod index_seeds;
 mod indexed;
 #[cfg(test)]
 mod kept;
-#[cfg(test)]
-mod keyed;
 #[cfg(test)]
 mod pairs;
 #[cfg(test)]
@@ -36,8 +34,6 @@ mod sets;
 mod singles;
 #[cfg(test)]
 mod steps;
-#[cfg(test)]
-mod swaps;
 #[cfg(test)]
 mod worlds;
 #[cfg(test)]

@@ -1,21 +1,14 @@
 //! Plans over the two tables: a scan, a join, and one with a node of each kind.
-ghost use Rattle.std.specs.Prelude.{◌≡◌, [], ◌∷◌, IfOk};
-ghost use Rattle.iv_algebra.specs.Shapes.{Join, Scan, shape_of};
-
 use iv_algebra::{Agg, Comparison, Operand, Plan, Pred};
 use iv_rows::{RelId, Value};
 use std::alloc::{AllocError, Global};
 
-pub(crate) fn scan(alloc: Global, table: u32) -> Result<Box<Plan>, AllocError>
-    ensures { IfOk result (λ it. shape_of it.value ≡ Scan table) }
-{
+pub(crate) fn scan(alloc: Global, table: u32) -> Result<Box<Plan>, AllocError> {
     Ok(Box::new(alloc, Plan::Scan(RelId(table)))?)
 }
 
 /// The rows of tables 0 and 1 that have one k.
-pub(crate) fn joined(alloc: Global) -> Result<Plan, AllocError>
-    ensures { IfOk result (λ plan. shape_of plan ≡ Join (Scan 0) (Scan 1) ((0, 0) ∷ [])) }
-{
+pub(crate) fn joined(alloc: Global) -> Result<Plan, AllocError> {
     let pairs = Vec::from_array(alloc, [(0, 0)])?;
     let left = scan(alloc, 0)?;
     let right = scan(alloc, 1)?;

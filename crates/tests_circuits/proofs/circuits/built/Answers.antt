@@ -3,8 +3,8 @@ use Rattle.iv_access.specs.Policies.{allowed}
 use Rattle.iv_circuit.specs.Keeping.{StandsOn}
 use Rattle.tests_circuits.proofs.circuits.built.Goals as goal
 
-pub returns-in-Ok-clause-reader : goal.returns-in-Ok-clause-reader
-returns-in-Ok-clause-reader c = record {
+pub returns-in-Ok : goal.returns-in-Ok
+returns-in-Ok c = record {
   rights = c.args.access.now.rights;
   role = 0;
   scans = c.in-Ok.ensures.scans;
