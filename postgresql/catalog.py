@@ -19,6 +19,7 @@ Connection = psycopg2.extensions.connection
 # What PostgreSQL prints is canonical by these; and rows that a policy hides from the bridge are an error, and never left out.
 SETTINGS = ("-c search_path=pg_catalog -c datestyle=ISO,YMD -c timezone=UTC -c intervalstyle=postgres -c row_security=off "
             "-c standard_conforming_strings=on -c quote_all_identifiers=off -c lock_timeout=1s")
+PRINTING = ("set datestyle = ISO, YMD", "set timezone = UTC")
 PRINTED = (1082, 1114, 1184, 1700, 2950)  # date, timestamps, numeric and uuid are read as the texts that PostgreSQL prints
 TRIES = 5
 FROM_16 = {"inherits": "m.inherit_option", "owner_inherits": "true"}  # a membership says itself whether it gives what the role has
@@ -51,6 +52,12 @@ with used as (
     select r.prrelid, concat_ws(',', r.oid, r.xmin, p.xmin) as whole from pg_publication_rel r join pg_publication p on p.oid = r.prpubid
     where p.pubname = %(publication)s and r.prqual is null and r.prattrs is null
           and p.pubinsert and p.pubupdate and p.pubdelete and p.pubtruncate
+), identities as (
+    select x.indrelid, jsonb_agg(a.attname order by a.attnum) as key
+    from pg_index x join chosen c on c.oid = x.indrelid join pg_attribute a on a.attrelid = x.indrelid
+    where a.attnum = any ((x.indkey::int2[])[0:x.indnkeyatts - 1]) and x.indisvalid and x.indimmediate
+          and case c.relreplident when 'd' then x.indisprimary when 'i' then x.indisreplident else false end
+    group by x.indrelid
 ), columns as (
     select a.attrelid, jsonb_agg(jsonb_build_object(
         'name', a.attname, 'number', a.attnum, 'version', a.xmin::text, 'notnull', a.attnotnull, 'generated', a.attgenerated <> '',
@@ -76,7 +83,7 @@ select jsonb_build_object(
             'select', coalesce((select jsonb_agg(a.grantee::bigint order by a.grantee::oid)
                                 from aclexplode(coalesce(c.relacl, acldefault('r', c.relowner))) a where a.privilege_type = 'SELECT'), '[]'),
             'enable', c.relrowsecurity, 'force', c.relforcerowsecurity, 'policies', coalesce(o.list, '[]'),
-            'identity', c.relreplident, 'persistence', c.relpersistence,
+            'identity', c.relreplident, 'key', coalesce(i.key, '[]'), 'persistence', c.relpersistence,
             'parts', exists (select from pg_inherits i where i.inhparent = c.oid or i.inhrelid = c.oid),
             'published', coalesce(p.whole, ''), 'file', c.relfilenode::bigint, 'columns', coalesce(k.list, '[]'),
             'readable', c.relkind <> 'r' or has_schema_privilege(n.oid, 'usage') and has_table_privilege(c.oid, 'select'),
@@ -85,7 +92,7 @@ select jsonb_build_object(
                                  where option_name = 'security_invoker'), false),
             'query', coalesce((select md5(w.ev_action::text) from pg_rewrite w where w.ev_class = c.oid and w.rulename = '_RETURN'), ''))), '{{}}')
         from chosen c join pg_namespace n on n.oid = c.relnamespace left join usage u on u.oid = n.oid left join published p on p.prrelid = c.oid
-        left join columns k on k.attrelid = c.oid left join policies o on o.polrelid = c.oid),
+        left join columns k on k.attrelid = c.oid left join policies o on o.polrelid = c.oid left join identities i on i.indrelid = c.oid),
     'roles', (select jsonb_object_agg(r.oid::text, jsonb_build_object('name', r.rolname, 'super', r.rolsuper, 'bypass', r.rolbypassrls))
               from used u join pg_roles r on r.oid = u.oid),
     'members', (select coalesce(jsonb_agg(jsonb_build_array(role, member) order by role, member), '[]') from (
@@ -97,7 +104,11 @@ select jsonb_build_object(
                         where o.oid >= {own} and o.oprname = '=' and {carried})
              or exists (select from pg_opclass o join pg_am m on m.oid = o.opcmethod join pg_type t on t.oid = o.opcintype
                         where o.oid >= {own} and o.opcdefault and m.amname in ('btree', 'hash') and {carried}),
-    'tampered', exists (select from pg_operator where oid >= {own} and oprnamespace = 'pg_catalog'::regnamespace),
+    'tampered', exists (select from pg_operator where oid >= {own} and oprnamespace = 'pg_catalog'::regnamespace)
+             or exists (select from pg_proc where oid >= {own} and pronamespace = 'pg_catalog'::regnamespace and proname in ('count', 'sum')),
+    'withheld', exists (select from pg_proc p where p.oid < {own} and p.proacl is not null and not has_function_privilege('public', p.oid, 'execute')
+                        and (p.proname in ('count', 'sum') or exists (select from pg_cast c where c.castfunc = p.oid)
+                             or exists (select from pg_operator o where o.oprcode = p.oid and o.oprname in ('=', '<>', '<', '<=', '>', '>=')))),
     'casts', exists (select from pg_cast c join pg_type t on t.oid = c.castsource where c.oid >= {own} and {carried}),
     'collation', (select {collation} from pg_database where datname = current_database()),
     'server', jsonb_build_object('version', current_setting('server_version_num')::int, 'wal_level', current_setting('wal_level'),
@@ -105,7 +116,22 @@ select jsonb_build_object(
         'replication', (select rolreplication or rolsuper from pg_roles where rolname = current_user),
         'publication', exists (select from pg_publication where pubname = %(publication)s)))
 """
-MARK = """
+# What decides how PostgreSQL prints a text: names of relations and columns, views, and what may be meant without a name.
+NAMES = """
+    select string_agg(concat_ws(',', c.oid, c.relname, n.nspname), ' ' order by c.oid)
+        from pg_class c join pg_namespace n on n.oid = c.relnamespace where c.oid = any (%(oids)s::oid[])
+    union all select string_agg(concat_ws(',', attrelid, attnum, attname), ' ' order by attrelid, attnum) from pg_attribute
+        where attrelid = any (%(oids)s::oid[]) and attnum > 0
+    union all select string_agg(concat_ws(',', oid, xmin), ' ' order by oid) from pg_enum
+    union all select string_agg(concat_ws(',', oid, xmin), ' ' order by oid) from pg_rewrite where ev_class = any (%(oids)s::oid[])
+    union all select concat_ws(',', (select string_agg(concat_ws(',', oid, xmin), ' ' order by oid) from pg_operator where oid >= 16384),
+        (select string_agg(concat_ws(',', oid, xmin), ' ' order by oid) from pg_opclass where oid >= 16384),
+        (select string_agg(oid::text, ' ' order by oid) from pg_cast where oid >= 16384),
+        (select string_agg(concat_ws(',', oid, xmin), ' ' order by oid) from pg_proc where oid < 16384 and proacl is not null),
+        (select string_agg(concat_ws(',', oid, xmin), ' ' order by oid) from pg_proc where oid >= 16384 and proname in ('count', 'sum')))
+"""
+PRINTED_AS = f"select md5(string_agg(it, ';')) from ({NAMES}) parts(it)"
+MARK = f"""
 select md5(string_agg(it, ';')) from (
     select string_agg(concat_ws(',', oid, rolname, rolinherit, rolsuper, rolbypassrls), ' ' order by oid) from pg_roles
     union all select string_agg(concat_ws(',', roleid, member, xmin), ' ' order by roleid, member, xmin::text) from pg_auth_members
@@ -114,18 +140,19 @@ select md5(string_agg(it, ';')) from (
     union all select string_agg(concat_ws(',', oid, xmin), ' ' order by oid) from pg_policy where polrelid = any (%(oids)s::oid[])
     union all select string_agg(concat_ws(',', attrelid, attnum, xmin), ' ' order by attrelid, attnum) from pg_attribute
         where attrelid = any (%(oids)s::oid[]) and attnum > 0
-    union all select string_agg(concat_ws(',', oid, xmin), ' ' order by oid) from pg_enum
-    union all select string_agg(concat_ws(',', oid, xmin), ' ' order by oid) from pg_rewrite where ev_class = any (%(oids)s::oid[])
+    union all select string_agg(concat_ws(',', indexrelid, xmin), ' ' order by indexrelid) from pg_index where indrelid = any (%(oids)s::oid[])
     union all select string_agg(concat_ws(',', r.prrelid, r.xmin, p.xmin), ' ' order by r.prrelid)
         from pg_publication p join pg_publication_rel r on r.prpubid = p.oid where p.pubname = %(publication)s
     union all select string_agg(concat_ws(',', inhrelid, inhparent, xmin), ' ' order by inhrelid, inhparent) from pg_inherits
         where inhrelid = any (%(oids)s::oid[]) or inhparent = any (%(oids)s::oid[])
-    union all select concat_ws(',', (select string_agg(oid::text, ' ' order by oid) from pg_operator where oid >= 16384),
-        (select string_agg(oid::text, ' ' order by oid) from pg_opclass where oid >= 16384),
-        (select string_agg(oid::text, ' ' order by oid) from pg_cast where oid >= 16384))
     union all select concat_ws(',', oid, xmin) from pg_database where datname = current_database()
+    union all {NAMES}
 ) parts(it)
 """
+
+
+class Unsettled(Exception):
+    """The catalog was another one each time that it was read."""
 
 
 @dataclasses.dataclass(frozen=True)
@@ -169,6 +196,7 @@ class Relation:
     force: bool
     policies: list[Policy]
     identity: str
+    key: list[str]  # its columns, where it is a key
     persistence: str
     parts: bool
     published: str  # versions of its place in the publication; empty where it is not there, or not whole
@@ -205,18 +233,29 @@ class Catalog:
     members: list[tuple[int, int]]  # a role, and a member that has what it has without asking
     equality: bool  # the database has an operator = of its own for a type that viewd carries
     casts: bool  # and a cast of its own
-    tampered: bool  # it has operators of its own in PostgreSQL's schema
+    tampered: bool  # it has operators or aggregates of its own in PostgreSQL's schema
+    withheld: bool  # not everybody may carry out those of PostgreSQL
     collation: str  # the database's
     server: Server
 
 
 def connect(dsn: str) -> Connection:
     """A connection on which every text is printed in one form. Raises psycopg2.Error."""
-    connection = psycopg2.connect(dsn, options=SETTINGS, application_name="viewd-postgresql")
+    connection = psycopg2.connect(dsn, options=SETTINGS, application_name="viewd-postgresql", client_encoding="utf8")
+    printing(connection)
     as_text = psycopg2.extensions.new_type(PRINTED, "PRINTED", lambda text, _: text)  # type: ignore[no-untyped-call]
     psycopg2.extensions.register_type(as_text, connection)  # type: ignore[no-untyped-call]
     connection.set_session(isolation_level="REPEATABLE READ", readonly=True)
     return connection
+
+
+def printing(connection: Connection) -> None:
+    """libpq lets PGDATESTYLE and PGTZ win over what the connection was made with."""
+    connection.autocommit = True
+    with connection.cursor() as cursor:
+        for it in PRINTING:
+            cursor.execute(it)
+    connection.autocommit = False
 
 
 def asked(connection: Connection, query: str, values: dict[str, object] | None = None) -> list[tuple[Any, ...]]:
@@ -240,25 +279,41 @@ def read(connection: Connection, oids: list[int], publication: str) -> Catalog:
     """The catalog with its texts, and the transaction left open: rows that are read in it have the same catalog."""
     for _ in range(TRIES):
         connection.rollback()
-        found = asked(connection, statement(connection.server_version), {"oids": oids, "publication": publication})[0][0]
         before = mark(connection, oids, publication)
-        catalog = made(connection, found)
+        catalog = within(connection, oids, publication)
         connection.rollback()
         if mark(connection, oids, publication) == before:  # of a new snapshot; versions never come back
             return catalog
-    raise RuntimeError("the catalog changes faster than it can be read")
+    raise Unsettled("the catalog changes faster than it can be read")
 
 
-def made(connection: Connection, found: dict[str, Any]) -> Catalog:
+def printed_as(connection: Connection, oids: list[int]) -> str:
+    """The mark of what decides how texts are printed."""
+    return str(asked(connection, PRINTED_AS, {"oids": oids})[0][0])
+
+
+def within(connection: Connection, oids: list[int], publication: str, known: dict[str, str] | None = None) -> Catalog:
+    """The catalog of the transaction that is open. A policy is its own, and is printed with the names of now: these are its own too where
+    `printed_as` is still the same. Texts that are known are not read, and others are known then."""
+    found = asked(connection, statement(connection.server_version), {"oids": oids, "publication": publication})[0][0]
+    return made(connection, found, {} if known is None else known)
+
+
+def made(connection: Connection, found: dict[str, Any], known: dict[str, str]) -> Catalog:
+    def of(what: str, oid: int, version: str) -> str | None:
+        key = f"{what} {oid} {version}"
+        if key not in known and (read := text(connection, what, oid)) is not None:
+            known[key] = read
+        return known.get(key)
     relations = {}
     for oid, it in found["relations"].items():
         columns = [Attribute(**one) for one in it.pop("columns")]
-        policies = [Policy(**one, text=text(connection, "pg_get_expr(polqual, polrelid) from pg_policy where oid", one["oid"]))
+        policies = [Policy(**one, text=of("pg_get_expr(polqual, polrelid) from pg_policy where oid", one["oid"], one["version"]))
                     for one in it.pop("policies")]
-        query = text(connection, "pg_get_viewdef(oid) from pg_class where oid", int(oid)) if it["kind"] == "v" else None
+        query = of("pg_get_viewdef(oid) from pg_class where oid", int(oid), it["query"]) if it["kind"] == "v" else None
         relations[int(oid)] = Relation(**it, columns=columns, policies=policies, text=query)
     return Catalog(relations, {int(oid): Role(**it) for oid, it in found["roles"].items()}, [(role, member) for role, member in found["members"]],
-                   found["equality"], found["casts"], found["tampered"], found["collation"], Server(**found["server"]))
+                   found["equality"], found["casts"], found["tampered"], found["withheld"], found["collation"], Server(**found["server"]))
 
 
 def text(connection: Connection, what: str, oid: int) -> str | None:

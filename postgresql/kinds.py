@@ -134,12 +134,11 @@ def constant(kind: Kind, text: str) -> str:
     return quoted(canonical(kind, text))
 
 
-def value(kind: Kind, found: object) -> int | str | bool:
-    """A value of viewd's. Raises Refused where it cannot hold it."""
-    if found is None:
-        return EMPTY[kind.viewd]
-    if isinstance(found, str):
-        return canonical(kind, found)
-    if isinstance(found, int):  # and True and False
-        return found
-    raise TypeError(f"{found!r} was read for {kind.family}")
+def value(kind: Kind, text: str) -> int | str | bool:
+    """A value of viewd's, from what PostgreSQL prints. Raises Refused where it cannot hold it."""
+    match kind.viewd:
+        case "int":
+            return int(text)
+        case "flag":
+            return text == "t"
+    return canonical(kind, text)

@@ -7,11 +7,11 @@ import sys
 import psycopg2
 
 import prepare
-from catalog import connect
+from catalog import Unsettled, connect
 from settings import Settings, Wrong, read
 from state import State, Unsayable, line, state
 
-GOOD, LEFT_OUT, WRONG, UNREACHED = 0, 1, 2, 3  # exit statuses
+GOOD, LEFT_OUT, WRONG, UNREACHED, INTERRUPTED = 0, 1, 2, 3, 130  # exit statuses
 ROWS, LEAST, MOST = 65_536, 1_024, 1_048_576
 EPILOG = """examples:
   viewd-postgresql check "host=127.0.0.1 dbname=desk user=viewd"
@@ -45,11 +45,15 @@ def arguments(words: list[str]) -> argparse.Namespace:
     return given
 
 
+def complain(why: str) -> None:
+    print(f"viewd-postgresql: {prepare.printable(why)}", file=sys.stderr)
+
+
 def show(found: State) -> int:
     for request in found.requests():
         print(line(request))
     for name, why in found.left_out():
-        print(f"viewd-postgresql: {name} is left out: {why}", file=sys.stderr)
+        complain(f"{name} is left out: {why}")
     return GOOD if found.is_whole() else LEFT_OUT
 
 
@@ -58,12 +62,12 @@ def init(found: State, settings: Settings, path: pathlib.Path | None) -> int:
     if path is None:
         print(text, end="")
     else:
-        with path.open("x", encoding="utf-8") as file:  # a DSN may have a password
-            os.fchmod(file.fileno(), 0o600)
+        kept = os.open(path, os.O_WRONLY | os.O_CREAT | os.O_EXCL, 0o600)  # a DSN may have a password
+        with open(kept, "w", encoding="utf-8") as file:
             file.write(text)
     left = [it.name for it in found.made.values() if it.faults]
     if left:
-        print(f"viewd-postgresql: left out: {', '.join(left)}; check says why", file=sys.stderr)
+        complain(f"left out: {', '.join(left)}; check says why")
     return LEFT_OUT if left else GOOD
 
 
@@ -92,15 +96,21 @@ def main(words: list[str]) -> int:
         os.dup2(os.open(os.devnull, os.O_WRONLY), sys.stdout.fileno())
         return WRONG
     except Unsayable as why:
-        print(f"viewd-postgresql: {why}", file=sys.stderr)
+        complain(str(why))
         return LEFT_OUT
     except (Wrong, OSError) as why:
-        print(f"viewd-postgresql: {why}", file=sys.stderr)
+        complain(str(why))
         return WRONG
-    except psycopg2.Error as why:
-        print(f"viewd-postgresql: PostgreSQL: {str(why).strip()}", file=sys.stderr)
+    except (psycopg2.Error, Unsettled) as why:
+        complain(f"PostgreSQL: {' '.join(str(why).split())}")
         return UNREACHED
+    except UnicodeDecodeError as why:
+        complain(f"PostgreSQL: a text is not UTF-8, of a role, say, that was made in a database with another encoding: {why.object!r:.80}")
+        return UNREACHED
+    except KeyboardInterrupt:
+        return INTERRUPTED
 
 
 if __name__ == "__main__":
+    sys.stdout = open(sys.stdout.fileno(), "w", encoding="utf-8", closefd=False)  # viewd's lines are UTF-8, whatever the terminal has
     sys.exit(main(sys.argv[1:]))

@@ -1,17 +1,15 @@
 """Which tables and views viewd can have, and why it cannot have the others."""
 import dataclasses
-from collections import Counter
-from typing import Any
 
 from catalog import Attribute, Catalog, Relation
 from kinds import KINDS, Column, Kind, enum, identifier, name_ok
+from mirror import Table
 from predicate import Refused
+from rows import Request
 from translate import Words
 from views import COLUMNS, Source, halves, view
 
 TABLES = 64  # and as many views: viewd's limits
-Request = dict[str, Any]
-Row = tuple[int | str | bool, ...]
 STRANGE = {"p": "a partitioned table", "m": "a materialized view", "f": "a foreign table"}
 
 
@@ -27,8 +25,12 @@ class Made:
     missing: list[str] = dataclasses.field(default_factory=list)  # why it cannot be followed yet, though it can be shown
     sql: list[str] = dataclasses.field(default_factory=list)  # what would help
     steps: int = 1  # of a view's query
-    rows: Counter[Row] = dataclasses.field(default_factory=Counter)  # of a table
+    table: Table | None = None  # its rows
     guards: list[Request] = dataclasses.field(default_factory=list)  # its row security and policies
+
+    def identified(self, rel: Relation) -> bool:
+        """A row that is updated or deleted can be told from the others by what is replicated of it."""
+        return rel.identity == "f" or bool(rel.key) and set(rel.key) <= set(self.columns)
 
 
 class Names:
@@ -105,8 +107,8 @@ def table(rel: Relation, made: Made, chosen: list[str] | None, roles: Names, use
     if rel.bound:
         made.faults.append("policies bind the bridge's role, so it cannot see all rows: say ALTER ROLE .. BYPASSRLS")
         made.sql.append(f"ALTER ROLE {identifier(user)} BYPASSRLS;")
-    if rel.identity != "f":
-        made.missing.append(f"its deleted rows are not replicated whole: say ALTER TABLE {rel.sql} REPLICA IDENTITY FULL")
+    if not made.identified(rel):
+        made.missing.append(f"its deleted rows are not replicated whole, nor by a key that is followed: say ALTER TABLE {rel.sql} REPLICA IDENTITY FULL")
     if not rel.published:
         made.missing.append("the publication has it not, or not whole (a row filter, a list of columns, not all of insert, update, delete, truncate)")
     if not made.faults:

@@ -1,11 +1,12 @@
 """Who may read what, in viewd's words: roles, memberships, grants, row security and policies."""
 import dataclasses
-from collections.abc import Callable, Iterable
+from collections.abc import Callable, Iterable, Iterator
 
 from catalog import Catalog, Policy, Relation
 from kinds import name_ok
 from predicate import Refused
-from relations import Made, Names, Request, close, collated
+from relations import Made, Names, close, collated
+from rows import Request
 from settings import Users
 from translate import Words, policy
 
@@ -21,7 +22,8 @@ class Rights:
     roles: list[str] = dataclasses.field(default_factory=list)
     readers: set[str] = dataclasses.field(default_factory=set)  # in which sessions may begin
     members: list[tuple[str, str]] = dataclasses.field(default_factory=list)  # a role and its member
-    grants: list[Request] = dataclasses.field(default_factory=list)
+    owners: dict[str, str] = dataclasses.field(default_factory=dict)  # of relations
+    select: dict[str, set[str]] = dataclasses.field(default_factory=dict)  # who reads a relation
     left_out: dict[str, str] = dataclasses.field(default_factory=dict)  # roles that nobody can be, and users
 
 
@@ -59,7 +61,8 @@ def rights(catalog: Catalog, made: dict[int, Made], users: Users) -> Rights:
     for oid, one in made.items():
         if one.request:
             rel = catalog.relations[oid]
-            found.grants += granted(one, names[rel.owner], sorted(names[it] for it in selecting(catalog, rel, reached)))
+            found.owners[one.name] = names[rel.owner]
+            found.select[one.name] = {names[it] for it in selecting(catalog, rel, reached)}
     return found
 
 
@@ -89,11 +92,13 @@ def selecting(catalog: Catalog, rel: Relation, reached: Callable[[int], set[int]
     return {role for role in catalog.roles if reached(role) & usage and (reached(role) | {0}) & select}
 
 
-def granted(made: Made, owner: str, to: list[str]) -> list[Request]:
-    """Nobody writes, so the owner loses what viewd gave it for that."""
-    taken = ["insert", "update", "delete"] + (["select"] if owner not in to else [])
-    found: list[Request] = [{"do": "revoke", "on": made.name, "privileges": taken, "to": owner}]
-    return found + [{"do": "grant", "on": made.name, "privileges": ["select"], "to": it} for it in to if it != owner]
+def granted(found: Rights) -> Iterator[Request]:
+    """Nobody writes, so an owner loses what viewd gave it for that."""
+    for name, to in found.select.items():
+        owner = found.owners[name]
+        taken = ["insert", "update", "delete"] + (["select"] if owner not in to else [])
+        yield {"do": "revoke", "on": name, "privileges": taken, "to": owner}
+        yield from ({"do": "grant", "on": name, "privileges": ["select"], "to": it} for it in sorted(to - {owner}))
 
 
 def guarded(catalog: Catalog, rel: Relation, made: Made, words: Words) -> list[Request]:

@@ -1,6 +1,7 @@
 """The configuration: a file of TOML."""
 import pathlib
 import tomllib
+from collections.abc import Iterator
 from typing import Any, NamedTuple
 
 from kinds import name_ok
@@ -41,7 +42,17 @@ def read(path: pathlib.Path, dsn: str) -> Settings:
         raise Wrong(f"{path}: {why}") from None
 
 
+def texts_of(it: Any) -> Iterator[str]:
+    if isinstance(it, str):
+        yield it
+    elif isinstance(it, (dict, list)):
+        for part in [*it, *it.values()] if isinstance(it, dict) else it:
+            yield from texts_of(part)
+
+
 def made(said: dict[str, Any], dsn: str) -> Settings:
+    if any("\0" in it for it in texts_of(said)):
+        raise Wrong("a text has the character 0")
     for part, held in said.items():
         keys = KEYS.get(part, set())
         if part not in KEYS or not isinstance(held, dict):
@@ -56,7 +67,7 @@ def made(said: dict[str, Any], dsn: str) -> Settings:
     lists = [*said.get("columns", {}).values(), *(users.get(it, []) for it in ("calls", "names"))]
     if not all(isinstance(it, list) and all(isinstance(one, str) for one in it) for it in lists):
         raise Wrong("[columns], calls and names have lists of texts")
-    if users and not (isinstance(users.get("role"), str) and users.get("calls")):
+    if users and not (isinstance(users.get("role"), str) and users["role"] and users.get("calls")):
         raise Wrong("[users] needs role and calls")
     try:
         calls = tuple(user_call(it) for it in users.get("calls", []))

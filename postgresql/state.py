@@ -1,13 +1,14 @@
 """All that viewd is told of a database at one moment: relations with their rows, and rights."""
 import dataclasses
 import json
-from collections.abc import Iterator
+from collections.abc import Callable, Iterator
 
-from catalog import RELATIONS, Catalog, Connection, asked, read
-from predicate import Refused
-from relations import Made, Request, close, tables, views, words_of
-from rights import NOT_BOUND, ROLES, Rights, guarded, rights
-from rows import hold, writes
+import rows
+from catalog import RELATIONS, Catalog, Connection, Relation, asked, read
+from mirror import Table
+from relations import Made, close, tables, views, words_of
+from rights import NOT_BOUND, ROLES, Rights, granted, guarded, rights
+from rows import Request
 from settings import Settings, Users, Wrong
 
 ANSWERS = """select distinct format_type(p.prorettype, null) from pg_proc p join pg_namespace n on n.oid = p.pronamespace
@@ -44,13 +45,13 @@ class State:
         yield from (it.request for it in held if it.request)
         for it in held:
             yield from it.guards
-        for it in held:
-            yield from writes(it)
-        yield from self.rights.grants
+        yield from rows.writes(entry for it in held if it.table for entry in it.table.all())
+        yield from granted(self.rights)
 
 
 def named(connection: Connection, settings: Settings) -> dict[int, str]:
-    """viewd's names of relations, by oid. Raises Wrong where one that is named is not there, or two are one."""
+    """viewd's names of relations, by oid. Raises Wrong where one that is named is not there, two are one, or a call answers no text."""
+    check_calls(connection, settings.users)
     found: list[tuple[int, str]] = []
     if settings.relations is None:
         there = asked(connection, RELATIONS)
@@ -80,26 +81,34 @@ def check_calls(connection: Connection, users: Users) -> None:
 
 
 def state(connection: Connection, settings: Settings, most: int) -> State:
-    """Raises Wrong, Unsayable, psycopg2.Error."""
-    check_calls(connection, settings.users)
+    """All that is there now. Raises Wrong, Unsayable, Unsettled, psycopg2.Error."""
     names = named(connection, settings)
     catalog = read(connection, list(names), settings.publication)
+    return said(catalog, names, settings, lambda it, rel: Table(it.name, it.columns, most).fill(rows.read(connection, rel, it.columns)))
+
+
+def said(catalog: Catalog, names: dict[int, str], settings: Settings, held: Callable[[Made, Relation], Table], follows: bool = False) -> State:
+    """What a catalog says. `held` answers the rows of a table; what cannot be followed is left out where `follows`. Raises Wrong, Unsayable."""
     if catalog.server.encoding != "UTF8":
         raise Unsayable(f"the database's encoding is {catalog.server.encoding}: viewd orders texts by the bytes of UTF8")
     if catalog.tampered:
-        raise Unsayable("the database has operators of its own in pg_catalog, which are printed as PostgreSQL's")
+        raise Unsayable("the database has operators or aggregates of its own in pg_catalog, which are printed as PostgreSQL's")
+    if catalog.withheld:
+        raise Unsayable("EXECUTE on operators, casts or aggregates of PostgreSQL is taken from PUBLIC, which viewd cannot say")
     if of_views := [name for oid, name in names.items() if name in settings.columns and oid in catalog.relations and catalog.relations[oid].kind != "r"]:
         raise Wrong(f"[columns] {of_views[0]}: it is no table")
     words = words_of(catalog, settings.users.calls)
     made = tables(catalog, names, settings.columns)
     for oid, it in made.items():
-        if it.request:
-            it.guards = guarded(catalog, catalog.relations[oid], it, words)
-        if it.request:
-            try:
-                hold(connection, catalog.relations[oid], it, most)
-            except Refused as why:
-                close(it, str(why))
+        rel = catalog.relations.get(oid)
+        if it.request and rel and follows and it.missing:
+            close(it, "; ".join(it.missing))
+        if it.request and rel:
+            it.guards = guarded(catalog, rel, it, words)
+        if it.request and rel:
+            it.table = held(it, rel)
+            if fault := it.table.fault():
+                close(it, fault)
     made = views(catalog, made, words)
     found = State(catalog, made, rights(catalog, made, settings.users))
     if len(found.rights.roles) > ROLES:

@@ -149,6 +149,7 @@ class Reader:
                 return same if (node.kind == enums.A_Expr_Kind.AEXPR_NOT_DISTINCT) == value else negated(same)
             case ast.A_Expr(kind=enums.A_Expr_Kind.AEXPR_OP_ANY | enums.A_Expr_Kind.AEXPR_OP_ALL):
                 op, elements = self.operator(node), self.elements(node.rexpr)
+                self.agreed(op, [node.lexpr, *elements])
                 joined = some if (node.kind == enums.A_Expr_Kind.AEXPR_OP_ANY) == value else every
                 return joined([self.compared(op, node.lexpr, it, value) for it in elements])
             case ast.CaseExpr():
@@ -243,6 +244,7 @@ class Reader:
         if self.is_boolean(left) or self.is_boolean(right):
             return some([every([self.says(left, one), self.says(right, other)])
                          for one in (False, True) for other in (False, True) if OPERATORS[op](one, other) == value])
+        self.agreed(op, [left, right])
         if isinstance(left, ast.CoalesceExpr):
             return self.first(left.args, self.null, lambda it: self.compared(op, it, right, value))
         if isinstance(right, ast.CoalesceExpr):
@@ -250,11 +252,23 @@ class Reader:
         one, other = self.pair(op, left, right)
         return every([negated(one.null), negated(other.null), Atom(one.text, op if value else OPPOSITE[op], other.text)])
 
+    def agreed(self, op: str, sides: Sequence[Node]) -> None:
+        """PostgreSQL answers with an error where columns of two collations, neither of them the database's, are compared."""
+        found = [it for side in sides for it in self.values(side)]
+        if len({it.collation for it in found if it.collation}) > 1 and not any(it.explicit for it in found):
+            raise Refused(f"{f' {op} '.join(it.text for it in found)}: of two collations, which PostgreSQL does not compare")
+
+    def values(self, node: Node) -> list[Value]:
+        if isinstance(node, ast.CoalesceExpr):
+            return [it for one in node.args for it in self.values(one)]
+        return [] if self.is_boolean(node) else [self.operand(node)]
+
     def same(self, left: Node, right: Node) -> Test:
         """Where two are not distinct: both NULL, or equal."""
         if self.is_boolean(left) or self.is_boolean(right):
             return some([*(every([self.says(left, it), self.says(right, it)]) for it in (True, False)),
                          every([self.unknown(left), self.unknown(right)])])
+        self.agreed("=", [left, right])
         one, other = self.pair("=", left, right)
         equal = every([negated(one.null), negated(other.null), Atom(one.text, "=", other.text)])
         return some([equal, every([one.null, other.null])])

@@ -9,7 +9,7 @@ from typing import NamedTuple
 from pglast import ast, enums
 
 from kinds import KINDS, SUM, Column, name_ok
-from predicate import Atom, Refused, Test, every, fit, written
+from predicate import Refused, Test, every, fit, negated, written
 from translate import Node, Reader, Value, Words, parsed, said, type_of
 
 COLUMNS, SOURCES, STEPS = 16, 8, 256  # viewd's limits
@@ -181,6 +181,7 @@ def tie(it: Node, reader: ViewReader) -> tuple[Value, Value] | None:
     if not isinstance(it, ast.A_Expr) or it.kind != enums.A_Expr_Kind.AEXPR_OP or it.lexpr is None or [w.sval for w in it.name] != ["="]:
         return None
     try:
+        reader.agreed("=", [it.lexpr, it.rexpr])
         one, other = reader.pair("=", it.lexpr, it.rexpr)
     except Refused:
         return None
@@ -206,9 +207,7 @@ def _joined(tables: From, reader: ViewReader) -> str:
         else:
             raise Refused(f"{waiting[0]} is joined without a column that is equal to one of the others")
         text += f" join {tables.sources[alias].name} {alias} on " + " and ".join(f"{a.text} = {b.text}" for _, (a, b) in ties)
-        for it, _ in ties:  # what stands in a column where it is NULL is equal too
-            whole = reader.says(it, True)
-            rest += [one for one in getattr(whole, "parts", ()) if isinstance(one, Atom) and one.left.endswith("_null")]
+        rest += [negated(side.null) for _, pair in ties for side in pair]  # what stands in a column where it is NULL is equal too
         left = [it for it in left if all(it[0] is not used for used, _ in ties)]
         seen.add(alias)
         waiting.remove(alias)

@@ -91,10 +91,10 @@ class Desk:
         """What PostgreSQL shows to the role: none if it refuses. Each value as viewd's clients should see it."""
         return self.seen_at(role, f"public.{relation}", *before)
 
-    def seen_at(self, role: str, relation: str, *before: str) -> Counter[tuple[Any, ...]] | None:
+    def seen_at(self, role: str, relation: str, *before: str, columns: str = "*") -> Counter[tuple[Any, ...]] | None:
         self.do("begin", f"set local role {role}", *before)
         try:
-            self.cursor.execute(f"select * from {relation}")
+            self.cursor.execute(f"select {columns} from {relation}")
             return Counter(tuple(map(plain, row)) for row in self.cursor.fetchall())
         except psycopg2.errors.InsufficientPrivilege:
             return None
@@ -114,13 +114,11 @@ class Shown:
     """What a viewd shows that was told the requests of `show`."""
 
     def __init__(self, requests: str, roles: tuple[str, ...]):
-        self.told = [json.loads(line) for line in requests.splitlines()]
+        self.told = [json.loads(line) for line in requests.split("\n") if line]
         self.names: dict[str, list[str]] = {}
         for it in self.told:
-            if it["do"] == "create_table":
-                self.names[it["name"]] = [name for name, _ in it["columns"]]
-            elif it["do"] == "create_view":
-                self.names[it["name"]] = re.findall(r" as (\w+)", it["query"].split(" from ")[0])
+            if it["do"] in ("create_table", "create_view"):
+                self.names[it["name"]] = columns_of(it)
         asks, session, of = [], 1, dict[int, tuple[str, str]]()
         pairs = [(role, name) for role in roles for name in self.names]
         for place, (role, name) in enumerate(pairs):
@@ -131,7 +129,7 @@ class Shown:
             asks.append({"do": "subscribe", "on": name, "session": session})
         lines = requests + "".join(json.dumps(it) + "\n" for it in asks)
         done = subprocess.run([VIEWD, "replay"], input=lines, capture_output=True, text=True, check=True)
-        answers = [json.loads(it) for it in done.stdout.splitlines()]
+        answers = [json.loads(it) for it in done.stdout.split("\n") if it]
         replies = [it for it in answers if "changes" not in it]
         assert len(replies) == len(self.told) + len(asks), (len(replies), len(self.told), len(asks))
         self.refused = [(request, answer) for request, answer in zip(self.told, replies) if "ok" not in answer]
@@ -148,19 +146,27 @@ class Shown:
             for copies, row in answer.get("changes", ()):
                 held = self.rows[subs[answer["sub"]]]
                 assert held is not None
-                held[self.decoded(subs[answer["sub"]][1], row)] += copies
+                held[decoded(self.names[subs[answer["sub"]][1]], row)] += copies
 
-    def decoded(self, name: str, row: list[Any]) -> tuple[Any, ...]:
-        """A row as clients should see it: NAME and NAME_null are one."""
-        values = dict(zip(self.names[name], row, strict=True))
-        found = []
-        for column, value in values.items():
-            if column.endswith("_null") and column[:-5] in values:
-                continue
-            null = values.get(f"{column}_null", False)
-            assert not null or value in (0, "", False), (name, row)
-            found.append(None if null else value)
-        return tuple(found)
+
+def columns_of(request: dict[str, Any]) -> list[str]:
+    """Of a relation that is made."""
+    if request["do"] == "create_table":
+        return [name for name, _ in request["columns"]]
+    return re.findall(r" as (\w+)", request["query"].split(" from ")[0])
+
+
+def decoded(names: list[str], row: list[Any]) -> tuple[Any, ...]:
+    """A row as clients should see it: NAME and NAME_null are one."""
+    values = dict(zip(names, row, strict=True))
+    found = []
+    for column, value in values.items():
+        if column.endswith("_null") and column[:-5] in values:
+            continue
+        null = values.get(f"{column}_null", False)
+        assert not null or value in (0, "", False), (names, row)
+        found.append(None if null else value)
+    return tuple(found)
 
 
 def alike(rows: Counter[tuple[Any, ...]] | None) -> Counter[tuple[str, ...]] | None:

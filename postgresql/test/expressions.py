@@ -284,7 +284,11 @@ select boss from people except select note from things
 select small from kinds union select n from things
 select small, n from kinds join things using (id)
 select a.day from things a join things b on a.day = b.day where a.id < 3
-select a.amount from things a join things b on a.amount = b.amount where b.id < 3""".split("\n")
+select a.amount from things a join things b on a.amount = b.amount where b.id < 3
+select a.id, b.id as other from things a join things b on a.done = b.done and a.n = b.n where a.id < 9
+select a.id, b.id as other from things a join things b using (done, note) where b.id < 9
+select a.id from things a join things b on a.done = b.open and a.owner = b.note
+select a.id from things a join kinds b on a.open = a.done and a.id = b.id""".split("\n")
 REFUSED_VIEWS = [
     ("select name, boss, rank from people natural join (people p(x, y, z) cross join things)", "new names of columns in FROM"),
     ("select id, case when open then 1 else 2 end as x from things", "CASE"), ("select count(*) as many from things", "sum or count without GROUP BY"),

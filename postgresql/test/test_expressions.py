@@ -2,13 +2,13 @@
 import random
 import unittest
 
+from base import counts
 from desk import ROLES, TABLES, Desk, Shown, alike
 from expressions import ATOMS, ATOMS_KINDS, KINDS, REFUSED, REFUSED_KINDS, REFUSED_VIEWS, THINGS, VIEWS, nested
 from server import Server, is_installed
 
 BATCH = 45  # tables at once: viewd can have 64
 LIKELY = ("its text has more than", "too long", "parentheses open at once")
-counts = {"expressions": 0, "said": 0, "relations": 0}
 options = {"random": 45, "seed": 1}
 
 

@@ -1,13 +1,11 @@
 """The program as a user has it: what check, init and show say, their statuses; roles, grants and users beside PostgreSQL; what is left out, by its words."""
 import random
 import re
-import unittest
 import unittest.mock
 
 import catalog
+from base import Base, counts
 from desk import ROLES, Desk, Shown, alike
-from server import Server, is_installed
-from test_expressions import counts
 
 NAMES = ["ann", "bob", "eve", "team", "lead", "boss"]
 USERS = """[users]
@@ -49,41 +47,7 @@ CHANGES = ["create role newcomer", "alter role newcomer noinherit", "grant newco
            "alter role newcomer bypassrls", "drop policy p on marked", "alter table marked owner to zed"]
 
 
-@unittest.skipUnless(is_installed(), "no PostgreSQL is installed")
-class Program(unittest.TestCase):
-    server: Server
-
-    @classmethod
-    def setUpClass(cls) -> None:
-        cls.server = Server({"wal_level": "logical"})
-        cls.addClassCleanup(cls.server.__exit__, None, None, None)
-        cls.server.__enter__()
-
-    def setUp(self) -> None:
-        name = "t_" + self._testMethodName
-        first = Desk(self.server.dsn())
-        first.do(f"create database {name}")
-        first.connection.close()
-        self.desk = Desk(self.server.dsn(database=name))
-        self.addCleanup(self.forget, name)
-
-    def forget(self, name: str) -> None:
-        """Roles are the whole server's."""
-        self.desk.connection.close()
-        last = Desk(self.server.dsn())
-        last.do(f"drop database {name}")
-        last.cursor.execute("select quote_ident(rolname) from pg_roles where rolname !~ '^pg_' and rolname <> 'postgres'")
-        last.do(*(f"drop role {it}" for it, in last.cursor.fetchall()))
-        last.connection.close()
-
-    def same(self, shown: Shown, roles: tuple[str, ...], before: dict[str, list[str]] | None = None) -> None:
-        self.assertEqual(shown.refused, [])
-        for role in roles:
-            for name in shown.names:
-                counts["relations"] += 1
-                as_role, statements = ("app", before[role]) if before else (role, [])
-                self.assertEqual(alike(shown.rows[role, name]), alike(self.desk.seen(as_role, name, *statements)), (role, name))
-
+class Program(Base):
     def test_all_is_well_once_its_statements_are_run(self) -> None:
         self.desk.do("""create role bridge login; create table notes (id int not null, who text); create view mine with (security_invoker = true) as select who from notes;
             create view plain as select id from notes; alter table notes enable row level security; create policy p on notes using (who < 'b' collate "C"); insert into notes values (1, 'a')""")
@@ -112,7 +76,7 @@ class Program(unittest.TestCase):
         self.assertEqual(report.returncode, 1)
         for name, words in STRANGE.values():
             self.assertIn(f"  {name}: {words}", report.stdout)
-        for words in ('ALTER VIEW public.owned SET (security_invoker = true);', "good: its deleted rows are not replicated whole: say ALTER TABLE public.good REPLICA IDENTITY FULL",
+        for words in ('ALTER VIEW public.owned SET (security_invoker = true);', "good: its deleted rows are not replicated whole, nor by a key that is followed: say ALTER TABLE public.good REPLICA IDENTITY FULL",
                       "good: the publication has it not, or not whole (a row filter, a list of columns, not all of insert, update, delete, truncate)",
                       "CREATE PUBLICATION viewd FOR TABLE public.good;", 'ALTER TABLE public.loose ALTER COLUMN t TYPE text COLLATE "C";  -- policies and views that name it have to be dropped before, and made again'):
             self.assertIn(words, report.stdout)
@@ -182,7 +146,7 @@ class Program(unittest.TestCase):
                              *([f"alter table {where}.t{number} force row level security"] if r.random() < 0.4 else []),
                              *([f"create policy q on {where}.t{number} as restrictive to {', '.join(r.sample(NAMES, 2))} using (who <> 'bob')"] if r.random() < 0.4 else []))
             self.desk.do(*(f"{r.choice(('grant usage on schema inner_one to', 'revoke usage on schema inner_one from'))} {r.choice(NAMES)}" for _ in range(3)),
-                         f"alter role {r.choice(NAMES)} {r.choice(('inherit', 'noinherit'))}", f"alter database t_{self._testMethodName} owner to {r.choice(NAMES)}")
+                         f"alter role {r.choice(NAMES)} {r.choice(('inherit', 'noinherit'))}", f"alter database {self.name} owner to {r.choice(NAMES)}")
             done = self.desk.program("show")
             self.assertEqual(done.returncode, 0, done.stderr)
             shown = Shown(done.stdout, tuple(NAMES))
@@ -235,7 +199,7 @@ class Program(unittest.TestCase):
         self.desk.do("create operator pg_catalog.= (leftarg = public.mood, rightarg = public.mood, function = public.other)")
         done = self.desk.program("show")
         self.assertEqual((done.returncode, done.stdout), (1, ""))
-        self.assertIn("the database has operators of its own in pg_catalog, which are printed as PostgreSQL's", done.stderr)
+        self.assertIn("the database has operators or aggregates of its own in pg_catalog, which are printed as PostgreSQL's", done.stderr)
 
     def test_a_locked_table_and_too_many_roles(self) -> None:
         self.desk.do("create table notes (id int not null); alter table notes enable row level security; create policy p on notes using (id = 1)", "create table free (id int not null)")

@@ -1,0 +1,147 @@
+"""Cuts: moments of PostgreSQL, each with the rows and the rights that one snapshot saw together.
+
+Logical replication has rows in the order of their commits, and no rights. A catalog has rights, and no order. A cut ties them: one
+statement, and so one snapshot, answers which transactions it sees, a place in the log behind all of them, and the mark of the catalog. The
+stream is read to that place; exactly the transactions that the snapshot sees are a step, with the catalog of the same snapshot where its mark
+is another one. So a right that came and went between two cuts shows no row that was there meanwhile.
+"""
+import time
+from collections import deque
+from typing import NamedTuple
+
+import psycopg2
+
+from catalog import MARK, TRIES, Catalog, Connection, Unsettled, asked, printed_as, within
+from pgoutput import lsn_of
+from stream import OWN, Lost, Stream, Transaction
+
+CUT = f"select pg_current_snapshot()::text, pg_current_wal_insert_lsn()::text, ({MARK})"
+PUSH = 0.002  # seconds, after which a commit of this side's own brings the log to the disk, and so to the stream
+PATIENCE = 0.05  # seconds between two looks at a stream that is late
+PIECE = 5_000  # messages that are taken at a time
+ALL, HALF = 1 << 32, 1 << 31  # numbers of transactions in the stream have 32 bits
+
+
+class Cut(NamedTuple):
+    """What a snapshot sees."""
+
+    most: int  # no transaction from here on
+    running: frozenset[int]  # nor these
+    place: int  # all commits that are seen stand before it
+    mark: str
+
+    def sees(self, xid: int) -> bool:
+        """Of a transaction that has committed, by the lower 32 bits of its number."""
+        whole = self.most - self.most % ALL + xid
+        if whole >= self.most + HALF:
+            whole -= ALL
+        elif whole < self.most - HALF:
+            whole += ALL
+        return whole < self.most and whole not in self.running
+
+
+def cut(connection: Connection, oids: list[int], publication: str) -> Cut:
+    """Of the transaction's snapshot, or of a new one where none is open."""
+    snapshot, place, mark = asked(connection, CUT, {"oids": oids, "publication": publication})[0]
+    _, most, running = snapshot.split(":")
+    return Cut(int(most), frozenset(int(it) for it in running.split(",") if it), lsn_of(place), mark)
+
+
+class Step(NamedTuple):
+    """From one cut to the next."""
+
+    transactions: list[Transaction]
+    cut: Cut
+    catalog: Catalog | None  # none where it is what it was
+
+
+class Steps:
+    """The cuts of a database, one after another."""
+
+    def __init__(self, connection: Connection, dsn: str, stream: Stream, oids: list[int], publication: str, mark: str, place: int):
+        self.connection, self.stream, self.oids, self.publication = connection, stream, oids, publication
+        self.mark = mark  # of the catalog that was told
+        self.place = place  # behind the last transaction that was told
+        self.certain = place  # all commits before it were told
+        self.committed = 0  # where the last commit stands that was told
+        self.waiting: deque[Transaction] = deque()
+        self.names = ""  # by which the texts of policies and views are printed
+        self.texts: dict[str, str] = {}  # that are known, so that none waits for somebody's lock
+        self.pusher = psycopg2.connect(dsn)
+        self.pusher.autocommit = True
+
+    def next(self, seconds: float) -> Step | None:
+        """The next step: none where nothing has changed, or what has cannot be told from what is not seen yet. Waits so long for something
+        to come. Raises Lost, Unreadable, Unsettled, psycopg2.Error."""
+        self.take()
+        if not self.waiting:
+            self.stream.wait(seconds)
+            self.take()
+        found, catalog = self.ask()
+        if catalog is None and not self.waiting:
+            self.certain = max(self.certain, min(self.stream.reached, found.place))
+            return None
+        self.come_to(found.place)
+        seen = [number for number, it in enumerate(self.waiting, 1) if found.sees(it.xid)]
+        count = seen[-1] if seen else 0
+        if len(seen) < count:  # one that committed before another is seen after it, for a moment
+            return None
+        transactions = [self.waiting.popleft() for _ in range(count)]
+        self.mark = found.mark
+        if transactions:
+            self.committed, self.place = transactions[-1].commit, transactions[-1].end
+        self.certain = max(self.certain, self.place if self.waiting else found.place)
+        return Step(transactions, found, catalog) if transactions or catalog else None
+
+    def take(self) -> None:
+        """What has come."""
+        more = True
+        while more:
+            came, more = self.stream.take(PIECE)
+            self.waiting.extend(it for it in came if it.end > self.place)
+
+    def ask(self) -> tuple[Cut, Catalog | None]:
+        """A cut, with its catalog where the mark is another one."""
+        try:
+            for _ in range(TRIES):
+                self.connection.rollback()
+                found = cut(self.connection, self.oids, self.publication)
+                if found.mark == self.mark:
+                    return found, None
+                names = printed_as(self.connection, self.oids)
+                if names != self.names:
+                    self.names, self.texts = names, {}
+                catalog = within(self.connection, self.oids, self.publication, self.texts)
+                self.connection.rollback()
+                if printed_as(self.connection, self.oids) == names:
+                    return found, catalog
+                self.names = ""
+            raise Unsettled("the names of relations and columns change faster than they can be read")
+        finally:
+            self.connection.rollback()
+
+    def come_to(self, place: int) -> None:
+        """Reads the stream until it has all commits before the place. PostgreSQL sends what is on its disk, and what it shows may not
+        be there yet: a commit of this side's own brings it there."""
+        began, pushed = time.monotonic(), False
+        while not self.stream.has(place):
+            if self.stream.connection.closed:
+                raise Lost("the stream has ended")
+            if not pushed and time.monotonic() - began > PUSH:
+                self.push()
+                pushed = True
+            self.stream.wait(PATIENCE if pushed else PUSH)
+            self.take()
+
+    def push(self) -> None:
+        """A transaction that says nothing, and comes as others do."""
+        with self.pusher.cursor() as cursor:
+            cursor.execute("select pg_logical_emit_message(true, %s, '')", [OWN])
+
+    def confirm(self) -> None:
+        """The steps so far are kept."""
+        if self.committed:
+            self.stream.confirm(self.committed)
+
+    def close(self) -> None:
+        self.pusher.close()
