@@ -1,14 +1,15 @@
-//! `id_at`: the id of a message, from a JSON value; `has_good_id`: whether what stands there is one.
+//! `id_at`: the id of a message, from a JSON value; `has_good_id`: whether what stands there is one; `read_id`: the id that a text is.
 ghost use Rattle.std.specs.Prelude.{◌≡◌, IfOk, codes, is_some, option_map, option_and_then};
 ghost use Rattle.serde_json.specs.Find.{get, as_integer, as_number};
 ghost use Rattle.iv_command.specs.RowTexts.{whole};
 ghost use Rattle.iv_request.specs.Documents.{value_data};
+ghost use Rattle.iv_request.specs.Reading.{value_of};
 ghost use Rattle.iv_message.specs.Message.{id_in, is_good_id, id_of};
 ghost use Rattle.iv_message.specs.Seen.{id_data};
 
 use crate::message::Id;
-use iv_request::{get, i64_of, u64_of};
-use json::Value as Json;
+use iv_request::{get, i64_of, read_value, u64_of};
+use json::{Scratch, Value as Json};
 use std::alloc::{AllocError, Global};
 
 /// The greatest number of bytes of an id that is a text.
@@ -59,6 +60,19 @@ fn id_in(alloc: Global, value: &Json<'_>) -> Result<Option<Id>, AllocError>
             }
         }
         _ => Ok(None),
+    }
+}
+
+/// The id that the text of a JSON value is, if it is one.
+///
+/// # Errors
+/// `AllocError` where a growth of memory was refused.
+pub fn read_id(alloc: Global, text: &[u8], scratch: &mut Scratch) -> Result<Option<Id>, AllocError>
+    ensures { IfOk result (λ id. option_map id_data id ≡ option_and_then id_in (value_of text.now)) }
+{
+    match read_value(alloc, text, scratch)? {
+        None => Ok(None),
+        Some(value) => id_in(alloc, &value),
     }
 }
 

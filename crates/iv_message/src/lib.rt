@@ -10,6 +10,7 @@ mod reasons;
 mod telling;
 mod values;
 
+pub use ids::read_id;
 pub use message::{Id, Message, Why};
 pub use reading::{on_one_line, read_message};
 pub use telling::{

@@ -1,0 +1,12 @@
+use Rattle.std.proofs.Common.{◌<◌, length, map, option_map, arith, ◌∙◌, ap, set, sym}
+use Rattle.std.proofs.lemmas.Grind.{common_steps}
+use Rattle.std.proofs.lemmas.List.Edits.{map_over_more}
+use Rattle.iv_command.specs.Views.{line_of}
+use Rattle.iv_clients.specs.Kept.{keeping_on}
+use Rattle.iv_clients.proofs.slots.stay_all.Goals as goal
+
+pub loop-slot-preserved : goal.loop-slot-preserved
+loop-slot-preserved c =
+    let lt : c.loop-slot.slot-index < length c.args.clients.now.items = grind (arith, common_steps, c.loop-slot.invariant) in
+    ap (set c.loop-slot.slot-items c.loop-slot.slot-index) (c.stay_slot.ensures ∙ ap (option_map (keeping_on (map line_of c.args.lines.now))) (sym c.slot-item.is))
+    ∙ map_over_more (option_map (keeping_on (map line_of c.args.lines.now))) c.args.clients.now.items c.loop-slot.slot-items c.loop-slot.slot-index c.slot-item.result lt c.loop-slot.invariant c.slot-item.is

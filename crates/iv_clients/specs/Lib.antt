@@ -1,0 +1,7 @@
+pub mod Bounds
+pub mod Tokens
+pub mod Journal
+pub mod Feeds
+pub mod Clients
+pub mod Parsed
+pub mod Kept

@@ -1,0 +1,81 @@
+-- Which role a token opens, and the file that says so.
+use Rattle.std.specs.Prelude.{ℕ, ◌==◌, ◌&&◌, ◌||◌, not, Bool, true, if◌then◌else◌, List, [], ◌∷◌, length, nat_lt, take, drop, bytes_eq, codes, find, Option, Some, None, option_map, option_and_then, Result, Ok, Err}
+use Rattle.std.specs.List.{list_any}
+use Rattle.hex.specs.Hex.{decode_of}
+use Rattle.hex.specs.declared.error.FromHexError.{FromHexError}
+use Rattle.iv_rows.specs.Names.{is_name}
+use Rattle.iv_access.specs.Rights.{Name}
+
+-- the SHA-256 of a token, and the role that it opens
+pub record Token : Type 0 where
+  pub digest : List ℕ
+  pub role : Name
+
+-- the role that the token of a digest opens
+abbrev pub role_opened : List Token → List ℕ → Option Name
+role_opened tokens digest = option_map (λ t. t.role) (find (λ t. bytes_eq t.digest digest) tokens)
+
+-- ---- the file: lines of TOML, `[tokens]` and then `"DIGEST" = "role"`
+
+-- what stands before the first such byte, and behind it
+abbrev pub cut_at : ℕ → List ℕ → Option (List ℕ × List ℕ)
+cut_at b [] = None
+cut_at b (x ∷ xs) = if x == b then Some ([], xs) else option_map {U = List ℕ × List ℕ} (λ p. (x ∷ p.0, p.1)) (cut_at b xs)
+
+-- what stands behind a prefix
+abbrev pub behind : List ℕ → List ℕ → Option (List ℕ)
+behind prefix bytes = if bytes_eq (take (length prefix) bytes) prefix then Some (drop (length prefix) bytes) else None
+
+-- the digits of a digest and a role, each between quotation marks, and nothing behind them
+abbrev pub token_parts : List ℕ → Option (List ℕ × List ℕ)
+token_parts line =
+    option_and_then (λ (d : List ℕ × List ℕ). option_and_then (λ role_on. option_and_then {U = List ℕ × List ℕ} (λ (r : List ℕ × List ℕ). if length r.1 == 0 then Some (d.0, r.0) else None)
+    (cut_at 34 role_on)) (behind (codes " = \"") d.1)) (option_and_then (cut_at 34) (behind (codes "\"") line))
+
+abbrev pub decoded : Result (List ℕ) FromHexError → Option (List ℕ)
+decoded (Ok digest) = Some digest
+decoded (Err e) = None
+
+abbrev pub digest_in : List ℕ → Option (List ℕ)
+digest_in digits = decoded (decode_of digits)
+
+abbrev pub role_in : List ℕ → Option Name
+role_in role = if is_name role then Some role else None
+
+-- a digest has 32 bytes
+abbrev pub token_with : Name → List ℕ → Option Token
+token_with role digest = if length digest == 32 then Some (record { digest = digest; role = role }) else None
+
+abbrev pub token_in : List ℕ → Option Token
+token_in line = option_and_then (λ (p : List ℕ × List ℕ). option_and_then (λ role. option_and_then (token_with role) (digest_in p.0)) (role_in p.1)) (token_parts line)
+
+-- the name of the table, a remark, or nothing
+abbrev pub is_no_token : List ℕ → Bool
+is_no_token [] = true
+is_no_token (b ∷ line) = (b == 35) || bytes_eq (b ∷ line) (codes "[tokens]")
+
+-- each line is a token or none
+abbrev pub tokens_of : List (List ℕ) → Option (List Token)
+tokens_of [] = Some []
+tokens_of (l ∷ ls) = if is_no_token l then tokens_of ls else option_and_then (λ t. option_map (λ ts. t ∷ ts) (tokens_of ls)) (token_in l)
+
+abbrev pub begun : ℕ → List (List ℕ) → List (List ℕ)
+begun b [] = (b ∷ []) ∷ []
+begun b (l ∷ ls) = (b ∷ l) ∷ ls
+
+-- the lines of a file, of which the last need not end with a newline
+abbrev pub lines_of : List ℕ → List (List ℕ)
+lines_of [] = [] ∷ []
+lines_of (b ∷ bytes) = if b == 10 then [] ∷ lines_of bytes else begun b (lines_of bytes)
+
+abbrev pub has_digest : List ℕ → List Token → Bool
+has_digest digest ts = list_any (λ (t : Token). bytes_eq t.digest digest) ts
+
+-- no digest stands twice
+abbrev pub are_apart : List Token → Bool
+are_apart [] = true
+are_apart (t ∷ ts) = not (has_digest t.digest ts) && are_apart ts
+
+-- the tokens of a file; none where a line is wrong, a digest stands twice, or there is no token
+abbrev pub tokens_in : List ℕ → Option (List Token)
+tokens_in file = option_and_then (λ ts. if are_apart ts && nat_lt 0 (length ts) then Some ts else None) (tokens_of (lines_of file))

@@ -1,0 +1,86 @@
+//! The lines of a journal: `push_entry` writes an entry, `entry_in` reads it; `cut_at` cuts bytes.
+ghost use Rattle.std.specs.Prelude.{◌≡◌, ◌==◌, if◌then◌else◌, ◌++◌, ℕ, List, Option, Some, IfOk, IfSome, OnOk, option_map, string_bytes, true};
+ghost use Rattle.iv_rows.specs.Names.{is_name};
+ghost use Rattle.iv_command.specs.Views.{act_of};
+ghost use Rattle.iv_clients.specs.Journal.{is_shared};
+ghost use Rattle.iv_clients.specs.Tokens.{behind, cut_at};
+ghost use Rattle.iv_clients.specs.Parsed.{entry_in, entry_parts, text_of_entry};
+
+use iv_command::Act;
+use iv_rows::name_ok;
+use std::alloc::{AllocError, Global};
+
+/// Whether it changes what is shared: roles, relations, rights, policies and rows.
+pub fn is_shared(act: &Act) -> bool
+    ensures { result ≡ is_shared (act_of act.now) }
+{
+    !matches!(
+        act,
+        Act::Begin { .. } | Act::Finish | Act::Subscribe { .. } | Act::Unsubscribe { .. }
+    )
+}
+
+/// Appends the line of an entry.
+pub fn push_entry(pending: &mut Vec<u8>, role: &str, line: &[u8]) -> Result<(), AllocError>
+    ensures { OnOk result (pending.new.items ≡ pending.old.items ++ text_of_entry role.now line.now) }
+{
+    pending.extend_from_slice(b"{\"as\":\"")?;
+    pending.extend_from_slice(role.as_bytes())?;
+    pending.extend_from_slice(b"\",")?;
+    pending.extend_from_slice(line.get(1..).unwrap_or(&[]))?;
+    pending.push(b'\n')?;
+    Ok(())
+}
+
+/// What stands before the first such byte, and behind it.
+pub fn cut_at(bytes: &[u8], byte: u8) -> Option<(&[u8], &[u8])>
+    ensures { option_map (λ p. (p.0.now, p.1.now)) result ≡ cut_at byte bytes.now }
+{
+    for at in 0..bytes.len() {
+        if bytes[at] == byte {
+            return Some((&bytes[..at], &bytes[at + 1..]));
+        }
+    }
+    None
+}
+
+/// What stands behind a prefix.
+pub fn behind<'a>(bytes: &'a [u8], prefix: &[u8]) -> Option<&'a [u8]>
+    ensures { option_map (λ rest. rest.now) result ≡ behind prefix.now bytes.now }
+{
+    if bytes.len() < prefix.len() {
+        return None;
+    }
+    let (front, rest) = bytes.split_at(prefix.len());
+    if front == prefix { Some(rest) } else { None }
+}
+
+/// The role of a line, and the message behind it without its brace.
+fn entry_parts(line: &[u8]) -> Option<(&[u8], &[u8])>
+    ensures { option_map (λ p. (p.0.now, p.1.now)) result ≡ entry_parts line.now }
+{
+    let rest = behind(line, b"{\"as\":\"")?;
+    let (role, rest) = cut_at(rest, b'"')?;
+    let rest = behind(rest, b",")?;
+    Some((role, rest))
+}
+
+/// The role and the message of a line that is an entry.
+pub fn entry_in(alloc: Global, line: &[u8]) -> Result<Option<(String, Vec<u8>)>, AllocError>
+    ensures entry { IfOk result (λ o. option_map (λ p. (string_bytes p.0, p.1.items)) o ≡ entry_in line.now) }
+    ensures name { IfOk result (λ o. IfSome o (λ p. is_name (string_bytes p.0) ≡ true)) }
+{
+    let Some((role, rest)) = entry_parts(line) else {
+        return Ok(None);
+    };
+    let Ok(role) = str::from_utf8(role) else {
+        return Ok(None);
+    };
+    if !name_ok(role) {
+        return Ok(None);
+    }
+    let mut text = Vec::new(alloc);
+    text.push(b'{')?;
+    text.extend_from_slice(rest)?;
+    Ok(Some((String::from_str(alloc, role)?, text)))
+}

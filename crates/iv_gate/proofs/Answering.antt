@@ -1,0 +1,400 @@
+-- Each client is welcomed and answered, and what it closes or is told to end is over.
+use Rattle.std.proofs.Common.{◌≡◌, ℕ, zero, suc, ◌+◌, ◌⊎◌, inl, inr, Bool, true, false, cond, ◌||◌, List, [], ◌∷◌, ◌++◌, length, drop, Option, Some, None, option_map, refl, ap, ◌∙◌, sym, subst, append-nil, arith}
+use Rattle.std.specs.Prelude.{◌==◌, ◌&&◌, Contains, filter, find, nat_lt, slice_get}
+use Rattle.std.specs.List.{list_any}
+use Rattle.std.proofs.lemmas.Bool.{false≢true, eqb-true}
+use Rattle.std.proofs.lemmas.List.{length-append}
+use Rattle.std.proofs.lemmas.List.Elements.{Contains-append_cases, filter-append}
+use Rattle.serde_json.specs.Data.{Data}
+use Rattle.iv_rows.specs.Columns.{Column}
+use Rattle.iv_rows.specs.Options.{if_some}
+use Rattle.iv_access.specs.Rights.{Name}
+use Rattle.iv_machine.specs.Act.{Act, begin, finish, create_role, create_table, create_view, grant, revoke, grant_role, revoke_role, row_security, create_policy, drop_policy, subscribe, unsubscribe, write, Reply, done, subscribed, refused, no_session, too_many, unknown_subscription}
+use Rattle.iv_machine.specs.State.{State}
+use Rattle.iv_message.specs.Message.{Message, no_json, too_long, no_object, no_request, request}
+use Rattle.iv_message.specs.Told.{Told, welcome, replied, opened}
+use Rattle.iv_clients.specs.Bounds.{most_subs}
+use Rattle.iv_clients.specs.Clients.{Client, Sub, answered, at_client, client_at, closing, followed, followed_by, fresh, may_say, saying, settling, told, told_one}
+use Rattle.iv_clients.specs.Feeds.{Feed, feed_for, room_for, seat_of}
+use Rattle.iv_clients.specs.Journal.{Entry, said_by}
+use Rattle.iv_gate.specs.Events.{Event, presented, message, gone, known, ticked, synced, handed, failed, happens, next}
+use Rattle.iv_gate.specs.Gate.{Gate, begun_for, closes, done_for, hears, in_session, reply_to, seated, settles, swept, tells}
+use Rattle.iv_gate.specs.Replies.{IsAnswered, IsClient, heard_by, is_opened, is_reply, reading_told, replies, told_by}
+use Rattle.iv_gate.specs.Seen.{IsClosed, has_ended, is_end_of}
+use Rattle.iv_gate.specs.Touched.{is_gone}
+use Rattle.iv_gate.proofs.Growing.{drop_front}
+use Rattle.iv_gate.proofs.Places.{any_before, any_behind, get_last, get_more, none_opened, none_passes, replies_both}
+use Rattle.iv_gate.proofs.Hearing.{Hears, ends_for, happens_apart, hears_same, is_own}
+use Rattle.iv_gate.proofs.Replying.{Answer, Behind, IsClosing, act_reply, asked, begun_reply, behind_settles, behind_swept, closed_own, first_reply, heard_answers, other_reply, read_reply, said_reply}
+use Rattle.iv_gate.proofs.Touching.{alive as is_alive, at_same, one_some, rests, some_is_none, touched}
+
+-- ---- what an event tells
+
+drop_text : (c d : Client) (more : List Told) → told d ≡ told c ++ more → told_by c d ≡ more
+drop_text c d more e = ap (drop (length (told c))) e ∙ drop_front (told c) more
+
+-- the event is the message
+pub record IsOwn (m : ℕ) (c : Client) (e : Event) (text : List ℕ) : Type 0 where
+  pub event : e ≡ message m text
+  pub says : may_say c ≡ true
+
+pub heard_is : (m : ℕ) (c : Client) (e : Event) (text : List ℕ) → heard_by m c e ≡ Some text → IsOwn m c e text
+heard_is m c (message n u) text h = by (n == m) (may_say c) refl refl h
+  where
+    by : (a b : Bool) → (n == m) ≡ a → may_say c ≡ b → cond (a && b) (Some u) None ≡ Some text → IsOwn m c (message n u) text
+    by true true e f g = record { event = (λ i. message (eqb-true n m e i) (one_some u text g i)); says = f }
+    by true false e f g = absurd (some_is_none text (sym g))
+    by false b e f g = absurd (some_is_none text (sym g))
+heard_is m c (presented n token) text h = absurd (some_is_none text (sym h))
+heard_is m c (gone n) text h = absurd (some_is_none text (sym h))
+heard_is m c (known tokens) text h = absurd (some_is_none text (sym h))
+heard_is m c ticked text h = absurd (some_is_none text (sym h))
+heard_is m c synced text h = absurd (some_is_none text (sym h))
+heard_is m c (handed n) text h = absurd (some_is_none text (sym h))
+heard_is m c failed text h = absurd (some_is_none text (sym h))
+
+abbrev pub OwnAnswer : Gate → ℕ → Client → List ℕ → Client → Type 0
+OwnAnswer g m c text d = Answer (asked g m text) (said_by text) (said_reply (asked g m text) c (said_by text)) (saying text c) d
+
+pub heard_next : (g : Gate) (e : Event) (m : ℕ) (c : Client) (text : List ℕ) → g.dead ≡ false → client_at g.clients m ≡ Some c → IsOwn m c e text → next g e ≡ hears g m c text
+heard_next g e m c text live h o =
+    is_alive g e live ∙ (ap (happens g) o.event
+    ∙ (ap (λ x. if_some x g (λ b. cond (may_say b) (hears g m b text) g)) h ∙ ap (λ t. cond t (hears g m c text) g) o.says))
+
+pub own_answer : (g : Gate) (e : Event) (m : ℕ) (c d : Client) (text : List ℕ) → g.dead ≡ false → client_at g.clients m ≡ Some c → client_at (next g e).clients m ≡ Some d → IsOwn m c e text
+    → OwnAnswer g m c text d
+own_answer g e m c d text live h k o =
+    let p = heard_answers g m c text h in
+    subst (OwnAnswer g m c text) (one_some p.now d (sym p.there ∙ (ap (λ (x : Gate). client_at x.clients m) (sym (heard_next g e m c text live h o)) ∙ k))) p.so
+
+-- by what is no message of its own that is heard it is told no reply
+pub other_hears : (g : Gate) (e : Event) (m : ℕ) (c d : Client) → g.dead ≡ false → client_at g.clients m ≡ Some c → client_at (next g e).clients m ≡ Some d → d.dropped ≡ false → heard_by m c e ≡ None → Hears c d
+other_hears g e m c d live h k s u = happens_apart g e m c d h (ap (λ (x : Gate). client_at x.clients m) (sym (is_alive g e live)) ∙ k) s u
+
+pub others_told : (g : Gate) (e : Event) (m : ℕ) (c d : Client) → g.dead ≡ false → IsClient g m c → IsClient (next g e) m d → heard_by m c e ≡ None → replies (told_by c d) ≡ []
+others_told g e m c d live a b u = let x = other_hears g e m c d live a.there b.there b.stays u in ap replies (drop_text c d x.more x.text) ∙ x.quiet
+
+pub own_told : (g : Gate) (m : ℕ) (c : Client) (text : List ℕ) (d : Client) (x : OwnAnswer g m c text d) → told_by c d ≡ x.before ++ said_reply (asked g m text) c (said_by text) ∷ x.others
+own_told g m c text d x = drop_text c d (x.before ++ said_reply (asked g m text) c (said_by text) ∷ x.others) x.text
+
+-- ---- what is closed is followed no more
+
+pub not_followed : (xs : List Sub) (own : ℕ) → is_own own xs ≡ false → followed_by xs own ≡ None
+not_followed [] own h = refl
+not_followed (x ∷ xs) own h = by (own == x.own) h (not_followed xs own)
+  where
+    by : (b : Bool) → (b || is_own own xs) ≡ false → (is_own own xs ≡ false → followed_by xs own ≡ None) → option_map (λ (s : Sub). s.feed) (cond b (Some x) (find (λ (s : Sub). own == s.own) xs)) ≡ None
+    by true k more = absurd (false≢true (sym k))
+    by false k more = more k
+
+pub follows_none : (xs : List Sub) (own : ℕ) → followed_by xs own ≡ None → is_own own xs ≡ false
+follows_none [] own h = refl
+follows_none (x ∷ xs) own h = by (own == x.own) h (follows_none xs own)
+  where
+    by : (b : Bool) → option_map (λ (s : Sub). s.feed) (cond b (Some x) (find (λ (s : Sub). own == s.own) xs)) ≡ None → (followed_by xs own ≡ None → is_own own xs ≡ false) → (b || is_own own xs) ≡ false
+    by true k more = absurd (some_is_none x.feed k)
+    by false k more = more k
+
+closes_at : (g : Gate) (m : ℕ) (c : Client) (text : List ℕ) (id : Option Data) (own : ℕ) (d : Client) → client_at g.clients m ≡ Some (saying text c) → client_at (settles (closes g m c id own)).clients m ≡ Some d
+    → is_own own d.subs ≡ false
+closes_at g m c text id own d h k = by (followed c own) refl k
+  where
+    h2 : Gate
+    h2 = record g { clients = at_client m (closing own) g.clients }
+
+    left : (old : Gate) (x : Client) → client_at old.clients m ≡ Some x → is_own own x.subs ≡ false → (new : Gate) → Behind m old.clients new.clients → client_at (settles new).clients m ≡ Some d → is_own own d.subs ≡ false
+    left old x t n new f e =
+        let p = f x t in let q = behind_settles m new p.now p.there in
+        subst (λ (y : Client). is_own own y.subs ≡ false) (one_some q.now d (sym q.there ∙ e)) (q.so.none own (p.so.none own n))
+
+    same : (old : Gate) → Behind m old.clients old.clients
+    same old x t = record { now = x; there = t; so = hears_same x }
+
+    by : (o : Option ℕ) → followed c own ≡ o
+        → client_at (settles (if_some o (tells g m (replied id (refused unknown_subscription))) (λ i. swept (tells (record g { clients = at_client m (closing own) g.clients }) m (replied id done)) i))).clients m ≡ Some d → is_own own d.subs ≡ false
+    by None f e =
+        let t = replied id (refused unknown_subscription) in
+        left (tells g m t) (told_one g.entries t (saying text c)) (at_same m (told_one g.entries t) g.clients ∙ ap (option_map (told_one g.entries t)) h) (follows_none c.subs own f) (tells g m t) (same (tells g m t)) e
+    by (Some i) f e =
+        let t = replied id done in let n = tells h2 m t in
+        left n (told_one g.entries t (closing own (saying text c)))
+        (at_same m (told_one g.entries t) h2.clients ∙ ap (option_map (told_one g.entries t)) (at_same m (closing own) g.clients ∙ ap (option_map (closing own)) h))
+        (closed_own own c.subs) (swept n i) (behind_swept m n i) e
+
+-- behind a message that closes a number it has it no more
+closes_own : (g : Gate) (e : Event) (m : ℕ) (c d : Client) (text : List ℕ) (id : Option Data) (own : ℕ) → g.dead ≡ false → client_at g.clients m ≡ Some c → client_at (next g e).clients m ≡ Some d → IsOwn m c e text
+    → said_by text ≡ request id (unsubscribe own) → is_own own d.subs ≡ false
+closes_own g e m c d text id own live a b u s = marked (client_at (settles did).clients m) refl there
+  where
+    h : Gate
+    h = asked g m text
+
+    did : Gate
+    did = done_for h m c text (said_by text)
+
+    there : option_map (answered c) (client_at (settles did).clients m) ≡ Some d
+    there = sym (at_same m (answered c) (settles did).clients) ∙ (ap (λ (x : Gate). client_at x.clients m) (sym (heard_next g e m c text live a u)) ∙ b)
+
+    marked : (o : Option Client) → client_at (settles did).clients m ≡ o → option_map (answered c) o ≡ Some d → is_own own d.subs ≡ false
+    marked None f k = absurd (some_is_none d (sym k))
+    marked (Some x) f k = subst (λ (y : Client). is_own own y.subs ≡ false) (one_some (answered c x) d k)
+        (closes_at h m c text id own x (at_same m (saying text) g.clients ∙ ap (option_map (saying text)) a) (ap (λ z. client_at (settles (done_for h m c text z)).clients m) (sym s) ∙ f))
+
+-- ---- an invariant of clients, by what happens to them
+
+-- where it closes a number by the text, it has it no more
+abbrev pub Closes : List ℕ → Client → Type 0
+Closes text d = (id : Option Data) (own : ℕ) → said_by text ≡ request id (unsubscribe own) → is_own own d.subs ≡ false
+
+-- how a client comes to be what it is behind an event
+pub record Came (P : Client → Type 0) : Type 0 where
+  pub new : (es : List Entry) (role : Name) (digest : List ℕ) → P (settling es (told_one es (welcome role) (fresh role digest)))
+  pub hears : (c d : Client) → Hears c d → P c → P d
+  pub answers : (g : Gate) (m : ℕ) (c : Client) (text : List ℕ) (d : Client) → OwnAnswer g m c text d → Closes text d → P c → P d
+
+was_there : (g : Gate) (e : Event) (m : ℕ) (c d : Client) → g.dead ≡ false → client_at g.clients m ≡ Some c → IsClient (next g e) m d → c.dropped ≡ false
+was_there g e m c d live h b = by (is_gone m e) refl
+  where
+    or_no : (x y : Bool) → (x || y) ≡ false → x ≡ false
+    or_no true y k = k
+    or_no false y k = refl
+
+    by : (t : Bool) → is_gone m e ≡ t → c.dropped ≡ false
+    by true t = absurd (some_is_none d (sym b.there ∙ (touched g e live).leaves m t))
+    by false t =
+        let x = (touched g e live).stays m c h t in
+        or_no c.dropped _ (sym x.dropped ∙ (ap (λ (y : Client). y.dropped) (one_some x.now d (sym x.there ∙ b.there)) ∙ b.stays))
+
+pub came_next : (P : Client → Type 0) → Came P → (g : Gate) (e : Event) → ((m : ℕ) (c : Client) → IsClient g m c → P c) → (m : ℕ) (d : Client) → IsClient (next g e) m d → P d
+came_next P k g e before m d b = by g.dead refl
+  where
+    heard : g.dead ≡ false → (c : Client) → client_at g.clients m ≡ Some c → c.dropped ≡ false → (o : Option (List ℕ)) → heard_by m c e ≡ o → P d
+    heard live c h s None u = k.hears c d (other_hears g e m c d live h b.there b.stays u) (before m c (record { there = h; stays = s }))
+    heard live c h s (Some text) u =
+        let o = heard_is m c e text u in
+        k.answers g m c text d (own_answer g e m c d text live h b.there o) (λ id own. closes_own g e m c d text id own live h b.there o) (before m c (record { there = h; stays = s }))
+
+    there : g.dead ≡ false → (o : Option Client) → client_at g.clients m ≡ o → P d
+    there live None h = let x = (touched g e live).comes m d h b.there in subst P (sym x.is) (k.new (next g e).entries d.role _)
+    there live (Some c) h = heard live c h (was_there g e m c d live h b) (heard_by m c e) refl
+
+    by : (t : Bool) → g.dead ≡ t → P d
+    by true t = before m d (record { there = ap (λ (x : Gate). client_at x.clients m) (sym (rests g e t)) ∙ b.there; stays = b.stays })
+    by false t = there t (client_at g.clients m) refl
+
+-- ---- answered
+
+reading_is : (s : State) (c : Client) (id : Option Data) (rel : Name) (r : Reply) → is_reply (reading_told s c id rel r) ≡ true
+reading_is s c id rel (subscribed k) = refl
+reading_is s c id rel done = refl
+reading_is s c id rel (refused r) = refl
+
+first_is : (g : Gate) (c : Client) (id : Option Data) (role rel : Name) → is_reply (first_reply g c id role rel) ≡ true
+first_is g c id role rel = by (room_for g.seats g.feeds role) (begun_for g role)
+  where
+    by : (o p : Option ℕ) → is_reply (if_some o (if_some p (replied id (refused too_many)) (λ n. begun_reply (seated g n role) c id n rel)) (λ n. begun_reply g c id n rel)) ≡ true
+    by None None = refl
+    by None (Some n) = reading_is (seated g n role).machine c id rel _
+    by (Some n) p = reading_is g.machine c id rel _
+
+read_is : (g : Gate) (c : Client) (id : Option Data) (rel : Name) → is_reply (read_reply g c id rel) ≡ true
+read_is g c id rel = by (nat_lt (length c.subs) most_subs) (feed_for g.feeds c.role rel)
+  where
+    by : (b : Bool) (o : Option Feed) → is_reply (cond b (if_some o (first_reply g c id c.role rel) (λ f. begun_reply g c id f.session f.rel)) (replied id (refused too_many))) ≡ true
+    by true None = first_is g c id c.role rel
+    by true (Some f) = reading_is g.machine c id f.rel _
+    by false o = refl
+
+other_is : (g : Gate) (c : Client) (id : Option Data) (act : Act) → is_reply (other_reply g c id act) ≡ true
+other_is g c id act = by (seat_of g.seats c.role)
+  where
+    by : (o : Option ℕ) → is_reply (if_some o (replied id (refused no_session)) (λ n. replied id (reply_to g (in_session n act)))) ≡ true
+    by None = refl
+    by (Some n) = refl
+
+act_is : (g : Gate) (c : Client) (id : Option Data) (act : Act) → is_reply (act_reply g c id act) ≡ true
+act_is g c id (begin role) = refl
+act_is g c id finish = refl
+act_is g c id (subscribe rel) = read_is g c id rel
+act_is g c id (unsubscribe own) = refl
+act_is g c id (create_role name) = other_is g c id (create_role name)
+act_is g c id (create_table name owner columns) = other_is g c id (create_table name owner columns)
+act_is g c id (create_view name owner query) = other_is g c id (create_view name owner query)
+act_is g c id (grant rel privileges to) = other_is g c id (grant rel privileges to)
+act_is g c id (revoke rel privileges to) = other_is g c id (revoke rel privileges to)
+act_is g c id (grant_role group to) = other_is g c id (grant_role group to)
+act_is g c id (revoke_role group to) = other_is g c id (revoke_role group to)
+act_is g c id (row_security rel enable force) = other_is g c id (row_security rel enable force)
+act_is g c id (create_policy p) = other_is g c id (create_policy p)
+act_is g c id (drop_policy rel name) = other_is g c id (drop_policy rel name)
+act_is g c id (write entries) = other_is g c id (write entries)
+
+-- what a message is replied is a reply
+pub said_is : (g : Gate) (c : Client) (s : Message) → is_reply (said_reply g c s) ≡ true
+said_is g c no_json = refl
+said_is g c too_long = refl
+said_is g c no_object = refl
+said_is g c (no_request id why) = refl
+said_is g c (request id act) = act_is g c id act
+
+pub replies_of : (ts us vs : List Told) (t : Told) → replies us ≡ [] → replies vs ≡ [] → is_reply t ≡ true → replies (ts ++ (us ++ t ∷ vs)) ≡ replies ts ++ t ∷ []
+replies_of ts us vs t a b h =
+    replies_both ts (us ++ t ∷ vs) ∙ ap (λ z. replies ts ++ z) (replies_both us (t ∷ vs) ∙ ((λ i. a i ++ cond (h i) (t ∷ replies vs) (replies vs)) ∙ ap (λ z. t ∷ z) b))
+
+opened_of : (ts us vs : List Told) (t : Told) → replies us ≡ [] → replies vs ≡ [] → filter is_opened (ts ++ (us ++ t ∷ vs)) ≡ filter is_opened ts ++ filter is_opened (t ∷ [])
+opened_of ts us vs t a b =
+    filter-append is_opened ts (us ++ t ∷ vs)
+    ∙ ap (λ z. filter is_opened ts ++ z) (filter-append is_opened us (t ∷ vs) ∙ ((λ i. none_opened us a i ++ cond (is_opened t) (t ∷ none_opened vs b i) (none_opened vs b i))))
+
+pub new_answered : (es : List Entry) (role : Name) (digest : List ℕ) → IsAnswered (settling es (told_one es (welcome role) (fresh role digest)))
+new_answered es role digest = record { welcome = (_, refl); each = refl; given = refl }
+
+pub hears_answered : (c d : Client) → Hears c d → IsAnswered c → IsAnswered d
+hears_answered c d x a = record {
+  welcome = (a.welcome.0 ++ x.more, x.text ∙ (ap (λ z. z ++ x.more) a.welcome.1 ∙ ap (λ r. welcome r ∷ (a.welcome.0 ++ x.more)) (sym x.role)));
+  each = ap (λ z. length (replies z)) x.text
+      ∙ (ap length (replies_both (told c) x.more ∙ (ap (λ z. replies (told c) ++ z) x.quiet ∙ append-nil (replies (told c)))) ∙ (a.each ∙ ap (λ z. 1 + length z) (sym x.messages)));
+  given = x.given ∙ (a.given ∙ ap length (sym (ap (filter is_opened) x.text ∙ (filter-append is_opened (told c) x.more ∙ (ap (λ z. filter is_opened (told c) ++ z) (none_opened x.more x.quiet) ∙ append-nil (filter is_opened (told c)))))));
+}
+
+pub answers_answered : (g : Gate) (m : ℕ) (c : Client) (text : List ℕ) (d : Client) → OwnAnswer g m c text d → IsAnswered c → IsAnswered d
+answers_answered g m c text d x a = record {
+  welcome = (a.welcome.0 ++ more, x.text ∙ (ap (λ z. z ++ more) a.welcome.1 ∙ ap (λ r. welcome r ∷ (a.welcome.0 ++ more)) (sym x.role)));
+  each = each;
+  given = given;
+}
+  where
+    t : Told
+    t = said_reply (asked g m text) c (said_by text)
+
+    more : List Told
+    more = x.before ++ t ∷ x.others
+
+    plus : (n k : ℕ) → n ≡ 1 + k → n + 1 ≡ 1 + (k + 1)
+    plus n k e = omega (arith, e)
+
+    each : length (replies (told d)) ≡ 1 + length d.messages
+    each = ap (λ z. length (replies z)) x.text
+        ∙ (ap length (replies_of (told c) x.before x.others t x.started x.alone (said_is (asked g m text) c (said_by text)))
+        ∙ (length-append (replies (told c)) (t ∷ []) ∙ (plus (length (replies (told c))) (length c.messages) a.each ∙ ap (λ z. 1 + z) (sym (ap length x.messages ∙ length-append c.messages (text ∷ []))))))
+
+    by : (b : Bool) → is_opened t ≡ b → cond b (c.given + 1) c.given ≡ length (filter is_opened (told c)) + length (cond b (t ∷ []) [])
+    by true e = ap (λ z. z + 1) a.given
+    by false e = plain c.given (length (filter is_opened (told c))) a.given
+      where
+        plain : (n k : ℕ) → n ≡ k → n ≡ k + 0
+        plain n k e = omega (arith, e)
+
+    given : d.given ≡ length (filter is_opened (told d))
+    given = x.given ∙ (by (is_opened t) refl
+        ∙ sym (ap (λ z. length (filter is_opened z)) x.text ∙ (ap length (opened_of (told c) x.before x.others t x.started x.alone) ∙ length-append (filter is_opened (told c)) (filter is_opened (t ∷ [])))))
+
+pub keeps_answered : Came IsAnswered
+keeps_answered = record { new = new_answered; hears = hears_answered; answers = λ g m c text d x n. answers_answered g m c text d x }
+
+-- ---- over
+
+-- a number that was given and follows nothing was told its end, or was closed
+abbrev pub IsSettled : Client → Type 0
+IsSettled c = IsAnswered c × ((id : Option Data) (own : ℕ) (columns : List Column) → Contains (told c) (opened id own columns) → is_own own c.subs ≡ false → (has_ended c own ≡ true) ⊎ IsClosed c own)
+
+closed_more : (c d : Client) (own : ℕ) (ms : List (List ℕ)) (ts : List Told) → d.messages ≡ c.messages ++ ms → told d ≡ told c ++ ts → IsClosed c own → IsClosed d own
+closed_more c d own ms ts m t (place, id, (text, there, asks, reply)) = (
+  place,
+  id,
+  (
+    text,
+    ap (λ z. slice_get z place) m ∙ get_more c.messages ms place text there,
+    asks,
+    ap (λ z. slice_get (replies z) (place + 1)) t ∙ (ap (λ z. slice_get z (place + 1)) (replies_both (told c) ts) ∙ get_more (replies (told c)) (replies ts) (place + 1) (replied id done) reply),
+  ),
+)
+
+ended_more : (c d : Client) (own : ℕ) (ts : List Told) → told d ≡ told c ++ ts → has_ended c own ≡ true → has_ended d own ≡ true
+ended_more c d own ts t h = ap (list_any (is_end_of own)) t ∙ any_before (is_end_of own) (told c) ts h
+
+ended_now : (c d : Client) (own : ℕ) (ts : List Told) → told d ≡ told c ++ ts → ends_for own ts ≡ true → has_ended d own ≡ true
+ended_now c d own ts t h = ap (list_any (is_end_of own)) t ∙ any_behind (is_end_of own) (told c) ts h
+
+new_settled : (es : List Entry) (role : Name) (digest : List ℕ) → IsSettled (settling es (told_one es (welcome role) (fresh role digest)))
+new_settled es role digest = (new_answered es role digest, λ id own columns k h. absurd (none_passes is_opened (told (settling es (told_one es (welcome role) (fresh role digest)))) (opened id own columns) k refl refl))
+
+hears_settled : (c d : Client) → Hears c d → IsSettled c → IsSettled d
+hears_settled c d x a = (hears_answered c d x a.0, λ id own columns k h. by id own columns (Contains-append_cases (told c) x.more (opened id own columns) (subst (λ ts. Contains ts (opened id own columns)) x.text k)) h)
+  where
+    still : (own : ℕ) → (has_ended c own ≡ true) ⊎ IsClosed c own → (has_ended d own ≡ true) ⊎ IsClosed d own
+    still own (inl h) = inl (ended_more c d own x.more x.text h)
+    still own (inr h) = inr (closed_more c d own [] x.more (x.messages ∙ sym (append-nil c.messages)) x.text h)
+
+    had : (id : Option Data) (own : ℕ) (columns : List Column) → Contains (told c) (opened id own columns) → is_own own d.subs ≡ false → (t : Bool) → is_own own c.subs ≡ t → (has_ended d own ≡ true) ⊎ IsClosed d own
+    had id own columns k h true t = inl (ended_now c d own x.more x.text (x.lost own t h))
+    had id own columns k h false t = still own (a.1 id own columns k t)
+
+    by : (id : Option Data) (own : ℕ) (columns : List Column) → Contains (told c) (opened id own columns) ⊎ Contains x.more (opened id own columns) → is_own own d.subs ≡ false → (has_ended d own ≡ true) ⊎ IsClosed d own
+    by id own columns (inl k) h = had id own columns k h (is_own own c.subs) refl
+    by id own columns (inr k) h = absurd (none_passes is_reply x.more (opened id own columns) k refl x.quiet)
+
+answers_settled : (g : Gate) (m : ℕ) (c : Client) (text : List ℕ) (d : Client) → OwnAnswer g m c text d → IsSettled c → IsSettled d
+answers_settled g m c text d x a =
+    (answers_answered g m c text d x a.0, λ id own columns k h. by id own columns (Contains-append_cases (told c) more (opened id own columns) (subst (λ ts. Contains ts (opened id own columns)) x.text k)) h)
+  where
+    t : Told
+    t = said_reply (asked g m text) c (said_by text)
+
+    more : List Told
+    more = x.before ++ t ∷ x.others
+
+    plus : (n : ℕ) → 1 + n ≡ n + 1
+    plus n = omega arith
+
+    -- the message closed it
+    closed : (own : ℕ) → IsClosing own (said_by text) t → IsClosed d own
+    closed own k = (
+      length c.messages,
+      k.id,
+      (
+        text,
+        ap (λ z. slice_get z (length c.messages)) x.messages ∙ get_last c.messages text [],
+        k.asks,
+        ap (λ z. slice_get (replies z) (length c.messages + 1)) x.text
+            ∙ (ap (λ z. slice_get z (length c.messages + 1)) (replies_of (told c) x.before x.others t x.started x.alone (said_is (asked g m text) c (said_by text)))
+            ∙ (ap (λ i. slice_get (replies (told c) ++ t ∷ []) i) (sym (a.0.each ∙ plus (length c.messages))) ∙ (get_last (replies (told c)) t [] ∙ ap Some k.tells))),
+      ),
+    )
+
+    lost : (own : ℕ) → (ends_for own more ≡ true) ⊎ IsClosing own (said_by text) t → (has_ended d own ≡ true) ⊎ IsClosed d own
+    lost own (inl k) = inl (ended_now c d own more x.text k)
+    lost own (inr k) = inr (closed own k)
+
+    still : (own : ℕ) → (has_ended c own ≡ true) ⊎ IsClosed c own → (has_ended d own ≡ true) ⊎ IsClosed d own
+    still own (inl h) = inl (ended_more c d own more x.text h)
+    still own (inr h) = inr (closed_more c d own (text ∷ []) more x.messages x.text h)
+
+    had : (id : Option Data) (own : ℕ) (columns : List Column) → Contains (told c) (opened id own columns) → is_own own d.subs ≡ false → (b : Bool) → is_own own c.subs ≡ b → (has_ended d own ≡ true) ⊎ IsClosed d own
+    had id own columns k h true b = lost own (x.lost own (inl b) h)
+    had id own columns k h false b = still own (a.1 id own columns k b)
+
+    opens : (id : Option Data) (own : ℕ) (columns : List Column) → t ≡ opened id own columns → is_own own d.subs ≡ false → (has_ended d own ≡ true) ⊎ IsClosed d own
+    opens id own columns e h = lost own (x.lost own (inr (ap is_opened e, x.number id own columns e)) h)
+
+    the_one : (y : Told) → Contains (t ∷ []) y → t ≡ y
+    the_one y (zero, k, e) = e
+    the_one y (suc i, k, e) = absurd (let no : ⊥ = omega (arith, k) in no)
+
+    now : (id : Option Data) (own : ℕ) (columns : List Column) → Contains (t ∷ []) (opened id own columns) ⊎ Contains x.others (opened id own columns) → is_own own d.subs ≡ false
+        → (has_ended d own ≡ true) ⊎ IsClosed d own
+    now id own columns (inl k) h = opens id own columns (the_one (opened id own columns) k) h
+    now id own columns (inr k) h = absurd (none_passes is_reply x.others (opened id own columns) k refl x.alone)
+
+    later : (id : Option Data) (own : ℕ) (columns : List Column) → Contains x.before (opened id own columns) ⊎ Contains (t ∷ x.others) (opened id own columns) → is_own own d.subs ≡ false
+        → (has_ended d own ≡ true) ⊎ IsClosed d own
+    later id own columns (inl k) h = absurd (none_passes is_reply x.before (opened id own columns) k refl x.started)
+    later id own columns (inr k) h = now id own columns (Contains-append_cases (t ∷ []) x.others (opened id own columns) k) h
+
+    by : (id : Option Data) (own : ℕ) (columns : List Column) → Contains (told c) (opened id own columns) ⊎ Contains more (opened id own columns) → is_own own d.subs ≡ false
+        → (has_ended d own ≡ true) ⊎ IsClosed d own
+    by id own columns (inl k) h = had id own columns k h (is_own own c.subs) refl
+    by id own columns (inr k) h = later id own columns (Contains-append_cases x.before (t ∷ x.others) (opened id own columns) k) h
+
+pub keeps_settled : Came IsSettled
+keeps_settled = record { new = new_settled; hears = hears_settled; answers = λ g m c text d x n. answers_settled g m c text d x }

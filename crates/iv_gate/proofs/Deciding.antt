@@ -1,0 +1,324 @@
+-- What a client is replied is the machine's reply in a session of its role, or the refusal that is said.
+use Rattle.std.proofs.Common.{◌≡◌, ◌⊎◌, inl, inr, ℕ, zero, suc, ◌<◌, ◌≤◌, Bool, true, false, not, cond, ◌||◌, List, [], ◌∷◌, ◌++◌, length, Option, Some, None, is_some, refl, ap, ◌∙◌, sym, subst, arith}
+use Rattle.std.specs.Prelude.{◌==◌, bytes_eq, count_by, filter, find, nat_le, nat_lt, option_and_then}
+use Rattle.std.specs.List.{AllByRecursion, list_any}
+use Rattle.std.proofs.lemmas.Bool.{false≢true, eqb-true}
+use Rattle.std.proofs.lemmas.Bool.Decides.{nat_tests}
+use Rattle.std.proofs.lemmas.List.{length-map}
+use Rattle.std.proofs.lemmas.List.Sums.{length-filter}
+use Rattle.std.proofs.lemmas.Slice.Eq.{bytes_eq-Decides}
+use Rattle.serde_json.specs.Data.{Data}
+use Rattle.iv_rows.specs.Options.{if_some}
+use Rattle.iv_access.specs.Privileges.{role_of}
+use Rattle.iv_access.specs.Rights.{Name}
+use Rattle.iv_machine.specs.Act.{Act, begin, finish, create_role, create_table, create_view, grant, revoke, grant_role, revoke_role, row_security, create_policy, drop_policy, subscribe, unsubscribe, write, Refusal, Reply, done, subscribed, refused, no_session, session_in_use, too_many, unknown_role}
+use Rattle.iv_machine.specs.Changing.{after}
+use Rattle.iv_machine.specs.Given.{count_to}
+use Rattle.iv_machine.specs.Machine.{outcome, settled, step}
+use Rattle.iv_machine.specs.Reached.{AreUnique}
+use Rattle.iv_machine.specs.Refusing.{or_else, refusal, test}
+use Rattle.iv_machine.specs.State.{Session, State, Subscription, is_open, session_of}
+use Rattle.iv_message.specs.Message.{Message, no_json, too_long, no_object, no_request, request}
+use Rattle.iv_message.specs.Told.{Told, replied}
+use Rattle.iv_clients.specs.Bounds.{most_feeds, most_seats, most_subs}
+use Rattle.iv_clients.specs.Clients.{Client, Slots, client_at, has_role}
+use Rattle.iv_clients.specs.Feeds.{Feed, Seat, feed_for, is_begun, next_seat, room_for, seat_of, without_feed, without_seat}
+use Rattle.iv_clients.specs.Journal.{said_by}
+use Rattle.iv_gate.specs.Events.{Event}
+use Rattle.iv_gate.specs.Gate.{Gate, begun_for, in_session, is_accepted, reply_in, reply_to, seated}
+use Rattle.iv_gate.specs.Replies.{ActsAs, AreReplied, IsFull, IsReadingReply, IsReplyTo, IsReplyToAct, IsMachineReply, reading_told}
+use Rattle.iv_gate.proofs.Answering.{heard_is, others_told, own_answer, own_told}
+use Rattle.iv_gate.proofs.Asking.{begun_accepted, feed_acts, new_seat_acts, room_acts, seat_of_acts}
+use Rattle.iv_gate.proofs.Beginning.{begins_quietly, begun_state}
+use Rattle.iv_gate.proofs.Few.{feeds_in, one_less, shorter}
+use Rattle.iv_gate.proofs.Keeping.{IsKept}
+use Rattle.iv_gate.proofs.Machine.{find_passes, some_is_none}
+use Rattle.iv_gate.proofs.Replying.{act_reply, asked, begun_reply, first_reply, other_reply, read_reply, said_reply}
+use Rattle.iv_gate.proofs.Sharing.{IsFed, numbers_in, seats_in}
+use Rattle.iv_gate.proofs.Sound.{IsSoundGate, left_of}
+use Rattle.iv_gate.proofs.Summing.{neither}
+use Rattle.iv_gate.proofs.Touching.{one_some}
+
+-- ---- a session's subscriptions are feeds of it
+
+fed_rest : (k : ℕ) (fs : List Feed) (es : List Subscription) → list_any (λ (x : Subscription). k == x.number) es ≡ false → AllByRecursion (IsFed fs) es → AllByRecursion (IsFed (without_feed k fs)) es
+fed_rest k fs [] n a = tt
+fed_rest k fs (x ∷ xs) n a =
+    let e = neither (k == x.number) (list_any (λ (y : Subscription). k == y.number) xs) n in (
+      record { feed = a.0.feed; found = left_of (λ j. k == j) x.number a.0.feed fs a.0.found e.0; session = a.0.session },
+      fed_rest k fs xs e.1 a.1,
+    )
+
+fed_count : (n : ℕ) (es : List Subscription) (fs : List Feed) → AreUnique es → AllByRecursion (IsFed fs) es → length (filter (λ (e : Subscription). n == e.session) es) ≤ length (feeds_in n fs)
+fed_count n [] fs u a = omega arith
+fed_count n (e ∷ es) fs u a = by (n == e.session) refl (fed_count n es (without_feed e.number fs) u.1 (fed_rest e.number fs es u.0 a.1))
+  where
+    q : Feed → Bool
+    q x = not (e.number == x.number)
+
+    by : (b : Bool) → (n == e.session) ≡ b → length (filter (λ (x : Subscription). n == x.session) es) ≤ length (feeds_in n (without_feed e.number fs))
+        → length (cond b (e ∷ filter (λ (x : Subscription). n == x.session) es) (filter (λ (x : Subscription). n == x.session) es)) ≤ length (feeds_in n fs)
+    by true h more =
+        let less = one_less n q fs e.number a.0.feed a.0.found (ap not (find_passes (λ (x : Feed). e.number == x.number) fs a.0.feed a.0.found)) (ap (λ i. n == i) a.0.session ∙ h) in
+        omega (arith, less, more)
+    by false h more = let less = shorter n q fs in omega (arith, less, more)
+
+-- so each session has a place
+places : (g : Gate) → IsSoundGate g → IsKept g → (n : ℕ) → count_by (λ (e : Subscription). n == e.session) g.machine.frame.subscriptions ≤ most_feeds
+places g b k n =
+    let c = fed_count n g.machine.frame.subscriptions g.feeds b.state.numbers.unique k.shared.fed in let f = k.few.few n in
+    subst (λ z. z ≤ most_feeds) (length-filter (λ (e : Subscription). n == e.session) g.machine.frame.subscriptions) (omega (arith, c, f))
+
+-- ---- a session that could not be begun
+
+find_neither : {X : Type 0} (p : X → Bool) (xs ys : List X) → find p (xs ++ ys) ≡ None → (find p xs ≡ None) × (find p ys ≡ None)
+find_neither p [] ys h = (refl, h)
+find_neither p (x ∷ xs) ys h = by (p x) h (find_neither p xs ys)
+  where
+    by : (b : Bool) → cond b (Some x) (find p (xs ++ ys)) ≡ None → (find p (xs ++ ys) ≡ None → (find p xs ≡ None) × (find p ys ≡ None)) → (cond b (Some x) (find p xs) ≡ None) × (find p ys ≡ None)
+    by true k more = absurd (some_is_none x k)
+    by false k more = more k
+
+find_alike : (p q : ℕ → Bool) (xs : List ℕ) → AllByRecursion (λ i. q i ≡ p i) xs → find q xs ≡ find p xs
+find_alike p q [] a = refl
+find_alike p q (x ∷ xs) a = (λ i. cond (a.0 i) (Some x) (find_alike p q xs a.1 i))
+
+all_append : {X : Type 0} (P : X → Type 0) (xs : List X) (x : X) → AllByRecursion P xs → P x → AllByRecursion P (xs ++ x ∷ [])
+all_append P [] x a h = (h, tt)
+all_append P (y ∷ ys) x a h = (a.0, all_append P ys x a.1 h)
+
+all_to : {X : Type 0} (P Q : X → Type 0) → ((x : X) → P x → Q x) → (xs : List X) → AllByRecursion P xs → AllByRecursion Q xs
+all_to P Q f [] a = tt
+all_to P Q f (x ∷ xs) a = (f x a.0, all_to P Q f xs a.1)
+
+counted : (n : ℕ) → AllByRecursion (λ i. i ≤ n) (count_to n)
+counted zero = tt
+counted (suc n) = all_append (λ i. i ≤ suc n) (count_to n) (suc n) (all_to (λ i. i ≤ n) (λ i. i ≤ suc n) (λ i h. omega (arith, h)) (count_to n) (counted n)) (omega arith)
+
+begun_without : (n i : ℕ) (seats : List Seat) → (n == i) ≡ false → is_begun (without_seat n seats) i ≡ is_begun seats i
+begun_without n i [] h = refl
+begun_without n i (s ∷ ss) h = by (n == s.session) (i == s.session) refl refl (begun_without n i ss h)
+  where
+    by : (a b : Bool) → (n == s.session) ≡ a → (i == s.session) ≡ b → is_begun (without_seat n ss) i ≡ is_begun ss i
+        → is_begun (cond (not a) (s ∷ without_seat n ss) (without_seat n ss)) i ≡ (b || is_begun ss i)
+    by true true e f more = absurd (false≢true (sym h ∙ (ap (λ j. n == j) (eqb-true i s.session f) ∙ e)))
+    by true false e f more = more
+    by false b e f more = (λ j. f j || more j)
+
+fewer_seats : (n : ℕ) (seats : List Seat) → length (without_seat n seats) ≤ length seats
+fewer_seats n [] = omega arith
+fewer_seats n (s ∷ ss) = by (n == s.session) (fewer_seats n ss)
+  where
+    by : (b : Bool) → length (without_seat n ss) ≤ length ss → length (cond (not b) (s ∷ without_seat n ss) (without_seat n ss)) ≤ suc (length ss)
+    by true h = omega (arith, h)
+    by false h = omega (arith, h)
+
+one_seat_less : (n : ℕ) (seats : List Seat) → is_begun seats n ≡ true → length (without_seat n seats) < length seats
+one_seat_less n [] h = absurd (false≢true h)
+one_seat_less n (s ∷ ss) h = by (n == s.session) h (one_seat_less n ss)
+  where
+    by : (b : Bool) → (b || is_begun ss n) ≡ true → (is_begun ss n ≡ true → length (without_seat n ss) < length ss) → length (cond (not b) (s ∷ without_seat n ss) (without_seat n ss)) < suc (length ss)
+    by true k more = let f = fewer_seats n ss in omega (arith, f)
+    by false k more = let f = more k in omega (arith, f)
+
+is_true : (b : Bool) → not b ≡ false → b ≡ true
+is_true true h = refl
+is_true false h = absurd (false≢true (sym h))
+
+-- where each of the numbers has a seat there are as many seats
+all_seated : (n : ℕ) (seats : List Seat) → find (λ i. not (is_begun seats i)) (count_to n) ≡ None → n ≤ length seats
+all_seated zero seats h = omega arith
+all_seated (suc n) seats h =
+    let p = find_neither (λ i. not (is_begun seats i)) (count_to n) (suc n ∷ []) h in
+    let last : is_begun seats (suc n) ≡ true = is_true (is_begun seats (suc n)) (none_of (not (is_begun seats (suc n))) p.1) in
+    let rest = all_seated n (without_seat (suc n) seats)
+    (find_alike (λ i. not (is_begun seats i)) (λ i. not (is_begun (without_seat (suc n) seats) i)) (count_to n)
+    (all_to (λ i. i ≤ n) (λ i. not (is_begun (without_seat (suc n) seats) i) ≡ not (is_begun seats i)) (λ i l. ap not (begun_without (suc n) i seats (apart n i l))) (count_to n) (counted n)) ∙ p.0) in
+    let less = one_seat_less (suc n) seats last in
+    omega (arith, rest, less)
+  where
+    none_of : (b : Bool) → cond b (Some (suc n)) None ≡ None → b ≡ false
+    none_of true k = absurd (some_is_none (suc n) k)
+    none_of false k = refl
+
+    apart : (n i : ℕ) → i ≤ n → (suc n == i) ≡ false
+    apart n i l = grind (arith, nat_tests)
+
+session_any : (es : List Session) (n : ℕ) → is_some (session_of es n) ≡ list_any (λ j. n == j) (numbers_in es)
+session_any [] n = refl
+session_any (e ∷ es) n = by (n == e.number) (session_any es n)
+  where
+    by : (b : Bool) → is_some (session_of es n) ≡ list_any (λ j. n == j) (numbers_in es) → is_some (cond b (Some e) (session_of es n)) ≡ (b || list_any (λ j. n == j) (numbers_in es))
+    by true h = refl
+    by false h = h
+
+seat_any : (seats : List Seat) (n : ℕ) → list_any (λ j. n == j) (seats_in seats) ≡ is_begun seats n
+seat_any [] n = refl
+seat_any (s ∷ ss) n = ap (λ b. (n == s.session) || b) (seat_any ss n)
+
+open_seat : (g : Gate) → IsKept g → (n : ℕ) → is_open g.machine.frame n ≡ is_begun g.seats n
+open_seat g k n = session_any g.machine.frame.sessions n ∙ (ap (list_any (λ j. n == j)) k.shared.sessions ∙ seat_any g.seats n)
+
+begin_refusal : (a b c : Bool) → a ≡ false → b ≡ true → c ≡ false → or_else (or_else (test a session_in_use) (or_else (test (not b) unknown_role) (or_else (test c too_many) None))) None ≡ None
+begin_refusal a b c h k l = (λ i. or_else (or_else (test (h i) session_in_use) (or_else (test (not (k i)) unknown_role) (or_else (test (l i) too_many) None))) None)
+
+accepts : (s : State) (n : ℕ) (role : Name) (o : Option Refusal) → o ≡ None → is_accepted (reply_in (outcome s (in_session n (begin role)) o).lines) ≡ true
+accepts s n role None h = refl
+accepts s n role (Some r) h = absurd (some_is_none r h)
+
+at_most : (n : ℕ) → nat_le 256 n ≡ true → 255 ≤ n
+at_most n h = grind (arith, nat_tests)
+
+-- then all are begun
+all_begun : (g : Gate) (role : Name) → IsSoundGate g → IsKept g → is_some (role_of g.machine.frame.rights role) ≡ true → begun_for g role ≡ None → most_seats ≤ length g.seats
+all_begun g role b k known h = by (next_seat g.seats) refl h
+  where
+    full : (n : ℕ) → next_seat g.seats ≡ Some n → (t : Bool) → nat_le 256 (length g.machine.frame.sessions) ≡ t → cond (is_accepted (reply_to g (in_session n (begin role)))) (Some n) None ≡ None → most_seats ≤ length g.seats
+    full n e true t i = subst (λ z. 255 ≤ z) (sym (length-map g.machine.frame.sessions (λ (x : Session). x.number)) ∙ (ap length k.shared.sessions ∙ length-map g.seats (λ (x : Seat). x.session))) (at_most (length g.machine.frame.sessions) t)
+    full n e false t i =
+        let closed : is_open g.machine.frame n ≡ false = open_seat g k n ∙ not_true (is_begun g.seats n) (find_passes (λ j. not (is_begun g.seats j)) (count_to most_seats) n e) in
+        let none : refusal g.machine n (begin role) ≡ None = begin_refusal (is_open g.machine.frame n) (is_some (role_of g.machine.frame.rights role)) (nat_le 256 (length g.machine.frame.sessions)) closed known t in
+        absurd (some_is_none n (sym (ap (λ z. cond z (Some n) None) (accepts g.machine n role (refusal g.machine n (begin role)) none)) ∙ i))
+      where
+        not_true : (d : Bool) → not d ≡ true → d ≡ false
+        not_true true j = absurd (false≢true j)
+        not_true false j = refl
+
+    by : (o : Option ℕ) → next_seat g.seats ≡ o → option_and_then (λ n. cond (is_accepted (reply_to g (in_session n (begin role)))) (Some n) None) o ≡ None → most_seats ≤ length g.seats
+    by None e i = all_seated most_seats g.seats e
+    by (Some n) e i = full n e (nat_le 256 (length g.machine.frame.sessions)) refl i
+
+-- ---- the reply to a subscribe
+
+begun_true : (g : Gate) (c : Client) (id : Option Data) (rel : Name) (n : ℕ) → ActsAs g.machine n c.role → IsSoundGate g → IsKept g → IsReadingReply g c id rel (begun_reply g c id n rel)
+begun_true g c id rel n acts b k = record {
+  sessions = g.machine.frame.sessions;
+  reply = reply_to g (in_session n (subscribe rel));
+  is = record { session = n; acts = acts; reply = refl };
+  place = places g b k n;
+  told = refl;
+}
+
+begun_to : (s : State) (n : ℕ) (role : Name) (o : Option Refusal) → o ≡ None → (outcome s (in_session n (begin role)) o).state ≡ settled (begin role) (after s n (begin role))
+begun_to s n role None h = refl
+begun_to s n role (Some r) h = absurd (some_is_none r h)
+
+further_true : (g : Gate) (c : Client) (id : Option Data) (rel : Name) (n : ℕ) → begun_for g c.role ≡ Some n → IsSoundGate g → IsKept g → IsReadingReply g c id rel (begun_reply (seated g n c.role) c id n rel)
+further_true g c id rel n e b k = record {
+  sessions = (after g.machine n (begin c.role)).frame.sessions;
+  reply = reply_in (step w (in_session n (subscribe rel))).lines;
+  is = record { session = n; acts = subst (λ s. ActsAs s n c.role) same (new_seat_acts g c.role n e); reply = refl };
+  place = places g b k n;
+  told = ap (λ s. reading_told s c id rel (reply_in (step s (in_session n (subscribe rel))).lines)) same ∙ alike (reply_in (step w (in_session n (subscribe rel))).lines);
+}
+  where
+    w : State
+    w = record g.machine { frame = record g.machine.frame { sessions = (after g.machine n (begin c.role)).frame.sessions } }
+
+    same : (seated g n c.role).machine ≡ w
+    same = begun_to g.machine n c.role (refusal g.machine n (begin c.role)) (begun_accepted g c.role n e) ∙ begun_state g.machine n c.role b.state
+
+    alike : (r : Reply) → reading_told w c id rel r ≡ reading_told g.machine c id rel r
+    alike (subscribed t) = refl
+    alike done = refl
+    alike (refused r) = refl
+
+known_seat : (g : Gate) → IsSoundGate g → (role : Name) → is_some (seat_of g.seats role) ≡ true → is_some (role_of g.machine.frame.rights role) ≡ true
+known_seat g b role h = by (seat_of g.seats role) refl h
+  where
+    by : (o : Option ℕ) → seat_of g.seats role ≡ o → is_some o ≡ true → is_some (role_of g.machine.frame.rights role) ≡ true
+    by None e k = absurd (false≢true k)
+    by (Some n) e k = ap is_some (seat_of_acts g b role n e).known
+
+at_least : (m n : ℕ) → nat_lt n m ≡ false → m ≤ n
+at_least m n h = grind (arith, nat_tests)
+
+abbrev Reads : Gate → Client → Option Data → Name → Told → Type 0
+Reads g c id rel t = (IsFull g c rel × (t ≡ replied id (refused too_many))) ⊎ IsReadingReply g c id rel t
+
+first_true : (g : Gate) (c : Client) (id : Option Data) (rel : Name) → is_some (seat_of g.seats c.role) ≡ true → feed_for g.feeds c.role rel ≡ None → IsSoundGate g → IsKept g → Reads g c id rel (first_reply g c id c.role rel)
+first_true g c id rel seat new b k = by (room_for g.seats g.feeds c.role) refl
+  where
+    further : room_for g.seats g.feeds c.role ≡ None → (o : Option ℕ) → begun_for g c.role ≡ o → Reads g c id rel (if_some o (replied id (refused too_many)) (λ n. begun_reply (seated g n c.role) c id n rel))
+    further full None e = inl (inr (record { new = new; full = full; seats = all_begun g c.role b k (known_seat g b c.role seat) e }), refl)
+    further full (Some n) e = inr (further_true g c id rel n e b k)
+
+    by : (o : Option ℕ) → room_for g.seats g.feeds c.role ≡ o
+        → Reads g c id rel (if_some o (if_some (begun_for g c.role) (replied id (refused too_many)) (λ n. begun_reply (seated g n c.role) c id n rel)) (λ n. begun_reply g c id n rel))
+    by None e = further e (begun_for g c.role) refl
+    by (Some n) e = inr (begun_true g c id rel n (room_acts g b c.role n e) b k)
+
+read_true : (g : Gate) (c : Client) (id : Option Data) (rel : Name) → is_some (seat_of g.seats c.role) ≡ true → IsSoundGate g → IsKept g → Reads g c id rel (read_reply g c id rel)
+read_true g c id rel seat b k = test (nat_lt (length c.subs) most_subs) refl
+  where
+    by : (o : Option Feed) → feed_for g.feeds c.role rel ≡ o → Reads g c id rel (if_some o (first_reply g c id c.role rel) (λ f. begun_reply g c id f.session f.rel))
+    by None e = first_true g c id rel seat e b k
+    by (Some f) e =
+        let p = feed_acts g.machine c.role rel g.feeds f b.feeds e in
+        inr (subst (λ r. IsReadingReply g c id rel (begun_reply g c id f.session r)) (sym p.2) (begun_true g c id rel f.session (subst (ActsAs g.machine f.session) p.1 p.0) b k))
+
+    test : (t : Bool) → nat_lt (length c.subs) most_subs ≡ t → Reads g c id rel (cond t (if_some (feed_for g.feeds c.role rel) (first_reply g c id c.role rel) (λ f. begun_reply g c id f.session f.rel)) (replied id (refused too_many)))
+    test true e = by (feed_for g.feeds c.role rel) refl
+    test false e = inl (inl (at_least most_subs (length c.subs) e), refl)
+
+-- ---- the reply to a message
+
+other_true : (g : Gate) (c : Client) (id : Option Data) (act : Act) → is_some (seat_of g.seats c.role) ≡ true → IsSoundGate g → (r : Reply) × IsMachineReply g.machine c.role act r × (other_reply g c id act ≡ replied id r)
+other_true g c id act seat b = by (seat_of g.seats c.role) refl seat
+  where
+    by : (o : Option ℕ) → seat_of g.seats c.role ≡ o → is_some o ≡ true
+        → (r : Reply) × IsMachineReply g.machine c.role act r × (if_some o (replied id (refused no_session)) (λ n. replied id (reply_to g (in_session n act))) ≡ replied id r)
+    by None e h = absurd (false≢true h)
+    by (Some n) e h = (reply_to g (in_session n act), record { session = n; acts = seat_of_acts g b c.role n e; reply = refl }, refl)
+
+act_true : (g : Gate) (slots : Slots) (c : Client) (id : Option Data) (act : Act) → is_some (seat_of g.seats c.role) ≡ true → IsSoundGate g → IsKept g → IsReplyToAct g c id act (act_reply (record g { clients = slots }) c id act)
+act_true g slots c id (begin role) seat b k = refl
+act_true g slots c id finish seat b k = refl
+act_true g slots c id (subscribe rel) seat b k = read_true g c id rel seat b k
+act_true g slots c id (unsubscribe own) seat b k = refl
+act_true g slots c id (create_role name) seat b k = other_true g c id (create_role name) seat b
+act_true g slots c id (create_table name owner columns) seat b k = other_true g c id (create_table name owner columns) seat b
+act_true g slots c id (create_view name owner query) seat b k = other_true g c id (create_view name owner query) seat b
+act_true g slots c id (grant rel privileges to) seat b k = other_true g c id (grant rel privileges to) seat b
+act_true g slots c id (revoke rel privileges to) seat b k = other_true g c id (revoke rel privileges to) seat b
+act_true g slots c id (grant_role group to) seat b k = other_true g c id (grant_role group to) seat b
+act_true g slots c id (revoke_role group to) seat b k = other_true g c id (revoke_role group to) seat b
+act_true g slots c id (row_security rel enable force) seat b k = other_true g c id (row_security rel enable force) seat b
+act_true g slots c id (create_policy p) seat b k = other_true g c id (create_policy p) seat b
+act_true g slots c id (drop_policy rel name) seat b k = other_true g c id (drop_policy rel name) seat b
+act_true g slots c id (write entries) seat b k = other_true g c id (write entries) seat b
+
+said_true : (g : Gate) (slots : Slots) (c : Client) (s : Message) → is_some (seat_of g.seats c.role) ≡ true → IsSoundGate g → IsKept g → IsReplyTo g c s (said_reply (record g { clients = slots }) c s)
+said_true g slots c no_json seat b k = refl
+said_true g slots c too_long seat b k = refl
+said_true g slots c no_object seat b k = refl
+said_true g slots c (no_request id why) seat b k = refl
+said_true g slots c (request id act) seat b k = act_true g slots c id act seat b k
+
+-- ---- by an event
+
+role_there : (slots : Slots) (m : ℕ) (c : Client) → client_at slots m ≡ Some c → has_role c.role slots ≡ true
+role_there [] m c h = absurd (some_is_none c (sym h))
+role_there (None ∷ ss) zero c h = absurd (some_is_none c (sym h))
+role_there (Some d ∷ ss) zero c h = ap (λ b. b || has_role c.role ss) (ap (λ (x : Client). bytes_eq x.role c.role) (one_some d c h) ∙ (bytes_eq-Decides c.role c.role).1 refl)
+role_there (s ∷ ss) (suc m) c h = right (if_some s false (λ (d : Client). bytes_eq d.role c.role)) (role_there ss m c h)
+  where
+    right : (a : Bool) → has_role c.role ss ≡ true → (a || has_role c.role ss) ≡ true
+    right true k = refl
+    right false k = k
+
+-- a client is told first the reply to its message, and others are told none
+pub are_replied : (g : Gate) (e : Event) → IsSoundGate g → IsKept g → g.dead ≡ false → AreReplied g e
+are_replied g e b k live = record {
+  own = λ m c d x y text u.
+      let a = own_answer g e m c d text live x.there y.there (heard_is m c e text u) in
+      let seat = k.shared.seated c.role (role_there g.clients m c x.there) in
+      record {
+        reply = said_reply (asked g m text) c (said_by text);
+        others = a.others;
+        first = own_told g m c text d a ∙ ap (λ z. z ++ said_reply (asked g m text) c (said_by text) ∷ a.others) (a.first (begins_quietly (asked g m text) b.state));
+        is = said_true g (asked g m text).clients c (said_by text) seat b k;
+        alone = a.alone;
+      };
+  others = λ m c d x y u. others_told g e m c d live x y u;
+}

@@ -1,0 +1,302 @@
+-- What is done for a message: its client is told one thing, a command is run, or a subscription is opened.
+use Rattle.std.proofs.Common.{◌≡◌, ℕ, zero, suc, ◌+◌, ◌≤◌, Bool, true, false, cond, not, List, [], ◌∷◌, ◌++◌, length, map, Option, Some, None, refl, ap, ◌∙◌, sym, subst, arith}
+use Rattle.std.specs.Prelude.{◌==◌, ◌&&◌, filter, nat_lt}
+use Rattle.std.specs.List.{AllByRecursion, list_any}
+use Rattle.std.proofs.lemmas.Bool.{ltb-true}
+use Rattle.serde_json.specs.Data.{Data}
+use Rattle.iv_rows.specs.Options.{if_some}
+use Rattle.iv_access.specs.Rights.{Name}
+use Rattle.iv_machine.specs.Act.{Act, begin, finish, create_role, create_table, create_view, grant, revoke, grant_role, revoke_role, row_security, create_policy, drop_policy, subscribe, unsubscribe, write, Refusal, Reply, done, subscribed, refused, no_session, too_many, unknown_subscription}
+use Rattle.iv_machine.specs.Machine.{outcome}
+use Rattle.iv_machine.specs.Refusing.{refusal}
+use Rattle.iv_machine.specs.Sound.{IsSoundState}
+use Rattle.iv_machine.specs.State.{State}
+use Rattle.iv_message.specs.Message.{Message, no_json, too_long, no_object, no_request, request}
+use Rattle.iv_message.specs.Told.{Told, changed, over, granted, replied, fault, unasked}
+use Rattle.iv_clients.specs.Bounds.{most_subs}
+use Rattle.iv_clients.specs.Clients.{Client, Slots, Sub, at_client, closing, followed, is_followed, moved, moved_sub, told, told_one}
+use Rattle.iv_clients.specs.Feeds.{Feed, feed_for, feed_of, is_reading, room_for, seat_of}
+use Rattle.iv_clients.specs.Journal.{Entry, is_shared, line_said, said_by}
+use Rattle.iv_gate.specs.Gate.{Gate, acts, begun_for, closes, done_for, feed_begun, in_session, joined, joined_by, joins, ran, reads, reads_first, reply_to, requests, seated, shut, subscribes, swept, tells}
+use Rattle.iv_gate.proofs.Calm.{ran_alone, seated_still, shut_clients, shut_last, swept_clients, swept_last}
+use Rattle.iv_gate.proofs.Joining.{any_moved}
+use Rattle.iv_gate.proofs.Opening.{reply_of_none, reply_of_some}
+use Rattle.iv_gate.proofs.Sound.{Seer, Sounds, seer_one}
+use Rattle.iv_gate.specs.Laws.{is_word}
+
+-- ---- texts
+
+-- it is of rows, of an end or of a grant
+abbrev pub is_news : Told → Bool
+is_news (changed own rows) = true
+is_news (over own rel why rows) = true
+is_news (granted rel) = true
+is_news _ = false
+
+abbrev pub AreCalm : List Told → Type 0
+AreCalm ts = AllByRecursion (λ t. is_news t ≡ false) ts
+
+pub told_more : (es : List Entry) (t : Told) (c : Client) → told (told_one es t c) ≡ told c ++ t ∷ []
+told_more es t c = ap (λ (v : Seer). v.told) (seer_one es t c)
+
+pub both_calm : (ts us : List Told) → AreCalm ts → AreCalm us → AreCalm (ts ++ us)
+both_calm [] us a b = b
+both_calm (t ∷ ts) us a b = (a.0, both_calm ts us a.1 b)
+
+-- ---- what is done for a message
+
+-- client m alone is told something, and a feed that it follows may be another one
+pub record IsMoved (m : ℕ) (before after : Gate) : Type 0 where
+  pub change : Client → Client
+  pub told : (c : Client) → told (change c) ≡ told c
+  pub given : (c : Client) → (change c).given ≡ c.given
+  pub owns : (own : ℕ) (c : Client) → list_any (λ (x : Sub). own == x.own) (change c).subs ≡ list_any (λ (x : Sub). own == x.own) c.subs
+  pub many : (c : Client) → length (change c).subs ≡ length c.subs
+  pub owed : (c : Client) → (change c).owed ≡ c.owed
+  pub last : after.machine.frame.last ≡ before.machine.frame.last
+  pub entries : after.entries ≡ before.entries
+  pub clients : after.clients ≡ at_client m change before.clients
+
+-- a subscription is opened for a client that may follow one more, in a gateway that has the same clients and feeds
+pub record HasRead (g : Gate) (m : ℕ) (c : Client) (h : Gate) : Type 0 where
+  pub room : nat_lt (length c.subs) most_subs ≡ true
+  pub id : Option Data
+  pub session : ℕ
+  pub role : Name
+  pub rel : Name
+  pub first : Gate
+  pub clients : first.clients ≡ g.clients
+  pub feeds : first.feeds ≡ g.feeds
+  pub last : first.machine.frame.last ≡ g.machine.frame.last
+  pub entries : first.entries ≡ g.entries
+  pub state : IsSoundState first.machine
+  pub accepted : refusal first.machine session (subscribe rel) ≡ None
+  pub behind : IsMoved m (ran (feed_begun first m id session role rel (subscribed (first.machine.frame.last + 1))) (in_session session (subscribe rel))) h
+
+-- client m is told one thing that is no news, and no word of its own
+pub record HasAnswered (g : Gate) (m : ℕ) (h : Gate) : Type 0 where
+  pub text : Told
+  pub calm : is_news text ≡ false
+  pub plain : is_word text ≡ false
+  pub change : Client → Client
+  pub told : (c : Client) → told (change c) ≡ told c ++ text ∷ []
+  pub fewer : (c : Client) → length (change c).subs ≤ length c.subs
+  pub owed : (c : Client) → (change c).owed ≡ true
+  pub last : h.machine.frame.last ≡ g.machine.frame.last
+  pub entries : h.entries ≡ g.entries
+  pub clients : h.clients ≡ at_client m change g.clients
+
+-- some message asks it
+abbrev pub IsSaid : Act → Type 0
+IsSaid act = (text : List ℕ) × (id : Option Data) × (said_by text ≡ request id act)
+
+pub data IsDone (g : Gate) (m : ℕ) (c : Client) (h : Gate) : Type 0 where
+  answers : HasAnswered g m h → IsDone g m c h
+  asks : (id : Option Data) (e : Entry) (n : ℕ) → is_shared e.act ≡ true → IsSaid e.act → h ≡ requests g m id e n → IsDone g m c h
+  opens : HasRead g m c h → IsDone g m c h
+
+at_same_all : (m : ℕ) (slots : Slots) → at_client m (λ c. c) slots ≡ slots
+at_same_all m [] = refl
+at_same_all zero (None ∷ ss) = refl
+at_same_all zero (Some c ∷ ss) = refl
+at_same_all (suc m) (s ∷ ss) = ap (λ z. s ∷ z) (at_same_all m ss)
+
+at_twice : (m : ℕ) (f e : Client → Client) (slots : Slots) → at_client m f (at_client m e slots) ≡ at_client m (λ c. f (e c)) slots
+at_twice m f e [] = refl
+at_twice zero f e (None ∷ ss) = refl
+at_twice zero f e (Some c ∷ ss) = refl
+at_twice (suc m) f e (s ∷ ss) = ap (λ z. s ∷ z) (at_twice m f e ss)
+
+swept_entries : (g : Gate) (k : ℕ) → (swept g k).entries ≡ g.entries
+swept_entries g k = by (is_followed k g.clients) (feed_of g.feeds k)
+  where
+    by : (t : Bool) (o : Option Feed) → (cond t g (if_some o g (shut g))).entries ≡ g.entries
+    by true o = refl
+    by false None = refl
+    by false (Some f) = refl
+
+pub telling_done : (g : Gate) (m : ℕ) (c : Client) (t : Told) → is_news t ≡ false → is_word t ≡ false → IsDone g m c (tells g m t)
+telling_done g m c t calm plain = answers (record {
+  text = t;
+  calm = calm;
+  plain = plain;
+  change = told_one g.entries t;
+  told = λ x. told_more g.entries t x;
+  fewer = λ x. omega arith;
+  owed = λ x. refl;
+  last = refl;
+  entries = refl;
+  clients = refl;
+})
+
+pub fewer_left : (p : Sub → Bool) (xs : List Sub) → length (filter p xs) ≤ length xs
+fewer_left p [] = omega arith
+fewer_left p (x ∷ xs) = by (p x) (fewer_left p xs)
+  where
+    by : (b : Bool) → length (filter p xs) ≤ length xs → length (cond b (x ∷ filter p xs) (filter p xs)) ≤ suc (length xs)
+    by true h = omega (arith, h)
+    by false h = omega (arith, h)
+
+pub less_one : (n most : ℕ) → nat_lt n most ≡ true → n + 1 ≤ most
+less_one n most h = let l = ltb-true n most h in omega (arith, l)
+
+many_moved : (t k : ℕ) (xs : List Sub) → length (map (moved_sub t k) xs) ≡ length xs
+many_moved t k [] = refl
+many_moved t k (x ∷ xs) = ap suc (many_moved t k xs)
+
+-- where the machine refuses the subscribe, its client is told so alone
+refused_clients : (g : Gate) (m : ℕ) (id : Option Data) (n : ℕ) (rel : Name) (r : Refusal) → refusal g.machine n (subscribe rel) ≡ Some r
+    → (ran (tells g m (replied id (refused r))) (in_session n (subscribe rel))).clients ≡ at_client m (told_one g.entries (replied id (refused r))) g.clients
+refused_clients g m id n rel r e =
+    let k = in_session n (subscribe rel) in
+    ap (λ (x : Gate). x.clients) (ran_alone (tells g m (replied id (refused r))) k n (refused r) (ap (λ o. (outcome g.machine k o).lines) e) (λ f role. refl))
+
+module _ (sounds : Sounds) (g : Gate) (m : ℕ) (c : Client) where
+  unmoved : (h : Gate) → IsMoved m h h
+  unmoved h = record { change = λ c. c; told = λ x. refl; given = λ x. refl; owns = λ own x. refl; many = λ x. refl; owed = λ x. refl; last = refl; entries = refl; clients = sym (at_same_all m h.clients) }
+
+  joined_moves : (h : Gate) (t k : Option Feed) → IsSoundState h.machine → IsMoved m h (joined h m t k)
+  joined_moves h (Some t) (Some k) b = by (is_reading t.role t.rel k && not (t.number == k.number))
+    where
+      by : (d : Bool) → IsMoved m h (cond d (shut (record h { clients = at_client m (moved t.number k.number) h.clients }) t) h)
+      by true = record {
+        change = moved t.number k.number;
+        told = λ x. refl;
+        given = λ x. refl;
+        owns = λ own x. any_moved t.number k.number own x.subs;
+        many = λ x. many_moved t.number k.number x.subs;
+        owed = λ x. refl;
+        last = shut_last (record h { clients = at_client m (moved t.number k.number) h.clients }) t;
+        entries = refl;
+        clients = shut_clients (record h { clients = at_client m (moved t.number k.number) h.clients }) t b;
+      }
+      by false = unmoved h
+  joined_moves h (Some t) None b = unmoved h
+  joined_moves h None k b = unmoved h
+
+  joined_by_moves : (h : Gate) (k : ℕ) (r : Reply) → IsSoundState h.machine → IsMoved m h (joined_by h m k r)
+  joined_by_moves h k (subscribed t) b = joined_moves h (feed_of h.feeds t) (feed_of h.feeds k) b
+  joined_by_moves h k done b = unmoved h
+  joined_by_moves h k (refused r) b = unmoved h
+
+  -- a subscribe in a gateway that has the same clients and feeds; `behind` may join feeds
+  subscribing : (i : Gate) (id : Option Data) (n : ℕ) (role rel : Name) (behind : Gate → Reply → Gate)
+      → ((h : Gate) (r : Reply) → IsSoundState h.machine → IsMoved m h (behind h r)) → ((h : Gate) (r : Refusal) → behind h (refused r) ≡ h)
+      → i.clients ≡ g.clients → i.feeds ≡ g.feeds → i.machine.frame.last ≡ g.machine.frame.last → i.entries ≡ g.entries → IsSoundState i.machine → nat_lt (length c.subs) most_subs ≡ true
+      → IsDone g m c (behind (subscribes i m id n role rel) (reply_to i (in_session n (subscribe rel))))
+  subscribing i id n role rel behind moves stays clients feeds last entries b room = by (refusal i.machine n (subscribe rel)) refl
+    where
+      by : (o : Option Refusal) → refusal i.machine n (subscribe rel) ≡ o → IsDone g m c (behind (subscribes i m id n role rel) (reply_to i (in_session n (subscribe rel))))
+      by None e =
+          let r = reply_of_none i.machine n rel (refusal i.machine n (subscribe rel)) e in
+          let h = ran (feed_begun i m id n role rel (subscribed (i.machine.frame.last + 1))) (in_session n (subscribe rel)) in
+          subst (λ x. IsDone g m c (behind (ran (feed_begun i m id n role rel x) (in_session n (subscribe rel))) x)) (sym r)
+          (opens (record {
+            room = room;
+            id = id;
+            session = n;
+            role = role;
+            rel = rel;
+            first = i;
+            clients = clients;
+            feeds = feeds;
+            last = last;
+            entries = entries;
+            state = b;
+            accepted = e;
+            behind = moves h (subscribed (i.machine.frame.last + 1)) (sounds i.machine (in_session n (subscribe rel)) b);
+          }))
+      by (Some x) e =
+          let r = reply_of_some i.machine n rel (refusal i.machine n (subscribe rel)) x e in
+          let t = replied id (refused x) in
+          subst (λ y. IsDone g m c (behind (ran (feed_begun i m id n role rel y) (in_session n (subscribe rel))) y)) (sym r)
+          (subst (IsDone g m c) (sym (stays (ran (tells i m t) (in_session n (subscribe rel))) x))
+          (answers (record {
+            text = t;
+            calm = refl;
+            plain = refl;
+            change = told_one i.entries t;
+            told = λ x. told_more i.entries t x;
+            fewer = λ x. omega arith;
+            owed = λ x. refl;
+            last = ap (λ o. (outcome i.machine (in_session n (subscribe rel)) o).state.frame.last) e ∙ last;
+            entries = entries;
+            clients = refused_clients i m id n rel x e ∙ ap (at_client m (told_one i.entries t)) clients;
+          })))
+
+  last_begun : (s : State) (n : ℕ) (role : Name) (o : Option Refusal) → (outcome s (in_session n (begin role)) o).state.frame.last ≡ s.frame.last
+  last_begun s n role (Some r) = refl
+  last_begun s n role None = refl
+
+  reads_in : (i : Gate) (id : Option Data) (n : ℕ) (role rel : Name) → i.clients ≡ g.clients → i.feeds ≡ g.feeds → i.machine.frame.last ≡ g.machine.frame.last → i.entries ≡ g.entries → IsSoundState i.machine → nat_lt (length c.subs) most_subs ≡ true
+      → IsDone g m c (subscribes i m id n role rel)
+  reads_in i id n role rel clients feeds last entries b room = subscribing i id n role rel (λ h r. h) (λ h r d. unmoved h) (λ h r. refl) clients feeds last entries b room
+
+  first_done : (id : Option Data) (role rel : Name) → IsSoundState g.machine → nat_lt (length c.subs) most_subs ≡ true → IsDone g m c (reads_first g m id role rel)
+  first_done id role rel b room = by (room_for g.seats g.feeds role) (begun_for g role)
+    where
+      by : (o p : Option ℕ) → IsDone g m c (if_some o (if_some p (tells g m (replied id (refused too_many))) (λ n. subscribes (seated g n role) m id n role rel)) (λ n. subscribes g m id n role rel))
+      by (Some n) p = reads_in g id n role rel refl refl refl refl b room
+      by None None = telling_done g m c (replied id (refused too_many)) refl refl
+      by None (Some n) =
+          let e = seated_still g n role b in
+          reads_in (seated g n role) id n role rel (ap (λ (x : Gate). x.clients) e) (ap (λ (x : Gate). x.feeds) e)
+          (last_begun g.machine n role (refusal g.machine n (begin role))) refl (sounds g.machine (in_session n (begin role)) b) room
+
+  reads_done : (id : Option Data) (rel : Name) → IsSoundState g.machine → IsDone g m c (reads g m c id rel)
+  reads_done id rel b = by (nat_lt (length c.subs) most_subs) refl (feed_for g.feeds c.role rel)
+    where
+      by : (d : Bool) → nat_lt (length c.subs) most_subs ≡ d → (o : Option Feed) → IsDone g m c (cond d (if_some o (reads_first g m id c.role rel) (joins g m id)) (tells g m (replied id (refused too_many))))
+      by true e None = first_done id c.role rel b e
+      by true e (Some f) = subscribing g id f.session f.role f.rel (λ h r. joined_by h m f.number r) (λ h r d. joined_by_moves h f.number r d) (λ h r. refl) refl refl refl refl b e
+      by false e o = telling_done g m c (replied id (refused too_many)) refl refl
+
+  closes_done : (id : Option Data) (own : ℕ) → IsSoundState g.machine → IsDone g m c (closes g m c id own)
+  closes_done id own b = by (followed c own)
+    where
+      h : Gate
+      h = record g { clients = at_client m (closing own) g.clients }
+
+      by : (o : Option ℕ) → IsDone g m c (if_some o (tells g m (replied id (refused unknown_subscription))) (λ k. swept (tells (record g { clients = at_client m (closing own) g.clients }) m (replied id done)) k))
+      by None = telling_done g m c (replied id (refused unknown_subscription)) refl refl
+      by (Some k) = answers (record {
+        text = replied id done;
+        calm = refl;
+        plain = refl;
+        change = λ x. told_one g.entries (replied id done) (closing own x);
+        told = λ x. told_more g.entries (replied id done) (closing own x);
+        fewer = λ x. fewer_left (λ (s : Sub). not (own == s.own)) x.subs;
+        owed = λ x. refl;
+        last = swept_last (tells h m (replied id done)) k;
+        entries = swept_entries (tells h m (replied id done)) k;
+        clients = swept_clients (tells h m (replied id done)) k b ∙ at_twice m (told_one g.entries (replied id done)) (closing own) g.clients;
+      })
+
+  other_done : (id : Option Data) (text : List ℕ) (act : Act) (o : Option ℕ) → is_shared act ≡ true → IsSaid act
+      → IsDone g m c (if_some o (tells g m (replied id (refused no_session))) (requests g m id (record { role = c.role; line = line_said text; act = act })))
+  other_done id text act None h said = telling_done g m c (replied id (refused no_session)) refl refl
+  other_done id text act (Some n) h said = asks id (record { role = c.role; line = line_said text; act = act }) n h said refl
+
+  acts_done : (id : Option Data) (text : List ℕ) (act : Act) → IsSoundState g.machine → IsSaid act → IsDone g m c (acts g m c id text act)
+  acts_done id text (begin role) b said = telling_done g m c (fault 2) refl refl
+  acts_done id text finish b said = telling_done g m c (fault 2) refl refl
+  acts_done id text (subscribe rel) b said = reads_done id rel b
+  acts_done id text (unsubscribe own) b said = closes_done id own b
+  acts_done id text (create_role name) b said = other_done id text (create_role name) (seat_of g.seats c.role) refl said
+  acts_done id text (create_table name owner columns) b said = other_done id text (create_table name owner columns) (seat_of g.seats c.role) refl said
+  acts_done id text (create_view name owner query) b said = other_done id text (create_view name owner query) (seat_of g.seats c.role) refl said
+  acts_done id text (grant rel privileges to) b said = other_done id text (grant rel privileges to) (seat_of g.seats c.role) refl said
+  acts_done id text (revoke rel privileges to) b said = other_done id text (revoke rel privileges to) (seat_of g.seats c.role) refl said
+  acts_done id text (grant_role group to) b said = other_done id text (grant_role group to) (seat_of g.seats c.role) refl said
+  acts_done id text (revoke_role group to) b said = other_done id text (revoke_role group to) (seat_of g.seats c.role) refl said
+  acts_done id text (row_security rel enable force) b said = other_done id text (row_security rel enable force) (seat_of g.seats c.role) refl said
+  acts_done id text (create_policy p) b said = other_done id text (create_policy p) (seat_of g.seats c.role) refl said
+  acts_done id text (drop_policy rel name) b said = other_done id text (drop_policy rel name) (seat_of g.seats c.role) refl said
+  acts_done id text (write entries) b said = other_done id text (write entries) (seat_of g.seats c.role) refl said
+
+  pub all_done : (text : List ℕ) (s : Message) → IsSoundState g.machine → said_by text ≡ s → IsDone g m c (done_for g m c text s)
+  all_done text no_json b e = telling_done g m c (fault 1) refl refl
+  all_done text too_long b e = telling_done g m c (fault 22) refl refl
+  all_done text no_object b e = telling_done g m c (fault 2) refl refl
+  all_done text (no_request id why) b e = telling_done g m c (unasked id why) refl refl
+  all_done text (request id act) b e = acts_done id text act b (text, id, e)

@@ -1,0 +1,266 @@
+-- A session has as many feeds at most as it may.
+use Rattle.std.proofs.Common.{◌≡◌, ℕ, zero, suc, ◌<◌, ◌≤◌, ◌+◌, Bool, true, false, not, cond, ◌||◌, List, [], ◌∷◌, length, Option, Some, None, is_some, refl, ap, ◌∙◌, sym, subst, arith}
+use Rattle.std.specs.Prelude.{◌==◌, ◌&&◌, filter, find, nat_lt}
+use Rattle.std.specs.List.{AllByRecursion, list_any}
+use Rattle.std.proofs.lemmas.Bool.{false≢true, eqb-true, ltb-true}
+use Rattle.std.proofs.lemmas.List.Sums.{length-filter}
+use Rattle.std.proofs.lemmas.Slice.Eq.{bytes_eq-Decides}
+use Rattle.serde_json.specs.Data.{Data}
+use Rattle.iv_access.specs.Rights.{Name}
+use Rattle.iv_machine.specs.Act.{begin, subscribe, unsubscribe, Command, Line, Refusal, subscribed, session_in_use}
+use Rattle.iv_machine.specs.Machine.{step}
+use Rattle.iv_machine.specs.Refusing.{refusal}
+use Rattle.iv_machine.specs.State.{State, is_open}
+use Rattle.iv_clients.specs.Bounds.{most_feeds}
+use Rattle.iv_clients.specs.Clients.{at_client, moved}
+use Rattle.iv_clients.specs.Feeds.{Feed, Seat, ends_in, feed_for, feed_of, feeds_left, has_room, is_of_role, is_reading, load, room_for, without_feed}
+use Rattle.iv_gate.specs.Gate.{Gate, begun_for, feed_begun, in_session, joined, joined_by, joins, ran, seated, shut, subscribes}
+use Rattle.iv_gate.proofs.Asking.{begun_accepted}
+use Rattle.iv_gate.proofs.Joining.{and_both}
+use Rattle.iv_gate.proofs.Machine.{first_none, found_given, passed, some_is_none}
+use Rattle.iv_gate.proofs.Opening.{above_given, reply_of_none, reply_of_some}
+use Rattle.iv_gate.proofs.Sound.{IsFeed, IsSoundGate, left_of}
+use Rattle.iv_gate.proofs.Summing.{differs_back, neither, same_self}
+use Rattle.iv_gate.proofs.Touching.{one_some}
+
+abbrev pub AreApart : List Feed → Type 0
+AreApart [] = Unit {0}
+AreApart (f ∷ fs) = (list_any (λ (x : Feed). f.number == x.number) fs ≡ false) × AreApart fs
+
+-- the feeds of a session
+abbrev pub feeds_in : ℕ → List Feed → List Feed
+feeds_in n fs = filter (λ (f : Feed). n == f.session) fs
+
+pub record AreFew (fs : List Feed) : Type 0 where
+  pub few : (n : ℕ) → length (feeds_in n fs) ≤ most_feeds
+  pub apart : AreApart fs
+
+-- ---- some fewer
+
+pub shorter : (n : ℕ) (q : Feed → Bool) (fs : List Feed) → length (feeds_in n (filter q fs)) ≤ length (feeds_in n fs)
+shorter n q [] = omega arith
+shorter n q (f ∷ fs) = by (q f) (n == f.session) refl (shorter n q fs)
+  where
+    by : (a b : Bool) → (n == f.session) ≡ b → length (feeds_in n (filter q fs)) ≤ length (feeds_in n fs) → length (feeds_in n (cond a (f ∷ filter q fs) (filter q fs))) ≤ length (cond b (f ∷ feeds_in n fs) (feeds_in n fs))
+    by true true e h = subst (λ t. length (cond t (f ∷ feeds_in n (filter q fs)) (feeds_in n (filter q fs))) ≤ suc (length (feeds_in n fs))) (sym e) (omega (arith, h))
+    by true false e h = subst (λ t. length (cond t (f ∷ feeds_in n (filter q fs)) (feeds_in n (filter q fs))) ≤ length (feeds_in n fs)) (sym e) h
+    by false true e h = omega (arith, h)
+    by false false e h = h
+
+none_less : (k : ℕ) (q : Feed → Bool) (fs : List Feed) → list_any (λ (x : Feed). k == x.number) fs ≡ false → list_any (λ (x : Feed). k == x.number) (filter q fs) ≡ false
+none_less k q [] h = refl
+none_less k q (f ∷ fs) h = let e = neither (k == f.number) (list_any (λ (x : Feed). k == x.number) fs) h in by (q f) e.0 (none_less k q fs e.1)
+  where
+    by : (b : Bool) → (k == f.number) ≡ false → list_any (λ (x : Feed). k == x.number) (filter q fs) ≡ false → list_any (λ (x : Feed). k == x.number) (cond b (f ∷ filter q fs) (filter q fs)) ≡ false
+    by true a more = (λ i. a i || more i)
+    by false a more = more
+
+apart_less : (q : Feed → Bool) (fs : List Feed) → AreApart fs → AreApart (filter q fs)
+apart_less q [] a = tt
+apart_less q (f ∷ fs) a = by (q f) (apart_less q fs a.1)
+  where
+    by : (b : Bool) → AreApart (filter q fs) → AreApart (cond b (f ∷ filter q fs) (filter q fs))
+    by true more = (none_less f.number q fs a.0, more)
+    by false more = more
+
+pub few_less : (q : Feed → Bool) (fs : List Feed) → AreFew fs → AreFew (filter q fs)
+few_less q fs a = record { few = λ n. let s = shorter n q fs in let f = a.few n in omega (arith, s, f); apart = apart_less q fs a.apart }
+
+-- ---- one more
+
+few_more : (new : Feed) (fs : List Feed) → AreFew fs → list_any (λ (x : Feed). new.number == x.number) fs ≡ false → length (feeds_in new.session fs) < most_feeds → AreFew (new ∷ fs)
+few_more new fs a n l = record { few = λ j. by j (j == new.session) refl; apart = (n, a.apart) }
+  where
+    by : (j : ℕ) (b : Bool) → (j == new.session) ≡ b → length (cond b (new ∷ feeds_in j fs) (feeds_in j fs)) ≤ most_feeds
+    by j true e = let k = subst (λ i. length (feeds_in i fs) < most_feeds) (sym (eqb-true j new.session e)) l in omega (arith, k)
+    by j false e = a.few j
+
+-- ---- found
+
+feed_past : (f : Feed) (all fs : List Feed) → list_any (λ (x : Feed). f.number == x.number) fs ≡ false → AllByRecursion (λ (x : Feed). feed_of all x.number ≡ Some x) fs
+    → AllByRecursion (λ (x : Feed). feed_of (f ∷ all) x.number ≡ Some x) fs
+feed_past f all [] h a = tt
+feed_past f all (x ∷ fs) h a =
+    let e = neither (f.number == x.number) (list_any (λ (y : Feed). f.number == y.number) fs) h in
+    (ap (λ b. cond b (Some f) (feed_of all x.number)) (differs_back f.number x.number e.0) ∙ a.0, feed_past f all fs e.1 a.1)
+
+all_there : (fs : List Feed) → AreApart fs → AllByRecursion (λ (x : Feed). feed_of fs x.number ≡ Some x) fs
+all_there [] a = tt
+all_there (f ∷ fs) a = (ap (λ b. cond b (Some f) (feed_of fs f.number)) (same_self f.number), feed_past f fs fs a.0 (all_there fs a.1))
+
+find_has : (P : Feed → Type 0) (q : Feed → Bool) (fs : List Feed) (f : Feed) → AllByRecursion P fs → find q fs ≡ Some f → P f
+find_has P q [] f a h = absurd (some_is_none f (sym h))
+find_has P q (x ∷ xs) f a h = by (q x) h (find_has P q xs f a.1)
+  where
+    by : (b : Bool) → cond b (Some x) (find q xs) ≡ Some f → (find q xs ≡ Some f → P f) → P f
+    by true k more = subst P (one_some x f k) a.0
+    by false k more = more k
+
+pub found_for : (fs : List Feed) (role rel : Name) (f : Feed) → AreApart fs → feed_for fs role rel ≡ Some f → feed_of fs f.number ≡ Some f
+found_for fs role rel f a h = find_has (λ (x : Feed). feed_of fs x.number ≡ Some x) (is_reading role rel) fs f (all_there fs a) h
+
+-- one that goes makes room
+pub one_less : (n : ℕ) (q : Feed → Bool) (fs : List Feed) (k : ℕ) (f : Feed) → feed_of fs k ≡ Some f → q f ≡ false → (n == f.session) ≡ true → length (feeds_in n (filter q fs)) < length (feeds_in n fs)
+one_less n q [] k f h g e = absurd (some_is_none f (sym h))
+one_less n q (x ∷ xs) k f h g e = by (k == x.number) h (one_less n q xs k f)
+  where
+    here : x ≡ f → (a b : Bool) → q x ≡ a → (n == x.session) ≡ b → length (feeds_in n (cond a (x ∷ filter q xs) (filter q xs))) < length (cond b (x ∷ feeds_in n xs) (feeds_in n xs))
+    here i true b u v = absurd (false≢true (sym g ∙ (ap q (sym i) ∙ u)))
+    here i false true u v = let s = shorter n q xs in omega (arith, s)
+    here i false false u v = absurd (false≢true (sym v ∙ (ap (λ (y : Feed). n == y.session) i ∙ e)))
+
+    later : length (feeds_in n (filter q xs)) < length (feeds_in n xs) → (a b : Bool) → (n == x.session) ≡ b → length (feeds_in n (cond a (x ∷ filter q xs) (filter q xs))) < length (cond b (x ∷ feeds_in n xs) (feeds_in n xs))
+    later s true true v = subst (λ t. length (cond t (x ∷ feeds_in n (filter q xs)) (feeds_in n (filter q xs))) < suc (length (feeds_in n xs))) (sym v) (omega (arith, s))
+    later s true false v = subst (λ t. length (cond t (x ∷ feeds_in n (filter q xs)) (feeds_in n (filter q xs))) < length (feeds_in n xs)) (sym v) s
+    later s false true v = omega (arith, s)
+    later s false false v = s
+
+    by : (b : Bool) → cond b (Some x) (feed_of xs k) ≡ Some f → (feed_of xs k ≡ Some f → q f ≡ false → (n == f.session) ≡ true → length (feeds_in n (filter q xs)) < length (feeds_in n xs))
+        → length (feeds_in n (filter q (x ∷ xs))) < length (feeds_in n (x ∷ xs))
+    by true i more = here (one_some x f i) (q x) (n == x.session) refl refl
+    by false i more = later (more i g e) (q x) (n == x.session) refl
+
+none_left : (ends : ℕ → Bool) (k : ℕ) (fs : List Feed) → ends k ≡ true → feed_of (filter (λ (x : Feed). not (ends x.number)) fs) k ≡ None
+none_left ends k [] h = refl
+none_left ends k (x ∷ xs) h = by (ends x.number) refl (k == x.number) refl (none_left ends k xs h)
+  where
+    by : (a : Bool) → ends x.number ≡ a → (b : Bool) → (k == x.number) ≡ b → feed_of (filter (λ (y : Feed). not (ends y.number)) xs) k ≡ None
+        → feed_of (cond (not a) (x ∷ filter (λ (y : Feed). not (ends y.number)) xs) (filter (λ (y : Feed). not (ends y.number)) xs)) k ≡ None
+    by true e b f more = more
+    by false e true f more = absurd (false≢true (sym e ∙ (ap ends (sym (eqb-true k x.number f)) ∙ h)))
+    by false e false f more = ap (λ z. cond z (Some x) (feed_of (filter (λ (y : Feed). not (ends y.number)) xs) k)) f ∙ more
+
+-- ---- a subscription is opened
+
+none_next : (s : State) (fs : List Feed) → Rattle.iv_machine.specs.Reached.AreNumbersUnique s.frame → AllByRecursion (IsFeed s) fs → list_any (λ (x : Feed). (s.frame.last + 1) == x.number) fs ≡ false
+none_next s [] u a = refl
+none_next s (f ∷ fs) u a =
+    (λ i. differs_back f.number (s.frame.last + 1) (above_given f.number s.frame.last (found_given s.frame.last f.number _ s.frame.subscriptions u.given a.0.found)) i || none_next s fs u a.1 i)
+
+pub few_subscribes : (g : Gate) (m : ℕ) (id : Option Data) (n : ℕ) (role rel : Name) → IsSoundGate g → AreFew g.feeds → length (feeds_in n g.feeds) < most_feeds → AreFew (subscribes g m id n role rel).feeds
+few_subscribes g m id n role rel b a l = by (refusal g.machine n (subscribe rel)) refl
+  where
+    k : Command
+    k = in_session n (subscribe rel)
+
+    by : (o : Option Refusal) → refusal g.machine n (subscribe rel) ≡ o → AreFew (subscribes g m id n role rel).feeds
+    by None h =
+        subst (λ r. AreFew (ran (feed_begun g m id n role rel r) (in_session n (subscribe rel))).feeds) (sym (reply_of_none g.machine n rel (refusal g.machine n (subscribe rel)) h))
+        (few_less (λ (f : Feed). not (ends_in (step g.machine k).lines f.number)) _
+        (few_more (record { number = g.machine.frame.last + 1; session = n; role = role; rel = rel }) g.feeds a (none_next g.machine g.feeds b.state.numbers b.feeds) l))
+    by (Some r) h =
+        subst (λ x. AreFew (ran (feed_begun g m id n role rel x) (in_session n (subscribe rel))).feeds) (sym (reply_of_some g.machine n rel (refusal g.machine n (subscribe rel)) r h))
+        (few_less (λ (f : Feed). not (ends_in (step g.machine k).lines f.number)) g.feeds a)
+
+-- ---- of two the newer is closed
+
+few_joined : (g : Gate) (m : ℕ) (o p : Option Feed) → AreFew g.feeds → AreFew (joined g m o p).feeds
+few_joined g m (Some t) (Some k) a = by (is_reading t.role t.rel k && not (t.number == k.number))
+  where
+    by : (b : Bool) → AreFew (cond b (shut (record g { clients = at_client m (moved t.number k.number) g.clients }) t) g).feeds
+    by true = few_less _ (without_feed t.number g.feeds) (few_less _ g.feeds a)
+    by false = a
+few_joined g m (Some t) None a = a
+few_joined g m None p a = a
+
+pub few_joins : (g : Gate) (m : ℕ) (id : Option Data) (f : Feed) → IsSoundGate g → AreFew g.feeds → feed_of g.feeds f.number ≡ Some f → AreFew (joins g m id f).feeds
+few_joins g m id f b a there = by (refusal g.machine f.session (subscribe f.rel)) refl
+  where
+    n : ℕ
+    n = f.session
+
+    k : Command
+    k = in_session f.session (subscribe f.rel)
+
+    ls : List Line
+    ls = (step g.machine (in_session f.session (subscribe f.rel))).lines
+
+    t : ℕ
+    t = g.machine.frame.last + 1
+
+    new : Feed
+    new = record { number = g.machine.frame.last + 1; session = f.session; role = f.role; rel = f.rel }
+
+    left : List Feed
+    left = feeds_left (step g.machine (in_session f.session (subscribe f.rel))).lines g.feeds
+
+    h : Gate
+    h = ran (feed_begun g m id f.session f.role f.rel (subscribed (g.machine.frame.last + 1))) (in_session f.session (subscribe f.rel))
+
+    few_left : AreFew left
+    few_left = few_less (λ (x : Feed). not (ends_in ls x.number)) g.feeds a
+
+    fresh : list_any (λ (x : Feed). (g.machine.frame.last + 1) == x.number) left ≡ false
+    fresh = none_less t (λ (x : Feed). not (ends_in ls x.number)) g.feeds (none_next g.machine g.feeds b.state.numbers b.feeds)
+
+    older : (f.number == (g.machine.frame.last + 1)) ≡ false
+    older = above_given f.number g.machine.frame.last (found_given g.machine.frame.last f.number _ g.machine.frame.subscriptions b.state.numbers.given (find_has (IsFeed g.machine) (λ (x : Feed). f.number == x.number) g.feeds f b.feeds there).found)
+
+    reads : (is_reading f.role f.rel f && not ((g.machine.frame.last + 1) == f.number)) ≡ true
+    reads = (λ i. ((bytes_eq-Decides f.role f.role).1 refl i && (bytes_eq-Decides f.rel f.rel).1 refl i) && not (differs_back f.number t older i))
+
+    drops_new : without_feed (g.machine.frame.last + 1) (new ∷ left) ≡ without_feed (g.machine.frame.last + 1) left
+    drops_new = ap (λ z. cond (not z) (new ∷ without_feed (g.machine.frame.last + 1) left) (without_feed (g.machine.frame.last + 1) left)) (same_self t)
+
+    -- the new one stands, and the other does, or does not
+    stands : h.feeds ≡ new ∷ left → (e : Bool) → ends_in ls f.number ≡ e → AreFew (joined h m (feed_of h.feeds (g.machine.frame.last + 1)) (feed_of h.feeds f.number)).feeds
+    stands q false e =
+        let this : feed_of h.feeds (g.machine.frame.last + 1) ≡ Some new = ap (λ fs. feed_of fs (g.machine.frame.last + 1)) q ∙ ap (λ z. cond z (Some new) (feed_of left (g.machine.frame.last + 1))) (same_self t) in
+        let other : feed_of h.feeds f.number ≡ Some f = ap (λ fs. feed_of fs f.number) q ∙ (ap (λ z. cond z (Some new) (feed_of left f.number)) older ∙ left_of (ends_in ls) f.number f g.feeds there e) in
+        subst (λ o. AreFew (joined h m o (feed_of h.feeds f.number)).feeds) (sym this) (subst (λ p. AreFew (joined h m (Some new) p).feeds) (sym other)
+        (subst (λ z. AreFew (cond z (shut (record h { clients = at_client m (moved new.number f.number) h.clients }) new) h).feeds) (sym reads)
+        (few_less (λ (x : Feed). not (ends_in (step h.machine (in_session f.session (unsubscribe (g.machine.frame.last + 1)))).lines x.number)) (without_feed (g.machine.frame.last + 1) h.feeds)
+        (subst AreFew (sym (ap (without_feed (g.machine.frame.last + 1)) q ∙ drops_new)) (few_less (λ (x : Feed). not ((g.machine.frame.last + 1) == x.number)) left few_left)))))
+    stands q true e =
+        let gone : feed_of h.feeds f.number ≡ None = ap (λ fs. feed_of fs f.number) q ∙ (ap (λ z. cond z (Some new) (feed_of left f.number)) older ∙ none_left (ends_in ls) f.number g.feeds e) in
+        let less = one_less n (λ (x : Feed). not (ends_in ls x.number)) g.feeds f.number f there (ap not e) (same_self n) in let most = a.few n in
+        subst (λ p. AreFew (joined h m (feed_of h.feeds (g.machine.frame.last + 1)) p).feeds) (sym gone) (few_joined h m (feed_of h.feeds (g.machine.frame.last + 1)) None
+        (subst AreFew (sym q) (few_more new left few_left fresh (omega (arith, less, most)))))
+
+    whole : (e : Bool) → ends_in ls (g.machine.frame.last + 1) ≡ e → AreFew (joined h m (feed_of h.feeds (g.machine.frame.last + 1)) (feed_of h.feeds f.number)).feeds
+    whole true e = few_joined h m (feed_of h.feeds (g.machine.frame.last + 1)) (feed_of h.feeds f.number) (subst AreFew (sym (ap (λ z. cond (not z) (new ∷ left) left) e)) few_left)
+    whole false e = stands (ap (λ z. cond (not z) (new ∷ left) left) e) (ends_in ls f.number) refl
+
+    by : (o : Option Refusal) → refusal g.machine f.session (subscribe f.rel) ≡ o → AreFew (joins g m id f).feeds
+    by None i =
+        subst (λ r. AreFew (joined_by (ran (feed_begun g m id f.session f.role f.rel r) (in_session f.session (subscribe f.rel))) m f.number r).feeds)
+        (sym (reply_of_none g.machine f.session f.rel (refusal g.machine f.session (subscribe f.rel)) i)) (whole (ends_in ls (g.machine.frame.last + 1)) refl)
+    by (Some r) i =
+        subst (λ x. AreFew (joined_by (ran (feed_begun g m id f.session f.role f.rel x) (in_session f.session (subscribe f.rel))) m f.number x).feeds)
+        (sym (reply_of_some g.machine f.session f.rel (refusal g.machine f.session (subscribe f.rel)) r i)) few_left
+
+-- ---- room
+
+pub room_has : (seats : List Seat) (feeds : List Feed) (role : Name) (n : ℕ) → room_for seats feeds role ≡ Some n → length (feeds_in n feeds) < most_feeds
+room_has [] feeds role n h = absurd (some_is_none n (sym h))
+room_has (s ∷ ss) feeds role n h = by (has_room feeds role s) refl h (room_has ss feeds role n)
+  where
+    by : (b : Bool) → has_room feeds role s ≡ b → Rattle.std.proofs.Common.option_map (λ (x : Seat). x.session) (cond b (Some s) (find (has_room feeds role) ss)) ≡ Some n
+        → (room_for ss feeds role ≡ Some n → length (feeds_in n feeds) < most_feeds) → length (feeds_in n feeds) < most_feeds
+    by true e i more =
+        let t = (and_both (is_of_role role s) (nat_lt (load feeds s.session) most_feeds) e).1 in
+        subst (λ j. length (feeds_in j feeds) < most_feeds) (one_some s.session n i)
+        (subst (λ z. z < most_feeds) (sym (length-filter (λ (f : Feed). s.session == f.session) feeds)) (ltb-true (load feeds s.session) most_feeds t))
+    by false e i more = more i
+
+-- a session that is not open has no feed
+none_in : (s : State) (n : ℕ) (fs : List Feed) → is_open s.frame n ≡ false → AllByRecursion (IsFeed s) fs → length (feeds_in n fs) ≡ 0
+none_in s n [] h a = refl
+none_in s n (f ∷ fs) h a = by (n == f.session) refl (none_in s n fs h a.1)
+  where
+    by : (b : Bool) → (n == f.session) ≡ b → length (feeds_in n fs) ≡ 0 → length (cond b (f ∷ feeds_in n fs) (feeds_in n fs)) ≡ 0
+    by true e more = absurd (false≢true (sym h ∙ (ap (is_open s.frame) (eqb-true n f.session e) ∙ ap is_some a.0.acts.session)))
+    by false e more = more
+
+pub not_open_yet : (g : Gate) (role : Name) (n : ℕ) → begun_for g role ≡ Some n → is_open g.machine.frame n ≡ false
+not_open_yet g role n h = passed (is_open g.machine.frame n) session_in_use (first_none _ _ (first_none _ _ (begun_accepted g role n h)))
+
+pub new_has_room : (g : Gate) (role : Name) (n : ℕ) → begun_for g role ≡ Some n → IsSoundGate g → length (feeds_in n (seated g n role).feeds) < most_feeds
+new_has_room g role n h b =
+    let k = in_session n (begin role) in
+    let none = none_in g.machine n g.feeds (not_open_yet g role n h) b.feeds in
+    let less = shorter n (λ (f : Feed). not (ends_in (step g.machine k).lines f.number)) g.feeds in
+    below (length (feeds_in n (seated g n role).feeds)) (length (feeds_in n g.feeds)) less none
+  where
+    below : (x y : ℕ) → x ≤ y → y ≡ 0 → x < 15
+    below x y i j = omega (arith, i, j)

@@ -1,0 +1,515 @@
+-- Each event leads from a gateway whose machine reads what clients follow to another, and so does whatever happens.
+use Rattle.std.proofs.Common.{◌≡◌, ℕ, zero, suc, ◌+◌, Bool, true, false, not, cond, ◌||◌, List, [], ◌∷◌, ◌++◌, length, map, set, Option, Some, None, option_map, is_some, refl, ap, ◌∙◌, sym, subst}
+use Rattle.std.specs.Prelude.{◌==◌, ◌&&◌, filter, find, nat_lt, option_and_then}
+use Rattle.std.specs.List.{AllByRecursion, list_any}
+use Rattle.std.proofs.lemmas.Bool.{false≢true, eqb-true}
+use Rattle.sha2.specs.Sha256.{sha256}
+use Rattle.serde_json.specs.Data.{Data}
+use Rattle.iv_rows.specs.Options.{if_some}
+use Rattle.iv_access.specs.Rights.{Name}
+use Rattle.iv_machine.specs.Act.{Act, begin, finish, create_role, create_table, create_view, grant, revoke, grant_role, revoke_role, row_security, create_policy, drop_policy, subscribe, unsubscribe, write, Command, Refusal, Reply, done, subscribed, refused, no_session, too_many, unknown_subscription}
+use Rattle.iv_machine.specs.Changing.{after}
+use Rattle.iv_machine.specs.Machine.{ending_by, outcome, step}
+use Rattle.iv_machine.specs.Reached.{AreNumbersUnique}
+use Rattle.iv_machine.specs.Refusing.{refusal}
+use Rattle.iv_machine.specs.State.{State, Subscription, start}
+use Rattle.iv_message.specs.Message.{Message, no_json, too_long, no_object, no_request, request}
+use Rattle.iv_message.specs.Told.{Told, welcome, replied, opened, fault, unasked, settled}
+use Rattle.iv_clients.specs.Bounds.{entry_session, most_subs}
+use Rattle.iv_clients.specs.Clients.{Client, Shown, Slots, Sub, answered, at_all, at_client, beating, checked, client_at, closing, dropping, followed, followed_by, following, fresh, handing, is_followed, is_free, is_slow, may_say, moved, moved_sub, opens, released, saying, settling, staying, telling, told_one}
+use Rattle.iv_clients.specs.Feeds.{Feed, Seat, feed_for, feed_of, is_of_role, is_reading, room_for, seat_of, without_seat}
+use Rattle.iv_clients.specs.Journal.{Entry, IsEntry, line_said, said_by}
+use Rattle.iv_clients.specs.Tokens.{Token}
+use Rattle.iv_gate.specs.Events.{Event, presented, message, gone, known, ticked, synced, handed, failed, happens, next}
+use Rattle.iv_gate.specs.Gate.{Gate, acts, all_rested, all_swept, begun_for, closes, columns_in, done_for, entered, feed_begun, hears, in_session, is_accepted, is_needed, joined, joined_by, joins, next_own, ran, reads, reads_first, reply_in, reply_to, requests, rested, role_for, said, seated, settles, shut, subscribes, swept, tells, told_of, went, with_session}
+use Rattle.iv_gate.specs.Needed.{ReadsForClients}
+use Rattle.iv_gate.specs.Restoring.{Restores, all_replayed, gate_at_start, passed, replayed}
+use Rattle.iv_gate.specs.Runs.{Runs, begins, goes_on, begins_again}
+use Rattle.iv_gate.specs.Replies.{ActsAs}
+use Rattle.iv_gate.proofs.Asking.{IsHeard, asker_of, feed_acts, seated_sound}
+use Rattle.iv_gate.proofs.Finishing.{rested_sound}
+use Rattle.iv_gate.proofs.Lasting.{Starts, bound, runs_even, runs_sound}
+use Rattle.iv_gate.proofs.Machine.{find_passes, some_is_none}
+use Rattle.iv_gate.proofs.Opening.{IsAsker, reply_of_none, reply_of_some, subscribes_sound}
+use Rattle.iv_gate.proofs.Running.{all_so, all_swept_sound, client_said, found_all, one_sound, swept_sound}
+use Rattle.iv_gate.proofs.Serving.{AreEven, IsEven, put_sound, says_stays}
+use Rattle.iv_gate.proofs.Sound.{Adds, IsFeed, IsSoundGate, Sounds, any_more, filter_all, seer}
+use Rattle.iv_gate.proofs.Summing.{AreOwn, both, differs_back, is_back, neither, same_self}
+use Rattle.iv_gate.proofs.Touching.{at_every, at_same, came_as, one_some, opens_role}
+use Rattle.iv_gate.proofs.Using.{AreFeeds, IsUsing, followed_all, followed_by_one, followed_left, followed_one, followed_put, follows, is_plain, none_after, none_but, opens_none, ran_finish, ran_plain, ran_refused, ran_subscribe, shared_opens_none, shut_using}
+
+-- ---- clients that follow what they did
+
+using_one : (but : ℕ → Bool) (g : Gate) (m : ℕ) (f : Client → Client) → ((c : Client) → (f c).subs ≡ c.subs) → IsUsing but g → IsUsing but (record g { clients = at_client m f g.clients })
+using_one but g m f k a = record {
+  followed = all_so {P = λ (x : Feed). but x.number ≡ false → is_followed x.number g.clients ≡ true} {Q = λ (x : Feed). but x.number ≡ false → is_followed x.number (at_client m f g.clients) ≡ true}
+      (λ x h n. followed_one x.number m f g.clients (λ c e t. ap (follows x.number) (k c) ∙ t) (h n)) g.feeds a.followed;
+  read = a.read;
+}
+
+using_all : (but : ℕ → Bool) (g : Gate) (f : Client → Client) → ((c : Client) → (f c).subs ≡ c.subs) → IsUsing but g → IsUsing but (record g { clients = at_all f g.clients })
+using_all but g f k a = record {
+  followed = all_so {P = λ (x : Feed). but x.number ≡ false → is_followed x.number g.clients ≡ true} {Q = λ (x : Feed). but x.number ≡ false → is_followed x.number (at_all f g.clients) ≡ true}
+      (λ x h n. followed_all x.number f g.clients (λ c t. ap (follows x.number) (k c) ∙ t) (h n)) g.feeds a.followed;
+  read = a.read;
+}
+
+settling_subs : (es : List Entry) (c : Client) → (settling es c).subs ≡ c.subs
+settling_subs es c = by c.owed
+  where
+    by : (b : Bool) → (cond b (record (told_one es settled c) { owed = false }) c).subs ≡ c.subs
+    by true = refl
+    by false = refl
+
+released_subs : (c : Client) → (released c).subs ≡ c.subs
+released_subs c = by (c.dropped || is_slow c)
+  where
+    by : (b : Bool) → (cond b (dropping c) (record c { unsynced = []; sendable = c.sendable ++ c.unsynced })).subs ≡ c.subs
+    by true = refl
+    by false = refl
+
+checked_subs : (tokens : List Token) (c : Client) → (checked tokens c).subs ≡ c.subs
+checked_subs tokens c = by (opens tokens c)
+  where
+    by : (b : Bool) → (cond b c (dropping c)).subs ≡ c.subs
+    by true = refl
+    by false = refl
+
+handing_subs : (c : Client) → (handing c).subs ≡ c.subs
+handing_subs c = by (length c.sendable == 0)
+  where
+    by : (b : Bool) → (cond b c (record c { sendable = []; asked = 0; handed = c.handed ++ c.sendable ∷ [] })).subs ≡ c.subs
+    by true = refl
+    by false = refl
+
+using_tells : (but : ℕ → Bool) (g : Gate) (m : ℕ) (t : Told) → IsUsing but g → IsUsing but (tells g m t)
+using_tells but g m t a = using_one but g m (told_one g.entries t) (λ c. refl) a
+
+using_settles : (g : Gate) → IsUsing none_but g → IsUsing none_but (settles g)
+using_settles g a = using_all none_but g (settling g.entries) (settling_subs g.entries) a
+
+-- ---- requests of the machine
+
+using_requests : (g : Gate) (m : ℕ) (id : Option Data) (e : Entry) (n : ℕ) → is_plain e.act ≡ true → IsSoundGate g → IsUsing none_but g → IsUsing none_but (requests g m id e n)
+using_requests g m id e n h b a =
+    let k = in_session n e.act in let r = reply_to g k in let i = entered g e (is_accepted r) in
+    ran_plain none_but (tells i m (replied id r)) k h b.state.numbers (using_tells none_but i m (replied id r) (record { followed = a.followed; read = a.read }))
+
+using_other : (g : Gate) (m : ℕ) (c : Client) (id : Option Data) (text : List ℕ) (act : Act) (o : Option ℕ) → is_plain act ≡ true → IsSoundGate g → IsUsing none_but g
+    → IsUsing none_but (if_some o (tells g m (replied id (refused no_session))) (requests g m id (record { role = c.role; line = line_said text; act = act })))
+using_other g m c id text act None h b a = using_tells none_but g m (replied id (refused no_session)) a
+using_other g m c id text act (Some n) h b a = using_requests g m id (record { role = c.role; line = line_said text; act = act }) n h b a
+
+-- ---- subscribing
+
+or_left : (b c : Bool) → b ≡ true → (b || c) ≡ true
+or_left true c h = refl
+or_left false c h = absurd (false≢true h)
+
+or_right : (b c : Bool) → c ≡ true → (b || c) ≡ true
+or_right true c h = refl
+or_right false c h = h
+
+some_before : {X : Type 0} (b : Bool) (x : X) (o : Option X) → is_some o ≡ true → is_some (cond b (Some x) o) ≡ true
+some_before true x o h = refl
+some_before false x o h = h
+
+module _ (g : Gate) (m : ℕ) (id : Option Data) (n : ℕ) (role rel : Name) where
+  abbrev next_number : ℕ
+  next_number = g.machine.frame.last + 1
+
+  abbrev next_feed : Feed
+  next_feed = record { number = g.machine.frame.last + 1; session = n; role = role; rel = rel }
+
+  abbrev next_told : Told
+  next_told = opened id (next_own g m) (columns_in g.machine rel)
+
+  abbrev begun_gate : Gate
+  begun_gate = feed_begun g m id n role rel (subscribed (g.machine.frame.last + 1))
+
+  new_follows : (d : Client) → follows next_number (following next_number d).subs ≡ true
+  new_follows d = any_more (λ (s : Sub). next_number == s.feed) d.subs (record { own = d.given + 1; feed = next_number } ∷ []) ∙ or_right (follows next_number d.subs) ((next_number == next_number) || false) (or_left (next_number == next_number) false (same_self next_number))
+
+  old_follows : (k : ℕ) (d : Client) → follows k d.subs ≡ true → follows k (following next_number d).subs ≡ true
+  old_follows k d w = any_more (λ (s : Sub). k == s.feed) d.subs (record { own = d.given + 1; feed = next_number } ∷ []) ∙ or_left (follows k d.subs) ((k == next_number) || false) w
+
+  begun_using : (c : Client) → client_at g.clients m ≡ Some c → IsUsing none_but g → IsUsing none_but begun_gate
+  begun_using c e a = record {
+    followed = (
+      λ w. followed_by_one next_number m (following next_number) (at_client m (told_one g.entries next_told) g.clients) (told_one g.entries next_told c)
+          (at_same m (told_one g.entries next_told) g.clients ∙ ap (option_map (told_one g.entries next_told)) e) (new_follows (told_one g.entries next_told c)),
+      all_so {P = λ (x : Feed). none_but x.number ≡ false → is_followed x.number g.clients ≡ true}
+          {Q = λ (x : Feed). none_but x.number ≡ false → is_followed x.number (at_client m (following next_number) (at_client m (told_one g.entries next_told) g.clients)) ≡ true}
+          (λ x f w. followed_one x.number m (following next_number) (at_client m (told_one g.entries next_told) g.clients) (λ d i v. old_follows x.number d v)
+          (followed_one x.number m (told_one g.entries next_told) g.clients (λ d i v. v) (f w))) g.feeds a.followed,
+    );
+    read = all_so {P = λ (x : Subscription). is_some (feed_of g.feeds x.number) ≡ true} {Q = λ (x : Subscription). is_some (feed_of (next_feed ∷ g.feeds) x.number) ≡ true}
+        (λ x w. some_before (x.number == next_feed.number) next_feed (feed_of g.feeds x.number) w) g.machine.frame.subscriptions a.read;
+  }
+
+  pub using_subscribes : (c : Client) → client_at g.clients m ≡ Some c → IsSoundGate g → IsUsing none_but g → IsUsing none_but (subscribes g m id n role rel)
+  using_subscribes c e b a = by (refusal g.machine n (subscribe rel)) refl
+    where
+      by : (o : Option Refusal) → refusal g.machine n (subscribe rel) ≡ o → IsUsing none_but (subscribes g m id n role rel)
+      by None w =
+          subst (λ r. IsUsing none_but (ran (feed_begun g m id n role rel r) (in_session n (subscribe rel)))) (sym (reply_of_none g.machine n rel (refusal g.machine n (subscribe rel)) w))
+          (ran_subscribe begun_gate n rel (ap (λ z. is_some (cond z (Some next_feed) (feed_of g.feeds (g.machine.frame.last + 1)))) (same_self (g.machine.frame.last + 1))) b.state.numbers (begun_using c e a))
+      by (Some r) w =
+          subst (λ x. IsUsing none_but (ran (feed_begun g m id n role rel x) (in_session n (subscribe rel)))) (sym (reply_of_some g.machine n rel (refusal g.machine n (subscribe rel)) r w))
+          (ran_refused none_but (tells g m (replied id (refused r))) (in_session n (subscribe rel)) r w (using_tells none_but g m (replied id (refused r)) a))
+
+-- ---- a feed that a client leaves for an older one
+
+still_follows : (t k j : ℕ) (xs : List Sub) → (t == j) ≡ false → follows j xs ≡ true → follows j (map (moved_sub t k) xs) ≡ true
+still_follows t k j [] w v = v
+still_follows t k j (x ∷ xs) w v = by (t == x.feed) refl (j == x.feed) refl v (still_follows t k j xs w)
+  where
+    by : (d : Bool) → (t == x.feed) ≡ d → (b : Bool) → (j == x.feed) ≡ b → (b || follows j xs) ≡ true → (follows j xs ≡ true → follows j (map (moved_sub t k) xs) ≡ true)
+        → ((j == (cond d (record x { feed = k }) x).feed) || follows j (map (moved_sub t k) xs)) ≡ true
+    by true q true u s more =
+        let same : t ≡ j = eqb-true t x.feed q ∙ sym (eqb-true j x.feed u) in absurd (false≢true (sym w ∙ (ap (λ i. t == i) (sym same) ∙ same_self t)))
+    by true q false u s more = or_right (j == k) (follows j (map (moved_sub t k) xs)) (more s)
+    by false q true u s more = or_left (j == x.feed) (follows j (map (moved_sub t k) xs)) u
+    by false q false u s more = or_right (j == x.feed) (follows j (map (moved_sub t k) xs)) (more s)
+
+using_joined : (g : Gate) (m t k : ℕ) → IsSoundGate g → IsUsing none_but g → IsUsing none_but (joined g m (feed_of g.feeds t) (feed_of g.feeds k))
+using_joined g m t k b a = by (feed_of g.feeds t) (feed_of g.feeds k) refl
+  where
+    goes : (x y : Feed) → feed_of g.feeds t ≡ Some x → (d : Bool) → IsUsing none_but (cond d (shut (record g { clients = at_client m (moved x.number y.number) g.clients }) x) g)
+    goes x y w false = a
+    goes x y w true = shut_using none_but (record g { clients = at_client m (moved x.number y.number) g.clients }) x (found_all (IsFeed g.machine) g.feeds t x b.feeds w) b.state.numbers
+        (filter_all (λ (f : Feed). none_but f.number ≡ false → is_followed f.number (at_client m (moved x.number y.number) g.clients) ≡ true) (λ (f : Feed). x.number == f.number) g.feeds
+        (all_so {P = λ (f : Feed). none_but f.number ≡ false → is_followed f.number g.clients ≡ true}
+        {Q = λ (f : Feed). (x.number == f.number) ≡ false → none_but f.number ≡ false → is_followed f.number (at_client m (moved x.number y.number) g.clients) ≡ true}
+        (λ f u q n. followed_one f.number m (moved x.number y.number) g.clients (λ c e v. still_follows x.number y.number f.number c.subs q v) (u n)) g.feeds a.followed)) a.read
+
+    by : (o p : Option Feed) → feed_of g.feeds t ≡ o → IsUsing none_but (joined g m o p)
+    by None p w = a
+    by (Some x) None w = a
+    by (Some x) (Some y) w = goes x y w (is_reading x.role x.rel y && not (x.number == y.number))
+
+using_joins : Adds → Sounds → (g : Gate) (m : ℕ) (id : Option Data) (f : Feed) (c : Client) → client_at g.clients m ≡ Some c → ActsAs g.machine f.session f.role → IsAsker c id f.role f.rel → IsSoundGate g → IsUsing none_but g
+    → IsUsing none_but (joins g m id f)
+using_joins adds sounds g m id f c e acts same b a = by (reply_to g (in_session f.session (subscribe f.rel)))
+  where
+    after : IsUsing none_but (subscribes g m id f.session f.role f.rel)
+    after = using_subscribes g m id f.session f.role f.rel c e b a
+
+    by : (r : Reply) → IsUsing none_but (joined_by (subscribes g m id f.session f.role f.rel) m f.number r)
+    by (subscribed t) = using_joined (subscribes g m id f.session f.role f.rel) m t f.number
+        (subscribes_sound adds sounds g m id f.session f.role f.rel acts (λ d w. subst (λ z. IsAsker z id f.role f.rel) (sym (one_some d c (sym w ∙ e))) same) b) after
+    by done = after
+    by (refused r) = after
+
+-- ---- sessions
+
+still_there : (g : Gate) (k : Command) (m : ℕ) (c : Client) → client_at g.clients m ≡ Some c → (d : Client) × (client_at (ran g k).clients m ≡ Some d)
+still_there g k m c e = (hears c, at_every hears g.clients m ∙ ap (option_map hears) e)
+  where
+    hears : Client → Client
+    hears x = staying (step g.machine k).lines (telling g.entries (told_of g k.act (step g.machine k) x) x)
+
+using_seated : (g : Gate) (n : ℕ) (role : Name) → IsSoundGate g → IsUsing none_but g → IsUsing none_but (seated g n role)
+using_seated g n role b a = ran_plain none_but (record g { seats = g.seats ++ record { session = n; role = role } ∷ [] }) (in_session n (begin role)) refl b.state.numbers (record { followed = a.followed; read = a.read })
+
+using_rested : (g : Gate) (s : Seat) → IsSoundGate g → IsUsing none_but g → IsUsing none_but (rested g s)
+using_rested g s b a = by (is_needed g s)
+  where
+    by : (d : Bool) → IsUsing none_but (cond d g (ran (record g { seats = without_seat s.session g.seats }) (in_session s.session finish)))
+    by true = a
+    by false = ran_finish none_but (record g { seats = without_seat s.session g.seats }) s.session b.state.numbers (record { followed = a.followed; read = a.read })
+
+-- ---- a client reads
+
+using_first : Adds → Sounds → (g : Gate) (m : ℕ) (id : Option Data) (role rel : Name) (c : Client) → client_at g.clients m ≡ Some c → IsSoundGate g → IsUsing none_but g → IsUsing none_but (reads_first g m id role rel)
+using_first adds sounds g m id role rel c e b a = by (room_for g.seats g.feeds role)
+  where
+    further : (o : Option ℕ) → begun_for g role ≡ o → IsUsing none_but (if_some o (tells g m (replied id (refused too_many))) (λ n. subscribes (seated g n role) m id n role rel))
+    further None w = using_tells none_but g m (replied id (refused too_many)) a
+    further (Some n) w =
+        let d = still_there (record g { seats = g.seats ++ record { session = n; role = role } ∷ [] }) (in_session n (begin role)) m c e in
+        using_subscribes (seated g n role) m id n role rel d.0 d.1 (seated_sound adds sounds g role n w b) (using_seated g n role b a)
+
+    by : (o : Option ℕ) → IsUsing none_but (if_some o (if_some (begun_for g role) (tells g m (replied id (refused too_many))) (λ n. subscribes (seated g n role) m id n role rel)) (λ n. subscribes g m id n role rel))
+    by None = further (begun_for g role) refl
+    by (Some n) = using_subscribes g m id n role rel c e b a
+
+using_reads : Adds → Sounds → (g : Gate) (m : ℕ) (c : Client) (id : Option Data) (rel : Name) (d : Client) → client_at g.clients m ≡ Some d → IsAsker d id c.role rel → IsSoundGate g → IsUsing none_but g
+    → IsUsing none_but (reads g m c id rel)
+using_reads adds sounds g m c id rel d e same b a = test (nat_lt (length c.subs) most_subs)
+  where
+    by : (o : Option Feed) → feed_for g.feeds c.role rel ≡ o → IsUsing none_but (if_some o (reads_first g m id c.role rel) (joins g m id))
+    by None w = using_first adds sounds g m id c.role rel d e b a
+    by (Some f) w = let p = feed_acts g.machine c.role rel g.feeds f b.feeds w in using_joins adds sounds g m id f d e p.0 (subst (λ r. IsAsker d id r f.rel) (sym p.1) (subst (λ r. IsAsker d id c.role r) (sym p.2) same)) b a
+
+    test : (t : Bool) → IsUsing none_but (cond t (if_some (feed_for g.feeds c.role rel) (reads_first g m id c.role rel) (joins g m id)) (tells g m (replied id (refused too_many))))
+    test true = by (feed_for g.feeds c.role rel) refl
+    test false = using_tells none_but g m (replied id (refused too_many)) a
+
+-- ---- what nobody follows any more
+
+abbrev pub but_of : List ℕ → ℕ → Bool
+but_of ks j = list_any (λ i. i == j) ks
+
+none_found : (k : ℕ) (fs : List Feed) → feed_of fs k ≡ None → AllByRecursion (λ (f : Feed). (k == f.number) ≡ false) fs
+none_found k [] h = tt
+none_found k (f ∷ fs) h = by (k == f.number) refl h (none_found k fs)
+  where
+    by : (b : Bool) → (k == f.number) ≡ b → cond b (Some f) (feed_of fs k) ≡ None → (feed_of fs k ≡ None → AllByRecursion (λ (x : Feed). (k == x.number) ≡ false) fs)
+        → ((k == f.number) ≡ false) × AllByRecursion (λ (x : Feed). (k == x.number) ≡ false) fs
+    by true q w more = absurd (some_is_none f w)
+    by false q w more = (q, more w)
+
+using_swept : (ks : List ℕ) (g : Gate) (k : ℕ) → AllByRecursion (IsFeed g.machine) g.feeds → AreNumbersUnique g.machine.frame → IsUsing (but_of (k ∷ ks)) g → IsUsing (but_of ks) (swept g k)
+using_swept ks g k b u a = by (is_followed k g.clients) refl (feed_of g.feeds k) refl
+  where
+    test : is_followed k g.clients ≡ true → (f : Feed) → (but_of (k ∷ ks) f.number ≡ false → is_followed f.number g.clients ≡ true) → but_of ks f.number ≡ false
+        → (c : Bool) → (k == f.number) ≡ c → is_followed f.number g.clients ≡ true
+    test h f v w true q = ap (λ i. is_followed i g.clients) (sym (eqb-true k f.number q)) ∙ h
+    test h f v w false q = v (λ i. q i || w i)
+
+    by : (d : Bool) → is_followed k g.clients ≡ d → (o : Option Feed) → feed_of g.feeds k ≡ o → IsUsing (but_of ks) (cond d g (if_some o g (shut g)))
+    by true h o e = record {
+      followed = all_so {P = λ (f : Feed). but_of (k ∷ ks) f.number ≡ false → is_followed f.number g.clients ≡ true} {Q = λ (f : Feed). but_of ks f.number ≡ false → is_followed f.number g.clients ≡ true}
+          (λ f v w. test h f v w (k == f.number) refl) g.feeds a.followed;
+      read = a.read;
+    }
+    by false h None e = record {
+      followed = both {P = λ (f : Feed). but_of (k ∷ ks) f.number ≡ false → is_followed f.number g.clients ≡ true} {Q = λ (f : Feed). (k == f.number) ≡ false}
+          {R = λ (f : Feed). but_of ks f.number ≡ false → is_followed f.number g.clients ≡ true} (λ f v q w. v (λ i. q i || w i)) g.feeds a.followed (none_found k g.feeds e);
+      read = a.read;
+    }
+    by false h (Some x) e =
+        let same : k ≡ x.number = eqb-true k x.number (find_passes (λ (f : Feed). k == f.number) g.feeds x e) in
+        shut_using (but_of ks) g x (found_all (IsFeed g.machine) g.feeds k x b e) u
+        (filter_all (λ (f : Feed). but_of ks f.number ≡ false → is_followed f.number g.clients ≡ true) (λ (f : Feed). x.number == f.number) g.feeds
+        (all_so {P = λ (f : Feed). but_of (k ∷ ks) f.number ≡ false → is_followed f.number g.clients ≡ true} {Q = λ (f : Feed). (x.number == f.number) ≡ false → but_of ks f.number ≡ false → is_followed f.number g.clients ≡ true}
+        (λ f v q w. v (λ i. (ap (λ j. j == f.number) same ∙ q) i || w i)) g.feeds a.followed)) a.read
+
+using_all_swept : Adds → Sounds → (g : Gate) (ks : List ℕ) → IsSoundGate g → IsUsing (but_of ks) g → IsUsing none_but (all_swept g ks)
+using_all_swept adds sounds g [] b a = record { followed = a.followed; read = a.read }
+using_all_swept adds sounds g (k ∷ ks) b a = using_all_swept adds sounds (swept g k) ks (swept_sound adds sounds g k b) (using_swept ks g k b.feeds b.state.numbers a)
+
+using_all_rested : Adds → Sounds → (g : Gate) (ss : List Seat) → IsSoundGate g → IsUsing none_but g → IsUsing none_but (all_rested g ss)
+using_all_rested adds sounds g [] b a = a
+using_all_rested adds sounds g (s ∷ ss) b a = using_all_rested adds sounds (rested g s) ss (rested_sound adds sounds g s b) (using_rested g s b a)
+
+-- ---- a client closes
+
+kept_whole : (own j : ℕ) (xs : List Sub) → list_any (λ (y : Sub). own == y.own) xs ≡ false → follows j xs ≡ true → follows j (filter (λ (s : Sub). not (own == s.own)) xs) ≡ true
+kept_whole own j [] n v = v
+kept_whole own j (x ∷ xs) n v = let p = neither (own == x.own) (list_any (λ (y : Sub). own == y.own) xs) n in by (own == x.own) p.0 (j == x.feed) v (kept_whole own j xs p.1) refl
+  where
+    by : (b : Bool) → b ≡ false → (d : Bool) → (d || follows j xs) ≡ true → (follows j xs ≡ true → follows j (filter (λ (s : Sub). not (own == s.own)) xs) ≡ true)
+        → (j == x.feed) ≡ d → follows j (cond (not b) (x ∷ filter (λ (s : Sub). not (own == s.own)) xs) (filter (λ (s : Sub). not (own == s.own)) xs)) ≡ true
+    by true e d w more q = absurd (false≢true (sym e))
+    by false e true w more q = or_left (j == x.feed) (follows j (filter (λ (s : Sub). not (own == s.own)) xs)) q
+    by false e false w more q = or_right (j == x.feed) (follows j (filter (λ (s : Sub). not (own == s.own)) xs)) (more w)
+
+other_stays : (own k j given : ℕ) (xs : List Sub) → AreOwn given xs → followed_by xs own ≡ Some k → (k == j) ≡ false → follows j xs ≡ true → follows j (filter (λ (s : Sub). not (own == s.own)) xs) ≡ true
+other_stays own k j given [] o f w v = v
+other_stays own k j given (x ∷ xs) o f w v = by (own == x.own) refl f (j == x.feed) refl v (λ u t. other_stays own k j given xs o.2 u w t)
+  where
+    left : List Sub
+    left = filter (λ (s : Sub). not (own == s.own)) xs
+
+    by : (b : Bool) → (own == x.own) ≡ b → option_map (λ (s : Sub). s.feed) (cond b (Some x) (find (λ (s : Sub). own == s.own) xs)) ≡ Some k → (d : Bool) → (j == x.feed) ≡ d → (d || follows j xs) ≡ true
+        → (followed_by xs own ≡ Some k → follows j xs ≡ true → follows j left ≡ true)
+        → follows j (cond (not b) (x ∷ filter (λ (s : Sub). not (own == s.own)) xs) (filter (λ (s : Sub). not (own == s.own)) xs)) ≡ true
+    by true q e true u t more = absurd (false≢true (sym w ∙ (ap (λ i. i == j) (sym (one_some x.feed k e)) ∙ is_back j x.feed u)))
+    by true q e false u t more = kept_whole own j xs (ap (λ i. list_any (λ (y : Sub). i == y.own) xs) (eqb-true own x.own q) ∙ o.1) t
+    by false q e true u t more = or_left (j == x.feed) (follows j left) u
+    by false q e false u t more = or_right (j == x.feed) (follows j left) (more e t)
+
+using_closes : (g : Gate) (m : ℕ) (c : Client) (id : Option Data) (own given : ℕ) → ((d : Client) → client_at g.clients m ≡ Some d → d.subs ≡ c.subs) → AreOwn given c.subs → IsSoundGate g → IsUsing none_but g
+    → IsUsing none_but (closes g m c id own)
+using_closes g m c id own given same o b a = by (followed c own) refl
+  where
+    h : Gate
+    h = record g { clients = at_client m (closing own) g.clients }
+
+    by : (p : Option ℕ) → followed c own ≡ p → IsUsing none_but (if_some p (tells g m (replied id (refused unknown_subscription))) (λ k. swept (tells (record g { clients = at_client m (closing own) g.clients }) m (replied id done)) k))
+    by None e = using_tells none_but g m (replied id (refused unknown_subscription)) a
+    by (Some k) e =
+        let i = using_swept [] (tells h m (replied id done)) k b.feeds b.state.numbers (using_tells (but_of (k ∷ [])) h m (replied id done) (record {
+          followed = all_so {P = λ (f : Feed). none_but f.number ≡ false → is_followed f.number g.clients ≡ true} {Q = λ (f : Feed). but_of (k ∷ []) f.number ≡ false → is_followed f.number (at_client m (closing own) g.clients) ≡ true}
+              (λ f v w. followed_one f.number m (closing own) g.clients
+              (λ d t u. ap (λ ss. follows f.number (filter (λ (s : Sub). not (own == s.own)) ss)) (same d t)
+              ∙ other_stays own k f.number given c.subs o e (neither (k == f.number) false w).0 (sym (ap (follows f.number) (same d t)) ∙ u)) (v refl)) g.feeds a.followed;
+          read = a.read;
+        })) in
+        record { followed = i.followed; read = i.read }
+
+-- ---- a message
+
+using_acts : Adds → Sounds → (g : Gate) (m : ℕ) (c : Client) (id : Option Data) (text : List ℕ) (act : Act) (d : Client) (given : ℕ) → client_at g.clients m ≡ Some d → said_by text ≡ request id act → IsHeard g m c text d → d.subs ≡ c.subs → AreOwn given c.subs
+    → IsSoundGate g → IsUsing none_but g → IsUsing none_but (acts g m c id text act)
+using_acts adds sounds g m c id text (begin role) d given t w r s o b a = using_tells none_but g m (fault 2) a
+using_acts adds sounds g m c id text finish d given t w r s o b a = using_tells none_but g m (fault 2) a
+using_acts adds sounds g m c id text (subscribe rel) d given t w r s o b a = using_reads adds sounds g m c id rel d t (asker_of g m c id text rel d w r) b a
+using_acts adds sounds g m c id text (unsubscribe own) d given t w r s o b a = using_closes g m c id own given (λ x e. ap (λ (y : Client). y.subs) (one_some x d (sym e ∙ t)) ∙ s) o b a
+using_acts adds sounds g m c id text (create_role name) d given t w r s o b a = using_other g m c id text (create_role name) (seat_of g.seats c.role) refl b a
+using_acts adds sounds g m c id text (create_table name owner columns) d given t w r s o b a = using_other g m c id text (create_table name owner columns) (seat_of g.seats c.role) refl b a
+using_acts adds sounds g m c id text (create_view name owner query) d given t w r s o b a = using_other g m c id text (create_view name owner query) (seat_of g.seats c.role) refl b a
+using_acts adds sounds g m c id text (grant rel privileges to) d given t w r s o b a = using_other g m c id text (grant rel privileges to) (seat_of g.seats c.role) refl b a
+using_acts adds sounds g m c id text (revoke rel privileges to) d given t w r s o b a = using_other g m c id text (revoke rel privileges to) (seat_of g.seats c.role) refl b a
+using_acts adds sounds g m c id text (grant_role group to) d given t w r s o b a = using_other g m c id text (grant_role group to) (seat_of g.seats c.role) refl b a
+using_acts adds sounds g m c id text (revoke_role group to) d given t w r s o b a = using_other g m c id text (revoke_role group to) (seat_of g.seats c.role) refl b a
+using_acts adds sounds g m c id text (row_security rel enable force) d given t w r s o b a = using_other g m c id text (row_security rel enable force) (seat_of g.seats c.role) refl b a
+using_acts adds sounds g m c id text (create_policy p) d given t w r s o b a = using_other g m c id text (create_policy p) (seat_of g.seats c.role) refl b a
+using_acts adds sounds g m c id text (drop_policy rel name) d given t w r s o b a = using_other g m c id text (drop_policy rel name) (seat_of g.seats c.role) refl b a
+using_acts adds sounds g m c id text (write entries) d given t w r s o b a = using_other g m c id text (write entries) (seat_of g.seats c.role) refl b a
+
+using_done : Adds → Sounds → (g : Gate) (m : ℕ) (c : Client) (text : List ℕ) (x : Message) (d : Client) (given : ℕ) → client_at g.clients m ≡ Some d → said_by text ≡ x → IsHeard g m c text d → d.subs ≡ c.subs → AreOwn given c.subs
+    → IsSoundGate g → IsUsing none_but g → IsUsing none_but (done_for g m c text x)
+using_done adds sounds g m c text no_json d given t w r s o b a = using_tells none_but g m (fault 1) a
+using_done adds sounds g m c text too_long d given t w r s o b a = using_tells none_but g m (fault 22) a
+using_done adds sounds g m c text no_object d given t w r s o b a = using_tells none_but g m (fault 2) a
+using_done adds sounds g m c text (no_request id why) d given t w r s o b a = using_tells none_but g m (unasked id why) a
+using_done adds sounds g m c text (request id act) d given t w r s o b a = using_acts adds sounds g m c id text act d given t w r s o b a
+
+not_dropped : (d : Bool) (e : Bool) → (not d && e) ≡ true → d ≡ false
+not_dropped true e h = absurd (false≢true h)
+not_dropped false e h = refl
+
+using_hears : Adds → Sounds → (g : Gate) (m : ℕ) (c : Client) (text : List ℕ) → client_at g.clients m ≡ Some c → may_say c ≡ true → IsEven c → IsSoundGate g → IsUsing none_but g → IsUsing none_but (hears g m c text)
+using_hears adds sounds g m c text t says even b a =
+    let asked = record g { clients = at_client m (saying text) g.clients } in
+    let live : c.dropped ≡ false = not_dropped c.dropped _ says in
+    using_one none_but (settles (done_for asked m c text (said_by text))) m (answered c) (λ d. refl)
+    (using_settles (done_for asked m c text (said_by text))
+    (using_done adds sounds asked m c text (said_by text) (saying text c) c.given (at_same m (saying text) g.clients ∙ ap (option_map (saying text)) t) refl
+    (record { role = refl; before = c.messages; messages = refl; pending = even }) refl (b.clients m c t live).own
+    (one_sound g m (saying text) (λ d e l. client_said g.machine g.feeds (seer d) text (b.clients m d e l)) b) (using_one none_but g m (saying text) (λ d. refl) a)))
+
+some_using : {X : Type 0} (o : Option X) (h : Gate) (f : X → Gate) → IsUsing none_but h → ((x : X) → o ≡ Some x → IsUsing none_but (f x)) → IsUsing none_but (if_some o h f)
+some_using None h f a b = a
+some_using (Some x) h f a b = b x refl
+
+using_said : Adds → Sounds → (g : Gate) (m : ℕ) (text : List ℕ) → AreEven g → IsSoundGate g → IsUsing none_but g → IsUsing none_but (said g m text)
+using_said adds sounds g m text even b a = some_using (client_at g.clients m) g (λ c. cond (may_say c) (hears g m c text) g) a (λ c e. test c e (may_say c) refl)
+  where
+    test : (c : Client) → client_at g.clients m ≡ Some c → (t : Bool) → may_say c ≡ t → IsUsing none_but (cond t (hears g m c text) g)
+    test c e true s = using_hears adds sounds g m c text e s (even m c (record { there = e; stays = says_stays c s })) b a
+    test c e false s = a
+
+-- ---- a client comes, and goes
+
+nobody_there : (m : ℕ) (slots : Slots) → is_free m slots ≡ true → client_at slots m ≡ None
+nobody_there m [] h = absurd (false≢true h)
+nobody_there zero (None ∷ ss) h = refl
+nobody_there zero (Some c ∷ ss) h = absurd (false≢true h)
+nobody_there (suc m) (s ∷ ss) h = nobody_there m ss h
+
+using_with : (g : Gate) (role : Name) (m : ℕ) → client_at g.clients m ≡ None → IsSoundGate g → IsUsing none_but g
+    → IsUsing none_but (with_session g role) × (client_at (with_session g role).clients m ≡ None)
+using_with g role m e b a = by (seat_of g.seats role)
+  where
+    further : (o : Option ℕ) → IsUsing none_but (if_some o g (λ n. seated g n role)) × (client_at (if_some o g (λ n. seated g n role)).clients m ≡ None)
+    further None = (a, e)
+    further (Some n) =
+        let h = record g { seats = g.seats ++ record { session = n; role = role } ∷ [] } in let k = in_session n (begin role) in (
+          using_seated g n role b a,
+          at_every (λ (x : Client). staying (step h.machine k).lines (telling h.entries (told_of h k.act (step h.machine k) x) x)) g.clients m
+              ∙ ap (option_map (λ (x : Client). staying (step h.machine k).lines (telling h.entries (told_of h k.act (step h.machine k) x) x))) e,
+        )
+
+    by : (o : Option ℕ) → IsUsing none_but (if_some o (if_some (begun_for g role) g (λ n. seated g n role)) (λ n. g)) × (client_at (if_some o (if_some (begun_for g role) g (λ n. seated g n role)) (λ n. g)).clients m ≡ None)
+    by None = further (begun_for g role)
+    by (Some n) = (a, e)
+
+using_came : (g : Gate) (m : ℕ) (token : List ℕ) (role : Name) → role_for g m token ≡ Some role → IsSoundGate g → IsUsing none_but g → IsUsing none_but (came_as g m token role)
+using_came g m token role e b a =
+    let h = with_session g role in let p = using_with g role m (nobody_there m g.clients (opens_role g m token role e).free) b a in
+    let i = record h { clients = set h.clients m (Some (fresh role (sha256 token))) } in
+    using_settles (tells i m (welcome role)) (using_tells none_but i m (welcome role) (record {
+      followed = all_so {P = λ (f : Feed). none_but f.number ≡ false → is_followed f.number h.clients ≡ true} {Q = λ (f : Feed). none_but f.number ≡ false → is_followed f.number (set h.clients m (Some (fresh role (sha256 token)))) ≡ true}
+          (λ f v w. followed_put f.number m (Some (fresh role (sha256 token))) h.clients p.1 (v w)) h.feeds p.0.followed;
+      read = p.0.read;
+    }))
+
+not_among : (j : ℕ) (xs : List Sub) → but_of (map (λ (s : Sub). s.feed) xs) j ≡ false → follows j xs ≡ false
+not_among j [] h = refl
+not_among j (x ∷ xs) h = let p = neither (x.feed == j) (but_of (map (λ (s : Sub). s.feed) xs) j) h in (λ i. differs_back x.feed j p.0 i || not_among j xs p.1 i)
+
+using_went : Adds → Sounds → (g : Gate) (m : ℕ) → IsSoundGate g → IsUsing none_but g → IsUsing none_but (went g m)
+using_went adds sounds g m b a = by (client_at g.clients m) refl
+  where
+    by : (o : Option Client) → client_at g.clients m ≡ o
+        → IsUsing none_but (if_some o g (λ c. let h = all_swept (record g { clients = set g.clients m None }) (map (λ s. s.feed) c.subs) in settles (all_rested h (filter (is_of_role c.role) h.seats))))
+    by None e = a
+    by (Some c) e =
+        let left = record g { clients = set g.clients m None } in let ks = map (λ (s : Sub). s.feed) c.subs in
+        let h = all_swept left ks in let ss = filter (is_of_role c.role) h.seats in
+        let bl = put_sound g m None (λ d w. absurd (some_is_none d (sym w))) b in
+        using_settles (all_rested h ss) (using_all_rested adds sounds h ss (all_swept_sound adds sounds left ks bl) (using_all_swept adds sounds left ks bl (record {
+          followed = all_so {P = λ (f : Feed). none_but f.number ≡ false → is_followed f.number g.clients ≡ true} {Q = λ (f : Feed). but_of ks f.number ≡ false → is_followed f.number (set g.clients m None) ≡ true}
+              (λ f v w. followed_left f.number m g.clients c e (not_among f.number c.subs w) (v refl)) g.feeds a.followed;
+          read = a.read;
+        })))
+
+-- ---- each event, and whatever happens
+
+happens_using : Adds → Sounds → (g : Gate) (e : Event) → AreEven g → IsSoundGate g → IsUsing none_but g → IsUsing none_but (happens g e)
+happens_using adds sounds g (presented m token) even b a = some_using (role_for g m token) g (came_as g m token) a (λ role e. using_came g m token role e b a)
+happens_using adds sounds g (message m text) even b a = using_said adds sounds g m text even b a
+happens_using adds sounds g (gone m) even b a = using_went adds sounds g m b a
+happens_using adds sounds g (known tokens) even b a = let x = using_all none_but g (checked tokens) (checked_subs tokens) a in record { followed = x.followed; read = x.read }
+happens_using adds sounds g ticked even b a = using_all none_but g (beating g.entries) (λ c. refl) a
+happens_using adds sounds g synced even b a = let x = using_all none_but g released released_subs a in record { followed = x.followed; read = x.read }
+happens_using adds sounds g (handed m) even b a = let x = using_one none_but g m handing handing_subs a in record { followed = x.followed; read = x.read }
+happens_using adds sounds g failed even b a = record { followed = a.followed; read = a.read }
+
+next_using : Adds → Sounds → (g : Gate) (e : Event) → AreEven g → IsSoundGate g → IsUsing none_but g → IsUsing none_but (next g e)
+next_using adds sounds g e even b a = by g.dead
+  where
+    by : (t : Bool) → IsUsing none_but (cond t g (happens g e))
+    by true = a
+    by false = happens_using adds sounds g e even b a
+
+-- entries open no subscription
+none_opened : (s : State) (k : Command) (o : Option Refusal) → opens_none k.act ≡ true → s.frame.subscriptions ≡ [] → (outcome s k o).state.frame.subscriptions ≡ []
+none_opened s k (Some r) p h = h
+none_opened s k None p h = ap (filter (λ (e : Subscription). not (is_some (ending_by k.act (after s k.session k.act) e)))) (none_after s.frame k.session k.act p h)
+
+passed_none : (s t : State) (k : Command) → opens_none k.act ≡ true → s.frame.subscriptions ≡ [] → passed s k ≡ Some t → t.frame.subscriptions ≡ []
+passed_none s t k p h e = by (is_accepted (reply_in (step s k).lines)) e
+  where
+    by : (a : Bool) → cond a (Some (step s k).state) None ≡ Some t → t.frame.subscriptions ≡ []
+    by true w = ap (λ (x : State). x.frame.subscriptions) (sym (one_some (step s k).state t w)) ∙ none_opened s k (refusal s k.session k.act) p h
+    by false w = absurd (some_is_none t (sym w))
+
+replayed_none : (s t : State) (e : Entry) → IsEntry e → s.frame.subscriptions ≡ [] → replayed s e ≡ Some t → t.frame.subscriptions ≡ []
+replayed_none s t e i h w =
+    bound (passed s (in_session entry_session (begin e.role))) (λ u. option_and_then (λ v. passed v (in_session entry_session finish)) (passed u (in_session entry_session e.act))) t (t.frame.subscriptions ≡ []) w
+    (λ u x y. bound (passed u (in_session entry_session e.act)) (λ v. passed v (in_session entry_session finish)) t (t.frame.subscriptions ≡ []) y
+    (λ v p q. passed_none v t (in_session entry_session finish) refl
+    (passed_none u v (in_session entry_session e.act) (shared_opens_none e.act i.shared) (passed_none s u (in_session entry_session (begin e.role)) refl h x) p) q))
+
+replays_none : (s t : State) (es : List Entry) → AllByRecursion IsEntry es → s.frame.subscriptions ≡ [] → all_replayed s es ≡ Some t → t.frame.subscriptions ≡ []
+replays_none s t [] w h e = ap (λ (x : State). x.frame.subscriptions) (sym (one_some s t e)) ∙ h
+replays_none s t (x ∷ xs) w h e = bound (replayed s x) (λ u. all_replayed u xs) t (t.frame.subscriptions ≡ []) e (λ u i k. replays_none u t xs w.1 (replayed_none s u x w.0 h i) k)
+
+restored_using : (cap : ℕ) (tokens : List Token) (most : ℕ) (sent : List Shown) (journal : List ℕ) (g : Gate) → Restores (gate_at_start cap tokens most sent) journal g → IsUsing none_but g
+restored_using cap tokens most sent journal g r = subst (IsUsing none_but) (sym r.gate) (record {
+  followed = tt;
+  read = subst (AreFeeds []) (sym (replays_none (start cap) r.state g.entries r.leads.well refl r.leads.accepted)) tt;
+})
+
+runs_using : Adds → Starts → Sounds → (cap : ℕ) (g : Gate) → Runs cap g → IsUsing none_but g
+runs_using adds starts sounds cap _ (begins tokens most journal g r) = restored_using cap tokens most [] journal g r
+runs_using adds starts sounds cap _ (goes_on h e r) = next_using adds sounds h e (runs_even cap h r) (runs_sound adds starts sounds cap h r) (runs_using adds starts sounds cap h r)
+runs_using adds starts sounds cap _ (begins_again h disk tokens most i r l x) = restored_using cap tokens most h.sent disk i x
+
+-- each subscription of the machine is a feed that some client follows
+pub reads_for_clients : Adds → Starts → Sounds → (cap : ℕ) (g : Gate) → Runs cap g → ReadsForClients g
+reads_for_clients adds starts sounds cap g r = let a = runs_using adds starts sounds cap g r in record {
+  subscriptions = all_so {P = λ (e : Subscription). is_some (feed_of g.feeds e.number) ≡ true} {Q = λ (e : Subscription). is_followed e.number g.clients ≡ true} (λ e h. by e (feed_of g.feeds e.number) refl h) g.machine.frame.subscriptions a.read;
+  feeds = all_so {P = λ (f : Feed). none_but f.number ≡ false → is_followed f.number g.clients ≡ true} {Q = λ (f : Feed). is_followed f.number g.clients ≡ true} (λ f h. h refl) g.feeds a.followed;
+}
+  where
+    by : (e : Subscription) (o : Option Feed) → feed_of g.feeds e.number ≡ o → is_some o ≡ true → is_followed e.number g.clients ≡ true
+    by e None q h = absurd (false≢true h)
+    by e (Some f) q h =
+        let same : e.number ≡ f.number = eqb-true e.number f.number (find_passes (λ (x : Feed). e.number == x.number) g.feeds f q) in
+        ap (λ i. is_followed i g.clients) same ∙ found_all (λ (x : Feed). none_but x.number ≡ false → is_followed x.number g.clients ≡ true) g.feeds e.number f (runs_using adds starts sounds cap g r).followed q refl

@@ -1,0 +1,310 @@
+-- By an event a client is told of numbers that it follows, and of ends for their cause.
+use Rattle.std.proofs.Common.{◌≡◌, ◌⊎◌, inl, inr, ℕ, ◌+◌, ◌<◌, ◌≤◌, Bool, true, false, cond, not, ◌||◌, List, [], ◌∷◌, ◌++◌, length, map, ℤ, Option, Some, None, is_some, option_map, refl, ap, ◌∙◌, sym, subst, arith}
+use Rattle.std.specs.Prelude.{◌==◌, filter, find, flat_map, Contains, unwrap_or}
+use Rattle.std.specs.List.{AllByRecursion, list_any}
+use Rattle.std.proofs.lemmas.Bool.{false≢true, eqb-true}
+use Rattle.std.proofs.lemmas.List.Elements.{All-contains, All-from_recursion}
+use Rattle.iv_rows.specs.Cell.{Cell}
+use Rattle.iv_rows.specs.Options.{if_some}
+use Rattle.iv_access.specs.Access.{role_number}
+use Rattle.iv_access.specs.Rights.{Name}
+use Rattle.iv_machine.specs.Act.{Act, finish, subscribe, unsubscribe, write, Command, Line, reply, change, ended, Refusal}
+use Rattle.iv_machine.specs.Changing.{after}
+use Rattle.iv_machine.specs.Machine.{difference, ending, ending_by, first_cause, line_for, lines_told, outcome, settled, step}
+use Rattle.iv_machine.specs.Reached.{AreUnique}
+use Rattle.iv_machine.specs.Refusing.{refusal}
+use Rattle.iv_machine.specs.State.{Session, State, Subscription, actor, is_within_for, missing_for, rel_of, shown, subscription_of, view_shown}
+use Rattle.iv_machine.specs.declared.Cause.{Cause}
+use Rattle.iv_message.specs.Told.{Told, changed, over, granted}
+use Rattle.iv_clients.specs.Clients.{Client, Sub, followed, followed_by, own_line, own_lines}
+use Rattle.iv_clients.specs.Feeds.{Feed, feed_of, rel_read}
+use Rattle.iv_clients.specs.Journal.{is_shared}
+use Rattle.iv_gate.specs.Events.{Event, next}
+use Rattle.iv_gate.specs.Gate.{Gate, granted_by, is_accepted, reply_in, told_of}
+use Rattle.iv_gate.specs.Replies.{told_by}
+use Rattle.iv_gate.specs.Seen.{EndsForCause, HearsFollowed, IsEnd, hindrance, is_told_of}
+use Rattle.iv_gate.proofs.Doing.{AreCalm, is_news}
+use Rattle.iv_gate.proofs.News.{Hears, quietly, by_command, by_contents, IsToldContents, IsToldOf}
+use Rattle.iv_gate.proofs.Machine.{acts_after, find_passes, is_kept, number_kept, some_is_none, still_named}
+use Rattle.iv_gate.proofs.Noticing.{next_all, told_now}
+use Rattle.iv_gate.proofs.Running.{all_so, found_all}
+use Rattle.iv_gate.proofs.Sound.{Adds, IsFeed, IsFollowing, IsSoundClient, IsSoundGate, Sounds, any_more, seer}
+use Rattle.iv_gate.proofs.Still.{found_each}
+use Rattle.iv_gate.proofs.Summing.{AreOwn, both, differs_back, neither, same_self}
+use Rattle.iv_gate.proofs.Touching.{one_some}
+
+-- ---- lists
+
+pub all_both : {X : Type 0} (P : X → Type 0) (xs ys : List X) → AllByRecursion P xs → AllByRecursion P ys → AllByRecursion P (xs ++ ys)
+all_both P [] ys a b = b
+all_both P (x ∷ xs) ys a b = (a.0, all_both P xs ys a.1 b)
+
+pub all_flat : {X Y : Type 0} (P : Y → Type 0) (f : X → List Y) (xs : List X) → AllByRecursion (λ x. AllByRecursion P (f x)) xs → AllByRecursion P (flat_map f xs)
+all_flat P f [] a = tt
+all_flat P f (x ∷ xs) a = all_both P (f x) (flat_map f xs) a.0 (all_flat P f xs a.1)
+
+pub of_contained : {X : Type 0} (P : X → Type 0) (xs : List X) (x : X) → AllByRecursion P xs → Contains xs x → P x
+of_contained P xs x a c = All-contains P xs x (All-from_recursion P xs a) c
+
+-- ---- numbers
+
+pub followed_any : (own : ℕ) (xs : List Sub) → is_some (followed_by xs own) ≡ list_any (λ (x : Sub). own == x.own) xs
+followed_any own [] = refl
+followed_any own (x ∷ xs) = by (own == x.own) (followed_any own xs)
+  where
+    by : (b : Bool) → is_some (followed_by xs own) ≡ list_any (λ (s : Sub). own == s.own) xs → is_some (option_map (λ (s : Sub). s.feed) (cond b (Some x) (find (λ (s : Sub). own == s.own) xs))) ≡ (b || list_any (λ (s : Sub). own == s.own) xs)
+    by true more = refl
+    by false more = more
+
+calm_of_none : (own : ℕ) (t : Told) → is_news t ≡ false → is_told_of own t ≡ false
+calm_of_none own (changed j rows) h = absurd (false≢true (sym h))
+calm_of_none own (over j rel why rows) h = absurd (false≢true (sym h))
+calm_of_none own _ h = refl
+
+calm_none : (own : ℕ) (ts : List Told) → AreCalm ts → list_any (is_told_of own) ts ≡ false
+calm_none own [] a = refl
+calm_none own (t ∷ ts) a = λ i. calm_of_none own t a.0 i || calm_none own ts a.1 i
+
+line_of_none : (own : ℕ) (feeds : List Feed) (l : Line) (s : Sub) → (own == s.own) ≡ false → list_any (is_told_of own) (own_line feeds l s) ≡ false
+line_of_none own feeds (reply n r) s h = refl
+line_of_none own feeds (change n k rows) s h = by (k == s.feed)
+  where
+    by : (b : Bool) → list_any (is_told_of own) (cond b (changed s.own rows ∷ []) []) ≡ false
+    by true = ap (λ b. b || false) h
+    by false = refl
+line_of_none own feeds (ended n k why rows) s h = by (k == s.feed)
+  where
+    by : (b : Bool) → list_any (is_told_of own) (cond b (over s.own (rel_read feeds k) why rows ∷ []) []) ≡ false
+    by true = ap (λ b. b || false) h
+    by false = refl
+
+lines_of_none : (own : ℕ) (feeds : List Feed) (l : Line) (xs : List Sub) → list_any (λ (s : Sub). own == s.own) xs ≡ false → list_any (is_told_of own) (flat_map (own_line feeds l) xs) ≡ false
+lines_of_none own feeds l [] h = refl
+lines_of_none own feeds l (x ∷ xs) h =
+    let p = neither (own == x.own) (list_any (λ (s : Sub). own == s.own) xs) h in
+    any_more (is_told_of own) (own_line feeds l x) (flat_map (own_line feeds l) xs) ∙ (λ i. line_of_none own feeds l x p.0 i || lines_of_none own feeds l xs p.1 i)
+
+all_of_none : (own : ℕ) (feeds : List Feed) (ls : List Line) (xs : List Sub) → list_any (λ (s : Sub). own == s.own) xs ≡ false → list_any (is_told_of own) (own_lines feeds ls xs) ≡ false
+all_of_none own feeds [] xs h = refl
+all_of_none own feeds (l ∷ ls) xs h =
+    any_more (is_told_of own) (flat_map (own_line feeds l) xs) (own_lines feeds ls xs) ∙ (λ i. lines_of_none own feeds l xs h i || all_of_none own feeds ls xs h i)
+
+grants_of_none : (own : ℕ) (b : Bool) (names : List Name) → list_any (is_told_of own) (cond b (map granted names) []) ≡ false
+grants_of_none own false names = refl
+grants_of_none own true [] = refl
+grants_of_none own true (n ∷ names) = grants_of_none own true names
+
+-- front, news and back
+any_three : (p : Told → Bool) (front news back : List Told) → list_any p front ≡ false → list_any p news ≡ false → list_any p back ≡ false → list_any p (front ++ (news ++ back)) ≡ false
+any_three p front news back f n b = any_more p front (news ++ back) ∙ (λ i. f i || (any_more p news back ∙ (λ j. n j || b j)) i)
+
+pub hears_followed : Adds → Sounds → (g : Gate) (e : Event) → IsSoundGate g → HearsFollowed g e
+hears_followed adds sounds g e b m c d x y own h = by (next_all sounds g e b m c d x.there x.stays y.there y.stays)
+  where
+    command : (a : IsToldOf g (next g e) c d) → (t : Bool) → list_any (λ (s : Sub). own == s.own) c.subs ≡ t → (is_some (followed c own) ≡ true) ⊎ ((c.given < own) × (own ≤ d.given))
+    command a true f = inl (followed_any own c.subs ∙ f)
+    command a false f =
+        let o = step g.machine a.command in
+        let lines = own_lines g.feeds o.lines c.subs in
+        let none : list_any (is_told_of own) (told_of g a.command.act o c) ≡ false =
+        any_more (is_told_of own) lines (cond (is_accepted (reply_in o.lines)) (map granted (granted_by o.state.frame a.command.act c.role)) [])
+        ∙ (λ i. all_of_none own g.feeds o.lines c.subs f i || grants_of_none own (is_accepted (reply_in o.lines)) (granted_by o.state.frame a.command.act c.role) i) in
+        absurd (false≢true (sym (ap (list_any (is_told_of own)) (told_now c d _ a.told)
+        ∙ any_three (is_told_of own) a.front (told_of g a.command.act o c) a.back (calm_none own a.front a.calm.0) none (calm_none own a.back a.calm.1)) ∙ h))
+
+    newest : (a : IsToldContents c d) → (t : Bool) → (own == (c.given + 1)) ≡ t → (is_some (followed c own) ≡ true) ⊎ ((c.given < own) × (own ≤ d.given))
+    newest a true f = let same = eqb-true own (c.given + 1) f in let l = a.given in inr (omega (arith, same), omega (arith, same, l))
+    newest a false f =
+        let news = changed (c.given + 1) (difference a.before a.after) in
+        absurd (false≢true (sym (ap (list_any (is_told_of own)) (told_now c d _ a.told)
+        ∙ any_three (is_told_of own) a.front (news ∷ []) a.back (calm_none own a.front a.calm.0) (ap (λ z. z || false) f) (calm_none own a.back a.calm.1)) ∙ h))
+
+    by : Hears g (next g e) c d → (is_some (followed c own) ≡ true) ⊎ ((c.given < own) × (own ≤ d.given))
+    by (quietly a n) = absurd (false≢true (sym (ap (list_any (is_told_of own)) (told_now c d a.more a.told) ∙ calm_none own a.more a.calm) ∙ h))
+    by (by_command a) = command a (list_any (λ (s : Sub). own == s.own) c.subs) refl
+    by (by_contents a n) = newest a (own == (c.given + 1)) refl
+
+-- ---- the lines of a command that changes what is shared
+
+-- an end has the cause that hinders its reader
+abbrev IsLineOf : (s new : State) → Line → Type 0
+IsLineOf s new (ended n j why rows) = (f : Feed) → IsFeed s f → f.number ≡ j → hindrance new f.role f.rel ≡ Some why
+IsLineOf s new _ = Unit {0}
+
+ending_as : (act : Act) (s : State) (e : Subscription) (why : Cause) → ending_by act s e ≡ Some why → ending s e ≡ Some why
+ending_as (write entries) s e why h = absurd (some_is_none why (sym h))
+ending_as _ s e why h = h
+
+pub shared_kept : (act : Act) → is_shared act ≡ true → is_kept act ≡ true
+shared_kept finish h = h
+shared_kept _ h = refl
+
+pub same_subscriptions : (s : State) (n : ℕ) (act : Act) → is_shared act ≡ true → (after s n act).frame.subscriptions ≡ s.frame.subscriptions
+same_subscriptions s n finish h = absurd (false≢true h)
+same_subscriptions s n (subscribe rel) h = absurd (false≢true h)
+same_subscriptions s n (unsubscribe k) h = absurd (false≢true h)
+same_subscriptions s n _ h = refl
+
+-- the cause of an end hinders its reader
+cause_after : (s : State) (n : ℕ) (act : Act) (f : Feed) (why : Cause) → is_shared act ≡ true → (b : IsFeed s f)
+    → ending (after s n act) (record { session = f.session; number = f.number; rel = b.rel }) ≡ Some why → hindrance (settled act (after s n act)) f.role f.rel ≡ Some why
+cause_after s n act f why h b e =
+    let new = settled act (after s n act) in
+    let a = acts_after s f.session f.role n act b.acts (shared_kept act h) in
+    let role : role_number new.frame.rights f.role ≡ actor (after s n act).frame f.session =
+    ap (λ o. unwrap_or o (length new.frame.rights.roles)) a.known ∙ sym (ap (λ o. unwrap_or (option_map (λ (x : Session). x.role) o) (length new.frame.rights.roles)) a.session) in
+    let rel : rel_of new.frame.catalog f.rel ≡ b.rel = number_kept s.frame.catalog new.frame.catalog f.rel (still_named s.frame act f.rel b.known) b.known ∙ sym b.there in
+    (λ i. first_cause (is_some (missing_for new.frame (role i) (rel i))) (is_within_for new (role i) (rel i))) ∙ e
+
+-- the one of a number, where no other has it, is gone where it is left out
+gone_after : (p : Subscription → Bool) (es : List Subscription) (k : ℕ) (x : Subscription) → AreUnique es → subscription_of es k ≡ Some x → p x ≡ false → subscription_of (filter p es) k ≡ None
+gone_after p [] k x u h e = refl
+gone_after p (y ∷ ys) k x u h e = by (k == y.number) refl h (λ t. gone_after p ys k x u.1 t e)
+  where
+    none : (zs : List Subscription) → list_any (λ (z : Subscription). k == z.number) zs ≡ false → subscription_of (filter p zs) k ≡ None
+    none [] q = refl
+    none (z ∷ zs) q = let r = neither (k == z.number) (list_any (λ (w : Subscription). k == w.number) zs) q in kept (p z) r.0 (none zs r.1)
+      where
+        kept : (t : Bool) → (k == z.number) ≡ false → subscription_of (filter p zs) k ≡ None → subscription_of (cond t (z ∷ filter p zs) (filter p zs)) k ≡ None
+        kept true f more = ap (λ b. cond b (Some z) (subscription_of (filter p zs) k)) f ∙ more
+        kept false f more = more
+
+    by : (b : Bool) → (k == y.number) ≡ b → cond b (Some y) (subscription_of ys k) ≡ Some x → (subscription_of ys k ≡ Some x → subscription_of (filter p ys) k ≡ None)
+        → subscription_of (cond (p y) (y ∷ filter p ys) (filter p ys)) k ≡ None
+    by true q t more =
+        ap (λ b. subscription_of (cond b (y ∷ filter p ys) (filter p ys)) k) (ap p (one_some y x t) ∙ e)
+        ∙ none ys (ap (λ i. list_any (λ (z : Subscription). i == z.number) ys) (eqb-true k y.number q) ∙ u.0)
+    by false q t more = kept (p y)
+      where
+        kept : (b : Bool) → subscription_of (cond b (y ∷ filter p ys) (filter p ys)) k ≡ None
+        kept true = ap (λ b. cond b (Some y) (subscription_of (filter p ys) k)) q ∙ more t
+        kept false = more t
+
+module _ (s : State) (n : ℕ) (act : Act) (h : is_shared act ≡ true) (u : AreUnique s.frame.subscriptions) where
+  abbrev now : State
+  now = settled act (after s n act)
+
+  pub nothing_shown : (e : Subscription) (why : Cause) → subscription_of s.frame.subscriptions e.number ≡ Some e → ending_by act (after s n act) e ≡ Some why → shown (settled act (after s n act)) e.number ≡ []
+  nothing_shown e why f q =
+      let p = λ (x : Subscription). not (is_some (ending_by act (after s n act) x)) in
+      ap (λ o. if_some o [] (view_shown now)) (ap (λ es. subscription_of (filter p es) e.number) (same_subscriptions s n act h)
+      ∙ gone_after p s.frame.subscriptions e.number e u f (ap (λ o. not (is_some o)) q))
+
+  line_is : (e : Subscription) → subscription_of s.frame.subscriptions e.number ≡ Some e → AllByRecursion (IsLineOf s (settled act (after s n act))) (line_for s (settled act (after s n act)) (ending_by act (after s n act)) e)
+  line_is e f = by (ending_by act (after s n act) e) refl (difference (shown s e.number) (shown now e.number)) refl
+    where
+      cause : (why : Cause) → ending_by act (after s n act) e ≡ Some why → (x : Feed) → IsFeed s x → x.number ≡ e.number → hindrance now x.role x.rel ≡ Some why
+      cause why q x b j =
+          let same : record { session = x.session; number = x.number; rel = b.rel } ≡ e = one_some _ e (sym b.found ∙ (ap (subscription_of s.frame.subscriptions) j ∙ f)) in
+          cause_after s n act x why h b (ap (ending (after s n act)) same ∙ ending_as act (after s n act) e why q)
+
+      by : (o : Option Cause) → ending_by act (after s n act) e ≡ o → (rows : List (List Cell × ℤ)) → rows ≡ difference (shown s e.number) (shown now e.number)
+          → AllByRecursion (IsLineOf s now) (lines_told o e rows)
+      by (Some why) q rows r = (cause why q, tt)
+      by None q [] r = tt
+      by None q (p ∷ ps) r = (tt, tt)
+
+  changes_are : AllByRecursion (IsLineOf s (settled act (after s n act))) (flat_map (line_for s (settled act (after s n act)) (ending_by act (after s n act))) (after s n act).frame.subscriptions)
+  changes_are =
+      let L = line_for s now (ending_by act (after s n act)) in
+      subst (λ es. AllByRecursion (IsLineOf s now) (flat_map L es)) (sym (same_subscriptions s n act h))
+      (all_flat (IsLineOf s now) L s.frame.subscriptions (all_so (λ e f. line_is e f) s.frame.subscriptions (found_each s.frame.subscriptions u)))
+
+lines_by : (s : State) (k : Command) (o : Option Refusal) → is_shared k.act ≡ true → AreUnique s.frame.subscriptions → AllByRecursion (IsLineOf s (outcome s k o).state) (outcome s k o).lines
+lines_by s k (Some r) h u = (tt, tt)
+lines_by s k None h u = (tt, changes_are s k.session k.act h u)
+
+lines_are : (s : State) (k : Command) → is_shared k.act ≡ true → AreUnique s.frame.subscriptions → AllByRecursion (IsLineOf s (step s k).state) (step s k).lines
+lines_are s k h u = lines_by s k (refusal s k.session k.act) h u
+
+-- ---- what a client follows
+
+-- the number is its, and it follows the feed
+pub record IsOwn (g : Gate) (c : Client) (s : Sub) : Type 0 where
+  pub found : find (λ (x : Sub). s.own == x.own) c.subs ≡ Some s
+  pub follows : IsFollowing g.machine g.feeds (seer c) s
+
+own_apart : (own : ℕ) (xs : List Sub) → list_any (λ (y : Sub). own == y.own) xs ≡ false → AllByRecursion (λ (y : Sub). (y.own == own) ≡ false) xs
+own_apart own [] h = tt
+own_apart own (x ∷ xs) h = let p = neither (own == x.own) (list_any (λ (y : Sub). own == y.own) xs) h in (differs_back own x.own p.0, own_apart own xs p.1)
+
+own_found : (given : ℕ) (xs : List Sub) → AreOwn given xs → AllByRecursion (λ (s : Sub). find (λ (x : Sub). s.own == x.own) xs ≡ Some s) xs
+own_found given [] h = tt
+own_found given (x ∷ xs) h = (
+  ap (λ b. cond b (Some x) (find (λ (y : Sub). x.own == y.own) xs)) (same_self x.own),
+  both {P = λ (y : Sub). (y.own == x.own) ≡ false} {Q = λ (y : Sub). find (λ (z : Sub). y.own == z.own) xs ≡ Some y} {R = λ (y : Sub). find (λ (z : Sub). y.own == z.own) (x ∷ xs) ≡ Some y}
+      (λ y d f. ap (λ b. cond b (Some x) (find (λ (z : Sub). y.own == z.own) xs)) d ∙ f) xs (own_apart x.own xs h.1) (own_found given xs h.2),
+)
+
+pub own_each : (g : Gate) (c : Client) → IsSoundClient g.machine g.feeds (seer c) → AllByRecursion (IsOwn g c) c.subs
+own_each g c a = both {P = λ (s : Sub). find (λ (x : Sub). s.own == x.own) c.subs ≡ Some s} {Q = IsFollowing g.machine g.feeds (seer c)} {R = IsOwn g c}
+    (λ s f y. record { found = f; follows = y }) c.subs (own_found c.given c.subs a.own) a.follows
+
+-- ---- ends
+
+abbrev IsEndTold : Gate → Event → Client → Told → Type 0
+IsEndTold g e c (over own rel why rows) = IsEnd g e c own rel why
+IsEndTold g e c _ = Unit {0}
+
+calm_end : (g : Gate) (e : Event) (c : Client) (t : Told) → is_news t ≡ false → IsEndTold g e c t
+calm_end g e c (over own rel why rows) h = absurd (false≢true (sym h))
+calm_end g e c _ h = tt
+
+calm_ends : (g : Gate) (e : Event) (c : Client) (ts : List Told) → AreCalm ts → AllByRecursion (IsEndTold g e c) ts
+calm_ends g e c ts a = all_so (λ t h. calm_end g e c t h) ts a
+
+grants_end : (g : Gate) (e : Event) (c : Client) (b : Bool) (names : List Name) → AllByRecursion (IsEndTold g e c) (cond b (map granted names) [])
+grants_end g e c false names = tt
+grants_end g e c true [] = tt
+grants_end g e c true (n ∷ names) = (tt, grants_end g e c true names)
+
+module _ (g : Gate) (e : Event) (b : IsSoundGate g) (c d : Client) (a : IsToldOf g (next g e) c d) where
+  one_end : (l : Line) → IsLineOf g.machine (step g.machine a.command).state l → (s : Sub) → IsOwn g c s → AllByRecursion (IsEndTold g e c) (own_line g.feeds l s)
+  one_end (reply n r) x s o = tt
+  one_end (change n k rows) x s o = by (k == s.feed)
+    where
+      by : (t : Bool) → AllByRecursion (IsEndTold g e c) (cond t (changed s.own rows ∷ []) [])
+      by true = (tt, tt)
+      by false = tt
+  one_end (ended n k why rows) x s o = by (k == s.feed) refl
+    where
+      the_end : k ≡ s.feed → IsEnd g e c s.own (rel_read g.feeds k) why
+      the_end same =
+          let y = o.follows in
+          let there : feed_of g.feeds k ≡ Some y.feed = ap (feed_of g.feeds) same ∙ y.found in
+          let number : y.feed.number ≡ k = sym (eqb-true k y.feed.number (find_passes (λ (z : Feed). k == z.number) g.feeds y.feed there)) in
+          let rel : rel_read g.feeds k ≡ y.feed.rel = ap (λ z. if_some z [] (λ (w : Feed). w.rel)) there in
+          record {
+            feed = k;
+            followed = ap (option_map (λ (z : Sub). z.feed)) o.found ∙ ap Some (sym same);
+            relation = refl;
+            cause = (λ i. hindrance (a.machine i) (sym y.role i) (rel i)) ∙ x y.feed (found_all (IsFeed g.machine) g.feeds k y.feed b.feeds there) number;
+          }
+
+      by : (t : Bool) → (k == s.feed) ≡ t → AllByRecursion (IsEndTold g e c) (cond t (over s.own (rel_read g.feeds k) why rows ∷ []) [])
+      by true q = (the_end (eqb-true k s.feed q), tt)
+      by false q = tt
+
+  line_ends_for : (l : Line) → IsLineOf g.machine (step g.machine a.command).state l → (xs : List Sub) → AllByRecursion (IsOwn g c) xs → AllByRecursion (IsEndTold g e c) (flat_map (own_line g.feeds l) xs)
+  line_ends_for l x xs o = all_flat (IsEndTold g e c) (own_line g.feeds l) xs (all_so (λ s p. one_end l x s p) xs o)
+
+  pub ends_of_command : IsSoundClient g.machine g.feeds (seer c) → AllByRecursion (IsEndTold g e c) (told_by c d)
+  ends_of_command sound =
+      let o = step g.machine a.command in
+      subst (AllByRecursion (IsEndTold g e c)) (sym (told_now c d _ a.told))
+      (all_both (IsEndTold g e c) a.front (told_of g a.command.act o c ++ a.back) (calm_ends g e c a.front a.calm.0)
+      (all_both (IsEndTold g e c) (told_of g a.command.act o c) a.back
+      (all_both (IsEndTold g e c) (own_lines g.feeds o.lines c.subs) (cond (is_accepted (reply_in o.lines)) (map granted (granted_by o.state.frame a.command.act c.role)) [])
+      (all_flat (IsEndTold g e c) (λ l. flat_map (own_line g.feeds l) c.subs) o.lines
+      (all_so (λ l x. line_ends_for l x c.subs (own_each g c sound)) o.lines (lines_are g.machine a.command a.shared b.state.numbers.unique)))
+      (grants_end g e c (is_accepted (reply_in o.lines)) (granted_by o.state.frame a.command.act c.role)))
+      (calm_ends g e c a.back a.calm.1)))
+
+pub ends_for_cause : Sounds → (g : Gate) (e : Event) → IsSoundGate g → EndsForCause g e
+ends_for_cause sounds g e b m c d x y own rel why rows h = of_contained (IsEndTold g e c) (told_by c d) (over own rel why rows) (by (next_all sounds g e b m c d x.there x.stays y.there y.stays)) h
+  where
+    by : Hears g (next g e) c d → AllByRecursion (IsEndTold g e c) (told_by c d)
+    by (quietly a n) = subst (AllByRecursion (IsEndTold g e c)) (sym (told_now c d a.more a.told)) (calm_ends g e c a.more a.calm)
+    by (by_command a) = ends_of_command g e b c d a (b.clients m c x.there x.stays)
+    by (by_contents a n) = subst (AllByRecursion (IsEndTold g e c)) (sym (told_now c d _ a.told))
+        (all_both (IsEndTold g e c) a.front (changed (c.given + 1) (difference a.before a.after) ∷ a.back) (calm_ends g e c a.front a.calm.0) (tt, calm_ends g e c a.back a.calm.1))

@@ -1,0 +1,404 @@
+-- Text shows entries that are accepted, and none that is not on disk once it may be sent.
+use Rattle.std.proofs.Common.{◌≡◌, ℕ, zero, suc, ◌≤◌, Bool, true, false, cond, ◌||◌, List, [], ◌∷◌, ◌++◌, drop, take, length, map, set, Option, Some, None, option_map, refl, ap, ◌∙◌, sym, subst, arith, append-nil, length-append}
+use Rattle.std.specs.Prelude.{◌==◌, ◌&&◌, option_and_then}
+use Rattle.std.specs.List.{AllByRecursion}
+use Rattle.std.proofs.Math.Seq.{take-length}
+use Rattle.std.proofs.lemmas.Bool.{eqb-true, eqb-false}
+use Rattle.std.proofs.lemmas.List.{drop-append-le, take-append-drop, take-append-le}
+use Rattle.serde_json.specs.Data.{Data}
+use Rattle.sha2.specs.Sha256.{sha256}
+use Rattle.iv_rows.specs.Names.{is_name}
+use Rattle.iv_rows.specs.Options.{if_some}
+use Rattle.iv_access.specs.Rights.{Name}
+use Rattle.iv_machine.specs.Act.{Command}
+use Rattle.iv_machine.specs.Machine.{step}
+use Rattle.iv_message.specs.Told.{Told, alive, replied, settled}
+use Rattle.iv_clients.specs.Clients.{Client, Shown, Slots, answered, at_all, at_client, beating, checked, client_at, closing, dropping, following, fresh, handing, is_free, is_slow, moved, opens, released, saying, settling, staying, telling, told_one}
+use Rattle.iv_clients.specs.Journal.{Entry, IsEntry, is_shared, journal_of, line_said}
+use Rattle.iv_clients.specs.Tokens.{Token, role_opened}
+use Rattle.iv_gate.specs.Events.{Event, presented, message, gone, known, ticked, synced, handed, failed, happens, hands, knowing, next, on_disk, ticking}
+use Rattle.iv_gate.specs.Gate.{Gate, came, entered, has_session, in_session, is_accepted, pending, ran, reply_to, requests, role_for, said, tells, told_of, went}
+use Rattle.iv_gate.specs.Laws.{IsFront, SentIsKept}
+use Rattle.iv_gate.specs.Restoring.{Restores, gate_at_start}
+use Rattle.iv_gate.specs.Runs.{LeavesOnDisk, Runs, begins, goes_on, begins_again}
+use Rattle.iv_gate.proofs.Requesting.{IsShort, entry_heard, entry_short}
+use Rattle.iv_gate.proofs.Growing.{assoc}
+use Rattle.iv_gate.proofs.Joining.{and_both}
+use Rattle.iv_gate.proofs.Lasting.{nobody}
+use Rattle.iv_gate.proofs.Machine.{some_is_none}
+use Rattle.iv_gate.proofs.Rereading.{front_of_bytes, torn_is_one}
+use Rattle.iv_gate.proofs.Running.{all_so}
+use Rattle.iv_gate.proofs.Stepping.{Keeps, Steps, came_keeps, said_keeps, went_keeps}
+use Rattle.iv_gate.proofs.Touching.{at_every, at_other, at_same, one_some, set_other}
+
+-- ---- fronts
+
+pub front_self : (es : List Entry) → IsFront es es
+front_self es = ([], sym (append-nil es))
+
+pub front_then : (es fs gs : List Entry) → IsFront es fs → IsFront fs gs → IsFront es gs
+front_then es fs gs x y = (x.0 ++ y.0, y.1 ∙ (ap (λ z. z ++ y.0) x.1 ∙ assoc es x.0 y.0))
+
+pub front_taken : (n : ℕ) (es : List Entry) → IsFront (take n es) es
+front_taken n es = (drop n es, sym (take-append-drop n es))
+
+pub all_more : {X : Type 0} (P : X → Type 0) (xs ys : List X) → AllByRecursion P xs → AllByRecursion P ys → AllByRecursion P (xs ++ ys)
+all_more P [] ys a b = b
+all_more P (x ∷ xs) ys a b = (a.0, all_more P xs ys a.1 b)
+
+pub all_taken : {X : Type 0} (P : X → Type 0) (n : ℕ) (xs : List X) → AllByRecursion P xs → AllByRecursion P (take n xs)
+all_taken P zero xs a = tt
+all_taken P (suc n) [] a = tt
+all_taken P (suc n) (x ∷ xs) a = (a.0, all_taken P n xs a.1)
+
+pub all_dropped : {X : Type 0} (P : X → Type 0) (n : ℕ) (xs : List X) → AllByRecursion P xs → AllByRecursion P (drop n xs)
+all_dropped P zero xs a = a
+all_dropped P (suc n) [] a = tt
+all_dropped P (suc n) (x ∷ xs) a = all_dropped P n xs a.1
+
+-- ---- clients
+
+abbrev pub AllClients : (Client → Type 0) → Slots → Type 0
+AllClients Q slots = (m : ℕ) (c : Client) → client_at slots m ≡ Some c → Q c
+
+changed_by : (Q : Client → Type 0) (f : Client → Client) (o : Option Client) (d : Client) → ((c : Client) → o ≡ Some c → Q (f c)) → option_map f o ≡ Some d → Q d
+changed_by Q f None d k h = absurd (some_is_none d (sym h))
+changed_by Q f (Some c) d k h = subst Q (one_some (f c) d h) (k c refl)
+
+every_client : (Q R : Client → Type 0) (f : Client → Client) → ((c : Client) → Q c → R (f c)) → (slots : Slots) → AllClients Q slots → AllClients R (at_all f slots)
+every_client Q R f k slots a j d h = changed_by R f (client_at slots j) d (λ c e. k c (a j c e)) (sym (at_every f slots j) ∙ h)
+
+one_client : (Q : Client → Type 0) (m : ℕ) (f : Client → Client) (slots : Slots) → ((c : Client) → client_at slots m ≡ Some c → Q c → Q (f c)) → AllClients Q slots → AllClients Q (at_client m f slots)
+one_client Q m f slots k a j d h = by (m == j) refl
+  where
+    by : (t : Bool) → (m == j) ≡ t → Q d
+    by true e =
+        let same = eqb-true m j e in
+        changed_by Q f (client_at slots m) d (λ c q. k c q (a m c q)) (sym (at_same m f slots) ∙ (ap (client_at (at_client m f slots)) same ∙ h))
+    by false e = a j d (sym (at_other m j f slots (eqb-false m j e)) ∙ h)
+
+put_client : (Q : Client → Type 0) (m : ℕ) (o : Option Client) → ((c : Client) → o ≡ Some c → Q c) → (slots : Slots) → AllClients Q slots → AllClients Q (set slots m o)
+put_client Q m o k slots a j d h = by (m == j) refl
+  where
+    there : (ss : Slots) (i : ℕ) → client_at (set ss i o) i ≡ Some d → o ≡ Some d
+    there [] i e = absurd (some_is_none d (sym e))
+    there (s ∷ ss) zero e = e
+    there (s ∷ ss) (suc i) e = there ss i e
+
+    by : (t : Bool) → (m == j) ≡ t → Q d
+    by true e = k d (there slots m (ap (client_at (set slots m o)) (eqb-true m j e) ∙ h))
+    by false e = a j d (sym (set_other m j o slots (eqb-false m j e)) ∙ h)
+
+-- a client's role has a name; what may be sent to it shows what is kept, and what waits shows what is accepted
+pub record IsHolding (kept all : List Entry) (c : Client) : Type 0 where
+  pub name : is_name c.role ≡ true
+  pub sendable : AllByRecursion (λ (s : Shown). IsFront s.entries kept) c.sendable
+  pub unsynced : AllByRecursion (λ (s : Shown). IsFront s.entries all) c.unsynced
+
+holding_one : (kept all : List Entry) (t : Told) (c : Client) → IsHolding kept all c → IsHolding kept all (told_one all t c)
+holding_one kept all t c b = record {
+  name = b.name;
+  sendable = b.sendable;
+  unsynced = all_more (λ (s : Shown). IsFront s.entries all) c.unsynced (record { told = t; entries = all; answers = false } ∷ []) b.unsynced (front_self all, tt);
+}
+
+holding_telling : (kept all : List Entry) (ts : List Told) (c : Client) → IsHolding kept all c → IsHolding kept all (telling all ts c)
+holding_telling kept all [] c b = b
+holding_telling kept all (t ∷ ts) c b = holding_telling kept all ts (told_one all t c) (holding_one kept all t c b)
+
+holding_settling : (kept all : List Entry) (c : Client) → IsHolding kept all c → IsHolding kept all (settling all c)
+holding_settling kept all c b = by c.owed
+  where
+    by : (t : Bool) → IsHolding kept all (cond t (record (told_one all settled c) { owed = false }) c)
+    by true = let x = holding_one kept all settled c b in record { name = x.name; sendable = x.sendable; unsynced = x.unsynced }
+    by false = b
+
+answering_all : (all : List Entry) (ss : List Shown) → AllByRecursion (λ (s : Shown). IsFront s.entries all) ss → AllByRecursion (λ (s : Shown). IsFront s.entries all) (map (λ (s : Shown). record s { answers = true }) ss)
+answering_all all [] a = tt
+answering_all all (s ∷ ss) a = (a.0, answering_all all ss a.1)
+
+holding_nothing : (kept all : List Entry) (c : Client) → is_name c.role ≡ true → IsHolding kept all (dropping c)
+holding_nothing kept all c h = record { name = h; sendable = tt; unsynced = tt }
+
+holding_released : (kept all : List Entry) (c : Client) → IsFront kept all → IsHolding kept all c → IsHolding all all (released c)
+holding_released kept all c f b = by (c.dropped || is_slow c)
+  where
+    by : (t : Bool) → IsHolding all all (cond t (dropping c) (record c { unsynced = []; sendable = c.sendable ++ c.unsynced }))
+    by true = holding_nothing all all c b.name
+    by false = record {
+      name = b.name;
+      sendable = all_more (λ (s : Shown). IsFront s.entries all) c.sendable c.unsynced
+          (all_so {P = λ (s : Shown). IsFront s.entries kept} {Q = λ (s : Shown). IsFront s.entries all} (λ s x. front_then s.entries kept all x f) c.sendable b.sendable) b.unsynced;
+      unsynced = tt;
+    }
+
+holding_handing : (kept all : List Entry) (c : Client) → IsHolding kept all c → IsHolding kept all (handing c)
+holding_handing kept all c b = by (length c.sendable == 0)
+  where
+    by : (t : Bool) → IsHolding kept all (cond t c (record c { sendable = []; asked = 0; handed = c.handed ++ c.sendable ∷ [] }))
+    by true = b
+    by false = record { name = b.name; sendable = tt; unsynced = b.unsynced }
+
+holding_checked : (kept all : List Entry) (tokens : List Token) (c : Client) → IsHolding kept all c → IsHolding kept all (checked tokens c)
+holding_checked kept all tokens c b = by (opens tokens c)
+  where
+    by : (t : Bool) → IsHolding kept all (cond t c (dropping c))
+    by true = b
+    by false = holding_nothing kept all c b.name
+
+-- ---- gateways
+
+-- all of it, and the entries are these ones with more behind
+pub record IsHeld (base : List Entry) (g : Gate) : Type 0 where
+  pub front : IsFront base g.entries
+  pub kept : g.kept ≤ length g.entries
+  pub well : AllByRecursion IsEntry g.entries
+  pub short : AllByRecursion IsShort (drop g.kept g.entries)
+  pub sent : AllByRecursion (λ (s : Shown). IsFront s.entries (take g.kept g.entries)) g.sent
+  pub clients : AllClients (IsHolding (take g.kept g.entries) g.entries) g.clients
+
+module _ (base : List Entry) where
+  ran_held : (g : Gate) (k : Command) → IsHeld base g → IsHeld base (ran g k)
+  ran_held g k b =
+      let kept = take g.kept g.entries in
+      record {
+        front = b.front;
+        kept = b.kept;
+        well = b.well;
+        short = b.short;
+        sent = b.sent;
+        clients = every_client (IsHolding kept g.entries) (IsHolding kept g.entries) (λ c. staying (step g.machine k).lines (telling g.entries (told_of g k.act (step g.machine k) c) c))
+            (λ c x. let y = holding_telling kept g.entries (told_of g k.act (step g.machine k) c) c x in record { name = y.name; sendable = y.sendable; unsynced = y.unsynced })
+            g.clients b.clients;
+      }
+
+  one_held : (g : Gate) (m : ℕ) (f : Client → Client)
+      → ((c : Client) → IsHolding (take g.kept g.entries) g.entries c → IsHolding (take g.kept g.entries) g.entries (f c)) → IsHeld base g → IsHeld base (record g { clients = at_client m f g.clients })
+  one_held g m f k b = record {
+    front = b.front;
+    kept = b.kept;
+    well = b.well;
+    short = b.short;
+    sent = b.sent;
+    clients = one_client (IsHolding (take g.kept g.entries) g.entries) m f g.clients (λ c e x. k c x) b.clients;
+  }
+
+  tells_held : (g : Gate) (m : ℕ) (t : Told) → IsHeld base g → IsHeld base (tells g m t)
+  tells_held g m t b = one_held g m (told_one g.entries t) (λ c x. holding_one (take g.kept g.entries) g.entries t c x) b
+
+  put_held : (g : Gate) (m : ℕ) (o : Option Client) → ((c : Client) → o ≡ Some c → IsHolding (take g.kept g.entries) g.entries c) → IsHeld base g → IsHeld base (record g { clients = set g.clients m o })
+  put_held g m o k b = record {
+    front = b.front;
+    kept = b.kept;
+    well = b.well;
+    short = b.short;
+    sent = b.sent;
+    clients = put_client (IsHolding (take g.kept g.entries) g.entries) m o k g.clients b.clients;
+  }
+
+  held_kit : (m : ℕ) → Steps m (Keeps (IsHeld base))
+  held_kit m = record {
+    same = λ g b. b;
+    chain = λ g h i x y b. y (x b);
+    run = λ g k e b. ran_held g k b;
+    settle = λ g b. record {
+      front = b.front;
+      kept = b.kept;
+      well = b.well;
+      short = b.short;
+      sent = b.sent;
+      clients = every_client (IsHolding (take g.kept g.entries) g.entries) (IsHolding (take g.kept g.entries) g.entries) (settling g.entries)
+          (λ c x. holding_settling (take g.kept g.entries) g.entries c x) g.clients b.clients;
+    };
+    tell = λ g t b. tells_held g m t b;
+    seat = λ g seats b. record { front = b.front; kept = b.kept; well = b.well; short = b.short; sent = b.sent; clients = b.clients };
+    feed = λ g feeds b. record { front = b.front; kept = b.kept; well = b.well; short = b.short; sent = b.sent; clients = b.clients };
+    follow = λ g k b. one_held g m (following k) (λ c x. record { name = x.name; sendable = x.sendable; unsynced = x.unsynced }) b;
+    move = λ g t k b. one_held g m (moved t k) (λ c x. record { name = x.name; sendable = x.sendable; unsynced = x.unsynced }) b;
+    close = λ g own b. one_held g m (closing own) (λ c x. record { name = x.name; sendable = x.sendable; unsynced = x.unsynced }) b;
+  }
+
+  -- ---- entries
+
+  more_held : (g : Gate) (more : List Entry) → AllByRecursion IsEntry more → AllByRecursion IsShort more → IsHeld base g → IsHeld base (record g { entries = g.entries ++ more })
+  more_held g more w v b =
+      let same : take g.kept (g.entries ++ more) ≡ take g.kept g.entries = take-append-le g.kept g.entries more b.kept in
+      record {
+        front = front_then base g.entries (g.entries ++ more) b.front (more, refl);
+        kept = subst (λ n. g.kept ≤ n) (sym (length-append g.entries more)) (omega (arith, b.kept));
+        well = all_more IsEntry g.entries more b.well w;
+        short = subst (AllByRecursion IsShort) (sym (drop-append-le g.kept g.entries more b.kept)) (all_more IsShort (drop g.kept g.entries) more b.short v);
+        sent = subst (λ z. AllByRecursion (λ (s : Shown). IsFront s.entries z) g.sent) (sym same) b.sent;
+        clients = λ m c h. let x = b.clients m c h in record {
+          name = x.name;
+          sendable = subst (λ z. AllByRecursion (λ (s : Shown). IsFront s.entries z) c.sendable) (sym same) x.sendable;
+          unsynced = all_so {P = λ (s : Shown). IsFront s.entries g.entries} {Q = λ (s : Shown). IsFront s.entries (g.entries ++ more)}
+              (λ s f. front_then s.entries g.entries (g.entries ++ more) f (more, refl)) c.unsynced x.unsynced;
+        };
+      }
+
+  entered_held : (g : Gate) (e : Entry) (a : Bool) → IsEntry e → IsShort e → IsHeld base g → IsHeld base (entered g e a)
+  entered_held g e a w v b = by (is_shared e.act && a)
+    where
+      by : (t : Bool) → IsHeld base (record g { entries = g.entries ++ cond t (e ∷ []) [] })
+      by true = more_held g (e ∷ []) (w, tt) (v, tt) b
+      by false = more_held g [] tt tt b
+
+  requests_held : (g : Gate) (m : ℕ) (id : Option Data) (e : Entry) (n : ℕ) → IsEntry e → IsShort e → IsHeld base g → IsHeld base (requests g m id e n)
+  requests_held g m id e n w v b =
+      let k = in_session n e.act in let r = reply_to g k in let h = entered g e (is_accepted r) in
+      ran_held (tells h m (replied id r)) k (tells_held h m (replied id r) (entered_held g e (is_accepted r) w v b))
+
+  answered_held : (h : Gate) (m : ℕ) (before : Client) → AllByRecursion (λ (s : Shown). IsFront s.entries h.entries) before.unsynced → IsHeld base h → IsHeld base (record h { clients = at_client m (answered before) h.clients })
+  answered_held h m before a b = one_held h m (answered before)
+      (λ c x. record {
+        name = x.name;
+        sendable = x.sendable;
+        unsynced = all_more (λ (s : Shown). IsFront s.entries h.entries) before.unsynced (map (λ (s : Shown). record s { answers = true }) (drop (length before.unsynced) c.unsynced)) a
+            (answering_all h.entries (drop (length before.unsynced) c.unsynced) (all_dropped (λ (s : Shown). IsFront s.entries h.entries) (length before.unsynced) c.unsynced x.unsynced));
+      }) b
+
+-- ---- events
+
+based : (base other : List Entry) (g : Gate) → IsFront other g.entries → IsHeld base g → IsHeld other g
+based base other g f b = record { front = f; kept = b.kept; well = b.well; short = b.short; sent = b.sent; clients = b.clients }
+
+name_opened : (g : Gate) (m : ℕ) (token : List ℕ) (role : Name) → role_for g m token ≡ Some role → is_name role ≡ true
+name_opened g m token role h = by (role_opened g.tokens (sha256 token)) h
+  where
+    test : (r : Name) (b : Bool) → (is_name r && (is_free m g.clients && has_session g r)) ≡ b → cond b (Some r) None ≡ Some role → is_name role ≡ true
+    test r true t e = ap is_name (sym (one_some r role e)) ∙ (and_both (is_name r) (is_free m g.clients && has_session g r) t).0
+    test r false t e = absurd (some_is_none role (sym e))
+
+    by : (o : Option Name) → option_and_then (λ r. cond (is_name r && (is_free m g.clients && has_session g r)) (Some r) None) o ≡ Some role → is_name role ≡ true
+    by None e = absurd (some_is_none role (sym e))
+    by (Some r) e = test r (is_name r && (is_free m g.clients && has_session g r)) refl e
+
+came_held : (g : Gate) (m : ℕ) (token : List ℕ) → IsHeld [] g → IsHeld [] (came g m token)
+came_held g m token b = came_keeps (IsHeld []) (held_kit []) g m token
+    (λ h role e x. put_held [] h m (Some (fresh role (sha256 token)))
+    (λ c same. subst (IsHolding (take h.kept h.entries) h.entries) (one_some (fresh role (sha256 token)) c same) (record { name = name_opened g m token role e; sendable = tt; unsynced = tt })) x) b
+
+nobody_new : (Q : Client → Type 0) (c : Client) → None ≡ Some c → Q c
+nobody_new Q c e = absurd (some_is_none c (sym e))
+
+went_held : (g : Gate) (m : ℕ) → IsHeld [] g → IsHeld [] (went g m)
+went_held g m b = went_keeps (IsHeld []) (held_kit []) g m (λ x. put_held [] g m None (λ c e. nobody_new (IsHolding (take g.kept g.entries) g.entries) c e) x) b
+
+said_held : (g : Gate) (m : ℕ) (text : List ℕ) → IsHeld [] g → IsHeld [] (said g m text)
+said_held g m text b =
+    let h = said g m text in
+    let y = said_keeps (IsHeld g.entries) (held_kit g.entries) g m text (λ c e. record {
+      says = λ x. one_held g.entries g m (saying text) (λ d z. record { name = z.name; sendable = z.sendable; unsynced = z.unsynced }) x;
+      answers = λ i x. answered_held g.entries i m c
+          (all_so {P = λ (s : Shown). IsFront s.entries g.entries} {Q = λ (s : Shown). IsFront s.entries i.entries} (λ s f. front_then s.entries g.entries i.entries f x.front) c.unsynced (b.clients m c e).unsynced) x;
+      asks = λ id act n t shared seat x. requests_held g.entries (record g { clients = at_client m (saying text) g.clients }) m id (record { role = c.role; line = line_said text; act = act }) n
+          (entry_heard c.role text id act (b.clients m c e).name shared t) (entry_short c.role text id act t) x;
+    }) (based [] g.entries g (front_self g.entries) b) in
+    based g.entries [] h (h.entries, refl) y
+
+known_held : (g : Gate) (tokens : List Token) → IsHeld [] g → IsHeld [] (knowing g tokens)
+known_held g tokens b = record {
+  front = b.front;
+  kept = b.kept;
+  well = b.well;
+  short = b.short;
+  sent = b.sent;
+  clients = every_client (IsHolding (take g.kept g.entries) g.entries) (IsHolding (take g.kept g.entries) g.entries) (checked tokens)
+      (λ c x. holding_checked (take g.kept g.entries) g.entries tokens c x) g.clients b.clients;
+}
+
+ticked_held : (g : Gate) → IsHeld [] g → IsHeld [] (ticking g)
+ticked_held g b = record {
+  front = b.front;
+  kept = b.kept;
+  well = b.well;
+  short = b.short;
+  sent = b.sent;
+  clients = every_client (IsHolding (take g.kept g.entries) g.entries) (IsHolding (take g.kept g.entries) g.entries) (beating g.entries)
+      (λ c x. let y = holding_one (take g.kept g.entries) g.entries alive c x in record { name = y.name; sendable = y.sendable; unsynced = y.unsynced }) g.clients b.clients;
+}
+
+all_kept : (es : List Entry) → take (length es) es ≡ es
+all_kept es = take-length es
+
+none_left : (es : List Entry) → AllByRecursion IsShort (drop (length es) es)
+none_left [] = tt
+none_left (e ∷ es) = none_left es
+
+synced_held : (g : Gate) → IsHeld [] g → IsHeld [] (on_disk g)
+synced_held g b =
+    let f : IsFront (take g.kept g.entries) g.entries = front_taken g.kept g.entries in
+    record {
+      front = b.front;
+      kept = omega arith;
+      well = b.well;
+      short = none_left g.entries;
+      sent = subst (λ z. AllByRecursion (λ (s : Shown). IsFront s.entries z) g.sent) (sym (all_kept g.entries))
+          (all_so {P = λ (s : Shown). IsFront s.entries (take g.kept g.entries)} {Q = λ (s : Shown). IsFront s.entries g.entries}
+          (λ s x. front_then s.entries (take g.kept g.entries) g.entries x f) g.sent b.sent);
+      clients = subst (λ z. AllClients (IsHolding z g.entries) (at_all released g.clients)) (sym (all_kept g.entries))
+          (every_client (IsHolding (take g.kept g.entries) g.entries) (IsHolding g.entries g.entries) released (λ c x. holding_released (take g.kept g.entries) g.entries c f x) g.clients b.clients);
+    }
+
+handed_held : (g : Gate) (m : ℕ) → IsHeld [] g → IsHeld [] (hands g m)
+handed_held g m b = record {
+  front = b.front;
+  kept = b.kept;
+  well = b.well;
+  short = b.short;
+  sent = all_more (λ (s : Shown). IsFront s.entries (take g.kept g.entries)) g.sent (if_some (client_at g.clients m) [] (λ c. c.sendable)) b.sent
+      (by (client_at g.clients m) (λ c e. (b.clients m c e).sendable));
+  clients = one_client (IsHolding (take g.kept g.entries) g.entries) m handing g.clients (λ c e x. holding_handing (take g.kept g.entries) g.entries c x) b.clients;
+}
+  where
+    by : (o : Option Client) → ((c : Client) → o ≡ Some c → AllByRecursion (λ (s : Shown). IsFront s.entries (take g.kept g.entries)) c.sendable)
+        → AllByRecursion (λ (s : Shown). IsFront s.entries (take g.kept g.entries)) (if_some o [] (λ c. c.sendable))
+    by None k = tt
+    by (Some c) k = k c refl
+
+happens_held : (g : Gate) (e : Event) → IsHeld [] g → IsHeld [] (happens g e)
+happens_held g (presented m token) b = came_held g m token b
+happens_held g (message m text) b = said_held g m text b
+happens_held g (gone m) b = went_held g m b
+happens_held g (known tokens) b = known_held g tokens b
+happens_held g ticked b = ticked_held g b
+happens_held g synced b = synced_held g b
+happens_held g (handed m) b = handed_held g m b
+happens_held g failed b = record { front = b.front; kept = b.kept; well = b.well; short = b.short; sent = b.sent; clients = b.clients }
+
+pub next_held : (g : Gate) (e : Event) → IsHeld [] g → IsHeld [] (next g e)
+next_held g e b = by g.dead
+  where
+    by : (t : Bool) → IsHeld [] (cond t g (happens g e))
+    by true = b
+    by false = happens_held g e b
+
+-- ---- runs
+
+restored_held : (cap : ℕ) (tokens : List Token) (most : ℕ) (sent : List Shown) (journal : List ℕ) (h : Gate) → Restores (gate_at_start cap tokens most sent) journal h
+    → AllByRecursion (λ (s : Shown). IsFront s.entries h.entries) sent → IsHeld [] h
+restored_held cap tokens most sent journal h r a = subst (IsHeld []) (sym r.gate) (record {
+  front = (h.entries, refl);
+  kept = omega arith;
+  well = r.leads.well;
+  short = none_left h.entries;
+  sent = subst (λ z. AllByRecursion (λ (s : Shown). IsFront s.entries z) sent) (sym (all_kept h.entries)) a;
+  clients = λ m c e. absurd (nobody most m c e);
+})
+
+-- what is on disk leads to all that was kept
+pub kept_again : (g h : Gate) (disk : List ℕ) (start : Gate) → AllByRecursion IsEntry g.entries → LeavesOnDisk g disk → Restores start disk h → IsFront (take g.kept g.entries) h.entries
+kept_again g h disk start w l r =
+    front_of_bytes (take g.kept g.entries) h.entries (take l.0 (journal_of (pending g))) r.torn (all_taken IsEntry g.kept g.entries w) r.leads.well (sym l.1 ∙ r.leads.text) (torn_is_one r.torn r.cut)
+
+pub runs_held : (cap : ℕ) (g : Gate) → Runs cap g → IsHeld [] g
+runs_held cap _ (begins tokens most journal g r) = restored_held cap tokens most [] journal g r tt
+runs_held cap _ (goes_on g e r) = next_held g e (runs_held cap g r)
+runs_held cap _ (begins_again g disk tokens most h r l x) =
+    let b = runs_held cap g r in
+    restored_held cap tokens most g.sent disk h x (all_so {P = λ (s : Shown). IsFront s.entries (take g.kept g.entries)} {Q = λ (s : Shown). IsFront s.entries h.entries}
+    (λ s f. front_then s.entries (take g.kept g.entries) h.entries f (kept_again g h disk (gate_at_start cap tokens most g.sent) b.well l x)) g.sent b.sent)
+
+pub sent_is_kept : (cap : ℕ) (g : Gate) → Runs cap g → SentIsKept g
+sent_is_kept cap g r = let b = runs_held cap g r in record { sent = b.sent; sendable = λ m c h. (b.clients m c h).sendable }

@@ -1,0 +1,483 @@
+-- Whatever happens, sessions and subscriptions of the machine are those of the gateway, and each session has room for what is asked once more.
+use Rattle.std.proofs.Common.{◌≡◌, ◌⊎◌, inl, inr, ℕ, zero, suc, ◌<◌, Bool, true, false, not, cond, ◌||◌, List, [], ◌∷◌, ◌++◌, length, map, set, replicate, Option, Some, None, is_some, option_map, refl, ap, ◌∙◌, sym, subst, arith}
+use Rattle.std.specs.Prelude.{◌==◌, ◌&&◌, bytes_eq, filter, find, nat_lt, option_and_then}
+use Rattle.std.specs.List.{AllByRecursion, list_any}
+use Rattle.std.proofs.lemmas.Bool.{false≢true}
+use Rattle.std.proofs.lemmas.Slice.Eq.{bytes_eq-Decides}
+use Rattle.sha2.specs.Sha256.{sha256}
+use Rattle.serde_json.specs.Data.{Data}
+use Rattle.iv_rows.specs.Options.{if_some}
+use Rattle.iv_access.specs.Rights.{Name}
+use Rattle.iv_machine.specs.Act.{Act, begin, finish, create_role, create_table, create_view, grant, revoke, grant_role, revoke_role, row_security, create_policy, drop_policy, subscribe, unsubscribe, write, Command, Refusal, Reply, done, subscribed, refused, no_session, too_many, unknown_subscription}
+use Rattle.iv_machine.specs.Changing.{after, after_subscriptions}
+use Rattle.iv_machine.specs.Machine.{ending_by, outcome, step}
+use Rattle.iv_machine.specs.Refusing.{refusal}
+use Rattle.iv_machine.specs.State.{State, Subscription, start}
+use Rattle.iv_message.specs.Message.{Message, no_json, too_long, no_object, no_request, request}
+use Rattle.iv_message.specs.Told.{Told, welcome, replied, fault, unasked, settled}
+use Rattle.iv_clients.specs.Bounds.{entry_session, most_feeds, most_subs}
+use Rattle.iv_clients.specs.Clients.{Client, Shown, Slots, Sub, answered, at_all, at_client, beating, checked, client_at, closing, dropping, followed, fresh, handing, has_role, is_followed, is_slow, may_say, moved, opens, released, saying, settling, told_one}
+use Rattle.iv_clients.specs.Feeds.{Feed, Seat, feed_for, feed_of, is_of_role, is_reading, room_for, seat_of, without_seat}
+use Rattle.iv_clients.specs.Journal.{Entry, IsEntry, is_shared, line_said, said_by}
+use Rattle.iv_clients.specs.Tokens.{Token}
+use Rattle.iv_gate.specs.Events.{Event, presented, message, gone, known, ticked, synced, handed, failed, happens, next}
+use Rattle.iv_gate.specs.Gate.{Gate, acts, all_rested, all_swept, begun_for, closes, done_for, entered, has_session, hears, in_session, is_accepted, is_needed, joined, joined_by, joins, ran, reads, reads_first, reply_in, reply_to, requests, rested, role_for, said, seated, settles, shut, subscribes, swept, tells, went, with_session}
+use Rattle.iv_gate.specs.Replies.{ActsAs}
+use Rattle.iv_gate.specs.Restoring.{Restores, all_replayed, gate_at_start, passed, replayed}
+use Rattle.iv_gate.proofs.Asking.{IsHeard, accepted_by, asker_of, feed_acts, seated_sound}
+use Rattle.iv_gate.proofs.Few.{AreFew, feeds_in, few_joins, few_less, few_subscribes, found_for, new_has_room, room_has}
+use Rattle.iv_gate.proofs.Finishing.{rested_sound}
+use Rattle.iv_gate.proofs.Joining.{same_name}
+use Rattle.iv_gate.proofs.Machine.{some_is_none}
+use Rattle.iv_gate.proofs.Opening.{IsAsker, subscribes_sound}
+use Rattle.iv_gate.proofs.Running.{all_so, all_swept_sound, client_said, filter_plain, found_all, one_sound, swept_sound}
+use Rattle.iv_gate.proofs.Serving.{AreEven, IsEven, put_sound, says_stays}
+use Rattle.iv_gate.proofs.Sharing.{IsAlone, IsFed, IsShared, alone_of, begun_sessions, finished_sessions, is_plain, numbers_in, plain_keeps, roles_one, seats_in, sessions_step, shared_all, shared_finished, shared_one, shared_plain, shared_seated, shared_shut, shared_subscribes, subscriptions_same}
+use Rattle.iv_gate.proofs.Sound.{Adds, IsFeed, IsSoundGate, Sounds, seer}
+use Rattle.iv_gate.proofs.Summing.{neither}
+use Rattle.iv_gate.proofs.Touching.{at_same, came_as, one_some, opens_role}
+
+-- what holds of a gateway besides that its clients are in step
+pub record IsKept (g : Gate) : Type 0 where
+  pub shared : IsShared g
+  pub few : AreFew g.feeds
+
+kept_one : (g : Gate) (m : ℕ) (f : Client → Client) → ((c : Client) → (f c).role ≡ c.role) → IsKept g → IsKept (record g { clients = at_client m f g.clients })
+kept_one g m f k b = record { shared = shared_one g m f k b.shared; few = b.few }
+
+kept_all : (g : Gate) (f : Client → Client) → ((c : Client) → (f c).role ≡ c.role) → IsKept g → IsKept (record g { clients = at_all f g.clients })
+kept_all g f k b = record { shared = shared_all g f k b.shared; few = b.few }
+
+kept_tells : (g : Gate) (m : ℕ) (t : Told) → IsKept g → IsKept (tells g m t)
+kept_tells g m t b = kept_one g m (told_one g.entries t) (λ c. refl) b
+
+settling_role : (es : List Entry) (c : Client) → (settling es c).role ≡ c.role
+settling_role es c = by c.owed
+  where
+    by : (b : Bool) → (cond b (record (told_one es settled c) { owed = false }) c).role ≡ c.role
+    by true = refl
+    by false = refl
+
+kept_settles : (g : Gate) → IsKept g → IsKept (settles g)
+kept_settles g b = kept_all g (settling g.entries) (settling_role g.entries) b
+
+kept_plain : (g : Gate) (k : Command) → is_plain k.act ≡ true → IsSoundGate g → IsKept g → IsKept (ran g k)
+kept_plain g k p s b = record { shared = shared_plain g k p s.state.numbers b.shared; few = few_less _ g.feeds b.few }
+
+kept_seated : (g : Gate) (n : ℕ) (role : Name) → begun_for g role ≡ Some n → IsSoundGate g → IsKept g → IsKept (seated g n role)
+kept_seated g n role e s b = record { shared = shared_seated g n role e s.state.numbers b.shared; few = few_less _ g.feeds b.few }
+
+kept_subscribes : (g : Gate) (m : ℕ) (id : Option Data) (n : ℕ) (role rel : Name) → IsSoundGate g → length (feeds_in n g.feeds) < most_feeds
+    → IsKept g → IsKept (subscribes g m id n role rel)
+kept_subscribes g m id n role rel s l b = record { shared = shared_subscribes g m id n role rel s.state.numbers b.shared; few = few_subscribes g m id n role rel s b.few l }
+
+shut_shared : (g : Gate) (f : Feed) → AllByRecursion (IsFeed g.machine) g.feeds → IsSoundGate g → (k : ℕ) → feed_of g.feeds k ≡ Some f → IsShared g → IsShared (shut g f)
+shut_shared g f a s k h b = shared_shut g f (found_all (IsFeed g.machine) g.feeds k f a h) s.state.numbers b
+
+kept_swept : (g : Gate) (k : ℕ) → IsSoundGate g → IsKept g → IsKept (swept g k)
+kept_swept g k s b = by (is_followed k g.clients) (feed_of g.feeds k) refl
+  where
+    by : (t : Bool) (o : Option Feed) → feed_of g.feeds k ≡ o → IsKept (cond t g (if_some o g (shut g)))
+    by true o e = b
+    by false None e = b
+    by false (Some f) e = record { shared = shut_shared g f s.feeds s k e b.shared; few = few_less _ _ (few_less _ g.feeds b.few) }
+
+kept_all_swept : Adds → Sounds → (g : Gate) (ks : List ℕ) → IsSoundGate g → IsKept g → IsKept (all_swept g ks)
+kept_all_swept adds sounds g [] s b = b
+kept_all_swept adds sounds g (k ∷ ks) s b = kept_all_swept adds sounds (swept g k) ks (swept_sound adds sounds g k s) (kept_swept g k s b)
+
+-- ---- sessions that are not needed
+
+kept_rested : (g : Gate) (s : Seat) → IsAlone s g.seats → IsSoundGate g → IsKept g → IsKept (rested g s)
+kept_rested g s a b k = by (is_needed g s) refl
+  where
+    by : (t : Bool) → (has_role s.role g.clients || list_any (λ (f : Feed). s.session == f.session) g.feeds) ≡ t → IsKept (cond t g (ran (record g { seats = without_seat s.session g.seats }) (in_session s.session finish)))
+    by true h = k
+    by false h = record { shared = shared_finished g s a (neither (has_role s.role g.clients) _ h).0 b.state.numbers k.shared; few = few_less _ g.feeds k.few }
+
+alone_left : (g : Gate) (x s : Seat) → IsAlone x g.seats → IsAlone x (rested g s).seats
+alone_left g x s a = by (is_needed g s)
+  where
+    by : (t : Bool) → IsAlone x (cond t g (ran (record g { seats = without_seat s.session g.seats }) (in_session s.session finish))).seats
+    by true = a
+    by false = filter_plain (λ (y : Seat). (x.session == y.session) ≡ true → y.role ≡ x.role) (λ (y : Seat). not (s.session == y.session)) g.seats a
+
+kept_all_rested : Adds → Sounds → (g : Gate) (ss : List Seat) → AllByRecursion (λ x. IsAlone x g.seats) ss → IsSoundGate g → IsKept g → IsKept (all_rested g ss)
+kept_all_rested adds sounds g [] a b k = k
+kept_all_rested adds sounds g (s ∷ ss) a b k = kept_all_rested adds sounds (rested g s) ss
+    (all_so {P = λ x. IsAlone x g.seats} {Q = λ x. IsAlone x (rested g s).seats} (λ x h. alone_left g x s h) ss a.1) (rested_sound adds sounds g s b) (kept_rested g s a.0 b k)
+
+-- ---- messages
+
+kept_joined : (g : Gate) (m : ℕ) (o p : Option Feed) → ((f : Feed) → o ≡ Some f → IsFeed g.machine f) → IsSoundGate g → IsShared g → IsShared (joined g m o p)
+kept_joined g m (Some t) (Some k) there s b = by (is_reading t.role t.rel k && not (t.number == k.number))
+  where
+    h : Gate
+    h = record g { clients = at_client m (moved t.number k.number) g.clients }
+
+    by : (d : Bool) → IsShared (cond d (shut (record g { clients = at_client m (moved t.number k.number) g.clients }) t) g)
+    by true = shared_shut h t (there t refl) s.state.numbers (shared_one g m (moved t.number k.number) (λ c. refl) b)
+    by false = b
+kept_joined g m (Some t) None there s b = b
+kept_joined g m None p there s b = b
+
+kept_joined_by : (g : Gate) (m k : ℕ) (r : Reply) → IsSoundGate g → IsShared g → IsShared (joined_by g m k r)
+kept_joined_by g m k (subscribed t) s b = kept_joined g m (feed_of g.feeds t) (feed_of g.feeds k) (λ f e. found_all (IsFeed g.machine) g.feeds t f s.feeds e) s b
+kept_joined_by g m k done s b = b
+kept_joined_by g m k (refused r) s b = b
+
+kept_joins : Adds → Sounds → (g : Gate) (m : ℕ) (id : Option Data) (f : Feed) → ActsAs g.machine f.session f.role → ((c : Client) → client_at g.clients m ≡ Some c → IsAsker c id f.role f.rel)
+    → feed_of g.feeds f.number ≡ Some f → IsSoundGate g → IsKept g → IsKept (joins g m id f)
+kept_joins adds sounds g m id f acts same there s b = record {
+  shared = kept_joined_by (subscribes g m id f.session f.role f.rel) m f.number (reply_to g (in_session f.session (subscribe f.rel)))
+      (subscribes_sound adds sounds g m id f.session f.role f.rel acts same s) (shared_subscribes g m id f.session f.role f.rel s.state.numbers b.shared);
+  few = few_joins g m id f s b.few there;
+}
+
+kept_first : Adds → Sounds → (g : Gate) (m : ℕ) (id : Option Data) (role rel : Name) → IsSoundGate g → IsKept g → IsKept (reads_first g m id role rel)
+kept_first adds sounds g m id role rel s b = by (room_for g.seats g.feeds role) refl
+  where
+    further : (o : Option ℕ) → begun_for g role ≡ o → IsKept (if_some o (tells g m (replied id (refused too_many))) (λ n. subscribes (seated g n role) m id n role rel))
+    further None e = kept_tells g m (replied id (refused too_many)) b
+    further (Some n) e = kept_subscribes (seated g n role) m id n role rel (seated_sound adds sounds g role n e s) (new_has_room g role n e s) (kept_seated g n role e s b)
+
+    by : (o : Option ℕ) → room_for g.seats g.feeds role ≡ o
+        → IsKept (if_some o (if_some (begun_for g role) (tells g m (replied id (refused too_many))) (λ n. subscribes (seated g n role) m id n role rel)) (λ n. subscribes g m id n role rel))
+    by None e = further (begun_for g role) refl
+    by (Some n) e = kept_subscribes g m id n role rel s (room_has g.seats g.feeds role n e) b
+
+kept_reads : Adds → Sounds → (g : Gate) (m : ℕ) (c : Client) (id : Option Data) (rel : Name) → ((d : Client) → client_at g.clients m ≡ Some d → IsAsker d id c.role rel) → IsSoundGate g → IsKept g
+    → IsKept (reads g m c id rel)
+kept_reads adds sounds g m c id rel same s b = test (nat_lt (length c.subs) most_subs)
+  where
+    by : (o : Option Feed) → feed_for g.feeds c.role rel ≡ o → IsKept (if_some o (reads_first g m id c.role rel) (joins g m id))
+    by None e = kept_first adds sounds g m id c.role rel s b
+    by (Some f) e =
+        let p = feed_acts g.machine c.role rel g.feeds f s.feeds e in
+        kept_joins adds sounds g m id f p.0 (λ d t. subst (λ r. IsAsker d id r f.rel) (sym p.1) (subst (λ r. IsAsker d id c.role r) (sym p.2) (same d t))) (found_for g.feeds c.role rel f b.few.apart e) s b
+
+    test : (t : Bool) → IsKept (cond t (if_some (feed_for g.feeds c.role rel) (reads_first g m id c.role rel) (joins g m id)) (tells g m (replied id (refused too_many))))
+    test true = by (feed_for g.feeds c.role rel) refl
+    test false = kept_tells g m (replied id (refused too_many)) b
+
+kept_closes : (g : Gate) (m : ℕ) (c : Client) (id : Option Data) (own : ℕ) → IsSoundGate g → IsKept g → IsKept (closes g m c id own)
+kept_closes g m c id own s b = by (followed c own)
+  where
+    h : Gate
+    h = record g { clients = at_client m (closing own) g.clients }
+
+    i : Gate
+    i = tells h m (replied id done)
+
+    kept : IsKept i
+    kept = kept_tells h m (replied id done) (kept_one g m (closing own) (λ d. refl) b)
+
+    sweeps : (k : ℕ) (t : Bool) (o : Option Feed) → feed_of g.feeds k ≡ o → IsKept (cond t i (if_some o i (shut i)))
+    sweeps k true o e = kept
+    sweeps k false None e = kept
+    sweeps k false (Some f) e = record {
+      shared = shared_shut i f (found_all (IsFeed g.machine) g.feeds k f s.feeds e) s.state.numbers kept.shared;
+      few = few_less _ _ (few_less _ g.feeds b.few);
+    }
+
+    by : (o : Option ℕ) → IsKept (if_some o (tells g m (replied id (refused unknown_subscription))) (λ k. swept (tells (record g { clients = at_client m (closing own) g.clients }) m (replied id done)) k))
+    by None = kept_tells g m (replied id (refused unknown_subscription)) b
+    by (Some k) = sweeps k (is_followed k i.clients) (feed_of g.feeds k) refl
+
+kept_requests : (g : Gate) (m : ℕ) (id : Option Data) (e : Entry) (n : ℕ) → is_plain e.act ≡ true → IsSoundGate g → IsKept g → IsKept (requests g m id e n)
+kept_requests g m id e n p s b =
+    let k = in_session n e.act in let r = reply_to g k in let i = tells (entered g e (is_accepted r)) m (replied id r) in
+    let x = kept_tells g m (replied id r) b in
+    record { shared = shared_plain i k p s.state.numbers (record { sessions = b.shared.sessions; seated = λ role h. b.shared.seated role (sym (roles_one m (told_one (entered g e (is_accepted r)).entries (replied id r)) (λ c. refl) role g.clients) ∙ h); fed = b.shared.fed }); few = few_less _ g.feeds b.few }
+
+kept_other : (g : Gate) (m : ℕ) (c : Client) (id : Option Data) (text : List ℕ) (act : Act) (o : Option ℕ) → is_plain act ≡ true → IsSoundGate g → IsKept g
+    → IsKept (if_some o (tells g m (replied id (refused no_session))) (requests g m id (record { role = c.role; line = line_said text; act = act })))
+kept_other g m c id text act None p s b = kept_tells g m (replied id (refused no_session)) b
+kept_other g m c id text act (Some n) p s b = kept_requests g m id (record { role = c.role; line = line_said text; act = act }) n p s b
+
+kept_acts : Adds → Sounds → (g : Gate) (m : ℕ) (c : Client) (id : Option Data) (text : List ℕ) (act : Act) → said_by text ≡ request id act → ((d : Client) → client_at g.clients m ≡ Some d → IsHeard g m c text d)
+    → IsSoundGate g → IsKept g → IsKept (acts g m c id text act)
+kept_acts adds sounds g m c id text (begin role) said same s b = kept_tells g m (fault 2) b
+kept_acts adds sounds g m c id text finish said same s b = kept_tells g m (fault 2) b
+kept_acts adds sounds g m c id text (subscribe rel) said same s b = kept_reads adds sounds g m c id rel (λ d t. asker_of g m c id text rel d said (same d t)) s b
+kept_acts adds sounds g m c id text (unsubscribe own) said same s b = kept_closes g m c id own s b
+kept_acts adds sounds g m c id text (create_role name) said same s b = kept_other g m c id text (create_role name) (seat_of g.seats c.role) refl s b
+kept_acts adds sounds g m c id text (create_table name owner columns) said same s b = kept_other g m c id text (create_table name owner columns) (seat_of g.seats c.role) refl s b
+kept_acts adds sounds g m c id text (create_view name owner query) said same s b = kept_other g m c id text (create_view name owner query) (seat_of g.seats c.role) refl s b
+kept_acts adds sounds g m c id text (grant rel privileges to) said same s b = kept_other g m c id text (grant rel privileges to) (seat_of g.seats c.role) refl s b
+kept_acts adds sounds g m c id text (revoke rel privileges to) said same s b = kept_other g m c id text (revoke rel privileges to) (seat_of g.seats c.role) refl s b
+kept_acts adds sounds g m c id text (grant_role group to) said same s b = kept_other g m c id text (grant_role group to) (seat_of g.seats c.role) refl s b
+kept_acts adds sounds g m c id text (revoke_role group to) said same s b = kept_other g m c id text (revoke_role group to) (seat_of g.seats c.role) refl s b
+kept_acts adds sounds g m c id text (row_security rel enable force) said same s b = kept_other g m c id text (row_security rel enable force) (seat_of g.seats c.role) refl s b
+kept_acts adds sounds g m c id text (create_policy p) said same s b = kept_other g m c id text (create_policy p) (seat_of g.seats c.role) refl s b
+kept_acts adds sounds g m c id text (drop_policy rel name) said same s b = kept_other g m c id text (drop_policy rel name) (seat_of g.seats c.role) refl s b
+kept_acts adds sounds g m c id text (write entries) said same s b = kept_other g m c id text (write entries) (seat_of g.seats c.role) refl s b
+
+-- whatever a client says
+pub kept_done : Adds → Sounds → (g : Gate) (m : ℕ) (c : Client) (text : List ℕ) (said : Message) → said_by text ≡ said → ((d : Client) → client_at g.clients m ≡ Some d → IsHeard g m c text d)
+    → IsSoundGate g → IsKept g → IsKept (done_for g m c text said)
+kept_done adds sounds g m c text no_json h same s b = kept_tells g m (fault 1) b
+kept_done adds sounds g m c text too_long h same s b = kept_tells g m (fault 22) b
+kept_done adds sounds g m c text no_object h same s b = kept_tells g m (fault 2) b
+kept_done adds sounds g m c text (no_request id why) h same s b = kept_tells g m (unasked id why) b
+kept_done adds sounds g m c text (request id act) h same s b = kept_acts adds sounds g m c id text act h same s b
+
+-- ---- events
+
+kept_hears : Adds → Sounds → (g : Gate) (m : ℕ) (c : Client) (text : List ℕ) → client_at g.clients m ≡ Some c → IsEven c → IsSoundGate g → IsKept g → IsKept (hears g m c text)
+kept_hears adds sounds g m c text t even s b =
+    let asked = record g { clients = at_client m (saying text) g.clients } in let did = done_for asked m c text (said_by text) in
+    let there : client_at asked.clients m ≡ Some (saying text c) = at_same m (saying text) g.clients ∙ ap (option_map (saying text)) t in
+    kept_one (settles did) m (answered c) (λ d. refl) (kept_settles did (kept_done adds sounds asked m c text (said_by text) refl
+    (λ d e. subst (IsHeard asked m c text) (one_some (saying text c) d (sym there ∙ e)) (record { role = refl; before = c.messages; messages = refl; pending = even }))
+    (one_sound g m (saying text) (λ d e live. client_said g.machine g.feeds (seer d) text (s.clients m d e live)) s) (kept_one g m (saying text) (λ d. refl) b)))
+
+kept_said : Adds → Sounds → (g : Gate) (m : ℕ) (text : List ℕ) → AreEven g → IsSoundGate g → IsKept g → IsKept (said g m text)
+kept_said adds sounds g m text even s b = by (client_at g.clients m) refl
+  where
+    test : (c : Client) → client_at g.clients m ≡ Some c → (t : Bool) → may_say c ≡ t → IsKept (cond t (hears g m c text) g)
+    test c e true t = kept_hears adds sounds g m c text e (even m c (record { there = e; stays = says_stays c t })) s b
+    test c e false t = b
+
+    by : (o : Option Client) → client_at g.clients m ≡ o → IsKept (if_some o g (λ c. cond (may_say c) (hears g m c text) g))
+    by None e = b
+    by (Some c) e = test c e (may_say c) refl
+
+kept_with : (g : Gate) (role : Name) → IsSoundGate g → IsKept g → IsKept (with_session g role)
+kept_with g role s b = by (seat_of g.seats role) (begun_for g role) refl
+  where
+    by : (o p : Option ℕ) → begun_for g role ≡ p → IsKept (if_some o (if_some p g (λ n. seated g n role)) (λ n. g))
+    by None None e = b
+    by None (Some n) e = kept_seated g n role e s b
+    by (Some n) p e = b
+
+seat_new : (seats : List Seat) (x : Seat) (role : Name) → is_of_role role x ≡ true → is_some (seat_of (seats ++ x ∷ []) role) ≡ true
+seat_new [] x role h = ap (λ b. is_some (option_map (λ (s : Seat). s.session) (cond b (Some x) None))) h
+seat_new (s ∷ ss) x role h = by (is_of_role role s) (seat_new ss x role h)
+  where
+    by : (b : Bool) → is_some (seat_of (ss ++ x ∷ []) role) ≡ true → is_some (option_map (λ (y : Seat). y.session) (cond b (Some s) (find (is_of_role role) (ss ++ x ∷ [])))) ≡ true
+    by true k = refl
+    by false k = k
+
+-- the role has a seat then
+with_seat : (g : Gate) (role : Name) → has_session g role ≡ true → is_some (seat_of (with_session g role).seats role) ≡ true
+with_seat g role h = by (seat_of g.seats role) refl (begun_for g role) h
+  where
+    by : (o : Option ℕ) → seat_of g.seats role ≡ o → (p : Option ℕ) → (is_some o || is_some p) ≡ true → is_some (seat_of (if_some o (if_some p g (λ n. seated g n role)) (λ n. g)).seats role) ≡ true
+    by (Some n) e p k = ap is_some e
+    by None e (Some n) k = seat_new g.seats (record { session = n; role = role }) role ((bytes_eq-Decides role role).1 refl)
+    by None e None k = absurd (false≢true k)
+
+role_put : (slots : Slots) (m : ℕ) (role name : Name) (digest : List ℕ) → has_role name (set slots m (Some (fresh role digest))) ≡ true → (role ≡ name) ⊎ (has_role name slots ≡ true)
+role_put [] m role name digest h = inr h
+role_put (o ∷ os) zero role name digest h = by (bytes_eq role name) refl h
+  where
+    right : (a b : Bool) → b ≡ true → (a || b) ≡ true
+    right true b k = refl
+    right false b k = k
+
+    by : (b : Bool) → bytes_eq role name ≡ b → (b || has_role name os) ≡ true → (role ≡ name) ⊎ ((if_some o false (λ (c : Client). bytes_eq c.role name) || has_role name os) ≡ true)
+    by true e k = inl (same_name role name e)
+    by false e k = inr (right _ _ k)
+role_put (o ∷ os) (suc m) role name digest h = by (if_some o false (λ (c : Client). bytes_eq c.role name)) h (role_put os m role name digest)
+  where
+    more : (role ≡ name) ⊎ (has_role name os ≡ true) → (role ≡ name) ⊎ (has_role name os ≡ true)
+    more x = x
+
+    by : (b : Bool) → (b || has_role name (set os m (Some (fresh role digest)))) ≡ true → (has_role name (set os m (Some (fresh role digest))) ≡ true → (role ≡ name) ⊎ (has_role name os ≡ true))
+        → (role ≡ name) ⊎ ((b || has_role name os) ≡ true)
+    by true k go = inr refl
+    by false k go = go k
+
+role_left : (slots : Slots) (m : ℕ) (name : Name) → has_role name (set slots m None) ≡ true → has_role name slots ≡ true
+role_left [] m name h = h
+role_left (o ∷ os) zero name h = right (if_some o false (λ (c : Client). bytes_eq c.role name)) h
+  where
+    right : (a : Bool) → has_role name os ≡ true → (a || has_role name os) ≡ true
+    right true k = refl
+    right false k = k
+role_left (o ∷ os) (suc m) name h = by (if_some o false (λ (c : Client). bytes_eq c.role name)) h (role_left os m name)
+  where
+    by : (b : Bool) → (b || has_role name (set os m None)) ≡ true → (has_role name (set os m None) ≡ true → has_role name os ≡ true) → (b || has_role name os) ≡ true
+    by true k go = refl
+    by false k go = go k
+
+kept_came : (g : Gate) (m : ℕ) (token : List ℕ) (role : Name) → role_for g m token ≡ Some role → IsSoundGate g → IsKept g → IsKept (came_as g m token role)
+kept_came g m token role e s b = kept_settles (tells put m (welcome role)) (kept_tells put m (welcome role) placed)
+  where
+    h : Gate
+    h = with_session g role
+
+    k : IsKept h
+    k = kept_with g role s b
+
+    put : Gate
+    put = record h { clients = set h.clients m (Some (fresh role (sha256 token))) }
+
+    seats : (name : Name) → (role ≡ name) ⊎ (has_role name h.clients ≡ true) → is_some (seat_of h.seats name) ≡ true
+    seats name (inl x) = subst (λ r. is_some (seat_of h.seats r) ≡ true) x (with_seat g role (opens_role g m token role e).session)
+    seats name (inr x) = k.shared.seated name x
+
+    placed : IsKept put
+    placed = record { shared = record { sessions = k.shared.sessions; seated = λ name i. seats name (role_put h.clients m role name (sha256 token) i); fed = k.shared.fed }; few = k.few }
+
+kept_went : Adds → Sounds → (g : Gate) (m : ℕ) → IsSoundGate g → IsKept g → IsKept (went g m)
+kept_went adds sounds g m s b = by (client_at g.clients m)
+  where
+    left : Gate
+    left = record g { clients = set g.clients m None }
+
+    left_kept : IsKept left
+    left_kept = record { shared = record { sessions = b.shared.sessions; seated = λ name i. b.shared.seated name (role_left g.clients m name i); fed = b.shared.fed }; few = b.few }
+
+    left_sound : IsSoundGate left
+    left_sound = put_sound g m None (λ d e. absurd (some_is_none d (sym e))) s
+
+    gone_as : (c : Client) → IsKept (let h = all_swept left (map (λ s. s.feed) c.subs) in settles (all_rested h (filter (is_of_role c.role) h.seats)))
+    gone_as c =
+        let ks = map (λ (x : Sub). x.feed) c.subs in
+        let h = all_swept left ks in let hs = all_swept_sound adds sounds left ks left_sound in let ss = filter (is_of_role c.role) h.seats in
+        kept_settles (all_rested h ss) (kept_all_rested adds sounds h ss
+        (filter_plain (λ (x : Seat). IsAlone x h.seats) (is_of_role c.role) h.seats (all_so {P = λ (x : Seat). ActsAs h.machine x.session x.role} {Q = λ (x : Seat). IsAlone x h.seats} (λ x a. alone_of h.machine x h.seats a hs.seats) h.seats hs.seats))
+        hs (kept_all_swept adds sounds left ks left_sound left_kept))
+
+    by : (o : Option Client) → IsKept (if_some o g (λ c. let h = all_swept (record g { clients = set g.clients m None }) (map (λ s. s.feed) c.subs) in settles (all_rested h (filter (is_of_role c.role) h.seats))))
+    by None = b
+    by (Some c) = gone_as c
+
+checked_role : (tokens : List Token) (c : Client) → (checked tokens c).role ≡ c.role
+checked_role tokens c = by (opens tokens c)
+  where
+    by : (b : Bool) → (cond b c (dropping c)).role ≡ c.role
+    by true = refl
+    by false = refl
+
+released_role : (c : Client) → (released c).role ≡ c.role
+released_role c = by (c.dropped || is_slow c)
+  where
+    by : (b : Bool) → (cond b (dropping c) (record c { unsynced = []; sendable = c.sendable ++ c.unsynced })).role ≡ c.role
+    by true = refl
+    by false = refl
+
+handing_role : (c : Client) → (handing c).role ≡ c.role
+handing_role c = by (length c.sendable == 0)
+  where
+    by : (b : Bool) → (cond b c (record c { sendable = []; asked = 0; handed = c.handed ++ c.sendable ∷ [] })).role ≡ c.role
+    by true = refl
+    by false = refl
+
+-- what is not looked at changes
+kept_as : (g h : Gate) → h.machine ≡ g.machine → h.seats ≡ g.seats → h.feeds ≡ g.feeds → h.clients ≡ g.clients → IsKept g → IsKept h
+kept_as g h m s f c b = record {
+  shared = record {
+    sessions = ap (λ (x : State). numbers_in x.frame.sessions) m ∙ (b.shared.sessions ∙ ap seats_in (sym s));
+    seated = λ role i. ap (λ x. is_some (seat_of x role)) s ∙ b.shared.seated role (ap (has_role role) (sym c) ∙ i);
+    fed = subst (λ (x : State). AllByRecursion (IsFed h.feeds) x.frame.subscriptions) (sym m) (subst (λ x. AllByRecursion (IsFed x) g.machine.frame.subscriptions) (sym f) b.shared.fed);
+  };
+  few = subst AreFew (sym f) b.few;
+}
+
+kept_happens : Adds → Sounds → (g : Gate) (e : Event) → AreEven g → IsSoundGate g → IsKept g → IsKept (happens g e)
+kept_happens adds sounds g (presented m token) even s b = by (role_for g m token) refl
+  where
+    by : (o : Option Name) → role_for g m token ≡ o → IsKept (if_some o g (came_as g m token))
+    by None e = b
+    by (Some role) e = kept_came g m token role e s b
+kept_happens adds sounds g (message m text) even s b = kept_said adds sounds g m text even s b
+kept_happens adds sounds g (gone m) even s b = kept_went adds sounds g m s b
+kept_happens adds sounds g (known tokens) even s b = kept_as (record g { clients = at_all (checked tokens) g.clients }) (happens g (known tokens)) refl refl refl refl (kept_all g (checked tokens) (checked_role tokens) b)
+kept_happens adds sounds g ticked even s b = kept_all g (beating g.entries) (λ c. refl) b
+kept_happens adds sounds g synced even s b = kept_as (record g { clients = at_all released g.clients }) (happens g synced) refl refl refl refl (kept_all g released released_role b)
+kept_happens adds sounds g (handed m) even s b = kept_as (record g { clients = at_client m handing g.clients }) (happens g (handed m)) refl refl refl refl (kept_one g m handing handing_role b)
+kept_happens adds sounds g failed even s b = kept_as g (happens g failed) refl refl refl refl b
+
+pub kept_next : Adds → Sounds → (g : Gate) (e : Event) → AreEven g → IsSoundGate g → IsKept g → IsKept (next g e)
+kept_next adds sounds g e even s b = by g.dead
+  where
+    by : (t : Bool) → IsKept (cond t g (happens g e))
+    by true = b
+    by false = kept_happens adds sounds g e even s b
+
+-- ---- at the start
+
+no_roles : (most : ℕ) (role : Name) → has_role role (replicate most None) ≡ false
+no_roles zero role = refl
+no_roles (suc n) role = no_roles n role
+
+-- no session and no subscription is open where entries led
+pub record IsHung (s : State) : Type 0 where
+  pub sessions : numbers_in s.frame.sessions ≡ []
+  pub subscriptions : s.frame.subscriptions ≡ []
+
+none_opened : (s : State) (n : ℕ) (act : Act) (o : Option Refusal) → after_subscriptions s.frame n act ≡ [] → s.frame.subscriptions ≡ [] → (outcome s (in_session n act) o).state.frame.subscriptions ≡ []
+none_opened s n act (Some r) a h = h
+none_opened s n act None a h = ap (filter (λ e. not (is_some (ending_by act (after s n act) e)))) a
+
+shared_plainly : (act : Act) → is_shared act ≡ true → is_plain act ≡ true
+shared_plainly (begin role) h = absurd (false≢true h)
+shared_plainly finish h = absurd (false≢true h)
+shared_plainly (create_role name) h = refl
+shared_plainly (create_table name owner columns) h = refl
+shared_plainly (create_view name owner query) h = refl
+shared_plainly (grant rel privileges to) h = refl
+shared_plainly (revoke rel privileges to) h = refl
+shared_plainly (grant_role group to) h = refl
+shared_plainly (revoke_role group to) h = refl
+shared_plainly (row_security rel enable force) h = refl
+shared_plainly (create_policy p) h = refl
+shared_plainly (drop_policy rel name) h = refl
+shared_plainly (subscribe rel) h = absurd (false≢true h)
+shared_plainly (unsubscribe k) h = absurd (false≢true h)
+shared_plainly (write entries) h = refl
+
+-- what is passed is the step, which was accepted
+pub record IsPassed (s t : State) (k : Command) : Type 0 where
+  pub accepted : refusal s k.session k.act ≡ None
+  pub state : (step s k).state ≡ t
+
+passed_step : (s t : State) (k : Command) → passed s k ≡ Some t → IsPassed s t k
+passed_step s t k h = by (is_accepted (reply_in (step s k).lines)) refl h
+  where
+    by : (a : Bool) → is_accepted (reply_in (step s k).lines) ≡ a → cond a (Some (step s k).state) None ≡ Some t → IsPassed s t k
+    by true e i = record { accepted = accepted_by s k (refusal s k.session k.act) e; state = one_some (step s k).state t i }
+    by false e i = absurd (some_is_none t (sym i))
+
+bound_to : {X Y : Type 0} (o : Option X) (f : X → Option Y) (y : Y) (P : Type 0) → option_and_then f o ≡ Some y → ((x : X) → o ≡ Some x → f x ≡ Some y → P) → P
+bound_to None f y P h k = absurd (some_is_none y (sym h))
+bound_to (Some x) f y P h k = k x refl h
+
+hung_replayed : (s t : State) (e : Entry) → is_shared e.act ≡ true → IsHung s → replayed s e ≡ Some t → IsHung t
+hung_replayed s t e p b h =
+    bound_to (passed s (in_session entry_session (begin e.role))) (λ u. option_and_then (λ v. passed v (in_session entry_session finish)) (passed u (in_session entry_session e.act))) t (IsHung t) h
+    (λ u i k. bound_to (passed u (in_session entry_session e.act)) (λ v. passed v (in_session entry_session finish)) t (IsHung t) k (λ v j l. whole u v (passed_step s u _ i) (passed_step u v _ j) (passed_step v t _ l)))
+  where
+    whole : (u v : State) → IsPassed s u (in_session entry_session (begin e.role)) → IsPassed u v (in_session entry_session e.act) → IsPassed v t (in_session entry_session finish) → IsHung t
+    whole u v x y z =
+        let plain = shared_plainly e.act p in
+        let us : numbers_in u.frame.sessions ≡ entry_session ∷ [] = ap (λ (w : State). numbers_in w.frame.sessions) (sym x.state)
+        ∙ (begun_sessions s entry_session e.role (refusal s entry_session (begin e.role)) x.accepted ∙ ap (λ r. r ++ entry_session ∷ []) b.sessions) in
+        let vs : numbers_in v.frame.sessions ≡ entry_session ∷ [] = ap (λ (w : State). numbers_in w.frame.sessions) (sym y.state) ∙ (ap numbers_in (sessions_step u (in_session entry_session e.act) (plain_keeps e.act plain)) ∙ us) in
+        let un : u.frame.subscriptions ≡ [] = ap (λ (w : State). w.frame.subscriptions) (sym x.state) ∙ none_opened s entry_session (begin e.role) (refusal s entry_session (begin e.role)) b.subscriptions b.subscriptions in
+        let vn : v.frame.subscriptions ≡ [] = ap (λ (w : State). w.frame.subscriptions) (sym y.state)
+        ∙ none_opened u entry_session e.act (refusal u entry_session e.act) (subscriptions_same u.frame entry_session e.act plain ∙ un) un in
+        record {
+          sessions = ap (λ (w : State). numbers_in w.frame.sessions) (sym z.state) ∙ (finished_sessions v entry_session (refusal v entry_session finish) refl ∙ ap (filter (λ i. not (entry_session == i))) vs);
+          subscriptions = ap (λ (w : State). w.frame.subscriptions) (sym z.state)
+              ∙ none_opened v entry_session finish (refusal v entry_session finish) (ap (filter (λ (x : Subscription). not (entry_session == x.session))) vn) vn;
+        }
+
+hung_all : (s t : State) (es : List Entry) → AllByRecursion IsEntry es → IsHung s → all_replayed s es ≡ Some t → IsHung t
+hung_all s t [] a b h = subst IsHung (one_some s t h) b
+hung_all s t (e ∷ es) a b h = bound_to (replayed s e) (λ u. all_replayed u es) t (IsHung t) h (λ u i k. hung_all u t es a.1 (hung_replayed s u e a.0.shared b i) k)
+
+pub kept_restored : (cap : ℕ) (tokens : List Token) (most : ℕ) (sent : List Shown) (journal : List ℕ) (g : Gate) → Restores (gate_at_start cap tokens most sent) journal g → IsKept g
+kept_restored cap tokens most sent journal g r =
+    let b = hung_all (start cap) r.state g.entries r.leads.well (record { sessions = refl; subscriptions = refl }) r.leads.accepted in
+    subst IsKept (sym r.gate) (record {
+      shared = record {
+        sessions = b.sessions;
+        seated = λ role h. absurd (false≢true (sym (no_roles most role) ∙ h));
+        fed = subst (AllByRecursion (IsFed [])) (sym b.subscriptions) tt;
+      };
+      few = record { few = λ n. omega arith; apart = tt };
+    })

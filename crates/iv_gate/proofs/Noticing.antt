@@ -1,0 +1,327 @@
+-- What a client is told by an event: nothing of what is read, or what one command of the machine tells.
+use Rattle.std.proofs.Common.{◌≡◌, ℕ, ◌+◌, ◌≤◌, Bool, true, false, cond, ◌||◌, List, [], ◌∷◌, ◌++◌, length, drop, map, set, Option, Some, None, option_map, refl, ap, ◌∙◌, sym, subst, append-nil}
+use Rattle.std.specs.Prelude.{◌==◌, filter, flat_map}
+use Rattle.std.specs.List.{list_any}
+use Rattle.std.proofs.lemmas.Bool.{false≢true, eqb-true, eqb-false}
+use Rattle.std.proofs.lemmas.List.Concat.{flat_map-append}
+use Rattle.sha2.specs.Sha256.{sha256}
+use Rattle.iv_rows.specs.Options.{if_some}
+use Rattle.iv_access.specs.Rights.{Name}
+use Rattle.iv_machine.specs.Machine.{difference, step}
+use Rattle.iv_machine.specs.Sound.{IsSoundState}
+use Rattle.iv_message.specs.Told.{Told, alive, changed, settled, welcome}
+use Rattle.iv_clients.specs.Clients.{Client, Shown, Slots, Sub, answered, at_all, at_client, beating, checked, client_at, dropping, fresh, handing, is_slow, may_say, opens, released, saying, settling, told, told_one}
+use Rattle.iv_clients.specs.Feeds.{is_of_role}
+use Rattle.iv_clients.specs.Journal.{Entry, said_by}
+use Rattle.iv_clients.specs.Tokens.{Token}
+use Rattle.iv_gate.specs.Events.{Event, presented, message, gone, known, ticked, synced, handed, failed, happens, next}
+use Rattle.iv_gate.specs.Gate.{Gate, all_rested, all_swept, done_for, hears, role_for, said, settles, tells, told_of, with_session}
+use Rattle.iv_gate.specs.Replies.{told_by}
+use Rattle.iv_gate.proofs.Calm.{all_rested_clients, all_swept_clients, sound_kit, with_clients}
+use Rattle.iv_gate.proofs.Growing.{Grown, assoc, drop_front, grows}
+use Rattle.iv_gate.proofs.Doing.{all_done, both_calm, told_more}
+use Rattle.iv_gate.proofs.News.{Hears, quietly, by_command, by_contents, IsCalm, heard_done, nothing, one_calm}
+use Rattle.iv_gate.proofs.Machine.{some_is_none}
+use Rattle.iv_gate.proofs.Running.{client_said, one_sound}
+use Rattle.iv_gate.proofs.Serving.{told_answered}
+use Rattle.iv_gate.proofs.Signs.{Sign}
+use Rattle.iv_gate.proofs.Sitting.{at_all_swept}
+use Rattle.iv_gate.proofs.Sound.{IsSoundGate, Sounds, seer}
+use Rattle.iv_gate.proofs.Touching.{alive as is_alive, at_every, at_other, at_same, came_as, came_sign, leaves_at, not_free, one_some, opens_role, rests, set_other, went_sign}
+use Rattle.iv_gate.proofs.Walking.{Later, to_done, to_settles, to_then}
+
+-- ---- one step and the next
+
+-- calm text behind it
+after_calm : (g h i : Gate) (c z y : Client) → i.machine ≡ h.machine → i.entries ≡ h.entries → IsCalm z y → y.subs ≡ z.subs → y.given ≡ z.given → Hears g h c z → Hears g i c y
+after_calm g h i c z y machine entries m subs given (quietly a n) = quietly (record {
+  more = a.more ++ m.more;
+  told = m.told ∙ (ap (λ x. x ++ m.more) a.told ∙ assoc (told c) a.more m.more);
+  calm = both_calm a.more m.more a.calm m.calm;
+}) (entries ∙ n)
+after_calm g h i c z y machine entries m subs given (by_command a) =
+    let news = told_of g a.command.act (step g.machine a.command) c in
+    by_command (record {
+      command = a.command;
+      shared = a.shared;
+      said = a.said;
+      machine = machine ∙ a.machine;
+      entry = a.entry;
+      asks = a.asks;
+      entries = entries ∙ a.entries;
+      front = a.front;
+      back = a.back ++ m.more;
+      told = m.told ∙ (ap (λ x. x ++ m.more) a.told ∙ (assoc (told c) (a.front ++ (news ++ a.back)) m.more
+          ∙ ap (λ x. told c ++ x) (assoc a.front (news ++ a.back) m.more ∙ ap (λ x. a.front ++ x) (assoc news a.back m.more))));
+      calm = (a.calm.0, both_calm a.back m.more a.calm.1 m.calm);
+      subs = subs ∙ a.subs;
+    })
+after_calm g h i c z y machine entries m subs given (by_contents a n) =
+    let news = changed (c.given + 1) (difference a.before a.after) in
+    by_contents (record {
+      before = a.before;
+      after = a.after;
+      front = a.front;
+      back = a.back ++ m.more;
+      told = m.told ∙ (ap (λ x. x ++ m.more) a.told ∙ (assoc (told c) (a.front ++ (news ∷ a.back)) m.more ∙ ap (λ x. told c ++ x) (assoc a.front (news ∷ a.back) m.more)));
+      calm = (a.calm.0, both_calm a.back m.more a.calm.1 m.calm);
+      given = subst (λ x. c.given + 1 ≤ x) (sym given) a.given;
+      follows = ap (list_any (λ (x : Sub). (c.given + 1) == x.own)) subs ∙ a.follows;
+      some = a.some;
+    }) (entries ∙ n)
+
+settled_calm : (es : List Entry) (c : Client) → IsCalm c (settling es c)
+settled_calm es c = by c.owed
+  where
+    by : (b : Bool) → IsCalm c (cond b (record (told_one es settled c) { owed = false }) c)
+    by true = record { more = settled ∷ []; told = told_more es settled c; calm = one_calm settled refl }
+    by false = nothing c c refl
+
+pub settled_same : (es : List Entry) (c : Client) → ((settling es c).subs ≡ c.subs) × ((settling es c).given ≡ c.given)
+settled_same es c = by c.owed
+  where
+    by : (b : Bool) → ((cond b (record (told_one es settled c) { owed = false }) c).subs ≡ c.subs) × ((cond b (record (told_one es settled c) { owed = false }) c).given ≡ c.given)
+    by true = (refl, refl)
+    by false = (refl, refl)
+
+-- a message counts as said, whatever it is
+said_hears : (g : Gate) (slots : Slots) (h : Gate) (text : List ℕ) (c z : Client) → Hears (record g { clients = slots }) h (saying text c) z → Hears g h c z
+said_hears g slots h text c z (quietly a n) = quietly (record { more = a.more; told = a.told; calm = a.calm }) n
+said_hears g slots h text c z (by_command a) = by_command (record {
+  command = a.command;
+  shared = a.shared;
+  said = a.said;
+  machine = a.machine;
+  entry = a.entry;
+  asks = a.asks;
+  entries = a.entries;
+  front = a.front;
+  back = a.back;
+  told = a.told;
+  calm = a.calm;
+  subs = a.subs;
+})
+said_hears g slots h text c z (by_contents a n) = by_contents (record {
+  before = a.before;
+  after = a.after;
+  front = a.front;
+  back = a.back;
+  told = a.told;
+  calm = a.calm;
+  given = a.given;
+  follows = a.follows;
+  some = a.some;
+}) n
+
+other_hears : (g : Gate) (slots : Slots) (h : Gate) (c z : Client) → Hears (record g { clients = slots }) h c z → Hears g h c z
+other_hears g slots h c z (quietly a n) = quietly a n
+other_hears g slots h c z (by_command a) = by_command (record {
+  command = a.command;
+  shared = a.shared;
+  said = a.said;
+  machine = a.machine;
+  entry = a.entry;
+  asks = a.asks;
+  entries = a.entries;
+  front = a.front;
+  back = a.back;
+  told = a.told;
+  calm = a.calm;
+  subs = a.subs;
+})
+other_hears g slots h c z (by_contents a n) = by_contents a n
+
+-- ---- a message
+
+module _ (sounds : Sounds) (g : Gate) (b : IsSoundGate g) (m : ℕ) (text : List ℕ) (j : ℕ) (c : Client) (t : client_at g.clients j ≡ Some c) (live : c.dropped ≡ false) where
+  abbrev asked : Gate
+  asked = record g { clients = at_client m (saying text) g.clients }
+
+  abbrev did : Client → Gate
+  did a = done_for asked m a text (said_by text)
+
+  asked_sound : IsSoundGate asked
+  asked_sound = one_sound g m (saying text) (λ d e l. client_said g.machine g.feeds (seer d) text (b.clients m d e l)) b
+
+  told_by_it : (a x : Client) → client_at (at_client m (saying text) g.clients) j ≡ Some x → x.dropped ≡ false
+      → Later (λ n y d. Hears (record g { clients = at_client m (saying text) g.clients }) (done_for (record g { clients = at_client m (saying text) g.clients }) m a text (said_by text)) y d)
+      (done_for (record g { clients = at_client m (saying text) g.clients }) m a text (said_by text)).clients j x
+  told_by_it a x e l = heard_done asked m a (did a) asked_sound (all_done sounds asked m a text (said_by text) b.state refl) j x e l
+
+  -- what it was told grew
+  grown : (a d : Client) → m ≡ j → client_at (settles (did a)).clients j ≡ Some d → Grown c d
+  grown a d same e =
+      let R = λ (i : ℕ) (x y : Client). Grown x y in
+      let there : client_at asked.clients j ≡ Some (saying text c) =
+      ap (λ i. client_at (at_client i (saying text) g.clients) j) same ∙ (at_same j (saying text) g.clients ∙ ap (option_map (saying text)) t) in
+      let p = to_then m R (grows m) asked.clients (did a).clients (settles (did a)).clients (to_done m R (grows m) asked a text (said_by text)) (to_settles m R (grows m) (did a)) j (saying text c) there in
+      let x : Grown (saying text c) d = subst (Grown (saying text c)) (one_some p.now d (sym p.there ∙ e)) p.so in
+      record { more = x.more; handed = x.handed; sendable = x.sendable; unsynced = x.unsynced }
+
+  heard_by_all : (a d : Client) → client_at g.clients m ≡ Some a → client_at (hears g m a text).clients j ≡ Some d → Hears g (hears g m a text) c d
+  heard_by_all a d s k = by (m == j) refl
+    where
+      es : List Entry
+      es = (did a).entries
+
+      by : (e : Bool) → (m == j) ≡ e → Hears g (hears g m a text) c d
+      by true e =
+          let same = eqb-true m j e in
+          let one : a ≡ c = one_some a c (sym s ∙ (ap (client_at g.clients) same ∙ t)) in
+          let there : client_at asked.clients j ≡ Some (saying text c) =
+          ap (λ i. client_at (at_client i (saying text) g.clients) j) same ∙ (at_same j (saying text) g.clients ∙ ap (option_map (saying text)) t) in
+          let p = told_by_it a (saying text c) there live in
+          let rest = settled_same es p.now in
+          let then_there : client_at (settles (did a)).clients j ≡ Some (settling es p.now) = at_every (settling es) (did a).clients j ∙ ap (option_map (settling es)) p.there in
+          let first : Hears g (settles (did a)) c (settling es p.now) =
+          after_calm g (did a) (settles (did a)) c p.now (settling es p.now) refl refl (settled_calm es p.now) rest.0 rest.1 (said_hears g asked.clients (did a) text c p.now p.so) in
+          let last : client_at (hears g m a text).clients j ≡ Some (answered a (settling es p.now)) =
+          ap (λ i. client_at (at_client i (answered a) (settles (did a)).clients) j) same ∙ (at_same j (answered a) (settles (did a)).clients ∙ ap (option_map (answered a)) then_there) in
+          subst (Hears g (hears g m a text) c) (one_some (answered a (settling es p.now)) d (sym last ∙ k))
+          (after_calm g (settles (did a)) (hears g m a text) c (settling es p.now) (answered a (settling es p.now)) refl refl
+          (nothing (settling es p.now) (answered a (settling es p.now)) (told_answered a (settling es p.now) (subst (λ z. Grown z (settling es p.now)) (sym one) (grown a (settling es p.now) same then_there)))) refl refl first)
+      by false e =
+          let ne = eqb-false m j e in
+          let p = told_by_it a c (at_other m j (saying text) g.clients ne ∙ t) live in
+          let rest = settled_same es p.now in
+          let then_there : client_at (settles (did a)).clients j ≡ Some (settling es p.now) = at_every (settling es) (did a).clients j ∙ ap (option_map (settling es)) p.there in
+          let last : client_at (hears g m a text).clients j ≡ Some (settling es p.now) = at_other m j (answered a) (settles (did a)).clients ne ∙ then_there in
+          subst (Hears g (hears g m a text) c) (one_some (settling es p.now) d (sym last ∙ k))
+          (after_calm g (did a) (hears g m a text) c p.now (settling es p.now) refl refl (settled_calm es p.now) rest.0 rest.1 (other_hears g asked.clients (did a) c p.now p.so))
+
+same_hears : (g h : Gate) (slots : Slots) (j : ℕ) (c d : Client) → h.entries ≡ g.entries → client_at slots j ≡ Some c → client_at slots j ≡ Some d → Hears g h c d
+same_hears g h slots j c d n s k = quietly (nothing c d (ap told (one_some d c (sym k ∙ s)))) n
+
+same_slot : (slots : Slots) (j : ℕ) (c d : Client) → client_at slots j ≡ Some c → client_at slots j ≡ Some d → c ≡ d
+same_slot slots j c d s k = one_some c d (sym s ∙ k)
+
+said_all : Sounds → (g : Gate) → IsSoundGate g → (m : ℕ) (text : List ℕ) (j : ℕ) (c d : Client) → client_at g.clients j ≡ Some c → c.dropped ≡ false → client_at (said g m text).clients j ≡ Some d
+    → Hears g (said g m text) c d
+said_all sounds g b m text j c d t live k = by (client_at g.clients m) refl k
+  where
+    test_by : (a : Client) → client_at g.clients m ≡ Some a → (e : Bool) → client_at (cond e (hears g m a text) g).clients j ≡ Some d → Hears g (cond e (hears g m a text) g) c d
+    test_by a s true x = heard_by_all sounds g b m text j c t live a d s x
+    test_by a s false x = same_hears g g g.clients j c d refl t x
+
+    by : (o : Option Client) → client_at g.clients m ≡ o → client_at (if_some o g (λ a. cond (may_say a) (hears g m a text) g)).clients j ≡ Some d
+        → Hears g (if_some o g (λ a. cond (may_say a) (hears g m a text) g)) c d
+    by None s x = same_hears g g g.clients j c d refl t x
+    by (Some a) s x = test_by a s (may_say a) x
+
+-- ---- who comes and goes
+
+-- where another comes, it stays as it is, or is told that this is all
+pub came_turns : (g : Gate) → IsSoundGate g → (m : ℕ) (token : List ℕ) (j : ℕ) (c d : Client) → client_at g.clients j ≡ Some c → client_at (happens g (presented m token)).clients j ≡ Some d
+    → (P : Type 0) → (c ≡ d → P) → ((es : List Entry) → settling es c ≡ d → P) → P
+came_turns g b m token j c d t k P same turned = by (role_for g m token) refl k
+  where
+    by : (o : Option Name) → role_for g m token ≡ o → client_at (if_some o g (came_as g m token)).clients j ≡ Some d → P
+    by None e x = same (same_slot g.clients j c d t x)
+    by (Some role) e x =
+        let i = with_session g role in let put = set i.clients m (Some (fresh role (sha256 token))) in
+        let there : client_at (tells (record i { clients = put }) m (welcome role)).clients j ≡ Some c =
+        at_other m j (told_one i.entries (welcome role)) put ne ∙ (set_other m j (Some (fresh role (sha256 token))) i.clients ne ∙ (ap (λ z. client_at z j) (with_clients g role b.state) ∙ t)) in
+        turned i.entries (one_some (settling i.entries c) d (sym (at_every (settling i.entries) (tells (record i { clients = put }) m (welcome role)).clients j ∙ ap (option_map (settling i.entries)) there) ∙ x))
+      where
+        ne : m ≡ j → ⊥
+        ne one = false≢true (sym (not_free m c g.clients (ap (client_at g.clients) one ∙ t)) ∙ (opens_role g m token role e).free)
+
+-- and so where another goes
+pub went_turns : Sounds → (g : Gate) → IsSoundGate g → (m j : ℕ) (c d : Client) → client_at g.clients j ≡ Some c → client_at (happens g (gone m)).clients j ≡ Some d
+    → (P : Type 0) → (c ≡ d → P) → ((es : List Entry) → settling es c ≡ d → P) → P
+went_turns sounds g b m j c d t k P same turned = test_by (m == j) refl
+  where
+    left : Gate
+    left = record g { clients = set g.clients m None }
+
+    without : Client → Gate
+    without a = let i = all_swept left (map (λ s. s.feed) a.subs) in settles (all_rested i (filter (is_of_role a.role) i.seats))
+
+    gone_as : (a : Client) → (m ≡ j → ⊥) → client_at (without a).clients j ≡ Some d → P
+    gone_as a ne x =
+        let ks = map (λ (s : Sub). s.feed) a.subs in let i = all_swept left ks in let r = all_rested i (filter (is_of_role a.role) i.seats) in
+        let there : client_at r.clients j ≡ Some c =
+        ap (λ z. client_at z j) (all_rested_clients sounds i (filter (is_of_role a.role) i.seats) (at_all_swept (λ s seats. IsSoundState s) (sound_kit sounds) left ks b.state))
+        ∙ (ap (λ z. client_at z j) (all_swept_clients sounds left ks b.state) ∙ (set_other m j None g.clients ne ∙ t)) in
+        turned r.entries (one_some (settling r.entries c) d (sym (at_every (settling r.entries) r.clients j ∙ ap (option_map (settling r.entries)) there) ∙ x))
+
+    by : (m ≡ j → ⊥) → (o : Option Client) → client_at (if_some o g without).clients j ≡ Some d → P
+    by ne None x = same (same_slot g.clients j c d t x)
+    by ne (Some a) x = gone_as a ne x
+
+    test_by : (q : Bool) → (m == j) ≡ q → P
+    test_by true e = absurd (some_is_none d (sym k ∙ leaves_at g (gone m) j e))
+    test_by false e = by (eqb-false m j e) (client_at g.clients m) k
+
+-- ---- text that moves on
+
+pub every_is : (f : Client → Client) (slots : Slots) (j : ℕ) (c d : Client) → client_at slots j ≡ Some c → client_at (at_all f slots) j ≡ Some d → f c ≡ d
+every_is f slots j c d h k = one_some (f c) d (ap (option_map f) (sym h) ∙ (sym (at_every f slots j) ∙ k))
+
+was_dropped : (c d : Client) → dropping c ≡ d → d.dropped ≡ false → told d ≡ told c
+was_dropped c d e s = absurd (false≢true (sym s ∙ sym (ap (λ (x : Client). x.dropped) e)))
+
+pub told_checked : (tokens : List Token) (c d : Client) → checked tokens c ≡ d → d.dropped ≡ false → told d ≡ told c
+told_checked tokens c d e s = by (opens tokens c) e
+  where
+    by : (b : Bool) → cond b c (dropping c) ≡ d → told d ≡ told c
+    by true x = ap told (sym x)
+    by false x = was_dropped c d x s
+
+pub told_released : (c d : Client) → released c ≡ d → d.dropped ≡ false → told d ≡ told c
+told_released c d e s = by (c.dropped || is_slow c) e
+  where
+    by : (b : Bool) → cond b (dropping c) (record c { unsynced = []; sendable = c.sendable ++ c.unsynced }) ≡ d → told d ≡ told c
+    by true x = was_dropped c d x s
+    by false x = ap told (sym x) ∙ ap (λ z. map (λ (y : Shown). y.told) (flat_map (λ ss. ss) c.handed ++ z)) (append-nil (c.sendable ++ c.unsynced))
+
+pub told_handing : (c d : Client) → handing c ≡ d → told d ≡ told c
+told_handing c d e = by (length c.sendable == 0) e
+  where
+    by : (b : Bool) → cond b c (record c { sendable = []; asked = 0; handed = c.handed ++ c.sendable ∷ [] }) ≡ d → told d ≡ told c
+    by true x = ap told (sym x)
+    by false x = ap told (sym x)
+        ∙ ap (map (λ (y : Shown). y.told)) (ap (λ z. z ++ c.unsynced) (flat_map-append (λ ss. ss) c.handed (c.sendable ∷ []) ∙ ap (λ z. flat_map (λ ss. ss) c.handed ++ z) (append-nil c.sendable))
+        ∙ assoc (flat_map (λ ss. ss) c.handed) c.sendable c.unsynced)
+
+handed_all : (g h : Gate) (m j : ℕ) (c d : Client) → h.entries ≡ g.entries → client_at g.clients j ≡ Some c → client_at (at_client m handing g.clients) j ≡ Some d → Hears g h c d
+handed_all g h m j c d n t k = by (m == j) refl
+  where
+    by : (b : Bool) → (m == j) ≡ b → Hears g h c d
+    by true e = quietly (nothing c d (told_handing c d (one_some (handing c) d
+        (ap (option_map handing) (sym t) ∙ (sym (at_same j handing g.clients) ∙ (ap (λ i. client_at (at_client i handing g.clients) j) (sym (eqb-true m j e)) ∙ k)))))) n
+    by false e = same_hears g h g.clients j c d n t (sym (at_other m j handing g.clients (eqb-false m j e)) ∙ k)
+
+-- ---- each event
+
+came_entries : (g : Gate) (m : ℕ) (token : List ℕ) → (happens g (presented m token)).entries ≡ g.entries
+came_entries g m token = by (role_for g m token)
+  where
+    by : (o : Option Name) → (if_some o g (came_as g m token)).entries ≡ g.entries
+    by None = refl
+    by (Some role) = ap (λ (x : Sign). x.entries) (came_sign g m token role)
+
+happens_all : Sounds → (g : Gate) (e : Event) → IsSoundGate g → (j : ℕ) (c d : Client) → client_at g.clients j ≡ Some c → c.dropped ≡ false → client_at (happens g e).clients j ≡ Some d → d.dropped ≡ false
+    → Hears g (happens g e) c d
+happens_all sounds g (presented m token) b j c d t live k s =
+    let h = happens g (presented m token) in let same = came_entries g m token in came_turns g b m token j c d t k (Hears g h c d) (λ e. quietly (nothing c d (ap told (sym e))) same) (λ es e. subst (Hears g h c) e (quietly (settled_calm es c) same))
+happens_all sounds g (message m text) b j c d t live k s = said_all sounds g b m text j c d t live k
+happens_all sounds g (gone m) b j c d t live k s =
+    let h = happens g (gone m) in let same = ap (λ (x : Sign). x.entries) (went_sign g m) in went_turns sounds g b m j c d t k (Hears g h c d) (λ e. quietly (nothing c d (ap told (sym e))) same) (λ es e. subst (Hears g h c) e (quietly (settled_calm es c) same))
+happens_all sounds g (known tokens) b j c d t live k s = quietly (nothing c d (told_checked tokens c d (every_is (checked tokens) g.clients j c d t k) s)) refl
+happens_all sounds g ticked b j c d t live k s =
+    subst (Hears g (happens g ticked) c) (every_is (beating g.entries) g.clients j c d t k) (quietly (record { more = alive ∷ []; told = told_more g.entries alive c; calm = one_calm alive refl }) refl)
+happens_all sounds g synced b j c d t live k s = quietly (nothing c d (told_released c d (every_is released g.clients j c d t k) s)) refl
+happens_all sounds g (handed m) b j c d t live k s = handed_all g (happens g (handed m)) m j c d refl t k
+happens_all sounds g failed b j c d t live k s = same_hears g (happens g failed) g.clients j c d refl t k
+
+pub next_all : Sounds → (g : Gate) (e : Event) → IsSoundGate g → (j : ℕ) (c d : Client) → client_at g.clients j ≡ Some c → c.dropped ≡ false → client_at (next g e).clients j ≡ Some d → d.dropped ≡ false
+    → Hears g (next g e) c d
+next_all sounds g e b j c d t live k s = by g.dead refl
+  where
+    by : (q : Bool) → g.dead ≡ q → Hears g (next g e) c d
+    by true q = same_hears g (next g e) g.clients j c d (ap (λ (x : Gate). x.entries) (rests g e q)) t (ap (λ (x : Gate). client_at x.clients j) (sym (rests g e q)) ∙ k)
+    by false q = subst (λ x. Hears g x c d) (sym (is_alive g e q)) (happens_all sounds g e b j c d t live (ap (λ (x : Gate). client_at x.clients j) (sym (is_alive g e q)) ∙ k) s)
+
+pub told_now : (c d : Client) (more : List Told) → told d ≡ told c ++ more → told_by c d ≡ more
+told_now c d more e = ap (drop (length (told c))) e ∙ drop_front (told c) more

@@ -1,0 +1,220 @@
+-- Which sessions there are behind an event.
+use Rattle.std.proofs.Common.{◌≡◌, ℕ, Bool, true, false, not, cond, List, [], ◌∷◌, ◌++◌, length, map, set, Option, Some, None, option_map, refl, ap, ◌∙◌, sym, subst}
+use Rattle.std.specs.Prelude.{◌==◌, ◌&&◌, filter, find, nat_lt}
+use Rattle.serde_json.specs.Data.{Data}
+use Rattle.iv_rows.specs.Options.{if_some}
+use Rattle.iv_access.specs.Rights.{Name}
+use Rattle.iv_machine.specs.Act.{Act, begin, finish, create_role, create_table, create_view, grant, revoke, grant_role, revoke_role, row_security, create_policy, drop_policy, subscribe, unsubscribe, write, Reply, done, subscribed, refused, no_session, too_many, unknown_subscription}
+use Rattle.iv_message.specs.Message.{Message, no_json, too_long, no_object, no_request, request}
+use Rattle.iv_message.specs.Told.{replied}
+use Rattle.iv_clients.specs.Bounds.{most_feeds, most_subs}
+use Rattle.iv_clients.specs.Clients.{Client, at_client, client_at, closing, followed, is_followed, may_say, moved, saying}
+use Rattle.iv_clients.specs.Feeds.{Feed, Seat, feed_for, feed_of, has_room, is_of_role, is_reading, load, room_for, seat_of, without_seat}
+use Rattle.iv_clients.specs.Journal.{line_said, said_by}
+use Rattle.iv_gate.specs.Events.{Event, presented, message, gone, known, ticked, synced, handed, failed, happens}
+use Rattle.iv_gate.specs.Gate.{Gate, acts, all_rested, all_swept, begun_for, closes, done_for, feed_begun, hears, in_session, is_needed, joined, joined_by, joins, ran, reads, reads_first, reply_to, requests, rested, role_for, said, seated, settles, shut, subscribes, swept, tells, went, with_session}
+use Rattle.iv_gate.specs.Needed.{AreSeatsBehind, BeginsAsNeeded, left, begun}
+use Rattle.iv_gate.proofs.Machine.{some_is_none}
+use Rattle.iv_gate.proofs.Touching.{came_as}
+
+all_stay : {X : Type 0} (xs : List X) → filter (λ x. true) xs ≡ xs
+all_stay [] = refl
+all_stay (x ∷ xs) = ap (λ z. x ∷ z) (all_stay xs)
+
+same : (g : Gate) → AreSeatsBehind g g.seats
+same g = subst (AreSeatsBehind g) (all_stay g.seats) (left (λ s. true))
+
+some_same : {X : Type 0} (o : Option X) (g h : Gate) (f : X → Gate) → h.seats ≡ g.seats → ((x : X) → (f x).seats ≡ g.seats) → (if_some o h f).seats ≡ g.seats
+some_same None g h f a b = a
+some_same (Some x) g h f a b = b x
+
+test_same : (t : Bool) (g h i : Gate) → h.seats ≡ g.seats → i.seats ≡ g.seats → (cond t h i).seats ≡ g.seats
+test_same true g h i a b = a
+test_same false g h i a b = b
+
+-- ---- steps that begin and finish none
+
+begun_same : (g : Gate) (m : ℕ) (id : Option Data) (n : ℕ) (role rel : Name) (r : Reply) → (feed_begun g m id n role rel r).seats ≡ g.seats
+begun_same g m id n role rel (subscribed t) = refl
+begun_same g m id n role rel done = refl
+begun_same g m id n role rel (refused r) = refl
+
+subscribes_same : (g : Gate) (m : ℕ) (id : Option Data) (n : ℕ) (role rel : Name) → (subscribes g m id n role rel).seats ≡ g.seats
+subscribes_same g m id n role rel = begun_same g m id n role rel (reply_to g (in_session n (subscribe rel)))
+
+joined_same : (g : Gate) (m : ℕ) (o p : Option Feed) → (joined g m o p).seats ≡ g.seats
+joined_same g m (Some t) (Some k) = test_same (is_reading t.role t.rel k && not (t.number == k.number)) g (shut (record g { clients = at_client m (moved t.number k.number) g.clients }) t) g refl refl
+joined_same g m (Some t) None = refl
+joined_same g m None p = refl
+
+joined_by_same : (g : Gate) (m k : ℕ) (r : Reply) → (joined_by g m k r).seats ≡ g.seats
+joined_by_same g m k (subscribed t) = joined_same g m (feed_of g.feeds t) (feed_of g.feeds k)
+joined_by_same g m k done = refl
+joined_by_same g m k (refused r) = refl
+
+joins_same : (g : Gate) (m : ℕ) (id : Option Data) (f : Feed) → (joins g m id f).seats ≡ g.seats
+joins_same g m id f =
+    joined_by_same (subscribes g m id f.session f.role f.rel) m f.number (reply_to g (in_session f.session (subscribe f.rel))) ∙ subscribes_same g m id f.session f.role f.rel
+
+swept_same : (g : Gate) (k : ℕ) → (swept g k).seats ≡ g.seats
+swept_same g k = test_same (is_followed k g.clients) g g (if_some (feed_of g.feeds k) g (shut g)) refl (some_same (feed_of g.feeds k) g g (shut g) refl (λ f. refl))
+
+all_swept_same : (g : Gate) (ks : List ℕ) → (all_swept g ks).seats ≡ g.seats
+all_swept_same g [] = refl
+all_swept_same g (k ∷ ks) = all_swept_same (swept g k) ks ∙ swept_same g k
+
+closes_same : (g : Gate) (m : ℕ) (c : Client) (id : Option Data) (own : ℕ) → (closes g m c id own).seats ≡ g.seats
+closes_same g m c id own =
+    some_same (followed c own) g (tells g m (replied id (refused unknown_subscription))) (λ k. swept (tells (record g { clients = at_client m (closing own) g.clients }) m (replied id done)) k)
+    refl (λ k. swept_same (tells (record g { clients = at_client m (closing own) g.clients }) m (replied id done)) k)
+
+other_same : (g : Gate) (m : ℕ) (c : Client) (id : Option Data) (text : List ℕ) (act : Act) (o : Option ℕ)
+    → (if_some o (tells g m (replied id (refused no_session))) (requests g m id (record { role = c.role; line = line_said text; act = act }))).seats ≡ g.seats
+other_same g m c id text act o = some_same o g (tells g m (replied id (refused no_session))) (requests g m id (record { role = c.role; line = line_said text; act = act })) refl (λ n. refl)
+
+-- ---- steps that begin one
+
+by_same : (g : Gate) (xs : List Seat) → xs ≡ g.seats → AreSeatsBehind g xs
+by_same g xs e = subst (AreSeatsBehind g) (sym e) (same g)
+
+by_one : (g h : Gate) (n : ℕ) (role : Name) → room_for g.seats g.feeds role ≡ None → h.seats ≡ g.seats ++ record { session = n; role = role } ∷ [] → AreSeatsBehind g h.seats
+by_one g h n role r e = subst (AreSeatsBehind g) (sym e) (begun (record { session = n; role = role }) r)
+
+first_behind : (g : Gate) (m : ℕ) (id : Option Data) (role rel : Name) → AreSeatsBehind g (reads_first g m id role rel).seats
+first_behind g m id role rel = by (room_for g.seats g.feeds role) refl
+  where
+    further : room_for g.seats g.feeds role ≡ None → (o : Option ℕ) → AreSeatsBehind g (if_some o (tells g m (replied id (refused too_many))) (λ n. subscribes (seated g n role) m id n role rel)).seats
+    further r None = same g
+    further r (Some n) = by_one g (subscribes (seated g n role) m id n role rel) n role r (subscribes_same (seated g n role) m id n role rel)
+
+    by : (o : Option ℕ) → room_for g.seats g.feeds role ≡ o
+        → AreSeatsBehind g (if_some o (if_some (begun_for g role) (tells g m (replied id (refused too_many))) (λ n. subscribes (seated g n role) m id n role rel)) (λ n. subscribes g m id n role rel)).seats
+    by None r = further r (begun_for g role)
+    by (Some n) r = by_same g (subscribes g m id n role rel).seats (subscribes_same g m id n role rel)
+
+reads_behind : (g : Gate) (m : ℕ) (c : Client) (id : Option Data) (rel : Name) → AreSeatsBehind g (reads g m c id rel).seats
+reads_behind g m c id rel = test (nat_lt (length c.subs) most_subs)
+  where
+    by : (o : Option Feed) → AreSeatsBehind g (if_some o (reads_first g m id c.role rel) (joins g m id)).seats
+    by None = first_behind g m id c.role rel
+    by (Some f) = by_same g (joins g m id f).seats (joins_same g m id f)
+
+    test : (t : Bool) → AreSeatsBehind g (cond t (if_some (feed_for g.feeds c.role rel) (reads_first g m id c.role rel) (joins g m id)) (tells g m (replied id (refused too_many)))).seats
+    test true = by (feed_for g.feeds c.role rel)
+    test false = same g
+
+acts_behind : (g : Gate) (m : ℕ) (c : Client) (id : Option Data) (text : List ℕ) (act : Act) → AreSeatsBehind g (acts g m c id text act).seats
+acts_behind g m c id text (begin role) = same g
+acts_behind g m c id text finish = same g
+acts_behind g m c id text (subscribe rel) = reads_behind g m c id rel
+acts_behind g m c id text (unsubscribe own) = by_same g (closes g m c id own).seats (closes_same g m c id own)
+acts_behind g m c id text (create_role name) = by_same g _ (other_same g m c id text (create_role name) (seat_of g.seats c.role))
+acts_behind g m c id text (create_table name owner columns) = by_same g _ (other_same g m c id text (create_table name owner columns) (seat_of g.seats c.role))
+acts_behind g m c id text (create_view name owner query) = by_same g _ (other_same g m c id text (create_view name owner query) (seat_of g.seats c.role))
+acts_behind g m c id text (grant rel privileges to) = by_same g _ (other_same g m c id text (grant rel privileges to) (seat_of g.seats c.role))
+acts_behind g m c id text (revoke rel privileges to) = by_same g _ (other_same g m c id text (revoke rel privileges to) (seat_of g.seats c.role))
+acts_behind g m c id text (grant_role group to) = by_same g _ (other_same g m c id text (grant_role group to) (seat_of g.seats c.role))
+acts_behind g m c id text (revoke_role group to) = by_same g _ (other_same g m c id text (revoke_role group to) (seat_of g.seats c.role))
+acts_behind g m c id text (row_security rel enable force) = by_same g _ (other_same g m c id text (row_security rel enable force) (seat_of g.seats c.role))
+acts_behind g m c id text (create_policy p) = by_same g _ (other_same g m c id text (create_policy p) (seat_of g.seats c.role))
+acts_behind g m c id text (drop_policy rel name) = by_same g _ (other_same g m c id text (drop_policy rel name) (seat_of g.seats c.role))
+acts_behind g m c id text (write entries) = by_same g _ (other_same g m c id text (write entries) (seat_of g.seats c.role))
+
+done_behind : (g : Gate) (m : ℕ) (c : Client) (text : List ℕ) (x : Message) → AreSeatsBehind g (done_for g m c text x).seats
+done_behind g m c text no_json = same g
+done_behind g m c text too_long = same g
+done_behind g m c text no_object = same g
+done_behind g m c text (no_request id why) = same g
+done_behind g m c text (request id act) = acts_behind g m c id text act
+
+-- of two gateways with the same sessions and feeds
+like : (g h : Gate) (xs : List Seat) → h.seats ≡ g.seats → h.feeds ≡ g.feeds → AreSeatsBehind h xs → AreSeatsBehind g xs
+like g h _ e f (left stays) = subst (AreSeatsBehind g) (ap (filter stays) (sym e)) (left stays)
+like g h _ e f (begun s r) = subst (AreSeatsBehind g) (ap (λ z. z ++ s ∷ []) (sym e)) (begun s ((λ i. room_for (sym e i) (sym f i) s.role) ∙ r))
+
+said_behind : (g : Gate) (m : ℕ) (text : List ℕ) → AreSeatsBehind g (said g m text).seats
+said_behind g m text = by (client_at g.clients m)
+  where
+    test : (c : Client) (t : Bool) → AreSeatsBehind g (cond t (hears g m c text) g).seats
+    test c true = let h = record g { clients = at_client m (saying text) g.clients } in like g h (done_for h m c text (said_by text)).seats refl refl (done_behind h m c text (said_by text))
+    test c false = same g
+
+    by : (o : Option Client) → AreSeatsBehind g (if_some o g (λ c. cond (may_say c) (hears g m c text) g)).seats
+    by None = same g
+    by (Some c) = test c (may_say c)
+
+-- ---- who comes, and who goes
+
+none_with_room : (fs : List Feed) (role : Name) (xs : List Seat) → seat_of xs role ≡ None → room_for xs fs role ≡ None
+none_with_room fs role [] h = refl
+none_with_room fs role (x ∷ xs) h = by (is_of_role role x) refl h (none_with_room fs role xs)
+  where
+    by : (b : Bool) → is_of_role role x ≡ b → option_map (λ (s : Seat). s.session) (cond b (Some x) (find (is_of_role role) xs)) ≡ None → (seat_of xs role ≡ None → room_for xs fs role ≡ None)
+        → option_map (λ (s : Seat). s.session) (cond (is_of_role role x && nat_lt (load fs x.session) most_feeds) (Some x) (find (has_room fs role) xs)) ≡ None
+    by true q w more = absurd (some_is_none x.session w)
+    by false q w more = ap (λ b. option_map (λ (s : Seat). s.session) (cond (b && nat_lt (load fs x.session) most_feeds) (Some x) (find (has_room fs role) xs))) q ∙ more w
+
+with_behind : (g : Gate) (role : Name) → AreSeatsBehind g (with_session g role).seats
+with_behind g role = by (seat_of g.seats role) refl
+  where
+    further : seat_of g.seats role ≡ None → (o : Option ℕ) → AreSeatsBehind g (if_some o g (λ n. seated g n role)).seats
+    further e None = same g
+    further e (Some n) = begun (record { session = n; role = role }) (none_with_room g.feeds role g.seats e)
+
+    by : (o : Option ℕ) → seat_of g.seats role ≡ o → AreSeatsBehind g (if_some o (if_some (begun_for g role) g (λ n. seated g n role)) (λ n. g)).seats
+    by None e = further e (begun_for g role)
+    by (Some n) e = same g
+
+came_behind : (g : Gate) (m : ℕ) (token : List ℕ) (o : Option Name) → AreSeatsBehind g (if_some o g (came_as g m token)).seats
+came_behind g m token None = same g
+came_behind g m token (Some role) = with_behind g role
+
+filter_twice : {X : Type 0} (p q : X → Bool) (xs : List X) → filter p (filter q xs) ≡ filter (λ x. q x && p x) xs
+filter_twice p q [] = refl
+filter_twice p q (x ∷ xs) = by (q x) (filter_twice p q xs)
+  where
+    by : (b : Bool) → filter p (filter q xs) ≡ filter (λ y. q y && p y) xs → filter p (cond b (x ∷ filter q xs) (filter q xs)) ≡ cond (b && p x) (x ∷ filter (λ y. q y && p y) xs) (filter (λ y. q y && p y) xs)
+    by true more = ap (λ z. cond (p x) (x ∷ z) z) more
+    by false more = more
+
+abbrev pub Left : List Seat → List Seat → Type 0
+Left xs ys = (stays : Seat → Bool) × (ys ≡ filter stays xs)
+
+rested_left : (g : Gate) (s : Seat) → Left g.seats (rested g s).seats
+rested_left g s = by (is_needed g s)
+  where
+    by : (t : Bool) → Left g.seats (cond t g (ran (record g { seats = without_seat s.session g.seats }) (in_session s.session finish))).seats
+    by true = ((λ x. true), sym (all_stay g.seats))
+    by false = ((λ x. not (s.session == x.session)), refl)
+
+all_rested_left : (g : Gate) (ss : List Seat) → Left g.seats (all_rested g ss).seats
+all_rested_left g [] = ((λ x. true), sym (all_stay g.seats))
+all_rested_left g (s ∷ ss) =
+    let a = rested_left g s in let b = all_rested_left (rested g s) ss in
+    ((λ x. a.0 x && b.0 x), b.1 ∙ (ap (filter b.0) a.1 ∙ filter_twice b.0 a.0 g.seats))
+
+went_behind : (g : Gate) (m : ℕ) → AreSeatsBehind g (went g m).seats
+went_behind g m = by (client_at g.clients m)
+  where
+    by : (o : Option Client) → AreSeatsBehind g (if_some o g (λ c. let h = all_swept (record g { clients = set g.clients m None }) (map (λ s. s.feed) c.subs) in settles (all_rested h (filter (is_of_role c.role) h.seats)))).seats
+    by None = same g
+    by (Some c) =
+        let h = all_swept (record g { clients = set g.clients m None }) (map (λ s. s.feed) c.subs) in let a = all_rested_left h (filter (is_of_role c.role) h.seats) in
+        subst (AreSeatsBehind g) (sym (a.1 ∙ ap (filter a.0) (all_swept_same (record g { clients = set g.clients m None }) (map (λ s. s.feed) c.subs)))) (left a.0)
+
+happens_behind : (g : Gate) (e : Event) → AreSeatsBehind g (happens g e).seats
+happens_behind g (presented m token) = came_behind g m token (role_for g m token)
+happens_behind g (message m text) = said_behind g m text
+happens_behind g (gone m) = went_behind g m
+happens_behind g (known tokens) = same g
+happens_behind g ticked = same g
+happens_behind g synced = same g
+happens_behind g (handed m) = same g
+happens_behind g failed = same g
+
+pub begins_as_needed : (g : Gate) (e : Event) → BeginsAsNeeded g e
+begins_as_needed g e = by g.dead
+  where
+    by : (t : Bool) → AreSeatsBehind g (cond t g (happens g e)).seats
+    by true = same g
+    by false = happens_behind g e

@@ -1,0 +1,155 @@
+-- Each event leads from a gateway that is in step with its feeds to another.
+use Rattle.std.proofs.Common.{◌≡◌, ℕ, zero, suc, Bool, true, false, cond, not, List, [], ◌∷◌, ◌++◌, length, drop, map, set, Option, Some, None, option_map, refl, ap, ◌∙◌, sym, subst}
+use Rattle.std.specs.Prelude.{◌==◌, ◌+◌, ◌&&◌, filter, nat_lt}
+use Rattle.std.proofs.lemmas.Bool.{false≢true, eqb-true, eqb-false}
+use Rattle.sha2.specs.Sha256.{sha256}
+use Rattle.iv_rows.specs.Options.{if_some}
+use Rattle.iv_access.specs.Rights.{Name}
+use Rattle.iv_message.specs.Told.{welcome}
+use Rattle.iv_clients.specs.Bounds.{most_requests, most_waiting}
+use Rattle.iv_clients.specs.Clients.{Client, Shown, Slots, answered, at_client, client_at, fresh, may_say, saying, told, waiting}
+use Rattle.iv_clients.specs.Feeds.{is_of_role, seat_of}
+use Rattle.iv_clients.specs.Journal.{said_by}
+use Rattle.iv_gate.specs.Events.{Event, presented, message, gone, known, ticked, synced, handed, failed, happens, next}
+use Rattle.iv_gate.specs.Gate.{Gate, all_rested, all_swept, begun_for, done_for, hears, role_for, said, seated, settles, tells, went, with_session}
+use Rattle.iv_gate.specs.Replies.{IsClient, replies}
+use Rattle.iv_gate.proofs.Asking.{IsHeard, done_sound, seated_sound}
+use Rattle.iv_gate.proofs.Finishing.{all_rested_sound}
+use Rattle.iv_gate.proofs.Growing.{Grown, behind_front, grows}
+use Rattle.iv_gate.proofs.Machine.{some_is_none}
+use Rattle.iv_gate.proofs.Running.{all_swept_sound, client_said, hands_sound, knowing_sound, on_disk_sound, one_sound, settles_sound, tells_sound, ticking_sound}
+use Rattle.iv_gate.proofs.Sound.{Adds, IsSoundClient, IsSoundGate, Sounds, seer}
+use Rattle.iv_gate.proofs.Touching.{at_same, came_as, one_some, set_other}
+use Rattle.iv_gate.proofs.Walking.{to_done, to_settles, to_then}
+
+some_sound : {X : Type 0} (o : Option X) (h : Gate) (f : X → Gate) → IsSoundGate h → ((x : X) → o ≡ Some x → IsSoundGate (f x)) → IsSoundGate (if_some o h f)
+some_sound None h f a b = a
+some_sound (Some x) h f a b = b x refl
+
+-- who is put where nobody was
+pub put_sound : (g : Gate) (m : ℕ) (o : Option Client) → ((c : Client) → o ≡ Some c → IsSoundClient g.machine g.feeds (seer c)) → IsSoundGate g → IsSoundGate (record g { clients = set g.clients m o })
+put_sound g m o k b = record { state = b.state; seats = b.seats; feeds = b.feeds; clients = λ j c h live. by j c h live (m == j) refl }
+  where
+    there : (slots : Slots) (i : ℕ) (c : Client) → client_at (set slots i o) i ≡ Some c → o ≡ Some c
+    there [] i c h = absurd (some_is_none c (sym h))
+    there (s ∷ ss) zero c h = h
+    there (s ∷ ss) (suc i) c h = there ss i c h
+
+    by : (j : ℕ) (c : Client) → client_at (set g.clients m o) j ≡ Some c → c.dropped ≡ false → (t : Bool) → (m == j) ≡ t → IsSoundClient g.machine g.feeds (seer c)
+    by j c h live true e = k c (there g.clients m c (ap (client_at (set g.clients m o)) (eqb-true m j e) ∙ h))
+    by j c h live false e = b.clients j c (sym (set_other m j o g.clients (eqb-false m j e)) ∙ h) live
+
+fresh_sound : (g : Gate) (role : Name) (digest : List ℕ) → IsSoundClient g.machine g.feeds (seer (fresh role digest))
+fresh_sound g role digest = record { own = tt; follows = tt; later = λ own q h. refl; unended = λ own h. refl; spent = λ own h e q. refl }
+
+with_sound : Adds → Sounds → (g : Gate) (role : Name) → IsSoundGate g → IsSoundGate (with_session g role)
+with_sound adds sounds g role b = some_sound (seat_of g.seats role) (if_some (begun_for g role) g (λ n. seated g n role)) (λ n. g)
+    (some_sound (begun_for g role) g (λ n. seated g n role) b (λ n e. seated_sound adds sounds g role n e b)) (λ n e. b)
+
+came_sound : Adds → Sounds → (g : Gate) (m : ℕ) (token : List ℕ) (role : Name) → IsSoundGate g → IsSoundGate (came_as g m token role)
+came_sound adds sounds g m token role b =
+    let h = with_session g role in let i = record h { clients = set h.clients m (Some (fresh role (sha256 token))) } in
+    settles_sound (tells i m (welcome role)) (tells_sound i m (welcome role) (record { weighs = λ own q. refl; goes_on = λ own. refl })
+    (put_sound h m (Some (fresh role (sha256 token))) (λ c e. subst (λ x. IsSoundClient h.machine h.feeds (seer x)) (one_some (fresh role (sha256 token)) c e) (fresh_sound h role (sha256 token))) (with_sound adds sounds g role b)))
+
+went_sound : Adds → Sounds → (g : Gate) (m : ℕ) → IsSoundGate g → IsSoundGate (went g m)
+went_sound adds sounds g m b = by (client_at g.clients m)
+  where
+    by : (o : Option Client) → IsSoundGate (if_some o g (λ c. let h = all_swept (record g { clients = set g.clients m None }) (map (λ s. s.feed) c.subs) in settles (all_rested h (filter (is_of_role c.role) h.seats))))
+    by None = b
+    by (Some c) =
+        let h = all_swept (record g { clients = set g.clients m None }) (map (λ s. s.feed) c.subs) in let ss = filter (is_of_role c.role) h.seats in
+        settles_sound (all_rested h ss) (all_rested_sound adds sounds h ss
+        (all_swept_sound adds sounds (record g { clients = set g.clients m None }) (map (λ s. s.feed) c.subs) (put_sound g m None (λ d e. absurd (some_is_none d (sym e))) b)))
+
+-- ---- a message
+
+same_told : (ss : List Shown) → map (λ (s : Shown). s.told) (map (λ (s : Shown). record s { answers = true }) ss) ≡ map (λ (s : Shown). s.told) ss
+same_told [] = refl
+same_told (s ∷ ss) = ap (λ z. s.told ∷ z) (same_told ss)
+
+split_told : (xs ys : List Shown) → map (λ (s : Shown). s.told) (xs ++ ys) ≡ map (λ (s : Shown). s.told) xs ++ map (λ (s : Shown). s.told) ys
+split_told [] ys = refl
+split_told (x ∷ xs) ys = ap (λ z. x.told ∷ z) (split_told xs ys)
+
+pub told_answered : (b c : Client) → Grown b c → told (answered b c) ≡ told c
+told_answered b c x =
+    split_told front (c.sendable ++ (b.unsynced ++ marked)) ∙ (ap (λ z. map (λ (s : Shown). s.told) front ++ z) (split_told c.sendable (b.unsynced ++ marked)
+    ∙ (ap (λ z. map (λ (s : Shown). s.told) c.sendable ++ z) (split_told b.unsynced marked ∙ (ap (λ z. map (λ (s : Shown). s.told) b.unsynced ++ z) (same_told (drop (length b.unsynced) c.unsynced))
+    ∙ (sym (split_told b.unsynced (drop (length b.unsynced) c.unsynced)) ∙ ap (map (λ (s : Shown). s.told)) (sym (behind_front b.unsynced x.more c.unsynced x.unsynced)))))
+    ∙ sym (split_told c.sendable c.unsynced)))
+    ∙ sym (split_told front (c.sendable ++ c.unsynced)))
+  where
+    front : List Shown
+    front = Rattle.std.specs.Prelude.flat_map (λ ss. ss) c.handed
+
+    marked : List Shown
+    marked = map (λ (s : Shown). record s { answers = true }) (drop (length b.unsynced) c.unsynced)
+
+-- it was told as many replies as it sent messages, and one to its token
+abbrev pub IsEven : Client → Type 0
+IsEven c = length (replies (told c)) ≡ length c.messages + 1
+
+hears_sound : Adds → Sounds → (g : Gate) (m : ℕ) (c : Client) (text : List ℕ) → client_at g.clients m ≡ Some c → IsEven c → IsSoundGate g → IsSoundGate (hears g m c text)
+hears_sound adds sounds g m c text t even b = one_sound (settles did) m (answered c)
+    (λ d e live. subst (λ z. IsSoundClient did.machine did.feeds (record (seer d) { told = z })) (sym (told_answered c d (grown d e))) (after.clients m d e live)) after
+  where
+    R : ℕ → Client → Client → Type 0
+    R i x y = Grown x y
+
+    asked : Gate
+    asked = record g { clients = at_client m (saying text) g.clients }
+
+    did : Gate
+    did = done_for asked m c text (said_by text)
+
+    there : client_at asked.clients m ≡ Some (saying text c)
+    there = at_same m (saying text) g.clients ∙ ap (option_map (saying text)) t
+
+    after : IsSoundGate (settles did)
+    after = settles_sound did (done_sound adds sounds asked m c text (said_by text) refl
+        (λ d e. subst (IsHeard asked m c text) (one_some (saying text c) d (sym there ∙ e)) (record { role = refl; before = c.messages; messages = refl; pending = even }))
+        (one_sound g m (saying text) (λ d e live. client_said g.machine g.feeds (seer d) text (b.clients m d e live)) b))
+
+    grown : (d : Client) → client_at (settles did).clients m ≡ Some d → Grown c d
+    grown d e =
+        let p = to_then m R (grows m) asked.clients did.clients (settles did).clients (to_done m R (grows m) asked c text (said_by text)) (to_settles m R (grows m) did) m (saying text c) there in
+        let x : Grown (saying text c) d = subst (Grown (saying text c)) (one_some p.now d (sym p.there ∙ e)) p.so in
+        record { more = x.more; handed = x.handed; sendable = x.sendable; unsynced = x.unsynced }
+
+abbrev pub AreEven : Gate → Type 0
+AreEven g = (m : ℕ) (c : Client) → IsClient g m c → IsEven c
+
+-- who is to go says nothing
+pub says_stays : (c : Client) → may_say c ≡ true → c.dropped ≡ false
+says_stays c h = by c.dropped refl h
+  where
+    by : (d : Bool) → c.dropped ≡ d → (not d && (nat_lt c.asked most_requests && nat_lt (waiting c) most_waiting)) ≡ true → c.dropped ≡ false
+    by true e k = absurd (false≢true k)
+    by false e k = e
+
+said_sound : Adds → Sounds → (g : Gate) (m : ℕ) (text : List ℕ) → AreEven g → IsSoundGate g → IsSoundGate (said g m text)
+said_sound adds sounds g m text even b = some_sound (client_at g.clients m) g (λ c. cond (may_say c) (hears g m c text) g) b (λ c e. test c e (may_say c) refl)
+  where
+    test : (c : Client) → client_at g.clients m ≡ Some c → (t : Bool) → may_say c ≡ t → IsSoundGate (cond t (hears g m c text) g)
+    test c e true t = hears_sound adds sounds g m c text e (even m c (record { there = e; stays = says_stays c t })) b
+    test c e false t = b
+
+-- ---- each event
+
+happens_sound : Adds → Sounds → (g : Gate) (e : Event) → AreEven g → IsSoundGate g → IsSoundGate (happens g e)
+happens_sound adds sounds g (presented m token) even b = some_sound (role_for g m token) g (came_as g m token) b (λ role e. came_sound adds sounds g m token role b)
+happens_sound adds sounds g (message m text) even b = said_sound adds sounds g m text even b
+happens_sound adds sounds g (gone m) even b = went_sound adds sounds g m b
+happens_sound adds sounds g (known tokens) even b = knowing_sound g tokens b
+happens_sound adds sounds g ticked even b = ticking_sound g b
+happens_sound adds sounds g synced even b = on_disk_sound g b
+happens_sound adds sounds g (handed m) even b = hands_sound g m b
+happens_sound adds sounds g failed even b = record { state = b.state; seats = b.seats; feeds = b.feeds; clients = b.clients }
+
+pub next_sound : Adds → Sounds → (g : Gate) (e : Event) → AreEven g → IsSoundGate g → IsSoundGate (next g e)
+next_sound adds sounds g e even b = by g.dead
+  where
+    by : (t : Bool) → IsSoundGate (cond t g (happens g e))
+    by true = b
+    by false = happens_sound adds sounds g e even b

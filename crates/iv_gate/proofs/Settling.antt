@@ -1,0 +1,324 @@
+-- What an event tells a client ends by one word that this is all.
+use Rattle.std.proofs.Common.{◌≡◌, ℕ, ◌⊎◌, inl, inr, Bool, true, false, cond, ◌||◌, List, [], ◌∷◌, ◌++◌, length, map, Option, Some, None, option_map, refl, ap, ◌∙◌, sym, subst, append-nil}
+use Rattle.std.specs.Prelude.{◌+◌, ◌==◌, flat_map}
+use Rattle.std.specs.List.{list_any}
+use Rattle.std.proofs.lemmas.Bool.{false≢true, eqb-true, eqb-false}
+use Rattle.iv_rows.specs.Options.{if_some}
+use Rattle.iv_access.specs.Rights.{Name}
+use Rattle.iv_machine.specs.Act.{Command, Line, reply, change, ended, subscribe, subscribed}
+use Rattle.iv_machine.specs.Machine.{Outcome, step}
+use Rattle.iv_message.specs.Told.{Told, alive, changed, granted, opened, over, replied, settled}
+use Rattle.iv_clients.specs.Clients.{Client, Sub, answered, at_client, beating, checked, client_at, dropping, following, handing, is_slow, may_say, opens, own_line, own_lines, released, saying, settling, staying, telling, told, told_one}
+use Rattle.iv_clients.specs.Feeds.{Feed, rel_read}
+use Rattle.iv_clients.specs.Journal.{Entry, said_by}
+use Rattle.iv_clients.specs.Tokens.{Token}
+use Rattle.iv_gate.specs.Events.{Event, presented, message, gone, known, ticked, synced, handed, failed, happens, next}
+use Rattle.iv_gate.specs.Gate.{Gate, columns_in, done_for, entered, feed_begun, granted_by, hears, in_session, is_accepted, next_own, reply_in, reply_to, said, settles, tells, told_of}
+use Rattle.iv_gate.specs.Laws.{EndsSettled, IsSettledBy, Settles, is_word}
+use Rattle.iv_gate.specs.Replies.{told_by}
+use Rattle.iv_gate.specs.Runs.{Runs, begins, goes_on, begins_again}
+use Rattle.iv_gate.proofs.Growing.{assoc}
+use Rattle.iv_gate.proofs.Lasting.{Starts, restored_empty, runs_sound}
+use Rattle.iv_gate.proofs.Doing.{HasAnswered, IsDone, answers, asks, opens as reads_more, all_done, told_more}
+use Rattle.iv_gate.proofs.News.{request_there, subscribe_there}
+use Rattle.iv_gate.proofs.Noticing.{came_turns, every_is, told_checked, told_handing, told_now, told_released, went_turns}
+use Rattle.iv_gate.proofs.Places.{any_of_both, or_true}
+use Rattle.iv_gate.proofs.Replying.{asked, grown_by}
+use Rattle.iv_gate.proofs.Serving.{told_answered}
+use Rattle.iv_gate.proofs.Sound.{Adds, IsSoundGate, Seer, Sounds, or_none, seer_telling}
+use Rattle.iv_gate.proofs.Touching.{alive as is_alive, at_every, at_other, at_same, one_some, rests, touched}
+use Rattle.iv_gate.proofs.Walking.{Later}
+
+-- ---- what a command tells
+
+no_words : (ts us : List Told) → list_any is_word ts ≡ false → list_any is_word us ≡ false → list_any is_word (ts ++ us) ≡ false
+no_words ts us h k = any_of_both is_word ts us ∙ (λ i. h i || k i)
+
+line_words : (feeds : List Feed) (l : Line) (s : Sub) → list_any is_word (own_line feeds l s) ≡ false
+line_words feeds (reply n r) s = refl
+line_words feeds (change n k rows) s = by (k == s.feed)
+  where
+    by : (b : Bool) → list_any is_word (cond b (changed s.own rows ∷ []) []) ≡ false
+    by true = refl
+    by false = refl
+line_words feeds (ended n k why rows) s = by (k == s.feed)
+  where
+    by : (b : Bool) → list_any is_word (cond b (over s.own (rel_read feeds k) why rows ∷ []) []) ≡ false
+    by true = refl
+    by false = refl
+
+subs_words : (feeds : List Feed) (l : Line) (xs : List Sub) → list_any is_word (flat_map (own_line feeds l) xs) ≡ false
+subs_words feeds l [] = refl
+subs_words feeds l (x ∷ xs) = no_words (own_line feeds l x) (flat_map (own_line feeds l) xs) (line_words feeds l x) (subs_words feeds l xs)
+
+lines_words : (feeds : List Feed) (ls : List Line) (xs : List Sub) → list_any is_word (own_lines feeds ls xs) ≡ false
+lines_words feeds [] xs = refl
+lines_words feeds (l ∷ ls) xs = no_words (flat_map (own_line feeds l) xs) (own_lines feeds ls xs) (subs_words feeds l xs) (lines_words feeds ls xs)
+
+grants_words : (names : List Name) → list_any is_word (map granted names) ≡ false
+grants_words [] = refl
+grants_words (n ∷ names) = grants_words names
+
+told_words : (g : Gate) (k : Command) (o : Outcome) (c : Client) → list_any is_word (told_of g k.act o c) ≡ false
+told_words g k o c = no_words (own_lines g.feeds o.lines c.subs) _ (lines_words g.feeds o.lines c.subs) (by (is_accepted (reply_in o.lines)))
+  where
+    by : (b : Bool) → list_any is_word (cond b (map granted (granted_by o.state.frame k.act c.role)) []) ≡ false
+    by true = grants_words (granted_by o.state.frame k.act c.role)
+    by false = refl
+
+-- ---- before this is all
+
+abbrev is_some_told : List Told → Bool
+is_some_told [] = false
+is_some_told (t ∷ ts) = true
+
+-- it was told no word yet, and the word that this is all is owed where it was told something
+record Owes (c d : Client) : Type 0 where
+  more : List Told
+  text : told d ≡ told c ++ more
+  plain : list_any is_word more ≡ false
+  owed : d.owed ≡ (c.owed || is_some_told more)
+
+owes_same : (c d : Client) → told d ≡ told c → d.owed ≡ c.owed → Owes c d
+owes_same c d t o = record { more = []; text = t ∙ sym (append-nil (told c)); plain = refl; owed = o ∙ sym (or_none c.owed) }
+
+owes_then : (b c d : Client) → Owes b c → Owes c d → Owes b d
+owes_then b c d x y = record {
+  more = x.more ++ y.more;
+  text = y.text ∙ (ap (λ z. z ++ y.more) x.text ∙ assoc (told b) x.more y.more);
+  plain = no_words x.more y.more x.plain y.plain;
+  owed = y.owed ∙ (ap (λ z. z || is_some_told y.more) x.owed ∙ by b.owed x.more);
+}
+  where
+    by : (o : Bool) (ts : List Told) → ((o || is_some_told ts) || is_some_told y.more) ≡ (o || is_some_told (ts ++ y.more))
+    by true ts = refl
+    by false [] = refl
+    by false (t ∷ ts) = refl
+
+-- it is told one thing that is no word
+owes_one : (t : Told) (c d : Client) → is_word t ≡ false → told d ≡ told c ++ t ∷ [] → d.owed ≡ true → Owes c d
+owes_one t c d h e o = record { more = t ∷ []; text = e; plain = ap (λ z. z || false) h; owed = o ∙ sym (or_true c.owed) }
+
+owed_telling : (es : List Entry) (ts : List Told) (c : Client) → (telling es ts c).owed ≡ (c.owed || is_some_told ts)
+owed_telling es [] c = sym (or_none c.owed)
+owed_telling es (t ∷ ts) c = owed_telling es ts (told_one es t c) ∙ sym (or_true c.owed)
+
+owes_ran : (g : Gate) (k : Command) (c : Client) → Owes c (staying (step g.machine k).lines (telling g.entries (told_of g k.act (step g.machine k) c) c))
+owes_ran g k c = let ts = told_of g k.act (step g.machine k) c in record {
+  more = told_of g k.act (step g.machine k) c;
+  text = ap (λ (v : Seer). v.told) (seer_telling g.entries ts c);
+  plain = told_words g k (step g.machine k) c;
+  owed = owed_telling g.entries ts c;
+}
+
+-- ---- what is done for a message
+
+answer_owes : (g : Gate) (m : ℕ) (h : Gate) → HasAnswered g m h → (j : ℕ) (x : Client) → client_at g.clients j ≡ Some x → Later (λ n c d. Owes c d) h.clients j x
+answer_owes g m h a j x t = by (m == j) refl
+  where
+    by : (b : Bool) → (m == j) ≡ b → Later (λ n c d. Owes c d) h.clients j x
+    by true q =
+        let same = eqb-true m j q in
+        record {
+          now = a.change x;
+          there = ap (λ z. client_at z j) a.clients ∙ (ap (λ n. client_at (at_client n a.change g.clients) j) same ∙ (at_same j a.change g.clients ∙ ap (option_map a.change) t));
+          so = owes_one a.text x (a.change x) a.plain (a.told x) (a.owed x);
+        }
+    by false q = record { now = x; there = ap (λ z. client_at z j) a.clients ∙ (at_other m j a.change g.clients (eqb-false m j q) ∙ t); so = owes_same x x refl refl }
+
+done_owes : (g : Gate) (m : ℕ) (a : Client) (h : Gate) → IsDone g m a h → (j : ℕ) (x : Client) → client_at g.clients j ≡ Some x → Later (λ n c d. Owes c d) h.clients j x
+done_owes g m a h (answers r) j x t = answer_owes g m h r j x t
+done_owes g m a h (asks id e n s heard same) j x t =
+    let text = replied id (reply_to g (in_session n e.act)) in
+    let before = tells (entered g e (is_accepted (reply_to g (in_session n e.act)))) m text in
+    let first = told_one before.entries text x in
+    subst (λ (i : Gate). Later (λ n c d. Owes c d) i.clients j x) (sym same)
+    (request_there g m id e n s heard Owes j x t
+    (λ own. owes_then x first _ (owes_one text x first refl (told_more before.entries text x) refl) (owes_ran before (in_session n e.act) first))
+    (λ ne. owes_ran before (in_session n e.act) x))
+done_owes g m a h (reads_more r) j x t =
+    let i = r.first in let k = in_session r.session (subscribe r.rel) in let n = i.machine.frame.last + 1 in
+    let h0 = feed_begun i m r.id r.session r.role r.rel (subscribed n) in
+    let text = opened r.id (next_own i m) (columns_in i.machine r.rel) in
+    let first = following n (told_one i.entries text x) in
+    let ran = owes_ran h0 k first in
+    subscribe_there g m a h r Owes j x t
+    (λ same. owes_then x _ _ (owes_then x first _ (owes_one text x first refl (told_more i.entries text x) refl) ran) (owes_same _ _ (r.behind.told _) (r.behind.owed _)))
+    (λ ne. owes_ran h0 k x)
+
+-- ---- and then this is all
+
+-- it was told nothing, or something and that this is all
+record Ends (c d : Client) : Type 0 where
+  more : List Told
+  text : told d ≡ told c ++ more
+  ends : (more ≡ []) ⊎ EndsSettled more
+  owed : d.owed ≡ false
+
+ends_same : (c d : Client) → told d ≡ told c → d.owed ≡ false → Ends c d
+ends_same c d t o = record { more = []; text = t ∙ sym (append-nil (told c)); ends = inl refl; owed = o }
+
+ends_settled : (es : List Entry) (c d : Client) → c.owed ≡ false → Owes c d → Ends c (settling es d)
+ends_settled es c d o x = by x.more x.text x.plain d.owed refl (x.owed ∙ ap (λ z. z || is_some_told x.more) o)
+  where
+    by : (ts : List Told) → told d ≡ told c ++ ts → list_any is_word ts ≡ false → (b : Bool) → d.owed ≡ b → d.owed ≡ is_some_told ts → Ends c (cond b (record (told_one es settled d) { owed = false }) d)
+    by [] t p true e f = absurd (false≢true (sym f ∙ e))
+    by [] t p false e f = ends_same c d (t ∙ append-nil (told c)) e
+    by (s ∷ ts) t p true e f = record {
+      more = (s ∷ ts) ++ settled ∷ [];
+      text = told_more es settled d ∙ (ap (λ z. z ++ settled ∷ []) t ∙ assoc (told c) (s ∷ ts) (settled ∷ []));
+      ends = inr (record { first = s; more = ts; all = refl; plain = p });
+      owed = refl;
+    }
+    by (s ∷ ts) t p false e f = absurd (false≢true (sym e ∙ f))
+
+ends_as : (c d e : Client) → Ends c d → told e ≡ told d → e.owed ≡ d.owed → Ends c e
+ends_as c d e x t o = record { more = x.more; text = t ∙ x.text; ends = x.ends; owed = o ∙ x.owed }
+
+module _ (sounds : Sounds) (g : Gate) (b : IsSoundGate g) (m : ℕ) (text : List ℕ) where
+  abbrev did : Client → Gate
+  did a = done_for (asked g m text) m a text (said_by text)
+
+  heard_ends : (a : Client) (j : ℕ) (x : Client) → client_at (asked g m text).clients j ≡ Some x → x.owed ≡ false → Later (λ n c d. Ends c d) (settles (did a)).clients j x
+  heard_ends a j x t o =
+      let p = done_owes (asked g m text) m a (did a) (all_done sounds (asked g m text) m a text (said_by text) b.state refl) j x t in
+      record {
+        now = settling (did a).entries p.now;
+        there = at_every (settling (did a).entries) (did a).clients j ∙ ap (option_map (settling (did a).entries)) p.there;
+        so = ends_settled (did a).entries x p.now o p.so;
+      }
+
+  own_ends : (c d : Client) → client_at g.clients m ≡ Some c → c.owed ≡ false → client_at (hears g m c text).clients m ≡ Some d → Ends c d
+  own_ends c d t o k =
+      let there : client_at (asked g m text).clients m ≡ Some (saying text c) = at_same m (saying text) g.clients ∙ ap (option_map (saying text)) t in
+      let p = heard_ends c m (saying text c) there o in
+      let last : client_at (hears g m c text).clients m ≡ Some (answered c p.now) = at_same m (answered c) (settles (did c)).clients ∙ ap (option_map (answered c)) p.there in
+      let x : Ends c p.now = record { more = p.so.more; text = p.so.text; ends = p.so.ends; owed = p.so.owed } in
+      subst (Ends c) (one_some (answered c p.now) d (sym last ∙ k)) (ends_as c p.now (answered c p.now) x (told_answered c p.now (grown_by g m c text p.now there p.there)) refl)
+
+  other_ends : (a : Client) (j : ℕ) (c d : Client) → (m ≡ j → ⊥) → client_at g.clients j ≡ Some c → c.owed ≡ false → client_at (hears g m a text).clients j ≡ Some d → Ends c d
+  other_ends a j c d ne t o k =
+      let p = heard_ends a j c (at_other m j (saying text) g.clients ne ∙ t) o in
+      subst (Ends c) (one_some p.now d (sym p.there ∙ (sym (at_other m j (answered a) (settles (did a)).clients ne) ∙ k))) p.so
+
+  said_ends : (j : ℕ) (c d : Client) → client_at g.clients j ≡ Some c → c.owed ≡ false → client_at (said g m text).clients j ≡ Some d → Ends c d
+  said_ends j c d t o k = by (m == j) refl
+    where
+      same : client_at g.clients j ≡ Some d → Ends c d
+      same x = let e = one_some c d (sym t ∙ x) in ends_same c d (ap told (sym e)) (ap (λ (z : Client). z.owed) (sym e) ∙ o)
+
+      own : m ≡ j → Ends c d
+      own e = this (may_say c) (sym (ap (λ z. client_at (if_some z g (λ a. cond (may_say a) (hears g m a text) g)).clients m) at) ∙ (ap (client_at (said g m text).clients) e ∙ k))
+        where
+          at : client_at g.clients m ≡ Some c
+          at = ap (client_at g.clients) e ∙ t
+
+          this : (q : Bool) → client_at (cond q (hears g m c text) g).clients m ≡ Some d → Ends c d
+          this true x = own_ends c d at o x
+          this false x = same (sym (ap (client_at g.clients) e) ∙ x)
+
+      test : (m ≡ j → ⊥) → (a : Client) (q : Bool) → client_at (cond q (hears g m a text) g).clients j ≡ Some d → Ends c d
+      test ne a true x = other_ends a j c d ne t o x
+      test ne a false x = same x
+
+      other : (m ≡ j → ⊥) → (z : Option Client) → client_at (if_some z g (λ a. cond (may_say a) (hears g m a text) g)).clients j ≡ Some d → Ends c d
+      other ne None x = same x
+      other ne (Some a) x = test ne a (may_say a) x
+
+      by : (q : Bool) → (m == j) ≡ q → Ends c d
+      by true e = own (eqb-true m j e)
+      by false e = other (eqb-false m j e) (client_at g.clients m) k
+
+-- ---- each event
+
+-- who is there is told what the event settles, if it is not to go, and is owed nothing
+record IsTold (e : Event) (c d : Client) : Type 0 where
+  told : d.dropped ≡ false → IsSettledBy e (told_by c d)
+  owed : d.owed ≡ false
+
+-- where the same is told
+told_none : (c d : Client) → told d ≡ told c → told_by c d ≡ []
+told_none c d e = told_now c d [] (e ∙ sym (append-nil (told c)))
+
+is_told : (e : Event) (c d : Client) → IsSettledBy e [] → (d.dropped ≡ false → told d ≡ told c) → d.owed ≡ c.owed → c.owed ≡ false → IsTold e c d
+is_told e c d n t o h = record { told = λ s. subst (IsSettledBy e) (sym (told_none c d (t s))) n; owed = o ∙ h }
+
+still_told : (e : Event) (c d : Client) → IsSettledBy e [] → c ≡ d → c.owed ≡ false → IsTold e c d
+still_told e c d n same h = is_told e c d n (λ s. ap told (sym same)) (ap (λ (x : Client). x.owed) (sym same)) h
+
+-- who is owed nothing is not told that this is all
+settling_none : (es : List Entry) (c : Client) → c.owed ≡ false → settling es c ≡ c
+settling_none es c h = ap (λ b. cond b (record (told_one es settled c) { owed = false }) c) h
+
+owed_dropping : (b : Bool) (c d : Client) → d.owed ≡ c.owed → (cond b (dropping c) d).owed ≡ c.owed
+owed_dropping true c d h = refl
+owed_dropping false c d h = h
+
+owed_checked : (tokens : List Token) (c : Client) → (checked tokens c).owed ≡ c.owed
+owed_checked tokens c = by (opens tokens c)
+  where
+    by : (b : Bool) → (cond b c (dropping c)).owed ≡ c.owed
+    by true = refl
+    by false = refl
+
+owed_handing : (c : Client) → (handing c).owed ≡ c.owed
+owed_handing c = by (length c.sendable == 0)
+  where
+    by : (b : Bool) → (cond b c (record c { sendable = []; asked = 0; handed = c.handed ++ c.sendable ∷ [] })).owed ≡ c.owed
+    by true = refl
+    by false = refl
+
+by_message : (m : ℕ) (text : List ℕ) (c d : Client) → Ends c d → IsTold (message m text) c d
+by_message m text c d x = record { told = λ s. subst (λ z. (z ≡ []) ⊎ EndsSettled z) (sym (told_now c d x.more x.text)) x.ends; owed = x.owed }
+
+happens_told : Sounds → (g : Gate) (e : Event) → IsSoundGate g → (j : ℕ) (c d : Client) → client_at g.clients j ≡ Some c → c.owed ≡ false → client_at (happens g e).clients j ≡ Some d → IsTold e c d
+happens_told sounds g (presented m token) b j c d t o k =
+    came_turns g b m token j c d t k (IsTold (presented m token) c d) (λ e. still_told (presented m token) c d refl e o) (λ es e. still_told (presented m token) c d refl (sym (settling_none es c o) ∙ e) o)
+happens_told sounds g (message m text) b j c d t o k = by_message m text c d (said_ends sounds g b m text j c d t o k)
+happens_told sounds g (gone m) b j c d t o k =
+    went_turns sounds g b m j c d t k (IsTold (gone m) c d) (λ e. still_told (gone m) c d refl e o) (λ es e. still_told (gone m) c d refl (sym (settling_none es c o) ∙ e) o)
+happens_told sounds g (known tokens) b j c d t o k =
+    let e = every_is (checked tokens) g.clients j c d t k in
+    is_told (known tokens) c d refl (told_checked tokens c d e) (ap (λ (x : Client). x.owed) (sym e) ∙ owed_checked tokens c) o
+happens_told sounds g ticked b j c d t o k =
+    subst (IsTold ticked c) (every_is (beating g.entries) g.clients j c d t k) (record { told = λ s. told_now c (beating g.entries c) (alive ∷ []) (told_more g.entries alive c); owed = o })
+happens_told sounds g synced b j c d t o k =
+    let e = every_is released g.clients j c d t k in
+    is_told synced c d refl (told_released c d e)
+    (ap (λ (x : Client). x.owed) (sym e) ∙ owed_dropping (c.dropped || is_slow c) c (record c { unsynced = []; sendable = c.sendable ++ c.unsynced }) refl) o
+happens_told sounds g (handed m) b j c d t o k = by (m == j) refl
+  where
+    by : (q : Bool) → (m == j) ≡ q → IsTold (handed m) c d
+    by true q =
+        let e = one_some (handing c) d (ap (option_map handing) (sym t) ∙ (sym (at_same j handing g.clients) ∙ (ap (λ i. client_at (at_client i handing g.clients) j) (sym (eqb-true m j q)) ∙ k))) in
+        is_told (handed m) c d refl (λ s. told_handing c d e) (ap (λ (x : Client). x.owed) (sym e) ∙ owed_handing c) o
+    by false q = still_told (handed m) c d refl (one_some c d (sym t ∙ (sym (at_other m j handing g.clients (eqb-false m j q)) ∙ k))) o
+happens_told sounds g failed b j c d t o k = still_told failed c d refl (one_some c d (sym t ∙ k)) o
+
+-- ---- over runs
+
+abbrev OwesNothing : Gate → Type 0
+OwesNothing g = (m : ℕ) (c : Client) → client_at g.clients m ≡ Some c → c.owed ≡ false
+
+next_told : Sounds → (g : Gate) (e : Event) → IsSoundGate g → g.dead ≡ false → (j : ℕ) (c d : Client) → client_at g.clients j ≡ Some c → c.owed ≡ false → client_at (next g e).clients j ≡ Some d → IsTold e c d
+next_told sounds g e b live j c d t o k = happens_told sounds g e b j c d t o (ap (λ (x : Gate). client_at x.clients j) (sym (is_alive g e live)) ∙ k)
+
+next_owes : Sounds → (g : Gate) (e : Event) → IsSoundGate g → OwesNothing g → OwesNothing (next g e)
+next_owes sounds g e b a j d k = by g.dead refl
+  where
+    there : g.dead ≡ false → (o : Option Client) → client_at g.clients j ≡ o → d.owed ≡ false
+    there live None h = ap (λ (x : Client). x.owed) ((touched g e live).comes j d h k).is
+    there live (Some c) h = (next_told sounds g e b live j c d h (a j c h) k).owed
+
+    by : (q : Bool) → g.dead ≡ q → d.owed ≡ false
+    by true q = a j d (ap (λ (x : Gate). client_at x.clients j) (sym (rests g e q)) ∙ k)
+    by false q = there q (client_at g.clients j) refl
+
+runs_owe : Adds → Starts → Sounds → (cap : ℕ) (g : Gate) → Runs cap g → OwesNothing g
+runs_owe adds starts sounds cap _ (begins tokens most journal g r) m c x = absurd (restored_empty cap tokens most [] journal g r m c x)
+runs_owe adds starts sounds cap _ (goes_on h e r) m c x = next_owes sounds h e (runs_sound adds starts sounds cap h r) (runs_owe adds starts sounds cap h r) m c x
+runs_owe adds starts sounds cap _ (begins_again h disk tokens most i r l y) m c x = absurd (restored_empty cap tokens most h.sent disk i y m c x)
+
+pub runs_settle : Adds → Starts → Sounds → (cap : ℕ) (g : Gate) (e : Event) → Runs cap g → g.dead ≡ false → Settles g e
+runs_settle adds starts sounds cap g e r live m c d x y =
+    (next_told sounds g e (runs_sound adds starts sounds cap g r) live m c d x.there (runs_owe adds starts sounds cap g r m c x.there) y.there).told y.stays

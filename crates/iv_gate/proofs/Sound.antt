@@ -1,0 +1,437 @@
+-- A command of the machine keeps what clients were told in step with what their feeds show.
+use Rattle.std.proofs.Common.{◌≡◌, ℕ, ◌<◌, ◌≤◌, Bool, true, false, not, cond, ◌||◌, List, [], ◌∷◌, ◌++◌, Option, Some, None, option_map, map, refl, ap, ◌∙◌, sym, subst, arith, pos}
+use Rattle.std.specs.Prelude.{◌==◌, ◌+◌, filter, flat_map, length, slice_get, ◌+ℤ◌}
+use Rattle.std.specs.List.{AllByRecursion, list_any}
+use Rattle.std.proofs.lemmas.List.{append-nil}
+use Rattle.std.proofs.lemmas.Bool.{false≢true, eqb-true}
+use Rattle.serde_json.specs.Data.{Data}
+use Rattle.iv_rows.specs.Cell.{Cell}
+use Rattle.iv_rows.specs.Columns.{Column}
+use Rattle.iv_zset.specs.Limits.{copies}
+use Rattle.iv_bind.specs.Catalogs.{named}
+use Rattle.iv_access.specs.Rights.{Name}
+use Rattle.iv_machine.specs.Act.{Command, Line, Refusal, reply, change, ended, subscribe}
+use Rattle.iv_machine.specs.Held.{held, closed_in}
+use Rattle.iv_machine.specs.Machine.{outcome, step, weight}
+use Rattle.iv_machine.specs.Reached.{AddsUp, AreNumbersUnique}
+use Rattle.iv_machine.specs.Refusing.{refusal}
+use Rattle.iv_machine.specs.Sound.{IsSoundState}
+use Rattle.iv_machine.specs.State.{State, rel_of, shown, subscription_of}
+use Rattle.iv_message.specs.Message.{request}
+use Rattle.iv_message.specs.Told.{Told, changed, opened, over, granted}
+use Rattle.iv_clients.specs.Clients.{Client, Shown, Sub, all_shown, client_at, own_line, own_lines, staying, telling, told, told_one}
+use Rattle.iv_clients.specs.Feeds.{Feed, ends_in, feed_of, feeds_left, is_end, rel_read}
+use Rattle.iv_clients.specs.Journal.{Entry, said_by}
+use Rattle.iv_gate.specs.Gate.{Gate, granted_by, is_accepted, ran, reply_in, told_of}
+use Rattle.iv_gate.specs.Replies.{ActsAs, replies}
+use Rattle.iv_gate.specs.Seen.{is_end_of}
+use Rattle.iv_gate.proofs.Ending.{ended_shows_none}
+use Rattle.iv_gate.proofs.Growing.{assoc, map_front}
+use Rattle.iv_gate.proofs.Machine.{acts_after, found_after, found_settled, found_given, is_kept, number_kept, some_is_none, still_named}
+use Rattle.iv_gate.proofs.Places.{get_more, replies_both}
+use Rattle.iv_gate.proofs.Summing.{AreOwn, all_add_lines, both, differs_back, grants_weigh_nothing, moved_on, neither, none_above, none_told, nothing_more, sum-append, sum_for}
+use Rattle.iv_gate.proofs.Touching.{at_every}
+
+-- ---- ends
+
+pub or_none : (b : Bool) → (b || false) ≡ b
+or_none true = refl
+or_none false = refl
+
+pub any_more : {X : Type 0} (p : X → Bool) (xs ys : List X) → list_any p (xs ++ ys) ≡ (list_any p xs || list_any p ys)
+any_more p [] ys = refl
+any_more p (x ∷ xs) ys = by (p x) (any_more p xs ys)
+  where
+    by : (b : Bool) → list_any p (xs ++ ys) ≡ (list_any p xs || list_any p ys) → (b || list_any p (xs ++ ys)) ≡ ((b || list_any p xs) || list_any p ys)
+    by true h = refl
+    by false h = h
+
+-- of what is told of a line an end of a number is one of its feed
+line_ends : (own : ℕ) (feeds : List Feed) (l : Line) (s : Sub) → is_end s.feed l ≡ false → list_any (is_end_of own) (own_line feeds l s) ≡ false
+line_ends own feeds (reply n r) s h = refl
+line_ends own feeds (change n k rows) s h = by (k == s.feed)
+  where
+    by : (b : Bool) → list_any (is_end_of own) (cond b (changed s.own rows ∷ []) []) ≡ false
+    by true = refl
+    by false = refl
+line_ends own feeds (ended n k why rows) s h = ap (λ b. list_any (is_end_of own) (cond b (over s.own (rel_read feeds k) why rows ∷ []) [])) (differs_back s.feed k h)
+
+other_ends : (own : ℕ) (feeds : List Feed) (l : Line) (s : Sub) → (own == s.own) ≡ false → list_any (is_end_of own) (own_line feeds l s) ≡ false
+other_ends own feeds (reply n r) s h = refl
+other_ends own feeds (change n k rows) s h = by (k == s.feed)
+  where
+    by : (b : Bool) → list_any (is_end_of own) (cond b (changed s.own rows ∷ []) []) ≡ false
+    by true = refl
+    by false = refl
+other_ends own feeds (ended n k why rows) s h = by (k == s.feed)
+  where
+    by : (b : Bool) → list_any (is_end_of own) (cond b (over s.own (rel_read feeds k) why rows ∷ []) []) ≡ false
+    by true = ap (λ b. b || false) h
+    by false = refl
+
+-- a number is told no end by a line where each that is it follows what the line does not end
+abbrev pub Apart : Line → ℕ → Sub → Type 0
+Apart l own s = (own == s.own) ≡ true → is_end s.feed l ≡ false
+
+line_quiet : (own : ℕ) (feeds : List Feed) (l : Line) (xs : List Sub) → AllByRecursion (Apart l own) xs → list_any (is_end_of own) (flat_map (own_line feeds l) xs) ≡ false
+line_quiet own feeds l [] a = refl
+line_quiet own feeds l (x ∷ xs) a =
+    any_more (is_end_of own) (own_line feeds l x) (flat_map (own_line feeds l) xs) ∙ (λ i. by (own == x.own) refl i || line_quiet own feeds l xs a.1 i)
+  where
+    by : (b : Bool) → (own == x.own) ≡ b → list_any (is_end_of own) (own_line feeds l x) ≡ false
+    by true e = line_ends own feeds l x (a.0 e)
+    by false e = other_ends own feeds l x e
+
+lines_quiet : (own : ℕ) (feeds : List Feed) (ls : List Line) (xs : List Sub) → AllByRecursion (λ s. (own == s.own) ≡ true → ends_in ls s.feed ≡ false) xs
+    → list_any (is_end_of own) (own_lines feeds ls xs) ≡ false
+lines_quiet own feeds [] xs a = refl
+lines_quiet own feeds (l ∷ ls) xs a =
+    any_more (is_end_of own) (flat_map (own_line feeds l) xs) (own_lines feeds ls xs)
+    ∙ (λ i. line_quiet own feeds l xs (parts xs a).0 i || lines_quiet own feeds ls xs (parts xs a).1 i)
+  where
+    parts : (ys : List Sub) → AllByRecursion (λ s. (own == s.own) ≡ true → ends_in (l ∷ ls) s.feed ≡ false) ys
+        → AllByRecursion (Apart l own) ys × AllByRecursion (λ s. (own == s.own) ≡ true → ends_in ls s.feed ≡ false) ys
+    parts [] b = (tt, tt)
+    parts (y ∷ ys) b = let p = parts ys b.1 in ((λ e. (neither (is_end y.feed l) (ends_in ls y.feed) (b.0 e)).0, p.0), (λ e. (neither (is_end y.feed l) (ends_in ls y.feed) (b.0 e)).1, p.1))
+
+grants_end_nothing : (own : ℕ) (names : List Name) → list_any (is_end_of own) (map granted names) ≡ false
+grants_end_nothing own [] = refl
+grants_end_nothing own (n ∷ names) = grants_end_nothing own names
+
+-- the feeds without those that end
+pub left_of : (ends : ℕ → Bool) (k : ℕ) (f : Feed) (feeds : List Feed) → feed_of feeds k ≡ Some f → ends k ≡ false → feed_of (filter (λ (x : Feed). not (ends x.number)) feeds) k ≡ Some f
+left_of ends k f [] h e = h
+left_of ends k f (x ∷ xs) h e = by (ends x.number) refl (k == x.number) refl h (λ g. left_of ends k f xs g e)
+  where
+    by : (b : Bool) → ends x.number ≡ b → (d : Bool) → (k == x.number) ≡ d → cond d (Some x) (feed_of xs k) ≡ Some f
+        → (feed_of xs k ≡ Some f → feed_of (filter (λ (y : Feed). not (ends y.number)) xs) k ≡ Some f)
+        → feed_of (cond (not b) (x ∷ filter (λ (y : Feed). not (ends y.number)) xs) (filter (λ (y : Feed). not (ends y.number)) xs)) k ≡ Some f
+    by true q true r g more = absurd (false≢true (sym e ∙ (ap ends (eqb-true k x.number r) ∙ q)))
+    by true q false r g more = more g
+    by false q true r g more = ap (λ z. cond z (Some x) (feed_of (filter (λ (y : Feed). not (ends y.number)) xs) k)) r ∙ g
+    by false q false r g more = ap (λ z. cond z (Some x) (feed_of (filter (λ (y : Feed). not (ends y.number)) xs) k)) r ∙ more g
+
+-- ---- what is looked at of a client
+
+pub record Seer : Type 0 where
+  pub role : Name
+  pub given : ℕ
+  pub subs : List Sub
+  pub told : List Told
+  pub messages : List (List ℕ)
+
+abbrev pub seer : Client → Seer
+seer c = record { role = c.role; given = c.given; subs = c.subs; told = told c; messages = c.messages }
+
+shown_one : (c : Client) (s : Shown) → flat_map (λ ss. ss) c.handed ++ (c.sendable ++ (c.unsynced ++ s ∷ [])) ≡ all_shown c ++ s ∷ []
+shown_one c s =
+    ap (λ z. flat_map (λ ss. ss) c.handed ++ z) (sym (assoc c.sendable c.unsynced (s ∷ []))) ∙ sym (assoc (flat_map (λ ss. ss) c.handed) (c.sendable ++ c.unsynced) (s ∷ []))
+
+pub seer_one : (es : List Entry) (t : Told) (c : Client) → seer (told_one es t c) ≡ record (seer c) { told = told c ++ t ∷ [] }
+seer_one es t c =
+    ap (λ z. record (seer c) { told = z })
+    (ap (map (λ (s : Shown). s.told)) (shown_one c (record { told = t; entries = es; answers = false }))
+    ∙ map_front (λ (s : Shown). s.told) (all_shown c) (record { told = t; entries = es; answers = false } ∷ []))
+
+pub seer_telling : (es : List Entry) (ts : List Told) (c : Client) → seer (telling es ts c) ≡ record (seer c) { told = told c ++ ts }
+seer_telling es [] c = ap (λ z. record (seer c) { told = z }) (sym (append-nil (told c)))
+seer_telling es (t ∷ ts) c =
+    seer_telling es ts (told_one es t c)
+    ∙ (ap (λ (v : Seer). record v { told = v.told ++ ts }) (seer_one es t c) ∙ ap (λ z. record (seer c) { told = z }) (assoc (told c) (t ∷ []) ts))
+
+-- ---- what keeps views
+
+-- the subscription is open, in a session of the role, to the relation
+pub record IsFeed (s : State) (f : Feed) : Type 0 where
+  pub rel : ℕ
+  pub found : subscription_of s.frame.subscriptions f.number ≡ Some (record { session = f.session; number = f.number; rel = rel })
+  pub there : rel ≡ rel_of s.frame.catalog f.rel
+  pub known : Rattle.std.specs.Prelude.is_some (named s.frame.catalog f.rel) ≡ true
+  pub acts : ActsAs s f.session f.role
+
+-- the reply to a message that asked the relation gave the number
+pub record IsAskedIn (messages : List (List ℕ)) (ts : List Told) (own : ℕ) (rel : Name) : Type 0 where
+  pub place : ℕ
+  pub id : Option Data
+  pub columns : List Column
+  pub text : List ℕ
+  pub there : slice_get messages place ≡ Some text
+  pub asks : said_by text ≡ request id (subscribe rel)
+  pub reply : slice_get (replies ts) (place + 1) ≡ Some (opened id own columns)
+
+pub asked_told : (messages : List (List ℕ)) (ts us : List Told) (own : ℕ) (rel : Name) → IsAskedIn messages ts own rel → IsAskedIn messages (ts ++ us) own rel
+asked_told messages ts us own rel a = record {
+  place = a.place;
+  id = a.id;
+  columns = a.columns;
+  text = a.text;
+  there = a.there;
+  asks = a.asks;
+  reply = ap (λ z. slice_get z (a.place + 1)) (replies_both ts us) ∙ get_more (replies ts) (replies us) (a.place + 1) (opened a.id own a.columns) a.reply;
+}
+
+pub asked_said : (messages : List (List ℕ)) (text : List ℕ) (ts : List Told) (own : ℕ) (rel : Name) → IsAskedIn messages ts own rel → IsAskedIn (messages ++ text ∷ []) ts own rel
+asked_said messages text ts own rel a = record {
+  place = a.place;
+  id = a.id;
+  columns = a.columns;
+  text = a.text;
+  there = get_more messages (text ∷ []) a.place a.text a.there;
+  asks = a.asks;
+  reply = a.reply;
+}
+
+-- it follows a feed of its role, whose relation it asked, was told no end, and what it was told adds up to what the feed shows
+pub record IsFollowing (s : State) (feeds : List Feed) (v : Seer) (x : Sub) : Type 0 where
+  pub feed : Feed
+  pub found : feed_of feeds x.feed ≡ Some feed
+  pub role : feed.role ≡ v.role
+  pub asked : IsAskedIn v.messages v.told x.own feed.rel
+  pub goes_on : list_any (is_end_of x.own) v.told ≡ false
+  pub sum : (q : List Cell) → sum_for x.own q v.told ≡ pos (copies q (shown s x.feed))
+
+pub record IsSoundClient (s : State) (feeds : List Feed) (v : Seer) : Type 0 where
+  pub own : AreOwn v.given v.subs
+  pub follows : AllByRecursion (IsFollowing s feeds v) v.subs
+  -- nothing was told yet for a number that is not given yet
+  pub later : (own : ℕ) (q : List Cell) → v.given < own → sum_for own q v.told ≡ pos 0
+  pub unended : (own : ℕ) → v.given < own → list_any (is_end_of own) v.told ≡ false
+  -- what was told of a number that ended adds up to nothing
+  pub spent : (own : ℕ) → list_any (λ (y : Sub). own == y.own) v.subs ≡ false → list_any (is_end_of own) v.told ≡ true → (q : List Cell) → sum_for own q v.told ≡ pos 0
+
+-- who is to go is told nothing more
+abbrev pub AreSoundClients : Gate → Type 0
+AreSoundClients g = (m : ℕ) (c : Client) → client_at g.clients m ≡ Some c → c.dropped ≡ false → IsSoundClient g.machine g.feeds (seer c)
+
+pub record IsSoundGate (g : Gate) : Type 0 where
+  pub state : IsSoundState g.machine
+  pub seats : AllByRecursion (λ s. ActsAs g.machine s.session s.role) g.seats
+  pub feeds : AllByRecursion (IsFeed g.machine) g.feeds
+  pub clients : AreSoundClients g
+
+-- ---- one command
+
+-- the command does not close subscription j
+abbrev pub Spares : State → Command → ℕ → Type 0
+Spares s k j = list_any (λ i. j == i) (closed_in s k (refusal s k.session k.act)) ≡ false
+
+abbrev pub Adds : Type 0
+Adds = (s : State) (cs : List Command) → AreNumbersUnique s.frame → AddsUp s cs
+
+abbrev pub Sounds : Type 0
+Sounds = (s : State) (c : Command) → IsSoundState s → IsSoundState (step s c).state
+
+pub one_adds : Adds → (s : State) (k : Command) (j : ℕ) (q : List Cell) → AreNumbersUnique s.frame → Spares s k j
+    → held j q (step s k).lines ≡ weight (shown s j) (shown (step s k).state j) q
+one_adds adds s k j q h n =
+    ap (held j q) (sym (append-nil (step s k).lines))
+    ∙ adds s (k ∷ []) h j q (ap (list_any (λ i. j == i)) (append-nil (closed_in s k (refusal s k.session k.act))) ∙ n)
+
+feed_by : (s : State) (k : Command) (o : Option Refusal) (f : Feed) → AreNumbersUnique s.frame → is_kept k.act ≡ true → list_any (λ i. f.number == i) (closed_in s k o) ≡ false
+    → ends_in (outcome s k o).lines f.number ≡ false → IsFeed s f → IsFeed (outcome s k o).state f
+feed_by s k (Some r) f u a c e b = record { rel = b.rel; found = b.found; there = b.there; known = b.known; acts = b.acts }
+feed_by s k None f u a c e b =
+    let still = still_named s.frame k.act f.rel b.known in
+    record {
+      rel = b.rel;
+      found = found_settled s k.session k.act f.number _ (found_after s.frame k.session k.act f.number _ a (found_given s.frame.last f.number _ s.frame.subscriptions u.given b.found) c b.found) e;
+      there = b.there ∙ sym (number_kept s.frame.catalog _ f.rel still b.known);
+      known = still.known;
+      acts = acts_after s f.session f.role k.session k.act b.acts a;
+    }
+
+pub feed_step : (s : State) (k : Command) (f : Feed) → AreNumbersUnique s.frame → is_kept k.act ≡ true → Spares s k f.number → ends_in (step s k).lines f.number ≡ false → IsFeed s f → IsFeed (step s k).state f
+feed_step s k f u a c e b = feed_by s k (refusal s k.session k.act) f u a c e b
+
+-- ---- a client
+
+pub filter_all : {X : Type 0} (P : X → Type 0) (q : X → Bool) (xs : List X) → AllByRecursion (λ x. q x ≡ false → P x) xs → AllByRecursion P (filter (λ x. not (q x)) xs)
+filter_all P q [] a = tt
+filter_all P q (x ∷ xs) a = by (q x) refl (filter_all P q xs a.1)
+  where
+    by : (b : Bool) → q x ≡ b → AllByRecursion P (filter (λ y. not (q y)) xs) → AllByRecursion P (cond (not b) (x ∷ filter (λ y. not (q y)) xs) (filter (λ y. not (q y)) xs))
+    by true e more = more
+    by false e more = (a.0 e, more)
+
+pub any_left : (own : ℕ) (q : Sub → Bool) (xs : List Sub) → list_any (λ (y : Sub). own == y.own) xs ≡ false → list_any (λ (y : Sub). own == y.own) (filter q xs) ≡ false
+any_left own q [] h = refl
+any_left own q (x ∷ xs) h = let e = neither (own == x.own) (list_any (λ (y : Sub). own == y.own) xs) h in by (q x) e.0 (any_left own q xs e.1)
+  where
+    by : (b : Bool) → (own == x.own) ≡ false → list_any (λ (y : Sub). own == y.own) (filter q xs) ≡ false → list_any (λ (y : Sub). own == y.own) (cond b (x ∷ filter q xs) (filter q xs)) ≡ false
+    by true a more = (λ i. a i || more i)
+    by false a more = more
+
+pub own_left : (given : ℕ) (q : Sub → Bool) (xs : List Sub) → AreOwn given xs → AreOwn given (filter q xs)
+own_left given q [] h = tt
+own_left given q (x ∷ xs) h = by (q x) (own_left given q xs h.2)
+  where
+    by : (b : Bool) → AreOwn given (filter q xs) → AreOwn given (cond b (x ∷ filter q xs) (filter q xs))
+    by true more = (h.0, any_left x.own q xs h.1, more)
+    by false more = more
+
+-- a number stands once, so what is not ended for it is ended for none that is it
+apart_of : (ls : List Line) (given : ℕ) (xs : List Sub) → AreOwn given xs
+    → AllByRecursion (λ (x : Sub). ends_in ls x.feed ≡ false → AllByRecursion (λ (s : Sub). (x.own == s.own) ≡ true → ends_in ls s.feed ≡ false) xs) xs
+apart_of ls given [] h = tt
+apart_of ls given (x ∷ xs) h = ((λ e. (λ _. e, none x.own xs h.1)), rest xs h.1 (apart_of ls given xs h.2))
+  where
+    none : (own : ℕ) (ys : List Sub) → list_any (λ (y : Sub). own == y.own) ys ≡ false → AllByRecursion (λ (s : Sub). (own == s.own) ≡ true → ends_in ls s.feed ≡ false) ys
+    none own [] n = tt
+    none own (y ∷ ys) n = let e = neither (own == y.own) (list_any (λ (z : Sub). own == z.own) ys) n in ((λ t. absurd (false≢true (sym e.0 ∙ t))), none own ys e.1)
+
+    rest : (ys : List Sub) → list_any (λ (y : Sub). x.own == y.own) ys ≡ false
+        → AllByRecursion (λ (y : Sub). ends_in ls y.feed ≡ false → AllByRecursion (λ (s : Sub). (y.own == s.own) ≡ true → ends_in ls s.feed ≡ false) xs) ys
+        → AllByRecursion (λ (y : Sub). ends_in ls y.feed ≡ false → AllByRecursion (λ (s : Sub). (y.own == s.own) ≡ true → ends_in ls s.feed ≡ false) (x ∷ xs)) ys
+    rest [] n a = tt
+    rest (y ∷ ys) n a =
+        let e = neither (x.own == y.own) (list_any (λ (z : Sub). x.own == z.own) ys) n in
+        ((λ t. ((λ w. absurd (false≢true (sym (differs_back x.own y.own e.0) ∙ w))), a.0 t)), rest ys e.1 a.1)
+
+above_apart : (ls : List Line) (given own : ℕ) (xs : List Sub) → AreOwn given xs → given < own → AllByRecursion (λ (s : Sub). (own == s.own) ≡ true → ends_in ls s.feed ≡ false) xs
+above_apart ls given own [] h k = tt
+above_apart ls given own (x ∷ xs) h k = ((λ e. absurd (no given own x.own h.0 k (eqb-true own x.own e))), above_apart ls given own xs h.2 k)
+  where
+    no : (given own x : ℕ) → x ≤ given → given < own → own ≡ x → ⊥
+    no given own x a b e = omega (arith, a, b, e)
+
+none_apart : (ls : List Line) (own : ℕ) (ys : List Sub) → list_any (λ (y : Sub). own == y.own) ys ≡ false → AllByRecursion (λ (s : Sub). (own == s.own) ≡ true → ends_in ls s.feed ≡ false) ys
+none_apart ls own [] n = tt
+none_apart ls own (y ∷ ys) n = let e = neither (own == y.own) (list_any (λ (z : Sub). own == z.own) ys) n in ((λ t. absurd (false≢true (sym e.0 ∙ t))), none_apart ls own ys e.1)
+
+-- a number that is there and is not kept is one of what goes
+pub record IsTaken (P : Sub → Type 0) (q : Sub → Bool) (own : ℕ) : Type 0 where
+  pub sub : Sub
+  pub own_is : own ≡ sub.own
+  pub goes : q sub ≡ true
+  pub so : P sub
+
+pub taken : (P : Sub → Type 0) (q : Sub → Bool) (own : ℕ) (xs : List Sub) → AllByRecursion P xs → list_any (λ (y : Sub). own == y.own) xs ≡ true
+    → list_any (λ (y : Sub). own == y.own) (filter (λ x. not (q x)) xs) ≡ false → IsTaken P q own
+taken P q own [] a h k = absurd (false≢true h)
+taken P q own (x ∷ xs) a h k = by (own == x.own) (q x) refl refl h k (taken P q own xs a.1)
+  where
+    by : (b d : Bool) → (own == x.own) ≡ b → q x ≡ d → (b || list_any (λ (y : Sub). own == y.own) xs) ≡ true
+        → list_any (λ (y : Sub). own == y.own) (cond (not d) (x ∷ filter (λ y. not (q y)) xs) (filter (λ y. not (q y)) xs)) ≡ false
+        → (list_any (λ (y : Sub). own == y.own) xs ≡ true → list_any (λ (y : Sub). own == y.own) (filter (λ y. not (q y)) xs) ≡ false → IsTaken P q own) → IsTaken P q own
+    by true true e f g i more = record { sub = x; own_is = eqb-true own x.own e; goes = f; so = a.0 }
+    by true false e f g i more = absurd (false≢true (sym (neither (own == x.own) _ i).0 ∙ e))
+    by false true e f g i more = more g i
+    by false false e f g i more = more g (neither (own == x.own) _ i).1
+
+-- a client behind the lines, and what else it is told that has no row and no end
+pub client_step : Adds → (s : State) (k : Command) (feeds : List Feed) (v : Seer) (more : List Told) → AreNumbersUnique s.frame
+    → ((j : ℕ) (f : Feed) → feed_of feeds j ≡ Some f → Spares s k j)
+    → ((own : ℕ) (q : List Cell) → sum_for own q more ≡ pos 0) → ((own : ℕ) → list_any (is_end_of own) more ≡ false) → IsSoundClient s feeds v
+    → IsSoundClient (step s k).state (feeds_left (step s k).lines feeds)
+    (record v { subs = filter (λ x. not (ends_in (step s k).lines x.feed)) v.subs; told = v.told ++ (own_lines feeds (step s k).lines v.subs ++ more) })
+client_step adds s k feeds v more u spared weighs ends b = record {
+  own = own_left v.given (λ x. not (ends_in ls x.feed)) v.subs b.own;
+  follows = filter_all (IsFollowing (step s k).state (feeds_left ls feeds) new) (λ x. ends_in ls x.feed) v.subs
+      (both {P = IsFollowing s feeds v} {Q = λ x. ((q : List Cell) → sum_for x.own q (own_lines feeds ls v.subs) ≡ held x.feed q ls) × (ends_in ls x.feed ≡ false → AllByRecursion (λ (y : Sub). (x.own == y.own) ≡ true → ends_in ls y.feed ≡ false) v.subs)}
+      {R = λ x. ends_in ls x.feed ≡ false → IsFollowing (step s k).state (feeds_left ls feeds) new x}
+      (λ x a c e. record {
+        feed = a.feed;
+        found = left_of (ends_in ls) x.feed a.feed feeds a.found e;
+        role = a.role;
+        asked = asked_told v.messages v.told (own_lines feeds ls v.subs ++ more) x.own a.feed.rel a.asked;
+        goes_on = ended_more x.own (lines_quiet x.own feeds ls v.subs (c.1 e)) a.goes_on;
+        sum = adds_to x a (λ q. c.0 q);
+      }) v.subs b.follows (both (λ x y z. (y, z)) v.subs (all_add_lines feeds ls v.given v.subs b.own) (apart_of ls v.given v.subs b.own)));
+  later = λ own q h. summed own q ∙ (nothing_more _ _ (none_above feeds ls v.given own q v.subs b.own h) ∙ b.later own q h);
+  unended = λ own h. ended_more own (lines_quiet own feeds ls v.subs (above_apart ls v.given own v.subs b.own h)) (b.unended own h);
+  spent = λ own h e q. went own h e q (list_any (λ (y : Sub). own == y.own) v.subs) refl;
+}
+  where
+    ls : List Line
+    ls = (step s k).lines
+
+    new : Seer
+    new = record v { subs = filter (λ x. not (ends_in (step s k).lines x.feed)) v.subs; told = v.told ++ (own_lines feeds (step s k).lines v.subs ++ more) }
+
+    summed : (own : ℕ) (q : List Cell) → sum_for own q (v.told ++ (own_lines feeds ls v.subs ++ more)) ≡ sum_for own q v.told +ℤ sum_for own q (own_lines feeds ls v.subs)
+    summed own q =
+        sum-append own q v.told (own_lines feeds ls v.subs ++ more)
+        ∙ ap (λ z. sum_for own q v.told +ℤ z) (sum-append own q (own_lines feeds ls v.subs) more ∙ nothing_more _ _ (weighs own q))
+
+    ended_more : (own : ℕ) → list_any (is_end_of own) (own_lines feeds ls v.subs) ≡ false → list_any (is_end_of own) v.told ≡ false
+        → list_any (is_end_of own) (v.told ++ (own_lines feeds ls v.subs ++ more)) ≡ false
+    ended_more own h t =
+        any_more (is_end_of own) v.told (own_lines feeds ls v.subs ++ more)
+        ∙ (λ i. t i || (any_more (is_end_of own) (own_lines feeds ls v.subs) more ∙ (λ j. h j || ends own j)) i)
+
+    adds_to : (x : Sub) → IsFollowing s feeds v x → ((q : List Cell) → sum_for x.own q (own_lines feeds (step s k).lines v.subs) ≡ held x.feed q (step s k).lines)
+        → (q : List Cell) → sum_for x.own q (v.told ++ (own_lines feeds (step s k).lines v.subs ++ more)) ≡ pos (copies q (shown (step s k).state x.feed))
+    adds_to x a c q = summed x.own q
+        ∙ ((λ i. a.sum q i +ℤ (c q ∙ one_adds adds s k x.feed q u (spared x.feed a.feed a.found)) i) ∙ moved_on (pos (copies q (shown s x.feed))) (pos (copies q (shown (step s k).state x.feed))))
+
+    -- each that it followed adds up to what is shown now
+    all_to : AllByRecursion (λ (x : Sub). (q : List Cell) → sum_for x.own q (v.told ++ (own_lines feeds (step s k).lines v.subs ++ more)) ≡ pos (copies q (shown (step s k).state x.feed))) v.subs
+    all_to = both {P = IsFollowing s feeds v} {Q = λ x. (q : List Cell) → sum_for x.own q (own_lines feeds (step s k).lines v.subs) ≡ held x.feed q (step s k).lines}
+        {R = λ x. (q : List Cell) → sum_for x.own q (v.told ++ (own_lines feeds (step s k).lines v.subs ++ more)) ≡ pos (copies q (shown (step s k).state x.feed))}
+        (λ x a c q. adds_to x a c q) v.subs b.follows (all_add_lines feeds ls v.given v.subs b.own)
+
+    went : (own : ℕ) → list_any (λ (y : Sub). own == y.own) (filter (λ x. not (ends_in (step s k).lines x.feed)) v.subs) ≡ false
+        → list_any (is_end_of own) (v.told ++ (own_lines feeds (step s k).lines v.subs ++ more)) ≡ true → (q : List Cell) → (t : Bool) → list_any (λ (y : Sub). own == y.own) v.subs ≡ t
+        → sum_for own q (v.told ++ (own_lines feeds (step s k).lines v.subs ++ more)) ≡ pos 0
+    went own h e q true t =
+        let x = taken (λ (x : Sub). (q : List Cell) → sum_for x.own q (v.told ++ (own_lines feeds (step s k).lines v.subs ++ more)) ≡ pos (copies q (shown (step s k).state x.feed)))
+        (λ x. ends_in (step s k).lines x.feed) own v.subs all_to t h in
+        ap (λ i. sum_for i q (v.told ++ (own_lines feeds (step s k).lines v.subs ++ more))) x.own_is
+        ∙ (x.so q ∙ ap (λ rows. pos (copies q rows)) (ended_shows_none s k x.sub.feed u x.goes))
+    went own h e q false t =
+        let quiet = lines_quiet own feeds (step s k).lines v.subs (none_apart (step s k).lines own v.subs t) in
+        let rest = any_more (is_end_of own) (own_lines feeds (step s k).lines v.subs) more ∙ (λ i. quiet i || ends own i) in
+        let before : list_any (is_end_of own) v.told ≡ true = sym (or_none (list_any (is_end_of own) v.told))
+        ∙ (sym (any_more (is_end_of own) v.told (own_lines feeds (step s k).lines v.subs ++ more) ∙ ap (λ z. list_any (is_end_of own) v.told || z) rest) ∙ e) in
+        summed own q ∙ (nothing_more _ _ (none_told feeds (step s k).lines own q v.subs t) ∙ b.spent own t before q)
+
+-- ---- a gateway
+
+-- before a command: its feeds are not closed by it, and those that it does not end stand behind it
+pub record IsReady (g : Gate) (k : Command) : Type 0 where
+  pub state : IsSoundState g.machine
+  pub seats : AllByRecursion (λ s. ActsAs (step g.machine k).state s.session s.role) g.seats
+  pub feeds : AllByRecursion (λ f. ends_in (step g.machine k).lines f.number ≡ false → IsFeed (step g.machine k).state f) g.feeds
+  pub spared : (j : ℕ) (f : Feed) → feed_of g.feeds j ≡ Some f → Spares g.machine k j
+  pub clients : AreSoundClients g
+
+told_quiet : (own : ℕ) (q : List Cell) (b : Bool) (names : List Name) → (sum_for own q (cond b (map granted names) []) ≡ pos 0) × (list_any (is_end_of own) (cond b (map granted names) []) ≡ false)
+told_quiet own q true names = (grants_weigh_nothing own q names, grants_end_nothing own names)
+told_quiet own q false names = (refl, refl)
+
+pub telling_dropped : (es : List Entry) (ts : List Told) (c : Client) → (telling es ts c).dropped ≡ c.dropped
+telling_dropped es [] c = refl
+telling_dropped es (t ∷ ts) c = telling_dropped es ts (told_one es t c)
+
+pub record IsFrom (f : Client → Client) (o : Option Client) (new : Client) : Type 0 where
+  pub old : Client
+  pub there : o ≡ Some old
+  pub same : f old ≡ new
+
+pub from : (f : Client → Client) (o : Option Client) (new : Client) → option_map f o ≡ Some new → IsFrom f o new
+from f None new h = absurd (some_is_none new (sym h))
+from f (Some c) new h = record { old = c; there = refl; same = cc }
+
+pub ran_ready : Adds → Sounds → (g : Gate) (k : Command) → IsReady g k → IsSoundGate (ran g k)
+ran_ready adds sounds g k r = record {
+  state = sounds g.machine k r.state;
+  seats = r.seats;
+  feeds = filter_all (IsFeed (step g.machine k).state) (λ (f : Feed). ends_in (step g.machine k).lines f.number) g.feeds r.feeds;
+  clients = λ m c h live. one m c (from hears (client_at g.clients m) c (sym (at_every hears g.clients m) ∙ h)) live;
+}
+  where
+    hears : Client → Client
+    hears c = staying (step g.machine k).lines (telling g.entries (told_of g k.act (step g.machine k) c) c)
+
+    seen : (c : Client) → seer (hears c)
+        ≡ record (seer c) { subs = filter (λ x. not (ends_in (step g.machine k).lines x.feed)) c.subs; told = told c ++ told_of g k.act (step g.machine k) c }
+    seen c = ap (λ (v : Seer). record v { subs = filter (λ x. not (ends_in (step g.machine k).lines x.feed)) v.subs }) (seer_telling g.entries (told_of g k.act (step g.machine k) c) c)
+
+    one : (m : ℕ) (c : Client) → IsFrom hears (client_at g.clients m) c → c.dropped ≡ false → IsSoundClient (step g.machine k).state (feeds_left (step g.machine k).lines g.feeds) (seer c)
+    one m c o live =
+        let b = o.old in
+        let stays : b.dropped ≡ false = sym (telling_dropped g.entries (told_of g k.act (step g.machine k) b) b) ∙ (ap (λ (x : Client). x.dropped) o.same ∙ live) in
+        let test = is_accepted (reply_in (step g.machine k).lines) in let names = granted_by (step g.machine k).state.frame k.act b.role in
+        subst (λ v. IsSoundClient (step g.machine k).state (feeds_left (step g.machine k).lines g.feeds) v) (sym (seen b) ∙ ap seer o.same)
+        (client_step adds g.machine k g.feeds (seer b) (cond test (map granted names) []) r.state.numbers r.spared
+        (λ own q. (told_quiet own q test names).0) (λ own. (told_quiet own [] test names).1) (r.clients m b o.there stays))

@@ -1,0 +1,450 @@
+-- Each event leaves its marks, and touches clients as it says.
+use Rattle.std.proofs.Common.{◌≡◌, ℕ, zero, suc, Bool, true, false, cond, ◌||◌, not, List, [], ◌∷◌, ◌++◌, length, map, set, Option, Some, None, option_map, is_some, refl, ap, ◌∙◌, sym, append-nil}
+use Rattle.std.specs.Prelude.{◌==◌, ◌&&◌, filter, option_and_then}
+use Rattle.std.proofs.lemmas.Bool.{false≢true, eqb-true, eqb-false}
+use Rattle.sha2.specs.Sha256.{sha256}
+use Rattle.iv_rows.specs.Names.{is_name}
+use Rattle.iv_rows.specs.Options.{if_some}
+use Rattle.iv_access.specs.Rights.{Name}
+use Rattle.iv_message.specs.Told.{welcome}
+use Rattle.iv_clients.specs.Clients.{Client, Slots, at_all, at_client, beating, checked, client_at, dropping, fresh, handing, is_free, is_slow, may_say, opens, released, saying, settling, told_one}
+use Rattle.iv_clients.specs.Feeds.{is_of_role}
+use Rattle.iv_clients.specs.Journal.{Entry, said_by}
+use Rattle.iv_clients.specs.Tokens.{Token, role_opened}
+use Rattle.iv_gate.specs.Events.{Event, presented, message, gone, known, ticked, synced, handed, failed, happens, next, ticking}
+use Rattle.iv_gate.specs.Gate.{Gate, all_rested, all_swept, came, has_session, hears, role_for, said, settles, tells, went, with_session}
+use Rattle.iv_gate.specs.Laws.{Marks, entries_by, marks, marks_behind, new_entries}
+use Rattle.iv_gate.specs.Touched.{AreTouched, Card, IsKept, IsNewcomer, card, card_behind, drops, is_gone}
+use Rattle.iv_gate.proofs.Signs.{Mark, marking, Sign, mark_of, marks_in, sign, sign_all_rested, sign_all_swept, sign_hears, sign_settles, sign_tells, sign_with}
+
+-- ---- slots
+
+pub some_is_none : {X : Type 0} (x : X) → Some x ≡ None → ⊥
+some_is_none x e = false≢true (sym (ap is_some e))
+
+pub at_same : {C : Type 0} (m : ℕ) (f : C → C) (slots : List (Option C)) → client_at (at_client m f slots) m ≡ option_map f (client_at slots m)
+at_same m f [] = refl
+at_same zero f (s ∷ ss) = refl
+at_same (suc m) f (s ∷ ss) = at_same m f ss
+
+pub at_other : {C : Type 0} (m j : ℕ) (f : C → C) (slots : List (Option C)) → (m ≡ j → ⊥) → client_at (at_client m f slots) j ≡ client_at slots j
+at_other m j f [] h = refl
+at_other zero zero f (s ∷ ss) h = absurd (h refl)
+at_other zero (suc j) f (s ∷ ss) h = refl
+at_other (suc m) zero f (s ∷ ss) h = refl
+at_other (suc m) (suc j) f (s ∷ ss) h = at_other m j f ss (λ e. h (ap suc e))
+
+pub at_every : {C : Type 0} (f : C → C) (slots : List (Option C)) (m : ℕ) → client_at (at_all f slots) m ≡ option_map f (client_at slots m)
+at_every f [] m = refl
+at_every f (s ∷ ss) zero = refl
+at_every f (s ∷ ss) (suc m) = at_every f ss m
+
+pub set_other : {C : Type 0} (m j : ℕ) (x : Option C) (slots : List (Option C)) → (m ≡ j → ⊥) → client_at (set slots m x) j ≡ client_at slots j
+set_other m j x [] h = refl
+set_other zero zero x (s ∷ ss) h = absurd (h refl)
+set_other zero (suc j) x (s ∷ ss) h = refl
+set_other (suc m) zero x (s ∷ ss) h = refl
+set_other (suc m) (suc j) x (s ∷ ss) h = set_other m j x ss (λ e. h (ap suc e))
+
+pub set_gone : {C : Type 0} (m : ℕ) (slots : List (Option C)) → client_at (set slots m None) m ≡ None
+set_gone m [] = refl
+set_gone zero (s ∷ ss) = refl
+set_gone (suc m) (s ∷ ss) = set_gone m ss
+
+-- a number that is free is there
+pub set_there : {C : Type 0} (m : ℕ) (c : C) (slots : List (Option C)) → is_free m slots ≡ true → client_at (set slots m (Some c)) m ≡ Some c
+set_there m c [] h = absurd (false≢true h)
+set_there zero c (s ∷ ss) h = refl
+set_there (suc m) c (s ∷ ss) h = set_there m c ss h
+
+pub not_free : {C : Type 0} (m : ℕ) (c : C) (slots : List (Option C)) → client_at slots m ≡ Some c → is_free m slots ≡ false
+not_free m c [] h = refl
+not_free zero c (Some d ∷ ss) h = refl
+not_free zero c (None ∷ ss) h = absurd (some_is_none c (sym h))
+not_free (suc m) c (s ∷ ss) h = not_free m c ss h
+
+mark_at : (slots : Slots) (j : ℕ) → client_at (marks_in slots) j ≡ option_map mark_of (client_at slots j)
+mark_at [] j = refl
+mark_at (s ∷ ss) zero = refl
+mark_at (s ∷ ss) (suc j) = mark_at ss j
+
+set_marks : (m : ℕ) (x : Option Client) (slots : Slots) → marks_in (set slots m x) ≡ set (marks_in slots) m (option_map mark_of x)
+set_marks m x [] = refl
+set_marks zero x (s ∷ ss) = refl
+set_marks (suc m) x (s ∷ ss) = ap (λ z. option_map mark_of s ∷ z) (set_marks m x ss)
+
+-- ---- one client
+
+pub record Marked (slots : Slots) (j : ℕ) (k : Mark) : Type 0 where
+  pub now : Client
+  pub there : client_at slots j ≡ Some now
+  pub mark : mark_of now ≡ k
+
+marked_by : (o : Option Client) (slots : Slots) (j : ℕ) (k : Mark) → client_at slots j ≡ o → option_map mark_of o ≡ Some k → Marked slots j k
+marked_by None slots j k h e = absurd (some_is_none k (sym e))
+marked_by (Some c) slots j k h e = record { now = c; there = h; mark = cc }
+
+marked : (slots : Slots) (j : ℕ) (k : Mark) → client_at (marks_in slots) j ≡ Some k → Marked slots j k
+marked slots j k h = marked_by (client_at slots j) slots j k refl (sym (mark_at slots j) ∙ h)
+
+-- the card is the client's, and it is dropped
+abbrev pub mark_behind : ℕ → Client → Event → Mark
+mark_behind m c e = (marking (card_behind m c e) (c.dropped || drops c e))
+
+kept_of : (g : Gate) (e : Event) (m : ℕ) (c : Client) → Marked (next g e).clients m (mark_behind m c e) → IsKept g e m c
+kept_of g e m c x = record { now = x.now; there = x.there; card = ap (λ (k : Mark). k.card) x.mark; dropped = ap (λ (k : Mark). k.dropped) x.mark }
+
+-- where marks are the same, and where another client's are changed
+same_marked : (g h : Gate) (j : ℕ) (c : Client) (k : Mark) → client_at g.clients j ≡ Some c → marks_in h.clients ≡ marks_in g.clients → mark_of c ≡ k → Marked h.clients j k
+same_marked g h j c k t e s = marked h.clients j k (ap (λ z. client_at z j) e ∙ (mark_at g.clients j ∙ (ap (option_map mark_of) t ∙ ap Some s)))
+
+or_false : (b : Bool) → (b || false) ≡ b
+or_false true = refl
+or_false false = refl
+
+or_true : (b : Bool) → (b || true) ≡ true
+or_true true = refl
+or_true false = refl
+
+-- ---- each event, of one that is not dead
+
+pub alive : (g : Gate) (e : Event) → g.dead ≡ false → next g e ≡ happens g e
+alive g e h = ap (λ b. cond b g (happens g e)) h
+
+pub rests : (g : Gate) (e : Event) → g.dead ≡ true → next g e ≡ g
+rests g e h = ap (λ b. cond b g (happens g e)) h
+
+-- a message
+
+pub said_slots : (g : Gate) (m : ℕ) (text : List ℕ) → marks_in (said g m text).clients
+    ≡ if_some (client_at g.clients m) (marks_in g.clients) (λ c. cond (may_say c) (marks_in (at_client m (saying text) g.clients)) (marks_in g.clients))
+said_slots g m text = by (client_at g.clients m)
+  where
+    heard : (c : Client) (b : Bool) → marks_in (cond b (hears g m c text) g).clients ≡ cond b (marks_in (at_client m (saying text) g.clients)) (marks_in g.clients)
+    heard c true = ap (λ (s : Sign). s.slots) (sign_hears g m c text)
+    heard c false = refl
+
+    by : (o : Option Client) → marks_in (if_some o g (λ c. cond (may_say c) (hears g m c text) g)).clients
+        ≡ if_some o (marks_in g.clients) (λ c. cond (may_say c) (marks_in (at_client m (saying text) g.clients)) (marks_in g.clients))
+    by None = refl
+    by (Some c) = heard c (may_say c)
+
+test_same : {X Y : Type 0} (f : X → Y) (b : Bool) (x y : X) (z : Y) → f x ≡ z → f y ≡ z → f (cond b x y) ≡ z
+test_same f true x y z h k = h
+test_same f false x y z h k = k
+
+said_at : (g : Gate) (m : ℕ) (text : List ℕ) (j : ℕ) (c : Client) → client_at g.clients j ≡ Some c
+    → client_at (marks_in (said g m text).clients) j ≡ Some (mark_behind j c (message m text))
+said_at g m text j c h = ap (λ z. client_at z j) (said_slots g m text) ∙ by (m == j) refl
+  where
+    before : client_at (marks_in g.clients) j ≡ Some (mark_of c)
+    before = mark_at g.clients j ∙ ap (option_map mark_of) h
+
+    dropped : (b : Bool) (k : Card) → Some ((marking k c.dropped)) ≡ Some ((marking k (c.dropped || false)))
+    dropped b k = ap (λ d. Some ((marking k d))) (sym (or_false c.dropped))
+
+    this : m ≡ j → (b : Bool) → client_at (cond b (marks_in (at_client m (saying text) g.clients)) (marks_in g.clients)) j ≡ Some ((marking (cond b (card (saying text c)) (card c)) c.dropped))
+    this e true =
+        mark_at (at_client m (saying text) g.clients) j
+        ∙ ap (option_map mark_of) (ap (λ i. client_at (at_client i (saying text) g.clients) j) e ∙ (at_same j (saying text) g.clients ∙ ap (option_map (saying text)) h))
+    this e false = before
+
+    other : (m ≡ j → ⊥) → (o : Option Client) → client_at (if_some o (marks_in g.clients) (λ d. cond (may_say d) (marks_in (at_client m (saying text) g.clients)) (marks_in g.clients))) j ≡ Some (mark_of c)
+    other ne None = before
+    other ne (Some d) = test_same (λ z. client_at z j) (may_say d) _ _ (Some (mark_of c))
+        (mark_at (at_client m (saying text) g.clients) j ∙ ap (option_map mark_of) (at_other m j (saying text) g.clients ne ∙ h)) before
+
+    by : (b : Bool) → (m == j) ≡ b
+        → client_at (if_some (client_at g.clients m) (marks_in g.clients) (λ d. cond (may_say d) (marks_in (at_client m (saying text) g.clients)) (marks_in g.clients))) j
+        ≡ Some ((marking (cond ((m == j) && may_say c) (card (saying text c)) (card c)) (c.dropped || false)))
+    by true e =
+        let same = eqb-true m j e in
+        ap (λ o. client_at (if_some o (marks_in g.clients) (λ d. cond (may_say d) (marks_in (at_client m (saying text) g.clients)) (marks_in g.clients))) j) (ap (client_at g.clients) same ∙ h)
+        ∙ (this same (may_say c) ∙ (dropped true (cond (may_say c) (card (saying text c)) (card c)) ∙ ap (λ b. Some ((marking (cond (b && may_say c) (card (saying text c)) (card c)) (c.dropped || false)))) (sym e)))
+    by false e = other (eqb-false m j e) (client_at g.clients m) ∙ (dropped false (card c) ∙ ap (λ b. Some ((marking (cond (b && may_say c) (card (saying text c)) (card c)) (c.dropped || false)))) (sym e))
+
+-- a client comes
+
+pub record Opens (g : Gate) (m : ℕ) (token : List ℕ) (role : Name) : Type 0 where
+  pub opened : role_opened g.tokens (sha256 token) ≡ Some role
+  pub free : is_free m g.clients ≡ true
+  pub session : has_session g role ≡ true
+
+and_true : (b d : Bool) → (b && d) ≡ true → (b ≡ true) × (d ≡ true)
+and_true true d h = (refl, h)
+and_true false d h = cc
+
+pub opens_role : (g : Gate) (m : ℕ) (token : List ℕ) (role : Name) → role_for g m token ≡ Some role → Opens g m token role
+opens_role g m token role h = by (role_opened g.tokens (sha256 token)) refl h
+  where
+    test : (r : Name) (b : Bool) → (is_name r && (is_free m g.clients && has_session g r)) ≡ b → role_opened g.tokens (sha256 token) ≡ Some r → cond b (Some r) None ≡ Some role → Opens g m token role
+    test r true t o e =
+        let same : r ≡ role = cc in let tests = and_true (is_free m g.clients) (has_session g r) (and_true (is_name r) (is_free m g.clients && has_session g r) t).1 in
+        record { opened = o ∙ ap Some same; free = tests.0; session = ap (has_session g) (sym same) ∙ tests.1 }
+    test r false t o e = absurd (some_is_none role (sym e))
+
+    by : (o : Option Name) → role_opened g.tokens (sha256 token) ≡ o
+        → option_and_then (λ r. cond (is_name r && (is_free m g.clients && has_session g r)) (Some r) None) o ≡ Some role → Opens g m token role
+    by None o e = absurd (some_is_none role (sym e))
+    by (Some r) o e = test r (is_name r && (is_free m g.clients && has_session g r)) refl o e
+
+-- the gateway behind it
+abbrev pub came_as : Gate → ℕ → List ℕ → Name → Gate
+came_as g m token role = let h = with_session g role in settles (tells (record h { clients = set h.clients m (Some (fresh role (sha256 token))) }) m (welcome role))
+
+pub came_sign : (g : Gate) (m : ℕ) (token : List ℕ) (role : Name) → sign (came_as g m token role) ≡ record (sign g) { slots = set (marks_in g.clients) m (Some (mark_of (fresh role (sha256 token)))) }
+came_sign g m token role =
+    let h = with_session g role in let i = record h { clients = set h.clients m (Some (fresh role (sha256 token))) } in
+    sign_settles (tells i m (welcome role)) ∙ (sign_tells i m (welcome role)
+    ∙ (ap (λ z. record (sign h) { slots = z }) (set_marks m (Some (fresh role (sha256 token))) h.clients)
+    ∙ ap (λ (s : Sign). record s { slots = set s.slots m (Some (mark_of (fresh role (sha256 token)))) }) (sign_with g role)))
+
+came_other : (g : Gate) (m : ℕ) (token : List ℕ) (j : ℕ) (o : Option Name) → role_for g m token ≡ o → ((role : Name) → role_for g m token ≡ Some role → m ≡ j → ⊥)
+    → client_at (marks_in (if_some o g (came_as g m token)).clients) j ≡ client_at (marks_in g.clients) j
+came_other g m token j None e ne = refl
+came_other g m token j (Some role) e ne =
+    ap (λ (s : Sign). client_at s.slots j) (came_sign g m token role) ∙ set_other m j (Some (mark_of (fresh role (sha256 token)))) (marks_in g.clients) (ne role e)
+
+came_at : (g : Gate) (m : ℕ) (token : List ℕ) (j : ℕ) (c : Client) → client_at g.clients j ≡ Some c → client_at (marks_in (came g m token).clients) j ≡ Some (mark_of c)
+came_at g m token j c h =
+    came_other g m token j (role_for g m token) refl
+    (λ role e same. false≢true (sym (not_free m c g.clients (ap (client_at g.clients) same ∙ h)) ∙ (opens_role g m token role e).free))
+    ∙ (mark_at g.clients j ∙ ap (option_map mark_of) h)
+
+-- one goes
+
+gone_sign : (g : Gate) (m : ℕ) (c : Client) → (ks : List ℕ) → sign (let h = all_swept (record g { clients = set g.clients m None }) ks in settles (all_rested h (filter (is_of_role c.role) h.seats)))
+    ≡ record (sign g) { slots = set (marks_in g.clients) m None }
+gone_sign g m c ks =
+    let h = all_swept (record g { clients = set g.clients m None }) ks in
+    sign_settles (all_rested h (filter (is_of_role c.role) h.seats)) ∙ (sign_all_rested h (filter (is_of_role c.role) h.seats)
+    ∙ (sign_all_swept (record g { clients = set g.clients m None }) ks ∙ ap (λ z. record (sign g) { slots = z }) (set_marks m None g.clients)))
+
+pub went_sign : (g : Gate) (m : ℕ) → sign (went g m) ≡ record (sign g) { slots = if_some (client_at g.clients m) (marks_in g.clients) (λ c. set (marks_in g.clients) m None) }
+went_sign g m = by (client_at g.clients m)
+  where
+    by : (o : Option Client) → sign (if_some o g (λ c. let h = all_swept (record g { clients = set g.clients m None }) (map (λ s. s.feed) c.subs) in settles (all_rested h (filter (is_of_role c.role) h.seats))))
+        ≡ record (sign g) { slots = if_some o (marks_in g.clients) (λ c. set (marks_in g.clients) m None) }
+    by None = refl
+    by (Some c) = gone_sign g m c (map (λ s. s.feed) c.subs)
+
+went_other : (g : Gate) (m j : ℕ) → (m ≡ j → ⊥) → client_at (marks_in (went g m).clients) j ≡ client_at (marks_in g.clients) j
+went_other g m j ne = ap (λ (s : Sign). client_at s.slots j) (went_sign g m) ∙ by (client_at g.clients m)
+  where
+    by : (o : Option Client) → client_at (if_some o (marks_in g.clients) (λ c. set (marks_in g.clients) m None)) j ≡ client_at (marks_in g.clients) j
+    by None = refl
+    by (Some c) = set_other m j None (marks_in g.clients) ne
+
+went_gone : (g : Gate) (m : ℕ) → client_at (marks_in (went g m).clients) m ≡ None
+went_gone g m = ap (λ (s : Sign). client_at s.slots m) (went_sign g m) ∙ by (client_at g.clients m) refl
+  where
+    by : (o : Option Client) → client_at g.clients m ≡ o → client_at (if_some o (marks_in g.clients) (λ c. set (marks_in g.clients) m None)) m ≡ None
+    by None e = mark_at g.clients m ∙ ap (option_map mark_of) e
+    by (Some c) e = set_gone m (marks_in g.clients)
+
+-- all are changed, or one
+
+every_at : (f : Client → Client) (slots : Slots) (j : ℕ) (c : Client) → client_at slots j ≡ Some c → client_at (marks_in (at_all f slots)) j ≡ Some (mark_of (f c))
+every_at f slots j c h = mark_at (at_all f slots) j ∙ ap (option_map mark_of) (at_every f slots j ∙ ap (option_map f) h)
+
+checked_mark : (tokens : List Token) (c : Client) → mark_of (checked tokens c) ≡ (marking (card c) (c.dropped || not (opens tokens c)))
+checked_mark tokens c = by (opens tokens c)
+  where
+    by : (b : Bool) → mark_of (cond b c (dropping c)) ≡ (marking (card c) (c.dropped || not b))
+    by true = ap (λ d. (marking (card c) d)) (sym (or_false c.dropped))
+    by false = ap (λ d. (marking (card c) d)) (sym (or_true c.dropped))
+
+released_mark : (c : Client) → mark_of (released c) ≡ (marking (card c) (c.dropped || is_slow c))
+released_mark c = by (c.dropped) refl (is_slow c)
+  where
+    by : (b : Bool) → c.dropped ≡ b → (d : Bool) → mark_of (cond (b || d) (dropping c) (record c { unsynced = []; sendable = c.sendable ++ c.unsynced })) ≡ (marking (card c) (b || d))
+    by true e d = refl
+    by false e true = refl
+    by false e false = ap (λ z. (marking (card c) z)) e
+
+handed_at : (g : Gate) (m j : ℕ) (c : Client) → client_at g.clients j ≡ Some c → client_at (marks_in (at_client m handing g.clients)) j ≡ Some (mark_behind j c (handed m))
+handed_at g m j c h = mark_at (at_client m handing g.clients) j ∙ by (m == j) refl
+  where
+    card_by : Bool → Card
+    card_by b = cond b (card (handing c)) (card c)
+
+    whole : (b : Bool) → mark_of (cond b c (record c { sendable = []; asked = 0; handed = c.handed ++ c.sendable ∷ [] })) ≡ (marking (card (cond b c (record c { sendable = []; asked = 0; handed = c.handed ++ c.sendable ∷ [] }))) (c.dropped || false))
+    whole true = ap (λ d. (marking (card c) d)) (sym (or_false c.dropped))
+    whole false = ap (λ d. (marking (card (record c { sendable = []; asked = 0; handed = c.handed ++ c.sendable ∷ [] })) d)) (sym (or_false c.dropped))
+
+    by : (b : Bool) → (m == j) ≡ b → option_map mark_of (client_at (at_client m handing g.clients) j) ≡ Some ((marking (cond (m == j) (card (handing c)) (card c)) (c.dropped || false)))
+    by true e =
+        ap (option_map mark_of) (ap (λ i. client_at (at_client i handing g.clients) j) (eqb-true m j e) ∙ (at_same j handing g.clients ∙ ap (option_map handing) h))
+        ∙ (ap Some (whole (length c.sendable == 0)) ∙ ap (λ b. Some ((marking (cond b (card (handing c)) (card c)) (c.dropped || false)))) (sym e))
+    by false e =
+        ap (option_map mark_of) (at_other m j handing g.clients (eqb-false m j e) ∙ h)
+        ∙ (ap (λ d. Some ((marking (card c) d))) (sym (or_false c.dropped)) ∙ ap (λ b. Some ((marking (cond b (card (handing c)) (card c)) (c.dropped || false)))) (sym e))
+
+unchanged : (c : Client) → Some (mark_of c) ≡ Some ((marking (card c) (c.dropped || false)))
+unchanged c = ap (λ d. Some ((marking (card c) d))) (sym (or_false c.dropped))
+
+-- who stays
+stays_at : (g : Gate) (e : Event) (j : ℕ) (c : Client) → client_at g.clients j ≡ Some c → is_gone j e ≡ false → client_at (marks_in (happens g e).clients) j ≡ Some (mark_behind j c e)
+stays_at g (presented m token) j c h n = came_at g m token j c h ∙ unchanged c
+stays_at g (message m text) j c h n = said_at g m text j c h
+stays_at g (gone m) j c h n = went_other g m j (eqb-false m j n) ∙ (mark_at g.clients j ∙ (ap (option_map mark_of) h ∙ unchanged c))
+stays_at g (known tokens) j c h n = every_at (checked tokens) g.clients j c h ∙ ap Some (checked_mark tokens c)
+stays_at g ticked j c h n = every_at (beating g.entries) g.clients j c h ∙ unchanged c
+stays_at g synced j c h n = every_at released g.clients j c h ∙ ap Some (released_mark c)
+stays_at g (handed m) j c h n = handed_at g m j c h
+stays_at g failed j c h n = mark_at g.clients j ∙ (ap (option_map mark_of) h ∙ unchanged c)
+
+-- a number that nobody has stays so
+none_mark : (slots : Slots) (j : ℕ) → client_at (marks_in slots) j ≡ None → client_at slots j ≡ None
+none_mark slots j h = by (client_at slots j) (sym (mark_at slots j) ∙ h)
+  where
+    by : (o : Option Client) → option_map mark_of o ≡ None → o ≡ None
+    by None e = refl
+    by (Some c) e = absurd (some_is_none (mark_of c) e)
+
+at_none : (m j : ℕ) (f : Client → Client) (slots : Slots) → client_at slots j ≡ None → client_at (at_client m f slots) j ≡ None
+at_none m j f slots h = by (m == j) refl
+  where
+    by : (b : Bool) → (m == j) ≡ b → client_at (at_client m f slots) j ≡ None
+    by true e = ap (λ i. client_at (at_client i f slots) j) (eqb-true m j e) ∙ (at_same j f slots ∙ ap (option_map f) h)
+    by false e = at_other m j f slots (eqb-false m j e) ∙ h
+
+said_none : (g : Gate) (m : ℕ) (text : List ℕ) (j : ℕ) → client_at g.clients j ≡ None → client_at (marks_in (said g m text).clients) j ≡ None
+said_none g m text j h = ap (λ z. client_at z j) (said_slots g m text) ∙ by (client_at g.clients m)
+  where
+    before : client_at (marks_in g.clients) j ≡ None
+    before = mark_at g.clients j ∙ ap (option_map mark_of) h
+
+    by : (o : Option Client) → client_at (if_some o (marks_in g.clients) (λ d. cond (may_say d) (marks_in (at_client m (saying text) g.clients)) (marks_in g.clients))) j ≡ None
+    by None = before
+    by (Some d) = test_same (λ z. client_at z j) (may_say d) _ _ None (mark_at (at_client m (saying text) g.clients) j ∙ ap (option_map mark_of) (at_none m j (saying text) g.clients h)) before
+
+-- ---- who comes
+
+pub came_is : (g : Gate) (m : ℕ) (token : List ℕ) (role : Name) → is_free m g.clients ≡ true
+    → client_at (came_as g m token role).clients m ≡ Some (settling (came_as g m token role).entries (told_one (came_as g m token role).entries (welcome role) (fresh role (sha256 token))))
+came_is g m token role free =
+    let h = with_session g role in let es = h.entries in let slots = set h.clients m (Some (fresh role (sha256 token))) in
+    at_every (settling es) (at_client m (told_one es (welcome role)) slots) m
+    ∙ ap (option_map (settling es)) (at_same m (told_one es (welcome role)) slots ∙ ap (option_map (told_one es (welcome role))) (set_there m (fresh role (sha256 token)) h.clients (free_marks h.clients)))
+  where
+    free_of : (slots : Slots) (j : ℕ) → is_free j (marks_in slots) ≡ is_free j slots
+    free_of [] j = refl
+    free_of (None ∷ ss) zero = refl
+    free_of (Some c ∷ ss) zero = refl
+    free_of (s ∷ ss) (suc j) = free_of ss j
+
+    free_marks : (slots : Slots) → is_free m (with_session g role).clients ≡ true
+    free_marks slots = sym (free_of (with_session g role).clients m) ∙ (ap (λ (s : Sign). is_free m s.slots) (sign_with g role) ∙ (free_of g.clients m ∙ free))
+
+pub record IsCome (g h : Gate) (m : ℕ) (token : List ℕ) (d : Client) : Type 0 where
+  pub opened : role_opened g.tokens (sha256 token) ≡ Some d.role
+  pub is : d ≡ settling h.entries (told_one h.entries (welcome d.role) (fresh d.role (sha256 token)))
+
+come_of : (g h : Gate) (m : ℕ) (token : List ℕ) (d : Client) (role : Name) → role_opened g.tokens (sha256 token) ≡ Some role
+    → d ≡ settling h.entries (told_one h.entries (welcome role) (fresh role (sha256 token))) → IsCome g h m token d
+come_of g h m token d role o e =
+    let same : d.role ≡ role = ap (λ (c : Client). c.role) e in
+    record { opened = o ∙ ap Some (sym same); is = e ∙ ap (λ r. settling h.entries (told_one h.entries (welcome r) (fresh r (sha256 token)))) (sym same) }
+
+pub one_some : {X : Type 0} (a b : X) → Some a ≡ Some b → a ≡ b
+one_some a b h = cc
+
+came_new : (g : Gate) (m : ℕ) (token : List ℕ) (d : Client) (o : Option Name) → role_for g m token ≡ o → client_at g.clients m ≡ None
+    → client_at (if_some o g (came_as g m token)).clients m ≡ Some d → IsCome g (if_some o g (came_as g m token)) m token d
+came_new g m token d None e n h = absurd (some_is_none d (sym h ∙ n))
+came_new g m token d (Some role) e n h =
+    let o = opens_role g m token role e in
+    come_of g (came_as g m token role) m token d role o.opened (one_some d _ (sym h ∙ came_is g m token role o.free))
+
+comes_at : (g : Gate) (e : Event) (j : ℕ) (d : Client) → g.dead ≡ false → client_at g.clients j ≡ None → client_at (next g e).clients j ≡ Some d → IsNewcomer g e j d
+comes_at g e j d live n h = by e refl (ap (λ (x : Gate). client_at x.clients j) (sym (alive g e live)) ∙ h)
+  where
+    nobody : client_at (marks_in g.clients) j ≡ None
+    nobody = mark_at g.clients j ∙ ap (option_map mark_of) n
+
+    never : (slots : Slots) → client_at (marks_in slots) j ≡ None → client_at slots j ≡ Some d → IsNewcomer g e j d
+    never slots a b = absurd (some_is_none d (sym b ∙ none_mark slots j a))
+
+    came_by : (m : ℕ) (token : List ℕ) (b : Bool) → (m == j) ≡ b → e ≡ presented m token → client_at (came g m token).clients j ≡ Some d → IsNewcomer g e j d
+    came_by m token true q s x =
+        let same = eqb-true m j q in
+        let c = came_new g j token d (role_for g j token) refl n (ap (λ i. client_at (came g i token).clients j) (sym same) ∙ x) in
+        let is_next : next g e ≡ came g j token = alive g e live ∙ (ap (happens g) s ∙ ap (λ i. came g i token) same) in
+        record { token = token; event = s ∙ ap (λ i. presented i token) same; opened = c.opened; is = c.is ∙ ap (λ (x : Gate). settling x.entries (told_one x.entries (welcome d.role) (fresh d.role (sha256 token)))) (sym is_next) }
+    came_by m token false q s x = never (came g m token).clients (came_other g m token j (role_for g m token) refl (λ role _. eqb-false m j q) ∙ nobody) x
+
+    went_by : (m : ℕ) (b : Bool) → (m == j) ≡ b → client_at (marks_in (went g m).clients) j ≡ None
+    went_by m true q = ap (λ i. client_at (marks_in (went g m).clients) i) (sym (eqb-true m j q)) ∙ went_gone g m
+    went_by m false q = went_other g m j (eqb-false m j q) ∙ nobody
+
+    by : (f : Event) → e ≡ f → client_at (happens g f).clients j ≡ Some d → IsNewcomer g e j d
+    by (presented m token) s x = came_by m token (m == j) refl s x
+    by (message m text) s x = never (said g m text).clients (said_none g m text j n) x
+    by (gone m) s x = never (went g m).clients (went_by m (m == j) refl) x
+    by (known tokens) s x = absurd (some_is_none d (sym x ∙ (at_every (checked tokens) g.clients j ∙ ap (option_map (checked tokens)) n)))
+    by ticked s x = absurd (some_is_none d (sym x ∙ (at_every (beating g.entries) g.clients j ∙ ap (option_map (beating g.entries)) n)))
+    by synced s x = absurd (some_is_none d (sym x ∙ (at_every released g.clients j ∙ ap (option_map released) n)))
+    by (handed m) s x = absurd (some_is_none d (sym x ∙ at_none m j handing g.clients n))
+    by failed s x = absurd (some_is_none d (sym x ∙ n))
+
+pub leaves_at : (g : Gate) (e : Event) (j : ℕ) → is_gone j e ≡ true → client_at (happens g e).clients j ≡ None
+leaves_at g (gone m) j h = none_mark (went g m).clients j (ap (λ i. client_at (marks_in (went g m).clients) i) (sym (eqb-true m j h)) ∙ went_gone g m)
+leaves_at g (presented m token) j h = absurd (false≢true h)
+leaves_at g (message m text) j h = absurd (false≢true h)
+leaves_at g (known tokens) j h = absurd (false≢true h)
+leaves_at g ticked j h = absurd (false≢true h)
+leaves_at g synced j h = absurd (false≢true h)
+leaves_at g (handed m) j h = absurd (false≢true h)
+leaves_at g failed j h = absurd (false≢true h)
+
+pub touched : (g : Gate) (e : Event) → g.dead ≡ false → AreTouched g e
+touched g e live = record {
+  stays = λ m c h n. kept_of g e m c (marked (next g e).clients m (mark_behind m c e) (ap (λ (x : Gate). client_at (marks_in x.clients) m) (alive g e live) ∙ stays_at g e m c h n));
+  leaves = λ m h. ap (λ (x : Gate). client_at x.clients m) (alive g e live) ∙ leaves_at g e m h;
+  comes = λ m d n h. comes_at g e m d live n h;
+}
+
+-- ---- marks and entries
+
+pub record Left : Type 0 where
+  pub marks : Marks
+  pub entries : List Entry
+
+abbrev pub left : Gate → Left
+left g = record { marks = marks g; entries = g.entries }
+
+left_more : (g h : Gate) → left h ≡ left g → left h ≡ record { marks = marks g; entries = g.entries ++ [] }
+left_more g h e = e ∙ ap (λ z. record { marks = marks g; entries = z }) (sym (append-nil g.entries))
+
+said_left : (g : Gate) (m : ℕ) (text : List ℕ) → left (said g m text) ≡ record { marks = marks g; entries = g.entries ++ new_entries g (message m text) }
+said_left g m text = by (client_at g.clients m)
+  where
+    heard : (c : Client) (b : Bool) → left (cond b (hears g m c text) g) ≡ record { marks = marks g; entries = g.entries ++ cond b (entries_by g c text (said_by text)) [] }
+    heard c true = ap (λ (s : Sign). record { marks = s.marks; entries = s.entries }) (sign_hears g m c text)
+    heard c false = left_more g g refl
+
+    by : (o : Option Client) → left (if_some o g (λ c. cond (may_say c) (hears g m c text) g))
+        ≡ record { marks = marks g; entries = g.entries ++ if_some o [] (λ c. cond (may_say c) (entries_by g c text (said_by text)) []) }
+    by None = left_more g g refl
+    by (Some c) = heard c (may_say c)
+
+left_by : (g : Gate) (e : Event) → left (happens g e) ≡ record { marks = marks_behind g e; entries = g.entries ++ new_entries g e }
+left_by g (presented m token) = left_more g (came g m token) (by (role_for g m token))
+  where
+    by : (o : Option Name) → left (if_some o g (came_as g m token)) ≡ left g
+    by None = refl
+    by (Some role) = ap (λ (s : Sign). record { marks = s.marks; entries = s.entries }) (came_sign g m token role)
+left_by g (message m text) = said_left g m text
+left_by g (gone m) = left_more g (went g m) (ap (λ (s : Sign). record { marks = s.marks; entries = s.entries }) (went_sign g m))
+left_by g (known tokens) = ap (λ z. record { marks = record (marks g) { tokens = tokens }; entries = z }) (sym (append-nil g.entries))
+left_by g ticked = left_more g (ticking g) refl
+left_by g synced = ap (λ z. record { marks = record (marks g) { kept = length g.entries }; entries = z }) (sym (append-nil g.entries))
+left_by g (handed m) = ap (λ z. record { marks = marks_behind g (handed m); entries = z }) (sym (append-nil g.entries))
+left_by g failed = ap (λ z. record { marks = record (marks g) { dead = true }; entries = z }) (sym (append-nil g.entries))
+
+pub marked_by_event : (g : Gate) (e : Event) → g.dead ≡ false → marks (next g e) ≡ marks_behind g e
+marked_by_event g e live = ap marks (alive g e live) ∙ ap (λ (x : Left). x.marks) (left_by g e)
+
+pub entered_by_event : (g : Gate) (e : Event) → g.dead ≡ false → (next g e).entries ≡ g.entries ++ new_entries g e
+entered_by_event g e live = ap (λ (x : Gate). x.entries) (alive g e live) ∙ ap (λ (x : Left). x.entries) (left_by g e)

@@ -1,0 +1,96 @@
+-- A fact of clients that each step keeps, through all that an event does.
+use Rattle.std.proofs.Common.{◌≡◌, ℕ, Bool, true, false, List, Option, Some, option_map, refl, ap, ◌∙◌, subst}
+use Rattle.std.specs.Prelude.{◌==◌}
+use Rattle.std.proofs.lemmas.Bool.{eqb-true, eqb-false}
+use Rattle.serde_json.specs.Data.{Data}
+use Rattle.iv_access.specs.Rights.{Name}
+use Rattle.iv_machine.specs.Act.{Command}
+use Rattle.iv_machine.specs.Machine.{step}
+use Rattle.iv_message.specs.Message.{Message}
+use Rattle.iv_message.specs.Told.{Told, replied}
+use Rattle.iv_clients.specs.Clients.{Client, Slots, at_all, at_client, client_at, closing, following, moved, settling, staying, telling, told_one}
+use Rattle.iv_clients.specs.Feeds.{Seat}
+use Rattle.iv_clients.specs.Journal.{Entry, line_said}
+use Rattle.iv_gate.specs.Gate.{Gate, all_rested, all_swept, done_for, entered, in_session, is_accepted, ran, reply_to, requests, settles, tells, told_of, with_session}
+use Rattle.iv_gate.proofs.Stepping.{Steps, step_all_rested, step_all_swept, step_done, step_with}
+use Rattle.iv_gate.proofs.Touching.{at_every, at_other, at_same}
+
+-- what each step keeps of each client; client m alone is told what is its own
+pub record Kit (m : ℕ) (R : ℕ → Client → Client → Type 0) : Type 0 where
+  pub same : (j : ℕ) (c : Client) → R j c c
+  pub chain : (j : ℕ) (b c d : Client) → R j b c → R j c d → R j b d
+  pub hear : (j : ℕ) (c : Client) (g : Gate) (k : Command) → R j c (staying (step g.machine k).lines (telling g.entries (told_of g k.act (step g.machine k) c) c))
+  pub rest : (j : ℕ) (c : Client) (es : List Entry) → R j c (settling es c)
+  pub tell : (c : Client) (es : List Entry) (t : Told) → R m c (told_one es t c)
+  pub follow : (c : Client) (k : ℕ) → R m c (following k c)
+  pub move : (c : Client) (t k : ℕ) → R m c (moved t k c)
+  pub close : (c : Client) (own : ℕ) → R m c (closing own c)
+
+pub record Later (R : ℕ → Client → Client → Type 0) (slots : Slots) (j : ℕ) (c : Client) : Type 0 where
+  pub now : Client
+  pub there : client_at slots j ≡ Some now
+  pub so : R j c now
+
+abbrev pub Leads : (ℕ → Client → Client → Type 0) → Slots → Slots → Type 0
+Leads R old new = (j : ℕ) (c : Client) → client_at old j ≡ Some c → Later R new j c
+
+module _ (m : ℕ) (R : ℕ → Client → Client → Type 0) (kit : Kit m R) where
+  pub to_same : (slots : Slots) → Leads R slots slots
+  to_same slots j c h = record { now = c; there = h; so = kit.same j c }
+
+  pub to_then : (a b c : Slots) → Leads R a b → Leads R b c → Leads R a c
+  to_then a b c f g j x h = let p = f j x h in let q = g j p.now p.there in record { now = q.now; there = q.there; so = kit.chain j x p.now q.now p.so q.so }
+
+  pub to_all : (f : Client → Client) → ((j : ℕ) (c : Client) → R j c (f c)) → (slots : Slots) → Leads R slots (at_all f slots)
+  to_all f k slots j c h = record { now = f c; there = at_every f slots j ∙ ap (option_map f) h; so = k j c }
+
+  pub to_one : (f : Client → Client) → ((c : Client) → R m c (f c)) → (slots : Slots) → Leads R slots (at_client m f slots)
+  to_one f k slots j c h = by (m == j) refl
+    where
+      by : (b : Bool) → (m == j) ≡ b → Later R (at_client m f slots) j c
+      by true e =
+          let same = eqb-true m j e in
+          record { now = f c; there = ap (λ i. client_at (at_client i f slots) j) same ∙ (at_same j f slots ∙ ap (option_map f) h); so = subst (λ i. R i c (f c)) same (k c) }
+      by false e = record { now = c; there = at_other m j f slots (eqb-false m j e) ∙ h; so = kit.same j c }
+
+  pub to_ran : (g : Gate) (k : Command) → Leads R g.clients (ran g k).clients
+  to_ran g k = to_all (λ c. staying (step g.machine k).lines (telling g.entries (told_of g k.act (step g.machine k) c) c)) (λ j c. kit.hear j c g k) g.clients
+
+  pub to_tells : (g : Gate) (t : Told) → Leads R g.clients (tells g m t).clients
+  to_tells g t = to_one (told_one g.entries t) (λ c. kit.tell c g.entries t) g.clients
+
+  pub to_settles : (g : Gate) → Leads R g.clients (settles g).clients
+  to_settles g = to_all (settling g.entries) (λ j c. kit.rest j c g.entries) g.clients
+
+  to_requests : (g : Gate) (id : Option Data) (e : Entry) (n : ℕ) → Leads R g.clients (requests g m id e n).clients
+  to_requests g id e n =
+      let k = in_session n e.act in let r = reply_to g k in let h = entered g e (is_accepted r) in
+      to_then g.clients (tells h m (replied id r)).clients (ran (tells h m (replied id r)) k).clients (to_tells h (replied id r)) (to_ran (tells h m (replied id r)) k)
+
+  steps : Steps m (λ g h. Leads R g.clients h.clients)
+  steps = record {
+    same = λ g. to_same g.clients;
+    chain = λ g h i x y. to_then g.clients h.clients i.clients x y;
+    run = λ g k e. to_ran g k;
+    settle = to_settles;
+    tell = to_tells;
+    seat = λ g seats. to_same g.clients;
+    feed = λ g feeds. to_same g.clients;
+    follow = λ g k. to_one (following k) (λ c. kit.follow c k) g.clients;
+    move = λ g t k. to_one (moved t k) (λ c. kit.move c t k) g.clients;
+    close = λ g own. to_one (closing own) (λ c. kit.close c own) g.clients;
+  }
+
+  pub to_with : (g : Gate) (role : Name) → Leads R g.clients (with_session g role).clients
+  to_with g role = step_with m (λ h i. Leads R h.clients i.clients) steps g role
+
+  pub to_all_rested : (g : Gate) (ss : List Seat) → Leads R g.clients (all_rested g ss).clients
+  to_all_rested g ss = step_all_rested m (λ h i. Leads R h.clients i.clients) steps g ss
+
+  pub to_all_swept : (g : Gate) (ks : List ℕ) → Leads R g.clients (all_swept g ks).clients
+  to_all_swept g ks = step_all_swept m (λ h i. Leads R h.clients i.clients) steps g ks
+
+  pub to_done : (g : Gate) (c : Client) (text : List ℕ) (s : Message) → Leads R g.clients (done_for g m c text s).clients
+  to_done g c text s =
+      step_done m (λ h i. Leads R h.clients i.clients) steps g (λ h. Leads R g.clients h.clients) (λ h x. x) c text s
+      (λ id act n e shared seat. to_requests g id (record { role = c.role; line = line_said text; act = act }) n)

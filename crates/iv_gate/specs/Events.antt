@@ -1,0 +1,50 @@
+-- What happens to a gateway.
+use Rattle.std.specs.Prelude.{ℕ, true, if◌then◌else◌, List, [], ◌∷◌, ◌++◌, length}
+use Rattle.iv_rows.specs.Options.{if_some}
+use Rattle.iv_clients.specs.Clients.{at_all, at_client, beating, checked, client_at, handing, released}
+use Rattle.iv_clients.specs.Tokens.{Token}
+use Rattle.iv_gate.specs.Gate.{Gate, came, said, went}
+
+-- a token is presented for number m; client m sends a message, and goes; other tokens are known from now on; all are told that the line is
+-- alive; the journal has all entries on disk (nothing happens between its write and that); what client m may be sent is handed to its
+-- socket; a call failed
+pub data Event : Type 0 where
+  presented : (m : ℕ) → (token : List ℕ) → Event
+  message : (m : ℕ) → (text : List ℕ) → Event
+  gone : (m : ℕ) → Event
+  known : (tokens : List Token) → Event
+  ticked : Event
+  synced : Event
+  handed : (m : ℕ) → Event
+  failed : Event
+
+abbrev pub knowing : Gate → List Token → Gate
+knowing g tokens = record g { tokens = tokens; clients = at_all (checked tokens) g.clients }
+
+abbrev pub ticking : Gate → Gate
+ticking g = record g { clients = at_all (beating g.entries) g.clients }
+
+abbrev pub on_disk : Gate → Gate
+on_disk g = record g { kept = length g.entries; clients = at_all released g.clients }
+
+-- what a client might see when it was told is handed to it, also where it may not see it any more
+abbrev pub hands : Gate → ℕ → Gate
+hands g m = record g { clients = at_client m handing g.clients; sent = g.sent ++ if_some (client_at g.clients m) [] (λ c. c.sendable) }
+
+abbrev pub happens : Gate → Event → Gate
+happens g (presented m token) = came g m token
+happens g (message m text) = said g m text
+happens g (gone m) = went g m
+happens g (known tokens) = knowing g tokens
+happens g ticked = ticking g
+happens g synced = on_disk g
+happens g (handed m) = hands g m
+happens g failed = record g { dead = true }
+
+-- nothing happens to one that is dead
+abbrev pub next : Gate → Event → Gate
+next g e = if g.dead then g else happens g e
+
+abbrev pub after : Gate → List Event → Gate
+after g [] = g
+after g (e ∷ es) = after (next g e) es

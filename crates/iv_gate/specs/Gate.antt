@@ -1,0 +1,244 @@
+-- The gateway: the access machine, its sessions by role, the feeds that clients share, the clients, and the journal's entries.
+use Rattle.std.specs.Prelude.{ℕ, ◌+◌, ◌==◌, ◌&&◌, ◌||◌, not, Bool, true, false, if◌then◌else◌, List, [], ◌∷◌, ◌++◌, map, filter, drop, length, nat_lt, slice_set, Option, Some, None, option_and_then, is_some}
+use Rattle.std.specs.List.{list_any}
+use Rattle.sha2.specs.Sha256.{sha256}
+use Rattle.serde_json.specs.Data.{Data}
+use Rattle.iv_rows.specs.Columns.{Column}
+use Rattle.iv_rows.specs.Names.{is_name}
+use Rattle.iv_rows.specs.Options.{if_some}
+use Rattle.iv_bind.specs.Catalogs.{columns_of, named}
+use Rattle.iv_access.specs.Privileges.{acts_as, has, role_of}
+use Rattle.iv_access.specs.Rights.{Name}
+use Rattle.iv_access.specs.declared.privilege.Privilege.TheVariants.{Select, Insert, Update, Delete}
+use Rattle.iv_machine.specs.Act.{Act, begin, finish, create_table, create_view, grant, grant_role, subscribe, unsubscribe, Command, Line, reply, Reply, done, subscribed, refused, no_session, too_many, unknown_subscription}
+use Rattle.iv_machine.specs.Machine.{Outcome, step}
+use Rattle.iv_machine.specs.State.{Frame, State}
+use Rattle.iv_message.specs.Message.{Message, no_json, too_long, no_object, no_request, request}
+use Rattle.iv_message.specs.Told.{Told, welcome, replied, opened, fault, unasked, granted}
+use Rattle.iv_clients.specs.Bounds.{most_subs}
+use Rattle.iv_clients.specs.Clients.{Client, Shown, Slots, answered, at_all, at_client, client_at, closing, followed, following, fresh, has_role, is_followed, is_free, may_say, moved, own_lines, saying, settling, staying, telling, told_one}
+use Rattle.iv_clients.specs.Feeds.{Feed, Seat, feed_for, feed_of, feeds_left, is_of_role, is_reading, next_seat, room_for, seat_of, without_feed, without_seat}
+use Rattle.iv_clients.specs.Journal.{Entry, is_shared, line_said, said_by}
+use Rattle.iv_clients.specs.Tokens.{Token, role_opened}
+
+-- `entries` are the accepted requests, of which the first `kept` are on disk. Once it is `dead` nothing happens any more. `sent` is all
+-- text that was handed on, to whomever; the code has no memory of it.
+pub record Gate : Type 0 where
+  pub tokens : List Token
+  pub machine : State
+  pub seats : List Seat
+  pub feeds : List Feed
+  pub clients : Slots
+  pub entries : List Entry
+  pub kept : ℕ
+  pub dead : Bool
+  pub sent : List Shown
+
+-- what the journal is to have before anyone hears of it
+abbrev pub pending : Gate → List Entry
+pending g = drop g.kept g.entries
+
+-- ---- one command
+
+abbrev pub reply_in : List Line → Reply
+reply_in (reply n r ∷ ls) = r
+reply_in ls = refused no_session
+
+abbrev pub is_accepted : Reply → Bool
+is_accepted done = true
+is_accepted (subscribed k) = true
+is_accepted (refused r) = false
+
+-- the role has some privilege on the relation
+abbrev pub has_some : Frame → Name → Name → Bool
+has_some f role rel = if_some (role_of f.rights role) false (λ r. if_some (named f.catalog rel) false (λ e.
+    list_any (λ p. has f.rights r p e.rel) (Select ∷ Insert ∷ Update ∷ Delete ∷ [])))
+
+-- the role is the other, or a member of it
+abbrev pub is_member : Frame → Name → Name → Bool
+is_member f role other = if_some (role_of f.rights role) false (λ r. if_some (role_of f.rights other) false (acts_as f.rights r))
+
+-- the relations that an accepted act grants a role something on: what is granted to it or to a role that it is a member of; a new one,
+-- where it has a privilege on it; and what the role has of which it becomes a member
+abbrev pub granted_by : Frame → Act → Name → List Name
+granted_by f (grant rel privileges to) role = if if_some to true (is_member f role) then rel ∷ [] else []
+granted_by f (create_table name owner columns) role = if has_some f role name then name ∷ [] else []
+granted_by f (create_view name owner query) role = if has_some f role name then name ∷ [] else []
+granted_by f (grant_role group to) role = if is_member f role to then filter (has_some f group) (map (λ e. e.name) f.catalog) else []
+granted_by f act role = []
+
+-- what a client is told of a command: the lines of what it follows, and what it is granted
+abbrev pub told_of : Gate → Act → Outcome → Client → List Told
+told_of g act o c = own_lines g.feeds o.lines c.subs ++ (if is_accepted (reply_in o.lines) then map granted (granted_by o.state.frame act c.role) else [])
+
+-- the machine answers: each client is told of it, and what ended is shared no more
+abbrev pub ran : Gate → Command → Gate
+ran g k = let o = step g.machine k in record g {
+  machine = o.state;
+  clients = at_all (λ c. staying o.lines (telling g.entries (told_of g k.act o c) c)) g.clients;
+  feeds = feeds_left o.lines g.feeds;
+}
+
+abbrev pub in_session : ℕ → Act → Command
+in_session n act = record { session = n; act = act }
+
+-- the machine's reply to a command
+abbrev pub reply_to : Gate → Command → Reply
+reply_to g k = reply_in (step g.machine k).lines
+
+-- who was told something is told that this is all
+abbrev pub settles : Gate → Gate
+settles g = record g { clients = at_all (settling g.entries) g.clients }
+
+-- client m is told one thing more
+abbrev pub tells : Gate → ℕ → Told → Gate
+tells g m t = record g { clients = at_client m (told_one g.entries t) g.clients }
+
+-- ---- sessions
+
+abbrev pub seated : Gate → ℕ → Name → Gate
+seated g n role = ran (record g { seats = g.seats ++ record { session = n; role = role } ∷ [] }) (in_session n (begin role))
+
+-- the next session, where the machine begins it for the role
+abbrev pub begun_for : Gate → Name → Option ℕ
+begun_for g role = option_and_then (λ n. if is_accepted (reply_to g (in_session n (begin role))) then Some n else None) (next_seat g.seats)
+
+-- the role has a session, or one can be begun for it
+abbrev pub has_session : Gate → Name → Bool
+has_session g role = is_some (seat_of g.seats role) || is_some (begun_for g role)
+
+-- one is begun where it has none
+abbrev pub with_session : Gate → Name → Gate
+with_session g role = if_some (seat_of g.seats role) (if_some (begun_for g role) g (λ n. seated g n role)) (λ n. g)
+
+-- a client is of its role, or something is read in it
+abbrev pub is_needed : Gate → Seat → Bool
+is_needed g s = has_role s.role g.clients || list_any (λ (f : Feed). s.session == f.session) g.feeds
+
+-- a session that is not needed is finished
+abbrev pub rested : Gate → Seat → Gate
+rested g s = if is_needed g s then g else ran (record g { seats = without_seat s.session g.seats }) (in_session s.session finish)
+
+abbrev pub all_rested : Gate → List Seat → Gate
+all_rested g [] = g
+all_rested g (s ∷ ss) = all_rested (rested g s) ss
+
+-- ---- subscribing
+
+abbrev pub columns_in : State → Name → List Column
+columns_in s rel = if_some (named s.frame.catalog rel) [] (λ e. columns_of e.held)
+
+-- the number that client m gives next
+abbrev pub next_own : Gate → ℕ → ℕ
+next_own g m = if_some (client_at g.clients m) 0 (λ c. c.given + 1)
+
+-- client m follows the feed that is opened for it, or is told why there is none
+abbrev pub feed_begun : Gate → ℕ → Option Data → ℕ → Name → Name → Reply → Gate
+feed_begun g m id n role rel (subscribed t) = let h = tells g m (opened id (next_own g m) (columns_in g.machine rel)) in
+    record h { clients = at_client m (following t) h.clients; feeds = record { number = t; session = n; role = role; rel = rel } ∷ g.feeds }
+feed_begun g m id n role rel r = tells g m (replied id r)
+
+-- the relation is subscribed to in a session of the role, and client m is told its contents
+abbrev pub subscribes : Gate → ℕ → Option Data → ℕ → Name → Name → Gate
+subscribes g m id n role rel = let k = in_session n (subscribe rel) in ran (feed_begun g m id n role rel (reply_to g k)) k
+
+-- a feed is closed
+abbrev pub shut : Gate → Feed → Gate
+shut g f = ran (record g { feeds = without_feed f.number g.feeds }) (in_session f.session (unsubscribe f.number))
+
+-- of two feeds of one role and relation, client m follows the older, and the newer is closed
+abbrev pub joined : Gate → ℕ → Option Feed → Option Feed → Gate
+joined g m (Some t) (Some k) =
+    if is_reading t.role t.rel k && not (t.number == k.number) then shut (record g { clients = at_client m (moved t.number k.number) g.clients }) t else g
+joined g m t k = g
+
+abbrev pub joined_by : Gate → ℕ → ℕ → Reply → Gate
+joined_by g m k (subscribed t) = joined g m (feed_of g.feeds t) (feed_of g.feeds k)
+joined_by g m k r = g
+
+-- what is shared is subscribed to once more, so that client m is told its contents, and then follows the older feed
+abbrev pub joins : Gate → ℕ → Option Data → Feed → Gate
+joins g m id f = joined_by (subscribes g m id f.session f.role f.rel) m f.number (reply_to g (in_session f.session (subscribe f.rel)))
+
+-- in a session of the role with a place, or in a further one
+abbrev pub reads_first : Gate → ℕ → Option Data → Name → Name → Gate
+reads_first g m id role rel = if_some (room_for g.seats g.feeds role)
+    (if_some (begun_for g role) (tells g m (replied id (refused too_many))) (λ n. subscribes (seated g n role) m id n role rel))
+    (λ n. subscribes g m id n role rel)
+
+-- who follows no more than it may follows one more
+abbrev pub reads : Gate → ℕ → Client → Option Data → Name → Gate
+reads g m c id rel = if nat_lt (length c.subs) most_subs then if_some (feed_for g.feeds c.role rel) (reads_first g m id c.role rel) (joins g m id)
+    else tells g m (replied id (refused too_many))
+
+-- ---- unsubscribing
+
+-- a feed that nobody follows is closed
+abbrev pub swept : Gate → ℕ → Gate
+swept g k = if is_followed k g.clients then g else if_some (feed_of g.feeds k) g (shut g)
+
+abbrev pub all_swept : Gate → List ℕ → Gate
+all_swept g [] = g
+all_swept g (k ∷ ks) = all_swept (swept g k) ks
+
+-- client m closes its own number, which follows a feed, or it has none to close
+abbrev pub closes : Gate → ℕ → Client → Option Data → ℕ → Gate
+closes g m c id own = if_some (followed c own) (tells g m (replied id (refused unknown_subscription)))
+    (λ k. swept (tells (record g { clients = at_client m (closing own) g.clients }) m (replied id done)) k)
+
+-- ---- other requests
+
+-- the journal is to have it, where it changes what is shared
+abbrev pub entered : Gate → Entry → Bool → Gate
+entered g e accepted = record g { entries = g.entries ++ (if is_shared e.act && accepted then e ∷ [] else []) }
+
+-- client m is told the reply, and then everybody what changed
+abbrev pub requests : Gate → ℕ → Option Data → Entry → ℕ → Gate
+requests g m id e n = let k = in_session n e.act in let r = reply_to g k in ran (tells (entered g e (is_accepted r)) m (replied id r)) k
+
+-- ---- messages
+
+-- sessions are begun and finished by the gateway alone: no message asks that
+abbrev pub acts : Gate → ℕ → Client → Option Data → List ℕ → Act → Gate
+acts g m c id text (begin role) = tells g m (fault 2)
+acts g m c id text finish = tells g m (fault 2)
+acts g m c id text (subscribe rel) = reads g m c id rel
+acts g m c id text (unsubscribe own) = closes g m c id own
+acts g m c id text act = if_some (seat_of g.seats c.role) (tells g m (replied id (refused no_session)))
+    (requests g m id (record { role = c.role; line = line_said text; act = act }))
+
+abbrev pub done_for : Gate → ℕ → Client → List ℕ → Message → Gate
+done_for g m c text no_json = tells g m (fault 1)
+done_for g m c text too_long = tells g m (fault 22)
+done_for g m c text no_object = tells g m (fault 2)
+done_for g m c text (no_request id why) = tells g m (unasked id why)
+done_for g m c text (request id act) = acts g m c id text act
+
+-- it is heard: there is such a client, who has little under way
+abbrev pub is_heard : Gate → ℕ → Bool
+is_heard g m = if_some (client_at g.clients m) false may_say
+
+-- client m is c, and its message is done
+abbrev pub hears : Gate → ℕ → Client → List ℕ → Gate
+hears g m c text = let h = settles (done_for (record g { clients = at_client m (saying text) g.clients }) m c text (said_by text)) in
+    record h { clients = at_client m (answered c) h.clients }
+
+-- client m sends a message: it is done where it is heard, and else it is to be sent again
+abbrev pub said : Gate → ℕ → List ℕ → Gate
+said g m text = if_some (client_at g.clients m) g (λ c. if may_say c then hears g m c text else g)
+
+-- ---- a client comes, and goes
+
+-- the role that is opened by what is presented for number m, which nobody has
+abbrev pub role_for : Gate → ℕ → List ℕ → Option Name
+role_for g m token = option_and_then (λ role. if is_name role && (is_free m g.clients && has_session g role) then Some role else None) (role_opened g.tokens (sha256 token))
+
+-- who presents a token comes in as client m, in the role that it opens, and is welcomed; else nothing changes
+abbrev pub came : Gate → ℕ → List ℕ → Gate
+came g m token = if_some (role_for g m token) g
+    (λ role. let h = with_session g role in settles (tells (record h { clients = slice_set h.clients m (Some (fresh role (sha256 token))) }) m (welcome role)))
+
+-- client m goes; what only it followed is closed, and sessions that were its role's alone are finished
+abbrev pub went : Gate → ℕ → Gate
+went g m = if_some (client_at g.clients m) g (λ c.
+    let h = all_swept (record g { clients = slice_set g.clients m None }) (map (λ s. s.feed) c.subs) in settles (all_rested h (filter (is_of_role c.role) h.seats)))

@@ -1,0 +1,9 @@
+pub mod Gate
+pub mod Events
+pub mod Restoring
+pub mod Runs
+pub mod Replies
+pub mod Touched
+pub mod Seen
+pub mod Laws
+pub mod Needed

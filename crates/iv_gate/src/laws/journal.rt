@@ -1,0 +1,36 @@
+//! Laws of the journal and the disk. Each is the contract of a function that does nothing.
+ghost use Rattle.std.specs.Prelude.{ℕ, List};
+ghost use Rattle.iv_gate.specs.Events.{Event};
+ghost use Rattle.iv_gate.specs.Gate.{Gate};
+ghost use Rattle.iv_gate.specs.Laws.{AreShown, CrashesAreSafe, LeadsBack, SentIsKept};
+ghost use Rattle.iv_gate.specs.Restoring.{IsDecided};
+ghost use Rattle.iv_gate.specs.Runs.{Runs};
+
+use iv_machine::laws::{lines_add_up, steps_keep_sound};
+
+/// By an event a client is told what shows the entries that are accepted behind it, and what comes of its own message where the event
+/// is that.
+pub fn told_text_shows_its_entries()
+    ensures { (g : Gate) (e : Event) → AreShown g e }
+{}
+
+/// In whatever runs, over restarts: nothing was handed on, in whichever life, and nothing may be handed on, that shows more than is on
+/// disk.
+pub fn what_is_sent_is_on_disk()
+    ensures { (cap : ℕ) (g : Gate) → Runs cap g → SentIsKept g }
+{}
+
+/// In whatever runs, over restarts: the entries lead a machine with nothing to the same tables, roles, memberships, rights, policies and
+/// rows, and none is refused; and whatever a crash leaves on disk leads a gateway to a front of them, with all that were kept.
+pub fn the_journal_leads_back()
+    ensures back { (cap : ℕ) (g : Gate) → Runs cap g → LeadsBack cap g }
+    ensures safe { (cap : ℕ) (g : Gate) → Runs cap g → CrashesAreSafe cap g }
+{
+    lines_add_up();
+    steps_keep_sound();
+}
+
+/// Each journal either restores, to one gateway, or is damaged, at one place.
+pub fn journals_are_decided()
+    ensures { (g : Gate) (journal : List ℕ) → IsDecided g journal }
+{}
