@@ -1,0 +1,16 @@
+pub mod Keeping
+pub mod Heard
+pub mod Standing
+pub mod Refused
+pub mod Seated
+pub mod Swept
+pub mod Gone
+pub mod Alive
+pub mod Came
+pub mod Closed
+pub mod Agreeing
+pub mod Said
+pub mod Reread
+pub mod Replayed
+pub mod Granted
+pub mod Subscribed

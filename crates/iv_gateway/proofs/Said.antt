@@ -1,0 +1,199 @@
+-- A message, as the code has it done.
+use Rattle.std.proofs.Common.{◌≡◌, ◌∙◌, ◌≤◌, ℕ, zero, suc, Bool, true, false, cond, List, [], ◌∷◌, ◌++◌, length, drop, Option, Some, None, option_map, refl, ap, sym, subst, arith, append-nil}
+use Rattle.std.specs.Prelude.{◌&&◌}
+use Rattle.std.proofs.lemmas.List.Concat.{flat_map-append}
+use Rattle.serde_json.specs.Data.{Data}
+use Rattle.iv_rows.specs.Options.{if_some}
+use Rattle.iv_access.specs.Rights.{Name}
+use Rattle.iv_command.specs.Views.{act_of}
+use Rattle.iv_command.specs.declared.command.Act as code
+use Rattle.iv_command.specs.declared.command.Act.TheVariants as asks
+use Rattle.iv_machine.specs.Act.{Act, begin, finish, create_role, create_table, create_view, grant, revoke, grant_role, revoke_role, row_security, create_policy, drop_policy, subscribe, unsubscribe, write, Line, refused, no_session}
+use Rattle.iv_machine.specs.Machine.{step}
+use Rattle.iv_message.specs.Told.{fault, replied}
+use Rattle.iv_clients.specs.Clients.{Client, Slots, answered, at_client, client_at, may_say, saying}
+use Rattle.iv_clients.specs.Feeds.{seat_of}
+use Rattle.iv_clients.specs.Journal.{Entry, entry_text, is_shared, journal_of, line_said, said_by}
+use Rattle.iv_clients.specs.Kept.{Kept, Places, answering, kept, kept_slots}
+use Rattle.iv_gate.specs.Events.{message, next}
+use Rattle.iv_gate.specs.Gate.{Gate, acts, done_for, entered, hears, in_session, is_accepted, is_heard, reply_in, reply_to, requests, said, settles, tells}
+use Rattle.iv_gate.specs.Laws.{Marks, marks}
+use Rattle.iv_gate.proofs.Growing.{Grown, grows}
+use Rattle.iv_gate.proofs.Touching.{at_same, one_some}
+use Rattle.iv_gate.proofs.Walking.{to_done, to_settles, to_then}
+use Rattle.iv_gateway.specs.Speaking.{Speaking, speaker_in, speaking}
+use Rattle.iv_gateway.specs.Views.{IsAlive, IsPending, IsRun}
+use Rattle.iv_gateway.specs.declared.gateway.Gateway.{Gateway}
+use Rattle.iv_gateway.proofs.Keeping.{kept_answered, kept_at}
+
+-- ---- one client
+
+one_kept : (f : Client → Client) (h : Kept → Kept) (o : Option Client) → ((c : Client) → o ≡ Some c → kept (f c) ≡ h (kept c)) → option_map h (option_map kept o) ≡ option_map kept (option_map f o)
+one_kept f h None k = refl
+one_kept f h (Some c) k = ap Some (sym (k c refl))
+
+-- what is done to the client of a number, where it is kept so of that one
+keeps_one : (m : ℕ) (f : Client → Client) (h : Kept → Kept) (slots : Slots) → ((c : Client) → client_at slots m ≡ Some c → kept (f c) ≡ h (kept c)) → at_client m h (kept_slots slots) ≡ kept_slots (at_client m f slots)
+keeps_one m f h [] k = refl
+keeps_one zero f h (s ∷ ss) k = ap (λ z. z ∷ kept_slots ss) (one_kept f h s k)
+keeps_one (suc m) f h (s ∷ ss) k = ap (λ z. option_map kept s ∷ z) (keeps_one m f h ss k)
+
+-- ---- what a message has done
+
+abbrev pub asked : Gate → ℕ → List ℕ → Gate
+asked g m text = record g { clients = at_client m (saying text) g.clients }
+
+abbrev pub did : Gate → ℕ → Client → List ℕ → Gate
+did g m c text = settles (done_for (asked g m text) m c text (said_by text))
+
+pub there_saying : (g : Gate) (m : ℕ) (c : Client) (text : List ℕ) → client_at g.clients m ≡ Some c → client_at (asked g m text).clients m ≡ Some (saying text c)
+there_saying g m c text t = at_same m (saying text) g.clients ∙ ap (option_map (saying text)) t
+
+-- of what its client was told before nothing is missing
+grown : (g : Gate) (m : ℕ) (c d : Client) (text : List ℕ) → client_at g.clients m ≡ Some c → client_at (did g m c text).clients m ≡ Some d → Grown c d
+grown g m c d text t e =
+    let R : ℕ → Client → Client → Type 0 = λ i x y. Grown x y in
+    let done = done_for (asked g m text) m c text (said_by text) in
+    let p = to_then m (λ i x y. Grown x y) (grows m) (asked g m text).clients done.clients (settles done).clients (to_done m (λ i x y. Grown x y) (grows m) (asked g m text) c text (said_by text)) (to_settles m (λ i x y. Grown x y) (grows m) done) m (saying text c) (there_saying g m c text t) in
+    let x : Grown (saying text c) d = subst (Grown (saying text c)) (one_some p.now d (sym p.there ∙ e)) p.so in
+    record { more = x.more; handed = x.handed; sendable = x.sendable; unsynced = x.unsynced }
+
+-- others brought it no more than before
+pub stands_answered : (g : Gate) (m : ℕ) (c : Client) (text : List ℕ) (brought : ℕ) (places : Places) → client_at g.clients m ≡ Some c → brought ≡ (kept c).brought → places ≡ kept_slots (did g m c text).clients
+    → at_client m (answering brought) places ≡ kept_slots (at_client m (answered c) (did g m c text).clients)
+stands_answered g m c text brought places t e b =
+    (λ i. at_client m (answering (e i)) (b i))
+    ∙ keeps_one m (answered c) (answering (kept c).brought) (did g m c text).clients (λ d h. let x = grown g m c d text t h in kept_answered c d x.more x.unsynced)
+
+-- ---- whether it is heard
+
+-- the client that the code found at a number
+pub record IsSpeaker (g : Gate) (m : ℕ) (s : Speaking) : Type 0 where
+  pub client : Client
+  pub there : client_at g.clients m ≡ Some client
+  pub heard : may_say client ≡ true
+  pub same : s ≡ speaking (kept client)
+
+speaks_by : (g : Gate) (m : ℕ) (s : Speaking) (o : Option Client) → client_at g.clients m ≡ o → Some s ≡ speaker_in (option_map kept o) → IsSpeaker g m s
+speaks_by g m s None e h = cc
+speaks_by g m s (Some c) e h = by (may_say c) refl h
+  where
+    by : (b : Bool) → may_say c ≡ b → Some s ≡ cond b (Some (speaking (kept c))) None → IsSpeaker g m s
+    by true k h = record { client = c; there = e; heard = k; same = one_some s (speaking (kept c)) h }
+    by false k h = cc
+
+pub speaks : (g : Gate) (m : ℕ) (s : Speaking) (places : Places) → places ≡ kept_slots g.clients → Some s ≡ speaker_in (client_at places m) → IsSpeaker g m s
+speaks g m s places b h = speaks_by g m s (client_at g.clients m) refl (h ∙ ap speaker_in (ap (λ z. client_at z m) b ∙ kept_at g.clients m))
+
+-- what is done is done where it is heard
+pub said_heard : (g : Gate) (m : ℕ) (text : List ℕ) (s : Speaking) (x : Gateway) (w : IsSpeaker g m s) → IsAlive (hears g m w.client text) x → (true ≡ is_heard g m) × IsAlive (said g m text) x
+said_heard g m text s x w a = (
+  sym (ap (λ o. if_some o false may_say) w.there ∙ w.heard),
+  subst (λ o. IsAlive (if_some o g (λ c. cond (may_say c) (hears g m c text) g)) x) (sym w.there) (subst (λ b. IsAlive (cond b (hears g m w.client text) g) x) (sym w.heard) a),
+)
+
+quiet_by : (g : Gate) (m : ℕ) (text : List ℕ) (x : Gateway) (o : Option Client) → None ≡ speaker_in (option_map kept o) → IsAlive g x
+    → (false ≡ if_some o false may_say) × IsAlive (if_some o g (λ c. cond (may_say c) (hears g m c text) g)) x
+quiet_by g m text x None h a = (refl, a)
+quiet_by g m text x (Some c) h a = by (may_say c) h
+  where
+    by : (b : Bool) → None ≡ cond b (Some (speaking (kept c))) None → (false ≡ b) × IsAlive (cond b (hears g m c text) g) x
+    by true h = cc
+    by false h = (refl, a)
+
+-- and nothing else is
+pub said_unheard : (g : Gate) (m : ℕ) (text : List ℕ) (places : Places) (x : Gateway) → places ≡ kept_slots g.clients → None ≡ speaker_in (client_at places m) → IsAlive g x → (false ≡ is_heard g m) × IsAlive (said g m text) x
+said_unheard g m text places x b h a = quiet_by g m text x (client_at g.clients m) (h ∙ ap speaker_in (ap (λ z. client_at z m) b ∙ kept_at g.clients m)) a
+
+-- a message kills nothing
+pub message_lives : (g : Gate) (m : ℕ) (text : List ℕ) → g.dead ≡ false → marks (next g (message m text)) ≡ marks g → (said g m text).dead ≡ g.dead
+message_lives g m text h law = subst (λ b. (cond b g (said g m text)).dead ≡ g.dead) h (ap (λ (z : Marks). z.dead) law)
+
+-- ---- acts
+
+-- what is done with a request that changes what is shared
+abbrev pub shares : Gate → ℕ → Option Data → Entry → Option ℕ → Gate
+shares g m id e o = if_some o (tells g m (replied id (refused no_session))) (requests g m id e)
+
+pub acts_shared : (g : Gate) (m : ℕ) (c : Client) (id : Option Data) (text : List ℕ) (act : Act) → is_shared act ≡ true
+    → shares g m id (record { role = c.role; line = line_said text; act = act }) (seat_of g.seats c.role) ≡ acts g m c id text act
+acts_shared g m c id text (begin role) h = cc
+acts_shared g m c id text finish h = cc
+acts_shared g m c id text (subscribe rel) h = cc
+acts_shared g m c id text (unsubscribe own) h = cc
+acts_shared g m c id text (create_role name) h = refl
+acts_shared g m c id text (create_table name owner columns) h = refl
+acts_shared g m c id text (create_view name owner query) h = refl
+acts_shared g m c id text (grant rel privileges to) h = refl
+acts_shared g m c id text (revoke rel privileges to) h = refl
+acts_shared g m c id text (grant_role role to) h = refl
+acts_shared g m c id text (revoke_role role to) h = refl
+acts_shared g m c id text (row_security rel enable force) h = refl
+acts_shared g m c id text (create_policy p) h = refl
+acts_shared g m c id text (drop_policy rel name) h = refl
+acts_shared g m c id text (write entries) h = refl
+
+-- in the session of the client's role
+pub shares_as : (g : Gate) (m : ℕ) (c : Client) (id : Option Data) (text line : List ℕ) (role : Name) (act : Act) (o : Option ℕ) (x : Gateway) → is_shared act ≡ true → role ≡ c.role → line_said text ≡ line
+    → o ≡ seat_of g.seats role → IsAlive (shares g m id (record { role = role; line = line; act = act }) o) x → IsAlive (acts g m c id text act) x
+shares_as g m c id text line role act o x s r l e a =
+    subst (λ z. IsAlive z x)
+    ((λ i. shares g m id (record { role = r i; line = sym l i; act = act }) ((e ∙ ap (seat_of g.seats) r) i)) ∙ acts_shared g m c id text act s) a
+
+-- sessions are begun and finished by the gateway alone
+pub acts_none : (g : Gate) (m : ℕ) (c : Client) (id : Option Data) (text : List ℕ) (act : code.Act) → is_shared (act_of act) ≡ false → ((rel : _) → act ≡ asks.Subscribe rel → ⊥) → ((own : _) → act ≡ asks.Unsubscribe own → ⊥)
+    → tells g m (fault 2) ≡ acts g m c id text (act_of act)
+acts_none g m c id text (asks.Begin role) h n k = refl
+acts_none g m c id text asks.Finish h n k = refl
+acts_none g m c id text (asks.Subscribe rel) h n k = absurd (n rel refl)
+acts_none g m c id text (asks.Unsubscribe own) h n k = absurd (k own refl)
+acts_none g m c id text (asks.CreateRole name) h n k = cc
+acts_none g m c id text (asks.CreateTable name owner columns) h n k = cc
+acts_none g m c id text (asks.CreateView name owner query) h n k = cc
+acts_none g m c id text (asks.Grant rel privileges to) h n k = cc
+acts_none g m c id text (asks.Revoke rel privileges to) h n k = cc
+acts_none g m c id text (asks.GrantRole role to) h n k = cc
+acts_none g m c id text (asks.RevokeRole role to) h n k = cc
+acts_none g m c id text (asks.RowSecurity rel enable force) h n k = cc
+acts_none g m c id text (asks.CreatePolicy p) h n k = cc
+acts_none g m c id text (asks.DropPolicy rel name) h n k = cc
+acts_none g m c id text (asks.Write entries) h n k = cc
+
+-- ---- what the journal is to have
+
+drop_within : {X : Type 0} (k : ℕ) (xs : List X) (x : X) → k ≤ length xs → drop k (xs ++ x ∷ []) ≡ drop k xs ++ x ∷ []
+drop_within zero xs x h = refl
+drop_within (suc k) [] x h = absurd (let no : ⊥ = omega (arith, h) in no)
+drop_within (suc k) (y ∷ ys) x h = drop_within k ys x (omega (arith, h))
+
+longer : {X : Type 0} (k : ℕ) (xs : List X) (x : X) → k ≤ length xs → k ≤ length (xs ++ x ∷ [])
+longer k [] x h = omega (arith, h)
+longer zero (y ∷ ys) x h = omega arith
+longer (suc k) (y ∷ ys) x h = let more = longer k ys x (omega (arith, h)) in omega (arith, more)
+
+-- an entry that is accepted
+pub pends_more : (kept : ℕ) (es : List Entry) (e : Entry) (old new : List ℕ) → IsPending kept es old → new ≡ old ++ entry_text e → IsPending kept (es ++ e ∷ []) new
+pends_more kept es e old new p h = record {
+  within = longer kept es e p.within;
+  text = h ∙ (ap (λ z. z ++ entry_text e) p.text
+      ∙ (ap (λ z. journal_of (drop kept es) ++ z) (sym (append-nil (entry_text e)))
+      ∙ (sym (flat_map-append entry_text (drop kept es) (e ∷ [])) ∙ ap journal_of (sym (drop_within kept es e p.within)))));
+}
+
+-- what the reply says of it
+pub entered_by : (g : Gate) (e : Entry) (accepted : Bool) (bytes : List ℕ) → is_shared e.act ≡ true → IsPending g.kept (g.entries ++ cond accepted (e ∷ []) []) bytes
+    → IsPending (entered g e accepted).kept (entered g e accepted).entries bytes
+entered_by g e accepted bytes s p = subst (λ b. IsPending g.kept (g.entries ++ cond (b && accepted) (e ∷ []) []) bytes) (sym s) p
+
+pub pends_none : (kept : ℕ) (es : List Entry) (bytes : List ℕ) → IsPending kept es bytes → IsPending kept (es ++ []) bytes
+pends_none kept es bytes p = subst (λ z. IsPending kept z bytes) (sym (append-nil es)) p
+
+-- the machine has answered, the entry waits for the journal, and the reply is told
+pub told_first : (g : Gate) (m : ℕ) (id : Option Data) (e : Entry) (n : ℕ) (ls entering replying : List Line) (x : Gateway) → ls ≡ (step g.machine (in_session n e.act)).lines → entering ≡ ls → replying ≡ ls
+    → IsAlive (tells (entered (record g { machine = (step g.machine (in_session n e.act)).state }) e (is_accepted (reply_in entering))) m (replied id (reply_in replying))) x
+    → IsRun (tells (entered g e (is_accepted (reply_to g (in_session n e.act)))) m (replied id (reply_to g (in_session n e.act)))) (in_session n e.act) ls x
+told_first g m id e n ls entering replying x l a b h = record {
+  lines = l;
+  gate = subst (λ (p : List Line × List Line). IsAlive (tells (entered (record g { machine = (step g.machine (in_session n e.act)).state }) e (is_accepted (reply_in p.0))) m (replied id (reply_in p.1))) x)
+      (λ i. ((a ∙ l) i, (b ∙ l) i)) h;
+}

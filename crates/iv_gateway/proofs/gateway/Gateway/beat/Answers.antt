@@ -1,0 +1,18 @@
+use Rattle.std.proofs.Common.{◌∙◌, ◌++◌, ap}
+use Rattle.iv_message.specs.Told.{alive, told_text}
+use Rattle.iv_clients.specs.Clients.{at_all, beating}
+use Rattle.iv_clients.specs.Kept.{holding_beat}
+use Rattle.iv_gateway.proofs.Keeping.{keeps_all, kept_beating}
+use Rattle.iv_gateway.proofs.gateway.Gateway.beat.Goals as goal
+
+pub returns : goal.returns
+returns c = λ g b. record {
+  tokens = b.tokens;
+  machine = b.machine;
+  seats = b.seats;
+  feeds = b.feeds;
+  pending = b.pending;
+  clients = c.in_ok-beat_all.ensures
+      ∙ (ap (λ z. at_all (holding_beat z) c.args.self.now.clients.items) (c.deref.ensures.value ∙ (c.in_ok-push_alive.ensures ∙ ap (λ z. z ++ told_text alive) c.new-text.ensures.items))
+      ∙ (ap (at_all (holding_beat (told_text alive))) b.clients ∙ keeps_all (beating g.entries) (holding_beat (told_text alive)) (kept_beating g.entries) g.clients));
+}

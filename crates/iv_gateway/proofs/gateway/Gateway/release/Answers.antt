@@ -1,0 +1,17 @@
+use Rattle.std.proofs.Common.{◌∙◌, ap, arith, length, sym}
+use Rattle.std.proofs.lemmas.List.{drop_all}
+use Rattle.iv_clients.specs.Clients.{at_all, released}
+use Rattle.iv_clients.specs.Journal.{journal_of}
+use Rattle.iv_clients.specs.Kept.{releasing}
+use Rattle.iv_gateway.proofs.Keeping.{keeps_all, kept_released}
+use Rattle.iv_gateway.proofs.gateway.Gateway.release.Goals as goal
+
+pub returns : goal.returns
+returns c = λ g b. record {
+  tokens = b.tokens;
+  machine = b.machine;
+  seats = b.seats;
+  feeds = b.feeds;
+  pending = record { within = omega arith; text = c.clear.ensures.items ∙ ap journal_of (sym (drop_all (length g.entries) g.entries (omega arith))) };
+  clients = c.in_ok-release_all.ensures ∙ (ap (at_all releasing) b.clients ∙ keeps_all released releasing kept_released g.clients);
+}

@@ -1,0 +1,16 @@
+use Rattle.std.proofs.Common.{◌∙◌, refl, sym}
+use Rattle.iv_gate.specs.Events.{message}
+use Rattle.iv_gateway.proofs.Alive.{alive_next}
+use Rattle.iv_gateway.proofs.Said.{message_lives}
+use Rattle.iv_gateway.proofs.gateway.Gateway.said.Goals as goal
+
+pub returns-in-Ok-clause-gate : goal.returns-in-Ok-clause-gate
+returns-in-Ok-clause-gate c = λ g b.
+    let lives = sym b.dead ∙ c.if-self.false in
+    let a = (c.in-Ok.ensures g (b.alive lives)).1 in
+    alive_next g (message c.args.client c.args.text.now) _ lives refl
+    (message_lives g c.args.client c.args.text.now lives (c.events_leave_their_marks.ensures.marks g (message c.args.client c.args.text.now) lives))
+    (record { tokens = a.tokens; machine = a.machine; seats = a.seats; feeds = a.feeds; clients = a.clients; pending = a.pending })
+
+pub returns-in-Ok-clause-heard : goal.returns-in-Ok-clause-heard
+returns-in-Ok-clause-heard c = λ g b. (c.in-Ok.ensures g (b.alive (sym b.dead ∙ c.if-self.false))).0

@@ -1,0 +1,14 @@
+use Rattle.std.proofs.Common.{◌∙◌, ◌++◌, ap}
+use Rattle.iv_message.specs.Told.{settled, told_text}
+use Rattle.iv_gateway.proofs.Standing.{stands_settled}
+use Rattle.iv_gateway.proofs.gateway.Gateway.settle_told.Goals as goal
+
+pub returns : goal.returns
+returns c = λ g b. record {
+  tokens = b.tokens;
+  machine = b.machine;
+  seats = b.seats;
+  feeds = b.feeds;
+  pending = b.pending;
+  clients = c.in_ok-settle_all.ensures ∙ stands_settled g.entries g.clients c.args.self.now.clients.items c.deref.result.now (c.deref.ensures.value ∙ (c.in_ok-push_settled.ensures ∙ ap (λ z. z ++ told_text settled) c.new-text.ensures.items)) b.clients;
+}

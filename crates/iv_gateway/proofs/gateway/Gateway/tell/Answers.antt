@@ -1,0 +1,13 @@
+use Rattle.std.proofs.Common.{◌∙◌}
+use Rattle.iv_gateway.proofs.Standing.{stands_told}
+use Rattle.iv_gateway.proofs.gateway.Gateway.tell.Goals as goal
+
+pub returns : goal.returns
+returns c = λ g t b e. record {
+  tokens = b.tokens;
+  machine = b.machine;
+  seats = b.seats;
+  feeds = b.feeds;
+  pending = b.pending;
+  clients = c.in_ok-hold_at.ensures ∙ stands_told g.entries g.clients c.args.self.now.clients.items c.args.client t c.args.text.now e b.clients;
+}

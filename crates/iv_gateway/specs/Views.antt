@@ -1,0 +1,48 @@
+-- For contracts of the code: what its values are to the definitions.
+use Rattle.std.specs.Prelude.{◌≡◌, ◌≤◌, ℕ, false, List, drop, length, Option, Some, None}
+use Rattle.iv_access.specs.Rights.{Name}
+use Rattle.iv_machine.specs.Act.{Act, Command, Line}
+use Rattle.iv_machine.specs.Act as machine
+use Rattle.iv_machine.specs.Machine.{step}
+use Rattle.iv_store.specs.Engine.{IsBehind}
+use Rattle.iv_clients.specs.Journal.{Entry, journal_of}
+use Rattle.iv_clients.specs.Kept.{kept_slots}
+use Rattle.iv_gate.specs.Gate.{Gate, begun_for, seated}
+use Rattle.iv_gateway.specs.declared.gateway.Gateway.{Gateway}
+use Rattle.iv_gateway.specs.declared.seats.Opening.{Opening}
+use Rattle.iv_gateway.specs.declared.seats.Opening.TheVariants as opening
+
+-- so many of the entries are on disk, and the text of the others is pending
+pub record IsPending (kept : ℕ) (entries : List Entry) (bytes : List ℕ) : Type 0 where
+  pub within : kept ≤ length entries
+  pub text : bytes ≡ journal_of (drop kept entries)
+
+-- the machine's state stands behind the engine, and all else is the same, but for what the code has no memory of
+pub record IsAlive (g : Gate) (x : Gateway) : Type 0 where
+  pub tokens : x.tokens.items ≡ g.tokens
+  pub machine : IsBehind g.machine x.engine
+  pub seats : x.seats.items ≡ g.seats
+  pub feeds : x.feeds.items ≡ g.feeds
+  pub clients : x.clients.items ≡ kept_slots g.clients
+  pub pending : IsPending g.kept g.entries x.pending.items
+
+-- of a dead one nothing is known but that
+pub record IsGate (g : Gate) (x : Gateway) : Type 0 where
+  pub dead : x.dead ≡ g.dead
+  pub alive : g.dead ≡ false → IsAlive g x
+
+-- the machine has answered the command by the lines, and nobody has been told
+pub record IsRun (g : Gate) (k : Command) (ls : List Line) (x : Gateway) : Type 0 where
+  pub lines : ls ≡ (step g.machine k).lines
+  pub gate : IsAlive (record g { machine = (step g.machine k).state }) x
+
+-- a session was begun for the role, or none is
+abbrev pub IsSeated : Gate → Name → Option ℕ → Gateway → Type 0
+IsSeated g role None x = (begun_for g role ≡ None) × IsAlive g x
+IsSeated g role (Some n) x = (begun_for g role ≡ Some n) × IsAlive (seated g n role) x
+
+-- what is left of an accepted reply to a subscribe
+abbrev pub opening_of : machine.Reply → Opening
+opening_of machine.done = opening.Done
+opening_of (machine.subscribed k) = opening.Subscribed k
+opening_of (machine.refused r) = opening.Refused

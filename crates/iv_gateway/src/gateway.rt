@@ -1,0 +1,88 @@
+//! `Gateway`: the engine, sessions by role, feeds that clients share, clients, and the journal that is ahead of what they are told.
+ghost use Rattle.std.specs.Prelude.{◌≡◌, ℕ, IfOk, [], false};
+ghost use Rattle.iv_rows.specs.Options.{if_some};
+ghost use Rattle.iv_machine.specs.State.{start};
+ghost use Rattle.iv_store.specs.Engine.{IsBehind};
+ghost use Rattle.iv_clients.specs.Clients.{client_at, text_shown};
+ghost use Rattle.iv_gate.specs.Gate.{Gate, is_heard};
+ghost use Rattle.iv_gate.specs.Restoring.{gate_at_start};
+ghost use Rattle.iv_gateway.specs.Views.{IsGate};
+
+use iv_clients::{Client, Feed, Seat, Token, empty_slots};
+use iv_engine::Engine;
+use json::Scratch;
+use std::alloc::{AllocError, Global};
+
+/// Why the gateway does no more. Nobody was told what the journal does not have.
+#[derive(Clone, Copy, Debug, PartialEq, Eq)]
+pub enum GatewayFault {
+    /// A growth of memory was refused. The gateway is dead.
+    Memory,
+    /// The journal could not be written. The gateway is dead.
+    Journal,
+    /// The gateway was dead before.
+    Dead,
+}
+
+/// The engine, its sessions by role, the feeds that clients share, the clients by their numbers, the tokens that open roles, and what the
+/// journal is to have before anyone is told. After a fault it is dead: it does nothing any more.
+#[derive(Drop)]
+pub struct Gateway {
+    pub(crate) alloc: Global,
+    pub(crate) engine: Engine,
+    pub(crate) seats: Vec<Seat>,
+    pub(crate) feeds: Vec<Feed>,
+    pub(crate) clients: Vec<Option<Client>>,
+    pub(crate) pending: Vec<u8>,
+    pub(crate) tokens: Vec<Token>,
+    pub(crate) scratch: Scratch,
+    pub(crate) dead: bool,
+}
+
+impl Gateway {
+    /// A gateway with no client, and places for as many, over an engine with nothing.
+    ///
+    /// # Errors
+    /// `AllocError` where a growth of memory was refused.
+    pub fn new(
+        alloc: Global,
+        engine: Engine,
+        tokens: Vec<Token>,
+        most: u32,
+    ) -> Result<Gateway, AllocError>
+        ensures { IfOk result (λ x. (cap : ℕ) → IsBehind (start cap) engine → IsGate (gate_at_start cap tokens.items most []) x) }
+    {
+        let clients = empty_slots(alloc, most)?;
+        Ok(Gateway {
+            alloc,
+            engine,
+            seats: Vec::new(alloc),
+            feeds: Vec::new(alloc),
+            clients,
+            pending: Vec::new(alloc),
+            tokens,
+            scratch: Scratch::new(alloc),
+            dead: false,
+        })
+    }
+
+    /// Whether a message of the client would be done now. Who reads a socket leaves it unread while that is not so.
+    pub fn is_heard(&self, client: u32) -> bool
+        ensures { (g : Gate) → IsGate g self.now → g.dead ≡ false → result ≡ is_heard g client }
+    {
+        match self.clients.get(client as usize) {
+            Some(Some(it)) => it.may_ask(),
+            _ => false,
+        }
+    }
+
+    /// Whether the client is to go: its text is gone, and its socket is to be closed.
+    pub fn is_dropped(&self, client: u32) -> bool
+        ensures { (g : Gate) → IsGate g self.now → g.dead ≡ false → result ≡ if_some (client_at g.clients client) false (λ c. c.dropped) }
+    {
+        match self.clients.get(client as usize) {
+            Some(Some(it)) => it.is_dropped(),
+            _ => false,
+        }
+    }
+}

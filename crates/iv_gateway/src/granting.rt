@@ -1,0 +1,243 @@
+//! `Gateway::hear`: has the lines of a command told, and what it grants to those of whom it grants it.
+ghost use Rattle.std.specs.Prelude.{◌≡◌, ◌++◌, IfOk, OnOk, false, map, option_map, string_bytes, true};
+ghost use Rattle.iv_command.specs.Views.{act_of, line_of};
+ghost use Rattle.iv_machine.specs.Act.{Command};
+ghost use Rattle.iv_engine.specs.Known.{relations_with};
+ghost use Rattle.iv_clients.specs.Clients.{at_all};
+ghost use Rattle.iv_gate.specs.Gate.{Gate, is_accepted, ran, reply_in};
+ghost use Rattle.iv_gateway.specs.Granting.{IsGranting, hearing_granted, holding_for, is_granted, names_granted, text_granted};
+ghost use Rattle.iv_gateway.specs.Views.{IsAlive, IsRun};
+
+use crate::gateway::Gateway;
+use crate::hearing::hear_lines;
+use crate::seats::is_accepted;
+use iv_clients::{Client, drop_ended, stay_all};
+use iv_command::{Act, Line};
+use iv_engine::Engine;
+use iv_message::laws::told_texts_are_lines;
+use iv_message::push_granted;
+use std::alloc::{AllocError, Global};
+
+/// What a request grants, if it is accepted.
+#[derive(Drop)]
+pub enum Grants {
+    /// Nothing.
+    Nothing,
+    /// Privileges on a relation, to a role, or to all where none is named.
+    Privileges {
+        /// The relation.
+        rel: String,
+        /// The role.
+        to: Option<String>,
+    },
+    /// A new relation, to those who have a privilege on it.
+    Relation {
+        /// The relation.
+        rel: String,
+    },
+    /// What a role has, to a role and its members.
+    Membership {
+        /// The role that has it.
+        group: String,
+        /// The role that becomes a member of it.
+        to: String,
+    },
+}
+
+/// A name, or none.
+fn name_in(name: &Option<String>) -> Result<Option<String>, AllocError>
+    ensures { IfOk result (λ o. option_map string_bytes o ≡ option_map string_bytes name.now) }
+{
+    match name {
+        None => Ok(None),
+        Some(name) => Ok(Some(name.clone()?)),
+    }
+}
+
+impl Grants {
+    /// What an act grants.
+    ///
+    /// # Errors
+    /// `AllocError` where a growth of memory was refused.
+    pub(crate) fn of(act: &Act) -> Result<Grants, AllocError>
+        ensures { IfOk result (IsGranting (act_of act.now)) }
+    {
+        match act {
+            Act::Grant { rel, grantee, .. } => Ok(Grants::Privileges {
+                rel: rel.clone()?,
+                to: name_in(grantee)?,
+            }),
+            Act::CreateTable { name, .. } => Ok(Grants::Relation { rel: name.clone()? }),
+            Act::CreateView { name, .. } => Ok(Grants::Relation { rel: name.clone()? }),
+            Act::GrantRole { role, to } => Ok(Grants::Membership {
+                group: role.clone()?,
+                to: to.clone()?,
+            }),
+            _ => Ok(Grants::Nothing),
+        }
+    }
+}
+
+/// Whether it is granted to a role.
+fn is_granted(engine: &Engine, grants: &Grants, role: &str) -> bool
+    requires { engine.now.failed ≡ false }
+    ensures { result ≡ is_granted engine.now.frame grants.now role.now }
+{
+    match grants {
+        Grants::Nothing => false,
+        Grants::Privileges { to: None, .. } => true,
+        Grants::Privileges { to: Some(to), .. } => engine.is_member(role, to.as_str()),
+        Grants::Relation { rel } => engine.has_some(role, rel.as_str()),
+        Grants::Membership { to, .. } => engine.is_member(role, to.as_str()),
+    }
+}
+
+/// Appends that something is granted on each of the relations.
+fn push_names(alloc: Global, text: &mut Vec<u8>, names: &[&str]) -> Result<(), AllocError>
+    ensures { OnOk result (text.new.items ≡ text.old.items ++ text_granted (map (λ n. n.now) names.now)) }
+{
+    for name in names {
+        push_granted(alloc, text, name)?;
+    }
+    Ok(())
+}
+
+/// Appends that something is granted on each of the relations that a role has something on.
+fn push_relations(
+    alloc: Global,
+    text: &mut Vec<u8>,
+    engine: &Engine,
+    role: &str,
+) -> Result<(), AllocError>
+    requires { engine.now.failed ≡ false }
+    ensures { OnOk result (text.new.items ≡ text.old.items ++ text_granted (relations_with engine.now.frame role.now)) }
+{
+    match engine.relations_with(alloc, role) {
+        Err(error) => Err(error),
+        Ok(names) => {
+            push_names(alloc, text, &names)?;
+            Ok(())
+        }
+    }
+}
+
+/// The texts that tell what is granted.
+fn text_granted(alloc: Global, engine: &Engine, grants: &Grants) -> Result<Vec<u8>, AllocError>
+    requires { engine.now.failed ≡ false }
+    ensures { IfOk result (λ text. text.items ≡ text_granted (names_granted engine.now.frame grants.now)) }
+{
+    let mut text = Vec::new(alloc);
+    match grants {
+        Grants::Nothing => {}
+        Grants::Privileges { rel, .. } => push_granted(alloc, &mut text, rel.as_str())?,
+        Grants::Relation { rel } => push_granted(alloc, &mut text, rel.as_str())?,
+        Grants::Membership { group, .. } => {
+            push_relations(alloc, &mut text, engine, group.as_str())?
+        }
+    }
+    Ok(text)
+}
+
+/// Has a text told to a client of whose role it is granted.
+fn grant(
+    client: &mut Client,
+    engine: &Engine,
+    grants: &Grants,
+    text: &[u8],
+) -> Result<(), AllocError>
+    requires { engine.now.failed ≡ false }
+    ensures { OnOk result (client.new ≡ holding_for (is_granted engine.now.frame grants.now) text.now client.old) }
+{
+    if !is_granted(engine, grants, client.role()) {
+        return Ok(());
+    }
+    client.hold(text)?;
+    Ok(())
+}
+
+fn grant_slot(
+    slot: &mut Option<Client>,
+    engine: &Engine,
+    grants: &Grants,
+    text: &[u8],
+) -> Result<(), AllocError>
+    requires { engine.now.failed ≡ false }
+    ensures { OnOk result (slot.new ≡ option_map (holding_for (is_granted engine.now.frame grants.now) text.now) slot.old) }
+{
+    match slot {
+        None => Ok(()),
+        Some(client) => {
+            grant(client, engine, grants, text)?;
+            Ok(())
+        }
+    }
+}
+
+/// Has a text told to all of whose roles it is granted.
+fn grant_all(
+    clients: &mut Vec<Option<Client>>,
+    engine: &Engine,
+    grants: &Grants,
+    text: &[u8],
+) -> Result<(), AllocError>
+    requires { engine.now.failed ≡ false }
+    ensures { OnOk result (clients.new.items ≡ at_all (holding_for (is_granted engine.now.frame grants.now) text.now) clients.old.items) }
+{
+    for slot in clients.iter_mut() {
+        grant_slot(slot, engine, grants, text)?;
+    }
+    Ok(())
+}
+
+/// Has what an accepted command grants told to all of whose roles it is granted.
+fn hear_granted(
+    alloc: Global,
+    clients: &mut Vec<Option<Client>>,
+    engine: &Engine,
+    grants: &Grants,
+) -> Result<(), AllocError>
+    ensures { OnOk result (clients.new.items ≡ at_all (hearing_granted true engine.now.frame grants.now) clients.old.items) }
+{
+    if engine.is_failed() {
+        return Err(AllocError);
+    }
+    told_texts_are_lines();
+    let text = text_granted(alloc, engine, grants)?;
+    if text.is_empty() {
+        return Ok(());
+    }
+    grant_all(clients, engine, grants, &text)?;
+    Ok(())
+}
+
+/// Has what a command grants told, if the lines say that it was accepted. Where it grants nothing nobody is looked at.
+fn hear_grants(
+    alloc: Global,
+    clients: &mut Vec<Option<Client>>,
+    engine: &Engine,
+    lines: &[Line],
+    grants: &Grants,
+) -> Result<(), AllocError>
+    ensures { OnOk result (clients.new.items
+        ≡ at_all (hearing_granted (is_accepted (reply_in (map line_of lines.now))) engine.now.frame grants.now) clients.old.items) }
+{
+    if !is_accepted(lines) {
+        return Ok(());
+    }
+    hear_granted(alloc, clients, engine, grants)?;
+    Ok(())
+}
+
+impl Gateway {
+    /// Has the lines of a command told, and what it grants. What ended is shared no more.
+    pub(crate) fn hear(&mut self, lines: &[Line], grants: &Grants) -> Result<(), AllocError>
+        ensures { OnOk result ((g : Gate) (k : Command) → IsRun g k (map line_of lines.now) self.old → IsGranting k.act grants.now
+            → IsAlive (ran g k) self.new) }
+    {
+        hear_lines(self.alloc, &mut self.clients, &self.feeds, lines)?;
+        hear_grants(self.alloc, &mut self.clients, &self.engine, lines, grants)?;
+        stay_all(&mut self.clients, lines);
+        drop_ended(&mut self.feeds, lines);
+        Ok(())
+    }
+}

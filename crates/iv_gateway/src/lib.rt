@@ -1,0 +1,26 @@
+//! A gateway: the engine, its sessions by role, clients who share subscriptions, and the journal that is ahead of what they are told.
+//!
+//! A program has one number for a socket and its client. It begins with `new` and `restore`, and cuts the journal where that ends. Its
+//! round: `left` for each socket that is gone; for each text that a socket brings `admit` if it is the first, and else `said`, in their
+//! order, as long as `is_heard`; then `settle`; then for each client `take`, whose text goes to its socket, and `is_dropped`, whose
+//! socket is closed. What `said` answers `false` to is said again later. Each error ends the program. So nobody is told what the journal
+//! does not have, and a round's requests share one sync.
+#![tactic(auto)]
+
+mod closing;
+mod coming;
+mod events;
+mod gateway;
+mod granting;
+mod hearing;
+mod journal;
+mod messages;
+mod restoring;
+mod seats;
+mod subscribing;
+mod sweeping;
+mod telling;
+
+pub use gateway::{Gateway, GatewayFault};
+pub use journal::{Journal, JournalFault};
+pub use restoring::RestoreFault;

@@ -1,0 +1,96 @@
+//! What clients are told: one thing, the lines of a command, and that this is all.
+ghost use Rattle.std.specs.Prelude.{◌≡◌, [], OnOk, map, option_map};
+ghost use Rattle.iv_access.specs.Rights.{Name};
+ghost use Rattle.iv_command.specs.Views.{line_of, reply_of};
+ghost use Rattle.iv_machine.specs.Act.{Command};
+ghost use Rattle.iv_machine.specs.State.{Frame};
+ghost use Rattle.iv_message.specs.Seen.{id_data};
+ghost use Rattle.iv_message.specs.Told.{Told, fault, replied, told_text};
+ghost use Rattle.iv_gate.specs.Gate.{Gate, granted_by, ran, reply_in, settles, tells};
+ghost use Rattle.iv_gateway.specs.Views.{IsAlive, IsRun};
+
+use crate::gateway::Gateway;
+use crate::hearing::hear_lines;
+use iv_clients::{drop_ended, hold_at, settle_all, stay_all};
+use iv_command::{Line, Refusal, Reply};
+use iv_message::{Id, push_fault, push_replied, push_settled};
+use std::alloc::AllocError;
+
+impl Gateway {
+    /// Has a text told to a client.
+    pub(crate) fn tell(&mut self, client: u32, text: &[u8]) -> Result<(), AllocError>
+        ensures { OnOk result ((g : Gate) (t : Told) → IsAlive g self.old → told_text t ≡ text.now → IsAlive (tells g client t) self.new) }
+    {
+        hold_at(&mut self.clients, client, text)?;
+        Ok(())
+    }
+
+    /// Has a reply told to a client.
+    pub(crate) fn reply(
+        &mut self,
+        client: u32,
+        id: &Option<Id>,
+        reply: &Reply,
+    ) -> Result<(), AllocError>
+        ensures { OnOk result ((g : Gate) → IsAlive g self.old → IsAlive (tells g client (replied (option_map id_data id.now) (reply_of reply.now))) self.new) }
+    {
+        let mut text = Vec::new(self.alloc);
+        push_replied(self.alloc, &mut text, id, reply)?;
+        self.tell(client, &text)?;
+        Ok(())
+    }
+
+    /// Has the reply told to a client that the lines of a command begin with.
+    pub(crate) fn reply_first(
+        &mut self,
+        client: u32,
+        id: &Option<Id>,
+        lines: &[Line],
+    ) -> Result<(), AllocError>
+        ensures { OnOk result ((g : Gate) → IsAlive g self.old
+            → IsAlive (tells g client (replied (option_map id_data id.now) (reply_in (map line_of lines.now)))) self.new) }
+    {
+        match lines.first() {
+            Some(Line::Reply { reply, .. }) => {
+                self.reply(client, id, reply)?;
+                Ok(())
+            }
+            _ => {
+                let reply = Reply::Refused(Refusal::NoSession);
+                self.reply(client, id, &reply)?;
+                Ok(())
+            }
+        }
+    }
+
+    /// Has the number of a refusal alone told to a client.
+    pub(crate) fn refuse(&mut self, client: u32, number: u64) -> Result<(), AllocError>
+        ensures { OnOk result ((g : Gate) → IsAlive g self.old → IsAlive (tells g client (fault number)) self.new) }
+    {
+        let mut text = Vec::new(self.alloc);
+        push_fault(self.alloc, &mut text, number)?;
+        self.tell(client, &text)?;
+        Ok(())
+    }
+
+    /// Has the lines of a command told that grants nothing. What ended is shared no more.
+    pub(crate) fn hear_plain(&mut self, lines: &[Line]) -> Result<(), AllocError>
+        ensures { OnOk result ((g : Gate) (k : Command) → IsRun g k (map line_of lines.now) self.old → ((f : Frame) (role : Name) → granted_by f k.act role ≡ [])
+            → IsAlive (ran g k) self.new) }
+    {
+        hear_lines(self.alloc, &mut self.clients, &self.feeds, lines)?;
+        stay_all(&mut self.clients, lines);
+        drop_ended(&mut self.feeds, lines);
+        Ok(())
+    }
+
+    /// Tells all to whom something was told that this is all.
+    pub(crate) fn settle_told(&mut self) -> Result<(), AllocError>
+        ensures { OnOk result ((g : Gate) → IsAlive g self.old → IsAlive (settles g) self.new) }
+    {
+        let mut text = Vec::new(self.alloc);
+        push_settled(&mut text)?;
+        settle_all(&mut self.clients, &text)?;
+        Ok(())
+    }
+}

@@ -1,0 +1,14 @@
+//! Tests of the public calls of iv_gateway: worked conversations of clients with a gateway, byte for byte, clients that do not read, and
+//! ends of journals.
+#![tactic(auto)]
+
+#[cfg(test)]
+mod conversations;
+#[cfg(test)]
+mod playing;
+#[cfg(test)]
+mod slow;
+#[cfg(test)]
+mod torn;
+#[cfg(test)]
+mod viewd;
