@@ -6,6 +6,7 @@ mod Ending
 mod Joining
 mod Guarding
 mod Numbering
+mod Reordering
 pub mod Sounding
 pub mod Enrolled
 mod Knowing

@@ -1,4 +1,4 @@
--- Commands that a line may give lead an engine behind which a sound state stands to another.
+-- Commands that a line may give lead an engine behind which sound states stand to another.
 use Rattle.std.proofs.Common.{ℕ, List, [], ◌∷◌, subst, sym}
 use Rattle.std.proofs.lemmas.List.Elements.{All-cons, All-nil}
 use Rattle.std.specs.List.{All}
@@ -9,12 +9,13 @@ use Rattle.iv_machine.specs.Stored.{IsGiven, IsStoredSound}
 use Rattle.iv_machine.proofs.Standing.{IsSoundWhole, hung_stays, run_stays, start_stays}
 use Rattle.iv_store.specs.Engine.{Engine, IsBehind, IsLeftBy, IsLeftByAll}
 use Rattle.iv_engine.specs.Sound.{IsSoundEngine}
+use Rattle.iv_engine.proofs.Reordering.{sound_behind}
 
 pub sound_of : (s : State) (e : Engine) → IsBehind s e → IsSoundWhole s → IsSoundEngine e
-sound_of s e b k = record { state = s; behind = b; sound = k.0; stored = subst IsStoredSound b.frame k.1 }
+sound_of s e b k = record { state = s; behind = b; sound = λ t d. sound_behind s t e b d k.0; stored = subst IsStoredSound b.frame k.1 }
 
-whole_of : (e : Engine) (h : IsSoundEngine e) → IsSoundWhole h.state
-whole_of e h = (h.sound, subst IsStoredSound (sym h.behind.frame) h.stored)
+pub whole_of : (e : Engine) (h : IsSoundEngine e) → IsSoundWhole h.state
+whole_of e h = (h.sound h.state h.behind, subst IsStoredSound (sym h.behind.frame) h.stored)
 
 pub sound_at_start : (cap : ℕ) (e : Engine) → IsBehind (start cap) e → IsSoundEngine e
 sound_at_start cap e b = sound_of (start cap) e b (start_stays cap)

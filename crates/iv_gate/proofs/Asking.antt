@@ -19,7 +19,7 @@ use Rattle.iv_clients.specs.Journal.{Entry, line_said, said_by}
 use Rattle.iv_gate.specs.Gate.{Gate, acts, begun_for, closes, done_for, entered, in_session, is_accepted, joins, ran, reads, reads_first, reply_in, reply_to, requests, seated, subscribes, swept, tells, told_of}
 use Rattle.iv_gate.specs.Replies.{ActsAs, replies}
 use Rattle.iv_gate.proofs.Joining.{and_both, joins_sound, same_name}
-use Rattle.iv_gate.proofs.Machine.{begun, some_is_none}
+use Rattle.iv_gate.proofs.Machine.{some_is_none}
 use Rattle.iv_gate.proofs.Opening.{IsAsker, all_pushed, quiet_replied, subscribes_sound}
 use Rattle.iv_gate.proofs.Places.{replies_both, told_replies}
 use Rattle.iv_gate.proofs.Running.{IsQuiet, acts_step, all_so, closes_none, closing_sound, one_sound, ran_sound, spares_all, swept_sound, tells_sound}
@@ -73,21 +73,19 @@ begun_accepted g role n h = by (next_seat g.seats) h
     by None t = absurd (some_is_none n (sym t))
     by (Some i) t = test i (is_accepted (reply_to g (in_session i (begin role)))) refl t
 
-acts_new : (s : State) (n : ℕ) (role : Name) (o : Option Refusal) → o ≡ None → refusal s n (begin role) ≡ None → ActsAs (outcome s (in_session n (begin role)) o).state n role
-acts_new s n role (Some r) h e = absurd (some_is_none r h)
-acts_new s n role None h e = begun s n role e
-
-pub new_seat_acts : (g : Gate) (role : Name) (n : ℕ) → begun_for g role ≡ Some n → ActsAs (seated g n role).machine n role
-new_seat_acts g role n h = let e = begun_accepted g role n h in acts_new g.machine n role (refusal g.machine n (begin role)) e e
+pub new_seat_acts : Sounds → (g : Gate) (role : Name) (n : ℕ) → begun_for g role ≡ Some n → ActsAs (seated g n role).machine n role
+new_seat_acts sounds g role n h =
+    let b = sounds.begins g.machine n role (begun_accepted g role n h) in
+    record { place = b.role; known = (sounds.lasts g.machine (in_session n (begin role))).roles role b.role b.known; session = b.opened }
 
 pub seated_sound : Adds → Sounds → (g : Gate) (role : Name) (n : ℕ) → begun_for g role ≡ Some n → IsSoundGate g → IsSoundGate (seated g n role)
 seated_sound adds sounds g role n h b =
     let k = in_session n (begin role) in let s : Seat = record { session = n; role = role } in
     ran_ready adds sounds (record g { seats = g.seats ++ s ∷ [] }) k (record {
       state = b.state;
-      seats = all_pushed (λ (x : Seat). ActsAs (step g.machine k).state x.session x.role) g.seats s (all_so (λ x y. acts_step g.machine k x.session x.role refl y) g.seats b.seats) (new_seat_acts g role n h);
+      seats = all_pushed (λ (x : Seat). ActsAs (step g.machine k).state x.session x.role) g.seats s (all_so (λ x y. acts_step sounds g.machine k x.session x.role refl y) g.seats b.seats) (new_seat_acts sounds g role n h);
       feeds = all_so {P = IsFeed g.machine} {Q = λ (f : Feed). ends_in (step g.machine k).lines f.number ≡ false → IsFeed (step g.machine k).state f}
-          (λ f y e. feed_step g.machine k f b.state.numbers refl (spares_all g.machine k f.number refl) e y) g.feeds b.feeds;
+          (λ f y e. feed_step sounds g.machine k f b.state.numbers refl (spares_all g.machine k f.number refl) e y) g.feeds b.feeds;
       spared = λ j f e. spares_all g.machine k j refl;
       clients = b.clients;
     })
@@ -119,7 +117,7 @@ first_sound adds sounds g m id role rel same b = by (room_for g.seats g.feeds ro
     further : (o : Option ℕ) → begun_for g role ≡ o → IsSoundGate (if_some o (tells g m (replied id (refused too_many))) (λ n. subscribes (seated g n role) m id n role rel))
     further None e = tells_sound g m (replied id (refused too_many)) (quiet_replied id (refused too_many)) b
     further (Some n) e =
-        subscribes_sound adds sounds (seated g n role) m id n role rel (new_seat_acts g role n e)
+        subscribes_sound adds sounds (seated g n role) m id n role rel (new_seat_acts sounds g role n e)
         (asker_ran (record g { seats = g.seats ++ record { session = n; role = role } ∷ [] }) (in_session n (begin role)) m id role rel same) (seated_sound adds sounds g role n e b)
 
     by : (o : Option ℕ) → room_for g.seats g.feeds role ≡ o

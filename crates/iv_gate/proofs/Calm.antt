@@ -67,7 +67,7 @@ ran_still g k h b = ran_alone g k k.session (reply_in (step g.machine k).lines) 
 -- ---- sessions and subscriptions that begin and end
 
 pub sound_kit : Sounds → Sits (λ s seats. IsSoundState s)
-sound_kit sounds = record { step = λ s k seats p b. sounds s k b; begin = λ g n role e b. sounds g.machine (in_session n (begin role)) b }
+sound_kit sounds = record { step = λ s k seats p b. sounds.sound s k b; begin = λ g n role e b. sounds.sound g.machine (in_session n (begin role)) b }
 
 pub seated_still : (g : Gate) (n : ℕ) (role : Name) → IsSoundState g.machine
     → seated g n role ≡ record g { machine = (step g.machine (in_session n (begin role))).state; seats = g.seats ++ record { session = n; role = role } ∷ [] }
@@ -103,7 +103,7 @@ module _ (sounds : Sounds) where
     where
       by : (t : Bool) → IsSoundState (cond t g (ran (record g { seats = without_seat s.session g.seats }) (in_session s.session finish))).machine
       by true = b
-      by false = sounds g.machine (in_session s.session finish) b
+      by false = sounds.sound g.machine (in_session s.session finish) b
 
   rested_clients : (g : Gate) (s : Seat) → IsSoundState g.machine → (rested g s).clients ≡ g.clients
   rested_clients g s b = by (is_needed g s)

@@ -35,7 +35,7 @@ use Rattle.iv_gate.proofs.Keeping.{IsKept}
 use Rattle.iv_gate.proofs.Machine.{find_passes, some_is_none}
 use Rattle.iv_gate.proofs.Replying.{act_reply, asked, begun_reply, first_reply, other_reply, read_reply, said_reply}
 use Rattle.iv_gate.proofs.Sharing.{IsFed, numbers_in, seats_in}
-use Rattle.iv_gate.proofs.Sound.{IsSoundGate, left_of}
+use Rattle.iv_gate.proofs.Sound.{IsSoundGate, Sounds, left_of}
 use Rattle.iv_gate.proofs.Summing.{neither}
 use Rattle.iv_gate.proofs.Touching.{one_some}
 
@@ -203,11 +203,11 @@ begun_to : (s : State) (n : ℕ) (role : Name) (o : Option Refusal) → o ≡ No
 begun_to s n role None h = refl
 begun_to s n role (Some r) h = absurd (some_is_none r h)
 
-further_true : (g : Gate) (c : Client) (id : Option Data) (rel : Name) (n : ℕ) → begun_for g c.role ≡ Some n → IsSoundGate g → IsKept g → IsReadingReply g c id rel (begun_reply (seated g n c.role) c id n rel)
-further_true g c id rel n e b k = record {
+further_true : Sounds → (g : Gate) (c : Client) (id : Option Data) (rel : Name) (n : ℕ) → begun_for g c.role ≡ Some n → IsSoundGate g → IsKept g → IsReadingReply g c id rel (begun_reply (seated g n c.role) c id n rel)
+further_true sounds g c id rel n e b k = record {
   sessions = (after g.machine n (begin c.role)).frame.sessions;
   reply = reply_in (step w (in_session n (subscribe rel))).lines;
-  is = record { session = n; acts = subst (λ s. ActsAs s n c.role) same (new_seat_acts g c.role n e); reply = refl };
+  is = record { session = n; acts = subst (λ s. ActsAs s n c.role) same (new_seat_acts sounds g c.role n e); reply = refl };
   place = places g b k n;
   told = ap (λ s. reading_told s c id rel (reply_in (step s (in_session n (subscribe rel))).lines)) same ∙ alike (reply_in (step w (in_session n (subscribe rel))).lines);
 }
@@ -236,23 +236,23 @@ at_least m n h = grind (arith, nat_tests)
 abbrev Reads : Gate → Client → Option Data → Name → Told → Type 0
 Reads g c id rel t = (IsFull g c rel × (t ≡ replied id (refused too_many))) ⊎ IsReadingReply g c id rel t
 
-first_true : (g : Gate) (c : Client) (id : Option Data) (rel : Name) → is_some (seat_of g.seats c.role) ≡ true → feed_for g.feeds c.role rel ≡ None → IsSoundGate g → IsKept g → Reads g c id rel (first_reply g c id c.role rel)
-first_true g c id rel seat new b k = by (room_for g.seats g.feeds c.role) refl
+first_true : Sounds → (g : Gate) (c : Client) (id : Option Data) (rel : Name) → is_some (seat_of g.seats c.role) ≡ true → feed_for g.feeds c.role rel ≡ None → IsSoundGate g → IsKept g → Reads g c id rel (first_reply g c id c.role rel)
+first_true sounds g c id rel seat new b k = by (room_for g.seats g.feeds c.role) refl
   where
     further : room_for g.seats g.feeds c.role ≡ None → (o : Option ℕ) → begun_for g c.role ≡ o → Reads g c id rel (if_some o (replied id (refused too_many)) (λ n. begun_reply (seated g n c.role) c id n rel))
     further full None e = inl (inr (record { new = new; full = full; seats = all_begun g c.role b k (known_seat g b c.role seat) e }), refl)
-    further full (Some n) e = inr (further_true g c id rel n e b k)
+    further full (Some n) e = inr (further_true sounds g c id rel n e b k)
 
     by : (o : Option ℕ) → room_for g.seats g.feeds c.role ≡ o
         → Reads g c id rel (if_some o (if_some (begun_for g c.role) (replied id (refused too_many)) (λ n. begun_reply (seated g n c.role) c id n rel)) (λ n. begun_reply g c id n rel))
     by None e = further e (begun_for g c.role) refl
     by (Some n) e = inr (begun_true g c id rel n (room_acts g b c.role n e) b k)
 
-read_true : (g : Gate) (c : Client) (id : Option Data) (rel : Name) → is_some (seat_of g.seats c.role) ≡ true → IsSoundGate g → IsKept g → Reads g c id rel (read_reply g c id rel)
-read_true g c id rel seat b k = test (nat_lt (length c.subs) most_subs) refl
+read_true : Sounds → (g : Gate) (c : Client) (id : Option Data) (rel : Name) → is_some (seat_of g.seats c.role) ≡ true → IsSoundGate g → IsKept g → Reads g c id rel (read_reply g c id rel)
+read_true sounds g c id rel seat b k = test (nat_lt (length c.subs) most_subs) refl
   where
     by : (o : Option Feed) → feed_for g.feeds c.role rel ≡ o → Reads g c id rel (if_some o (first_reply g c id c.role rel) (λ f. begun_reply g c id f.session f.rel))
-    by None e = first_true g c id rel seat e b k
+    by None e = first_true sounds g c id rel seat e b k
     by (Some f) e =
         let p = feed_acts g.machine c.role rel g.feeds f b.feeds e in
         inr (subst (λ r. IsReadingReply g c id rel (begun_reply g c id f.session r)) (sym p.2) (begun_true g c id rel f.session (subst (ActsAs g.machine f.session) p.1 p.0) b k))
@@ -271,29 +271,29 @@ other_true g c id act seat b = by (seat_of g.seats c.role) refl seat
     by None e h = absurd (false≢true h)
     by (Some n) e h = (reply_to g (in_session n act), record { session = n; acts = seat_of_acts g b c.role n e; reply = refl }, refl)
 
-act_true : (g : Gate) (slots : Slots) (c : Client) (id : Option Data) (act : Act) → is_some (seat_of g.seats c.role) ≡ true → IsSoundGate g → IsKept g → IsReplyToAct g c id act (act_reply (record g { clients = slots }) c id act)
-act_true g slots c id (begin role) seat b k = refl
-act_true g slots c id finish seat b k = refl
-act_true g slots c id (subscribe rel) seat b k = read_true g c id rel seat b k
-act_true g slots c id (unsubscribe own) seat b k = refl
-act_true g slots c id (create_role name) seat b k = other_true g c id (create_role name) seat b
-act_true g slots c id (create_table name owner columns) seat b k = other_true g c id (create_table name owner columns) seat b
-act_true g slots c id (create_view name owner query) seat b k = other_true g c id (create_view name owner query) seat b
-act_true g slots c id (grant rel privileges to) seat b k = other_true g c id (grant rel privileges to) seat b
-act_true g slots c id (revoke rel privileges to) seat b k = other_true g c id (revoke rel privileges to) seat b
-act_true g slots c id (grant_role group to) seat b k = other_true g c id (grant_role group to) seat b
-act_true g slots c id (revoke_role group to) seat b k = other_true g c id (revoke_role group to) seat b
-act_true g slots c id (row_security rel enable force) seat b k = other_true g c id (row_security rel enable force) seat b
-act_true g slots c id (create_policy p) seat b k = other_true g c id (create_policy p) seat b
-act_true g slots c id (drop_policy rel name) seat b k = other_true g c id (drop_policy rel name) seat b
-act_true g slots c id (write entries) seat b k = other_true g c id (write entries) seat b
+act_true : Sounds → (g : Gate) (slots : Slots) (c : Client) (id : Option Data) (act : Act) → is_some (seat_of g.seats c.role) ≡ true → IsSoundGate g → IsKept g → IsReplyToAct g c id act (act_reply (record g { clients = slots }) c id act)
+act_true sounds g slots c id (begin role) seat b k = refl
+act_true sounds g slots c id finish seat b k = refl
+act_true sounds g slots c id (subscribe rel) seat b k = read_true sounds g c id rel seat b k
+act_true sounds g slots c id (unsubscribe own) seat b k = refl
+act_true sounds g slots c id (create_role name) seat b k = other_true g c id (create_role name) seat b
+act_true sounds g slots c id (create_table name owner columns) seat b k = other_true g c id (create_table name owner columns) seat b
+act_true sounds g slots c id (create_view name owner query) seat b k = other_true g c id (create_view name owner query) seat b
+act_true sounds g slots c id (grant rel privileges to) seat b k = other_true g c id (grant rel privileges to) seat b
+act_true sounds g slots c id (revoke rel privileges to) seat b k = other_true g c id (revoke rel privileges to) seat b
+act_true sounds g slots c id (grant_role group to) seat b k = other_true g c id (grant_role group to) seat b
+act_true sounds g slots c id (revoke_role group to) seat b k = other_true g c id (revoke_role group to) seat b
+act_true sounds g slots c id (row_security rel enable force) seat b k = other_true g c id (row_security rel enable force) seat b
+act_true sounds g slots c id (create_policy p) seat b k = other_true g c id (create_policy p) seat b
+act_true sounds g slots c id (drop_policy rel name) seat b k = other_true g c id (drop_policy rel name) seat b
+act_true sounds g slots c id (write entries) seat b k = other_true g c id (write entries) seat b
 
-said_true : (g : Gate) (slots : Slots) (c : Client) (s : Message) → is_some (seat_of g.seats c.role) ≡ true → IsSoundGate g → IsKept g → IsReplyTo g c s (said_reply (record g { clients = slots }) c s)
-said_true g slots c no_json seat b k = refl
-said_true g slots c too_long seat b k = refl
-said_true g slots c no_object seat b k = refl
-said_true g slots c (no_request id why) seat b k = refl
-said_true g slots c (request id act) seat b k = act_true g slots c id act seat b k
+said_true : Sounds → (g : Gate) (slots : Slots) (c : Client) (s : Message) → is_some (seat_of g.seats c.role) ≡ true → IsSoundGate g → IsKept g → IsReplyTo g c s (said_reply (record g { clients = slots }) c s)
+said_true sounds g slots c no_json seat b k = refl
+said_true sounds g slots c too_long seat b k = refl
+said_true sounds g slots c no_object seat b k = refl
+said_true sounds g slots c (no_request id why) seat b k = refl
+said_true sounds g slots c (request id act) seat b k = act_true sounds g slots c id act seat b k
 
 -- ---- by an event
 
@@ -308,8 +308,8 @@ role_there (s ∷ ss) (suc m) c h = right (if_some s false (λ (d : Client). byt
     right false k = k
 
 -- a client is told first the reply to its message, and others are told none
-pub are_replied : (g : Gate) (e : Event) → IsSoundGate g → IsKept g → g.dead ≡ false → AreReplied g e
-are_replied g e b k live = record {
+pub are_replied : Sounds → (g : Gate) (e : Event) → IsSoundGate g → IsKept g → g.dead ≡ false → AreReplied g e
+are_replied sounds g e b k live = record {
   own = λ m c d x y text u.
       let a = own_answer g e m c d text live x.there y.there (heard_is m c e text u) in
       let seat = k.shared.seated c.role (role_there g.clients m c x.there) in
@@ -317,7 +317,7 @@ are_replied g e b k live = record {
         reply = said_reply (asked g m text) c (said_by text);
         others = a.others;
         first = own_told g m c text d a ∙ ap (λ z. z ++ said_reply (asked g m text) c (said_by text) ∷ a.others) (a.first (begins_quietly (asked g m text) b.state));
-        is = said_true g (asked g m text).clients c (said_by text) seat b k;
+        is = said_true sounds g (asked g m text).clients c (said_by text) seat b k;
         alone = a.alone;
       };
   others = λ m c d x y u. others_told g e m c d live x y u;

@@ -204,7 +204,7 @@ module _ (sounds : Sounds) (g : Gate) (m : ℕ) (c : Client) where
             entries = entries;
             state = b;
             accepted = e;
-            behind = moves h (subscribed (i.machine.frame.last + 1)) (sounds i.machine (in_session n (subscribe rel)) b);
+            behind = moves h (subscribed (i.machine.frame.last + 1)) (sounds.sound i.machine (in_session n (subscribe rel)) b);
           }))
       by (Some x) e =
           let r = reply_of_some i.machine n rel (refusal i.machine n (subscribe rel)) x e in
@@ -241,7 +241,7 @@ module _ (sounds : Sounds) (g : Gate) (m : ℕ) (c : Client) where
       by None (Some n) =
           let e = seated_still g n role b in
           reads_in (seated g n role) id n role rel (ap (λ (x : Gate). x.clients) e) (ap (λ (x : Gate). x.feeds) e)
-          (last_begun g.machine n role (refusal g.machine n (begin role))) refl (sounds g.machine (in_session n (begin role)) b) room
+          (last_begun g.machine n role (refusal g.machine n (begin role))) refl (sounds.sound g.machine (in_session n (begin role)) b) room
 
   reads_done : (id : Option Data) (rel : Name) → IsSoundState g.machine → IsDone g m c (reads g m c id rel)
   reads_done id rel b = by (nat_lt (length c.subs) most_subs) refl (feed_for g.feeds c.role rel)

@@ -1,21 +1,20 @@
--- What a command ends is open no more, and shows nothing.
-use Rattle.std.proofs.Common.{◌≡◌, ℕ, Bool, true, false, not, cond, ◌||◌, List, [], ◌∷◌, Option, Some, None, is_some, refl, ap, ◌∙◌, sym}
-use Rattle.std.specs.Prelude.{◌==◌, ◌&&◌, flat_map}
-use Rattle.std.specs.List.{list_any}
+-- What a command ends is open no more, and shows nothing; what it does not end is told no end.
+use Rattle.std.proofs.Common.{◌≡◌, ℕ, Bool, true, false, cond, ◌||◌, List, [], ◌∷◌, Option, Some, None, is_some, refl, ap, ◌∙◌, sym, subst, inl, inr}
+use Rattle.std.specs.Prelude.{◌⊎◌, ◌==◌, ◌&&◌, flat_map, Contains}
+use Rattle.std.specs.List.{AllByRecursion, list_any}
 use Rattle.std.proofs.lemmas.Bool.{false≢true, eqb-true}
+use Rattle.std.proofs.lemmas.List.Elements.{All-contains, All-from_recursion, Contains-append_left, Contains-append_right, Contains-push}
 use Rattle.iv_rows.specs.Options.{if_some}
 use Rattle.iv_zset.specs.Weights.{Weighed}
-use Rattle.iv_machine.specs.Act.{Act, Command, Refusal}
-use Rattle.iv_machine.specs.Changing.{after, after_subscriptions}
-use Rattle.iv_machine.specs.Machine.{difference, ending_by, line_for, lines_told, outcome, settled, step}
-use Rattle.iv_machine.specs.Reached.{AreNumbersUnique, AreUnique}
-use Rattle.iv_machine.specs.Refusing.{refusal}
+use Rattle.iv_machine.specs.Act.{Command, Line, reply, change, ended}
+use Rattle.iv_machine.specs.Lasting.{EndsAreTold, IsToldEnd}
+use Rattle.iv_machine.specs.Machine.{difference, line_for, lines_told, step}
+use Rattle.iv_machine.specs.Reached.{AreUnique}
 use Rattle.iv_machine.specs.State.{State, Subscription, shown, subscription_of, view_shown}
 use Rattle.iv_machine.specs.declared.Cause.{Cause}
-use Rattle.iv_machine.proofs.Learning.{kept_at}
-use Rattle.iv_machine.proofs.Reached.{after_numbers}
 use Rattle.iv_clients.specs.Feeds.{ends_in, is_end}
 use Rattle.iv_gate.proofs.Places.{any_of_both}
+use Rattle.iv_gate.proofs.Summing.{neither, same_self}
 
 line_end : (k : ℕ) (o : Option Cause) (e : Subscription) (rows : Weighed) → list_any (is_end k) (lines_told o e rows) ≡ (is_some o && (k == e.number))
 line_end k None e [] = refl
@@ -60,21 +59,45 @@ find_ended k old new ends (e ∷ es) u h =
     by true false f g i more = later (more i) false g
     by false d f g i more = later (more i) d g
 
--- what is told to end is open no more
-pub ended_closed : (s : State) (n : ℕ) (act : Act) (k : ℕ) → AreNumbersUnique s.frame
-    → ends_in (flat_map (line_for s (settled act (after s n act)) (ending_by act (after s n act))) (after_subscriptions s.frame n act)) k ≡ true
-    → subscription_of (settled act (after s n act)).frame.subscriptions k ≡ None
-ended_closed s n act k u h =
-    let x = find_ended k s (settled act (after s n act)) (ending_by act (after s n act)) (after_subscriptions s.frame n act) (after_numbers s.frame n act u).unique h in
-    kept_at (λ y. not (is_some (ending_by act (after s n act) y))) (after_subscriptions s.frame n act) k x.subscription (after_numbers s.frame n act u).unique x.found
-    ∙ ap (λ b. cond (not b) (Some x.subscription) None) x.ended
+-- an end among the lines is told to a session
+told_to : (k : ℕ) (ls : List Line) → ends_in ls k ≡ true → (n : ℕ) × IsToldEnd n k ls
+told_to k [] h = absurd (false≢true h)
+told_to k (l ∷ ls) h = by l (λ e. told_to k ls e) h
+  where
+    later : (l : Line) → (n : ℕ) × IsToldEnd n k ls → (n : ℕ) × IsToldEnd n k (l ∷ ls)
+    later l t = (t.0, record { why = t.1.why; rows = t.1.rows; line = Contains-append_right (l ∷ []) ls (ended t.0 k t.1.why t.1.rows) t.1.line })
 
-ended_by : (s : State) (k : Command) (o : Option Refusal) (j : ℕ) → AreNumbersUnique s.frame → ends_in (outcome s k o).lines j ≡ true → subscription_of (outcome s k o).state.frame.subscriptions j ≡ None
-ended_by s k (Some r) j u h = absurd (false≢true h)
-ended_by s k None j u h = ended_closed s k.session k.act j u h
+    test : (m j : ℕ) (why : Cause) (rows : Weighed) (b : Bool) → (k == j) ≡ b → (ends_in ls k ≡ true → (n : ℕ) × IsToldEnd n k ls) → (b || ends_in ls k) ≡ true → (n : ℕ) × IsToldEnd n k (ended m j why rows ∷ ls)
+    test m j why rows true q more e = (
+      m,
+      record {
+        why = why;
+        rows = rows;
+        line = subst (λ i. Contains (ended m j why rows ∷ ls) (ended m i why rows)) (sym (eqb-true k j q))
+            (Contains-append_left (ended m j why rows ∷ []) ls (ended m j why rows) (Contains-push [] (ended m j why rows)));
+      },
+    )
+    test m j why rows false q more e = later (ended m j why rows) (more e)
 
-pub ended_none : (s : State) (k : Command) (j : ℕ) → AreNumbersUnique s.frame → ends_in (step s k).lines j ≡ true → subscription_of (step s k).state.frame.subscriptions j ≡ None
-ended_none s k j u h = ended_by s k (refusal s k.session k.act) j u h
+    by : (l : Line) → (ends_in ls k ≡ true → (n : ℕ) × IsToldEnd n k ls) → (is_end k l || ends_in ls k) ≡ true → (n : ℕ) × IsToldEnd n k (l ∷ ls)
+    by (reply n r) more e = later (reply n r) (more e)
+    by (change n j rows) more e = later (change n j rows) (more e)
+    by (ended m j why rows) more e = test m j why rows (k == j) refl more e
 
-pub ended_shows_none : (s : State) (k : Command) (j : ℕ) → AreNumbersUnique s.frame → ends_in (step s k).lines j ≡ true → shown (step s k).state j ≡ []
-ended_shows_none s k j u h = ap (λ o. if_some o [] (view_shown (step s k).state)) (ended_none s k j u h)
+no_end : (k : ℕ) (ls : List Line) → ends_in ls k ≡ false → AllByRecursion (λ l. is_end k l ≡ false) ls
+no_end k [] h = tt
+no_end k (l ∷ ls) h = let p = neither (is_end k l) (ends_in ls k) h in (p.0, no_end k ls p.1)
+
+-- what no line ends is told no end
+pub not_told : (P : Type 0) (n k : ℕ) (ls : List Line) → ends_in ls k ≡ false → P ⊎ IsToldEnd n k ls → P
+not_told P n k ls h (inl p) = p
+not_told P n k ls h (inr t) =
+    let other = All-contains (λ l. is_end k l ≡ false) ls (ended n k t.why t.rows) (All-from_recursion (λ l. is_end k l ≡ false) ls (no_end k ls h)) t.line in
+    absurd (false≢true (sym other ∙ same_self k))
+
+-- what is told its end is open no more
+ended_none : (s : State) (k : Command) (j : ℕ) → EndsAreTold s k → ends_in (step s k).lines j ≡ true → subscription_of (step s k).state.frame.subscriptions j ≡ None
+ended_none s k j e h = let t = told_to j (step s k).lines h in e.told t.0 j t.1
+
+pub ended_shows_none : (s : State) (k : Command) (j : ℕ) → EndsAreTold s k → ends_in (step s k).lines j ≡ true → shown (step s k).state j ≡ []
+ended_shows_none s k j e h = ap (λ o. if_some o [] (view_shown (step s k).state)) (ended_none s k j e h)

@@ -5,6 +5,7 @@ use Rattle.std.specs.List.{AllByRecursion}
 use Rattle.std.proofs.lemmas.Bool.{false≢true}
 use Rattle.iv_rows.specs.Options.{if_some}
 use Rattle.iv_access.specs.Laws.{GrantsGive}
+use Rattle.iv_access.specs.Privileges.{role_of}
 use Rattle.iv_access.specs.Rights.{Name}
 use Rattle.iv_machine.specs.Act.{begin, finish, Line, reply, change, ended}
 use Rattle.iv_machine.specs.Machine.{difference, outcome, step}
@@ -30,9 +31,8 @@ use Rattle.iv_gate.proofs.Entering.{passed_is, runs_serving}
 use Rattle.iv_gate.proofs.Granting.{HasAdmin, admin_stays, names_hold, said_well}
 use Rattle.iv_gate.proofs.Doing.{AreCalm, is_news}
 use Rattle.iv_gate.proofs.News.{Hears, quietly, by_command, by_contents, IsToldOf}
-use Rattle.iv_gate.proofs.Heeding.{all_both, all_flat, of_contained, shared_kept}
+use Rattle.iv_gate.proofs.Heeding.{all_both, all_flat, of_contained}
 use Rattle.iv_gate.proofs.Lasting.{Starts, bound, runs_sound}
-use Rattle.iv_gate.proofs.Machine.{acts_after}
 use Rattle.iv_gate.proofs.Noticing.{next_all, told_now}
 use Rattle.iv_gate.proofs.Running.{all_so, all_true}
 use Rattle.iv_gate.proofs.Sitting.{Sits, at_all_swept, at_done, at_with, seat_there}
@@ -41,36 +41,36 @@ use Rattle.iv_gate.proofs.Touching.{came_as, one_some}
 
 -- ---- the superuser stays the first role
 
-admin_kit : Sits (λ s seats. HasAdmin s)
-admin_kit = record { step = λ s k seats p h. admin_stays s k h; begin = λ g n role e h. admin_stays g.machine (in_session n (begin role)) h }
+admin_kit : Sounds → Sits (λ s seats. HasAdmin s)
+admin_kit sounds = record { step = λ s k seats p h. admin_stays sounds s k h; begin = λ g n role e h. admin_stays sounds g.machine (in_session n (begin role)) h }
 
-rested_admin : (g : Gate) (s : Seat) → HasAdmin g.machine → HasAdmin (rested g s).machine
-rested_admin g s h = by (is_needed g s)
+rested_admin : Sounds → (g : Gate) (s : Seat) → HasAdmin g.machine → HasAdmin (rested g s).machine
+rested_admin sounds g s h = by (is_needed g s)
   where
     by : (b : Bool) → HasAdmin (cond b g (ran (record g { seats = without_seat s.session g.seats }) (in_session s.session finish))).machine
     by true = h
-    by false = admin_stays g.machine (in_session s.session finish) h
+    by false = admin_stays sounds g.machine (in_session s.session finish) h
 
-all_rested_admin : (g : Gate) (ss : List Seat) → HasAdmin g.machine → HasAdmin (all_rested g ss).machine
-all_rested_admin g [] h = h
-all_rested_admin g (s ∷ ss) h = all_rested_admin (rested g s) ss (rested_admin g s h)
+all_rested_admin : Sounds → (g : Gate) (ss : List Seat) → HasAdmin g.machine → HasAdmin (all_rested g ss).machine
+all_rested_admin sounds g [] h = h
+all_rested_admin sounds g (s ∷ ss) h = all_rested_admin sounds (rested g s) ss (rested_admin sounds g s h)
 
-happens_admin : (g : Gate) (e : Event) → HasAdmin g.machine → HasAdmin (happens g e).machine
-happens_admin g (presented m token) h = by (role_for g m token)
+happens_admin : Sounds → (g : Gate) (e : Event) → HasAdmin g.machine → HasAdmin (happens g e).machine
+happens_admin sounds g (presented m token) h = by (role_for g m token)
   where
     by : (o : Option Name) → HasAdmin (if_some o g (came_as g m token)).machine
     by None = h
-    by (Some role) = at_with (λ s seats. HasAdmin s) admin_kit g role h
-happens_admin g (message m text) h = by (client_at g.clients m)
+    by (Some role) = at_with (λ s seats. HasAdmin s) (admin_kit sounds) g role h
+happens_admin sounds g (message m text) h = by (client_at g.clients m)
   where
     heard : (b : Client) (d : Bool) → HasAdmin (cond d (hears g m b text) g).machine
-    heard b true = at_done (λ s seats. HasAdmin s) admin_kit (record g { clients = at_client m (saying text) g.clients }) m b text (said_by text) h
+    heard b true = at_done (λ s seats. HasAdmin s) (admin_kit sounds) (record g { clients = at_client m (saying text) g.clients }) m b text (said_by text) h
     heard b false = h
 
     by : (o : Option Client) → HasAdmin (if_some o g (λ b. cond (may_say b) (hears g m b text) g)).machine
     by None = h
     by (Some b) = heard b (may_say b)
-happens_admin g (gone m) h = by (client_at g.clients m)
+happens_admin sounds g (gone m) h = by (client_at g.clients m)
   where
     left : Gate
     left = record g { clients = set g.clients m None }
@@ -82,40 +82,40 @@ happens_admin g (gone m) h = by (client_at g.clients m)
     by None = h
     by (Some b) =
         let ks = map (λ (s : Sub). s.feed) b.subs in let i = all_swept left ks in
-        all_rested_admin i (filter (is_of_role b.role) i.seats) (at_all_swept (λ s seats. HasAdmin s) admin_kit left ks h)
-happens_admin g (known tokens) h = h
-happens_admin g ticked h = h
-happens_admin g synced h = h
-happens_admin g (handed m) h = h
-happens_admin g failed h = h
+        all_rested_admin sounds i (filter (is_of_role b.role) i.seats) (at_all_swept (λ s seats. HasAdmin s) (admin_kit sounds) left ks h)
+happens_admin sounds g (known tokens) h = h
+happens_admin sounds g ticked h = h
+happens_admin sounds g synced h = h
+happens_admin sounds g (handed m) h = h
+happens_admin sounds g failed h = h
 
-next_admin : (g : Gate) (e : Event) → HasAdmin g.machine → HasAdmin (next g e).machine
-next_admin g e h = by g.dead
+next_admin : Sounds → (g : Gate) (e : Event) → HasAdmin g.machine → HasAdmin (next g e).machine
+next_admin sounds g e h = by g.dead
   where
     by : (t : Bool) → HasAdmin (cond t g (happens g e)).machine
     by true = h
-    by false = happens_admin g e h
+    by false = happens_admin sounds g e h
 
-replayed_admin : (s t : State) (e : Entry) → HasAdmin s → replayed s e ≡ Some t → HasAdmin t
-replayed_admin s t e b h =
+replayed_admin : Sounds → (s t : State) (e : Entry) → HasAdmin s → replayed s e ≡ Some t → HasAdmin t
+replayed_admin sounds s t e b h =
     bound (passed s (in_session entry_session (begin e.role))) (λ u. option_and_then (λ v. passed v (in_session entry_session finish)) (passed u (in_session entry_session e.act))) t (HasAdmin t) h
     (λ u i k. bound (passed u (in_session entry_session e.act)) (λ v. passed v (in_session entry_session finish)) t (HasAdmin t) k
     (λ v j l.
-    let first : HasAdmin u = subst HasAdmin (passed_is s u (in_session entry_session (begin e.role)) i) (admin_stays s (in_session entry_session (begin e.role)) b) in
-    let second : HasAdmin v = subst HasAdmin (passed_is u v (in_session entry_session e.act) j) (admin_stays u (in_session entry_session e.act) first) in
-    subst HasAdmin (passed_is v t (in_session entry_session finish) l) (admin_stays v (in_session entry_session finish) second)))
+    let first : HasAdmin u = subst HasAdmin (passed_is s u (in_session entry_session (begin e.role)) i) (admin_stays sounds s (in_session entry_session (begin e.role)) b) in
+    let second : HasAdmin v = subst HasAdmin (passed_is u v (in_session entry_session e.act) j) (admin_stays sounds u (in_session entry_session e.act) first) in
+    subst HasAdmin (passed_is v t (in_session entry_session finish) l) (admin_stays sounds v (in_session entry_session finish) second)))
 
-replays_admin : (s t : State) (es : List Entry) → HasAdmin s → all_replayed s es ≡ Some t → HasAdmin t
-replays_admin s t [] b h = subst HasAdmin (one_some s t h) b
-replays_admin s t (e ∷ es) b h = bound (replayed s e) (λ u. all_replayed u es) t (HasAdmin t) h (λ u i k. replays_admin u t es (replayed_admin s u e b i) k)
+replays_admin : Sounds → (s t : State) (es : List Entry) → HasAdmin s → all_replayed s es ≡ Some t → HasAdmin t
+replays_admin sounds s t [] b h = subst HasAdmin (one_some s t h) b
+replays_admin sounds s t (e ∷ es) b h = bound (replayed s e) (λ u. all_replayed u es) t (HasAdmin t) h (λ u i k. replays_admin sounds u t es (replayed_admin sounds s u e b i) k)
 
-restored_admin : (cap : ℕ) (tokens : List Token) (most : ℕ) (sent : List Shown) (journal : List ℕ) (g : Gate) → Restores (gate_at_start cap tokens most sent) journal g → HasAdmin g.machine
-restored_admin cap tokens most sent journal g r = subst (λ (x : Gate). HasAdmin x.machine) (sym r.gate) (replays_admin (start cap) r.state g.entries refl r.leads.accepted)
+restored_admin : Sounds → (cap : ℕ) (tokens : List Token) (most : ℕ) (sent : List Shown) (journal : List ℕ) (g : Gate) → Restores (gate_at_start cap tokens most sent) journal g → HasAdmin g.machine
+restored_admin sounds cap tokens most sent journal g r = subst (λ (x : Gate). HasAdmin x.machine) (sym r.gate) (replays_admin sounds (start cap) r.state g.entries refl r.leads.accepted)
 
-runs_admin : (cap : ℕ) (g : Gate) → Runs cap g → HasAdmin g.machine
-runs_admin cap _ (begins tokens most journal g r) = restored_admin cap tokens most [] journal g r
-runs_admin cap _ (goes_on h e r) = next_admin h e (runs_admin cap h r)
-runs_admin cap _ (begins_again h disk tokens most i r l x) = restored_admin cap tokens most h.sent disk i x
+runs_admin : Sounds → (cap : ℕ) (g : Gate) → Runs cap g → HasAdmin g.machine
+runs_admin sounds cap _ (begins tokens most journal g r) = restored_admin sounds cap tokens most [] journal g r
+runs_admin sounds cap _ (goes_on h e r) = next_admin sounds h e (runs_admin sounds cap h r)
+runs_admin sounds cap _ (begins_again h disk tokens most i r l x) = restored_admin sounds cap tokens most h.sent disk i x
 
 -- ---- what is told
 
@@ -158,12 +158,13 @@ module _ (adds : Adds) (starts : Starts) (sounds : Sounds) (gives : GrantsGive) 
       let s = g.machine in let k = a.command in
       let z : refusal s k.session k.act ≡ None = accepted_by s k (refusal s k.session k.act) h in
       let seat = seat_there c.role g.seats ((runs_serving adds starts sounds cap g r).seats m c x.there) in
-      let acts = acts_after s seat.session c.role k.session k.act (seat_of_acts g sound c.role seat.session seat.is) (shared_kept k.act a.shared) in
+      let acts = seat_of_acts g sound c.role seat.session seat.is in
+      let known = subst (λ o. role_of (outcome s k o).state.frame.rights c.role ≡ Some acts.place) z ((sounds.lasts s k).roles c.role acts.place acts.known) in
       let well : is_well_act k.act ≡ true = ap is_well_message (sym a.said.2) ∙ said_well reads a.said.0 in
       names_told (next g e).machine.frame c.role (granted_by (step g.machine a.command).state.frame a.command.act c.role)
       (subst (λ (st : State). AllByRecursion (λ rel. has_some st.frame c.role rel ≡ true) (granted_by (step g.machine a.command).state.frame a.command.act c.role)) (sym a.machine)
       (subst (λ (st : State). AllByRecursion (λ rel. has_some st.frame c.role rel ≡ true) (granted_by st.frame a.command.act c.role)) (sym (ap (λ o. (outcome s k o).state) z))
-      (names_hold s k.session c.role acts.place gives k.act z well (runs_admin cap g r) acts.known)))
+      (names_hold s k.session c.role acts.place gives k.act z well (runs_admin sounds cap g r) known)))
 
   grants_told : Hears g (next g e) c d → AllByRecursion (IsGrantTrue (next g e).machine.frame c.role) (told_by c d)
   grants_told (quietly a n) = subst (AllByRecursion (IsGrantTrue (next g e).machine.frame c.role)) (sym (told_now c d a.more a.told)) (calm_all (next g e).machine.frame c.role a.more a.calm)

@@ -83,9 +83,9 @@ all_rested_seat g (s ∷ ss) role there a h =
     all_rested_seat (rested g s) ss role (same_roles role g.clients (rested g s).clients (ap (λ (x : Sign). x.slots) (sign_rested g s)) ∙ there)
     (all_so {P = Alike g.seats} {Q = Alike (rested g s).seats} (λ t b. rested_alike g s t b) ss a.1) (rested_seat g s role there a.0 h)
 
-went_seat : (g : Gate) (m j : ℕ) (c : Client) → (m ≡ j → ⊥) → SeatsAct g.machine g.seats → client_at g.clients j ≡ Some c → list_any (is_of_role c.role) g.seats ≡ true
+went_seat : Sounds → (g : Gate) (m j : ℕ) (c : Client) → (m ≡ j → ⊥) → SeatsAct g.machine g.seats → client_at g.clients j ≡ Some c → list_any (is_of_role c.role) g.seats ≡ true
     → list_any (is_of_role c.role) (went g m).seats ≡ true
-went_seat g m j c ne acts t h = by (client_at g.clients m)
+went_seat sounds g m j c ne acts t h = by (client_at g.clients m)
   where
     left : Gate
     left = record g { clients = set g.clients m None }
@@ -93,7 +93,7 @@ went_seat g m j c ne acts t h = by (client_at g.clients m)
     gone_as : (b : Client) → list_any (is_of_role c.role) (let i = all_swept left (map (λ s. s.feed) b.subs) in all_rested i (filter (is_of_role b.role) i.seats)).seats ≡ true
     gone_as b =
         let ks = map (λ s. s.feed) b.subs in let i = all_swept left ks in
-        let held : SeatsAct i.machine i.seats = at_all_swept SeatsAct seats_act_kit left ks acts in
+        let held : SeatsAct i.machine i.seats = at_all_swept SeatsAct (seats_act_kit sounds) left ks acts in
         all_rested_seat i (filter (is_of_role b.role) i.seats) c.role
         (same_roles c.role left.clients i.clients (ap (λ (x : Sign). x.slots) (sign_all_swept left ks)) ∙ there_role left.clients j c (set_other m j None g.clients ne ∙ t))
         (filter_plain (Alike i.seats) (is_of_role b.role) i.seats (all_so {Q = Alike i.seats} (λ x y. alike_all i.machine i.seats x y held) i.seats held))
@@ -106,14 +106,14 @@ went_seat g m j c ne acts t h = by (client_at g.clients m)
 
 -- ---- who stays
 
-happens_seat : (g : Gate) (e : Event) (j : ℕ) (c : Client) → SeatsAct g.machine g.seats → client_at g.clients j ≡ Some c → is_gone j e ≡ false → list_any (is_of_role c.role) g.seats ≡ true
+happens_seat : Sounds → (g : Gate) (e : Event) (j : ℕ) (c : Client) → SeatsAct g.machine g.seats → client_at g.clients j ≡ Some c → is_gone j e ≡ false → list_any (is_of_role c.role) g.seats ≡ true
     → list_any (is_of_role c.role) (happens g e).seats ≡ true
-happens_seat g (presented m token) j c acts t n h = by (role_for g m token)
+happens_seat sounds g (presented m token) j c acts t n h = by (role_for g m token)
   where
     by : (o : Option Name) → list_any (is_of_role c.role) (if_some o g (came_as g m token)).seats ≡ true
     by None = h
     by (Some role) = at_with (HasSeat c.role) (has_seat_kit c.role) g role h
-happens_seat g (message m text) j c acts t n h = by (client_at g.clients m)
+happens_seat sounds g (message m text) j c acts t n h = by (client_at g.clients m)
   where
     heard : (b : Client) (d : Bool) → list_any (is_of_role c.role) (cond d (hears g m b text) g).seats ≡ true
     heard b true =
@@ -123,12 +123,12 @@ happens_seat g (message m text) j c acts t n h = by (client_at g.clients m)
     by : (o : Option Client) → list_any (is_of_role c.role) (if_some o g (λ b. cond (may_say b) (hears g m b text) g)).seats ≡ true
     by None = h
     by (Some b) = heard b (may_say b)
-happens_seat g (gone m) j c acts t n h = went_seat g m j c (eqb-false m j n) acts t h
-happens_seat g (known tokens) j c acts t n h = h
-happens_seat g ticked j c acts t n h = h
-happens_seat g synced j c acts t n h = h
-happens_seat g (handed m) j c acts t n h = h
-happens_seat g failed j c acts t n h = h
+happens_seat sounds g (gone m) j c acts t n h = went_seat sounds g m j c (eqb-false m j n) acts t h
+happens_seat sounds g (known tokens) j c acts t n h = h
+happens_seat sounds g ticked j c acts t n h = h
+happens_seat sounds g synced j c acts t n h = h
+happens_seat sounds g (handed m) j c acts t n h = h
+happens_seat sounds g failed j c acts t n h = h
 
 -- ---- who comes
 
@@ -245,7 +245,7 @@ happens_seated g synced h = h
 happens_seated g (handed m) h = h
 happens_seated g failed h = h
 
-module _ (g : Gate) (e : Event) (live : g.dead ≡ false) (acts : SeatsAct g.machine g.seats) (s : IsServing g) where
+module _ (sounds : Sounds) (g : Gate) (e : Event) (live : g.dead ≡ false) (acts : SeatsAct g.machine g.seats) (s : IsServing g) where
   is_now : next g e ≡ happens g e
   is_now = alive g e live
 
@@ -253,7 +253,7 @@ module _ (g : Gate) (e : Event) (live : g.dead ≡ false) (acts : SeatsAct g.mac
   old_seat m c d t n k h =
       let role : d.role ≡ c.role = ap (λ (x : Client). x.role) (one_some d k.now (sym h ∙ k.there)) ∙ (ap (λ (x : Card). x.role) k.card ∙ (same_card m c e).0) in
       subst (λ r. list_any (is_of_role r) (next g e).seats ≡ true) (sym role)
-      (ap (λ (x : Gate). list_any (is_of_role c.role) x.seats) is_now ∙ happens_seat g e m c acts t n (s.seats m c t))
+      (ap (λ (x : Gate). list_any (is_of_role c.role) x.seats) is_now ∙ happens_seat sounds g e m c acts t n (s.seats m c t))
 
   live_seats : (m : ℕ) (d : Client) → client_at (next g e).clients m ≡ Some d → list_any (is_of_role d.role) (next g e).seats ≡ true
   live_seats m d h = by (client_at g.clients m) refl (is_gone m e) refl
@@ -286,15 +286,15 @@ module _ (g : Gate) (e : Event) (live : g.dead ≡ false) (acts : SeatsAct g.mac
           let tokens : (next g e).tokens ≡ g.tokens = tokens_now ∙ ap (λ y. (marks_behind g y).tokens) x.event in
           (λ i. role_opened (tokens i) (ap (λ (y : Client). y.digest) x.is i)) ∙ x.opened
 
-pub next_serving : (g : Gate) (e : Event) → IsSoundGate g → IsServing g → IsServing (next g e)
-next_serving g e b s = by g.dead refl
+pub next_serving : Sounds → (g : Gate) (e : Event) → IsSoundGate g → IsServing g → IsServing (next g e)
+next_serving sounds g e b s = by g.dead refl
   where
     by : (t : Bool) → g.dead ≡ t → IsServing (next g e)
     by true t = subst IsServing (sym (rests g e t)) s
     by false t = record {
       seated = subst (λ (x : Gate). IsSeated x.machine x.seats) (sym (alive g e t)) (happens_seated g e s.seated);
-      seats = live_seats g e t b.seats s;
-      opened = live_opened g e t b.seats s;
+      seats = live_seats sounds g e t b.seats s;
+      opened = live_opened sounds g e t b.seats s;
     }
 
 -- ---- restarts
@@ -351,7 +351,7 @@ restored_serving cap tokens most sent journal g r = subst IsServing (sym r.gate)
 
 pub runs_serving : Adds → Starts → Sounds → (cap : ℕ) (g : Gate) → Runs cap g → IsServing g
 runs_serving adds starts sounds cap _ (begins tokens most journal g r) = restored_serving cap tokens most [] journal g r
-runs_serving adds starts sounds cap _ (goes_on h e r) = next_serving h e (runs_sound adds starts sounds cap h r) (runs_serving adds starts sounds cap h r)
+runs_serving adds starts sounds cap _ (goes_on h e r) = next_serving sounds h e (runs_sound adds starts sounds cap h r) (runs_serving adds starts sounds cap h r)
 runs_serving adds starts sounds cap _ (begins_again h disk tokens most i r l x) = restored_serving cap tokens most h.sent disk i x
 
 pub acts_by_token : Adds → Starts → Sounds → (cap : ℕ) (g : Gate) (m : ℕ) (c : Client) → Runs cap g → IsClient g m c → ActsByToken g c

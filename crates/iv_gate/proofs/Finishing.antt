@@ -1,45 +1,29 @@
 -- A session that is not needed is finished: what is read in others goes on.
-use Rattle.std.proofs.Common.{◌≡◌, ℕ, Bool, true, false, not, cond, ◌||◌, List, [], ◌∷◌, map, Option, Some, None, refl, ap, ◌∙◌, sym}
+use Rattle.std.proofs.Common.{◌≡◌, ◌≢◌, ℕ, Bool, true, false, not, cond, ◌||◌, List, [], ◌∷◌, map, Option, Some, None, refl, ap, ◌∙◌, sym, eq-eqb}
 use Rattle.std.specs.Prelude.{◌==◌, filter}
 use Rattle.std.specs.List.{AllByRecursion, list_any}
 use Rattle.std.proofs.lemmas.Bool.{false≢true, eqb-true}
-use Rattle.iv_machine.specs.Act.{finish, Refusal}
-use Rattle.iv_machine.specs.Machine.{outcome, step}
+use Rattle.iv_machine.specs.Act.{finish, Command, Refusal}
+use Rattle.iv_machine.specs.Machine.{step}
 use Rattle.iv_machine.specs.Held.{closed_in}
 use Rattle.iv_machine.specs.Reached.{AreUnique}
 use Rattle.iv_machine.specs.Refusing.{refusal}
-use Rattle.iv_machine.specs.State.{Session, State, Subscription, subscription_of}
-use Rattle.iv_access.specs.Rights.{Name}
+use Rattle.iv_machine.specs.State.{State, Subscription, subscription_of}
 use Rattle.iv_clients.specs.Clients.{has_role}
 use Rattle.iv_clients.specs.Feeds.{Feed, Seat, ends_in, without_seat}
 use Rattle.iv_gate.specs.Gate.{Gate, all_rested, in_session, is_needed, ran, rested}
 use Rattle.iv_gate.specs.Replies.{ActsAs}
-use Rattle.iv_gate.proofs.Machine.{find_left, find_passes, found_settled}
+use Rattle.iv_gate.proofs.Machine.{find_passes}
 use Rattle.iv_gate.proofs.Running.{all_so, found_all}
-use Rattle.iv_gate.proofs.Sound.{Adds, IsFeed, IsSoundGate, Sounds, filter_all, ran_ready}
+use Rattle.iv_gate.proofs.Sound.{Adds, IsFeed, IsSoundGate, Sounds, acts_on, feed_on, filter_all, ran_ready}
 use Rattle.iv_gate.proofs.Summing.{both, neither}
 use Rattle.iv_gate.proofs.Touching.{one_some}
 
 -- ---- the machine
 
-acts_other_by : (s : State) (n m : ℕ) (role : Name) (o : Option Refusal) → (n == m) ≡ false → ActsAs s m role → ActsAs (outcome s (in_session n finish) o).state m role
-acts_other_by s n m role (Some r) e a = record { place = a.place; known = a.known; session = a.session }
-acts_other_by s n m role None e a = record {
-  place = a.place;
-  known = a.known;
-  session = find_left (λ (x : Session). m == x.number) (λ (x : Session). not (n == x.number)) s.frame.sessions (record { number = m; role = a.place }) a.session (ap not e);
-}
-
-feed_other_by : (s : State) (n : ℕ) (f : Feed) (o : Option Refusal) → (n == f.session) ≡ false → ends_in (outcome s (in_session n finish) o).lines f.number ≡ false → IsFeed s f → IsFeed (outcome s (in_session n finish) o).state f
-feed_other_by s n f (Some r) e h b = record { rel = b.rel; found = b.found; there = b.there; known = b.known; acts = b.acts }
-feed_other_by s n f None e h b = record {
-  rel = b.rel;
-  found = found_settled s n finish f.number _
-      (find_left (λ (x : Subscription). f.number == x.number) (λ (x : Subscription). not (n == x.session)) s.frame.subscriptions (record { session = f.session; number = f.number; rel = b.rel }) b.found (ap not e)) h;
-  there = b.there;
-  known = b.known;
-  acts = acts_other_by s n f.session f.role None e b.acts;
-}
+-- another session goes on to act in its role
+other_not : (n m : ℕ) → (n == m) ≡ false → in_session n finish ≢ record { session = m; act = finish }
+other_not n m h e = false≢true (sym h ∙ eq-eqb n m (ap (λ (x : Command). x.session) e))
 
 none_closed : (n j : ℕ) (es : List Subscription) → list_any (λ (x : Subscription). j == x.number) es ≡ false → list_any (λ i. j == i) (map (λ (x : Subscription). x.number) (filter (λ (x : Subscription). n == x.session) es)) ≡ false
 none_closed n j [] h = refl
@@ -74,10 +58,10 @@ none_read : (n : ℕ) (fs : List Feed) → list_any (λ (f : Feed). n == f.sessi
 none_read n [] h = tt
 none_read n (f ∷ fs) h = let p = neither (n == f.session) (list_any (λ (x : Feed). n == x.session) fs) h in (p.0, none_read n fs p.1)
 
-seats_left : (s : State) (n : ℕ) (xs : List Seat) → AllByRecursion (λ (x : Seat). ActsAs s x.session x.role) xs → AllByRecursion (λ (x : Seat). ActsAs (step s (in_session n finish)).state x.session x.role) (without_seat n xs)
-seats_left s n xs a = filter_all (λ (x : Seat). ActsAs (step s (in_session n finish)).state x.session x.role) (λ (x : Seat). n == x.session) xs
+seats_left : Sounds → (s : State) (n : ℕ) (xs : List Seat) → AllByRecursion (λ (x : Seat). ActsAs s x.session x.role) xs → AllByRecursion (λ (x : Seat). ActsAs (step s (in_session n finish)).state x.session x.role) (without_seat n xs)
+seats_left sounds s n xs a = filter_all (λ (x : Seat). ActsAs (step s (in_session n finish)).state x.session x.role) (λ (x : Seat). n == x.session) xs
     (all_so {P = λ (x : Seat). ActsAs s x.session x.role} {Q = λ (x : Seat). (n == x.session) ≡ false → ActsAs (step s (in_session n finish)).state x.session x.role}
-    (λ x y e. acts_other_by s n x.session x.role (refusal s n finish) e y) xs a)
+    (λ x y e. acts_on sounds s (in_session n finish) x.session x.role (other_not n x.session e) y) xs a)
 
 pub rested_sound : Adds → Sounds → (g : Gate) (s : Seat) → IsSoundGate g → IsSoundGate (rested g s)
 rested_sound adds sounds g s b = by (is_needed g s) refl
@@ -91,9 +75,10 @@ rested_sound adds sounds g s b = by (is_needed g s) refl
         let read = none_read s.session g.feeds (neither (has_role s.role g.clients) (list_any (λ (f : Feed). s.session == f.session) g.feeds) h).1 in
         ran_ready adds sounds (record g { seats = without_seat s.session g.seats }) (in_session s.session finish) (record {
           state = b.state;
-          seats = seats_left g.machine s.session g.seats b.seats;
+          seats = seats_left sounds g.machine s.session g.seats b.seats;
           feeds = both {P = IsFeed g.machine} {Q = λ (f : Feed). (s.session == f.session) ≡ false} {R = λ (f : Feed). ends_in (step g.machine (in_session s.session finish)).lines f.number ≡ false → IsFeed (step g.machine (in_session s.session finish)).state f}
-              (λ f y e i. feed_other_by g.machine s.session f (refusal g.machine s.session finish) e i y) g.feeds b.feeds read;
+              (λ f y e i. feed_on sounds g.machine (in_session s.session finish) f b.state.numbers (other_not s.session f.session e)
+              (spared_by g.machine s.session f.number (record { session = f.session; number = f.number; rel = y.rel }) (refusal g.machine s.session finish) b.state.numbers.unique y.found e) i y) g.feeds b.feeds read;
           spared = λ j f e.
               let y = found_all (IsFeed g.machine) g.feeds j f b.feeds e in let d = found_all (λ (x : Feed). (s.session == x.session) ≡ false) g.feeds j f read e in
               spared_by g.machine s.session j (record { session = f.session; number = f.number; rel = y.rel }) (refusal g.machine s.session finish) b.state.numbers.unique

@@ -19,9 +19,9 @@ use Rattle.iv_access.specs.Laws.{GrantsGive}
 use Rattle.iv_access.specs.Privileges.{acts_as, has, is_for, privilege_eq, role_of}
 use Rattle.iv_access.specs.Rights.{Grantee, Name, Rights}
 use Rattle.iv_access.proofs.Granting.{given, grant_itself, members_hold}
-use Rattle.iv_machine.specs.Act.{Act, create_role, create_table, create_view, grant, grant_role, Command, Refusal, unknown_relation, unknown_role}
+use Rattle.iv_machine.specs.Act.{Act, create_table, create_view, grant, grant_role, Command, unknown_relation, unknown_role}
 use Rattle.iv_machine.specs.Changing.{after}
-use Rattle.iv_machine.specs.Machine.{outcome, settled, step}
+use Rattle.iv_machine.specs.Machine.{settled, step}
 use Rattle.iv_machine.specs.Parts.{is_between, is_group}
 use Rattle.iv_machine.specs.Refusing.{known_grantee, or_else, refusal}
 use Rattle.iv_machine.specs.State.{Frame, State, rel_of}
@@ -34,9 +34,9 @@ use Rattle.iv_request.specs.Reading.{value_of}
 use Rattle.iv_gate.specs.Gate.{granted_by, has_some, is_member}
 use Rattle.iv_gate.proofs.Entering.{not_passed, or_right}
 use Rattle.iv_gate.proofs.Joining.{and_both}
-use Rattle.iv_gate.proofs.Machine.{first_none, later_none, passed, position_kept, there}
+use Rattle.iv_gate.proofs.Machine.{first_none, later_none, passed, there}
 use Rattle.iv_gate.proofs.Sitting.{bytes_self, one_name}
-use Rattle.iv_gate.proofs.Sound.{any_more}
+use Rattle.iv_gate.proofs.Sound.{Sounds, any_more}
 use Rattle.iv_gate.proofs.Summing.{same_self}
 
 -- ---- messages ask what the machine may be given
@@ -79,16 +79,8 @@ said_well h text = by (nat_lt most_said (length text))
 abbrev pub HasAdmin : State → Type 0
 HasAdmin s = role_of s.frame.rights (codes "admin") ≡ Some 0
 
-admin_by : (s : State) (k : Command) (o : Option Refusal) → HasAdmin s → HasAdmin (outcome s k o).state
-admin_by s k (Some r) h = h
-admin_by s k None h = by k.act
-  where
-    by : (act : Act) → HasAdmin (settled act (after s k.session act))
-    by (create_role name) = position_kept (bytes_eq (codes "admin")) s.frame.rights.roles (name ∷ []) 0 h
-    by _ = h
-
-pub admin_stays : (s : State) (k : Command) → HasAdmin s → HasAdmin (step s k).state
-admin_stays s k h = admin_by s k (refusal s k.session k.act) h
+pub admin_stays : Sounds → (s : State) (k : Command) → HasAdmin s → HasAdmin (step s k).state
+admin_stays sounds s k h = (sounds.lasts s k).roles (codes "admin") 0 h
 
 -- ---- privileges
 

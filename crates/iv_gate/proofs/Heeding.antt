@@ -6,26 +6,29 @@ use Rattle.std.proofs.lemmas.Bool.{false≢true, eqb-true}
 use Rattle.std.proofs.lemmas.List.Elements.{All-contains, All-from_recursion}
 use Rattle.iv_rows.specs.Cell.{Cell}
 use Rattle.iv_rows.specs.Options.{if_some}
+use Rattle.iv_bind.specs.Catalogs.{named}
 use Rattle.iv_access.specs.Access.{role_number}
+use Rattle.iv_access.specs.Privileges.{role_of}
 use Rattle.iv_access.specs.Rights.{Name}
 use Rattle.iv_machine.specs.Act.{Act, finish, subscribe, unsubscribe, write, Command, Line, reply, change, ended, Refusal}
 use Rattle.iv_machine.specs.Changing.{after}
+use Rattle.iv_machine.specs.Lasting.{Lasts}
 use Rattle.iv_machine.specs.Machine.{difference, ending, ending_by, first_cause, line_for, lines_told, outcome, settled, step}
 use Rattle.iv_machine.specs.Reached.{AreUnique}
 use Rattle.iv_machine.specs.Refusing.{refusal}
-use Rattle.iv_machine.specs.State.{Session, State, Subscription, actor, is_within_for, missing_for, rel_of, shown, subscription_of, view_shown}
+use Rattle.iv_machine.specs.State.{Session, State, Subscription, actor, is_within_for, missing_for, rel_of, session_of, shown, subscription_of, view_shown}
 use Rattle.iv_machine.specs.declared.Cause.{Cause}
 use Rattle.iv_message.specs.Told.{Told, changed, over, granted}
 use Rattle.iv_clients.specs.Clients.{Client, Sub, followed, followed_by, own_line, own_lines}
 use Rattle.iv_clients.specs.Feeds.{Feed, feed_of, rel_read}
 use Rattle.iv_clients.specs.Journal.{is_shared}
 use Rattle.iv_gate.specs.Events.{Event, next}
-use Rattle.iv_gate.specs.Gate.{Gate, granted_by, is_accepted, reply_in, told_of}
+use Rattle.iv_gate.specs.Gate.{Gate, granted_by, in_session, is_accepted, reply_in, told_of}
 use Rattle.iv_gate.specs.Replies.{told_by}
 use Rattle.iv_gate.specs.Seen.{EndsForCause, HearsFollowed, IsEnd, hindrance, is_told_of}
 use Rattle.iv_gate.proofs.Doing.{AreCalm, is_news}
 use Rattle.iv_gate.proofs.News.{Hears, quietly, by_command, by_contents, IsToldContents, IsToldOf}
-use Rattle.iv_gate.proofs.Machine.{acts_after, find_passes, is_kept, number_kept, some_is_none, still_named}
+use Rattle.iv_gate.proofs.Machine.{find_passes, is_kept, not_finish, number_same, some_is_none, there_some}
 use Rattle.iv_gate.proofs.Noticing.{next_all, told_now}
 use Rattle.iv_gate.proofs.Running.{all_so, found_all}
 use Rattle.iv_gate.proofs.Sound.{Adds, IsFeed, IsFollowing, IsSoundClient, IsSoundGate, Sounds, any_more, seer}
@@ -146,14 +149,17 @@ same_subscriptions s n (unsubscribe k) h = absurd (false≢true h)
 same_subscriptions s n _ h = refl
 
 -- the cause of an end hinders its reader
-cause_after : (s : State) (n : ℕ) (act : Act) (f : Feed) (why : Cause) → is_shared act ≡ true → (b : IsFeed s f)
+cause_after : (s : State) (n : ℕ) (act : Act) (f : Feed) (why : Cause) → Lasts (in_session n act) s.frame (settled act (after s n act)).frame → is_shared act ≡ true → (b : IsFeed s f)
     → ending (after s n act) (record { session = f.session; number = f.number; rel = b.rel }) ≡ Some why → hindrance (settled act (after s n act)) f.role f.rel ≡ Some why
-cause_after s n act f why h b e =
+cause_after s n act f why l h b e =
     let new = settled act (after s n act) in
-    let a = acts_after s f.session f.role n act b.acts (shared_kept act h) in
+    let known : role_of new.frame.rights f.role ≡ Some b.acts.place = l.roles f.role b.acts.place b.acts.known in
+    let session : session_of new.frame.sessions f.session ≡ Some (record { number = f.session; role = b.acts.place }) =
+    l.sessions f.session (record { number = f.session; role = b.acts.place }) (not_finish (in_session n act) f.session (shared_kept act h)) b.acts.session in
+    let entry = there_some (named s.frame.catalog f.rel) b.known in
     let role : role_number new.frame.rights f.role ≡ actor (after s n act).frame f.session =
-    ap (λ o. unwrap_or o (length new.frame.rights.roles)) a.known ∙ sym (ap (λ o. unwrap_or (option_map (λ (x : Session). x.role) o) (length new.frame.rights.roles)) a.session) in
-    let rel : rel_of new.frame.catalog f.rel ≡ b.rel = number_kept s.frame.catalog new.frame.catalog f.rel (still_named s.frame act f.rel b.known) b.known ∙ sym b.there in
+    ap (λ o. unwrap_or o (length new.frame.rights.roles)) known ∙ sym (ap (λ o. unwrap_or (option_map (λ (x : Session). x.role) o) (length new.frame.rights.roles)) session) in
+    let rel : rel_of new.frame.catalog f.rel ≡ b.rel = number_same s.frame.catalog new.frame.catalog f.rel entry.0 entry.1 (l.relations f.rel entry.0 entry.1) ∙ sym b.there in
     (λ i. first_cause (is_some (missing_for new.frame (role i) (rel i))) (is_within_for new (role i) (rel i))) ∙ e
 
 -- the one of a number, where no other has it, is gone where it is left out
@@ -190,13 +196,13 @@ module _ (s : State) (n : ℕ) (act : Act) (h : is_shared act ≡ true) (u : Are
       ap (λ o. if_some o [] (view_shown now)) (ap (λ es. subscription_of (filter p es) e.number) (same_subscriptions s n act h)
       ∙ gone_after p s.frame.subscriptions e.number e u f (ap (λ o. not (is_some o)) q))
 
-  line_is : (e : Subscription) → subscription_of s.frame.subscriptions e.number ≡ Some e → AllByRecursion (IsLineOf s (settled act (after s n act))) (line_for s (settled act (after s n act)) (ending_by act (after s n act)) e)
-  line_is e f = by (ending_by act (after s n act) e) refl (difference (shown s e.number) (shown now e.number)) refl
+  line_is : Lasts (in_session n act) s.frame (settled act (after s n act)).frame → (e : Subscription) → subscription_of s.frame.subscriptions e.number ≡ Some e → AllByRecursion (IsLineOf s (settled act (after s n act))) (line_for s (settled act (after s n act)) (ending_by act (after s n act)) e)
+  line_is l e f = by (ending_by act (after s n act) e) refl (difference (shown s e.number) (shown now e.number)) refl
     where
       cause : (why : Cause) → ending_by act (after s n act) e ≡ Some why → (x : Feed) → IsFeed s x → x.number ≡ e.number → hindrance now x.role x.rel ≡ Some why
       cause why q x b j =
           let same : record { session = x.session; number = x.number; rel = b.rel } ≡ e = one_some _ e (sym b.found ∙ (ap (subscription_of s.frame.subscriptions) j ∙ f)) in
-          cause_after s n act x why h b (ap (ending (after s n act)) same ∙ ending_as act (after s n act) e why q)
+          cause_after s n act x why l h b (ap (ending (after s n act)) same ∙ ending_as act (after s n act) e why q)
 
       by : (o : Option Cause) → ending_by act (after s n act) e ≡ o → (rows : List (List Cell × ℤ)) → rows ≡ difference (shown s e.number) (shown now e.number)
           → AllByRecursion (IsLineOf s now) (lines_told o e rows)
@@ -204,18 +210,18 @@ module _ (s : State) (n : ℕ) (act : Act) (h : is_shared act ≡ true) (u : Are
       by None q [] r = tt
       by None q (p ∷ ps) r = (tt, tt)
 
-  changes_are : AllByRecursion (IsLineOf s (settled act (after s n act))) (flat_map (line_for s (settled act (after s n act)) (ending_by act (after s n act))) (after s n act).frame.subscriptions)
-  changes_are =
+  changes_are : Lasts (in_session n act) s.frame (settled act (after s n act)).frame → AllByRecursion (IsLineOf s (settled act (after s n act))) (flat_map (line_for s (settled act (after s n act)) (ending_by act (after s n act))) (after s n act).frame.subscriptions)
+  changes_are l =
       let L = line_for s now (ending_by act (after s n act)) in
       subst (λ es. AllByRecursion (IsLineOf s now) (flat_map L es)) (sym (same_subscriptions s n act h))
-      (all_flat (IsLineOf s now) L s.frame.subscriptions (all_so (λ e f. line_is e f) s.frame.subscriptions (found_each s.frame.subscriptions u)))
+      (all_flat (IsLineOf s now) L s.frame.subscriptions (all_so (λ e f. line_is l e f) s.frame.subscriptions (found_each s.frame.subscriptions u)))
 
-lines_by : (s : State) (k : Command) (o : Option Refusal) → is_shared k.act ≡ true → AreUnique s.frame.subscriptions → AllByRecursion (IsLineOf s (outcome s k o).state) (outcome s k o).lines
-lines_by s k (Some r) h u = (tt, tt)
-lines_by s k None h u = (tt, changes_are s k.session k.act h u)
+lines_by : Sounds → (s : State) (k : Command) (o : Option Refusal) → refusal s k.session k.act ≡ o → is_shared k.act ≡ true → AreUnique s.frame.subscriptions → AllByRecursion (IsLineOf s (outcome s k o).state) (outcome s k o).lines
+lines_by sounds s k (Some r) e h u = (tt, tt)
+lines_by sounds s k None e h u = (tt, changes_are s k.session k.act h u (subst (λ o. Lasts k s.frame (outcome s k o).state.frame) e (sounds.lasts s k)))
 
-lines_are : (s : State) (k : Command) → is_shared k.act ≡ true → AreUnique s.frame.subscriptions → AllByRecursion (IsLineOf s (step s k).state) (step s k).lines
-lines_are s k h u = lines_by s k (refusal s k.session k.act) h u
+lines_are : Sounds → (s : State) (k : Command) → is_shared k.act ≡ true → AreUnique s.frame.subscriptions → AllByRecursion (IsLineOf s (step s k).state) (step s k).lines
+lines_are sounds s k h u = lines_by sounds s k (refusal s k.session k.act) refl h u
 
 -- ---- what a client follows
 
@@ -288,15 +294,15 @@ module _ (g : Gate) (e : Event) (b : IsSoundGate g) (c d : Client) (a : IsToldOf
   line_ends_for : (l : Line) → IsLineOf g.machine (step g.machine a.command).state l → (xs : List Sub) → AllByRecursion (IsOwn g c) xs → AllByRecursion (IsEndTold g e c) (flat_map (own_line g.feeds l) xs)
   line_ends_for l x xs o = all_flat (IsEndTold g e c) (own_line g.feeds l) xs (all_so (λ s p. one_end l x s p) xs o)
 
-  pub ends_of_command : IsSoundClient g.machine g.feeds (seer c) → AllByRecursion (IsEndTold g e c) (told_by c d)
-  ends_of_command sound =
+  pub ends_of_command : Sounds → IsSoundClient g.machine g.feeds (seer c) → AllByRecursion (IsEndTold g e c) (told_by c d)
+  ends_of_command sounds sound =
       let o = step g.machine a.command in
       subst (AllByRecursion (IsEndTold g e c)) (sym (told_now c d _ a.told))
       (all_both (IsEndTold g e c) a.front (told_of g a.command.act o c ++ a.back) (calm_ends g e c a.front a.calm.0)
       (all_both (IsEndTold g e c) (told_of g a.command.act o c) a.back
       (all_both (IsEndTold g e c) (own_lines g.feeds o.lines c.subs) (cond (is_accepted (reply_in o.lines)) (map granted (granted_by o.state.frame a.command.act c.role)) [])
       (all_flat (IsEndTold g e c) (λ l. flat_map (own_line g.feeds l) c.subs) o.lines
-      (all_so (λ l x. line_ends_for l x c.subs (own_each g c sound)) o.lines (lines_are g.machine a.command a.shared b.state.numbers.unique)))
+      (all_so (λ l x. line_ends_for l x c.subs (own_each g c sound)) o.lines (lines_are sounds g.machine a.command a.shared b.state.numbers.unique)))
       (grants_end g e c (is_accepted (reply_in o.lines)) (granted_by o.state.frame a.command.act c.role)))
       (calm_ends g e c a.back a.calm.1)))
 
@@ -305,6 +311,6 @@ ends_for_cause sounds g e b m c d x y own rel why rows h = of_contained (IsEndTo
   where
     by : Hears g (next g e) c d → AllByRecursion (IsEndTold g e c) (told_by c d)
     by (quietly a n) = subst (AllByRecursion (IsEndTold g e c)) (sym (told_now c d a.more a.told)) (calm_ends g e c a.more a.calm)
-    by (by_command a) = ends_of_command g e b c d a (b.clients m c x.there x.stays)
+    by (by_command a) = ends_of_command g e b c d a sounds (b.clients m c x.there x.stays)
     by (by_contents a n) = subst (AllByRecursion (IsEndTold g e c)) (sym (told_now c d _ a.told))
         (all_both (IsEndTold g e c) a.front (changed (c.given + 1) (difference a.before a.after) ∷ a.back) (calm_ends g e c a.front a.calm.0) (tt, calm_ends g e c a.back a.calm.1))

@@ -38,7 +38,7 @@ passed_sound : Sounds → (s t : State) (k : Command) → IsSoundState s → pas
 passed_sound sounds s t k b h = by (is_accepted (reply_in (step s k).lines)) h
   where
     by : (a : Bool) → cond a (Some (step s k).state) None ≡ Some t → IsSoundState t
-    by true e = subst IsSoundState (one_some (step s k).state t e) (sounds s k b)
+    by true e = subst IsSoundState (one_some (step s k).state t e) (sounds.sound s k b)
     by false e = absurd (some_is_none t (sym e))
 
 replayed_sound : Sounds → (s t : State) (e : Entry) → IsSoundState s → replayed s e ≡ Some t → IsSoundState t
@@ -94,7 +94,7 @@ runs_kept adds starts sounds cap _ (goes_on h e r) = kept_next adds sounds h e (
 runs_kept adds starts sounds cap _ (begins_again h disk tokens most i r l x) = kept_restored cap tokens most h.sent disk i x
 
 pub runs_replied : Adds → Starts → Sounds → (cap : ℕ) (g : Gate) (e : Event) → Runs cap g → g.dead ≡ false → AreReplied g e
-runs_replied adds starts sounds cap g e r live = are_replied g e (runs_sound adds starts sounds cap g r) (runs_kept adds starts sounds cap g r) live
+runs_replied adds starts sounds cap g e r live = are_replied sounds g e (runs_sound adds starts sounds cap g r) (runs_kept adds starts sounds cap g r) live
 
 pub views_seen : Adds → Starts → Sounds → (cap : ℕ) (g : Gate) → Runs cap g → SeesViews g
 views_seen adds starts sounds cap g r m c own k x h =

@@ -1,8 +1,8 @@
 -- A new subscription: its client follows a feed that shows nothing yet, and is told its contents by the command.
-use Rattle.std.proofs.Common.{◌≡◌, ℕ, ◌+◌, ◌≤◌, Bool, true, false, not, cond, ◌||◌, List, [], ◌∷◌, ◌++◌, Option, Some, None, is_some, refl, ap, ◌∙◌, sym, subst, arith, pos}
+use Rattle.std.proofs.Common.{◌≡◌, ℕ, ◌+◌, ◌≤◌, false, cond, ◌||◌, List, [], ◌∷◌, ◌++◌, Option, Some, None, is_some, refl, ap, ◌∙◌, sym, subst, arith, pos}
 use Rattle.std.specs.Prelude.{◌==◌, length, slice_get}
 use Rattle.std.specs.List.{AllByRecursion, list_any}
-use Rattle.std.proofs.lemmas.Bool.{false≢true, eqb-true}
+use Rattle.std.proofs.lemmas.Bool.{eqb-true}
 use Rattle.std.proofs.lemmas.Bool.Decides.{nat_tests}
 use Rattle.serde_json.specs.Data.{Data}
 use Rattle.iv_rows.specs.Columns.{Column}
@@ -10,7 +10,7 @@ use Rattle.iv_rows.specs.Options.{if_some}
 use Rattle.iv_zset.specs.Limits.{copies}
 use Rattle.iv_bind.specs.Catalogs.{named}
 use Rattle.iv_access.specs.Rights.{Name}
-use Rattle.iv_machine.specs.Act.{subscribe, Refusal, Reply, subscribed, refused, unknown_relation}
+use Rattle.iv_machine.specs.Act.{subscribe, Refusal, Reply, subscribed, refused}
 use Rattle.iv_machine.specs.Machine.{outcome, step}
 use Rattle.iv_machine.specs.Reached.{AreNumbersUnique}
 use Rattle.iv_machine.specs.Refusing.{refusal}
@@ -22,7 +22,7 @@ use Rattle.iv_clients.specs.Feeds.{Feed, ends_in, feed_of}
 use Rattle.iv_clients.specs.Journal.{said_by}
 use Rattle.iv_gate.specs.Gate.{Gate, columns_in, feed_begun, in_session, next_own, ran, reply_in, subscribes, tells}
 use Rattle.iv_gate.specs.Replies.{ActsAs, replies}
-use Rattle.iv_gate.proofs.Machine.{find_passes, first_none, found_given, found_settled, later_none, next_is_free, opened_new, passed, some_is_none}
+use Rattle.iv_gate.proofs.Machine.{find_passes, found_given, next_is_free, number_same, some_is_none, there_some}
 use Rattle.iv_gate.proofs.Places.{any_of_both, get_last, replies_both}
 use Rattle.iv_gate.proofs.Running.{IsQuiet, acts_step, all_so, at_one, found_all, ran_sound, spares_all, tells_sound}
 use Rattle.iv_gate.proofs.Sound.{Adds, IsAskedIn, IsFeed, IsFollowing, IsReady, IsSoundClient, IsSoundGate, Seer, Sounds, feed_step, ran_ready, seer, seer_one}
@@ -102,35 +102,32 @@ module _ (g : Gate) (role rel : Name) (n : ℕ) where
         spent = λ own h. a.spent own (not_before own c.subs (record { own = c.given + 1; feed = g.machine.frame.last + 1 }) h);
       }
 
-  new_feed_by : (o : Option Refusal) → o ≡ None → AreNumbersUnique g.machine.frame → ActsAs g.machine n role → is_some (named g.machine.frame.catalog rel) ≡ true
-      → ends_in (outcome g.machine (in_session n (subscribe rel)) o).lines (g.machine.frame.last + 1) ≡ false → IsFeed (outcome g.machine (in_session n (subscribe rel)) o).state new_feed
-  new_feed_by (Some r) h u a known e = absurd (some_is_none r h)
-  new_feed_by None h u a known e = record {
-    rel = rel_of g.machine.frame.catalog rel;
-    found = found_settled g.machine n (subscribe rel) (g.machine.frame.last + 1) _ (opened_new g.machine n rel u.given) e;
-    there = refl;
-    known = known;
-    acts = record { place = a.place; known = a.known; session = a.session };
-  }
+  new_feed_stands : Sounds → refusal g.machine n (subscribe rel) ≡ None → AreNumbersUnique g.machine.frame → ActsAs g.machine n role → IsFeed (step g.machine (in_session n (subscribe rel))).state new_feed
+  new_feed_stands sounds h u a =
+      let s = g.machine in
+      let k = in_session n (subscribe rel) in
+      let o = sounds.subscribes s n rel u h in
+      let entry = there_some (named s.frame.catalog rel) o.known in
+      let still = (sounds.lasts s k).relations rel entry.0 entry.1 in
+      record {
+        rel = rel_of s.frame.catalog rel;
+        found = o.opened;
+        there = sym (number_same s.frame.catalog (step s k).state.frame.catalog rel entry.0 entry.1 still);
+        known = ap is_some still;
+        acts = acts_step sounds s k n role refl a;
+      }
 
-  known_by : refusal g.machine n (subscribe rel) ≡ None → is_some (named g.machine.frame.catalog rel) ≡ true
-  known_by h = not_not (is_some (named g.machine.frame.catalog rel)) (passed (not (is_some (named g.machine.frame.catalog rel))) unknown_relation (first_none _ _ (later_none _ _ (first_none _ _ h))))
-    where
-      not_not : (b : Bool) → not b ≡ false → b ≡ true
-      not_not true h = refl
-      not_not false h = absurd (false≢true (sym h))
-
-  pub opened_ready : (m : ℕ) → refusal g.machine n (subscribe rel) ≡ None → ActsAs g.machine n role → ((c : Client) → client_at g.clients m ≡ Some c → IsTold c role rel) → IsSoundGate g
+  pub opened_ready : Sounds → (m : ℕ) → refusal g.machine n (subscribe rel) ≡ None → ActsAs g.machine n role → ((c : Client) → client_at g.clients m ≡ Some c → IsTold c role rel) → IsSoundGate g
       → IsReady (record g { clients = at_client m (following (g.machine.frame.last + 1)) g.clients; feeds = new_feed ∷ g.feeds }) (in_session n (subscribe rel))
-  opened_ready m h acts same b =
+  opened_ready sounds m h acts same b =
       let k = in_session n (subscribe rel) in
       record {
         state = b.state;
-        seats = all_so (λ x y. acts_step g.machine k x.session x.role refl y) g.seats b.seats;
+        seats = all_so (λ x y. acts_step sounds g.machine k x.session x.role refl y) g.seats b.seats;
         feeds = (
-          new_feed_by (refusal g.machine n (subscribe rel)) h b.state.numbers acts (known_by h),
+          (λ e. new_feed_stands sounds h b.state.numbers acts),
           all_so {P = IsFeed g.machine} {Q = λ (f : Feed). ends_in (step g.machine k).lines f.number ≡ false → IsFeed (step g.machine k).state f}
-              (λ f y e. feed_step g.machine k f b.state.numbers refl (spares_all g.machine k f.number refl) e y) g.feeds b.feeds,
+              (λ f y e. feed_step sounds g.machine k f b.state.numbers refl (spares_all g.machine k f.number refl) e y) g.feeds b.feeds,
         );
         spared = λ j f e. spares_all g.machine k j refl;
         clients = λ j c e live. at_one (λ i x. x.dropped ≡ false → IsSoundClient g.machine (new_feed ∷ g.feeds) (seer x)) m (following (g.machine.frame.last + 1)) g.clients
@@ -197,7 +194,7 @@ subscribes_sound adds sounds g m id n role rel acts same b = by (refusal g.machi
         let t = opened id (next_own g m) (columns_in g.machine rel) in
         subst (λ r. IsSoundGate (ran (feed_begun g m id n role rel r) (in_session n (subscribe rel)))) (sym (reply_of_none g.machine n rel (refusal g.machine n (subscribe rel)) h))
         (ran_ready adds sounds (feed_begun g m id n role rel (subscribed (g.machine.frame.last + 1))) (in_session n (subscribe rel))
-        (opened_ready (tells g m t) role rel n m h acts (told_new g m id role rel (columns_in g.machine rel) same) (tells_sound g m t (quiet_opened id (next_own g m) g rel) b)))
+        (opened_ready (tells g m t) role rel n sounds m h acts (told_new g m id role rel (columns_in g.machine rel) same) (tells_sound g m t (quiet_opened id (next_own g m) g rel) b)))
     by (Some r) h =
         subst (λ x. IsSoundGate (ran (feed_begun g m id n role rel x) (in_session n (subscribe rel)))) (sym (reply_of_some g.machine n rel (refusal g.machine n (subscribe rel)) r h))
         (ran_sound adds sounds (tells g m (replied id (refused r))) (in_session n (subscribe rel)) refl (tells_sound g m (replied id (refused r)) (quiet_replied id (refused r)) b))

@@ -9,7 +9,7 @@ use Rattle.iv_rows.specs.Options.{if_some}
 use Rattle.iv_access.specs.Rights.{Name}
 use Rattle.iv_machine.specs.Act.{Act, begin, finish, create_role, create_table, create_view, grant, revoke, grant_role, revoke_role, row_security, create_policy, drop_policy, subscribe, unsubscribe, write, Command, Refusal}
 use Rattle.iv_machine.specs.Held.{closed_by, closed_in}
-use Rattle.iv_machine.specs.Machine.{outcome, step}
+use Rattle.iv_machine.specs.Machine.{step}
 use Rattle.iv_machine.specs.Refusing.{refusal}
 use Rattle.iv_machine.specs.State.{State}
 use Rattle.iv_message.specs.Told.{Told, alive, settled}
@@ -22,8 +22,8 @@ use Rattle.iv_gate.specs.Gate.{Gate, all_swept, in_session, ran, settles, shut, 
 use Rattle.iv_gate.specs.Replies.{ActsAs}
 use Rattle.iv_gate.specs.Seen.{is_end_of}
 use Rattle.iv_gate.proofs.Growing.{assoc}
-use Rattle.iv_gate.proofs.Machine.{acts_after, find_passes, is_kept, some_is_none}
-use Rattle.iv_gate.proofs.Sound.{Adds, IsFeed, IsFollowing, IsSoundClient, IsSoundGate, Seer, Sounds, Spares, any_more, asked_said, asked_told, feed_step, filter_all, from, left_of, or_none, own_left, ran_ready, seer, seer_one, taken}
+use Rattle.iv_gate.proofs.Machine.{find_passes, is_kept, not_finish, some_is_none}
+use Rattle.iv_gate.proofs.Sound.{Adds, IsFeed, IsFollowing, IsSoundClient, IsSoundGate, Seer, Sounds, Spares, acts_on, any_more, asked_said, asked_told, feed_step, filter_all, from, left_of, or_none, own_left, ran_ready, seer, seer_one, taken}
 use Rattle.iv_gate.proofs.Summing.{both, differs_back, neither, nothing_more, sum-append, sum_for}
 use Rattle.iv_gate.proofs.Touching.{at_every, at_other, at_same, one_some}
 
@@ -37,12 +37,8 @@ all_true f (x ∷ xs) = (f x, all_true f xs)
 
 -- ---- commands that close nothing
 
-acts_by : (s : State) (k : Command) (o : Option Refusal) (n : ℕ) (role : Name) → is_kept k.act ≡ true → ActsAs s n role → ActsAs (outcome s k o).state n role
-acts_by s k (Some r) n role a b = record { place = b.place; known = b.known; session = b.session }
-acts_by s k None n role a b = acts_after s n role k.session k.act b a
-
-pub acts_step : (s : State) (k : Command) (n : ℕ) (role : Name) → is_kept k.act ≡ true → ActsAs s n role → ActsAs (step s k).state n role
-acts_step s k n role a b = acts_by s k (refusal s k.session k.act) n role a b
+pub acts_step : Sounds → (s : State) (k : Command) (n : ℕ) (role : Name) → is_kept k.act ≡ true → ActsAs s n role → ActsAs (step s k).state n role
+acts_step sounds s k n role a b = acts_on sounds s k n role (not_finish k n a) b
 
 abbrev pub closes_none : Act → Bool
 closes_none finish = false
@@ -111,9 +107,9 @@ pub spared_sound : Adds → Sounds → (g : Gate) (k : Command) → is_kept k.ac
     → ((j : ℕ) (f : Feed) → feed_of g.feeds j ≡ Some f → Spares g.machine k j) → IsSoundGate g → IsSoundGate (ran g k)
 spared_sound adds sounds g k a feeds spared b = ran_ready adds sounds g k (record {
   state = b.state;
-  seats = all_so (λ x y. acts_step g.machine k x.session x.role a y) g.seats b.seats;
+  seats = all_so (λ x y. acts_step sounds g.machine k x.session x.role a y) g.seats b.seats;
   feeds = both {P = IsFeed g.machine} {Q = λ f. Spares g.machine k f.number} {R = λ f. Rattle.iv_clients.specs.Feeds.ends_in (step g.machine k).lines f.number ≡ false → IsFeed (step g.machine k).state f}
-      (λ f y z e. feed_step g.machine k f b.state.numbers a z e y) g.feeds b.feeds feeds;
+      (λ f y z e. feed_step sounds g.machine k f b.state.numbers a z e y) g.feeds b.feeds feeds;
   spared = spared;
   clients = b.clients;
 })

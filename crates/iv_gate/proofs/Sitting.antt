@@ -26,7 +26,7 @@ use Rattle.iv_gate.proofs.Joining.{same_name}
 use Rattle.iv_gate.proofs.Machine.{is_kept, some_is_none}
 use Rattle.iv_gate.proofs.Opening.{all_pushed}
 use Rattle.iv_gate.proofs.Running.{acts_step, all_so}
-use Rattle.iv_gate.proofs.Sound.{any_more}
+use Rattle.iv_gate.proofs.Sound.{Sounds, any_more}
 use Rattle.iv_gate.proofs.Touching.{one_some}
 
 -- ---- what an event's commands keep of the machine and the sessions
@@ -314,11 +314,11 @@ plain_kept _ h = refl
 abbrev pub SeatsAct : State → List Seat → Type 0
 SeatsAct s seats = AllByRecursion (λ (x : Seat). ActsAs s x.session x.role) seats
 
-pub seats_act_kit : Sits SeatsAct
-seats_act_kit = record {
-  step = λ s k seats p h. all_so (λ x y. acts_step s k x.session x.role (plain_kept k.act p) y) seats h;
+pub seats_act_kit : Sounds → Sits SeatsAct
+seats_act_kit sounds = record {
+  step = λ s k seats p h. all_so (λ x y. acts_step sounds s k x.session x.role (plain_kept k.act p) y) seats h;
   begin = λ g n role e h.
       let s : Seat = record { session = n; role = role } in
       all_pushed (λ (x : Seat). ActsAs (seated g n role).machine x.session x.role) g.seats s
-      (all_so (λ x y. acts_step g.machine (in_session n (begin role)) x.session x.role refl y) g.seats h) (new_seat_acts g role n e);
+      (all_so (λ x y. acts_step sounds g.machine (in_session n (begin role)) x.session x.role refl y) g.seats h) (new_seat_acts sounds g role n e);
 }

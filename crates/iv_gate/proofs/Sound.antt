@@ -1,6 +1,6 @@
 -- A command of the machine keeps what clients were told in step with what their feeds show.
-use Rattle.std.proofs.Common.{◌≡◌, ℕ, ◌<◌, ◌≤◌, Bool, true, false, not, cond, ◌||◌, List, [], ◌∷◌, ◌++◌, Option, Some, None, option_map, map, refl, ap, ◌∙◌, sym, subst, arith, pos}
-use Rattle.std.specs.Prelude.{◌==◌, ◌+◌, filter, flat_map, length, slice_get, ◌+ℤ◌}
+use Rattle.std.proofs.Common.{◌≡◌, ◌≢◌, ℕ, ◌<◌, ◌≤◌, Bool, true, false, not, cond, ◌||◌, List, [], ◌∷◌, ◌++◌, Option, Some, None, option_map, map, refl, ap, ◌∙◌, sym, subst, arith, pos}
+use Rattle.std.specs.Prelude.{◌==◌, ◌+◌, filter, flat_map, is_some, slice_get, ◌+ℤ◌}
 use Rattle.std.specs.List.{AllByRecursion, list_any}
 use Rattle.std.proofs.lemmas.List.{append-nil}
 use Rattle.std.proofs.lemmas.Bool.{false≢true, eqb-true}
@@ -10,13 +10,14 @@ use Rattle.iv_rows.specs.Columns.{Column}
 use Rattle.iv_zset.specs.Limits.{copies}
 use Rattle.iv_bind.specs.Catalogs.{named}
 use Rattle.iv_access.specs.Rights.{Name}
-use Rattle.iv_machine.specs.Act.{Command, Line, Refusal, reply, change, ended, subscribe}
+use Rattle.iv_machine.specs.Act.{Command, Line, reply, change, ended, finish, subscribe}
 use Rattle.iv_machine.specs.Held.{held, closed_in}
-use Rattle.iv_machine.specs.Machine.{outcome, step, weight}
+use Rattle.iv_machine.specs.Lasting.{BeginOpens, EndsAreTold, Lasts, SubscribeOpens}
+use Rattle.iv_machine.specs.Machine.{step, weight}
 use Rattle.iv_machine.specs.Reached.{AddsUp, AreNumbersUnique}
 use Rattle.iv_machine.specs.Refusing.{refusal}
 use Rattle.iv_machine.specs.Sound.{IsSoundState}
-use Rattle.iv_machine.specs.State.{State, rel_of, shown, subscription_of}
+use Rattle.iv_machine.specs.State.{State, Subscription, rel_of, shown, subscription_of}
 use Rattle.iv_message.specs.Message.{request}
 use Rattle.iv_message.specs.Told.{Told, changed, opened, over, granted}
 use Rattle.iv_clients.specs.Clients.{Client, Shown, Sub, all_shown, client_at, own_line, own_lines, staying, telling, told, told_one}
@@ -25,9 +26,9 @@ use Rattle.iv_clients.specs.Journal.{Entry, said_by}
 use Rattle.iv_gate.specs.Gate.{Gate, granted_by, is_accepted, ran, reply_in, told_of}
 use Rattle.iv_gate.specs.Replies.{ActsAs, replies}
 use Rattle.iv_gate.specs.Seen.{is_end_of}
-use Rattle.iv_gate.proofs.Ending.{ended_shows_none}
+use Rattle.iv_gate.proofs.Ending.{ended_shows_none, not_told}
 use Rattle.iv_gate.proofs.Growing.{assoc, map_front}
-use Rattle.iv_gate.proofs.Machine.{acts_after, found_after, found_settled, found_given, is_kept, number_kept, some_is_none, still_named}
+use Rattle.iv_gate.proofs.Machine.{is_kept, not_finish, number_same, some_is_none, there_some}
 use Rattle.iv_gate.proofs.Places.{get_more, replies_both}
 use Rattle.iv_gate.proofs.Summing.{AreOwn, all_add_lines, both, differs_back, grants_weigh_nothing, moved_on, neither, none_above, none_told, nothing_more, sum-append, sum_for}
 use Rattle.iv_gate.proofs.Touching.{at_every}
@@ -146,7 +147,7 @@ pub record IsFeed (s : State) (f : Feed) : Type 0 where
   pub rel : ℕ
   pub found : subscription_of s.frame.subscriptions f.number ≡ Some (record { session = f.session; number = f.number; rel = rel })
   pub there : rel ≡ rel_of s.frame.catalog f.rel
-  pub known : Rattle.std.specs.Prelude.is_some (named s.frame.catalog f.rel) ≡ true
+  pub known : is_some (named s.frame.catalog f.rel) ≡ true
   pub acts : ActsAs s f.session f.role
 
 -- the reply to a message that asked the relation gave the number
@@ -218,8 +219,13 @@ Spares s k j = list_any (λ i. j == i) (closed_in s k (refusal s k.session k.act
 abbrev pub Adds : Type 0
 Adds = (s : State) (cs : List Command) → AreNumbersUnique s.frame → AddsUp s cs
 
-abbrev pub Sounds : Type 0
-Sounds = (s : State) (c : Command) → IsSoundState s → IsSoundState (step s c).state
+-- a command leads from a sound state to another, what stands lasts, no subscription ends untold, and what is named is opened
+pub record Sounds : Type 0 where
+  pub sound : (s : State) (c : Command) → IsSoundState s → IsSoundState (step s c).state
+  pub lasts : (s : State) (c : Command) → Lasts c s.frame (step s c).state.frame
+  pub ends : (s : State) (c : Command) → AreNumbersUnique s.frame → EndsAreTold s c
+  pub begins : (s : State) (n : ℕ) (role : Name) → BeginOpens s n role
+  pub subscribes : (s : State) (n : ℕ) (rel : Name) → AreNumbersUnique s.frame → SubscribeOpens s n rel
 
 pub one_adds : Adds → (s : State) (k : Command) (j : ℕ) (q : List Cell) → AreNumbersUnique s.frame → Spares s k j
     → held j q (step s k).lines ≡ weight (shown s j) (shown (step s k).state j) q
@@ -227,21 +233,27 @@ one_adds adds s k j q h n =
     ap (held j q) (sym (append-nil (step s k).lines))
     ∙ adds s (k ∷ []) h j q (ap (list_any (λ i. j == i)) (append-nil (closed_in s k (refusal s k.session k.act))) ∙ n)
 
-feed_by : (s : State) (k : Command) (o : Option Refusal) (f : Feed) → AreNumbersUnique s.frame → is_kept k.act ≡ true → list_any (λ i. f.number == i) (closed_in s k o) ≡ false
-    → ends_in (outcome s k o).lines f.number ≡ false → IsFeed s f → IsFeed (outcome s k o).state f
-feed_by s k (Some r) f u a c e b = record { rel = b.rel; found = b.found; there = b.there; known = b.known; acts = b.acts }
-feed_by s k None f u a c e b =
-    let still = still_named s.frame k.act f.rel b.known in
+-- a session that the command does not finish goes on to act in its role
+pub acts_on : Sounds → (s : State) (k : Command) (n : ℕ) (role : Name) → k ≢ record { session = n; act = finish } → ActsAs s n role → ActsAs (step s k).state n role
+acts_on sounds s k n role d a = let l = sounds.lasts s k in
+    record { place = a.place; known = l.roles role a.place a.known; session = l.sessions n (record { number = n; role = a.place }) d a.session }
+
+pub feed_on : Sounds → (s : State) (k : Command) (f : Feed) → AreNumbersUnique s.frame → k ≢ record { session = f.session; act = finish } → Spares s k f.number
+    → ends_in (step s k).lines f.number ≡ false → IsFeed s f → IsFeed (step s k).state f
+feed_on sounds s k f u d c e b =
+    let x : Subscription = record { session = f.session; number = f.number; rel = b.rel } in
+    let entry = there_some (named s.frame.catalog f.rel) b.known in
+    let still = (sounds.lasts s k).relations f.rel entry.0 entry.1 in
     record {
       rel = b.rel;
-      found = found_settled s k.session k.act f.number _ (found_after s.frame k.session k.act f.number _ a (found_given s.frame.last f.number _ s.frame.subscriptions u.given b.found) c b.found) e;
-      there = b.there ∙ sym (number_kept s.frame.catalog _ f.rel still b.known);
-      known = still.known;
-      acts = acts_after s f.session f.role k.session k.act b.acts a;
+      found = not_told (subscription_of (step s k).state.frame.subscriptions f.number ≡ Some x) f.session f.number (step s k).lines e ((sounds.ends s k u).stands f.number x c b.found);
+      there = b.there ∙ sym (number_same s.frame.catalog (step s k).state.frame.catalog f.rel entry.0 entry.1 still);
+      known = ap is_some still;
+      acts = acts_on sounds s k f.session f.role d b.acts;
     }
 
-pub feed_step : (s : State) (k : Command) (f : Feed) → AreNumbersUnique s.frame → is_kept k.act ≡ true → Spares s k f.number → ends_in (step s k).lines f.number ≡ false → IsFeed s f → IsFeed (step s k).state f
-feed_step s k f u a c e b = feed_by s k (refusal s k.session k.act) f u a c e b
+pub feed_step : Sounds → (s : State) (k : Command) (f : Feed) → AreNumbersUnique s.frame → is_kept k.act ≡ true → Spares s k f.number → ends_in (step s k).lines f.number ≡ false → IsFeed s f → IsFeed (step s k).state f
+feed_step sounds s k f u a c e b = feed_on sounds s k f u (not_finish k f.session a) c e b
 
 -- ---- a client
 
@@ -319,12 +331,12 @@ taken P q own (x ∷ xs) a h k = by (own == x.own) (q x) refl refl h k (taken P 
     by false false e f g i more = more g (neither (own == x.own) _ i).1
 
 -- a client behind the lines, and what else it is told that has no row and no end
-pub client_step : Adds → (s : State) (k : Command) (feeds : List Feed) (v : Seer) (more : List Told) → AreNumbersUnique s.frame
+pub client_step : Adds → Sounds → (s : State) (k : Command) (feeds : List Feed) (v : Seer) (more : List Told) → AreNumbersUnique s.frame
     → ((j : ℕ) (f : Feed) → feed_of feeds j ≡ Some f → Spares s k j)
     → ((own : ℕ) (q : List Cell) → sum_for own q more ≡ pos 0) → ((own : ℕ) → list_any (is_end_of own) more ≡ false) → IsSoundClient s feeds v
     → IsSoundClient (step s k).state (feeds_left (step s k).lines feeds)
     (record v { subs = filter (λ x. not (ends_in (step s k).lines x.feed)) v.subs; told = v.told ++ (own_lines feeds (step s k).lines v.subs ++ more) })
-client_step adds s k feeds v more u spared weighs ends b = record {
+client_step adds sounds s k feeds v more u spared weighs ends b = record {
   own = own_left v.given (λ x. not (ends_in ls x.feed)) v.subs b.own;
   follows = filter_all (IsFollowing (step s k).state (feeds_left ls feeds) new) (λ x. ends_in ls x.feed) v.subs
       (both {P = IsFollowing s feeds v} {Q = λ x. ((q : List Cell) → sum_for x.own q (own_lines feeds ls v.subs) ≡ held x.feed q ls) × (ends_in ls x.feed ≡ false → AllByRecursion (λ (y : Sub). (x.own == y.own) ≡ true → ends_in ls y.feed ≡ false) v.subs)}
@@ -377,7 +389,7 @@ client_step adds s k feeds v more u spared weighs ends b = record {
         let x = taken (λ (x : Sub). (q : List Cell) → sum_for x.own q (v.told ++ (own_lines feeds (step s k).lines v.subs ++ more)) ≡ pos (copies q (shown (step s k).state x.feed)))
         (λ x. ends_in (step s k).lines x.feed) own v.subs all_to t h in
         ap (λ i. sum_for i q (v.told ++ (own_lines feeds (step s k).lines v.subs ++ more))) x.own_is
-        ∙ (x.so q ∙ ap (λ rows. pos (copies q rows)) (ended_shows_none s k x.sub.feed u x.goes))
+        ∙ (x.so q ∙ ap (λ rows. pos (copies q rows)) (ended_shows_none s k x.sub.feed (sounds.ends s k u) x.goes))
     went own h e q false t =
         let quiet = lines_quiet own feeds (step s k).lines v.subs (none_apart (step s k).lines own v.subs t) in
         let rest = any_more (is_end_of own) (own_lines feeds (step s k).lines v.subs) more ∙ (λ i. quiet i || ends own i) in
@@ -414,7 +426,7 @@ from f (Some c) new h = record { old = c; there = refl; same = cc }
 
 pub ran_ready : Adds → Sounds → (g : Gate) (k : Command) → IsReady g k → IsSoundGate (ran g k)
 ran_ready adds sounds g k r = record {
-  state = sounds g.machine k r.state;
+  state = sounds.sound g.machine k r.state;
   seats = r.seats;
   feeds = filter_all (IsFeed (step g.machine k).state) (λ (f : Feed). ends_in (step g.machine k).lines f.number) g.feeds r.feeds;
   clients = λ m c h live. one m c (from hears (client_at g.clients m) c (sym (at_every hears g.clients m) ∙ h)) live;
@@ -433,5 +445,5 @@ ran_ready adds sounds g k r = record {
         let stays : b.dropped ≡ false = sym (telling_dropped g.entries (told_of g k.act (step g.machine k) b) b) ∙ (ap (λ (x : Client). x.dropped) o.same ∙ live) in
         let test = is_accepted (reply_in (step g.machine k).lines) in let names = granted_by (step g.machine k).state.frame k.act b.role in
         subst (λ v. IsSoundClient (step g.machine k).state (feeds_left (step g.machine k).lines g.feeds) v) (sym (seen b) ∙ ap seer o.same)
-        (client_step adds g.machine k g.feeds (seer b) (cond test (map granted names) []) r.state.numbers r.spared
+        (client_step adds sounds g.machine k g.feeds (seer b) (cond test (map granted names) []) r.state.numbers r.spared
         (λ own q. (told_quiet own q test names).0) (λ own. (told_quiet own [] test names).1) (r.clients m b o.there stays))

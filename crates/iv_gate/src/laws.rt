@@ -14,7 +14,9 @@ ghost use Rattle.iv_gate.specs.Touched.{AreTouched};
 
 pub mod journal;
 
-use iv_machine::laws::{lines_add_up, steps_keep_sound};
+use iv_machine::laws::{
+    ends_are_told, lines_add_up, requests_open_what_they_name, steps_keep_sound, what_stands_lasts,
+};
 
 pub mod hearing;
 
@@ -41,6 +43,9 @@ pub fn clients_see_their_views()
 {
     lines_add_up();
     steps_keep_sound();
+    what_stands_lasts();
+    ends_are_told();
+    requests_open_what_they_name();
 }
 
 /// In whatever runs, over restarts: the machine reads what clients follow, and nothing for nobody.
@@ -49,6 +54,9 @@ pub fn nothing_is_read_for_nobody()
 {
     lines_add_up();
     steps_keep_sound();
+    what_stands_lasts();
+    ends_are_told();
+    requests_open_what_they_name();
 }
 
 /// In whatever runs, over restarts, the session of a role acts in that role.
@@ -57,6 +65,9 @@ pub fn sessions_act_in_their_roles()
 {
     lines_add_up();
     steps_keep_sound();
+    what_stands_lasts();
+    ends_are_told();
+    requests_open_what_they_name();
 }
 
 /// By an event no more than one session is begun, for a role that has none with a place.
@@ -73,6 +84,9 @@ pub fn messages_are_replied()
 {
     lines_add_up();
     steps_keep_sound();
+    what_stands_lasts();
+    ends_are_told();
+    requests_open_what_they_name();
 }
 
 /// In whatever runs, over restarts, each client that is not to go was told a welcome first, and as many replies behind it as messages
@@ -93,6 +107,9 @@ pub fn events_settle_what_they_tell()
 {
     lines_add_up();
     steps_keep_sound();
+    what_stands_lasts();
+    ends_are_told();
+    requests_open_what_they_name();
 }
 
 // ---- all of them

@@ -16,6 +16,7 @@ pub mod Numbers
 pub mod Readers
 pub mod Learning
 pub mod Staying
+pub mod Beside
 pub mod Quieting
 pub mod Storing
 pub mod Knowing
@@ -27,3 +28,4 @@ pub mod Standing
 pub mod Telling
 pub mod Seeing
 pub mod Typing
+pub mod Lasting

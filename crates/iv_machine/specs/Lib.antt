@@ -18,3 +18,4 @@ pub mod Well
 pub mod Learned
 pub mod Stored
 pub mod Told
+pub mod Lasting

@@ -34,6 +34,12 @@ is_for (reply n r) = None
 is_for (change n k rows) = Some (n, k)
 is_for (ended n k why rows) = Some (n, k)
 
+-- the line is not for subscription k
+abbrev pub IsNotFor : ℕ → Line → Type 0
+IsNotFor k (reply n r) = Unit {0}
+IsNotFor k (change n j rows) = k ≢ j
+IsNotFor k (ended n j why rows) = k ≢ j
+
 -- the reply before all others, and these by session, then by number
 abbrev pub Precedes : Option (ℕ × ℕ) → Option (ℕ × ℕ) → Type 0
 Precedes o None = ⊥

@@ -42,7 +42,7 @@ pub fn answer_connection<R: Source, W: Sink>(
       now = engine.new;
     }) result }
     ensures served { (is_memory result ≡ false) → (s : State) → IsBehind s engine.old → HasServed lines 1 s engine.new }
-    // Where a sound state stood behind the engine, one does afterwards.
+    // A sound engine stays sound.
     ensures sound { (is_memory result ≡ false) → IsSoundEngine engine.old → IsSoundEngine engine.new }
     ensures closed { (is_memory result ≡ false) → IsClosed engine.new.frame }
     ensures failed { engine.new.failed ≡ is_memory result }

@@ -56,7 +56,7 @@ pub fn serve_on(
     lines: u32,
 ) -> Result<(), ServeFault>
     ensures served { (s : State) → IsBehind s engine.old → Serves lines connections s engine.new result }
-    // Where a sound state stood behind the engine, one does afterwards.
+    // A sound engine stays sound.
     ensures sound { (is_memory result ≡ false) → IsSoundEngine engine.old → IsSoundEngine engine.new }
     ensures closed { OnOk result (1 ≤ connections → IsClosed engine.new.frame) }
     ensures numbers { engine.new.failed ≡ false → AreNumbersUnique engine.new.frame }

@@ -1,15 +1,15 @@
 -- Commands behind commands.
-use Rattle.std.proofs.Common.{◌≡◌, if◌then◌else◌, ℕ, ◌+◌, ◌≤◌, List, [], ◌∷◌, ◌++◌, length, length-append, Bool, true, false, refl, subst, sym, arith}
+use Rattle.std.proofs.Common.{◌≡◌, if◌then◌else◌, ℕ, ◌+◌, ◌≤◌, List, [], ◌∷◌, ◌++◌, length, length-append, Bool, true, false, refl, subst, arith}
 use Rattle.std.proofs.lemmas.List.Elements.{All-append, All-cons, All-nil}
 use Rattle.std.specs.List.{All}
 use Rattle.iv_machine.specs.Act.{Command}
 use Rattle.iv_machine.specs.Machine.{run, step}
 use Rattle.iv_machine.specs.State.{State}
-use Rattle.iv_machine.specs.Stored.{IsGiven, IsStoredSound}
+use Rattle.iv_machine.specs.Stored.{IsGiven}
 use Rattle.iv_machine.proofs.Standing.{run_stays}
 use Rattle.iv_engine.specs.Engine.{Engine, IsBehind}
 use Rattle.iv_engine.specs.Sound.{IsSoundEngine}
-use Rattle.iv_engine.proofs.Sounding.{sound_of}
+use Rattle.iv_engine.proofs.Sounding.{sound_of, whole_of}
 use Rattle.iv_request.specs.Reading.{Reading, faulty, asked, reading_of}
 use Rattle.iv_lines.specs.Answer.{commands_of, readings_of, told}
 use Rattle.iv_lines.specs.Cut.{is_blank_line}
@@ -64,4 +64,4 @@ one_given line c b h g = rw (b, h) (All-cons IsGiven c [] g (All-nil IsGiven))
 
 pub sound_by_run : (lines : ℕ) (old new : Engine) → ((s : State) → IsBehind s old → HasRun lines s new) → IsSoundEngine old → IsSoundEngine new
 sound_by_run lines old new f h = let r = f h.state h.behind in
-    sound_of (run h.state r.commands).state new r.behind (run_stays h.state r.commands r.given (h.sound, subst IsStoredSound (sym h.behind.frame) h.stored))
+    sound_of (run h.state r.commands).state new r.behind (run_stays h.state r.commands r.given (whole_of old h))

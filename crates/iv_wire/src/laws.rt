@@ -15,8 +15,9 @@ pub fn answers_are_texts()
     ensures { (s : State) (rs : List iv_request.Reading) → IsTextOf (run s (commands_of rs)).lines (text_answered s rs) }
 {}
 
-/// Two runs over the same bytes send a role's sessions the same bytes, if they begin in states that look alike to it, and each
-/// command among the bytes is answered alike, and behind one that may change rights the states look alike again.
+/// Two runs over the same bytes send a role's sessions the same bytes, if they begin in states that look alike to it, of which the
+/// first is sound, each command among the bytes is answered alike, and behind one that may change rights, tables or views the role
+/// sees the same rows.
 pub fn bytes_tell_roles_nothing_else()
     ensures { (role : ℕ) (s t : State) (n : ℕ) (bytes : List ℕ) → BytesTellNothingElse role s t n bytes }
 {

@@ -175,8 +175,8 @@ pub fn run<R: Source, W: Sink>(
           now = engine.new;
         }))) }
     ensures ran { (is_memory result ≡ false) → (s : State) → IsBehind s engine.old → HasRun lines s engine.new }
-    // Where a sound state stood behind the engine, one does afterwards: roles, names, sessions, subscriptions and rows, and the
-    // policies, views and rights that are stored.
+    // A sound engine stays sound: roles, names, sessions, subscriptions and rows, and the policies, views and rights that are
+    // stored.
     ensures sound { (is_memory result ≡ false) → IsSoundEngine engine.old → IsSoundEngine engine.new }
     ensures failed { engine.new.failed ≡ (engine.old.failed || is_memory result) }
     ensures refused { IsErrOf result RunFault.Failed ↔ (engine.old.failed ≡ true) }

@@ -10,7 +10,10 @@ ghost use Rattle.iv_gate.specs.Seen.{EndsForCause, GrantsAreTrue, HearsFollowed,
 ghost use Rattle.iv_gate.specs.Touched.{ActsByToken, LetsIn};
 
 use iv_access::laws::grants_give_what_they_name;
-use iv_machine::laws::{differences_are_exact, lines_add_up, steps_keep_sound};
+use iv_machine::laws::{
+    differences_are_exact, ends_are_told, lines_add_up, requests_open_what_they_name,
+    steps_keep_sound, what_stands_lasts,
+};
 use iv_request::laws::requests_are_well;
 
 /// In whatever runs, over restarts: the token that a client presented opens its role now, and its role's requests run in a session that
@@ -21,6 +24,9 @@ pub fn tokens_open_roles()
 {
     lines_add_up();
     steps_keep_sound();
+    what_stands_lasts();
+    ends_are_told();
+    requests_open_what_they_name();
 }
 
 /// In whatever runs, over restarts, an event tells a client of numbers alone that it follows, or that it is given now, and of an end for
@@ -33,6 +39,9 @@ pub fn news_are_of_what_is_followed()
 {
     lines_add_up();
     steps_keep_sound();
+    what_stands_lasts();
+    ends_are_told();
+    requests_open_what_they_name();
     differences_are_exact();
 }
 
@@ -45,6 +54,9 @@ pub fn clients_are_bounded()
 {
     lines_add_up();
     steps_keep_sound();
+    what_stands_lasts();
+    ends_are_told();
+    requests_open_what_they_name();
 }
 
 /// In whatever runs, over restarts: what an event tells a client to be granted its role has then, and it is what the accepted request
@@ -55,6 +67,9 @@ pub fn grants_are_told()
 {
     lines_add_up();
     steps_keep_sound();
+    what_stands_lasts();
+    ends_are_told();
+    requests_open_what_they_name();
     grants_give_what_they_name();
     requests_are_well();
 }

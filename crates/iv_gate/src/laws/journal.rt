@@ -6,7 +6,9 @@ ghost use Rattle.iv_gate.specs.Laws.{AreShown, CrashesAreSafe, LeadsBack, SentIs
 ghost use Rattle.iv_gate.specs.Restoring.{IsDecided};
 ghost use Rattle.iv_gate.specs.Runs.{Runs};
 
-use iv_machine::laws::{lines_add_up, steps_keep_sound};
+use iv_machine::laws::{
+    ends_are_told, lines_add_up, requests_open_what_they_name, steps_keep_sound, what_stands_lasts,
+};
 
 /// By an event a client is told what shows the entries that are accepted behind it, and what comes of its own message where the event
 /// is that.
@@ -28,6 +30,9 @@ pub fn the_journal_leads_back()
 {
     lines_add_up();
     steps_keep_sound();
+    what_stands_lasts();
+    ends_are_told();
+    requests_open_what_they_name();
 }
 
 /// Each journal either restores, to one gateway, or is damaged, at one place.

@@ -46,10 +46,7 @@ returns-clause-told c = (
   record { frame = refl; rows = sees_none unread.frame.rights emptied.frame.rights unread.rows emptied.rows refl },
   (
     refl,
-    λ h. record {
-      frame = refl;
-      rows = sees_none (left_by unread names_bob).frame.rights (left_by emptied names_bob).frame.rights (left_by unread names_bob).rows (left_by emptied names_bob).rows refl;
-    },
+    λ h. sees_none (left_by unread names_bob).frame.rights (left_by emptied names_bob).frame.rights (left_by unread names_bob).rows (left_by emptied names_bob).rows refl,
     tt,
   ),
   (refl, refl),
