@@ -1,0 +1,5 @@
+use Rattle.iv_jwt.proofs.Believing.{judged_granted}
+use Rattle.iv_jwt.proofs.laws.judged_is_granted.Goals as goal
+
+pub returns : goal.returns
+returns c = judged_granted

@@ -1,0 +1,6 @@
+pub mod Cuts
+pub mod Placing
+pub mod Heads
+pub mod Appending
+pub mod Tags
+pub mod Literal

@@ -1,0 +1,10 @@
+pub mod Cut
+pub mod Place
+pub mod Pushed
+pub mod Kind
+pub mod Asking
+pub mod Answer
+pub mod Seen
+pub mod Figures
+pub mod Shown
+pub mod Worked

@@ -1,0 +1,7 @@
+//! Tests of iv_pages and iv_jwt by their public calls, by RFC 9110, 9112, 7515 and 4231.
+#![tactic(auto)]
+
+#[cfg(test)]
+mod pages;
+#[cfg(test)]
+mod tokens;
