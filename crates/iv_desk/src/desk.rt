@@ -1,0 +1,288 @@
+//! `Desk`: the peers by their numbers, and the gateway whose clients have the same numbers.
+ghost use Rattle.std.specs.Prelude.{◌≡◌, ℕ, Err, IfOk, OnErr, OnOk, false, true};
+ghost use Rattle.std.specs.Io.KnownBytes.{Appends};
+ghost use Rattle.iv_clients.specs.Clients.{is_free};
+ghost use Rattle.iv_clients.specs.Journal.{journal_of};
+ghost use Rattle.iv_gate.specs.Events.{failed, known, synced, ticked};
+ghost use Rattle.iv_gate.specs.Gate.{Gate, pending};
+ghost use Rattle.iv_gate.specs.Restoring.{IsDamagedAt};
+ghost use Rattle.iv_gateway.specs.Views.{IsGate};
+ghost use Rattle.iv_peer.specs.Socket.{closed, passing, took};
+ghost use Rattle.iv_desk.specs.Front.{Front, at_socket, begun, by_event, dismissed, front_at_start, left, may_tell, offered};
+ghost use Rattle.iv_desk.specs.Desks.{IsCalledOut, IsDesk, IsHeard, IsRestored, is_over_at, pending_at};
+
+use crate::place::{Hearing, Place};
+use crate::places::{
+    close_at, dismiss_all, empty_places, hear_at, is_free, offer_all, pass_at, put_at, read_at,
+};
+use iv_clients::Token;
+use iv_gate::laws::events_leave_their_marks;
+use iv_gateway::{Gateway, GatewayFault, Journal, RestoreFault};
+use std::alloc::{AllocError, Global};
+
+/// Peers by their numbers, and the gateway whose clients have the same numbers. After a fault it is dead: it hears, tells and offers nothing
+/// any more, and nothing is pending.
+#[derive(Drop)]
+pub struct Desk {
+    alloc: Global,
+    gateway: Gateway,
+    places: Vec<Option<Place>>,
+    most: u32,
+    dead: bool,
+}
+
+impl Desk {
+    /// A desk at which nobody is, with places for as many, before a gateway that has no client and was no fault of.
+    ///
+    /// # Errors
+    /// `AllocError` where a growth of memory was refused.
+    pub fn new(alloc: Global, gateway: Gateway, most: u32) -> Result<Desk, AllocError>
+        ensures { IfOk result (λ x. (g : Gate) → IsGate g gateway → g.dead ≡ false → IsDesk (front_at_start g most) x) }
+    {
+        let places = empty_places(alloc, most)?;
+        Ok(Desk {
+            alloc,
+            gateway,
+            places,
+            most,
+            dead: false,
+        })
+    }
+
+    /// Brings the gateway to where a journal leads. Answers how many of its bytes that is: what stands behind them is a last entry that was
+    /// torn, which is to be cut off before anything happens.
+    ///
+    /// # Errors
+    /// Those of the gateway's `restore`. The desk is dead then.
+    pub fn restore(&mut self, journal: &[u8]) -> Result<usize, RestoreFault>
+        ensures restored { IfOk result (λ kept. (d : Front) → IsDesk d self.old → IsRestored d journal.now kept self.new) }
+        ensures damaged { (place : ℕ) → result ≡ Err (RestoreFault.Damaged place) → (d : Front) → IsDesk d self.old → IsDamagedAt d.gate journal.now place }
+        ensures fails { OnErr result ((d : Front) → IsDesk d self.old → IsDesk (by_event failed d) self.new) }
+    {
+        if self.dead {
+            return Err(RestoreFault::Late);
+        }
+        match self.gateway.restore(journal) {
+            Ok(kept) => Ok(kept),
+            Err(fault) => {
+                self.dead = true;
+                Err(fault)
+            }
+        }
+    }
+
+    /// A connection begins at a number that none has. Whether it does.
+    pub fn accept(&mut self, at: u32) -> bool
+        ensures begins { (d : Front) → IsDesk d self.old → IsDesk (begun at d) self.new }
+        ensures answer { (d : Front) → IsDesk d self.old → d.gate.dead ≡ false → result ≡ is_free at d.sockets }
+        ensures dead { (d : Front) → IsDesk d self.old → d.gate.dead ≡ true → result ≡ false }
+    {
+        if self.dead {
+            return false;
+        }
+        if !is_free(&self.places, at) {
+            return false;
+        }
+        let place = Place::new(self.alloc);
+        put_at(&mut self.places, at, Some(place));
+        true
+    }
+
+    /// Takes in bytes that were read at a number, and hears all that may be heard now. What is left.
+    ///
+    /// # Errors
+    /// `Memory` where a growth of memory was refused; `Dead` where there was a fault before. The desk is dead then.
+    pub fn read(&mut self, at: u32, bytes: &[u8]) -> Result<Hearing, GatewayFault>
+        ensures heard { IfOk result (λ hearing. (d : Front) → IsDesk d self.old → IsHeard (at_socket at (took bytes.now) d) at hearing self.new) }
+        ensures fails { OnErr result ((d : Front) → IsDesk d self.old → IsDesk (by_event failed d) self.new) }
+        ensures dead { (d : Front) → IsDesk d self.old → d.gate.dead ≡ true → result ≡ Err GatewayFault.Dead }
+    {
+        if self.dead {
+            return Err(GatewayFault::Dead);
+        }
+        match read_at(&mut self.gateway, at, &mut self.places, bytes) {
+            Ok(hearing) => Ok(hearing),
+            Err(fault) => {
+                self.dead = true;
+                Err(fault)
+            }
+        }
+    }
+
+    /// Hears on at a number that was held, behind a `settle`. What is left.
+    ///
+    /// # Errors
+    /// As of `read`.
+    pub fn resume(&mut self, at: u32) -> Result<Hearing, GatewayFault>
+        ensures heard { IfOk result (λ hearing. (d : Front) → IsDesk d self.old → IsHeard d at hearing self.new) }
+        ensures fails { OnErr result ((d : Front) → IsDesk d self.old → IsDesk (by_event failed d) self.new) }
+        ensures dead { (d : Front) → IsDesk d self.old → d.gate.dead ≡ true → result ≡ Err GatewayFault.Dead }
+    {
+        if self.dead {
+            return Err(GatewayFault::Dead);
+        }
+        match hear_at(&mut self.gateway, at, &mut self.places) {
+            Ok(hearing) => Ok(hearing),
+            Err(fault) => {
+                self.dead = true;
+                Err(fault)
+            }
+        }
+    }
+
+    /// The connection of a number is gone, and its client with it. The number is free.
+    ///
+    /// # Errors
+    /// As of `read`.
+    pub fn leave(&mut self, at: u32) -> Result<(), GatewayFault>
+        ensures front { OnOk result ((d : Front) → IsDesk d self.old → IsDesk (left at d) self.new) }
+        ensures fails { OnErr result ((d : Front) → IsDesk d self.old → IsDesk (by_event failed d) self.new) }
+        ensures dead { (d : Front) → IsDesk d self.old → d.gate.dead ≡ true → result ≡ Err GatewayFault.Dead }
+    {
+        if self.dead {
+            return Err(GatewayFault::Dead);
+        }
+        events_leave_their_marks();
+        put_at(&mut self.places, at, None);
+        match self.gateway.left(at) {
+            Ok(()) => Ok(()),
+            Err(fault) => {
+                self.dead = true;
+                Err(fault)
+            }
+        }
+    }
+
+    /// Has the journal keep what is pending there, and only then offers each peer what its client may be sent, in one message, where all that
+    /// it was offered before was sent. One whose client is to go is closed.
+    ///
+    /// # Errors
+    /// `Journal` where the journal fails; else as of `read`. A front of what was pending for the journal may be on disk then.
+    pub fn settle<J: Journal>(&mut self, journal: &mut J) -> Result<(), GatewayFault>
+        ensures kept { OnOk result ((d : Front) → IsDesk d self.old → d.gate.dead ≡ false
+            → Appends (J.kept journal.old) (J.kept journal.new) (journal_of (pending d.gate))) }
+        ensures front { OnOk result ((d : Front) → IsDesk d self.old → IsCalledOut offered (by_event synced d) self.new) }
+        ensures fails { OnErr result ((d : Front) → IsDesk d self.old → IsDesk (by_event failed d) self.new) }
+        ensures dead { (d : Front) → IsDesk d self.old → d.gate.dead ≡ true → result ≡ Err GatewayFault.Dead }
+    {
+        if self.dead {
+            return Err(GatewayFault::Dead);
+        }
+        events_leave_their_marks();
+        match self.gateway.settle(journal) {
+            Ok(()) => {}
+            Err(fault) => {
+                self.dead = true;
+                return Err(fault);
+            }
+        }
+        match offer_all(&mut self.gateway, self.most, &mut self.places) {
+            Ok(()) => Ok(()),
+            Err(_) => {
+                self.dead = true;
+                Err(GatewayFault::Memory)
+            }
+        }
+    }
+
+    /// These tokens are known from now on. Who came by another is closed.
+    ///
+    /// # Errors
+    /// As of `read`.
+    pub fn know(&mut self, tokens: Vec<Token>) -> Result<(), GatewayFault>
+        ensures front { OnOk result ((d : Front) → IsDesk d self.old → IsCalledOut dismissed (by_event (known tokens.items) d) self.new) }
+        ensures fails { OnErr result ((d : Front) → IsDesk d self.old → IsDesk (by_event failed d) self.new) }
+        ensures dead { (d : Front) → IsDesk d self.old → d.gate.dead ≡ true → result ≡ Err GatewayFault.Dead }
+    {
+        if self.dead {
+            return Err(GatewayFault::Dead);
+        }
+        events_leave_their_marks();
+        self.gateway.know(tokens);
+        match dismiss_all(&self.gateway, self.most, &mut self.places) {
+            Ok(()) => Ok(()),
+            Err(_) => {
+                self.dead = true;
+                Err(GatewayFault::Memory)
+            }
+        }
+    }
+
+    /// Tells all clients that the line is alive.
+    ///
+    /// # Errors
+    /// As of `read`.
+    pub fn tick(&mut self) -> Result<(), GatewayFault>
+        ensures front { OnOk result ((d : Front) → IsDesk d self.old → IsDesk (by_event ticked d) self.new) }
+        ensures fails { OnErr result ((d : Front) → IsDesk d self.old → IsDesk (by_event failed d) self.new) }
+        ensures dead { (d : Front) → IsDesk d self.old → d.gate.dead ≡ true → result ≡ Err GatewayFault.Dead }
+    {
+        if self.dead {
+            return Err(GatewayFault::Dead);
+        }
+        events_leave_their_marks();
+        match self.gateway.tick() {
+            Ok(()) => Ok(()),
+            Err(fault) => {
+                self.dead = true;
+                Err(fault)
+            }
+        }
+    }
+
+    /// Closes the connection of a number by a code and words that tell why, where it is open. Nothing more is heard or told at it. The code is
+    /// one that may be sent (1000 to 1003, 1007 to 1014, 3000 to 4999), and the words have at most 123 bytes.
+    ///
+    /// # Errors
+    /// As of `read`.
+    pub fn close(&mut self, at: u32, code: u16, words: &[u8]) -> Result<(), GatewayFault>
+        requires told { may_tell code words.now ≡ true }
+        ensures front { OnOk result ((d : Front) → IsDesk d self.old → IsDesk (at_socket at (closed code words.now) d) self.new) }
+        ensures fails { OnErr result ((d : Front) → IsDesk d self.old → IsDesk (by_event failed d) self.new) }
+        ensures dead { (d : Front) → IsDesk d self.old → d.gate.dead ≡ true → result ≡ Err GatewayFault.Dead }
+    {
+        if self.dead {
+            return Err(GatewayFault::Dead);
+        }
+        match close_at(&mut self.places, at, code, words) {
+            Ok(()) => Ok(()),
+            Err(_) => {
+                self.dead = true;
+                Err(GatewayFault::Memory)
+            }
+        }
+    }
+
+    /// What is to be sent at a number.
+    pub fn pending(&self, at: u32) -> &[u8]
+        ensures { (d : Front) → IsDesk d self.now → result.now ≡ pending_at d at }
+    {
+        if self.dead {
+            return &[];
+        }
+        match self.places.get(at as usize) {
+            Some(Some(place)) => place.peer.pending(),
+            _ => &[],
+        }
+    }
+
+    /// The first bytes of what was pending at a number were sent, as many as that, where as many were pending.
+    pub fn sent(&mut self, at: u32, count: usize)
+        ensures { (d : Front) → IsDesk d self.old → IsDesk (at_socket at (passing count) d) self.new }
+    {
+        pass_at(&mut self.places, at, count);
+    }
+
+    /// Whether nothing more is heard or told at a number.
+    pub fn is_over(&self, at: u32) -> bool
+        ensures { (d : Front) → IsDesk d self.now → result ≡ is_over_at d at }
+    {
+        if self.dead {
+            return true;
+        }
+        match self.places.get(at as usize) {
+            Some(Some(place)) => place.peer.is_over(),
+            _ => true,
+        }
+    }
+}

@@ -1,0 +1,39 @@
+//! Laws of the sockets before a gateway. Each is the contract of a function that does nothing.
+ghost use Rattle.std.specs.Prelude.{◌≡◌, ℕ, List, false};
+ghost use Rattle.iv_clients.specs.Clients.{Shown};
+ghost use Rattle.iv_clients.specs.Tokens.{Token};
+ghost use Rattle.iv_gate.specs.Gate.{Gate};
+ghost use Rattle.iv_gate.specs.Restoring.{Restores, gate_at_start};
+ghost use Rattle.iv_gate.specs.Runs.{Runs};
+ghost use Rattle.iv_desk.specs.Front.{Front, FrontRuns, dismissed, front_at_start, offered, socket_at};
+ghost use Rattle.iv_desk.specs.Served.{BrowsersAreTold};
+ghost use Rattle.iv_desk.specs.Desks.{IsHeardBy, at_each};
+ghost use Rattle.iv_desk.specs.declared.place.Hearing.{Hearing};
+
+use iv_gate::laws::{events_leave_their_marks, gateways_hold_always};
+use iv_message::laws::told_texts_are_lines;
+use iv_peer::laws::sockets_carry_what_is_told;
+
+/// In whatever runs, over restarts, each socket carries what its own client says and is told, all of it and in order: the texts that its
+/// bytes decode to are the token that the client presented and then its messages, and it is offered what was handed to the client, each
+/// time in one frame. Where no client is, a socket is offered an answer to its handshake, pongs and a close. And all holds that holds
+/// always of the gateway: what clients are told adds up to their views.
+pub fn browsers_are_told_their_views()
+    ensures { BrowsersAreTold }
+{
+    gateways_hold_always();
+    sockets_carry_what_is_told();
+    told_texts_are_lines();
+}
+
+/// What the contracts of a desk's calls name leads from a run to a run: to restore, to hear all that a number says, to offer to each of
+/// some numbers what it may be sent, and to close each of some whose token opens its role no more. The other calls are steps themselves.
+pub fn calls_lead_from_runs_to_runs()
+    ensures restores { (cap most places : ℕ) (tokens : List Token) (sent : List Shown) (journal : List ℕ) (g : Gate)
+        → Restores (gate_at_start cap tokens most sent) journal g → Runs cap g → FrontRuns cap (front_at_start g places) }
+    ensures hears { (cap m : ℕ) (d e : Front) (hearing : Hearing) → FrontRuns cap d → d.gate.dead ≡ false → IsHeardBy d m (socket_at d m) hearing e → FrontRuns cap e }
+    ensures offers { (cap : ℕ) (ms : List ℕ) (d : Front) → FrontRuns cap d → d.gate.dead ≡ false → FrontRuns cap (at_each offered ms d) }
+    ensures dismisses { (cap : ℕ) (ms : List ℕ) (d : Front) → FrontRuns cap d → d.gate.dead ≡ false → FrontRuns cap (at_each dismissed ms d) }
+{
+    events_leave_their_marks();
+}
