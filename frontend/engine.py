@@ -24,7 +24,7 @@ import re
 import time
 
 from client import BACKLOG, Ask, Client, Subscription, ended, frames_of
-from journal import BODY, SHARED, Anew, Damaged, Entry, Log, Shape, by_role, by_session, replay, to_text
+from journal import BODY, SHARED, SLOW, Anew, Damaged, Entry, Log, Shape, by_role, by_session, replay, to_text
 
 SESSIONS = 256  # viewd has no more
 SPARE = 16  # by which the journal is told; clients have them, where it is told before they come
@@ -34,7 +34,7 @@ MESSAGES = 20_000  # a second, at most: 200 browsers are sent one each 10 ms, wi
 GATHERED = 4 << 20  # bytes that may wait to be sent, before viewd's next answers are read
 RETRY = 1.0  # seconds after which a request is sent to the writer again
 NOBODY = 0.2  # the same where nobody heard it
-GIVE_UP = 30.0  # seconds without an answer of a writer, after which a client is told nothing more, and dropped
+GIVE_UP = 30.0 * SLOW  # seconds without an answer of a writer, after which a client is told nothing more, and dropped
 KNOWN = 10_000  # names of requests that are known when they come again, at least; as many as a snapshot leaves in a stream
 MOST = (1 << 63) - 1  # the greatest number of a subscription: viewd never comes to it
 ALLOWED = SHARED | {"subscribe", "unsubscribe"}  # `begin` and `finish` are the gateway's: by `begin` one chooses a role

@@ -24,10 +24,10 @@ import tomllib
 from aiohttp import WSMsgType, web
 
 from engine import Client, Engine
-from journal import LINE, Damaged, Journal, Log
+from journal import LINE, SLOW, Damaged, Journal, Log
 
-HELLO = 10.0  # seconds to send a token
-PING, PONG = 20.0, 10.0  # seconds between an answer and the next ping, and for an answer
+HELLO = 10.0 * SLOW  # seconds to send a token
+PING, PONG = 20.0, 10.0 * SLOW  # seconds between an answer and the next ping, and for an answer
 HOLD = 8.0  # seconds, at most, for which nothing is decided while gateways are compared
 
 log = logging.getLogger("gateway")

@@ -28,6 +28,7 @@ LINE = 65_536  # bytes of a line without its newline: viewd ends behind a longer
 BODY = LINE - max(len('{"session":4294967295,}'), len('{"as":"",}') + 63)
 FOLLOW = 0.05  # seconds between two looks at a file that another gateway writes: Python's library has no inotify
 PIECE = 1000  # entries that are read at a time
+SLOW = float(os.environ.get("VIEWD_SLOW", 1))  # how many times as long as usual who is asked may be silent: tests set it, as no slow host is to fail them
 PRIVILEGES = ("select", "insert", "update", "delete")
 SHARED = frozenset(("create_role", "create_table", "create_view", "grant", "revoke", "grant_role", "revoke_role", "row_security",
                     "create_policy", "drop_policy", "write"))

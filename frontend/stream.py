@@ -26,11 +26,11 @@ from urllib.parse import urlsplit, urlunsplit
 import redis.asyncio
 from redis.exceptions import AuthenticationError, ConnectionError, ResponseError, TimeoutError
 
-from journal import PIECE, Anew, Damaged, Entry, Log, entry_of
+from journal import PIECE, SLOW, Anew, Damaged, Entry, Log, entry_of
 
 KEPT = int(os.environ.get("VIEWD_KEPT", 10_000))  # entries whose names are known, and which stay behind a snapshot
 BLOCK = 250  # milliseconds that a reader waits for an entry, before it looks for the lease
-PATIENCE = 5.0  # seconds for an answer of Redis
+PATIENCE = 5.0 * SLOW  # seconds for an answer of Redis
 AGAIN = 0.2  # seconds until it is asked again
 SILENCE = 2.0  # seconds without a message, after which a channel is asked whether it is there
 AWAY = (ConnectionError, TimeoutError, OSError)
@@ -288,7 +288,7 @@ class Stream(Log):
         lease, self.lease = self.lease, None
         if lease:
             with contextlib.suppress(*AWAY, ResponseError, asyncio.TimeoutError):
-                await asyncio.wait_for(self._keep(keys=[self.key("lease")], args=[lease, 0]), 1.0)
+                await asyncio.wait_for(self._keep(keys=[self.key("lease")], args=[lease, 0]), 1.0 * SLOW)
 
     async def close(self) -> None:
         await self.redis.connection_pool.disconnect()

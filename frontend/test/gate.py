@@ -24,7 +24,10 @@ import aiohttp
 TOP = pathlib.Path(__file__).resolve().parent.parent
 VIEWD = pathlib.Path(os.environ.get("VIEWD", TOP.parent / "crates/viewd/out/viewd")).resolve()
 ROLES = ("admin", "lena", "mia", "noah", "olga")
-PATIENCE = float(os.environ.get("PATIENCE", 60))  # seconds for anything that has to come: a slow machine fails no test
+PATIENCE = float(os.environ.get("PATIENCE", 600))  # seconds for anything that has to come: a slow machine fails no test
+PORTS: list[socket.socket] = []  # names of the ports that this process holds
+os.environ.setdefault("VIEWD_SLOW", "20")
+os.environ["no_proxy"] = os.environ["NO_PROXY"] = "*"  # all is on loopback
 
 sys.path.insert(0, str(TOP))
 
@@ -53,12 +56,16 @@ def tokens(roles: tuple[str, ...] = ROLES) -> str:
 
 
 def free_port() -> int:
-    """A port on which nobody listens. Not one of those that the system gives to clients: one of them could take it meanwhile."""
+    """A port on which nobody listens. Tests beside this one take none whose name is held, and the system gives clients none below `low`."""
     low = int(pathlib.Path("/proc/sys/net/ipv4/ip_local_port_range").read_text().split()[0])
     while True:
-        with socket.socket() as probe, contextlib.suppress(OSError):
-            probe.bind(("127.0.0.1", random.randrange(10_000, low) if low > 12_000 else 0))
-            return probe.getsockname()[1]
+        port, name = random.randrange(10_000, low if low > 12_000 else 60_000), socket.socket(socket.AF_UNIX)
+        with contextlib.suppress(OSError), socket.socket() as probe:
+            name.bind(f"\0viewd test {port}")
+            probe.bind(("127.0.0.1", port))
+            PORTS.append(name)
+            return port
+        name.close()
 
 
 def explain(why: BaseException) -> str:
@@ -124,7 +131,7 @@ class Gate:
         return self.log.read().decode()
 
     def kill_viewd(self) -> None:
-        before = self.state()["viewd"]
+        before = eventually(lambda: self.state()["viewd"])
         os.kill(before, signal.SIGKILL)
 
         def another() -> bool:

@@ -7,7 +7,7 @@ import subprocess
 from gate import PATIENCE, TOP, Gate, eventually
 from store import Store
 
-LEASE = 60.0  # seconds: no slow machine loses it; where a test needs that it passes, it is taken away
+LEASE = 600.0  # seconds: no slow machine loses it; if a test needs that it passes, it is taken away
 
 
 class Party:

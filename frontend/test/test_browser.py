@@ -2,29 +2,42 @@
 """The desk in a real browser: an administrator and two agents, each in a window of one Chromium.
 
     frontend/test/test_browser.py [FOLDER FOR PICTURES]
+
+Status 3: Chromium does not start here, so nothing was tried.
 """
+import contextlib
 import pathlib
+import re
 import sys
 import tempfile
 import time
 
 from selenium import webdriver
-from selenium.common.exceptions import WebDriverException
+from selenium.common.exceptions import InvalidSessionIdException, WebDriverException
 from selenium.webdriver.common.by import By
 from selenium.webdriver.common.keys import Keys
+from urllib3.exceptions import HTTPError
 
-from gate import ROLES, Gate, eventually, explain, tokens
+from gate import PATIENCE, ROLES, Gate, eventually, explain, shortened, tokens
 
+NOT_STARTED = 3
 GREATEST = (1 << 63) - 1
 
 
+class Gone(Exception):
+    """The browser has ended by itself."""
+
+
 def until(test):
-    """The first true answer. A page that is being made anew lacks what is looked for, for a moment."""
+    """The first true answer. A page that is being made anew lacks what is looked for, for a moment. Raises Gone."""
     def answer():
         try:
             return test()
-        except (WebDriverException, LookupError):
-            return None
+        except (InvalidSessionIdException, HTTPError, OSError) as why:
+            raise Gone(str(why)) from None
+        except (WebDriverException, LookupError) as why:
+            if re.search("crashed|disconnected|not reachable", str(why)):
+                raise Gone(str(why)) from None
     return eventually(answer)
 
 
@@ -44,6 +57,10 @@ class Desk:
 
     def css(self, selector: str):
         return self.find_element(By.CSS_SELECTOR, selector)
+
+    def press(self, selector: str, key: str) -> None:
+        """A key, on what may be made anew meanwhile."""
+        until(lambda: self.css(selector).send_keys(key) or True)
 
     def click(self, selector: str) -> None:
         """In one step, as the page may put another element in the place of one that was found."""
@@ -126,11 +143,11 @@ class Test:
         self.gate.tokens.write_text(tokens((*ROLES, "eve")))
         door.type("#door input", "eve-demo" + Keys.ENTER)
         until(lambda: "the role is not there. Trying again." in door.state())
-        door.css("#out").send_keys(Keys.ENTER)
+        door.press("#out", Keys.ENTER)
         until(lambda: door.css("#door").is_displayed())
         door.type("#door input", "mia-demo" + Keys.ENTER)
         until(lambda: door.state() == "live" and door.css("#role").text == "mia")
-        door.css("#out").send_keys(Keys.ENTER)
+        door.press("#out", Keys.ENTER)
         until(lambda: door.css("#door").is_displayed())
 
     def three_roles(self) -> None:
@@ -139,7 +156,8 @@ class Test:
         until(lambda: len(self.admin.numbers()) == 12 and self.mia.numbers() == [101, 102, 109])
         until(lambda: self.noah.numbers() == [103, 104, 107, 112] and self.noah.bars() == {"noah": 4})
         until(lambda: self.admin.bars() == {"noah": 4, "mia": 2, "olga": 2, "jun": 1, "ravi": 1} and self.mia.bars() == {"mia": 2})
-        assert "token" not in self.mia.current_url and self.admin.css("#admin").is_displayed() and not self.mia.css("#admin").is_displayed()
+        until(lambda: self.admin.css("#admin").is_displayed())
+        assert "token" not in self.mia.current_url and not self.mia.css("#admin").is_displayed()
 
     def writes(self) -> None:
         self.mia.add("mia", "Wrong currency")
@@ -152,8 +170,7 @@ class Test:
 
     def keyboard(self) -> None:
         """A ticket is closed and opened by keys alone: the row is another one, and the keyboard stays on it."""
-        button = self.mia.css("[aria-label='Close ticket 101']")
-        button.send_keys(Keys.ENTER)
+        self.mia.press("[aria-label='Close ticket 101']", Keys.ENTER)
         until(lambda: self.mia.tickets()[101][2] == self.admin.tickets()[101][2] == "closed" and self.admin.bars()["mia"] == 2)
         focused = lambda: self.mia.execute_script("return document.activeElement.getAttribute('aria-label')")
         until(lambda: focused() == "Reopen ticket 101")
@@ -182,8 +199,8 @@ class Test:
     def revokes(self) -> None:
         mine = self.mia.numbers()
         self.admin.rights("revoke", "tickets", "noah", "select")
-        until(lambda: self.noah.numbers() == [] and self.noah.bars() == {} and self.mia.numbers() == mine)
-        assert "was taken back" in self.noah.css("#none").text
+        until(lambda: self.noah.numbers() == [] and self.noah.bars() == {} and "was taken back" in self.noah.css("#none").text)
+        assert self.mia.numbers() == mine
         self.admin.rights("grant", "tickets", "noah", "select")
         until(lambda: len(self.noah.numbers()) == 5 and self.noah.bars() == {"noah": 5} and not self.noah.css("#none").is_displayed())
 
@@ -223,7 +240,7 @@ class Test:
         until(lambda: {GREATEST, -GREATEST - 1} <= set(self.mia.numbers()))
         assert self.mia.tickets()[GREATEST][1] == "a long number (×9007199254740993)"
         self.admin.say({"do": "write", "entries": [{"on": "tickets", "insert": [77, "mia", "\u00001", True]}]})  # no text of viewd's, and no number
-        self.mia.css(f"[aria-label='Close ticket {GREATEST}']").send_keys(Keys.ENTER)
+        self.mia.press(f"[aria-label='Close ticket {GREATEST}']", Keys.ENTER)
         until(lambda: self.admin.tickets()[GREATEST][2] == "closed")
         assert 77 not in self.admin.tickets()
 
@@ -247,7 +264,9 @@ class Test:
         device = {"width": 390, "height": 844, "deviceScaleFactor": 1, "mobile": True}
         self.mia.execute_cdp_cmd("Emulation.setDeviceMetricsOverride", device)
         self.mia.execute_cdp_cmd("Emulation.setEmulatedMedia", {"features": [{"name": "prefers-color-scheme", "value": "dark"}]})
-        assert self.mia.execute_script("return document.documentElement.scrollWidth <= window.innerWidth"), "wider than the window"
+        until(lambda: self.mia.execute_script("return window.innerWidth === 390 && document.documentElement.scrollWidth <= window.innerWidth"))
+        until(lambda: self.mia.execute_script("return matchMedia('(prefers-color-scheme: dark)').matches"))
+        self.calm(self.mia)
         colors = self.mia.execute_script("""return ['body', 'section', 'button', 'button.main', 'input.long', 'select', '.pill', '.pill.open', '.state'].map((at) => {
             const node = document.querySelector('#desk ' + at) ?? document.querySelector(at), style = getComputedStyle(node);
             let under = node;
@@ -255,7 +274,6 @@ class Test:
             return [at, style.color, getComputedStyle(under).backgroundColor]})""")
         for at, ink, back in colors:
             assert contrast(ink, back) > 4.5, (at, ink, back)
-        self.calm(self.mia)
         self.mia.picture(self.pictures / "desk_phone.png")
         self.mia.execute_cdp_cmd("Emulation.clearDeviceMetricsOverride", {})
 
@@ -280,31 +298,60 @@ def contrast(one: str, two: str) -> float:
     return (high + 0.05) / (low + 0.05)
 
 
-def main(pictures: pathlib.Path) -> None:
+def started() -> webdriver.Chrome | None:
+    """A Chromium without a window. None if it does not start, which is asked three times: the first start reads it from the disk."""
     options = webdriver.ChromeOptions()
     for word in ("--headless=new", "--no-sandbox", "--disable-gpu", "--disable-dev-shm-usage"):
         options.add_argument(word)
-    gate, driver = Gate(), webdriver.Chrome(options=options)
-    try:
-        driver.set_script_timeout(60)
-        test = Test(driver, gate, pictures)
-        for step in (test.tokens, test.three_roles, test.writes, test.keyboard, test.policies, test.dark_and_narrow, test.revokes,
-                     test.members, test.forged, test.odd_rows, test.kills, test.no_errors):
-            began = time.monotonic()
+    for wait in (1, 10, 0):
+        try:
+            driver = webdriver.Chrome(options=options)
+            driver.set_script_timeout(PATIENCE)
+            driver.set_page_load_timeout(PATIENCE)
+            return driver
+        except (WebDriverException, HTTPError, OSError) as why:
+            print(f"Chromium does not start: {shortened(str(why), 300)}", flush=True)
+            time.sleep(wait)
+    return None
+
+
+def passes(driver: webdriver.Chrome, gate: Gate, pictures: pathlib.Path) -> bool:
+    """Whether all steps pass. Raises Gone."""
+    test = Test(driver, gate, pictures)
+    for step in (test.tokens, test.three_roles, test.writes, test.keyboard, test.policies, test.dark_and_narrow, test.revokes,
+                 test.members, test.forged, test.odd_rows, test.kills, test.no_errors):
+        began = time.monotonic()
+        try:
             step()
-            print(f"ok  in Chromium: {step.__name__}  {time.monotonic() - began:.1f} s", flush=True)
-    except Exception as why:
-        print(f"--- {gate.url}\n{gate.said()[-1500:]}\n{driver.get_log('browser')}")
-        print(f"FAILED  in Chromium: {step.__name__}  {time.monotonic() - began:.1f} s\n{explain(why)}", flush=True)
-        sys.exit(1)
-    finally:
-        driver.quit()
-        gate.end()
+        except Exception as why:
+            console = until(lambda: driver.get_log("browser") or "no word on the console")
+            print(f"--- {gate.url}\n{gate.said()[-1500:]}\n{console}")
+            print(f"FAILED  in Chromium: {step.__name__}  {time.monotonic() - began:.1f} s\n{explain(why)}", flush=True)
+            return False
+        print(f"ok  in Chromium: {step.__name__}  {time.monotonic() - began:.1f} s", flush=True)
+    return True
+
+
+def main(pictures: pathlib.Path) -> int:
+    """A browser that ends by itself, for want of memory, say, is started anew, twice at most."""
+    for left in (2, 1, 0):
+        driver = started()
+        if not driver:
+            return NOT_STARTED
+        gate = Gate()
+        try:
+            return 0 if passes(driver, gate, pictures) else 1
+        except Gone as why:
+            print(f"Chromium has ended: {shortened(str(why), 300)}", flush=True)
+        finally:
+            with contextlib.suppress(WebDriverException, HTTPError, OSError):
+                driver.quit()
+            gate.end()
+    return 1
 
 
 if __name__ == "__main__":
     if len(sys.argv) > 1:
-        main(pathlib.Path(sys.argv[1]))
-    else:
-        with tempfile.TemporaryDirectory() as folder:
-            main(pathlib.Path(folder))
+        sys.exit(main(pathlib.Path(sys.argv[1])))
+    with tempfile.TemporaryDirectory() as folder:
+        sys.exit(main(pathlib.Path(folder)))

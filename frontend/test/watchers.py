@@ -19,7 +19,7 @@ import compact
 import journal
 
 FIRST = 10_000  # the number of the first pair of tickets
-LEASE = 2.0  # seconds, which pass while parts are ended
+LEASE = 5.0  # seconds, as a gateway has it, which pass while parts are ended
 
 
 class Watcher:
@@ -178,7 +178,8 @@ class Reaper:
     async def viewd(self) -> None:
         gate = random.choice(self.party.all)
         for pid in pathlib.Path(f"/proc/{gate.process.pid}/task/{gate.process.pid}/children").read_text().split():
-            os.kill(int(pid), signal.SIGKILL)
+            with contextlib.suppress(ProcessLookupError):  # it has ended since
+                os.kill(int(pid), signal.SIGKILL)
 
     async def redis(self) -> None:
         self.store.kill()
