@@ -27,7 +27,8 @@ options = {"seconds": 20.0, "seed": 1, "writers": 3}
 counts: Counter[str] = Counter()
 ROWS = 2_048  # different ones of a table, beyond which it is left out
 MOST = 1_048_576  # at each step of a view
-PATIENCE = 120.0  # seconds for the stream to come
+PATIENCE = 600.0  # seconds for the stream to come: a slow machine fails no test
+beginning.LOOKS = 3_000  # and for a slot to be free of a connection that has ended
 
 
 class Follows(Base):
@@ -37,7 +38,7 @@ class Follows(Base):
         self.viewd: Live | None = None
         self.columns: dict[str, list[str]] = {}
         self.addCleanup(self.stop)
-        self.desk.do("set lock_timeout = '20s'; set statement_timeout = '60s'", "create role viewd login replication bypassrls", "grant pg_read_all_data to viewd")
+        self.desk.do("set lock_timeout = '300s'; set statement_timeout = '600s'", "create role viewd login replication bypassrls", "grant pg_read_all_data to viewd")
 
     def stop(self) -> None:
         if self.following:

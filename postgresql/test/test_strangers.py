@@ -94,7 +94,7 @@ class Strangers(Base):
             self.assertIn("a text is not UTF-8, of a role, say", done.stderr)
         other.do(role.format("drop"))
         other.connection.close()
-        self.desk.do("drop database other")
+        self.desk.do("drop database other with (force)")
 
     def test_the_environment_changes_nothing(self) -> None:
         self.desk.do("create table t (id int not null, x text, d date, at timestamptz); insert into t values (1, '\u00e9\u20ac', '2024-01-31', '2024-01-01 02:00+02')")
