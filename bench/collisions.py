@@ -12,7 +12,7 @@ import random
 import sys
 
 from measure import Run, own_program, part_of, slope
-from workloads import begun, request, subscribed, view, write
+from workloads import Request, Row, begun, request, subscribed, view, write
 
 SIZES = (1_000, 4_000, 16_000, 60_000)
 MOST = 1.3
@@ -24,12 +24,12 @@ START, MULTIPLIER = 0x243F6A8885A308D3, 0x9E3779B97F4A7C15 ^ 16
 LENGTH, INT = 2, 0
 
 
-def fed(state, word):
+def fed(state: int, word: int) -> int:
     product = (state ^ word) * MULTIPLIER
     return (product ^ product >> 64) & (1 << 64) - 1
 
 
-def colliding(first):
+def colliding(first: int) -> Row:
     """The row whose second number is the state that it meets, so that the state behind it is 0."""
     state = START
     for word in (LENGTH, INT, first, INT):
@@ -37,17 +37,17 @@ def colliding(first):
     return [first, state - (state >> 63 << 64)]
 
 
-def rows_of(size, collide):
+def rows_of(size: int, collide: bool) -> list[Row]:
     numbers = random.Random(size)
     firsts = numbers.sample(range(1 << 62), size)
     return [colliding(it) if collide else [it, numbers.randrange(-1 << 63, 1 << 63)] for it in firsts]
 
 
-def table(name):
+def table(name: str) -> list[Request]:
     return [request("create_table", name=name, owner="admin", columns=[["a", "int"], ["b", "int"]])]
 
 
-def loads(rows, *names):
+def loads(rows: list[Row], *names: str) -> list[Request]:
     return [write(name, "insert", rows[at : at + WRITE]) for at in range(0, len(rows), WRITE) for name in names]
 
 
@@ -60,7 +60,7 @@ KINDS = {
 }
 
 
-def seconds(program, before, lines):
+def seconds(program: str, before: list[Request], lines: list[Request]) -> float:
     run = Run(program)
     told = [run.tell(part_of(before)), run.tell(part_of(lines))]
     run.end()
@@ -69,7 +69,7 @@ def seconds(program, before, lines):
     return told[1].seconds
 
 
-def main(words):
+def main(words: list[str]) -> int | str:
     parser = argparse.ArgumentParser(prog="bench/run collisions", description=__doc__, formatter_class=argparse.RawDescriptionHelpFormatter)
     parser.add_argument("--rounds", metavar="N", type=int, default=3)
     parser.add_argument("--sizes", metavar="N", type=int, nargs="+", default=SIZES)
@@ -77,7 +77,7 @@ def main(words):
     program, worst = own_program(), 0.0
     for kind, (before, names) in KINDS.items():
         print(f"{kind}: size, microseconds of a row that collides, of another, ratio")
-        costs = ([], [])
+        costs: tuple[list[float], list[float]] = ([], [])
         for size in options.sizes:
             pair = [loads(rows_of(size, collide), *names) for collide in (True, False)]
             rounds = [[seconds(program, before, lines) for lines in pair] for _ in range(options.rounds)]

@@ -9,7 +9,7 @@ nothing of how fast another machine is. VIEWD names another program to run.
 import sys
 
 from measure import Run, own_program, part_of
-from workloads import request, roles, write
+from workloads import Request, request, roles, write
 
 TABLES = [f"t{n}" for n in range(64)]
 ROLES = [f"r{n}" for n in range(255)]
@@ -18,17 +18,17 @@ WRITES = 2_000
 STEPS = 32
 
 
-def grant(table, role, privileges):
+def grant(table: str, role: str, privileges: list[str]) -> Request:
     return request("grant", on=table, to=role, privileges=privileges)
 
 
-def before(writer):
+def before(writer: str) -> list[Request]:
     """Roles and tables, and a session of the role that writes."""
     tables = [request("create_table", name=table, owner="admin", columns=[["id", "int"]]) for table in TABLES]
     return [request("begin", role="admin"), *roles(ROLES), *tables, request("begin", 2, role=writer)]
 
 
-def through(steps):
+def through(steps: int) -> list[Request]:
     """The first role holds the privilege through so many roles, and the last of them is granted it."""
     members = [request("grant_role", role=ROLES[n + 1], to=ROLES[n]) for n in range(steps)]
     return [grant(TABLES[-1], ROLES[steps], ["insert"])] + members
@@ -39,7 +39,7 @@ ONE = [grant(TABLES[-1], ROLES[-1], ["insert"])]
 INSERTS = [{**write(TABLES[-1], "insert", [[n]]), "session": 2} for n in range(WRITES)]
 
 
-def seconds(program, begin):
+def seconds(program: str, begin: list[Request]) -> float:
     """Processor seconds of a write behind these requests, each of which is answered by ok."""
     run = Run(program)
     told = [run.tell(part_of(requests)) for requests in (begin, INSERTS)]
@@ -49,7 +49,7 @@ def seconds(program, begin):
     return told[1].seconds / WRITES
 
 
-def compare(program, writer, named):
+def compare(program: str, writer: str, named: list[tuple[str, list[Request]]]) -> None:
     begins = [before(writer) + rights for _, rights in named]
     few, many = (min(costs) for costs in zip(*([seconds(program, begin) for begin in begins] for _ in range(5))))
     for (name, _), cost in zip(named, (few, many)):
@@ -57,7 +57,7 @@ def compare(program, writer, named):
     print(f"{many / few:.2f} times the cost a write")
 
 
-def main(words):
+def main(words: list[str]) -> int | str | None:
     if words:
         return __doc__
     program = own_program()

@@ -7,24 +7,26 @@ program to run.
 
     bench/run memory [ROWS ..]          65,536 and 1,000,000 where none is said
 """
+from collections.abc import Iterable
+
 from measure import Run, own_program, part_of
-from workloads import begun, subscribed, table, view
+from workloads import Made, Request, begun, subscribed, table, view
 
 ALL = "select id, who, amount from a"
 NONE = "select id, who, amount from a where amount < 0"
 
 
-def joined(on):
+def joined(on: str) -> str:
     """A join of which nothing comes, as the other table is empty."""
     return f"select a.id, b.amount from a join b on a.{on} = b.{on}"
 
 
-def shown(query):
+def shown(query: str) -> Made:
     return lambda rows: begun(table("a", rows), table("b", 0), view(query), subscribed("shown"))
 
 
 # what is measured, its requests, and what is taken off
-CASES = [
+CASES: list[tuple[str, Made, str | None]] = [
     ("a table that nobody reads", lambda rows: begun(table("a", rows), table("b", 0)), None),
     ("a table's reader: the circuit's rows", lambda rows: begun(table("a", rows), table("b", 0), subscribed("a")), "a table that nobody reads"),
     ("a scan below a filter that lets nothing through", shown(NONE), "a table that nobody reads"),
@@ -35,7 +37,7 @@ CASES = [
 ]
 
 
-def resident(program, requests):
+def resident(program: str, requests: Iterable[Request]) -> int:
     run = Run(program, ["--rows", "1048576"])
     run.tell(part_of(requests))
     with open(f"/proc/{run.child.pid}/status", encoding="ascii") as file:
@@ -44,12 +46,12 @@ def resident(program, requests):
     return size
 
 
-def main(words):
+def main(words: list[str]) -> int:
     program, sizes = own_program(), [int(word) for word in words] or [65_536, 1_000_000]
     print("| bytes a row, of " + " | ".join(f"{rows:,} rows" for rows in sizes) + " |")
     print("| --- " * (len(sizes) + 1) + "|")
     empty = resident(program, begun(table("a", 0), table("b", 0)))
-    found = {}
+    found: dict[str, list[int]] = {}
     for name, requests, less in CASES:
         found[name] = [resident(program, list(requests(rows))) for rows in sizes]
         rest = found[less] if less else [empty] * len(sizes)

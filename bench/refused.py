@@ -9,23 +9,23 @@ column, which is accepted. VIEWD names another program to run.
 import sys
 
 from measure import Run, own_program, part_of
-from workloads import WRITE, begun, request, write
+from workloads import WRITE, Request, begun, request, write
 
 BATCHES = {2: 5_000, 20: 1_000, 100: 200, 1_000: 40}
 MOST = 3.0
 
 
-def table(name, rows):
+def table(name: str, rows: int) -> list[Request]:
     """A table in which all rows have one key, and a number each."""
     loads = [write(name, "insert", [[1, n] for n in range(at, min(at + WRITE, rows))]) for at in range(0, rows, WRITE)]
     return [request("create_table", name=name, owner="admin", columns=[["k", "int"], ["n", "int"]])] + loads
 
 
-def view(name, query):
+def view(name: str, query: str) -> Request:
     return request("create_view", name=name, owner="admin", query=query)
 
 
-def cost(program, before, lines, is_refused):
+def cost(program: str, before: list[Request], lines: list[Request], is_refused: bool) -> tuple[float, int]:
     """Processor seconds of a line, the median of three runs, and the peak memory; a limit refuses each line, or none."""
     seconds, peaks = [], []
     for _ in range(3):
@@ -40,7 +40,7 @@ def cost(program, before, lines, is_refused):
     return sorted(seconds)[1], max(peaks)
 
 
-def compared(program, title, before, refused, accepted):
+def compared(program: str, title: str, before: list[Request], refused: list[Request], accepted: list[Request]) -> float:
     """How many times the cost of the accepted lines the refused ones take, in time or memory."""
     (time, memory), (usual, room) = cost(program, before, refused, True), cost(program, before, accepted, False)
     told = [f"{name} {seconds * 1e6:,.1f} us and {peak / 1e6:.1f} MB" for name, seconds, peak in (("refused", time, memory), ("accepted", usual, room))]
@@ -48,7 +48,7 @@ def compared(program, title, before, refused, accepted):
     return max(time / usual, memory / room)
 
 
-def main(words):
+def main(words: list[str]) -> int | str | None:
     if words:
         return __doc__
     program = own_program()

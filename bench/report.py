@@ -1,9 +1,10 @@
 """What bench/run measured, as tables and a plot."""
 import dataclasses
 import os
+from collections.abc import Iterable
 
 from measure import TOP, slope
-from plot import svg
+from plot import Panel, svg
 from workloads import Workload
 
 OWN, OTHER, POSTGRESQL = "viewd", "the other", "PostgreSQL"
@@ -16,11 +17,11 @@ class Result:
 
     workload: Workload
     size: int
-    micros: dict
-    peaks: dict
-    requests: dict
+    micros: dict[str, float]
+    peaks: dict[str, float]
+    requests: dict[str, float]
 
-    def cells(self, names):
+    def cells(self, names: list[str]) -> dict[str, str]:
         """The columns of the table of costs, by their heads; names are those of all programs."""
         cells = {"workload": self.workload.name, "size": f"{self.size:,} {self.workload.counts}"}
         cells.update({f"{name}, us": number(self.micros.get(name)) for name in names})
@@ -31,34 +32,34 @@ class Result:
         return cells
 
 
-def number(value):
+def number(value: float | None) -> str:
     if value is None:
         return ""
     return f"{value:,.0f}" if value >= 100 else f"{value:.1f}" if value >= 10 else f"{value:.2f}"
 
 
-def table(rows):
+def table(rows: list[dict[str, str]]) -> str:
     """Rows of cells by their heads, as Markdown."""
     lines = [list(rows[0]), ["---"] * len(rows[0]), *(row.values() for row in rows)]
     return "".join(f"| {' | '.join(line)} |\n" for line in lines)
 
 
-def by_workload(results):
+def by_workload(results: Iterable[Result]) -> dict[Workload, list[Result]]:
     """The results of each workload, in their order."""
-    lists = {}
+    lists: dict[Workload, list[Result]] = {}
     for it in results:
         lists.setdefault(it.workload, []).append(it)
     return lists
 
 
-def slope_of(name, results):
+def slope_of(name: str, results: list[Result]) -> str:
     """The slope of log cost over log size, where the program was measured."""
     if any(name not in it.micros for it in results):
         return ""
     return f"{slope([it.size for it in results], [it.micros[name] for it in results]):.2f}"
 
 
-def tables(results, names):
+def tables(results: list[Result], names: list[str]) -> str:
     """What is measured, what it took, and how that grows."""
     lists = by_workload(results)
     what = [{"workload": it.name, "what is measured": it.says, "microseconds and requests are of": it.cost_of} for it in lists]
@@ -66,15 +67,15 @@ def tables(results, names):
     return "\n".join(map(table, [what, [it.cells(names) for it in results], slopes]))
 
 
-def plot(results, names):
-    panels = []
+def plot(results: list[Result], names: list[str]) -> str:
+    panels: list[Panel] = []
     for it, ones in by_workload(results).items():
-        series = {name: [(one.size, one.micros[name]) for one in ones] for name in names if all(name in one.micros for one in ones)}
+        series = {name: [(float(one.size), one.micros[name]) for one in ones] for name in names if all(name in one.micros for one in ones)}
         panels.append((it.name, it.cost_of, it.counts, series))
     return svg(names, panels)
 
 
-def document(printed, drawn):
+def document(printed: str, drawn: str) -> None:
     """Puts the tables and the plot into docs."""
     path = os.path.join(TOP, "docs", "PERFORMANCE.md")
     with open(path, encoding="utf-8") as file:

@@ -6,7 +6,13 @@ from all over the table.
 """
 import dataclasses
 import json
-import typing
+from collections.abc import Callable, Iterable, Iterator
+from typing import Any
+
+# a request as it is written, the values of a row, and what makes the requests of a size
+Request = dict[str, Any]
+Row = list[Any]
+Made = Callable[[int], Iterable[Request]]
 
 READERS = [f"r{n}" for n in range(16)]
 SIZES = (1_000, 8_192, 65_536)
@@ -19,27 +25,27 @@ WRITE = 1_000
 MOST = 16
 
 
-def request(do, session=1, **keys):
+def request(do: str, session: int = 1, **keys: Any) -> Request:
     return {"do": do, "session": session, **keys}
 
 
-def text_of(requests):
+def text_of(requests: Iterable[Request]) -> bytes:
     return "".join(json.dumps(line) + "\n" for line in requests).encode()
 
 
-def row(n):
+def row(n: int) -> Row:
     return [n, READERS[n % len(READERS)], n % 1_000]
 
 
-def write(name, kind, rows):
+def write(name: str, kind: str, rows: Iterable[Row]) -> Request:
     return request("write", entries=[{"on": name, kind: values} for values in rows])
 
 
-def roles(names):
+def roles(names: Iterable[str]) -> list[Request]:
     return [request("create_role", name=name) for name in names]
 
 
-def table(name, size, first=0):
+def table(name: str, size: int, first: int = 0) -> list[Request]:
     """A table of so many rows."""
     numbers = range(first, first + size)
     columns = [["id", "int"], ["who", "text"], ["amount", "int"]]
@@ -47,12 +53,12 @@ def table(name, size, first=0):
     return [request("create_table", name=name, owner="admin", columns=columns)] + loads
 
 
-def readable(*names):
+def readable(*names: str) -> list[Request]:
     """Lets all roles read."""
     return [request("grant", on=name, to="public", privileges=["select"]) for name in names]
 
 
-def own_rows(name):
+def own_rows(name: str) -> list[Request]:
     """Lets each role read its own rows alone."""
     return [
         request("row_security", on=name, enable=True, force=False),
@@ -60,15 +66,15 @@ def own_rows(name):
     ]
 
 
-def restricted(**keys):
+def restricted(**keys: Any) -> Request:
     return request("create_policy", on="a", name="few", restrictive=True, **keys)
 
 
-def view(query):
+def view(query: str) -> list[Request]:
     return [request("create_view", name="shown", owner="admin", query=query)] + readable("shown")
 
 
-def subscribed(name, readers=("admin",), times=1):
+def subscribed(name: str, readers: Iterable[str] = ("admin",), times: int = 1) -> list[Request]:
     """A session for each reader, and so many subscriptions in each."""
     lines = []
     for session, role in enumerate(readers, 2):
@@ -76,15 +82,15 @@ def subscribed(name, readers=("admin",), times=1):
     return lines
 
 
-def begun(*parts):
+def begun(*parts: Iterable[Request]) -> list[Request]:
     """The requests of all parts, by the administrator where they name no session."""
     return [request("begin", role="admin")] + [line for part in parts for line in part]
 
 
-def batches(count, rows=1, name="a"):
+def batches(count: int, rows: int = 1, name: str = "a") -> Made:
     """So many batches for a size: in turn they take rows out of the table and put them back."""
 
-    def lines(size):
+    def lines(size: int) -> Iterator[Request]:
         for n in range(count // 2):
             numbers = range(n, n + 1) if rows == 1 else range(n * rows, (n + 1) * rows)
             # 7,919 is a prime, so `rows` numbers in turn give rows that differ
@@ -95,37 +101,37 @@ def batches(count, rows=1, name="a"):
     return lines
 
 
-def over_sums(size):
+def over_sums(size: int) -> list[Request]:
     sums = "select amount, sum(id) as total, count(*) as n from a group by amount"
     return begun(roles(READERS), table("a", size), readable("a"), own_rows("a"), view(sums), subscribed("shown", READERS))
 
 
-def over_join(size):
+def over_join(size: int) -> list[Request]:
     joined = "select a.id, b.who, b.amount from a join b on a.id = b.id"
     return begun(table("a", size), table("b", size), view(joined), subscribed("shown"))
 
 
-def over_sets(size):
+def over_sets(size: int) -> list[Request]:
     """Half of the one table's rows stand in the other."""
     query = "select id from a except select id from b union select distinct amount from b"
     return begun(table("a", size), table("b", size, size // 2), view(query), subscribed("shown"))
 
 
-def over_policies(size):
+def over_policies(size: int) -> list[Request]:
     policies = own_rows("a") + [restricted(using="id >= 0")]
     return begun(roles(READERS), table("a", size), readable("a"), policies, subscribed("a", READERS))
 
 
-def over_roles(size):
+def over_roles(size: int) -> list[Request]:
     names = [f"s{n}" for n in range(64)]
     return begun(roles(names), table("a", size), readable("a"), subscribed("a", names))
 
 
-def over_own_rows(size):
+def over_own_rows(size: int) -> list[Request]:
     return begun(roles(READERS), table("a", size), readable("a"), own_rows("a"), subscribed("a", READERS))
 
 
-def over_others(subscriptions):
+def over_others(subscriptions: int) -> list[Request]:
     """Roles of 16 subscriptions each, to 16 tables of ten rows; and a table of 1,000 rows that nobody reads."""
     names = [f"s{n}" for n in range(subscriptions // MOST)]
     others = [f"t{n}" for n in range(MOST)]
@@ -135,19 +141,19 @@ def over_others(subscriptions):
     return lines
 
 
-def over_one_of_many(subscriptions):
+def over_one_of_many(subscriptions: int) -> list[Request]:
     """The same, and one reader of the table."""
     return over_others(subscriptions) + readable("a") + [request("begin", 1_000, role="s0"), request("subscribe", 1_000, on="a")]
 
 
-def changes_of_policies(size):
+def changes_of_policies(size: int) -> Iterator[Request]:
     """A policy that hides one row of a thousand comes, and goes again."""
     for _ in range(max(10, 400_000 // size) // 2):
         yield restricted(using="amount <> 7")
         yield request("drop_policy", on="a", name="few")
 
 
-def first_lines(size):
+def first_lines(size: int) -> Iterator[Request]:
     for n in range(max(10, 400_000 // size)):
         yield request("subscribe", 2, on="a")
         yield request("unsubscribe", 2, sub=n + 1)
@@ -159,13 +165,13 @@ class Workload:
 
     name: str
     says: str
-    before: typing.Callable
-    lines: typing.Callable
+    before: Made
+    lines: Made
     # what the sizes count, and by what of it the cost of a line is divided
     counts: str = "rows"
-    sizes: tuple = SIZES
+    sizes: tuple[int, ...] = SIZES
     cost_of: str = "a line"
-    shares: typing.Callable = lambda size: 1
+    shares: Callable[[int], float] = lambda size: 1
     # whether PostgreSQL is asked for the same
     is_evaluated: bool = True
 
