@@ -91,7 +91,7 @@ test("behind a kill each write that was answered is there once", {skip}, async (
         assert.ok(why instanceof Undecided, why);
         undecided.add(id);
       }));
-    await new Promise((later) => setTimeout(later, 15 * round));
+    await until(() => done.size > 30 * (round + 1), "answers");
     await gateway.kill();
     await Promise.all(writes);
     await until(() => ann.state === "stale" && all.state === "stale", "stale");
@@ -102,6 +102,7 @@ test("behind a kill each write that was answered is there once", {skip}, async (
   assert.deepEqual([...done].filter((id) => !there.has(id)), []);
   assert.deepEqual([...there].filter((id) => !done.has(id) && !undecided.has(id)), []);
   assert.ok(all.rows.every((it) => all.copies(it) === 1));
+  assert.ok(undecided.size);
   t.diagnostic(`${done.size} were answered, ${undecided.size} undecided, ${there.size} are there`);
 });
 

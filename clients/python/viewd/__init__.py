@@ -7,9 +7,10 @@
             print(rows)
 
 `viewd.plain` has the same without asyncio. docs/CLIENTS.md goes through both."""
+from . import plain
 from .client import Db, connect
 from .faults import NotSent, Refused, Undecided, ViewdError
 from .rows import Change, Changes, Columns, Live, Row, Value
 
-__all__ = ["Change", "Changes", "Columns", "Db", "Live", "NotSent", "Refused", "Row", "Undecided", "Value", "ViewdError", "connect"]
+__all__ = ["Change", "Changes", "Columns", "Db", "Live", "NotSent", "Refused", "Row", "Undecided", "Value", "ViewdError", "connect", "plain"]
 __version__ = "0.1.0"

@@ -94,6 +94,7 @@ class Db:
         self._waiting: list[Asked] = []
         self._listeners: list[Callable[[str, str | None], None]] = []
         self._timers: set[asyncio.TimerHandle] = set()
+        self._shutting: set[asyncio.Task[None]] = set()
         self._turned = asyncio.Event()  # set where the state is another
         self._loop = asyncio.get_running_loop()
         self._task = self._loop.create_task(self._keep())
@@ -197,6 +198,7 @@ class Db:
         if self._task is not asyncio.current_task():
             self._task.cancel()
             await asyncio.gather(self._task, return_exceptions=True)
+        await asyncio.gather(*self._shutting)
 
     # ---- the connection
 
@@ -225,7 +227,6 @@ class Db:
             await asyncio.sleep(wait * (0.5 + random.random() / 2))
 
     async def _serve(self, token: str) -> None:
-        # an open connection is left at once: one that is dead would not answer a close
         words: dict[str, Any] = {"ping_interval": None, "max_size": None, "compression": None, "close_timeout": 0.2,
                                  "open_timeout": self.timing.silence}
         socket = await OPEN(self.url, **words)
@@ -241,8 +242,10 @@ class Db:
                         self._one(connection, line)
         finally:
             sending.cancel()
-            # the close has its own time, and nobody waits for it
-            self._loop.create_task(_shut(socket))
+            # a close that is not answered takes a while, for which nobody waits before the end
+            shut = self._loop.create_task(_shut(socket))
+            self._shutting.add(shut)
+            shut.add_done_callback(self._shutting.discard)
 
     async def _send(self, socket: Any, connection: _Connection) -> None:
         while True:
