@@ -103,8 +103,8 @@ async def entered(**how) -> tuple[viewd.Db, Fake]:
 class Gateway:
     """The program, with a journal in a folder. A token is the name of its role and `-demo`."""
 
-    def __init__(self, folder: pathlib.Path):
-        self.folder = folder
+    def __init__(self, folder: pathlib.Path, *words: str):
+        self.folder, self.words = folder, words
         self.know("admin", "ann", "mia")
         (folder / "journal.jsonl").write_text("")
         with socket.socket() as probe:
@@ -119,7 +119,7 @@ class Gateway:
         (self.folder / "tokens.new").rename(self.folder / "tokens.toml")
 
     def start(self) -> None:
-        words = [PROGRAM, "--journal", self.folder / "journal.jsonl", "--tokens", self.folder / "tokens.toml", "--port", str(self.port)]
+        words = [PROGRAM, "--journal", self.folder / "journal.jsonl", "--tokens", self.folder / "tokens.toml", "--port", str(self.port), *self.words]
         with (self.folder / "log").open("ab") as log:
             self.process = subprocess.Popen(words, stdin=subprocess.DEVNULL, stderr=log)
         end = time.monotonic() + PATIENCE
