@@ -1,9 +1,11 @@
 #!/usr/bin/python3
-"""The page of clients/js/examples in a headless Chromium, over the gateway's program: rows that change, a gateway that stands still, and a
-listener that throws.
+"""The examples of clients/js in a headless Chromium, over the gateway's program: rows that change, a gateway that stands still, a listener
+that throws, and the hook for React.
 
-GATEWAY names another program than the one that is built."""
+GATEWAY names another program than the one that is built, and REACT a folder with react and react-dom in place of Debian's."""
+import os
 import pathlib
+import shutil
 import signal
 import sys
 import tempfile
@@ -58,6 +60,43 @@ const done = arguments[arguments.length - 1];
   done([rows, cells, faults.length > 30, times.slice(1).sort((a, b) => a - b)[15]]);
 })();
 """
+# a component that names the tickets of a state; the state turns, and then it goes
+REACT_PAGE = """
+const done = arguments[arguments.length - 1];
+(async () => {
+  for (const name of ["react", "react-dom"]) {
+    await new Promise((loaded) => document.head.append(Object.assign(document.createElement("script"), {src: `/umd/${name}.js`, onload: loaded})));
+  }
+  const said = [], send = WebSocket.prototype.send;
+  WebSocket.prototype.send = function (data) { said.push(data); send.call(this, data); };
+  const [{connect}, {makeUseLive}] = await Promise.all([import("/viewd.js"), import("/examples/react.js")]);
+  const useLive = makeUseLive(React), db = connect("/live", {token: "mia-demo"}), root = ReactDOM.createRoot(document.body);
+  const Names = ({open}) => {
+    const {rows, total, state} = useLive(db, "tickets", {where: {open}, order: "-id", limit: 2});
+    return React.createElement("p", null, `${state} ${total} ${rows.map((it) => it.id)}`);
+  };
+  const show = (open) => root.render(React.createElement(React.StrictMode, null, React.createElement(Names, {open})));
+  const until = async (words) => {
+    for (let tries = 0; document.body.textContent !== words; tries++) {
+      if (tries > 500) throw new Error(`${document.body.textContent} in place of ${words}`);
+      await new Promise((later) => setTimeout(later, 20));
+    }
+  };
+  show(true);
+  await until("live 1000 9223372036854775807,1097");
+  await db.insert("tickets", {id: 2000, agent: "mia", subject: "One more", open: true});
+  await until("live 1001 9223372036854775807,2000");
+  show(false);
+  await until("live 1 8");
+  root.unmount();
+  for (let tries = 0; tries < 500 && !said.at(-1).includes("unsubscribe"); tries++) await new Promise((later) => setTimeout(later, 20));
+  const [asked, back] = ["subscribe", "unsubscribe"].map((word) => said.filter((it) => it.includes(`"${word}"`)).length);
+  db.end();
+  return asked > 0 && asked === back ? "" : `${asked} subscribes, ${back} given back`;
+})().then(done, (why) => done(String(why)));
+"""
+REACT = pathlib.Path(os.environ.get("REACT", "/usr/share/nodejs"))
+UMD = {name: REACT / f"{name}/umd/{name}.development.js" for name in ("react", "react-dom")}
 
 
 def eventually(holds, patience: float = 60) -> float:
@@ -93,7 +132,15 @@ def tried(driver: webdriver.Chrome, gateway: Gateway) -> None:
         rows, cells, has_faults, middle = driver.execute_async_script(CHANGES)
         assert (rows, cells, has_faults) == (1001, 1001, True), (rows, cells, has_faults)
         print(f"ok  a change of a thousand rows is drawn in {middle:.1f} ms, beside a listener that throws")
-    print("browser: 3")
+    if not all(it.exists() for it in UMD.values()):
+        print("the hook for React did not run, since node-react and node-react-dom are not installed")
+        print("browser: 3")
+        return
+    driver.get(f"http://127.0.0.1:{gateway.port}/examples/react.js")
+    why = driver.execute_async_script(REACT_PAGE)
+    assert not why, why
+    print("ok  a hook for React shows rows as they change, and gives them back")
+    print("browser: 4")
 
 
 def main() -> int:
@@ -104,7 +151,13 @@ def main() -> int:
     for word in ("--headless=new", "--no-sandbox", "--disable-dev-shm-usage"):
         options.add_argument(word)
     with tempfile.TemporaryDirectory(prefix="clients.") as name:
-        gateway = Gateway(pathlib.Path(name), "--pages", str(TOP / "clients/js"))
+        pages = pathlib.Path(name) / "pages"
+        shutil.copytree(TOP / "clients/js", pages)
+        (pages / "umd").mkdir()
+        for it, file in UMD.items():
+            if file.exists():
+                shutil.copy(file, pages / f"umd/{it}.js")
+        gateway = Gateway(pathlib.Path(name), "--pages", str(pages))
         try:
             driver = webdriver.Chrome(options=options, service=webdriver.ChromeService("/usr/bin/chromedriver")
                                       if hasattr(webdriver, "ChromeService") else None)
