@@ -236,6 +236,7 @@ class Relation {
   #held = new Map(); // from a row's text to {row, copies}
   #fresh = true; // all rows are new since they were last told of
   #isHalf = false; // an event is not settled: what is held may be half of it
+  #old = new Map(); // what was held before another connection, whose rows are the same objects where they are there again
   #before = new Map(); // of rows that changed since then: whether they were there, and which
   #leave;
 
@@ -279,13 +280,15 @@ class Relation {
   }
 
   begin({columns, sub}) {
+    const old = text(columns) === text(this.columns) ? this.#held : new Map();
     Object.assign(this, {columns, sub, state: "live", why: null, asked: false});
     this.#isHalf = true;
     this.clear();
+    this.#old = old;
   }
 
   clear() {
-    this.#held.clear();
+    this.#held = new Map();
     this.#before.clear();
     this.#fresh = true;
   }
@@ -298,7 +301,7 @@ class Relation {
       if (!this.#fresh && !this.#before.has(key)) this.#before.set(key, held?.row ?? null);
       if (sum === 0n) this.#held.delete(key);
       else if (held) held.copies = sum;
-      else this.#held.set(key, {row: this.#before.get(key) ?? this.#row(values), copies: sum});
+      else this.#held.set(key, {row: this.#before.get(key) ?? this.#old.get(key)?.row ?? this.#row(values), copies: sum});
     }
   }
 
@@ -311,6 +314,7 @@ class Relation {
       if (now && !was) changed.come.push(now);
     }
     this.#fresh = this.#isHalf = false;
+    this.#old = new Map();
     this.#before.clear();
     for (const user of [...this.users]) user.tell(this.state, this.why, changed);
   }
@@ -641,17 +645,16 @@ class Db {
     this.#heard = Date.now();
     const socket = this.#socket;
     for (const line of data.split("\n")) {
-      if (line && this.#socket === socket) this.#one(line);
+      if (!line || this.#socket !== socket) continue;
+      try {
+        this.#one(parse(line));
+      } catch (why) {
+        this.#lost(`a line that is not understood: ${why.message}`);
+      }
     }
   }
 
-  #one(line) {
-    let said;
-    try {
-      said = parse(line);
-    } catch {
-      return this.#lost("a line that is no JSON");
-    }
+  #one(said) {
     if (said.settled) this.#settle();
     else if ("ok" in said || "error" in said) this.#reply(said);
     else if (said.changes) this.#changes(said);

@@ -270,11 +270,11 @@ test("rows are stale while another connection is tried, and then new", async (t)
   const [db, socket] = await entered(t);
   const notes = db.live("notes"), states = [];
   db.onState((state, why) => states.push([state, why]));
-  follow(socket, 1, [[1, [1, "a"]]]);
-  const write = db.insert("notes", [5, "a"]);
+  follow(socket, 1, [[1, [1, "a"]], [1, [2, "b"]]]);
+  const [, kept] = notes.rows, write = db.insert("notes", [5, "a"]);
   socket.end(1006);
   await assert.rejects(write, Undecided);
-  assert.deepEqual([notes.state, notes.rows.length, db.role], ["stale", 1, null]);
+  assert.deepEqual([notes.state, notes.rows.length, db.role], ["stale", 2, null]);
   const waits = db.insert("notes", [6, "a"]); // not sent yet, so it is not undecided
   await pause(20);
   assert.notEqual(Fake.last, socket);
@@ -283,6 +283,7 @@ test("rows are stale while another connection is tried, and then new", async (t)
   Fake.last.sent.shift();
   follow(Fake.last, 1, [[1, [2, "b"]]]);
   assert.deepEqual([notes.state, notes.rows], ["live", [{id: 2, who: "b"}]]);
+  assert.equal(notes.rows[0], kept); // the same object, so that nothing is drawn anew
   Fake.last.event({id: Fake.last.asked({do: "write", entries: [{on: "notes", insert: [6, "a"]}]}), ok: true});
   await waits;
   assert.deepEqual(states, [["stale", "the connection ended (1006)"], ["live", null]]);
@@ -466,8 +467,13 @@ test("lines that are not known are passed over, and what is no JSON ends the con
   const [db, socket] = await entered(t);
   socket.event({made: {relation: "notes"}}, {shape: {}}, {alive: true});
   assert.equal(db.state, "live");
-  socket.tell("{");
-  assert.deepEqual([db.state, socket.closed], ["stale", true]);
+  db.live("notes");
+  const id = socket.asked({do: "subscribe", on: "notes"});
+  socket.tell({id, ok: true, sub: 1}, {changes: [[1, [1, "a"]]], sub: 1}, {settled: true}); // of a server that tells no columns
+  assert.deepEqual([db.state, socket.closed, db.why.slice(0, 29)], ["stale", true, "a line that is not understood"]);
+  await pause(10);
+  Fake.last.enter().tell("{");
+  assert.deepEqual([db.state, Fake.last.closed], ["stale", true]);
 });
 
 test("many rows are taken in quickly", async (t) => {

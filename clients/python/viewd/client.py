@@ -208,6 +208,8 @@ class Db:
             try:
                 given = self._token() if callable(self._token) else self._token
                 token = await given if inspect.isawaitable(given) else given
+                if self.state == "closed":
+                    return
                 await self._serve(token)
                 why = "the connection ended"
             except ConnectionClosed as ended:
@@ -392,7 +394,7 @@ class Db:
         try:
             said = json.loads(line)
         except ValueError:
-            raise _Lost("a line that is no JSON") from None
+            raise _Lost("a line that is not understood") from None
         if said.get("settled"):
             self._settle(connection)
         elif "ok" in said or "error" in said:
