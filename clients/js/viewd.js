@@ -170,17 +170,22 @@ class Live {
     this.#relation.leave(this);
   }
 
-  /** The client has other rows or another state. `changed` are the rows that went and came, or null where all are new. */
-  tell(state, why, changed) {
-    if (state === "stale" && this.state === "waiting") return; // it has no rows that could be old
+  /** Takes in rows that went and came, null where all are new, and the state. Whether that is something to this user. */
+  take(state, why, changed) {
+    if (state === "stale" && this.state === "waiting") return false; // it has no rows that could be old
     const was = this.rows;
     if (changed === null || changed && !this.#order) this.#anew();
     else if (changed) this.#apply(changed);
-    if (this.state === state && this.why === why && this.rows === was) return;
+    if (this.state === state && this.why === why && this.rows === was) return false;
     Object.assign(this, {state, why});
     if (state === "live") this.#settle.resolve(this.rows);
     if (state === "refused") this.#settle.reject(why instanceof Error ? why : new ViewdError(`${this.on} was ended: ${why}`));
     if (state === "closed") this.#settle.reject(new NotSent("the client has ended"));
+    return true;
+  }
+
+  /** Calls the listeners. */
+  tell() {
     for (const listener of [...this.#listeners]) this.#guard(listener);
   }
 
@@ -305,7 +310,7 @@ class Relation {
     }
   }
 
-  /** Tells the users what is new. */
+  /** Has the users take in what is new. Those to whom it is something. */
   show() {
     const changed = this.#fresh ? null : {gone: [], come: []};
     for (const [key, was] of this.#before) {
@@ -316,18 +321,18 @@ class Relation {
     this.#fresh = this.#isHalf = false;
     this.#old = new Map();
     this.#before.clear();
-    for (const user of [...this.users]) user.tell(this.state, this.why, changed);
+    return [...this.users].filter((user) => user.take(this.state, this.why, changed));
   }
 
-  /** Tells one who comes late what is there. */
+  /** Has one who comes late take in what is there. */
   greet(user) {
-    if (this.state !== "waiting" && !this.#isHalf) user.tell(this.state, this.why, null);
+    if (this.state !== "waiting" && !this.#isHalf) user.take(this.state, this.why, null);
   }
 
-  /** The rows stay, and the state is another. */
-  become(state, why = null) {
-    Object.assign(this, {state, why});
-    for (const user of [...this.users]) user.tell(state, why, undefined);
+  /** The rows stay, and the state is another. The users to whom that is something. */
+  become(state) {
+    Object.assign(this, {state, why: null});
+    return [...this.users].filter((user) => user.take(state, null, undefined));
   }
 
   #row(values) {
@@ -567,10 +572,9 @@ class Db {
     this.#drop();
     const wait = Math.min(this.#how.longest, this.#how.shortest * 2 ** this.#tries++) * (0.5 + Math.random() / 2);
     this.#again = this.#later(wait, () => this.#connect());
-    for (const relation of [...this.#relations.values()]) {
-      Object.assign(relation, {sub: null, asked: false});
-      if (relation.state === "live") relation.become("stale");
-    }
+    const relations = [...this.#relations.values()];
+    for (const relation of relations) Object.assign(relation, {sub: null, asked: false});
+    this.#tell(relations.flatMap((relation) => relation.state === "live" ? relation.become("stale") : []));
     if (this.state === "live") this.#become("stale");
   }
 
@@ -586,7 +590,7 @@ class Db {
     this.#waiting.clear();
     const relations = [...this.#relations.values()];
     this.#relations.clear();
-    for (const relation of relations) relation.become("closed");
+    this.#tell(relations.flatMap((relation) => relation.become("closed")));
     this.#say();
   }
 
@@ -611,7 +615,7 @@ class Db {
       if (!(why instanceof Refused) || !isOurs()) return;
       relation.clear();
       Object.assign(relation, {state: "refused", why});
-      relation.show();
+      this.#tell(relation.show());
       if (why.code === LIMIT || why.code === TOO_MANY) this.#after(relation);
     }, begin);
   }
@@ -699,8 +703,13 @@ class Db {
   #settle() {
     const changed = [...this.#changed];
     this.#changed.clear();
-    for (const relation of changed) relation.show();
+    this.#tell(changed.flatMap((relation) => relation.show()));
     for (const act of this.#replied.splice(0)) act();
+  }
+
+  // Listeners are called when all relations have taken in what is new.
+  #tell(users) {
+    for (const user of users) user.tell();
   }
 }
 

@@ -1,8 +1,35 @@
 // What the client says and makes of what it is told, over a gateway that a test plays.
 import assert from "node:assert/strict";
+import fs from "node:fs";
 import {test} from "node:test";
 import {compare, connect, NotSent, parse, Refused, text, Undecided, ViewdError} from "../viewd.js";
 import {entered, Fake, follow, NOTES, pause, turn} from "./fake.js";
+
+// What mia says and is told in the conversations of the protocol: all of the first, the right of the second, and the third up to a message
+// that no client of this kind says.
+function conversation() {
+  const page = fs.readFileSync(new URL("../../../docs/PROTOCOL.md", import.meta.url), "utf8").split("### Conversations")[1];
+  const [first, second, third] = page.split("```text\n").slice(1, 4).map((it) => it.split("```")[0].trimEnd().split("\n"));
+  const right = second.map((line) => line.match(/^< .*(< .*)$/)?.[1]).filter((line) => line);
+  return [...first, ...right, ...third.slice(0, 4)];
+}
+
+test("the protocol's conversation is held", async (t) => {
+  Fake.all = [];
+  const db = connect("ws://gateway/live", {token: "TOKEN", WebSocket: Fake}), seen = [], lines = conversation();
+  t.after(() => db.end());
+  await turn();
+  Fake.last.onopen();
+  const notes = db.live("notes");
+  notes.subscribe(() => seen.push([notes.state, ...notes.rows.map((it) => `${it.id} ${it.who}`)]));
+  for (const line of lines) {
+    if (line.startsWith("> ")) assert.equal(Fake.last.sent.shift(), line.slice(2));
+    else Fake.last.tell(line.slice(2));
+  }
+  assert.deepEqual(Fake.last.sent, []);
+  assert.equal(lines.length, 17);
+  assert.deepEqual(seen, [["live", "2 mia"], ["live", "2 mia", "3 mia"], ["refused"], ["live", "2 mia", "3 mia"]]);
+});
 
 test("a token opens a role", async (t) => {
   Fake.all = [];
@@ -143,6 +170,16 @@ test("nobody sees half of an event", async (t) => {
   assert.deepEqual([notes.rows.length, later.state], [1, "waiting"]);
   socket.event({changes: [[1, [2, "a"]]], sub: 1});
   assert.deepEqual([later.rows, seen], [[{id: 2, who: "a"}], [[1], [2]]]);
+});
+
+test("what one event changes in two relations is in both when a listener is called", async (t) => {
+  const [db, socket] = await entered(t);
+  const lives = ["notes", "tasks"].map((on) => db.live(on)), seen = [];
+  for (const [at, on] of ["notes", "tasks"].entries()) follow(socket, at + 1, [], on);
+  for (const it of lives) it.subscribe(() => seen.push(lives.map((live) => [live.state, live.rows.length])));
+  socket.event({changes: [[1, [1, "a"]]], sub: 1}, {changes: [[1, [1, "a"]]], sub: 2});
+  socket.end();
+  assert.deepEqual(seen, [..."12"].map(() => [["live", 1], ["live", 1]]).concat([..."12"].map(() => [["stale", 1], ["stale", 1]])));
 });
 
 test("writes name columns, and are sent as lists", async (t) => {

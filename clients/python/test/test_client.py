@@ -1,10 +1,11 @@
 """What the client says and makes of what it is told, over a gateway that a test plays."""
 import asyncio
 import random
+import re
 from collections import Counter
 
 import pytest
-from conftest import NOTES, entered, turn
+from conftest import NOTES, TOP, entered, turn
 
 import viewd
 from viewd import NotSent, Refused, Undecided, ViewdError
@@ -23,6 +24,31 @@ async def raised(work, kind=ViewdError):
     with pytest.raises(kind) as found:
         await work
     return found.value
+
+
+def conversation():
+    """What mia says and is told in the conversations of the protocol: all of the first, the right of the second, and the third up to a
+    message that no client of this kind says."""
+    page = (TOP / "docs/PROTOCOL.md").read_text().split("### Conversations")[1]
+    first, second, third = (it.split("```")[0].rstrip().split("\n") for it in page.split("```text\n")[1:4])
+    right = [found[1] for line in second if (found := re.match("< .*(< .*)$", line))]
+    return [*first, *right, *third[:4]]
+
+
+@run
+async def test_the_protocols_conversation_is_held(fakes):
+    db, seen, lines = viewd.connect("ws://gateway/live", token="TOKEN"), [], conversation()
+    notes = db.live("notes")
+    notes.subscribe(lambda live: seen.append([live.state, *(f"{it['id']} {it['who']}" for it in live.rows)]))
+    await turn()
+    for line in lines:
+        if line.startswith("> "):
+            assert fakes.all[-1].sent.pop(0) == line[2:]
+        else:
+            await fakes.all[-1].tell(line[2:])
+    assert not fakes.all[-1].sent and len(lines) == 17
+    assert seen == [["live", "2 mia"], ["live", "2 mia", "3 mia"], ["refused"], ["live", "2 mia", "3 mia"]]
+    await db.end()
 
 
 @run
@@ -135,6 +161,21 @@ async def test_nobody_sees_half_of_an_event(fakes):
     await socket.event({"changes": [[1, [2, "a"]]], "sub": 1})
     assert later.rows == [{"id": 2, "who": "a"}] and seen == [[1], [2]]
     assert await changes.__anext__() == [viewd.Change(1, {"id": 2, "who": "a"})]
+    await db.end()
+
+
+@run
+async def test_what_one_event_changes_in_two_relations_is_in_both(fakes):
+    db, socket = await entered()
+    lives, seen = [db.live("notes"), db.live("tasks")], []
+    await turn()
+    await socket.follow(1, [], "notes")
+    await socket.follow(2, [], "tasks")
+    for it in lives:
+        it.subscribe(lambda _: seen.append([(live.state, len(live.rows)) for live in lives]))
+    await socket.event({"changes": [[1, [1, "a"]]], "sub": 1}, {"changes": [[1, [1, "a"]]], "sub": 2})
+    await socket.end()
+    assert seen == [[("live", 1)] * 2] * 2 + [[("stale", 1)] * 2] * 2
     await db.end()
 
 

@@ -15,7 +15,7 @@ import websockets
 from websockets.exceptions import ConnectionClosed
 
 from .faults import NotSent, Refused, Undecided, ViewdError
-from .rows import Changes, Columns, Live, Relation, Report, Value, Where, values_of
+from .rows import Changes, Columns, Live, Relation, Report, User, Value, Where, values_of
 
 BYTES = 65_463  # of a message, at most
 LIMIT, TOO_MANY, TOO_LONG = 17, 20, 22
@@ -279,10 +279,12 @@ class Db:
             return
         self.why = why
         self._drop()
-        for relation in [*self._relations.values()]:
+        told = []
+        for relation in self._relations.values():
             relation.sub, relation.is_asked = None, False
             if relation.state == "live":
-                relation.become("stale")
+                told += relation.become("stale")
+        _tell(told)
         if self.state == "live":
             self._become("stale")
 
@@ -297,8 +299,7 @@ class Db:
         for asked in waiting:
             asked.come(NotSent(why))
         relations, self._relations = [*self._relations.values()], {}
-        for relation in relations:
-            relation.become("closed")
+        _tell([user for relation in relations for user in relation.become("closed")])
         self._become("closed")
 
     # ---- what is said
@@ -350,7 +351,7 @@ class Db:
             return
         relation.clear()
         relation.state, relation.why = "refused", why
-        relation.show()
+        _tell(relation.show())
         if why.code in (LIMIT, TOO_MANY):
             self._after(relation)
 
@@ -442,11 +443,16 @@ class Db:
 
     def _settle(self, connection: _Connection) -> None:
         changed, connection.changed = [*connection.changed], {}
-        for relation in changed:
-            relation.show()
+        _tell([user for relation in changed for user in relation.show()])
         replied, connection.replied = connection.replied, []
         for act in replied:
             act()
+
+
+def _tell(users: list[User]) -> None:
+    """Listeners are called when all relations have taken in what is new."""
+    for user in users:
+        user.tell()
 
 
 async def _shut(socket: Any) -> None:

@@ -60,7 +60,7 @@ class Relation:
     def join(self, user: User) -> None:
         self.users.append(user)
         if self.state != "waiting" and not self.is_half:
-            user.tell(None)
+            user.take(None)
 
     def leave(self, user: User) -> None:
         if user in self.users:
@@ -88,17 +88,15 @@ class Relation:
             if self._touched is not None:
                 self._touched.add(key)
 
-    def show(self) -> None:
-        """Tells the users what is new."""
+    def show(self) -> list[User]:
+        """Has the users take in what is new. Those to whom it is something."""
         touched, self._touched, self.is_half = self._touched, set(), False
-        for user in [*self.users]:
-            user.tell(touched)
+        return [user for user in self.users if user.take(touched)]
 
-    def become(self, state: str) -> None:
-        """The rows stay, and the state is another."""
+    def become(self, state: str) -> list[User]:
+        """The rows stay, and the state is another. The users to whom that is something."""
         self.state, self.why = state, None
-        for user in [*self.users]:
-            user.tell(set())
+        return [user for user in self.users if user.take(set())]
 
     def fault(self) -> ViewdError:
         """Why it has no rows."""
@@ -143,9 +141,13 @@ class User:
         self._relation.leave(self)
         self._wake()
 
-    def tell(self, touched: set[Values] | None) -> None:
-        """Takes in which rows changed, None for all, or that the state is another."""
+    def take(self, touched: set[Values] | None) -> bool:
+        """Takes in which rows changed, None for all, or that the state is another. Whether that is something to this user."""
         raise NotImplementedError
+
+    def tell(self) -> None:
+        """Wakes who waits for it, and calls who listens."""
+        self._wake()
 
     def _fault(self) -> ViewdError:
         return NotSent(f"{self.on} was closed") if self._is_closed else self._relation.fault()
@@ -230,21 +232,23 @@ class Live(User):
         super().close()
         self._listeners.clear()
 
-    def tell(self, touched: set[Values] | None) -> None:
-        """Takes in what changed, and calls the listeners where that is something to this user."""
+    def take(self, touched: set[Values] | None) -> bool:
+        """Takes in what changed. Whether that is something to this user."""
         if self._relation.is_half and self._relation.state != "closed":
-            return
+            return False
         is_new = touched is None or not self._is_told
         changed = self._anew() if is_new else self._apply(touched or set())
         self._is_told = True
         if changed:
             self._all = None
-        now = (self.state, self.why)
-        if changed or now != self._was:
-            self._was = now
-            self._wake()
-            for listener in [*self._listeners]:
-                self._guard(listener, self)
+        was, self._was = self._was, (self.state, self.why)
+        return changed or was != self._was
+
+    def tell(self) -> None:
+        """Wakes who waits for it, and calls who listens."""
+        super().tell()
+        for listener in [*self._listeners]:
+            self._guard(listener, self)
 
     def _anew(self) -> bool:
         self._passing = {key: row for key, (row, _) in self._relation.held.items() if self._passes(row)}
@@ -301,13 +305,13 @@ class Changes(User):
         self._touched: set[Values] | None = None  # since the last answer; None is all
         self._is_first = True
 
-    def tell(self, touched: set[Values] | None) -> None:
+    def take(self, touched: set[Values] | None) -> bool:
         """Takes in which rows changed."""
         if self._relation.is_half and self._relation.state != "closed":
-            return
+            return False
         self._touched = None if touched is None or self._touched is None else self._touched | touched
         self._is_told = True
-        self._wake()
+        return True
 
     def __aiter__(self) -> Changes:
         return self
