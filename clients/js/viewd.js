@@ -172,11 +172,11 @@ class Live {
 
   /** Takes in rows that went and came, null where all are new, and the state. Whether that is something to this user. */
   take(state, why, changed) {
-    if (state === "stale" && this.state === "waiting") return false; // it has no rows that could be old
-    const was = this.rows;
+    if (state === "stale" && this.state === "waiting" && changed === undefined) return false; // it has no rows that could be old
+    const {rows, total} = this;
     if (changed === null || changed && !this.#order) this.#anew();
     else if (changed) this.#apply(changed);
-    if (this.state === state && this.why === why && this.rows === was) return false;
+    if (this.state === state && this.why === why && this.rows === rows && this.total === total) return false;
     Object.assign(this, {state, why});
     if (state === "live") this.#settle.resolve(this.rows);
     if (state === "refused") this.#settle.reject(why instanceof Error ? why : new ViewdError(`${this.on} was ended: ${why}`));
@@ -205,7 +205,8 @@ class Live {
   }
 
   #anew() {
-    this.#order = this.#guard(() => orderOf(this.#how.order, this.columns ?? [])) ?? orderOf([], this.columns ?? []);
+    const columns = this.columns ?? []; // none are known where it was refused
+    this.#order = this.#guard(() => orderOf(columns.length ? this.#how.order : [], columns)) ?? orderOf([], columns);
     this.#all = this.#relation.rows().filter((row) => this.#passes(row)).sort(this.#order);
     this.#cut();
   }

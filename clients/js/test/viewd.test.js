@@ -101,6 +101,11 @@ test("where, order and limit are of each user", async (t) => {
   socket.event({changes: [[1, [5, "mia", false]], [-1, [3, "mia", true]]], sub: 1});
   assert.deepEqual(mine.rows.map((it) => it.id), [5, 2]);
   assert.deepEqual(large.rows.map((it) => it.id), [5, 4]);
+  const totals = [];
+  mine.subscribe(({rows, total}) => totals.push([rows.length, total]));
+  socket.event({changes: [[1, [0, "mia", false]]], sub: 1}); // beyond the limit: the rows are the same, and there is one more
+  socket.event({changes: [[1, [9, "ann", false]]], sub: 1});
+  assert.deepEqual(totals, [[2, 4]]);
   assert.deepEqual(socket.take(), []); // nothing more was asked for
 });
 
@@ -312,6 +317,8 @@ test("rows are stale while another connection is tried, and then new", async (t)
   socket.end(1006);
   await assert.rejects(write, Undecided);
   assert.deepEqual([notes.state, notes.rows.length, db.role], ["stale", 2, null]);
+  const late = db.live("notes", {where: {id: 1}});
+  assert.deepEqual([late.state, late.rows], ["stale", [{id: 1, who: "a"}]]);
   const waits = db.insert("notes", [6, "a"]); // not sent yet, so it is not undecided
   await pause(20);
   assert.notEqual(Fake.last, socket);
@@ -320,6 +327,7 @@ test("rows are stale while another connection is tried, and then new", async (t)
   Fake.last.sent.shift();
   follow(Fake.last, 1, [[1, [2, "b"]]]);
   assert.deepEqual([notes.state, notes.rows], ["live", [{id: 2, who: "b"}]]);
+  assert.deepEqual([late.state, late.rows, await late.ready], ["live", [], []]);
   assert.equal(notes.rows[0], kept); // the same object, so that nothing is drawn anew
   Fake.last.event({id: Fake.last.asked({do: "write", entries: [{on: "notes", insert: [6, "a"]}]}), ok: true});
   await waits;
@@ -464,7 +472,7 @@ test("an end takes the rows, and a grant brings them back", async (t) => {
 
 test("what is refused says so, and is tried again where it may be granted, small enough, or find room", async (t) => {
   const [db, socket] = await entered(t, {again: 10});
-  const [notes, sums, plans] = ["notes", "sums", "plans"].map((on) => db.live(on));
+  const [notes, sums, plans] = ["notes", "sums", "plans"].map((on) => db.live(on, {order: "-id"}));
   socket.event({error: 13, id: socket.asked({do: "subscribe", on: "notes"}), on: "notes", privilege: "select"});
   socket.event({error: 17, id: socket.asked({do: "subscribe", on: "sums"})});
   socket.event({error: 20, id: socket.asked({do: "subscribe", on: "plans"})});
