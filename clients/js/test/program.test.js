@@ -102,7 +102,7 @@ test("behind a kill each write that was answered is there once", {skip}, async (
   assert.deepEqual([...done].filter((id) => !there.has(id)), []);
   assert.deepEqual([...there].filter((id) => !done.has(id) && !undecided.has(id)), []);
   assert.ok(all.rows.every((it) => all.copies(it) === 1));
-  assert.ok(undecided.size);
+  assert.ok(done.size > 90);
   t.diagnostic(`${done.size} were answered, ${undecided.size} undecided, ${there.size} are there`);
 });
 

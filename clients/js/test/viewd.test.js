@@ -337,13 +337,13 @@ test("rows are stale while another connection is tried, and then new", async (t)
 });
 
 test("a gateway that is silent is left, and one that is alive is not", async (t) => {
-  const [db, socket] = await entered(t, {silence: 80});
-  for (let at = 0; at < 8; at++) {
-    await pause(25);
+  const [db, socket] = await entered(t, {silence: 800});
+  for (let at = 0; at < 12; at++) {
+    await pause(100);
     socket.tell({alive: true});
   }
   assert.deepEqual([db.state, Fake.all.length], ["live", 1]);
-  await pause(180);
+  await pause(1400);
   assert.deepEqual([db.state, db.why, socket.closed], ["stale", "silent", true]);
   assert.ok(Fake.all.length > 1);
 });
@@ -351,11 +351,11 @@ test("a gateway that is silent is left, and one that is alive is not", async (t)
 test("a person may take long to give a token", async (t) => {
   Fake.all = [];
   let asked = 0;
-  const db = connect("ws://gateway/live", {token: () => (asked++, pause(150).then(() => "t")), WebSocket: Fake, silence: 20});
+  const db = connect("ws://gateway/live", {token: () => (asked++, pause(1500).then(() => "t")), WebSocket: Fake, silence: 20});
   t.after(() => db.end());
-  await pause(120);
+  await pause(400);
   assert.deepEqual([asked, Fake.all.length], [1, 0]);
-  await pause(60);
+  await pause(1300);
   assert.equal(Fake.all.length, 1);
 });
 

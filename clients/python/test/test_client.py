@@ -290,12 +290,12 @@ async def test_rows_are_stale_while_another_connection_is_tried(fakes):
 
 @run
 async def test_a_gateway_that_is_silent_is_left(fakes):
-    db, socket = await entered(silence=0.2)
-    for _ in range(8):
-        await asyncio.sleep(0.05)
+    db, socket = await entered(silence=0.8)
+    for _ in range(12):
+        await asyncio.sleep(0.1)
         await socket.tell({"alive": True})
     assert db.state == "live"
-    await asyncio.sleep(0.4)
+    await asyncio.sleep(1.4)
     assert (db.state, db.why, socket.is_closed) == ("stale", "silent", True) and len(fakes.all) > 1
     await db.end()
 

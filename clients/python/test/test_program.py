@@ -83,7 +83,7 @@ def test_behind_a_kill_each_write_that_was_answered_is_there_once(gateway):
             assert done <= there <= done | undecided and all(notes.copies(it) == 1 for it in notes.rows)
             await until(lambda: seen == {it: 1 for it in there})
             following.cancel()
-            assert undecided
+            assert len(done) > 90
 
     asyncio.run(test())
 
