@@ -1,8 +1,8 @@
 #!/usr/bin/python3
-"""The examples of clients/js in a headless Chromium, over the gateway's program: rows that change, a gateway that stands still, a listener
+"""The examples of clients/js in a headless Chromium, over a gateway that runs: rows that change, a gateway that stands still, a listener
 that throws, and the hook for React.
 
-GATEWAY names another program than the one that is built, and REACT a folder with react and react-dom in place of Debian's."""
+REACT names a folder with react and react-dom in place of Debian's."""
 import os
 import pathlib
 import shutil
@@ -13,7 +13,7 @@ import time
 
 sys.path[:0] = [str(pathlib.Path(__file__).resolve().parents[1] / it) for it in ("python", "python/test")]
 
-from conftest import BASE, PROGRAM, TOP, Gateway  # noqa: E402
+from conftest import BASE, KIND, TOP, Gateway  # noqa: E402
 from selenium import webdriver  # noqa: E402
 from selenium.webdriver.common.alert import Alert  # noqa: E402
 
@@ -144,8 +144,8 @@ def tried(driver: webdriver.Chrome, gateway: Gateway) -> None:
 
 
 def main() -> int:
-    if not PROGRAM.exists():
-        print(f"the page in a browser did not run, since {PROGRAM} is not built (./gateway)")
+    if not KIND:
+        print("the pages in a browser did not run, since no gateway is built")
         return 0
     options = webdriver.ChromeOptions()
     for word in ("--headless=new", "--no-sandbox", "--disable-dev-shm-usage"):

@@ -1,7 +1,5 @@
 #!/usr/bin/python3
-"""Runs the blocks of docs/CLIENTS.md over the gateway's program: each prints what the block behind it says.
-
-GATEWAY names another program than the one that is built."""
+"""Runs the blocks of docs/CLIENTS.md over the gateway of clients/test/gateway: each prints what the block behind it says."""
 import os
 import pathlib
 import re
@@ -14,8 +12,9 @@ import time
 import urllib.request
 
 TOP = pathlib.Path(__file__).resolve().parents[2]
-PROGRAM = pathlib.Path(os.environ.get("GATEWAY", TOP / "crates/gateway/out/gateway")).resolve()
+GATEWAY = TOP / "clients/test/gateway"
 PAGE = TOP / "docs/CLIENTS.md"
+START = re.compile(r"(?m)^(?:\./gateway try --pages|frontend/gateway\.py --web) ")
 BLOCK = re.compile(r"```(\w+) run\n(.*?)```\n(?:```text\n(.*?)```\n)?", re.DOTALL)
 
 
@@ -46,8 +45,8 @@ def words_of(kind: str, code: str, folder: pathlib.Path) -> list[str]:
 
 
 def main() -> int:
-    if not PROGRAM.is_file():
-        print(f"the blocks of docs/CLIENTS.md did not run, since {PROGRAM} is not built (./gateway)")
+    if not subprocess.run([GATEWAY, "--which"], stdout=subprocess.PIPE, check=True).stdout.strip():
+        print("the blocks of docs/CLIENTS.md did not run, since no gateway is built")
         return 0
     blocks, port, passed, failed = BLOCK.findall(PAGE.read_text()), free_port(), 0, 0
     with tempfile.TemporaryDirectory(prefix="clients.") as name:
@@ -56,8 +55,8 @@ def main() -> int:
         (folder / "node_modules/viewd").symlink_to(TOP / "clients/js")
         env = {**os.environ, "PYTHONPATH": str(TOP / "clients/python"), "PATH": f"{TOP}/clients/python:{os.environ['PATH']}", "PYTHONDONTWRITEBYTECODE": "1"}
         (_, setup, _), *rest = blocks
-        assert "./gateway try" in setup and len(rest) >= 4
-        setup = setup.replace("./gateway try", f"exec {PROGRAM} --port {port}").replace("/tmp/tickets", name)
+        setup, starts = START.subn(f"exec {GATEWAY} --port {port} --pages ", setup.replace("/tmp/tickets", name))
+        assert starts == 1 and len(rest) >= 4
         gateway = subprocess.Popen(["sh", "-euc", setup], cwd=TOP, stderr=subprocess.DEVNULL)
         try:
             end = time.monotonic() + 60

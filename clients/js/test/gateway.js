@@ -1,5 +1,5 @@
-// The gateway's program for tests, with a journal in a folder of its own. A token is the name of its role and `-demo`.
-import {spawn} from "node:child_process";
+// A gateway that runs, with a journal in a folder of its own. A token is the name of its role and `-demo`.
+import {spawn, spawnSync} from "node:child_process";
 import {createHash} from "node:crypto";
 import fs from "node:fs";
 import net from "node:net";
@@ -7,9 +7,9 @@ import os from "node:os";
 import path from "node:path";
 import {fileURLToPath} from "node:url";
 
-/** The program: what GATEWAY names, or what is built. */
-export const PROGRAM = process.env.GATEWAY ?? fileURLToPath(new URL("../../../crates/gateway/out/gateway", import.meta.url));
-export const isBuilt = fs.existsSync(PROGRAM);
+const GATEWAY = fileURLToPath(new URL("../../test/gateway", import.meta.url));
+/** Which one: gateway, gateway.py, or nothing where none can be run. */
+export const KIND = spawnSync(GATEWAY, ["--which"], {encoding: "utf8"}).stdout.trim();
 const PATIENCE = 60_000;
 
 const freePort = () => new Promise((done) => {
@@ -58,7 +58,7 @@ export class Gateway {
 
   async start() {
     const words = ["--journal", this.file("journal.jsonl"), "--tokens", this.file("tokens.toml"), "--port", String(this.port)];
-    this.process = spawn(PROGRAM, words, {stdio: ["ignore", "ignore", fs.openSync(this.file("log"), "a")]});
+    this.process = spawn(GATEWAY, words, {stdio: ["ignore", "ignore", fs.openSync(this.file("log"), "a")]});
     this.ended = new Promise((done) => this.process.on("exit", done));
     await until(() => fetch(`http://127.0.0.1:${this.port}/readyz`).then((it) => it.ok, () => false), "the gateway");
   }

@@ -1,4 +1,4 @@
-"""A gateway that a test plays, written from docs/PROTOCOL.md, and the gateway's program for tests."""
+"""A gateway that a test plays, written from docs/PROTOCOL.md, and a gateway that runs."""
 import asyncio
 import hashlib
 import json
@@ -15,7 +15,8 @@ import pytest
 
 TOP = pathlib.Path(__file__).resolve().parents[3]
 sys.path.insert(0, str(TOP / "clients/python"))
-PROGRAM = pathlib.Path(os.environ.get("GATEWAY", TOP / "crates/gateway/out/gateway"))
+GATEWAY = TOP / "clients/test/gateway"
+KIND = subprocess.run([GATEWAY, "--which"], capture_output=True, text=True, check=True).stdout.strip()  # gateway, gateway.py or nothing
 PATIENCE = 60
 NOTES = [["id", "int"], ["who", "text"]]
 
@@ -101,7 +102,7 @@ async def entered(**how) -> tuple[viewd.Db, Fake]:
 
 
 class Gateway:
-    """The program, with a journal in a folder. A token is the name of its role and `-demo`."""
+    """A gateway with a journal in a folder. A token is the name of its role and `-demo`."""
 
     def __init__(self, folder: pathlib.Path, *words: str):
         self.folder, self.words = folder, words
@@ -119,7 +120,7 @@ class Gateway:
         (self.folder / "tokens.new").rename(self.folder / "tokens.toml")
 
     def start(self) -> None:
-        words = [PROGRAM, "--journal", self.folder / "journal.jsonl", "--tokens", self.folder / "tokens.toml", "--port", str(self.port), *self.words]
+        words = [GATEWAY, "--journal", self.folder / "journal.jsonl", "--tokens", self.folder / "tokens.toml", "--port", str(self.port), *self.words]
         with (self.folder / "log").open("ab") as log:
             self.process = subprocess.Popen(words, stdin=subprocess.DEVNULL, stderr=log)
         end = time.monotonic() + PATIENCE
@@ -151,9 +152,9 @@ BASE = [*({"do": "create_role", "name": name} for name in ("ann", "mia")),
 
 @pytest.fixture
 def gateway(tmp_path):
-    """The gateway's program with notes of its people, where it is built."""
-    if not PROGRAM.exists():
-        pytest.skip(f"{PROGRAM} is not built")
+    """A gateway with notes of its people, where one can be run."""
+    if not KIND:
+        pytest.skip("no gateway is built")
     gateway = Gateway(tmp_path)
     try:
         with viewd.plain.connect(gateway.url, token="admin-demo") as admin:

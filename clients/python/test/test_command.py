@@ -1,4 +1,4 @@
-"""The command line over the gateway's program: what it prints, where its words go, and its statuses."""
+"""The command line over a gateway that runs: what it prints, where its words go, and its statuses."""
 import contextlib
 import csv
 import json
