@@ -8,8 +8,8 @@
     viewd:tickets:position    which follower wrote, and how many times
     viewd:tickets:live        is there while the follower and the gateway are, and no longer than 30 seconds behind either
 
-Each event of the relation is one transaction, and the position is a part of it. So it tells after a lost connection whether the last transaction was done,
-and after a restart of Redis whether what was written has been lost. A follower that finds another position than its own ends with status 1;
+What changed together is written in one transaction, and the position is a part of it. So it tells behind a lost connection whether the last
+transaction was done, and behind a restart of Redis whether what was written has been lost. A follower that finds another position than its own ends with status 1;
 one that starts takes over, and writes what is other than it should be. Whoever reads several keys as of one moment reads them in a transaction.
 """
 import argparse
@@ -108,7 +108,8 @@ class Cache:
                 if values is None:
                     pipe.srem(self.keys, key)
                 else:
-                    pipe.hset(f"{self.rows}:{key}", items=[it for pair in values.items() for it in pair])
+                    for name, value in values.items():
+                        pipe.hset(f"{self.rows}:{key}", name, value)
                     pipe.sadd(self.keys, key)
             pipe.set(self.position, after)
             with contextlib.suppress(WatchError):

@@ -176,7 +176,7 @@ def test_a_restart_writes_what_is_other(gateway, store):
         store.client.config_resetstat()
         with following(gateway, store):
             until(lambda: store.held()[1] == hashes_of([row(1, "mia"), row(2), row(3), row(4), row(9)]))
-            assert store.client.info("commandstats")["cmdstat_hset"]["calls"] == 3
+            assert store.client.info("commandstats")["cmdstat_hset"]["calls"] == 3 * 3
 
 
 def test_one_that_starts_takes_over(gateway, store):
