@@ -55,7 +55,7 @@ def main() -> int:
         (folder / "node_modules/viewd").symlink_to(TOP / "clients/js")
         env = {**os.environ, "PYTHONPATH": str(TOP / "clients/python"), "PATH": f"{TOP}/clients/python:{os.environ['PATH']}", "PYTHONDONTWRITEBYTECODE": "1"}
         (_, setup, _), *rest = blocks
-        setup, starts = START.subn(f"exec {GATEWAY} --port {port} --pages ", setup.replace("/tmp/tickets", name))
+        setup, starts = START.subn(f"exec {GATEWAY} --port {port} --pages ", setup.replace("/tmp/desk", name))
         assert starts == 1 and len(rest) >= 4
         gateway = subprocess.Popen(["sh", "-euc", setup], cwd=TOP, stderr=subprocess.DEVNULL)
         try:

@@ -104,10 +104,11 @@ async def entered(**how) -> tuple[viewd.Db, Fake]:
 class Gateway:
     """A gateway with a journal in a folder. A token is the name of its role and `-demo`."""
 
-    def __init__(self, folder: pathlib.Path, *words: str):
+    def __init__(self, folder: pathlib.Path, *words: str, roles: tuple[str, ...] = ("admin", "ann", "mia")):
         self.folder, self.words = folder, words
-        self.know("admin", "ann", "mia")
-        (folder / "journal.jsonl").write_text("")
+        self.know(*roles)
+        if "--seed" not in words:
+            (folder / "journal.jsonl").write_text("")
         with socket.socket() as probe:
             probe.bind(("127.0.0.1", 0))
             self.port = probe.getsockname()[1]
