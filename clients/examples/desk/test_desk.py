@@ -138,9 +138,19 @@ def test_a_ticket_comes_and_is_taken_back(page, lena):
     page.css("#undo").click()
     page.shows(102, 101)
     assert page.text("#done [role=status]") == "It was taken back." and not page.css("#undo").is_displayed()
-    # the number was taken, so the next one is another, and somebody else's is no trouble
-    lena.update("ticket_numbers", [107], [108])
+    # the number was taken, so the next one is another; where somebody else is faster, the one behind it
+    page.js("""
+      const send = WebSocket.prototype.send;
+      WebSocket.prototype.send = function (data) {
+        if (!data.includes("ticket_numbers")) return send.call(this, data);
+        WebSocket.prototype.send = send;
+        window.held = () => send.call(this, data);
+      };
+    """)
     page.type("#new [name=subject]", "Door is open" + Keys.ENTER)
+    until(lambda: page.js("return Boolean(window.held)"))
+    lena.update("ticket_numbers", [107], [108])
+    page.js("window.held()")
     page.shows(108, 102, 101)
     page.css("#undo").click()
     page.shows(102, 101)

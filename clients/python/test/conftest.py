@@ -17,7 +17,7 @@ TOP = pathlib.Path(__file__).resolve().parents[3]
 sys.path.insert(0, str(TOP / "clients/python"))
 GATEWAY = TOP / "clients/test/gateway"
 KIND = subprocess.run([GATEWAY, "--which"], capture_output=True, text=True, check=True).stdout.strip()  # gateway, gateway.py or nothing
-PATIENCE = 60
+PATIENCE = float(os.environ.get("PATIENCE", 60))  # seconds for anything that has to come: a slow machine fails no test
 NOTES = [["id", "int"], ["who", "text"]]
 
 from websockets.exceptions import ConnectionClosedError  # noqa: E402
