@@ -362,7 +362,7 @@ class Db {
     this.#url = url;
     this.#how = {silence: 30_000, patience: 30_000, shortest: 250, longest: 30_000, again: 30_000, ...how};
     this.#how.WebSocket ??= globalThis.WebSocket;
-    if (!this.#how.WebSocket) throw new ViewdError("there is no WebSocket here: give one as the option WebSocket");
+    if (!this.#how.WebSocket) throw new ViewdError("there is no WebSocket here: give one as the option WebSocket (Node has one from 22 on, and 20 by --experimental-websocket)");
     for (const [on, columns] of Object.entries(this.#how.columns ?? {})) this.#known.set(on, columns);
     this.#hear();
     this.#connect();
