@@ -23,7 +23,8 @@ import pathlib
 import re
 import time
 
-from client import BACKLOG, Ask, Client, Subscription, ended, frames_of
+from client import BACKLOG, Ask, Client, Subscription, ended, frame, frames_of
+from columns import Columns, columns_of
 from journal import BODY, SHARED, SLOW, Anew, Damaged, Entry, Log, Shape, by_role, by_session, replay, to_text
 
 SESSIONS = 256  # viewd has no more
@@ -44,6 +45,7 @@ READ_ONLY = 100  # and one of its own: this gateway follows the journal of anoth
 NAME = re.compile("[A-Za-z0-9_-]{1,64}")  # that a client gives to a request which it may send again
 FENCE = b"-\n"
 SETTLED = b'{"settled":true}'
+ALIVE = b'{"alive":true}'
 OK = b'{"ok":true}'
 
 log = logging.getLogger("engine")
@@ -66,6 +68,7 @@ class Engine:
         """From the start of a viewd to its end. Raises Damaged, and OSError where the journal cannot be written."""
         self.journal.rewind()
         self.shape = Shape()
+        self.columns: dict[str, Columns] = {}  # of each relation
         self.reshaped = False
         self.asked: collections.deque[Ask] = collections.deque()
         self.answered: Ask | None = None  # the one whose changes are coming
@@ -445,7 +448,7 @@ class Engine:
         if ok and ask.request["do"] == "subscribe":
             client.subscribed += 1
             client.subscriptions[reply["sub"]] = Subscription(client.subscribed, ask.request["on"], ask.view)
-            reply["sub"] = client.subscribed
+            reply = {"columns": self.columns[ask.request["on"]], "ok": True, "sub": client.subscribed}
         elif ok and ask.request["do"] == "unsubscribe":
             self.unsubscribed(client, ask.request["sub"])
         elif ok and not ask.entry:
@@ -472,6 +475,8 @@ class Engine:
             return
         self.shape.apply(request)
         self.reshaped = True
+        if request["do"] in ("create_table", "create_view"):
+            self.columns[request["name"]] = columns_of(request, self.columns)
         match request:
             case {"do": "grant", "on": on, "to": to} | {"do": "create_table" | "create_view", "name": on, "owner": to}:
                 self.tell_granted(to, [on])
@@ -500,6 +505,12 @@ class Engine:
         self.made.clear()
         self.gathered = 0
         return frames
+
+    def alive(self) -> None:
+        """Tells all who are in that the gateway is there: a page does not see pings."""
+        for client in self.clients.values():
+            if client.sent and not client.gone and not client.behind():
+                client.send(frame(ALIVE))
 
     def release(self, frames: list[tuple[Client, bytes]]) -> int:
         """Sends messages, and counts them."""

@@ -28,6 +28,7 @@ from journal import LINE, SLOW, Damaged, Journal, Log
 
 HELLO = 10.0 * SLOW  # seconds to send a token
 PING, PONG = 20.0, 10.0 * SLOW  # seconds between an answer and the next ping, and for an answer
+ALIVE = 20.0  # seconds between lines that the gateway is there
 HOLD = 8.0  # seconds, at most, for which nothing is decided while gateways are compared
 
 log = logging.getLogger("gateway")
@@ -58,7 +59,7 @@ class Desk:
         except (asyncio.TimeoutError, TypeError):
             role = None
         if role is None:
-            await ws.close(code=4401, message=b"This token is not known.")
+            await ws.close(code=4401, message=b"This token opens no role.")
             return ws
         client = Client(role, request.transport)
         watch = asyncio.create_task(self.watch(client, ws))
@@ -119,16 +120,29 @@ class Desk:
             state["tables"] = await engine.tables()
         return web.json_response(state | engine.state())
 
+    async def alive(self) -> None:
+        while True:
+            await asyncio.sleep(ALIVE)
+            self.engine.alive()
+
+    async def readyz(self, request: web.Request) -> web.Response:
+        return web.Response(status=200 if self.engine.ready.is_set() else 503)
+
     async def page(self, request: web.Request) -> web.FileResponse:
-        return web.FileResponse(self.folder / (request.path.strip("/") or "index.html"), headers={
+        """A file of the folder or of one below it. None that a link leads to, and none whose name, or that of its folder, begins with a dot."""
+        names = (request.match_info["place"] or "index.html").split("/")
+        place = self.folder.joinpath(*names)
+        if any(not it or it.startswith(".") for it in names) or not place.is_file() or place.resolve() != self.folder.resolve().joinpath(*names):
+            raise web.HTTPNotFound()
+        return web.FileResponse(place, headers={
             "Cache-Control": "no-cache", "Referrer-Policy": "no-referrer", "X-Content-Type-Options": "nosniff",
             "Content-Security-Policy": "default-src 'none'; script-src 'self'; style-src 'self'; connect-src 'self'; img-src data:;"
                                        " base-uri 'none'; form-action 'none'; frame-ancestors 'none'"})
 
     async def listen(self, port: int) -> None:
+        self.beats = asyncio.create_task(self.alive())
         app = web.Application()
-        app.add_routes([web.get("/live", self.live), web.get("/state", self.state), web.get("/", self.page)])
-        app.add_routes([web.get(f"/{file.name}", self.page) for file in self.folder.iterdir()])
+        app.add_routes([web.get("/live", self.live), web.get("/state", self.state), web.get("/readyz", self.readyz), web.get("/{place:.*}", self.page)])
         runner = web.AppRunner(app, access_log=None)
         await runner.setup()
         await web.TCPSite(runner, "127.0.0.1", port).start()

@@ -181,7 +181,8 @@ class Peer:
                 if message.type is not aiohttp.WSMsgType.TEXT:
                     break
                 for line in map(json.loads, message.data.split("\n")):
-                    self.line(line)
+                    if "alive" not in line:
+                        self.line(line)
         finally:
             self.settle()
             for lost in self.asked:

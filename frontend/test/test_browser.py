@@ -139,7 +139,7 @@ class Test:
 
     def tokens(self) -> None:
         door = Desk(self.driver, self.gate.url, "guessed", (600, 500))
-        until(lambda: "not known" in door.css("#turned").text)
+        until(lambda: "opens no role" in door.css("#turned").text)
         self.gate.tokens.write_text(tokens((*ROLES, "eve")))
         door.type("#door input", "eve-demo" + Keys.ENTER)
         until(lambda: "the role is not there. Trying again." in door.state())

@@ -29,6 +29,8 @@ import gateway
 import journal
 
 TESTS = []
+TICKETS = [["id", "int"], ["agent", "text"], ["subject", "text"], ["open", "flag"]]
+WORKLOAD = [["hours", "text"], ["agent", "text"], ["waiting", "int"]]
 
 
 def test(check):
@@ -101,7 +103,7 @@ async def tokens_give_the_role(gate: Gate, http: aiohttp.ClientSession):
             assert not gate.state(token)
         except (urllib.error.HTTPError, UnicodeEncodeError) as refused:
             assert getattr(refused, "code", 403) == 403
-    for path in ("gateway.py", "%2e%2e/gateway.py", "%2e%2e%2fgateway.py", "journal.jsonl", "test/gate.py"):
+    for path in ("gateway.py", "%2e%2e/gateway.py", "%2e%2e%2fgateway.py", "journal.jsonl", "test/gate.py", "/etc/passwd", "..", "desk.js/", "desk.js%00"):
         async with http.get(yarl.URL(gate.url + path, encoded=True)) as answer:
             assert answer.status == 404, path
     await olga.leave()
@@ -114,10 +116,64 @@ async def tokens_give_the_role(gate: Gate, http: aiohttp.ClientSession):
 
 
 @test
+async def columns_are_told(gate: Gate, http: aiohttp.ClientSession):
+    """Each query of the protocol's table gives the columns that stand there, also behind a restart."""
+    [admin] = await enter(http, gate, "admin")
+    for name, columns in [("a", "k int, x int"), ("b", "k int, y int"), ("notes", "id int, who text")]:
+        await admin.ask(do="create_table", name=name, owner="admin", columns=[it.split() for it in columns.split(", ")])
+    await admin.ask(do="create_view", name="keys", owner="admin", query="select k from a")
+    page = (TOP.parent / "docs/PROTOCOL.md").read_text().split("### What each part gives")[1]
+    queries = [*re.findall(r"(?m)^\| `(select [^|]*)` \| `(\w+ (?:int|text)[^|]*)` \|$", page), (
+        "SELECT N.Who  whom, count(*)as n from notes\tas N where who <> 'it''s union ( from' group by who", "whom text, n int")]
+    assert len(queries) > 10
+    for number, (query, _) in enumerate(queries):
+        assert "ok" in await admin.ask(do="create_view", name=f"v{number}", owner="admin", query=query), query
+    for again in (False, True):
+        if again:
+            gate.kill_viewd()
+            [admin] = await enter(http, gate, "admin")
+        for number, (query, columns) in enumerate(queries):
+            reply = await admin.ask(do="subscribe", on=f"v{number}")
+            assert reply["columns"] == [it.split() for it in columns.split(", ")], (query, reply)
+            await admin.ask(do="unsubscribe", sub=reply["sub"])
+
+
+@test
+async def files_of_pages(gate: Gate, http: aiohttp.ClientSession):
+    """A folder of pages and those below it, but nothing that a link leads to, and nothing hidden."""
+    folder = gate.journal.parent / "pages"
+    (folder / "below").mkdir(parents=True)
+    for name in ("below/page.js", ".env", "{x}.css"):
+        (folder / name).write_text(name)
+    (folder / "link.js").symlink_to(gate.tokens)
+    gate.kill_gateway()
+    gate.words += ["--web", folder]
+    gate.start()
+    for path, status in [("below/page.js", 200), ("{x}.css", 200), (".env", 404), ("link.js", 404), ("below", 404), ("below/../.env", 404), ("", 404), ("readyz", 200)]:
+        async with http.get(yarl.URL(gate.url + path, encoded=True)) as answer:
+            assert answer.status == status and (status == 404 or path == "readyz" or await answer.text() == path), path
+
+
+@test
+async def all_are_told_that_it_is_there(gate: None, http: aiohttp.ClientSession):
+    """Each 20 seconds, and here sooner; not before the role."""
+    gate, before, gateway.ALIVE = Gate(start=False), gateway.ALIVE, 0.01
+    try:
+        async with inside(gate), http.ws_connect(gate.url + "live") as ws:
+            await ws.send_str("mia-demo")
+            lines = []
+            while lines.count('{"alive":true}') < 2:
+                lines += (await ws.receive_str(timeout=PATIENCE)).split("\n")
+    finally:
+        gateway.ALIVE = before
+    assert lines == ['{"role":"mia"}', '{"settled":true}', '{"alive":true}', '{"alive":true}'], lines
+
+
+@test
 async def nobody_acts_for_another(gate: Gate, http: aiohttp.ClientSession):
     admin, mia, noah = await enter(http, gate, "admin", "mia", "noah")
     for peer in (admin, mia, noah):
-        assert await peer.ask(do="subscribe", on="tickets") == {"ok": True, "sub": 1}  # each counts its own
+        assert await peer.ask(do="subscribe", on="tickets") == {"columns": TICKETS, "ok": True, "sub": 1}  # each counts its own
     ticket = {"on": "tickets", "insert": [1, "noah", "x", True]}
     for forged in (*range(0, 6), 257, "1", None, [1]):
         got = await mia.ask(do="grant", on="tickets", privileges=["delete"], to="mia", session=forged)
@@ -192,10 +248,10 @@ async def lines_have_marks(gate: Gate, http: aiohttp.ClientSession):
         assert await mia.ask(do="subscribe", on="tickets", id=name) == {"error": 2}
     assert (await mia.raw('{"do":"subscribe","on":"tickets","id":"\\ud800"}')) == {"error": 1}
     await forget(admin, lena, mia)
-    assert await mia.ask(do="subscribe", on="workload", id=1) == {"id": 1, "ok": True, "sub": 1}
-    assert await mia.ask(do="subscribe", on="tickets", id=2) == {"id": 2, "ok": True, "sub": 2}
+    assert await mia.ask(do="subscribe", on="workload", id=1) == {"columns": WORKLOAD, "id": 1, "ok": True, "sub": 1}
+    assert await mia.ask(do="subscribe", on="tickets", id=2) == {"columns": TICKETS, "id": 2, "ok": True, "sub": 2}
     keys = [" ".join(sorted(line)) for line in mia.lines]
-    assert keys == ["id ok sub", "changes sub", "settled"] * 2, keys
+    assert keys == ["columns id ok sub", "changes sub", "settled"] * 2, keys
     await forget(mia)
     await lena.insert(50, "mia")
     assert lena.lines == [{"ok": True}, {"settled": True}]
@@ -213,7 +269,7 @@ async def lines_have_marks(gate: Gate, http: aiohttp.ClientSession):
     await lena.ask(do="grant", on="tickets", privileges=["select"], to="mia")
     await soon(lambda: mia.told("settled"))
     assert mia.lines == [{"granted": "tickets"}, {"settled": True}], mia.lines
-    assert await mia.ask(do="subscribe", on="tickets") == {"ok": True, "sub": 3}
+    assert await mia.ask(do="subscribe", on="tickets") == {"columns": TICKETS, "ok": True, "sub": 3}
     assert await mia.ask(do="unsubscribe", sub=3) == {"ok": True}
     assert await mia.ask(do="unsubscribe", sub=3) == {"error": 19}
     await admin.ask(do="create_table", name="notes", owner="mia", columns=[["a", "int"]])

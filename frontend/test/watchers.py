@@ -81,7 +81,7 @@ class Watcher:
                     self.book.came.append((self.before, {row[0] for row in self.tickets if row[0] >= FIRST}))
                 self.ws = ws
             self.book.settled += 1
-        elif "granted" not in one and "shape" not in one:
+        elif not one.keys() & {"granted", "shape", "alive"}:
             self.subs += "sub" in one
             self.replied.append((self.asked.popleft(), one))
 

@@ -174,6 +174,7 @@ export class Viewd {
   }
 
   #one(said) {
+    if (said.alive) return;
     if (said.settled) this.#settle();
     else if (said.role) this.#entered(said.role);
     else if (said.changes) this.#changes(said);

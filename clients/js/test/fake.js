@@ -1,0 +1,91 @@
+// A gateway's end of a WebSocket, written from docs/PROTOCOL.md, whose lines a test says.
+import assert from "node:assert/strict";
+import {connect} from "../viewd.js";
+
+/** Stands in WebSocket's place. `all` are those that the client has made, the last one is `Fake.last`. */
+export class Fake {
+  static all = [];
+  static get last() {
+    return Fake.all.at(-1);
+  }
+
+  sent = [];
+  closed = false;
+  constructor(url) {
+    this.url = url;
+    Fake.all.push(this);
+  }
+
+  send(data) {
+    this.sent.push(data);
+  }
+
+  close() {
+    this.closed = true;
+  }
+
+  /** Lines of one message: texts as they are, others as JSON. */
+  tell(...lines) {
+    this.onmessage({data: lines.map((line) => typeof line === "string" ? line : JSON.stringify(line)).join("\n") + "\n"});
+  }
+
+  /** Lines with `settled` behind them. */
+  event(...lines) {
+    this.tell(...lines, {settled: true});
+  }
+
+  /** Lets the client in. */
+  enter(role = "mia") {
+    this.onopen();
+    this.event({role});
+    return this;
+  }
+
+  /** Closes from the gateway's side. */
+  end(code = 1006, reason = "") {
+    this.onclose({code, reason});
+  }
+
+  /** What was said behind the token and is not taken yet. */
+  take() {
+    return this.sent.splice(0).filter((it) => it.startsWith("{"));
+  }
+
+  /** Takes one message, of this form but for its id, and returns the id. */
+  asked(body) {
+    const [said] = this.sent.splice(0, 1);
+    const {id, ...rest} = JSON.parse(said);
+    assert.match(said, /^\{"id":\d+,/);
+    assert.deepEqual(rest, body);
+    return id;
+  }
+}
+
+export const NOTES = [["id", "int"], ["who", "text"]];
+
+/** Waits until what is under way among promises is done. */
+export const turn = () => new Promise((done) => setImmediate(done));
+
+/** Waits so many milliseconds. */
+export const pause = (wait) => new Promise((done) => setTimeout(done, wait));
+
+/** A client whose fake gateway has let it in, and that is ended behind the test. */
+export async function entered(t, how = {}) {
+  Fake.all = [];
+  const faults = [];
+  const db = connect("ws://gateway/live", {token: "t", WebSocket: Fake, onError: (why) => faults.push(why), shortest: 4, ...how});
+  t.after(() => {
+    db.end();
+    assert.deepEqual(faults, []);
+  });
+  await turn();
+  Fake.last.enter();
+  Fake.last.sent = [];
+  return [db, Fake.last];
+}
+
+/** Answers a subscribe to the relation, with these changes. */
+export function follow(socket, sub, changes, on = "notes", columns = NOTES) {
+  const id = socket.asked({do: "subscribe", on});
+  socket.event({columns, id, ok: true, sub}, ...(changes.length ? [{changes, sub}] : []));
+}

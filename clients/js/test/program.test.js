@@ -1,0 +1,127 @@
+// The client over a gateway that runs: what roles see, revokes, kills, a gateway that stands still, and a token that is taken away.
+import assert from "node:assert/strict";
+import {test} from "node:test";
+import {connect, NotSent, Refused, Undecided} from "../viewd.js";
+import {Gateway, KIND, until} from "./gateway.js";
+import {Socket} from "./socket.js";
+
+const BASE = [...["ann", "mia"].map((name) => ({do: "create_role", name})),
+  {do: "create_table", name: "notes", owner: "ann", columns: [["id", "int"], ["who", "text"], ["done", "flag"]]},
+  {do: "create_view", name: "counts", owner: "ann", query: "select who, count(*) as n from notes group by who"},
+  {do: "grant", on: "notes", privileges: ["select", "insert", "update", "delete"], to: "mia"},
+  {do: "grant", on: "counts", privileges: ["select"], to: "mia"},
+  {do: "row_security", on: "notes", enable: true, force: false},
+  {do: "create_policy", on: "notes", name: "own", using: "who = current_user"}];
+
+const skip = KIND ? false : "no gateway is built";
+
+async function serving(t) {
+  const gateway = await Gateway.started(t);
+  const enter = (role, how = {}) => {
+    const db = connect(gateway.url, {token: `${role}-demo`, WebSocket: Socket, shortest: 20, ...how});
+    t.after(() => db.end());
+    return db;
+  };
+  const admin = enter("admin");
+  for (const it of BASE) await admin.request(it);
+  return {gateway, enter, admin, ann: enter("ann"), mia: enter("mia")};
+}
+
+test("each role has its rows, as they change", {skip}, async (t) => {
+  const {ann, mia} = await serving(t);
+  const [all, own, counts] = [ann.live("notes", {order: "-id"}), mia.live("notes"), mia.live("counts")];
+  await Promise.all([all, own, counts].map((it) => it.ready));
+  assert.equal(mia.role, "mia");
+  assert.deepEqual(own.columns, [["id", "int"], ["who", "text"], ["done", "flag"]]);
+  const row = {id: 2n ** 63n - 1n, who: "mia", done: false};
+  await mia.insert("notes", row);
+  assert.deepEqual(own.rows, [row]); // what a write changes is there with its reply
+  assert.deepEqual(counts.rows, [{who: "mia", n: 1}]);
+  await ann.write([{on: "notes", insert: {id: 1, who: "ann", done: true}}, {on: "notes", insert: {id: 2, who: "mia", done: true}, copies: 3}]);
+  await until(() => own.rows.length === 2, "what ann writes");
+  assert.deepEqual(all.rows.map((it) => it.id), [row.id, 2, 1]);
+  assert.deepEqual([own.copies(own.rows[0]), counts.rows], [3, [{who: "mia", n: 4}]]);
+  await mia.update("notes", row, {done: true});
+  await mia.remove("notes", own.rows[0], {copies: 3});
+  assert.deepEqual(own.rows, [{...row, done: true}]);
+  await assert.rejects(mia.insert("notes", {id: 3, who: "ann", done: false}), (why) =>
+    why instanceof Refused && why.message === "no permissive policy (14), on notes, check insert, entry 1");
+  await assert.rejects(mia.request({do: "create_role", name: "eve"}), (why) => why.code === 11);
+  await assert.rejects(mia.request({do: "subscribe"}), (why) => why.message === (KIND === "gateway" ? "bad request (2), key on, why missing" : "bad request (2)"));
+  await assert.rejects(mia.insert("notes", [1, "\ud800", true]), (why) => why instanceof Refused && [1, 2].includes(why.code));
+  await assert.rejects(mia.insert("plans", {id: 1}), (why) => why instanceof Refused && why.code === 7);
+});
+
+test("a revoke takes rows, and a grant brings them back", {skip}, async (t) => {
+  const {ann, mia} = await serving(t);
+  await ann.insert("notes", [1, "mia", false]);
+  const own = mia.live("notes");
+  assert.equal((await own.ready).length, 1);
+  await ann.request({do: "revoke", on: "notes", privileges: ["select"], to: "mia"});
+  await until(() => own.state === "refused");
+  assert.deepEqual([own.why, own.rows], ["privilege", []]);
+  await ann.request({do: "grant", on: "notes", privileges: ["select"], to: "mia"});
+  await until(() => own.state === "live");
+  assert.equal(own.rows.length, 1);
+  await ann.request({do: "drop_policy", on: "notes", name: "own"});
+  await until(() => own.rows.length === 0);
+  assert.equal(own.state, "live");
+});
+
+test("the seventeenth relation finds room when another is given back", {skip}, async (t) => {
+  const {admin, ann} = await serving(t);
+  for (let at = 0; at < 17; at++) await admin.request({do: "create_table", name: `t${at}`, owner: "ann", columns: [["id", "int"]]});
+  const lives = Array.from({length: 17}, (_, at) => ann.live(`t${at}`));
+  await until(() => lives.every((it) => it.state !== "waiting"));
+  const refused = lives.filter((it) => it.state === "refused");
+  assert.deepEqual(refused.map((it) => it.why.code), lives.slice(-refused.length).map(() => 20));
+  assert.ok(refused.length >= 1);
+  lives[0].close();
+  await until(() => refused[0].state === "live");
+});
+
+test("behind a kill each write that was answered is there once", {skip}, async (t) => {
+  const {gateway, ann, mia} = await serving(t);
+  const all = ann.live("notes"), done = new Set(), undecided = new Set();
+  await all.ready;
+  let at = 0;
+  for (let round = 0; round < 3; round++) {
+    const writes = Array.from({length: 200}, () => at++).map((id) => mia.insert("notes", [id, "mia", false])
+      .then(() => done.add(id), (why) => {
+        assert.ok(why instanceof Undecided, why);
+        undecided.add(id);
+      }));
+    await until(() => done.size > 30 * (round + 1), "answers");
+    await gateway.kill();
+    await Promise.all(writes);
+    await until(() => ann.state === "stale" && all.state === "stale", "stale");
+    await gateway.start();
+    await until(() => all.state === "live" && mia.state === "live", "live again");
+  }
+  const there = new Set(all.rows.map((it) => it.id));
+  assert.deepEqual([...done].filter((id) => !there.has(id)), []);
+  assert.deepEqual([...there].filter((id) => !done.has(id) && !undecided.has(id)), []);
+  assert.ok(all.rows.every((it) => all.copies(it) === 1));
+  assert.ok(done.size > 90);
+  t.diagnostic(`${done.size} were answered, ${undecided.size} undecided, ${there.size} are there`);
+});
+
+test("a gateway that stands still is told of, and left", {skip}, async (t) => {
+  const {gateway, enter} = await serving(t);
+  const db = enter("mia", {silence: 2000, patience: 500}), own = db.live("notes");
+  await own.ready;
+  gateway.signal("SIGSTOP");
+  await until(() => db.state === "stale" && own.state === "stale", "stale", 10_000);
+  await assert.rejects(db.insert("notes", [1, "mia", false]), NotSent);
+  gateway.signal("SIGCONT");
+  await until(() => db.state === "live" && own.state === "live", "live again");
+});
+
+test("who lost its token is out", {skip: KIND === "gateway.py" ? "gateway.py ends nobody whose token is taken away" : skip}, async (t) => {
+  const {gateway, mia, ann} = await serving(t);
+  const own = mia.live("notes");
+  await own.ready;
+  gateway.know("admin", "ann");
+  await until(() => mia.state === "closed", "closed");
+  assert.deepEqual([mia.why, own.state, ann.state], ["This token opens no role.", "closed", "live"]);
+});

@@ -1,0 +1,534 @@
+// What the client says and makes of what it is told, over a gateway that a test plays.
+import assert from "node:assert/strict";
+import fs from "node:fs";
+import {test} from "node:test";
+import {compare, connect, NotSent, parse, Refused, text, Undecided, ViewdError} from "../viewd.js";
+import {entered, Fake, follow, NOTES, pause, turn} from "./fake.js";
+
+// What mia says and is told in the conversations of the protocol: all of the first, the right of the second, and the third up to a message
+// that no client of this kind says.
+function conversation() {
+  const page = fs.readFileSync(new URL("../../../docs/PROTOCOL.md", import.meta.url), "utf8").split("### Conversations")[1];
+  const [first, second, third] = page.split("```text\n").slice(1, 4).map((it) => it.split("```")[0].trimEnd().split("\n"));
+  const right = second.map((line) => line.match(/^< .*(< .*)$/)?.[1]).filter((line) => line);
+  return [...first, ...right, ...third.slice(0, 4)];
+}
+
+test("the protocol's conversation is held", async (t) => {
+  Fake.all = [];
+  const db = connect("ws://gateway/live", {token: "TOKEN", WebSocket: Fake}), seen = [], lines = conversation();
+  t.after(() => db.end());
+  await turn();
+  Fake.last.onopen();
+  const notes = db.live("notes");
+  notes.subscribe(() => seen.push([notes.state, ...notes.rows.map((it) => `${it.id} ${it.who}`)]));
+  for (const line of lines) {
+    if (line.startsWith("> ")) assert.equal(Fake.last.sent.shift(), line.slice(2));
+    else Fake.last.tell(line.slice(2));
+  }
+  assert.deepEqual(Fake.last.sent, []);
+  assert.equal(lines.length, 17);
+  assert.deepEqual(seen, [["live", "2 mia"], ["live", "2 mia", "3 mia"], ["refused"], ["live", "2 mia", "3 mia"]]);
+});
+
+test("a token opens a role", async (t) => {
+  Fake.all = [];
+  const states = [];
+  const db = connect("http://gateway/live", {token: () => Promise.resolve("secret"), WebSocket: Fake});
+  t.after(() => db.end());
+  db.onState((state) => states.push(state));
+  await turn();
+  assert.equal(Fake.last.url, "ws://gateway/live");
+  Fake.last.onopen();
+  assert.deepEqual(Fake.last.sent, ["secret"]);
+  assert.equal(db.state, "connecting");
+  Fake.last.event({role: "mia"});
+  assert.equal(db.role, "mia");
+  assert.deepEqual(states, ["live"]);
+  assert.throws(() => connect("ws://gateway/live", {}), /no token/);
+});
+
+test("a reply counts once its event is settled", async (t) => {
+  const [db, socket] = await entered(t);
+  let reply = null;
+  db.request({do: "create_role", name: "ann"}).then((it) => reply = it);
+  const id = socket.asked({do: "create_role", name: "ann"});
+  socket.tell({id, ok: true});
+  await turn();
+  assert.equal(reply, null);
+  socket.tell({settled: true});
+  await turn();
+  assert.deepEqual(reply, {id, ok: true});
+});
+
+test("a refusal says its words", async (t) => {
+  const [db, socket] = await entered(t);
+  const refused = db.insert("notes", [1, "ann"]);
+  const id = socket.asked({do: "write", entries: [{on: "notes", insert: [1, "ann"]}]});
+  socket.event({check: "insert", entry: 1, error: 14, id, on: "notes"});
+  await assert.rejects(refused, (why) => why instanceof Refused && why.code === 14 && why.reply.entry === 1
+    && why.message === "no permissive policy (14), on notes, check insert, entry 1");
+});
+
+test("rows are objects by column names, each once, in the order of their columns", async (t) => {
+  const [db, socket] = await entered(t);
+  const notes = db.live("notes");
+  assert.equal(notes.state, "waiting");
+  // U+FF01 is before U+1F600 as UTF-8, and behind it as UTF-16
+  follow(socket, 1, [[1, [2, "\u{1f600}"]], [1, [2, "\uff01"]], [3, [-1, "b"]], [1, [2, "B"]]]);
+  assert.deepEqual(notes.rows, [{id: -1, who: "b"}, {id: 2, who: "B"}, {id: 2, who: "\uff01"}, {id: 2, who: "\u{1f600}"}]);
+  assert.deepEqual(notes.columns, NOTES);
+  assert.deepEqual(await notes.ready, notes.rows);
+  assert.deepEqual([notes.copies({id: -1, who: "b"}), notes.copies([2, "B"]), notes.copies([9, "x"])], [3, 1, 0]);
+  assert.ok(Object.isFrozen(notes.rows[0]));
+  const was = notes.rows;
+  socket.event({changes: [[-2, [-1, "b"]]], sub: 1}); // a copy is left, so nothing that is shown changes
+  assert.equal(notes.rows, was);
+  socket.event({changes: [[-1, [-1, "b"]], [1, [5, "z"]]], sub: 1});
+  assert.deepEqual(notes.rows.map((it) => it.id), [2, 2, 2, 5]);
+  assert.equal(notes.rows[0], was[1]);
+});
+
+test("where, order and limit are of each user", async (t) => {
+  const [db, socket] = await entered(t);
+  const columns = [["id", "int"], ["who", "text"], ["open", "flag"]];
+  const mine = db.live("notes", {where: {who: "mia"}, order: "-id", limit: 2});
+  const large = db.live("notes", {where: ({id}) => id > 2, order: ["open", "-who"]});
+  follow(socket, 1, [[1, [1, "mia", true]], [1, [2, "mia", false]], [1, [3, "mia", true]], [1, [4, "ann", false]]], "notes", columns);
+  assert.deepEqual(mine.rows.map((it) => it.id), [3, 2]);
+  assert.equal(mine.total, 3);
+  assert.deepEqual(large.rows.map((it) => it.id), [4, 3]);
+  socket.event({changes: [[1, [5, "mia", false]], [-1, [3, "mia", true]]], sub: 1});
+  assert.deepEqual(mine.rows.map((it) => it.id), [5, 2]);
+  assert.deepEqual(large.rows.map((it) => it.id), [5, 4]);
+  const totals = [];
+  mine.subscribe(({rows, total}) => totals.push([rows.length, total]));
+  socket.event({changes: [[1, [0, "mia", false]]], sub: 1}); // beyond the limit: the rows are the same, and there is one more
+  socket.event({changes: [[1, [9, "ann", false]]], sub: 1});
+  assert.deepEqual(totals, [[2, 4]]);
+  assert.deepEqual(socket.take(), []); // nothing more was asked for
+});
+
+test("what is kept in place is what sorting from nothing gives", async (t) => {
+  const [db, socket] = await entered(t);
+  const how = {where: ({id}) => id % 3 !== 0, order: ["who", "-id"], limit: 25};
+  const live = db.live("notes", how), bag = new Map();
+  follow(socket, 1, []);
+  let seed = 7;
+  const dice = (sides) => (seed = (seed * 48271) % 2147483647) % sides;
+  for (let step = 0; step < 600; step++) {
+    const changes = new Map();
+    for (let at = dice(step % 50 ? 6 : 200); at >= 0; at--) {
+      const row = [dice(90), "abcdefg"[dice(7)]], key = text(row), there = (bag.get(key)?.[0] ?? 0);
+      const copies = there && dice(2) ? -1 : 1;
+      changes.set(key, [(changes.get(key)?.[0] ?? 0) + copies, row]);
+      bag.set(key, [there + copies, row]);
+    }
+    socket.event({changes: [...changes.values()].filter(([copies]) => copies), sub: 1});
+    const wanted = [...bag.values()].filter(([copies, [id]]) => copies && id % 3).map(([, row]) => row)
+      .sort((a, b) => compare(a[1], b[1]) || b[0] - a[0]);
+    assert.deepEqual(live.rows.map((it) => [it.id, it.who]), wanted.slice(0, 25));
+    assert.equal(live.total, wanted.length);
+  }
+});
+
+test("users of one relation share a subscription, which the last one gives back", async (t) => {
+  const [db, socket] = await entered(t);
+  const one = db.live("notes"), two = db.live("notes", {limit: 1});
+  follow(socket, 1, [[1, [1, "a"]], [1, [2, "b"]]]);
+  const three = db.live("notes");
+  assert.deepEqual([one, two, three].map((it) => it.rows.length), [2, 1, 2]);
+  assert.deepEqual(socket.take(), []);
+  one.close();
+  one.close();
+  two.close();
+  assert.deepEqual(socket.take(), []);
+  three.close();
+  socket.event({id: socket.asked({do: "unsubscribe", sub: 1}), ok: true});
+  assert.deepEqual([three.state, three.rows.length], ["closed", 2]);
+  const four = db.live("notes");
+  follow(socket, 2, [[1, [3, "c"]]]);
+  assert.deepEqual(four.rows, [{id: 3, who: "c"}]);
+});
+
+test("a subscription that nobody wants any more when it begins is given back", async (t) => {
+  const [db, socket] = await entered(t);
+  db.live("notes").close();
+  const id = socket.asked({do: "subscribe", on: "notes"});
+  socket.event({columns: NOTES, id, ok: true, sub: 1}, {changes: [[1, [1, "a"]]], sub: 1});
+  socket.event({id: socket.asked({do: "unsubscribe", sub: 1}), ok: true});
+});
+
+test("nobody sees half of an event", async (t) => {
+  const [db, socket] = await entered(t);
+  const notes = db.live("notes"), seen = [];
+  notes.subscribe(() => seen.push(notes.rows.map((it) => it.id)));
+  const id = socket.asked({do: "subscribe", on: "notes"});
+  socket.tell({columns: NOTES, id, ok: true, sub: 1});
+  const late = db.live("notes");
+  socket.tell({changes: [[1, [1, "a"]]], sub: 1});
+  assert.deepEqual([notes.state, late.state, seen], ["waiting", "waiting", []]);
+  socket.tell({settled: true});
+  assert.deepEqual([late.rows.length, seen], [1, [[1]]]);
+  socket.tell({changes: [[-1, [1, "a"]]], sub: 1});
+  const later = db.live("notes");
+  assert.deepEqual([notes.rows.length, later.state], [1, "waiting"]);
+  socket.event({changes: [[1, [2, "a"]]], sub: 1});
+  assert.deepEqual([later.rows, seen], [[{id: 2, who: "a"}], [[1], [2]]]);
+});
+
+test("what one event changes in two relations is in both when a listener is called", async (t) => {
+  const [db, socket] = await entered(t);
+  const lives = ["notes", "tasks"].map((on) => db.live(on)), seen = [];
+  for (const [at, on] of ["notes", "tasks"].entries()) follow(socket, at + 1, [], on);
+  for (const it of lives) it.subscribe(() => seen.push(lives.map((live) => [live.state, live.rows.length])));
+  socket.event({changes: [[1, [1, "a"]]], sub: 1}, {changes: [[1, [1, "a"]]], sub: 2});
+  socket.end();
+  assert.deepEqual(seen, [..."12"].map(() => [["live", 1], ["live", 1]]).concat([..."12"].map(() => [["stale", 1], ["stale", 1]])));
+});
+
+test("writes name columns, and are sent as lists", async (t) => {
+  const [db, socket] = await entered(t);
+  db.live("notes");
+  follow(socket, 1, []);
+  const row = {who: "mia", id: 1};
+  const replies = [db.insert("notes", row, {copies: 2}), db.update("notes", row, {who: "ann"}), db.remove("notes", row),
+    db.write([{on: "notes", insert: {id: 2n ** 62n, who: "x"}}, {on: "notes", update: [[1, "a"], {id: 1, who: "b"}]}])];
+  await turn();
+  const said = socket.take().map((it) => it.replace(/"id":\d+,/, ""));
+  assert.deepEqual(said, [
+    '{"do":"write","entries":[{"on":"notes","copies":2,"insert":[1,"mia"]}]}',
+    '{"do":"write","entries":[{"on":"notes","update":[[1,"mia"],[1,"ann"]]}]}',
+    '{"do":"write","entries":[{"on":"notes","delete":[1,"mia"]}]}',
+    '{"do":"write","entries":[{"on":"notes","insert":[4611686018427387904,"x"]},{"on":"notes","update":[[1,"a"],[1,"b"]]}]}']);
+  for (const id of [2, 3, 4, 5]) socket.event({id, ok: true});
+  await Promise.all(replies);
+  await assert.rejects(db.insert("notes", {id: 1, name: "mia"}), /no column name/);
+  await assert.rejects(db.insert("notes", {id: 1}), /no value for who/);
+  await assert.rejects(db.insert("notes", {id: 1.5, who: "mia"}), /no whole number/);
+  await assert.rejects(db.insert("notes", {id: 2 ** 53, who: "mia"}), /BigInt/);
+  assert.deepEqual(socket.take(), []);
+});
+
+test("columns are asked for once where they are not known", async (t) => {
+  const [db, socket] = await entered(t, {columns: {tasks: [["title", "text"]]}});
+  const one = db.insert("notes", {id: 1, who: "a"});
+  await turn();
+  follow(socket, 1, [[1, [9, "z"]]]);
+  await turn();
+  const back = socket.asked({do: "unsubscribe", sub: 1});
+  const write = socket.asked({do: "write", entries: [{on: "notes", insert: [1, "a"]}]});
+  socket.event({id: back, ok: true});
+  socket.event({id: write, ok: true});
+  await one;
+  const two = db.insert("notes", {id: 2, who: "a"}), three = db.insert("tasks", {title: "rest"});
+  await turn();
+  socket.event({id: socket.asked({do: "write", entries: [{on: "notes", insert: [2, "a"]}]}), ok: true});
+  socket.event({id: socket.asked({do: "write", entries: [{on: "tasks", insert: ["rest"]}]}), ok: true});
+  await Promise.all([two, three]);
+  const four = db.insert("plans", {id: 1});
+  await turn();
+  socket.event({error: 13, id: socket.asked({do: "subscribe", on: "plans"}), on: "plans", privilege: "select"});
+  await assert.rejects(four, (why) => why instanceof Refused && why.code === 13);
+});
+
+test("a reply to another request ends the connection, and what was under way is undecided", async (t) => {
+  const [db, socket] = await entered(t);
+  const one = db.request({do: "create_role", name: "a"}), two = db.request({do: "create_role", name: "b"});
+  const [first, second] = socket.take().map((it) => JSON.parse(it).id);
+  socket.event({id: second, ok: true});
+  for (const it of [one, two]) await assert.rejects(it, Undecided);
+  assert.ok(first !== second && socket.closed);
+  assert.equal(db.state, "stale");
+  assert.equal(db.why, "a reply to another request");
+});
+
+test("what could not be read is answered without an id", async (t) => {
+  const [db, socket] = await entered(t);
+  const one = db.request({do: "create_role", name: "a"}), two = db.request({do: "create_role", name: "b"});
+  const [, second] = socket.take().map((it) => JSON.parse(it).id);
+  socket.event({error: 1});
+  socket.event({id: second, ok: true});
+  await assert.rejects(one, (why) => why.code === 1);
+  await two;
+  await assert.rejects(db.insert("notes", [1, "x".repeat(65_463)]), (why) => why instanceof Refused && why.code === 22);
+  assert.deepEqual(socket.take(), []);
+  const three = db.request({do: "create_role", name: "c"});
+  socket.event({ok: true});
+  await assert.rejects(three, Undecided);
+});
+
+test("what throws in a page harms nobody", async (t) => {
+  const thrown = [];
+  const [db, socket] = await entered(t, {onError: (why) => {
+    thrown.push(why.message);
+    throw why;
+  }});
+  const say = console.error;
+  console.error = () => {};
+  t.after(() => console.error = say);
+  const fails = (words) => () => {
+    throw new Error(words);
+  };
+  db.onState(fails("state"));
+  const bad = db.live("notes", {where: fails("where")}), odd = db.live("notes", {order: "nothing"}), good = db.live("notes");
+  bad.subscribe(fails("bad"));
+  good.subscribe(fails("good"));
+  const seen = [];
+  good.subscribe(({rows}) => seen.push(rows.length));
+  follow(socket, 1, [[1, [2, "a"]], [1, [1, "b"]]]);
+  const replies = Array.from({length: 30}, (_, at) => db.insert("notes", [at, "x"]).then(() => "done", (why) => why.code));
+  await turn();
+  const ids = socket.take().map((it) => JSON.parse(it).id);
+  socket.tell(...ids.flatMap((id, at) => [at % 3 ? {id, ok: true} : {entry: 1, error: 16, id},
+    ...(at % 3 ? [{changes: [[1, [at + 10, "x"]]], sub: 1}] : []), {settled: true}]));
+  assert.deepEqual(await Promise.all(replies), ids.map((_, at) => at % 3 ? "done" : 16));
+  assert.equal(good.rows.length, 22);
+  assert.deepEqual(odd.rows, good.rows);
+  assert.deepEqual(bad.rows, []);
+  assert.equal(seen.length, 21);
+  socket.end();
+  assert.equal(db.state, "stale");
+  assert.deepEqual([...new Set(thrown)].sort(), ["bad", "good", "order: there is no column nothing", "state", "where"]);
+});
+
+test("numbers of 64 bits stay exact", async (t) => {
+  const least = -(2n ** 63n), most = 2n ** 63n - 1n;
+  const line = `{"a":[${least},${most},9007199254740991,-9007199254740992,1234567890123456],"b":"9223372036854775807 \\"12345678901234567"}`;
+  const value = parse(line);
+  assert.deepEqual(value, {a: [least, most, 9007199254740991, -9007199254740992n, 1234567890123456], b: '9223372036854775807 "12345678901234567'});
+  assert.equal(text(value), line);
+  assert.ok(compare(least, 3) < 0 && compare(3, most) < 0 && compare(most, most) === 0 && compare(false, true) < 0);
+  const [db, socket] = await entered(t);
+  const notes = db.live("notes"), one = db.live("notes", {where: {id: most}}), five = db.live("notes", {where: {id: 5n}});
+  const id = socket.asked({do: "subscribe", on: "notes"});
+  socket.event({columns: NOTES, id, ok: true, sub: 1}, `{"changes":[[1,[${most},"a"]],[${most},[${least},"b"]],[1,[5,"c"]],[1,[${most - 1n},"d"]]],"sub":1}`);
+  assert.deepEqual(notes.rows.map((it) => it.id), [least, 5, most - 1n, most]);
+  assert.equal(notes.copies([least, "b"]), most);
+  assert.deepEqual([one.rows.length, five.rows.length], [1, 1]);
+});
+
+test("rows are stale while another connection is tried, and then new", async (t) => {
+  const [db, socket] = await entered(t);
+  const notes = db.live("notes"), states = [];
+  db.onState((state, why) => states.push([state, why]));
+  follow(socket, 1, [[1, [1, "a"]], [1, [2, "b"]]]);
+  const [, kept] = notes.rows, write = db.insert("notes", [5, "a"]);
+  socket.end(1006);
+  await assert.rejects(write, Undecided);
+  assert.deepEqual([notes.state, notes.rows.length, db.role], ["stale", 2, null]);
+  const late = db.live("notes", {where: {id: 1}});
+  assert.deepEqual([late.state, late.rows], ["stale", [{id: 1, who: "a"}]]);
+  const waits = db.insert("notes", [6, "a"]); // not sent yet, so it is not undecided
+  await pause(20);
+  assert.notEqual(Fake.last, socket);
+  Fake.last.enter();
+  assert.equal(notes.state, "stale");
+  Fake.last.sent.shift();
+  follow(Fake.last, 1, [[1, [2, "b"]]]);
+  assert.deepEqual([notes.state, notes.rows], ["live", [{id: 2, who: "b"}]]);
+  assert.deepEqual([late.state, late.rows, await late.ready], ["live", [], []]);
+  assert.equal(notes.rows[0], kept); // the same object, so that nothing is drawn anew
+  Fake.last.event({id: Fake.last.asked({do: "write", entries: [{on: "notes", insert: [6, "a"]}]}), ok: true});
+  await waits;
+  assert.deepEqual(states, [["stale", "the connection ended (1006)"], ["live", null]]);
+  socket.tell({changes: [[1, [3, "c"]]], sub: 1}, {settled: true}); // of a connection that is gone
+  assert.equal(notes.rows.length, 1);
+});
+
+test("a gateway that is silent is left, and one that is alive is not", async (t) => {
+  const [db, socket] = await entered(t, {silence: 800});
+  for (let at = 0; at < 12; at++) {
+    await pause(100);
+    socket.tell({alive: true});
+  }
+  assert.deepEqual([db.state, Fake.all.length], ["live", 1]);
+  await pause(1400);
+  assert.deepEqual([db.state, db.why, socket.closed], ["stale", "silent", true]);
+  assert.ok(Fake.all.length > 1);
+});
+
+test("a person may take long to give a token", async (t) => {
+  Fake.all = [];
+  let asked = 0;
+  const db = connect("ws://gateway/live", {token: () => (asked++, pause(1500).then(() => "t")), WebSocket: Fake, silence: 20});
+  t.after(() => db.end());
+  await pause(400);
+  assert.deepEqual([asked, Fake.all.length], [1, 0]);
+  await pause(1300);
+  assert.equal(Fake.all.length, 1);
+});
+
+test("the browser says when it has no network, and when it has one again", async (t) => {
+  const page = new EventTarget();
+  globalThis.addEventListener = page.addEventListener.bind(page);
+  globalThis.removeEventListener = page.removeEventListener.bind(page);
+  t.after(() => {
+    delete globalThis.addEventListener;
+    delete globalThis.removeEventListener;
+  });
+  const [db, socket] = await entered(t, {shortest: 60_000, longest: 60_000});
+  page.dispatchEvent(new Event("offline"));
+  assert.deepEqual([db.state, db.why, socket.closed, Fake.all.length], ["stale", "offline", true, 1]);
+  page.dispatchEvent(new Event("online"));
+  await turn();
+  assert.equal(Fake.all.length, 2);
+  Fake.last.enter();
+  assert.equal(db.state, "live");
+  db.end();
+  page.dispatchEvent(new Event("online"));
+  await turn();
+  assert.equal(Fake.all.length, 2);
+});
+
+test("tries wait longer and longer, with chance", async (t) => {
+  const [later, random] = [globalThis.setTimeout, Math.random];
+  t.after(() => [globalThis.setTimeout, Math.random] = [later, random]);
+  const waits = [];
+  globalThis.setTimeout = (act, wait) => (waits.push(wait), later(act, 0));
+  Fake.all = [];
+  const db = connect("ws://gateway/live", {token: "t", WebSocket: Fake});
+  t.after(() => db.end());
+  for (const chance of [0, 1, 0, 1, 0, 0, 0, 0, 0, 0]) {
+    Math.random = () => chance;
+    await turn();
+    Fake.last.end();
+    await new Promise((done) => later(done, 5));
+  }
+  assert.deepEqual(waits, [125, 500, 500, 2000, 2000, 4000, 8000, 15000, 15000, 15000]);
+  assert.equal(db.state, "connecting");
+});
+
+test("a token that opens no role closes the client", async (t) => {
+  Fake.all = [];
+  const db = connect("ws://gateway/live", {token: "t", WebSocket: Fake, shortest: 2});
+  await turn();
+  const waits = db.insert("notes", [1, "a"]), notes = db.live("notes");
+  Fake.last.onopen();
+  Fake.last.end(4401, "This token opens no role.");
+  assert.deepEqual([db.state, db.why, notes.state], ["closed", "This token opens no role.", "closed"]);
+  await assert.rejects(waits, NotSent);
+  await assert.rejects(notes.ready, NotSent);
+  await pause(10);
+  assert.equal(Fake.all.length, 1);
+});
+
+test("a function may give another token for one that ran out", async (t) => {
+  Fake.all = [];
+  const tokens = ["old", "new", "new"];
+  const db = connect("ws://gateway/live", {token: () => tokens.shift(), WebSocket: Fake, shortest: 2});
+  await turn();
+  for (const told of ["old", "new"]) {
+    Fake.last.onopen();
+    assert.deepEqual(Fake.last.sent, [told]);
+    Fake.last.end(4401, "This token opens no role.");
+    await pause(10);
+  }
+  Fake.last.onopen();
+  Fake.last.end(4401, "This token opens no role.");
+  assert.deepEqual([db.state, Fake.all.length], ["closed", 3]);
+});
+
+test("a token function that fails is asked again", async (t) => {
+  Fake.all = [];
+  let asked = 0;
+  const db = connect("ws://gateway/live", {token: () => asked++ ? "t" : Promise.reject(new Error("no network")), WebSocket: Fake, shortest: 2});
+  t.after(() => db.end());
+  await turn();
+  assert.deepEqual([db.state, db.why, Fake.all.length], ["connecting", "no network", 0]);
+  await pause(15);
+  assert.equal(Fake.all.length, 1);
+});
+
+test("who ends a client hears no more", async (t) => {
+  const [db, socket] = await entered(t);
+  const notes = db.live("notes"), seen = [];
+  follow(socket, 1, [[1, [1, "a"]]]);
+  notes.subscribe((it) => seen.push(it.state));
+  db.onState((state) => seen.push(state));
+  const asked = db.insert("notes", [2, "b"]);
+  await turn();
+  db.end();
+  db.end();
+  await assert.rejects(asked, Undecided);
+  await assert.rejects(db.insert("notes", [2, "b"]), NotSent);
+  assert.throws(() => db.live("notes"), NotSent);
+  assert.deepEqual(seen, ["closed", "closed"]);
+  assert.deepEqual([notes.rows.length, db.why, socket.closed], [1, "ended", true]);
+  await pause(10);
+  assert.equal(Fake.all.length, 1);
+});
+
+test("an end takes the rows, and a grant brings them back", async (t) => {
+  const [db, socket] = await entered(t);
+  const notes = db.live("notes");
+  follow(socket, 1, [[1, [1, "a"]]]);
+  socket.event({changes: [[-1, [1, "a"]]], ended: "privilege", on: "notes", sub: 1});
+  assert.deepEqual([notes.state, notes.why, notes.rows], ["refused", "privilege", []]);
+  socket.event({granted: "notes"});
+  follow(socket, 2, [[1, [2, "b"]]]);
+  assert.deepEqual([notes.state, notes.why, notes.rows.length], ["live", null, 1]);
+});
+
+test("what is refused says so, and is tried again where it may be granted, small enough, or find room", async (t) => {
+  const [db, socket] = await entered(t, {again: 10});
+  const [notes, sums, plans] = ["notes", "sums", "plans"].map((on) => db.live(on, {order: "-id"}));
+  socket.event({error: 13, id: socket.asked({do: "subscribe", on: "notes"}), on: "notes", privilege: "select"});
+  socket.event({error: 17, id: socket.asked({do: "subscribe", on: "sums"})});
+  socket.event({error: 20, id: socket.asked({do: "subscribe", on: "plans"})});
+  assert.deepEqual([notes.state, sums.why.code, plans.why.code], ["refused", 17, 20]);
+  await assert.rejects(notes.ready, Refused);
+  await pause(25);
+  follow(socket, 1, [], "sums");
+  follow(socket, 2, [], "plans");
+  assert.deepEqual([sums.state, plans.state], ["live", "live"]);
+  assert.deepEqual(socket.take(), []);
+});
+
+test("the place of a subscription that was given back is taken by one that found none", async (t) => {
+  const [db, socket] = await entered(t);
+  const notes = db.live("notes"), plans = db.live("plans");
+  follow(socket, 1, []);
+  socket.event({error: 20, id: socket.asked({do: "subscribe", on: "plans"})});
+  notes.close();
+  socket.event({id: socket.asked({do: "unsubscribe", sub: 1}), ok: true});
+  follow(socket, 2, [], "plans");
+  assert.equal(plans.state, "live");
+});
+
+test("a request waits for a connection, and not for ever", async (t) => {
+  Fake.all = [];
+  const db = connect("ws://gateway/live", {token: "t", WebSocket: Fake, patience: 20});
+  t.after(() => db.end());
+  await turn();
+  const why = await db.insert("notes", [1, "a"]).catch((it) => it);
+  assert.ok(why instanceof NotSent && why instanceof ViewdError && why.name === "NotSent");
+  await assert.rejects(db.insert("notes", {id: 1, who: "a"}), NotSent);
+  Fake.last.enter();
+  assert.deepEqual(Fake.last.take(), []);
+});
+
+test("lines that are not known are passed over, and what is no JSON ends the connection", async (t) => {
+  const [db, socket] = await entered(t);
+  socket.event({made: {relation: "notes"}}, {shape: {}}, {alive: true});
+  assert.equal(db.state, "live");
+  db.live("notes");
+  const id = socket.asked({do: "subscribe", on: "notes"});
+  socket.tell({id, ok: true, sub: 1}, {changes: [[1, [1, "a"]]], sub: 1}, {settled: true}); // of a server that tells no columns
+  assert.deepEqual([db.state, socket.closed, db.why.slice(0, 29)], ["stale", true, "a line that is not understood"]);
+  await pause(10);
+  Fake.last.enter().tell("{");
+  assert.deepEqual([db.state, Fake.last.closed], ["stale", true]);
+});
+
+test("many rows are taken in quickly", async (t) => {
+  const [db, socket] = await entered(t);
+  const live = db.live("notes", {order: "-id", limit: 50});
+  follow(socket, 1, Array.from({length: 20_000}, (_, at) => [1, [at, `row ${at}`]]));
+  const began = performance.now();
+  for (let at = 0; at < 200; at++) socket.event({changes: [[-1, [at, `row ${at}`]], [1, [at + 20_000, `row ${at + 20_000}`]]], sub: 1});
+  const each = (performance.now() - began) / 200;
+  assert.equal(live.total, 20_000);
+  t.diagnostic(`${each.toFixed(2)} ms a change, of 20,000 rows`);
+  assert.ok(each < 16, `${each} ms a change`);
+});

@@ -1,0 +1,413 @@
+"""What the client says and makes of what it is told, over a gateway that a test plays."""
+import asyncio
+import random
+import re
+from collections import Counter
+
+import pytest
+from conftest import NOTES, TOP, entered, turn
+
+import viewd
+from viewd import NotSent, Refused, Undecided, ViewdError
+
+
+def run(test):
+    """A test that is a coroutine."""
+    def plain(fakes):
+        asyncio.run(asyncio.wait_for(test(fakes), 60))
+
+    plain.__name__ = test.__name__
+    return plain
+
+
+async def raised(work, kind=ViewdError):
+    with pytest.raises(kind) as found:
+        await work
+    return found.value
+
+
+def conversation():
+    """What mia says and is told in the conversations of the protocol: all of the first, the right of the second, and the third up to a
+    message that no client of this kind says."""
+    page = (TOP / "docs/PROTOCOL.md").read_text().split("### Conversations")[1]
+    first, second, third = (it.split("```")[0].rstrip().split("\n") for it in page.split("```text\n")[1:4])
+    right = [found[1] for line in second if (found := re.match("< .*(< .*)$", line))]
+    return [*first, *right, *third[:4]]
+
+
+@run
+async def test_the_protocols_conversation_is_held(fakes):
+    db, seen, lines = viewd.connect("ws://gateway/live", token="TOKEN"), [], conversation()
+    notes = db.live("notes")
+    notes.subscribe(lambda live: seen.append([live.state, *(f"{it['id']} {it['who']}" for it in live.rows)]))
+    await turn()
+    for line in lines:
+        if line.startswith("> "):
+            assert fakes.all[-1].sent.pop(0) == line[2:]
+        else:
+            await fakes.all[-1].tell(line[2:])
+    assert not fakes.all[-1].sent and len(lines) == 17
+    assert seen == [["live", "2 mia"], ["live", "2 mia", "3 mia"], ["refused"], ["live", "2 mia", "3 mia"]]
+    await db.end()
+
+
+@run
+async def test_a_reply_counts_once_its_event_is_settled(fakes):
+    db, socket = await entered()
+    asked = asyncio.ensure_future(db.request({"do": "create_role", "name": "ann"}))
+    await turn()
+    id = socket.asked({"do": "create_role", "name": "ann"})
+    await socket.tell({"id": id, "ok": True})
+    assert not asked.done()
+    await socket.tell({"settled": True})
+    assert await asked == {"id": id, "ok": True}
+    asked = asyncio.ensure_future(db.insert("notes", [1, "ann"]))
+    await turn()
+    id = socket.asked({"do": "write", "entries": [{"on": "notes", "insert": [1, "ann"]}]})
+    await socket.event({"check": "insert", "entry": 1, "error": 14, "id": id, "on": "notes"})
+    why = await raised(asked, Refused)
+    assert why.code == 14 and str(why) == "no permissive policy (14), on notes, check insert, entry 1"
+    await db.end()
+
+
+@run
+async def test_rows_have_column_names_and_an_order(fakes):
+    db, socket = await entered()
+    notes = db.live("notes")
+    assert notes.state == "waiting"
+    await turn()
+    big = 2 ** 63 - 1
+    await socket.follow(1, [[1, [2, "\U0001f600"]], [1, [2, "\uff01"]], [3, [-1, "b"]], [1, [big, "B"]]])
+    assert notes.rows == [{"id": -1, "who": "b"}, {"id": 2, "who": "\uff01"}, {"id": 2, "who": "\U0001f600"}, {"id": big, "who": "B"}]
+    assert await notes.ready() == notes.rows and notes.columns == [("id", "int"), ("who", "text")]
+    assert [notes.copies({"id": -1, "who": "b"}), notes.copies([big, "B"]), notes.copies([9, "x"])] == [3, 1, 0]
+    seen = []
+    forget = notes.subscribe(lambda live: seen.append(len(live.rows)))
+    await socket.event({"changes": [[-2, [-1, "b"]]], "sub": 1})  # a copy is left, so nothing that is shown changes
+    await socket.event({"changes": [[-1, [-1, "b"]]], "sub": 1})
+    forget()
+    forget()
+    await socket.event({"changes": [[1, [0, "b"]]], "sub": 1})
+    assert seen == [3] and len(notes.rows) == 4
+    await db.end()
+
+
+@run
+async def test_what_is_shown_is_what_sorting_from_nothing_gives(fakes):
+    db, socket = await entered()
+    live = db.live("notes", where=lambda row: row["id"] % 3, order=["who", "-id"], limit=25)
+    mine, changes = db.live("notes", where={"who": "a"}), db.changes("notes")
+    await turn()
+    await socket.follow(1, [])
+    bag, seen, dice = Counter(), Counter(), random.Random(7)
+    assert await changes.__anext__() == []
+    for step in range(300):
+        delta = Counter()
+        for _ in range(dice.randrange(1, 8 if step % 50 else 200)):
+            row = dice.randrange(90), dice.choice("abcdefg")
+            copies = -1 if bag[row] and dice.random() < 0.5 else 1
+            bag[row] += copies
+            delta[row] += copies
+        await socket.event({"changes": [[copies, [*row]] for row, copies in delta.items() if copies], "sub": 1})
+        wanted = sorted((row for row, copies in bag.items() if copies and row[0] % 3), key=lambda row: (row[1], -row[0]))
+        assert [(it["id"], it["who"]) for it in live.rows] == wanted[:25] and live.total == len(wanted)
+        assert [it["id"] for it in mine.rows] == sorted(row[0] for row, copies in bag.items() if copies and row[1] == "a")
+        if dice.random() < 0.5 and +Counter(bag) != +seen:
+            for it in await changes.__anext__():
+                seen[it.row["id"], it.row["who"]] += it.copies
+            assert +seen == +Counter(bag) and min(seen.values()) >= 0
+    assert not socket.sent
+    await db.end()
+
+
+@run
+async def test_users_share_a_subscription(fakes):
+    db, socket = await entered()
+    one, two = db.live("notes"), db.live("notes", limit=1)
+    await turn()
+    await socket.follow(1, [[1, [1, "a"]], [1, [2, "b"]]])
+    three = db.live("notes")
+    assert [len(it.rows) for it in (one, two, three)] == [2, 1, 2]
+    one.close()
+    one.close()
+    two.close()
+    await turn()
+    assert not socket.sent
+    three.close()
+    await turn()
+    await socket.event({"id": socket.asked({"do": "unsubscribe", "sub": 1}), "ok": True})
+    assert (three.state, len(three.rows)) == ("closed", 2)
+    db.live("notes").close()  # nobody wants it any more when it begins
+    await turn()
+    await socket.follow(2, [[1, [1, "a"]]])
+    await socket.event({"id": socket.asked({"do": "unsubscribe", "sub": 2}), "ok": True})
+    await db.end()
+
+
+@run
+async def test_nobody_sees_half_of_an_event(fakes):
+    db, socket = await entered()
+    notes, seen = db.live("notes"), []
+    notes.subscribe(lambda live: seen.append([it["id"] for it in live.rows]))
+    await turn()
+    id = socket.asked({"do": "subscribe", "on": "notes"})
+    await socket.tell({"columns": NOTES, "id": id, "ok": True, "sub": 1}, {"changes": [[1, [1, "a"]]], "sub": 1})
+    late = db.live("notes")
+    assert (notes.state, late.state, seen) == ("waiting", "waiting", [])
+    await socket.tell({"settled": True})
+    assert (late.state, len(late.rows), seen) == ("live", 1, [[1]])
+    await socket.tell({"changes": [[-1, [1, "a"]]], "sub": 1})
+    later, changes = db.live("notes"), db.changes("notes")
+    await socket.event({"changes": [[1, [2, "a"]]], "sub": 1})
+    assert later.rows == [{"id": 2, "who": "a"}] and seen == [[1], [2]]
+    assert await changes.__anext__() == [viewd.Change(1, {"id": 2, "who": "a"})]
+    await db.end()
+
+
+@run
+async def test_what_one_event_changes_in_two_relations_is_in_both(fakes):
+    db, socket = await entered()
+    lives, seen = [db.live("notes"), db.live("tasks")], []
+    await turn()
+    await socket.follow(1, [], "notes")
+    await socket.follow(2, [], "tasks")
+    for it in lives:
+        it.subscribe(lambda _: seen.append([(live.state, len(live.rows)) for live in lives]))
+    await socket.event({"changes": [[1, [1, "a"]]], "sub": 1}, {"changes": [[1, [1, "a"]]], "sub": 2})
+    await socket.end()
+    assert seen == [[("live", 1)] * 2] * 2 + [[("stale", 1)] * 2] * 2
+    await db.end()
+
+
+@run
+async def test_writes_name_columns(fakes):
+    db, socket = await entered(columns={"tasks": [("title", "text")]})
+    row = {"who": "mia", "id": 1}
+    works = [asyncio.ensure_future(it) for it in (db.insert("notes", row, copies=2),)]
+    await turn()
+    await socket.follow(1, [[1, [9, "z"]]])  # the columns are asked for once
+    await socket.event({"id": socket.asked({"do": "unsubscribe", "sub": 1}), "ok": True})
+    works += map(asyncio.ensure_future, (db.update("notes", row, {"who": "ann"}), db.remove("notes", row), db.insert("tasks", {"title": "rest"}),
+                                         db.write([{"on": "notes", "update": [[1, "a"], {"id": 2 ** 62, "who": "b"}]}])))
+    await turn()
+    for entry in ({"on": "notes", "insert": [1, "mia"], "copies": 2}, {"on": "notes", "update": [[1, "mia"], [1, "ann"]]},
+                  {"on": "notes", "delete": [1, "mia"]}, {"on": "tasks", "insert": ["rest"]}, {"on": "notes", "update": [[1, "a"], [2 ** 62, "b"]]}):
+        await socket.event({"id": socket.asked({"do": "write", "entries": [entry]}), "ok": True})
+    await asyncio.gather(*works)
+    assert "no column name" in str(await raised(db.insert("notes", {"id": 1, "name": "mia"})))
+    assert "no value for who" in str(await raised(db.insert("notes", {"id": 1})))
+    assert (await raised(db.insert("notes", [1, "x" * 65_463]), Refused)).code == 22
+    assert not socket.sent
+    await db.end()
+
+
+@run
+async def test_a_reply_to_another_request_ends_the_connection(fakes):
+    db, socket = await entered()
+    works = [asyncio.ensure_future(db.request({"do": "create_role", "name": name})) for name in "ab"]
+    await turn()
+    first, second = (socket.asked({"do": "create_role", "name": name}) for name in "ab")
+    await socket.event({"id": second, "ok": True})
+    for it in works:
+        await raised(it, Undecided)
+    assert (db.state, db.why, socket.is_closed, first) == ("stale", "a reply to another request", True, second - 1)
+    await db.end()
+
+
+@run
+async def test_what_could_not_be_read_is_answered_without_an_id(fakes):
+    db, socket = await entered()
+    works = [asyncio.ensure_future(db.request({"do": "create_role", "name": name})) for name in "abc"]
+    await turn()
+    ids = [socket.asked({"do": "create_role", "name": name}) for name in "abc"]
+    await socket.event({"error": 1})
+    await socket.event({"id": ids[1], "ok": True})
+    assert (await raised(works[0], Refused)).code == 1 and (await works[1])["ok"]
+    await socket.event({"ok": True})
+    await raised(works[2], Undecided)
+    await db.end()
+
+
+@run
+async def test_what_raises_harms_nobody(fakes):
+    raised_words = []
+    db, socket = await entered(on_error=lambda why: raised_words.append(str(why)))
+
+    def fails(words):
+        def act(*_):
+            raise ValueError(words)
+        return act
+
+    db.on_state(fails("state"))
+    bad, odd, good = db.live("notes", where=fails("where")), db.live("notes", order="nothing"), db.live("notes")
+    good.subscribe(fails("good"))
+    await turn()
+    await socket.follow(1, [[1, [2, "a"]]])
+    works = [asyncio.ensure_future(db.insert("notes", [at, "x"])) for at in range(30)]
+    await turn()
+    ids = [socket.asked({"do": "write", "entries": [{"on": "notes", "insert": [at, "x"]}]}) for at in range(30)]
+    lines = []
+    for at, id in enumerate(ids):
+        lines += [{"id": id, "ok": True}, {"changes": [[1, [at + 10, "x"]]], "sub": 1}] if at % 3 else [{"entry": 1, "error": 16, "id": id}]
+        lines.append({"settled": True})
+    await socket.tell(*lines)
+    came = await asyncio.gather(*works, return_exceptions=True)
+    assert [isinstance(it, dict) for it in came] == [bool(at % 3) for at in range(30)]
+    assert (len(good.rows), good.rows == odd.rows, bad.rows) == (21, True, [])
+    await socket.end()
+    assert db.state == "stale" and {*raised_words} == {"good", "where", "state", "order: there is no column nothing"}
+    await db.end()
+
+
+@run
+async def test_rows_are_stale_while_another_connection_is_tried(fakes):
+    db, socket = await entered()
+    notes, changes, states = db.live("notes"), db.changes("notes"), []
+    db.on_state(lambda state, why: states.append((state, why)))
+    await turn()
+    await socket.follow(1, [[1, [1, "a"]], [2, [2, "b"]]])
+    assert len(await changes.__anext__()) == 2
+    write = asyncio.ensure_future(db.insert("notes", [5, "a"]))
+    await turn()
+    await socket.end()
+    await raised(write, Undecided)
+    assert (notes.state, len(notes.rows), db.role) == ("stale", 2, None)
+    waits = asyncio.ensure_future(db.insert("notes", [6, "a"]))  # not sent yet, so it is not undecided
+    await asyncio.sleep(0.05)
+    again = fakes.all[-1]
+    assert again is not socket
+    await again.event({"role": "mia"})
+    again.sent.pop(0)
+    await again.follow(1, [[1, [2, "b"]], [1, [3, "c"]]])
+    assert (notes.state, [it["id"] for it in notes.rows]) == ("live", [2, 3])
+    assert await changes.__anext__() == [viewd.Change(-1, {"id": 1, "who": "a"}), viewd.Change(-1, {"id": 2, "who": "b"}),
+                                         viewd.Change(1, {"id": 3, "who": "c"})]
+    await again.event({"id": again.asked({"do": "write", "entries": [{"on": "notes", "insert": [6, "a"]}]}), "ok": True})
+    await waits
+    assert states == [("stale", "the connection ended (1006)"), ("live", None)]
+    await db.end()
+
+
+@run
+async def test_a_gateway_that_is_silent_is_left(fakes):
+    db, socket = await entered(silence=0.8)
+    for _ in range(12):
+        await asyncio.sleep(0.1)
+        await socket.tell({"alive": True})
+    assert db.state == "live"
+    await asyncio.sleep(1.4)
+    assert (db.state, db.why, socket.is_closed) == ("stale", "silent", True) and len(fakes.all) > 1
+    await db.end()
+
+
+@run
+async def test_tries_wait_longer_and_longer(fakes, ):
+    waits, sleep = [], asyncio.sleep
+
+    async def slept(wait, *_):
+        if wait:
+            waits.append(wait)
+        await sleep(0)
+
+    chances = iter([0, 1, 0, 1] + [0] * 99)
+    random_of, asyncio.sleep = random.random, slept
+    random.random = lambda: next(chances)
+    try:
+        db = viewd.connect("ws://gateway/live", token="t")
+        for _ in range(10):
+            await turn()
+            await fakes.all[-1].end()
+    finally:
+        random.random, asyncio.sleep = random_of, sleep
+    assert waits == [0.125, 0.5, 0.5, 2, 2, 4, 8, 15, 15, 15] and db.state == "connecting"
+    await db.end()
+
+
+@run
+async def test_a_token_that_opens_no_role_closes_the_client(fakes):
+    tokens = ["old", "new", "new"]
+    db = viewd.connect("ws://gateway/live", token=lambda: tokens.pop(0), shortest=0.002)
+    notes, waits = db.live("notes"), asyncio.ensure_future(db.insert("notes", [1, "a"]))
+    for told in ("old", "new", "new"):  # a function may give another token for one that ran out
+        await asyncio.sleep(0.02)
+        assert fakes.all[-1].sent == [told]
+        await fakes.all[-1].end(4401, "This token opens no role.")
+    assert (db.state, db.why, notes.state, len(fakes.all)) == ("closed", "This token opens no role.", "closed", 3)
+    await raised(waits, NotSent)
+    await raised(notes.ready(), NotSent)
+    with pytest.raises(NotSent):
+        async with db:
+            pass
+
+
+@run
+async def test_who_ends_a_client_hears_no_more(fakes):
+    db, socket = await entered()
+    notes, seen = db.live("notes"), []
+    await turn()
+    await socket.follow(1, [[1, [1, "a"]]])
+    notes.subscribe(lambda it: seen.append(it.state))
+    iterated = asyncio.ensure_future(collect(notes))
+    asked = asyncio.ensure_future(db.insert("notes", [2, "b"]))
+    await turn()
+    await db.end()
+    await db.end()
+    await raised(asked, Undecided)
+    await raised(db.insert("notes", [2, "b"]), NotSent)
+    with pytest.raises(NotSent):
+        db.live("notes")
+    assert (seen, len(notes.rows), db.why, await iterated) == (["closed"], 1, "ended", [1])
+
+
+async def collect(live):
+    return [len(rows) async for rows in live]
+
+
+@run
+async def test_an_end_takes_the_rows_and_a_grant_brings_them_back(fakes):
+    db, socket = await entered()
+    notes, changes = db.live("notes"), db.changes("notes")
+    await turn()
+    await socket.follow(1, [[1, [1, "a"]]])
+    assert len(await changes.__anext__()) == 1
+    await socket.event({"changes": [[-1, [1, "a"]]], "ended": "privilege", "on": "notes", "sub": 1})
+    assert (notes.state, notes.why, notes.rows) == ("refused", "privilege", [])
+    assert [it.copies for it in await changes.__anext__()] == [-1]
+    assert "ended: privilege" in str(await raised(changes.__anext__()))
+    await socket.event({"granted": "notes"})
+    await socket.follow(2, [[1, [2, "b"]]])
+    assert (notes.state, notes.why, len(notes.rows)) == ("live", None, 1)
+    await db.end()
+
+
+@run
+async def test_what_is_refused_is_tried_again(fakes):
+    db, socket = await entered(again=0.02)
+    notes, sums, plans = (db.live(on) for on in ("notes", "sums", "plans"))
+    await turn()
+    await socket.event({"error": 13, "id": socket.asked({"do": "subscribe", "on": "notes"}), "on": "notes", "privilege": "select"})
+    await socket.event({"error": 17, "id": socket.asked({"do": "subscribe", "on": "sums"})})
+    await socket.event({"error": 20, "id": socket.asked({"do": "subscribe", "on": "plans"})})
+    assert (notes.state, sums.why.code, plans.why.code) == ("refused", 17, 20)
+    await raised(notes.ready(), Refused)
+    await asyncio.sleep(0.05)
+    await socket.follow(1, [], "sums")
+    await socket.event({"error": 20, "id": socket.asked({"do": "subscribe", "on": "plans"})})
+    sums.close()
+    await turn()
+    await socket.event({"id": socket.asked({"do": "unsubscribe", "sub": 1}), "ok": True})
+    await socket.follow(2, [], "plans")
+    assert plans.state == "live"
+    await db.end()
+
+
+@run
+async def test_a_request_waits_for_a_connection_and_not_for_ever(fakes):
+    db = viewd.connect("ws://gateway/live", token="t", patience=0.02)
+    await raised(db.insert("notes", [1, "a"]), NotSent)
+    await raised(db.insert("notes", {"id": 1, "who": "a"}), NotSent)
+    await fakes.all[-1].event({"role": "mia"}, {"made": {}}, {"shape": {}}, {"alive": True})
+    assert fakes.all[-1].sent == ["t"] and db.state == "live"
+    await fakes.all[-1].tell("{")
+    assert db.state == "stale"
+    await db.end()

@@ -1,0 +1,480 @@
+"""A connection to a gateway that is kept: where it goes, another is tried."""
+from __future__ import annotations
+
+import asyncio
+import inspect
+import json
+import logging
+import random
+import time
+from collections.abc import Awaitable, Callable, Mapping, Sequence
+from dataclasses import dataclass, field
+from typing import Any
+
+import websockets
+from websockets.exceptions import ConnectionClosed
+
+from .faults import NotSent, Refused, Undecided, ViewdError
+from .rows import Changes, Columns, Live, Relation, Report, User, Value, Where, values_of
+
+BYTES = 65_463  # of a message, at most
+LIMIT, TOO_MANY, TOO_LONG = 17, 20, 22
+WITHOUT_ID = (1, 2, 22)  # refusals of what could not be read, so that its id is not known
+UNKNOWN_TOKEN = 4401
+OPEN: Callable[..., Awaitable[Any]] = getattr(websockets, "connect")  # which versions make of different modules
+Reply = dict[str, Any]
+Token = str | Callable[[], str | Awaitable[str]]
+Listed = Mapping[str, Value] | Sequence[Value]
+
+
+@dataclass
+class Timing:
+    """Seconds. The gateway says a line each 20 seconds."""
+
+    silence: float = 30  # without a line, after which the connection is given up
+    patience: float = 30  # for which a request waits for a connection
+    shortest: float = 0.25  # before a second try; each further one waits twice as long, and chance takes up to a half off
+    longest: float = 30
+    again: float = 30  # after which a relation that was too large, or found no room, is tried again
+
+
+@dataclass
+class Asked:
+    """A request, and what is done with its reply."""
+
+    body: dict[str, Any]
+    reply: asyncio.Future[Reply]
+    first: Callable[[Reply], None] = lambda reply: None  # with the reply that it was carried out
+    then: Callable[[Reply | ViewdError], None] = lambda came: None  # once its event is settled, or it failed
+    id: int = 0
+    timer: asyncio.TimerHandle | None = None
+
+    def come(self, came: Reply | ViewdError) -> None:
+        if self.timer:
+            self.timer.cancel()
+        if not self.reply.done():
+            if isinstance(came, ViewdError):
+                self.reply.set_exception(came)
+                self.reply.exception()  # nobody may wait for it
+            else:
+                self.reply.set_result(came)
+        self.then(came)
+
+
+class _Lost(Exception):
+    """Why the connection went."""
+
+
+@dataclass
+class _Connection:
+    """What stands and falls with one connection."""
+
+    out: asyncio.Queue[str] = field(default_factory=asyncio.Queue)
+    asked: list[Asked] = field(default_factory=list)  # messages without a reply, in their order
+    replied: list[Callable[[], None]] = field(default_factory=list)  # what is done when the event is settled
+    by_sub: dict[int, Relation] = field(default_factory=dict)
+    changed: dict[Relation, None] = field(default_factory=dict)
+    next_id: int = 1
+    since: float = 0
+
+
+class Db:
+    """A client of a gateway. `connect` makes one, within a running loop; `async with` waits for its role, and ends it."""
+
+    def __init__(self, url: str, token: Token, columns: Mapping[str, Columns] | None, on_error: Report | None, timing: Timing):
+        self.url, self.timing = url, timing
+        self.role: str | None = None  # that the token opens, or None where nobody is in
+        self.state = "connecting"  # at first; `live`; `stale`: what is shown may be old, and another connection is tried; `closed`
+        self.why: str | None = None  # why the last connection went, where something is known
+        self._token, self._tried_token, self._tries = token, "", 0
+        self._report = on_error or (lambda why: logging.getLogger("viewd").error("a listener failed", exc_info=why))
+        self._known: dict[str, Columns] = {on: [*its] for on, its in (columns or {}).items()}
+        self._connection: _Connection | None = None
+        self._relations: dict[str, Relation] = {}
+        self._waiting: list[Asked] = []
+        self._listeners: list[Callable[[str, str | None], None]] = []
+        self._timers: set[asyncio.TimerHandle] = set()
+        self._shutting: set[asyncio.Task[None]] = set()
+        self._turned = asyncio.Event()  # set where the state is another
+        self._loop = asyncio.get_running_loop()
+        self._task = self._loop.create_task(self._keep())
+
+    async def __aenter__(self) -> Db:
+        while self.state not in ("live", "closed"):
+            self._turned.clear()
+            await self._turned.wait()
+        if self.state == "closed":
+            raise NotSent(self.why or "the client has ended")
+        return self
+
+    async def __aexit__(self, *_: object) -> None:
+        await self.end()
+
+    def on_state(self, listener: Callable[[str, str | None], None]) -> Callable[[], None]:
+        """Calls the listener with each new state, and why it came. What it returns takes it back."""
+        own: Callable[[str, str | None], None] = lambda state, why: listener(state, why)
+        self._listeners.append(own)
+        return lambda: self._listeners.remove(own) if own in self._listeners else None
+
+    def live(self, on: str, *, where: Where | None = None, order: str | Sequence[str] = (), limit: int | None = None) -> Live:
+        """A relation that stays what the role may see. Users of one relation share one subscription.
+
+        `where` has values that columns must have, or is a function of a row; `order` is a column or several, `-` in front for the largest
+        first, and then all columns from the left; `limit` is how many rows at most are shown."""
+        relation = self._relation(on)
+        live = Live(relation, self._report, where, order, limit)
+        relation.join(live)
+        return live
+
+    def changes(self, on: str) -> Changes:
+        """The changes of a relation, to be iterated over: first the rows that are there."""
+        relation = self._relation(on)
+        changes = Changes(relation, self._report)
+        relation.join(changes)
+        return changes
+
+    async def insert(self, on: str, row: Listed, *, copies: int = 1) -> Reply:
+        """Adds copies of a row."""
+        return await self.write([{"on": on, "insert": row, "copies": copies}])
+
+    async def update(self, on: str, row: Listed, values: Listed, *, copies: int = 1) -> Reply:
+        """Replaces copies of a row by ones with other values in some columns."""
+        new = {**row, **values} if isinstance(row, Mapping) and isinstance(values, Mapping) else values
+        return await self.write([{"on": on, "update": [row, new], "copies": copies}])
+
+    async def remove(self, on: str, row: Listed, *, copies: int = 1) -> Reply:
+        """Removes copies of a row."""
+        return await self.write([{"on": on, "delete": row, "copies": copies}])
+
+    async def write(self, entries: Sequence[Mapping[str, Any]]) -> Reply:
+        """Carries out all entries, or none. Each has `on` and one of `insert`, `delete` and `update`, with rows as dicts or lists."""
+        columns: dict[str, Columns] = {}
+        for entry in entries:
+            rows = [entry.get("insert"), entry.get("delete"), *entry.get("update", ())]
+            if entry["on"] not in columns and any(isinstance(it, Mapping) for it in rows):
+                columns[entry["on"]] = await self.columns(entry["on"])
+        lines = []
+        for entry in entries:
+            on, line = entry["on"], {key: value for key, value in entry.items() if key != "copies" or value != 1}
+            for key in ("insert", "delete"):
+                if key in line:
+                    line[key] = values_of(on, columns.get(on), line[key])
+            if "update" in line:
+                line["update"] = [values_of(on, columns.get(on), row) for row in line["update"]]
+            lines.append(line)
+        return await self.request({"do": "write", "entries": lines})
+
+    async def columns(self, on: str) -> Columns:
+        """The columns of a relation: as `connect` or a subscribe has told them; else one subscribe asks."""
+        if on not in self._known:
+            asking = self.live(on)
+            try:
+                await asyncio.wait_for(asking.ready(), self.timing.patience)
+            except asyncio.TimeoutError:
+                raise NotSent("there was no connection") from None
+            finally:
+                asking.close()
+        return self._known[on]
+
+    async def request(self, body: Mapping[str, Any]) -> Reply:
+        """Any request of docs/PROTOCOL.md, without session and id. Its reply, once all that it changed is here.
+
+        Raises Refused, Undecided and NotSent."""
+        if len(text({"id": 2 ** 53, **body}).encode()) > BYTES:
+            raise Refused({"error": TOO_LONG})
+        if self.state == "closed":
+            raise NotSent("the client has ended")
+        asked = Asked({**body}, self._loop.create_future())
+        if self.role is None:
+            asked.timer = self._loop.call_later(self.timing.patience, self._give_up, asked)
+            self._waiting.append(asked)
+        else:
+            self._ask(asked)
+        return await asked.reply
+
+    async def end(self) -> None:
+        """Ends the client: what is under way is undecided, what waits is not sent, and relations are closed."""
+        self._close("ended")
+        if self._task is not asyncio.current_task():
+            self._task.cancel()
+            await asyncio.gather(self._task, return_exceptions=True)
+        await asyncio.gather(*self._shutting)
+
+    # ---- the connection
+
+    async def _keep(self) -> None:
+        while self.state != "closed":
+            token = None
+            try:
+                given = self._token() if callable(self._token) else self._token
+                token = await given if inspect.isawaitable(given) else given
+                if self.state == "closed":
+                    return
+                await self._serve(token)
+                why = "the connection ended"
+            except ConnectionClosed as ended:
+                code, why = (ended.rcvd.code, ended.rcvd.reason) if ended.rcvd else (1006, "")
+                is_fresh = callable(self._token) and token != self._tried_token
+                if code == UNKNOWN_TOKEN and not is_fresh:
+                    return self._close(why or "the token opens no role")
+                why = why or f"the connection ended ({code})"
+            except asyncio.TimeoutError:
+                why = "silent"
+            except Exception as fault:
+                why = str(fault) or type(fault).__name__
+            self._tried_token = token or ""
+            self._lost(why)
+            wait = min(self.timing.longest, self.timing.shortest * 2 ** min(self._tries, 20))
+            self._tries += 1
+            await asyncio.sleep(wait * (0.5 + random.random() / 2))
+
+    async def _serve(self, token: str) -> None:
+        words: dict[str, Any] = {"ping_interval": None, "max_size": None, "compression": None, "close_timeout": 0.2,
+                                 "open_timeout": self.timing.silence}
+        socket = await OPEN(self.url, **words)
+        connection = _Connection()
+        sending = self._loop.create_task(self._send(socket, connection))
+        try:
+            await socket.send(token)
+            self._connection = connection
+            while True:
+                data = await asyncio.wait_for(socket.recv(), self.timing.silence)
+                for line in (data if isinstance(data, str) else data.decode()).split("\n"):
+                    if line:
+                        self._one(connection, line)
+        finally:
+            sending.cancel()
+            # a close that is not answered takes a while, for which nobody waits before the end
+            shut = self._loop.create_task(_shut(socket))
+            self._shutting.add(shut)
+            shut.add_done_callback(self._shutting.discard)
+
+    async def _send(self, socket: Any, connection: _Connection) -> None:
+        while True:
+            await socket.send(await connection.out.get())
+
+    def _become(self, state: str) -> None:
+        self.state = state
+        self._turned.set()
+        for listener in [*self._listeners]:
+            try:
+                listener(self.state, self.why)
+            except Exception as fault:
+                self._report(fault)
+
+    # What was under way is undecided.
+    def _drop(self) -> None:
+        connection, self._connection, self.role = self._connection, None, None
+        if connection is None:
+            return
+        if connection.since and time.monotonic() - connection.since > 10:
+            self._tries = 0
+        for act in connection.replied:
+            act()
+        for asked in connection.asked:
+            asked.come(Undecided())
+
+    def _lost(self, why: str) -> None:
+        if self.state == "closed":
+            return
+        self.why = why
+        self._drop()
+        told = []
+        for relation in self._relations.values():
+            relation.sub, relation.is_asked = None, False
+            if relation.state == "live":
+                told += relation.become("stale")
+        _tell(told)
+        if self.state == "live":
+            self._become("stale")
+
+    def _close(self, why: str) -> None:
+        if self.state == "closed":
+            return
+        self.state, self.why = "closed", why  # from here on a listener that asks for more is refused
+        self._drop()
+        for timer in self._timers:
+            timer.cancel()
+        waiting, self._waiting = self._waiting, []
+        for asked in waiting:
+            asked.come(NotSent(why))
+        relations, self._relations = [*self._relations.values()], {}
+        _tell([user for relation in relations for user in relation.become("closed")])
+        self._become("closed")
+
+    # ---- what is said
+
+    def _give_up(self, asked: Asked) -> None:
+        if asked in self._waiting:
+            self._waiting.remove(asked)
+            asked.come(NotSent("there was no connection"))
+
+    def _ask(self, asked: Asked) -> None:
+        connection = self._connection
+        assert connection is not None
+        asked.id, connection.next_id = connection.next_id, connection.next_id + 1
+        if asked.timer:
+            asked.timer.cancel()
+        connection.asked.append(asked)
+        connection.out.put_nowait(text({"id": asked.id, **asked.body}))  # the id stands in front
+
+    def _relation(self, on: str) -> Relation:
+        if self.state == "closed":
+            raise NotSent("the client has ended")
+        if on not in self._relations:
+            self._relations[on] = relation = Relation(on, self._give_back)
+            if self.role is not None:
+                self._subscribe(relation)
+        return self._relations[on]
+
+    def _subscribe(self, relation: Relation) -> None:
+        relation.is_asked = True
+
+        def begin(reply: Reply) -> None:  # with the reply, as changes stand right behind it
+            self._known[relation.on] = [(name, kind) for name, kind in reply["columns"]]
+            if self._relations.get(relation.on) is not relation:
+                return self._unsubscribe(reply["sub"])
+            relation.begin(self._known[relation.on], reply["sub"])
+            assert self._connection is not None
+            self._connection.by_sub[reply["sub"]] = relation
+            self._connection.changed[relation] = None
+
+        def settled(came: Reply | ViewdError) -> None:
+            if isinstance(came, Refused):
+                self._refused(relation, came)
+
+        self._ask(Asked({"do": "subscribe", "on": relation.on}, self._loop.create_future(), begin, settled))
+
+    def _refused(self, relation: Relation, why: Refused) -> None:
+        relation.is_asked = False
+        if self._relations.get(relation.on) is not relation:
+            return
+        relation.clear()
+        relation.state, relation.why = "refused", why
+        _tell(relation.show())
+        if why.code in (LIMIT, TOO_MANY):
+            self._after(relation)
+
+    def _unsubscribe(self, sub: int) -> None:
+        assert self._connection is not None
+        self._connection.by_sub.pop(sub, None)
+
+        def settled(came: Reply | ViewdError) -> None:
+            # ended meanwhile is as well; and where there is room again, those who found none are tried
+            if not isinstance(came, ViewdError):
+                self._retry(lambda it: isinstance(it.why, Refused) and it.why.code == TOO_MANY)
+
+        self._ask(Asked({"do": "unsubscribe", "sub": sub}, self._loop.create_future(), then=settled))
+
+    def _give_back(self, relation: Relation) -> None:
+        if self._relations.get(relation.on) is not relation:
+            return
+        del self._relations[relation.on]
+        if self._connection is not None:
+            self._connection.changed.pop(relation, None)
+            if relation.sub is not None:
+                self._unsubscribe(relation.sub)
+
+    # Nobody tells when a relation is small enough, or when there is room: so it is tried again.
+    def _after(self, relation: Relation) -> None:
+        def act() -> None:
+            self._timers.discard(timer)
+            self._retry(lambda it: it is relation)
+
+        timer = self._loop.call_later(self.timing.again, act)
+        self._timers.add(timer)
+
+    def _retry(self, which: Callable[[Relation], bool]) -> None:
+        for relation in [*self._relations.values()]:
+            if self.role is not None and relation.state == "refused" and not relation.is_asked and which(relation):
+                self._subscribe(relation)
+
+    # ---- what is told
+
+    def _one(self, connection: _Connection, line: str) -> None:
+        try:
+            said = json.loads(line)
+        except ValueError:
+            raise _Lost("a line that is not understood") from None
+        if said.get("settled"):
+            self._settle(connection)
+        elif "ok" in said or "error" in said:
+            self._reply(connection, said)
+        elif "changes" in said:
+            self._changes(connection, said)
+        elif "granted" in said:
+            connection.replied.append(lambda: self._retry(lambda it: True))
+        elif "role" in said and self.role is None:
+            self._entered(connection, said["role"])
+        # alive, and what this client does not know, says nothing more than that the gateway is there
+
+    def _entered(self, connection: _Connection, role: str) -> None:
+        self.role, connection.since, self.why = role, time.monotonic(), None
+        for relation in [*self._relations.values()]:
+            self._subscribe(relation)
+        waiting, self._waiting = self._waiting, []
+        for asked in waiting:
+            if not asked.reply.done():
+                self._ask(asked)
+        self._become("live")
+
+    def _changes(self, connection: _Connection, said: Reply) -> None:
+        relation = connection.by_sub.get(said["sub"])
+        if relation is None:  # its last user has gone
+            return
+        relation.take(said["changes"])
+        connection.changed[relation] = None
+        if "ended" in said:
+            del connection.by_sub[said["sub"]]
+            relation.state, relation.why, relation.sub = "refused", said["ended"], None
+            if said["ended"] == "limit":
+                self._after(relation)
+
+    def _reply(self, connection: _Connection, said: Reply) -> None:
+        if not connection.asked:
+            raise _Lost("a reply to no request")
+        asked = connection.asked[0]
+        if said.get("id") != asked.id and ("id" in said or said.get("error") not in WITHOUT_ID):
+            raise _Lost("a reply to another request")
+        connection.asked.pop(0)
+        if said.get("ok"):
+            asked.first(said)
+        connection.replied.append(lambda: asked.come(said if said.get("ok") else Refused(said)))
+
+    def _settle(self, connection: _Connection) -> None:
+        changed, connection.changed = [*connection.changed], {}
+        _tell([user for relation in changed for user in relation.show()])
+        replied, connection.replied = connection.replied, []
+        for act in replied:
+            act()
+
+
+def _tell(users: list[User]) -> None:
+    """Listeners are called when all relations have taken in what is new."""
+    for user in users:
+        user.tell()
+
+
+async def _shut(socket: Any) -> None:
+    try:
+        await socket.close()
+    except Exception:
+        pass
+
+
+def text(value: object) -> str:
+    """The JSON of a value, without spaces."""
+    return json.dumps(value, separators=(",", ":"), ensure_ascii=False)
+
+
+def connect(url: str, *, token: Token, columns: Mapping[str, Columns] | None = None, on_error: Report | None = None,
+            **timing: float) -> Db:
+    """A client of the gateway at the address, as `ws://127.0.0.1:8080/live`, within a running loop.
+
+    `token` is a text, or a function that gives one, or an awaitable of it, for each try. `columns` are known beforehand, for a role that
+    writes to what it may not read. `on_error` is told what a listener or `where` raises; a log where it is left out. Other words are those
+    of `Timing`, in seconds."""
+    for scheme in ("http", "https"):
+        if url.startswith(f"{scheme}://"):
+            url = f"ws{scheme[4:]}{url[len(scheme):]}"
+    return Db(url, token, columns, on_error, Timing(**timing))

@@ -1,0 +1,357 @@
+"""Relations that the client follows, and their users: rows that pass `where`, in an order, and exact changes."""
+from __future__ import annotations
+
+import asyncio
+import operator
+from collections.abc import AsyncIterator, Callable, Iterable, Mapping, Sequence
+from dataclasses import dataclass
+from typing import Any
+
+from .faults import NotSent, Refused, ViewdError
+
+Value = int | str | bool
+Row = dict[str, Value]
+Values = tuple[Value, ...]
+Columns = list[tuple[str, str]]
+Where = Mapping[str, Value] | Callable[[Row], bool]
+Report = Callable[[BaseException], None]
+
+
+@dataclass(frozen=True)
+class Change:
+    """How many more copies of a row there are than before; below zero, how many fewer."""
+
+    copies: int
+    row: Row
+
+
+def values_of(on: str, columns: Columns | None, row: Mapping[str, Value] | Sequence[Value]) -> list[Value]:
+    """The values of a row in the order of the columns. Raises ViewdError where a column is missing, or is none of the relation's."""
+    if not isinstance(row, Mapping):
+        return list(row)
+    if columns is None:
+        raise ViewdError(f"the columns of {on} are not known")
+    names = [name for name, _ in columns]
+    for name in row:
+        if name not in names:
+            raise ViewdError(f"{on} has no column {name}")
+    for name in names:
+        if name not in row:
+            raise ViewdError(f"{on}: the row has no value for {name}")
+    return [row[name] for name in names]
+
+
+class Relation:
+    """A relation that the client follows, for all its users by one subscription."""
+
+    def __init__(self, on: str, leave: Callable[[Relation], None]):
+        self.on = on
+        self.columns: Columns | None = None
+        self.state = "waiting"
+        self.why: Refused | str | None = None
+        self.sub: int | None = None
+        self.is_asked = False  # a subscribe is under way
+        self.is_half = False  # an event is not settled: what is held may be half of it
+        self.users: list[User] = []
+        self.held: dict[Values, tuple[Row, int]] = {}
+        self._touched: set[Values] | None = None  # rows that changed since users were told; none at all where all are new
+        self._leave = leave
+
+    def join(self, user: User) -> None:
+        self.users.append(user)
+        if self.state != "waiting" and not self.is_half:
+            user.take(None)
+
+    def leave(self, user: User) -> None:
+        if user in self.users:
+            self.users.remove(user)
+            if not self.users:
+                self._leave(self)
+
+    def begin(self, columns: Columns, sub: int) -> None:
+        self.columns, self.sub, self.state, self.why, self.is_asked, self.is_half = columns, sub, "live", None, False, True
+        self.clear()
+
+    def clear(self) -> None:
+        self.held, self._touched = {}, None
+
+    def take(self, changes: Iterable[tuple[int, list[Value]]]) -> None:
+        assert self.columns is not None
+        self.is_half = True
+        for copies, values in changes:
+            key = tuple(values)
+            row, count = self.held.get(key) or ({name: value for (name, _), value in zip(self.columns, values)}, 0)
+            if count + copies:
+                self.held[key] = row, count + copies
+            else:
+                del self.held[key]
+            if self._touched is not None:
+                self._touched.add(key)
+
+    def show(self) -> list[User]:
+        """Has the users take in what is new. Those to whom it is something."""
+        touched, self._touched, self.is_half = self._touched, set(), False
+        return [user for user in self.users if user.take(touched)]
+
+    def become(self, state: str) -> list[User]:
+        """The rows stay, and the state is another. The users to whom that is something."""
+        self.state, self.why = state, None
+        return [user for user in self.users if user.take(set())]
+
+    def fault(self) -> ViewdError:
+        """Why it has no rows."""
+        if isinstance(self.why, Refused):
+            return self.why
+        return ViewdError(f"{self.on} was ended: {self.why}") if self.state == "refused" else NotSent(f"{self.on} was closed")
+
+
+class User:
+    """Who uses a relation: told of each settled event, until it is closed."""
+
+    def __init__(self, relation: Relation, report: Report):
+        self._relation, self._report = relation, report
+        self._sleepers: set[asyncio.Event] = set()
+        self._is_told = False
+        self._is_closed = False
+
+    @property
+    def on(self) -> str:
+        """The relation's name."""
+        return self._relation.on
+
+    @property
+    def columns(self) -> Columns | None:
+        """Pairs of a name and a kind, or None where they are not known yet."""
+        return self._relation.columns
+
+    @property
+    def state(self) -> str:
+        """`waiting` for the first rows, `live`, `stale` (the rows may be old), `refused` (see `why`) or `closed`."""
+        state = "closed" if self._is_closed else self._relation.state
+        return "waiting" if state in ("live", "stale") and not self._is_told else state
+
+    @property
+    def why(self) -> Refused | str | None:
+        """Where it is refused: the `Refused`, or `privilege` or `limit` where it was ended."""
+        return self._relation.why
+
+    def close(self) -> None:
+        """Gives it back: what was seen stays as it is, and nobody is told any more."""
+        self._is_closed = True
+        self._relation.leave(self)
+        self._wake()
+
+    def take(self, touched: set[Values] | None) -> bool:
+        """Takes in which rows changed, None for all, or that the state is another. Whether that is something to this user."""
+        raise NotImplementedError
+
+    def tell(self) -> None:
+        """Wakes who waits for it, and calls who listens."""
+        self._wake()
+
+    def _fault(self) -> ViewdError:
+        return NotSent(f"{self.on} was closed") if self._is_closed else self._relation.fault()
+
+    def _wake(self) -> None:
+        for event in self._sleepers:
+            event.set()
+
+
+class Live(User):
+    """A relation as one user of it sees it: the rows that pass `where`, in an order, the first `limit` of them."""
+
+    def __init__(self, relation: Relation, report: Report, where: Where | None, order: str | Sequence[str], limit: int | None):
+        super().__init__(relation, report)
+        self._where, self._limit = where, limit
+        self._order = [order] if isinstance(order, str) else [*order]
+        self._listeners: list[Callable[[Live], None]] = []
+        self._passing: dict[Values, Row] = {}
+        self._all: list[Row] | None = []
+        self._was: tuple[str, object] = ("waiting", None)
+
+    @property
+    def rows(self) -> list[Row]:
+        """The rows now, each different row once. They are shared, so take a copy of what you change."""
+        return self._sorted()[: self._limit]
+
+    @property
+    def total(self) -> int:
+        """How many rows pass `where`, without the limit."""
+        return len(self._passing)
+
+    def copies(self, row: Mapping[str, Value] | Sequence[Value]) -> int:
+        """How many copies of a row there are."""
+        found = self._relation.held.get(tuple(values_of(self.on, self.columns, row)))
+        return found[1] if found else 0
+
+    async def ready(self) -> list[Row]:
+        """The rows, once the first are there. Raises Refused where the relation is, and NotSent where it is closed before."""
+        event = asyncio.Event()
+        self._sleepers.add(event)
+        try:
+            while self.state == "waiting":
+                await event.wait()
+                event.clear()
+        finally:
+            self._sleepers.discard(event)
+        if self.state in ("refused", "closed"):
+            raise self._fault()
+        return self.rows
+
+    def subscribe(self, listener: Callable[[Live], None]) -> Callable[[], None]:
+        """Calls the listener behind each change of the rows or the state. What it returns takes the listener back."""
+        own: Callable[[Live], None] = lambda live: listener(live)
+        self._listeners.append(own)
+        return lambda: self._listeners.remove(own) if own in self._listeners else None
+
+    async def __aiter__(self) -> AsyncIterator[list[Row]]:
+        """The rows, and again behind each change of them or of the state, until it is closed. Who is slow misses what lies between."""
+        event = asyncio.Event()
+        self._sleepers.add(event)
+        if self._is_told:
+            event.set()
+        try:
+            while True:
+                await event.wait()
+                event.clear()
+                if self.state == "closed":
+                    return
+                yield self.rows
+        finally:
+            self._sleepers.discard(event)
+
+    async def __aenter__(self) -> Live:
+        await self.ready()
+        return self
+
+    async def __aexit__(self, *_: object) -> None:
+        self.close()
+
+    def close(self) -> None:
+        """Gives it back: the rows stay as they are, and nobody is called any more."""
+        super().close()
+        self._listeners.clear()
+
+    def take(self, touched: set[Values] | None) -> bool:
+        """Takes in what changed. Whether that is something to this user."""
+        if self._relation.is_half and self._relation.state != "closed":
+            return False
+        is_new = touched is None or not self._is_told
+        changed = self._anew() if is_new else self._apply(touched or set())
+        self._is_told = True
+        if changed:
+            self._all = None
+        was, self._was = self._was, (self.state, self.why)
+        return changed or was != self._was
+
+    def tell(self) -> None:
+        """Wakes who waits for it, and calls who listens."""
+        super().tell()
+        for listener in [*self._listeners]:
+            self._guard(listener, self)
+
+    def _anew(self) -> bool:
+        self._passing = {key: row for key, (row, _) in self._relation.held.items() if self._passes(row)}
+        return True
+
+    def _apply(self, touched: set[Values]) -> bool:
+        changed = False
+        for key in touched:
+            there = self._relation.held.get(key)
+            if there and key not in self._passing and self._passes(there[0]):
+                self._passing[key] = there[0]
+                changed = True
+            elif not there and key in self._passing:
+                del self._passing[key]
+                changed = True
+        return changed
+
+    def _guard(self, act: Callable[[Any], Any], it: object) -> Any:
+        try:
+            return act(it)
+        except Exception as why:
+            self._report(why)
+            return None
+
+    def _passes(self, row: Row) -> bool:
+        if self._where is None:
+            return True
+        if isinstance(self._where, Mapping):
+            return all(row.get(name) == value for name, value in self._where.items())
+        return bool(self._guard(self._where, row))
+
+    def _sorted(self) -> list[Row]:
+        if self._all is None:
+            rows = [self._passing[key] for key in sorted(self._passing)]
+            for word in reversed(self._order):
+                name = word.removeprefix("-")
+                if self.columns and name not in dict(self.columns):
+                    self._report(ViewdError(f"order: there is no column {name}"))
+                else:
+                    rows.sort(key=operator.itemgetter(name), reverse=word.startswith("-"))
+            self._all = rows
+        return self._all
+
+
+class Changes(User):
+    """The changes of a relation: first all rows that are there, then what each settled event changed.
+
+    Added up they are at each moment exactly what the role sees, across lost connections too: behind one comes the difference. Who is slow
+    is told several events as one."""
+
+    def __init__(self, relation: Relation, report: Report):
+        super().__init__(relation, report)
+        self._seen: dict[Values, tuple[Row, int]] = {}
+        self._touched: set[Values] | None = None  # since the last answer; None is all
+        self._is_first = True
+
+    def take(self, touched: set[Values] | None) -> bool:
+        """Takes in which rows changed."""
+        if self._relation.is_half and self._relation.state != "closed":
+            return False
+        self._touched = None if touched is None or self._touched is None else self._touched | touched
+        self._is_told = True
+        return True
+
+    def __aiter__(self) -> Changes:
+        return self
+
+    async def __anext__(self) -> list[Change]:
+        """The changes of an event or more; at first the rows that are there, an empty list where there are none.
+
+        Raises why there are no more: what was seen is taken back by the changes before it."""
+        event = asyncio.Event()
+        self._sleepers.add(event)
+        try:
+            while True:
+                if self._is_closed:
+                    raise StopAsyncIteration
+                changes = self._taken() if self._is_told and not self._relation.is_half else []
+                if changes:
+                    self._is_first = False
+                    return changes
+                if self.state in ("refused", "closed"):
+                    raise self._fault()
+                if self._is_first and self._is_told and not self._relation.is_half:
+                    self._is_first = False
+                    return []
+                event.clear()
+                await event.wait()
+        finally:
+            self._sleepers.discard(event)
+
+    def _taken(self) -> list[Change]:
+        held, seen = self._relation.held, self._seen
+        keys = {*seen, *held} if self._touched is None else self._touched
+        self._touched = set()
+        found = []
+        for key in sorted(keys):
+            row, now = held.get(key) or (seen[key][0] if key in seen else {}, 0)
+            was = seen[key][1] if key in seen else 0
+            if now:
+                seen[key] = row, now
+            else:
+                seen.pop(key, None)
+            if now != was:
+                found.append(Change(now - was, row))
+        return found
