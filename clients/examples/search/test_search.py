@@ -1,4 +1,5 @@
 """The search behind a gateway: exact across kills of each, nothing that the role may not see, and the page in Chromium where it is installed."""
+# ruff: noqa: F811
 import contextlib
 import json
 import os
