@@ -102,7 +102,8 @@ function showTickets() {
   before = {rows: shown, page, state};
   $("tickets").setAttribute("aria-busy", state === "waiting");
   $("notice").textContent = shown.length ? "" : state === "refused" && tickets.why === "privilege" ? "You may no longer read the tickets." : EMPTY[state] ?? "";
-  $("range").textContent = total ? `${(chosen.page * SIZE + 1).toLocaleString()} to ${(chosen.page * SIZE + shown.length).toLocaleString()} of ${total.toLocaleString()}` : "none";
+  const [first, last, all] = [chosen.page * SIZE + 1, chosen.page * SIZE + shown.length, total].map((it) => it.toLocaleString("en"));
+  $("range").textContent = total ? `${first} to ${last} of ${all}` : "none";
   $("back").disabled = chosen.page === 0;
   $("on").disabled = chosen.page >= pages - 1;
   showNew();

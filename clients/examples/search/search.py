@@ -216,7 +216,7 @@ def main(given: argparse.Namespace) -> int:
 if __name__ == "__main__":
     words = argparse.ArgumentParser(description=__doc__.splitlines()[0])
     words.add_argument("relation")
-    words.add_argument("--index", type=pathlib.Path, required=True, help="the file of the index, made where it is missing; beside it stands one with .lock behind its name")
+    words.add_argument("--index", type=pathlib.Path, required=True, help="the file of the index, made where it is missing, with others beside it")
     words.add_argument("--port", type=int, default=8081, help="on 127.0.0.1 (%(default)s)")
     words.add_argument("--url", default=os.environ.get("VIEWD_URL", "ws://127.0.0.1:8080/live"), help="the gateway; VIEWD_URL, or %(default)s")
     with contextlib.suppress(KeyboardInterrupt):
