@@ -9,8 +9,8 @@
     viewd:tickets:live        is there while the follower and the gateway are, and no longer than 30 seconds behind either
 
 What changed together is written in one transaction, and the position is a part of it. So it tells behind a lost connection whether the last
-transaction was done, and behind a restart of Redis whether what was written has been lost. A follower that finds another position than its own ends with status 1;
-one that starts takes over, and writes what is other than it should be. Whoever reads several keys as of one moment reads them in a transaction.
+transaction was done, and behind a restart of Redis whether what was written has been lost. A follower that finds another position than its own ends
+with status 1; one that starts takes over, and writes what is other than it should be. Whoever reads several keys as of one moment reads them in a transaction.
 """
 import argparse
 import asyncio

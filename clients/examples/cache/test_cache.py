@@ -1,4 +1,5 @@
 """The cache behind a gateway and a Redis of its own: exact at each position, across kills of each of them."""
+# ruff: noqa: F811
 import contextlib
 import os
 import pathlib

@@ -91,18 +91,19 @@ function draw(rows, isSame) {
 }
 
 const EMPTY = {waiting: "The tickets are coming.", refused: "You may not read the tickets.", live: "There is no such ticket that you may see."};
-let before = {rows: [], page: null}; // what was drawn last
+let before = {rows: [], page: null, state: null}; // what was drawn last
 
 function showTickets() {
   const {rows, total, state} = tickets, pages = Math.max(1, Math.ceil(total / SIZE));
   if (state === "live" && chosen.page >= pages) return choose({page: pages - 1});
   const shown = rows.slice(chosen.page * SIZE), page = JSON.stringify(chosen);
-  draw(shown, page === before.page);
-  if (page === before.page) announce(before.rows, shown);
-  before = {rows: shown, page};
+  draw(shown, page === before.page && before.state === "live");
+  if (page === before.page && before.state === "live") announce(before.rows, shown);
+  before = {rows: shown, page, state};
   $("tickets").setAttribute("aria-busy", state === "waiting");
   $("notice").textContent = shown.length ? "" : state === "refused" && tickets.why === "privilege" ? "You may no longer read the tickets." : EMPTY[state] ?? "";
-  $("range").textContent = total ? `${(chosen.page * SIZE + 1).toLocaleString()} to ${(chosen.page * SIZE + shown.length).toLocaleString()} of ${total.toLocaleString()}` : "none";
+  const [first, last, all] = [chosen.page * SIZE + 1, chosen.page * SIZE + shown.length, total].map((it) => it.toLocaleString("en"));
+  $("range").textContent = total ? `${first} to ${last} of ${all}` : "none";
   $("back").disabled = chosen.page === 0;
   $("on").disabled = chosen.page >= pages - 1;
   showNew();

@@ -19,7 +19,8 @@ function line({row, piece}) {
 
 function show({found, total, state, role}) {
   list.replaceChildren(...found.map(line));
-  status.textContent = `${total} ${total === 1 ? "document" : "documents"} that ${role ?? "the role"} may see${total > found.length ? `; the first ${found.length}` : ""}${STATES[state] ?? ""}`;
+  const [what, more] = [total === 1 ? "document" : "documents", total > found.length ? `; the first ${found.length}` : ""];
+  status.textContent = `${total} ${what} that ${role ?? "the role"} may see${more}${STATES[state] ?? ""}`;
   document.body.className = state;
 }
 

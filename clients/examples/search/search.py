@@ -59,7 +59,7 @@ class Index:
 
     def begin(self, columns: viewd.Columns) -> None:
         """Makes the tables, where those that are there are of another form."""
-        if not (texts := [name for name, kind in columns if kind == "text"]):
+        if not (texts := [kind for _, kind in columns if kind == "text"]):
             raise viewd.ViewdError("there is no text to be searched")
         form = json.dumps([FORM, columns])
         with self.opened() as base:
@@ -72,7 +72,7 @@ class Index:
                 base.execute("delete from form")
                 base.execute("insert into form values (?)", [form])
                 base.execute("create table rows (number integer primary key, row unique, copies)")
-                base.execute(f"create virtual table texts using fts5({', '.join(quoted(it) for it in texts)}, prefix = '2 3')")
+                base.execute(f"create virtual table texts using fts5({', '.join(places(len(texts)))}, prefix = '2 3')")
                 base.execute("create table position as select 0 as at")
             base.execute("commit")
 
@@ -113,8 +113,9 @@ def words_of(row: str) -> dict[str, str]:
     return {name: it if isinstance(it, str) else json.dumps(it) for name, it in json.loads(row).items()}
 
 
-def quoted(name: str) -> str:
-    return '"' + name.replace('"', '""') + '"'
+def places(number: int) -> list[str]:
+    """Names for the texts of a row, as an index has some names for itself."""
+    return [f"text_{at}" for at in range(number)]
 
 
 def text(row: viewd.Row) -> str:
@@ -135,9 +136,9 @@ def change(base: sqlite3.Connection, it: viewd.Change) -> None:
         base.execute("delete from texts where rowid = ?", [was[0]])
         base.execute("delete from rows where number = ?", [was[0]])
     else:
-        names = {name: value for name, value in it.row.items() if isinstance(value, str)}
+        texts = [value for value in it.row.values() if isinstance(value, str)]
         number = base.execute("insert into rows (row, copies) values (?, ?)", [row, it.copies]).lastrowid
-        base.execute(f"insert into texts (rowid, {', '.join(map(quoted, names))}) values (?{', ?' * len(names)})", [number, *names.values()])
+        base.execute(f"insert into texts (rowid, {', '.join(places(len(texts)))}) values (?{', ?' * len(texts)})", [number, *texts])
 
 
 class Handler(http.server.BaseHTTPRequestHandler):
@@ -215,7 +216,7 @@ def main(given: argparse.Namespace) -> int:
 if __name__ == "__main__":
     words = argparse.ArgumentParser(description=__doc__.splitlines()[0])
     words.add_argument("relation")
-    words.add_argument("--index", type=pathlib.Path, required=True, help="the file of the index, made where it is missing; beside it stands one with .lock behind its name")
+    words.add_argument("--index", type=pathlib.Path, required=True, help="the file of the index, made where it is missing, with others beside it")
     words.add_argument("--port", type=int, default=8081, help="on 127.0.0.1 (%(default)s)")
     words.add_argument("--url", default=os.environ.get("VIEWD_URL", "ws://127.0.0.1:8080/live"), help="the gateway; VIEWD_URL, or %(default)s")
     with contextlib.suppress(KeyboardInterrupt):

@@ -1,4 +1,5 @@
 """The search behind a gateway: exact across kills of each, nothing that the role may not see, and the page in Chromium where it is installed."""
+# ruff: noqa: F811
 import contextlib
 import json
 import os
@@ -22,9 +23,9 @@ from conftest import PATIENCE, gateway  # noqa: E402, F401
 
 import viewd  # noqa: E402
 
-COLUMNS = [["id", "int"], ["owner", "text"], ["title", "text"], ["body", "text"], ["draft", "flag"]]
+COLUMNS = [["id", "int"], ["owner", "text"], ["rank", "text"], ["body", "text"], ["draft", "flag"]]
 MADE = [{"do": "create_table", "name": "documents", "owner": "ann", "columns": COLUMNS},
-        {"do": "create_view", "name": "pages", "owner": "ann", "query": "select id, title, body from documents where draft = false"},
+        {"do": "create_view", "name": "pages", "owner": "ann", "query": "select id, rank, body from documents where draft = false"},
         {"do": "grant", "on": "documents", "privileges": ["select"], "to": "mia"},
         {"do": "grant", "on": "pages", "privileges": ["select"], "to": "mia"},
         {"do": "row_security", "on": "documents", "enable": True, "force": False},
@@ -40,7 +41,7 @@ def until(holds, patience=PATIENCE):
 
 
 def document(id, owner, title, body="", draft=False):
-    return {"id": id, "owner": owner, "title": title, "body": body, "draft": draft}
+    return {"id": id, "owner": owner, "rank": title, "body": body, "draft": draft}
 
 
 class Search:
