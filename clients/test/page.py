@@ -4,29 +4,25 @@ import os
 import pathlib
 import re
 import shutil
-import socket
 import subprocess
 import sys
 import tempfile
 import time
 import urllib.request
 
+from ports import free_port
+
 TOP = pathlib.Path(__file__).resolve().parents[2]
 GATEWAY = TOP / "clients/test/gateway"
 PAGE = TOP / "docs/CLIENTS.md"
+PATIENCE = 600.0  # seconds for anything that has to come: a slow machine fails no test
 START = re.compile(r"(?m)^(?:\./gateway try --pages|frontend/gateway\.py --web) ")
 BLOCK = re.compile(r"```(\w+) run\n(.*?)```\n(?:```text\n(.*?)```\n)?", re.DOTALL)
 
 
-def free_port() -> int:
-    with socket.socket() as probe:
-        probe.bind(("127.0.0.1", 0))
-        return probe.getsockname()[1]
-
-
 def answers(port: int) -> bool:
     try:
-        urllib.request.urlopen(f"http://127.0.0.1:{port}/readyz", timeout=10).close()
+        urllib.request.urlopen(f"http://127.0.0.1:{port}/readyz", timeout=PATIENCE).close()
         return True
     except OSError:
         return False
@@ -59,7 +55,7 @@ def main() -> int:
         assert starts == 1 and len(rest) >= 4
         gateway = subprocess.Popen(["sh", "-euc", setup], cwd=TOP, stderr=subprocess.DEVNULL)
         try:
-            end = time.monotonic() + 60
+            end = time.monotonic() + PATIENCE
             while not answers(port):
                 assert gateway.poll() is None and time.monotonic() < end, "the gateway of the page does not start"
                 time.sleep(0.02)
@@ -67,7 +63,7 @@ def main() -> int:
                 if kind == "js" and not shutil.which("node"):
                     print("the block of JavaScript did not run, since there is no node")
                     continue
-                ran = subprocess.run(words_of(kind, code.replace(":8080", f":{port}"), folder), cwd=folder, env=env, timeout=60,
+                ran = subprocess.run(words_of(kind, code.replace(":8080", f":{port}"), folder), cwd=folder, env=env, timeout=PATIENCE,
                                      stdout=subprocess.PIPE, stderr=subprocess.STDOUT, text=True)
                 is_well = ran.returncode == 0 and ran.stdout == wanted
                 passed, failed = passed + is_well, failed + (not is_well)

@@ -5,7 +5,6 @@ import json
 import os
 import pathlib
 import shutil
-import socket
 import sqlite3
 import subprocess
 import sys
@@ -20,6 +19,7 @@ HERE = pathlib.Path(__file__).resolve().parent
 sys.path.insert(0, str(HERE.parents[1] / "python/test"))
 
 from conftest import PATIENCE, gateway  # noqa: E402, F401
+from ports import free_port  # noqa: E402
 
 import viewd  # noqa: E402
 
@@ -49,9 +49,7 @@ class Search:
 
     def __init__(self, gateway, role="mia"):
         self.index = gateway.folder / f"{role}.db"
-        with socket.socket() as probe:
-            probe.bind(("127.0.0.1", 0))
-            self.port = probe.getsockname()[1]
+        self.port = free_port()
         self.words = [HERE / "search.py", "pages", "--index", self.index, "--port", str(self.port), "--url", gateway.url]
         self.env = {**os.environ, "VIEWD_TOKEN": f"{role}-demo"}
         self.said = (gateway.folder / "search").open("ab+")

@@ -66,8 +66,30 @@ export const NOTES = [["id", "int"], ["who", "text"]];
 /** Waits until what is under way among promises is done. */
 export const turn = () => new Promise((done) => setImmediate(done));
 
-/** Waits so many milliseconds. */
-export const pause = (wait) => new Promise((done) => setTimeout(done, wait));
+// Time passes where a test pauses, and nowhere else: so no slow host changes what it sees.
+let now = 0, last = 0;
+const timers = new Map();
+const timer = (act, wait, each) => (timers.set(++last, {at: now + wait, act, each}), last);
+globalThis.setTimeout = (act, wait = 0) => timer(act, wait, 0);
+globalThis.setInterval = (act, wait) => timer(act, wait, wait);
+globalThis.clearTimeout = globalThis.clearInterval = (id) => timers.delete(id);
+Date.now = () => now;
+
+/** Lets so many milliseconds pass. */
+export async function pause(wait) {
+  const end = now + wait;
+  for (;;) {
+    await turn();
+    const [next] = [...timers].filter(([, {at}]) => at <= end).sort(([, one], [, other]) => one.at - other.at);
+    if (!next) break;
+    const [id, due] = next;
+    now = due.at;
+    if (due.each) due.at += due.each;
+    else timers.delete(id);
+    due.act();
+  }
+  now = end;
+}
 
 /** A client whose fake gateway has let it in, and that is ended behind the test. */
 export async function entered(t, how = {}) {

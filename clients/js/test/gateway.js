@@ -10,13 +10,13 @@ import {fileURLToPath} from "node:url";
 const GATEWAY = fileURLToPath(new URL("../../test/gateway", import.meta.url));
 /** Which one: gateway, gateway.py, or nothing where none can be run. */
 export const KIND = spawnSync(GATEWAY, ["--which"], {encoding: "utf8"}).stdout.trim();
-const PATIENCE = 60_000;
+const PATIENCE = 600_000; // a slow machine fails no test
 
+// A port on which nobody listens, below those that the system gives to clients.
 const freePort = () => new Promise((done) => {
-  const probe = net.createServer().listen(0, "127.0.0.1", () => {
-    const {port} = probe.address();
-    probe.close(() => done(port));
-  });
+  const low = Number(fs.readFileSync("/proc/sys/net/ipv4/ip_local_port_range", "utf8").split("\t")[0]);
+  const port = 10_000 + Math.floor(Math.random() * ((low > 12_000 ? low : 60_000) - 10_000));
+  const probe = net.createServer().on("error", () => done(freePort())).listen(port, "127.0.0.1", () => probe.close(() => done(port)));
 });
 
 /** Waits until it holds. */
@@ -39,7 +39,7 @@ export class Gateway {
     gateway.url = `ws://127.0.0.1:${gateway.port}/live`;
     t.after(async () => {
       await gateway.kill();
-      fs.rmSync(gateway.folder, {recursive: true});
+      fs.rmSync(gateway.folder, {recursive: true, force: true});
     });
     await gateway.start();
     return gateway;
@@ -60,7 +60,10 @@ export class Gateway {
     const words = ["--journal", this.file("journal.jsonl"), "--tokens", this.file("tokens.toml"), "--port", String(this.port)];
     this.process = spawn(GATEWAY, words, {stdio: ["ignore", "ignore", fs.openSync(this.file("log"), "a")]});
     this.ended = new Promise((done) => this.process.on("exit", done));
-    await until(() => fetch(`http://127.0.0.1:${this.port}/readyz`).then((it) => it.ok, () => false), "the gateway");
+    await until(() => {
+      if (this.process.exitCode !== null) throw new Error(fs.readFileSync(this.file("log"), "utf8"));
+      return fetch(`http://127.0.0.1:${this.port}/readyz`).then((it) => it.ok, () => false);
+    }, "the gateway");
   }
 
   signal(name) {

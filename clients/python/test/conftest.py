@@ -4,8 +4,8 @@ import hashlib
 import json
 import os
 import pathlib
+import selectors
 import signal
-import socket
 import subprocess
 import sys
 import time
@@ -14,16 +14,39 @@ import urllib.request
 import pytest
 
 TOP = pathlib.Path(__file__).resolve().parents[3]
-sys.path.insert(0, str(TOP / "clients/python"))
+sys.path[:0] = [str(TOP / it) for it in ("clients/python", "clients/test")]
 GATEWAY = TOP / "clients/test/gateway"
 KIND = subprocess.run([GATEWAY, "--which"], capture_output=True, text=True, check=True).stdout.strip()  # gateway, gateway.py or nothing
-PATIENCE = float(os.environ.get("PATIENCE", 60))  # seconds for anything that has to come: a slow machine fails no test
+PATIENCE = float(os.environ.get("PATIENCE", 600))  # seconds for anything that has to come: a slow machine fails no test
 NOTES = [["id", "int"], ["who", "text"]]
 
 from websockets.exceptions import ConnectionClosedError  # noqa: E402
 from websockets.frames import Close  # noqa: E402
 
+from ports import free_port  # noqa: E402
+
 import viewd  # noqa: E402
+
+
+class Waits(selectors.DefaultSelector):
+    """Waits for nothing: the time for which it is asked to wait is over at once."""
+
+    now = 0.0
+
+    def select(self, timeout: float | None = None) -> list:
+        self.now += max(timeout or 0, 0)
+        return super().select(timeout and 0)
+
+
+class Still(asyncio.SelectorEventLoop):
+    """Time passes where all wait for it, and nowhere else: so no slow host changes what a test sees."""
+
+    def __init__(self) -> None:
+        self.waits = Waits()
+        super().__init__(self.waits)
+
+    def time(self) -> float:
+        return self.waits.now
 
 
 async def turn() -> None:
@@ -109,9 +132,7 @@ class Gateway:
         self.know(*roles)
         if "--seed" not in words:
             (folder / "journal.jsonl").write_text("")
-        with socket.socket() as probe:
-            probe.bind(("127.0.0.1", 0))
-            self.port = probe.getsockname()[1]
+        self.port = free_port()
         self.url = f"ws://127.0.0.1:{self.port}/live"
         self.start()
 

@@ -5,7 +5,7 @@ import re
 from collections import Counter
 
 import pytest
-from conftest import NOTES, TOP, entered, turn
+from conftest import NOTES, TOP, Still, entered, turn
 
 import viewd
 from viewd import NotSent, Refused, Undecided, ViewdError
@@ -14,7 +14,8 @@ from viewd import NotSent, Refused, Undecided, ViewdError
 def run(test):
     """A test that is a coroutine."""
     def plain(fakes):
-        asyncio.run(asyncio.wait_for(test(fakes), 60))
+        with asyncio.Runner(loop_factory=Still) as runner:
+            runner.run(asyncio.wait_for(test(fakes), 600))
 
     plain.__name__ = test.__name__
     return plain

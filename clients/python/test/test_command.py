@@ -11,7 +11,7 @@ import threading
 import time
 
 import pytest
-from conftest import TOP
+from conftest import PATIENCE, TOP
 
 import viewd
 
@@ -19,12 +19,12 @@ CLIENT = TOP / "clients/python/viewd-client"
 
 
 def env(gateway, role="mia"):
-    return {**os.environ, "VIEWD_URL": gateway.url, "VIEWD_TOKEN": f"{role}-demo"}
+    return {**os.environ, "COLUMNS": "80", "LINES": "24", "VIEWD_URL": gateway.url, "VIEWD_TOKEN": f"{role}-demo"}
 
 
 def ran(gateway, *words, given="", role="mia"):
     """Status, standard output and standard error."""
-    done = subprocess.run([CLIENT, *map(str, words)], env=env(gateway, role), input=given, capture_output=True, text=True, timeout=60)
+    done = subprocess.run([CLIENT, *map(str, words)], env=env(gateway, role), input=given, capture_output=True, text=True, timeout=PATIENCE)
     return done.returncode, done.stdout, done.stderr
 
 
@@ -35,6 +35,13 @@ def watching(gateway, *words):
             yield process
         finally:
             process.kill()
+
+
+def until(holds):
+    end = time.monotonic() + PATIENCE
+    while not holds():
+        assert time.monotonic() < end, "it did not come"
+        time.sleep(0.01)
 
 
 ROWS = [{"id": 2, "who": "mia", "done": True}, {"id": 9, "who": "mia", "done": False}]
@@ -94,6 +101,7 @@ def test_watch(gateway):
                                                                  '{"copies":1,"row":{"id":9,"who":"mia","done":false}}\n']
             assert chosen.stdout.readline() == '{"copies":1,"row":{"id":9,"who":"mia","done":false}}\n'
             gateway.kill()
+            until(lambda: db.state == "stale")
             gateway.start()
             db.remove("notes", ROWS[0])
             assert process.stdout.readline() == '{"copies":-1,"row":{"id":2,"who":"mia","done":true}}\n'
@@ -101,7 +109,7 @@ def test_watch(gateway):
             with viewd.plain.connect(gateway.url, token="ann-demo") as ann:
                 ann.request({"do": "revoke", "on": "notes", "privileges": ["select"], "to": "mia"})
             assert process.stdout.readline() == '{"copies":-1,"row":{"id":9,"who":"mia","done":false}}\n'
-            assert process.stdout.readline() == "" and process.wait(30) == 1
+            assert process.stdout.readline() == "" and process.wait(PATIENCE) == 1
             assert process.stderr.read() == "viewd-client: notes was ended: privilege\n"
         assert ran(gateway, "watch", "notes")[::2] == (1, "viewd-client: missing privilege (13), on notes, privilege select\n")
 
@@ -113,11 +121,11 @@ def test_watch_ends_with_its_reader_and_by_a_signal(gateway):
             process.stdout.readline()
             process.stdout.close()
             db.insert("notes", ROWS[1])
-            assert process.wait(30) == 0 and process.stderr.read() == ""
+            assert process.wait(PATIENCE) == 0 and process.stderr.read() == ""
         with watching(gateway, "notes") as process:
             process.stdout.readline()
             process.send_signal(signal.SIGINT)
-            assert process.wait(30) == 130 and process.stderr.read() == ""
+            assert process.wait(PATIENCE) == 130 and process.stderr.read() == ""
 
 
 def test_the_table(gateway):
@@ -171,6 +179,6 @@ def test_no_connection(gateway, tmp_path):
     assert ran(gateway, "export", "notes", "--token-file", token, role="nobody")[0] == 0
     assert ran(gateway, "export", "notes", "--token-file", tmp_path / "none")[0] == 2
     gateway.kill()
-    status, out, err = ran(gateway, "export", "notes", "--wait", "0.5")
+    status, out, err = ran(gateway, "export", "notes", "--wait", "5")
     assert (status, out) == (3, "") and err.startswith(f"viewd-client: not sent: there is no gateway at {gateway.url}: ")
     assert subprocess.run([CLIENT, "export", "notes"], env={"PATH": os.environ["PATH"]}, capture_output=True).returncode == 2

@@ -5,7 +5,7 @@ import threading
 import time
 
 import pytest
-from conftest import KIND
+from conftest import KIND, PATIENCE
 
 import viewd
 from viewd import Change, NotSent, Refused, Undecided
@@ -15,7 +15,7 @@ def enter(gateway, role, **how):
     return viewd.connect(gateway.url, token=f"{role}-demo", shortest=0.02, **how)
 
 
-async def until(holds, patience=60):
+async def until(holds, patience=PATIENCE):
     end = time.monotonic() + patience
     while not holds():
         assert time.monotonic() < end, "it did not come"
@@ -78,6 +78,7 @@ def test_behind_a_kill_each_write_that_was_answered_is_there_once(gateway):
                 await until(lambda: len(done) > 30 * (turn + 1))
                 gateway.kill()
                 await asyncio.gather(*writes)
+                await until(lambda: "live" not in (notes.state, ann.state, mia.state))
                 gateway.start()
                 await until(lambda: notes.state == "live" and ann.state == "live" and mia.state == "live")
             there = {it["id"] for it in notes.rows}
@@ -90,18 +91,24 @@ def test_behind_a_kill_each_write_that_was_answered_is_there_once(gateway):
 
 
 def test_a_gateway_that_stands_still_is_told_of(gateway):
-    async def test():
-        async with enter(gateway, "mia", silence=2, patience=0.5) as db:
+    async def test(silence):
+        async with enter(gateway, "mia", silence=silence, patience=0.5) as db:
             own = db.live("notes")
-            await own.ready()
+            await asyncio.wait_for(own.ready(), 10 * silence)
             gateway.signal(signal.SIGSTOP)
-            await until(lambda: db.state == own.state == "stale", 10)
+            await until(lambda: db.state == own.state == "stale")
             with pytest.raises(NotSent):
                 await db.insert("notes", [1, "mia", False])
             gateway.signal(signal.SIGCONT)
-            await until(lambda: db.state == own.state == "live")
+            await until(lambda: db.state == own.state == "live", 10 * silence)
 
-    asyncio.run(test())
+    for silence in (2, 10, 50):  # on a host so slow that a gateway seems silent which is not, the clocks go more slowly
+        try:
+            return asyncio.run(test(silence))
+        except (AssertionError, asyncio.TimeoutError, NotSent):
+            gateway.signal(signal.SIGCONT)
+            if silence == 50:
+                raise
 
 
 @pytest.mark.skipif(KIND == "gateway.py", reason="gateway.py ends nobody whose token is taken away")
@@ -125,7 +132,7 @@ def test_the_plain_form(gateway):
             assert own.rows == [row] and own.state == "live" and own.total == own.copies(row) == 1
             own.wait(0)
             threading.Timer(0.2, lambda: db.insert("notes", {**row, "id": 2})).start()
-            assert own.wait(30) and own.rows == [{**row, "id": 2}]
+            assert own.wait(PATIENCE) and own.rows == [{**row, "id": 2}]
             assert not own.wait(0.1)
         changes = db.changes("notes")
         assert [it.copies for it in next(changes)] == [1, 1]
