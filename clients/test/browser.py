@@ -13,8 +13,9 @@ import time
 
 sys.path[:0] = [str(pathlib.Path(__file__).resolve().parents[1] / it) for it in ("python", "python/test")]
 
-from conftest import BASE, KIND, TOP, Gateway  # noqa: E402
+from conftest import BASE, KIND, PATIENCE, TOP, Gateway, browser  # noqa: E402
 from selenium import webdriver  # noqa: E402
+from selenium.common.exceptions import NoAlertPresentException  # noqa: E402
 from selenium.webdriver.common.alert import Alert  # noqa: E402
 
 from viewd import plain  # noqa: E402
@@ -78,7 +79,7 @@ const done = arguments[arguments.length - 1];
   const show = (open) => root.render(React.createElement(React.StrictMode, null, React.createElement(Names, {open})));
   const until = async (words) => {
     for (let tries = 0; document.body.textContent !== words; tries++) {
-      if (tries > 500) throw new Error(`${document.body.textContent} in place of ${words}`);
+      if (tries > 20_000) throw new Error(`${document.body.textContent} in place of ${words}`);
       await new Promise((later) => setTimeout(later, 20));
     }
   };
@@ -89,7 +90,7 @@ const done = arguments[arguments.length - 1];
   show(false);
   await until("live 1 8");
   root.unmount();
-  for (let tries = 0; tries < 500 && !said.at(-1).includes("unsubscribe"); tries++) await new Promise((later) => setTimeout(later, 20));
+  for (let tries = 0; tries < 20_000 && !said.at(-1).includes("unsubscribe"); tries++) await new Promise((later) => setTimeout(later, 20));
   const [asked, back] = ["subscribe", "unsubscribe"].map((word) => said.filter((it) => it.includes(`"${word}"`)).length);
   db.end();
   return asked > 0 && asked === back ? "" : `${asked} subscribes, ${back} given back`;
@@ -99,7 +100,7 @@ REACT = pathlib.Path(os.environ.get("REACT", "/usr/share/nodejs"))
 UMD = {name: REACT / f"{name}/umd/{name}.development.js" for name in ("react", "react-dom")}
 
 
-def eventually(holds, patience: float = 60) -> float:
+def eventually(holds, patience: float = PATIENCE) -> float:
     """How long it took."""
     began = time.monotonic()
     while not holds():
@@ -108,12 +109,21 @@ def eventually(holds, patience: float = 60) -> float:
     return time.monotonic() - began
 
 
+def asks(driver: webdriver.Chrome) -> bool:
+    """Whether the page asks for a token."""
+    try:
+        return bool(Alert(driver).text)
+    except NoAlertPresentException:
+        return False
+
+
 def tried(driver: webdriver.Chrome, gateway: Gateway) -> None:
     with plain.connect(gateway.url, token="admin-demo") as admin:
         for it in (*BASE, TABLE, {"do": "grant", "on": "tickets", "privileges": ["select", "insert", "update", "delete"], "to": "mia"}):
             admin.request(it)
         admin.insert("tickets", [7, "mia", "<b>Router</b>", True])
         driver.get(f"http://127.0.0.1:{gateway.port}/examples/tickets.html")
+        eventually(lambda: asks(driver))
         Alert(driver).send_keys("mia-demo")
         Alert(driver).accept()
         eventually(lambda: driver.execute_script(SEEN) == ["7 <b>Router</b>"])
@@ -122,7 +132,7 @@ def tried(driver: webdriver.Chrome, gateway: Gateway) -> None:
         eventually(lambda: driver.execute_script(SEEN) == ["9223372036854775807 Late", "7 <b>Router</b>"])
         print("ok  a page shows rows as they change")
         gateway.signal(signal.SIGSTOP)
-        took = eventually(lambda: driver.execute_script(STATE) == "stale", 45)
+        took = eventually(lambda: driver.execute_script(STATE) == "stale")
         assert len(driver.execute_script(SEEN)) == 2
         gateway.signal(signal.SIGCONT)
         eventually(lambda: driver.execute_script(STATE) == "live")
@@ -147,9 +157,6 @@ def main() -> int:
     if not KIND:
         print("the pages in a browser did not run, since no gateway is built")
         return 0
-    options = webdriver.ChromeOptions()
-    for word in ("--headless=new", "--no-sandbox", "--disable-dev-shm-usage"):
-        options.add_argument(word)
     with tempfile.TemporaryDirectory(prefix="clients.") as name:
         pages = pathlib.Path(name) / "pages"
         shutil.copytree(TOP / "clients/js", pages)
@@ -159,10 +166,8 @@ def main() -> int:
                 shutil.copy(file, pages / f"umd/{it}.js")
         gateway = Gateway(pathlib.Path(name), "--pages", str(pages))
         try:
-            driver = webdriver.Chrome(options=options, service=webdriver.ChromeService("/usr/bin/chromedriver")
-                                      if hasattr(webdriver, "ChromeService") else None)
+            driver = browser()
             try:
-                driver.set_script_timeout(120)
                 tried(driver, gateway)
             finally:
                 driver.quit()

@@ -20,6 +20,22 @@ START = re.compile(r"(?m)^(?:\./gateway try --pages|frontend/gateway\.py --web) 
 BLOCK = re.compile(r"```(\w+) run\n(.*?)```\n(?:```text\n(.*?)```\n)?", re.DOTALL)
 
 
+# what the block of JavaScript leaves, as the blocks behind it print it
+WITHOUT_NODE = """
+from viewd import plain
+with plain.connect("ws://127.0.0.1:8080/live", token="mia-demo") as db:
+    db.insert("tickets", {"id": 201, "agent": "mia", "subject": "Door is open", "open": False})
+"""
+
+
+def has_node() -> bool:
+    """Whether there is one that the client runs in."""
+    if not shutil.which("node"):
+        return False
+    said = subprocess.run(["node", "--version"], stdout=subprocess.PIPE, text=True).stdout
+    return bool(found := re.match(r"v(\d+)", said)) and int(found[1]) >= 20
+
+
 def answers(port: int) -> bool:
     try:
         urllib.request.urlopen(f"http://127.0.0.1:{port}/readyz", timeout=PATIENCE).close()
@@ -60,14 +76,14 @@ def main() -> int:
                 assert gateway.poll() is None and time.monotonic() < end, "the gateway of the page does not start"
                 time.sleep(0.02)
             for kind, code, wanted in rest:
-                if kind == "js" and not shutil.which("node"):
-                    print("the block of JavaScript did not run, since there is no node")
-                    continue
+                if is_passed_over := kind == "js" and not has_node():
+                    print("the block of JavaScript did not run, since node (20 or newer) is not installed")
+                    kind, code, wanted = "python", WITHOUT_NODE, ""
                 ran = subprocess.run(words_of(kind, code.replace(":8080", f":{port}"), folder), cwd=folder, env=env, timeout=PATIENCE,
-                                     stdout=subprocess.PIPE, stderr=subprocess.STDOUT, text=True)
+                                     stdout=subprocess.PIPE, stderr=subprocess.PIPE, text=True)
                 is_well = ran.returncode == 0 and ran.stdout == wanted
-                passed, failed = passed + is_well, failed + (not is_well)
-                print(f"{'ok ' if is_well else 'FAILED'} a block of {kind}" + ("" if is_well else f", status {ran.returncode}, printed\n{ran.stdout}"))
+                passed, failed = passed + (is_well and not is_passed_over), failed + (not is_well)
+                print(f"{'ok ' if is_well else 'FAILED'} a block of {kind}" + ("" if is_well else f", status {ran.returncode}, printed\n{ran.stdout}{ran.stderr}"))
         finally:
             gateway.kill()
             gateway.wait()

@@ -51,6 +51,7 @@ class Store:
         until(self.answers)
 
     def answers(self):
+        assert self.process.poll() is None, "redis-server has ended"
         with contextlib.suppress(redis.RedisError):
             return self.client.ping()
 
@@ -133,7 +134,8 @@ def hashes_of(rows):
 def test_rows_come_change_and_go(gateway, store):
     with viewd.plain.connect(gateway.url, token="ann-demo") as ann, following(gateway, store):
         until(lambda: store.client.get(LIVE))
-        assert 0 < store.client.ttl(LIVE) <= 30 and store.held()[1] == {}
+        until(lambda: 0 < store.client.ttl(LIVE) <= 30)
+        assert store.held()[1] == {}
         ann.insert("notes", row(7, "a:b"), copies=2)
         until(lambda: store.held()[1] == hashes_of([row(7, "a:b")]))
         before = store.client.get(POSITION)
@@ -182,8 +184,8 @@ def test_one_that_starts_takes_over(gateway, store):
     with viewd.plain.connect(gateway.url, token="ann-demo") as ann, following(gateway, store) as first:
         ann.insert("notes", row(1))
         until(lambda: len(store.held()[1]) == 1)
+        own = store.client.get(POSITION).partition(" by ")[2]
         with following(gateway, store):
-            own = store.client.get(POSITION).partition(" by ")[2]
             until(lambda: store.client.get(POSITION).partition(" by ")[2] != own)
             ann.insert("notes", row(2))
             status, said = first.ended()
@@ -210,7 +212,14 @@ def test_exact_across_kills_of_each(gateway, store):
     with viewd.plain.connect(gateway.url, token="ann-demo", shortest=0.05) as ann, following(gateway, store, again=True) as follower:
         ann.write([{"on": "notes", "insert": row(0, "pair")}, {"on": "notes", "insert": row(LAST, "0")}])
         counts, number = [], 0
+        seed = random.randrange(1 << 32)
+        print(f"the seed is {seed}")
+        dice = random.Random(seed)
         ends = [follower.kill, store.kill, gateway.kill, lambda: store.client.execute_command("CLIENT", "KILL", "TYPE", "normal")]
+
+        def counted():
+            """As of the cache, how many writes there were."""
+            return int(store.held()[1].get(str(LAST), {"who": -1})["who"])
 
         def write():
             nonlocal number
@@ -223,13 +232,18 @@ def test_exact_across_kills_of_each(gateway, store):
                 with contextlib.suppress(viewd.NotSent, viewd.Undecided):
                     number = max(int(it["id"]) for it in ann.rows("notes", where={"who": "pair"}))
 
-        thread = threading.Thread(target=write)
+        def there():
+            while True:
+                with contextlib.suppress(viewd.NotSent, viewd.Undecided):
+                    return ann.rows("notes")
+
+        thread = threading.Thread(target=write, daemon=True)
         thread.start()
         try:
             for turn in range(8):
-                until(lambda: follower.keep() or len(store.held()[1]) == 2)
+                until(lambda: follower.keep() or counted() >= 3 * turn)
                 with contextlib.suppress(redis.RedisError):
-                    random.choice(ends)()
+                    dice.choice(ends)()
                 if store.process.poll() is not None:
                     store.start()
                 if gateway.process.poll() is not None:
@@ -241,8 +255,9 @@ def test_exact_across_kills_of_each(gateway, store):
                     assert {*held} == {count, str(LAST)}, held
                     counts.append(int(count))
             assert counts == sorted(counts), counts
+            until(lambda: follower.keep() or counted() > 20)
         finally:
             writing.set()
             thread.join()
-        until(lambda: follower.keep() or store.held()[1] == hashes_of(ann.rows("notes")))
-        assert number > 20 and max(counts) > 10
+        until(lambda: follower.keep() or store.held()[1] == hashes_of(there()))
+        assert max(counts) > 10

@@ -4,7 +4,6 @@ import contextlib
 import json
 import os
 import pathlib
-import shutil
 import sqlite3
 import subprocess
 import sys
@@ -18,7 +17,7 @@ import pytest
 HERE = pathlib.Path(__file__).resolve().parent
 sys.path.insert(0, str(HERE.parents[1] / "python/test"))
 
-from conftest import PATIENCE, gateway  # noqa: E402, F401
+from conftest import PATIENCE, browser, gateway, has_browser  # noqa: E402, F401
 from ports import free_port  # noqa: E402
 
 import viewd  # noqa: E402
@@ -149,7 +148,7 @@ def test_what_a_role_may_not_see_any_more_is_gone(gateway, ann):
 def test_exact_across_kills_of_each(gateway, ann):
     """Each write replaces a document by one of the next number: so there is one at each moment, and none twice."""
     def rows():
-        with contextlib.closing(sqlite3.connect(f"file:{search.index}?mode=ro", uri=True, timeout=60)) as base:
+        with contextlib.closing(sqlite3.connect(f"file:{search.index}?mode=ro", uri=True, timeout=PATIENCE)) as base:
             base.execute("begin")
             there = [json.loads(it)["id"] for (it,) in base.execute("select row from rows")]
             assert len(there) == base.execute("select count(*) from texts where texts match 'router'").fetchone()[0]
@@ -166,6 +165,7 @@ def test_exact_across_kills_of_each(gateway, ann):
                 assert len(rows()) == 1
             search.kill() if turn % 2 else gateway.kill()
             if turn % 2 == 0:
+                until(lambda: ann.state == "stale")
                 gateway.start()
             ann.update("documents", document(number, "mia", "Router"), {"id": number + 1})
             number += 1
@@ -178,16 +178,12 @@ def test_exact_across_kills_of_each(gateway, ann):
 
 
 def test_the_page(gateway, ann):
-    webdriver = pytest.importorskip("selenium.webdriver")
-    if not shutil.which("chromedriver"):
-        pytest.skip("chromium-driver is not installed")
-    options = webdriver.ChromeOptions()
-    for word in ("--headless=new", "--no-sandbox", "--disable-dev-shm-usage"):
-        options.add_argument(word)
+    if not has_browser():
+        pytest.skip("no Chromium is here")
     insert(ann, document(1, "mia", "Router restarts", "each <i>night</i> at two"), document(2, "mia", "Light"))
     with searching(gateway) as search:
         until(search.shows("", 1, 2))
-        driver = webdriver.Chrome(options=options)
+        driver = browser()
         try:
             driver.get(f"http://127.0.0.1:{search.port}/")
 
@@ -195,6 +191,7 @@ def test_the_page(gateway, ann):
                 return driver.execute_script("return [...document.querySelectorAll('li')].map((it) => it.textContent)")
 
             until(lambda: len(shown()) == 2)
+            until(lambda: driver.execute_script("return document.activeElement.tagName") == "INPUT")
             driver.switch_to.active_element.send_keys("nig")
             until(lambda: shown() == ["1 · Router restartseach <i>night</i> at two"])
             assert driver.execute_script("return [...document.querySelectorAll('mark')].map((it) => it.textContent)") == ["night"]

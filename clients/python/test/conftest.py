@@ -1,10 +1,12 @@
 """A gateway that a test plays, written from docs/PROTOCOL.md, and a gateway that runs."""
 import asyncio
 import hashlib
+import importlib.util
 import json
 import os
 import pathlib
 import selectors
+import shutil
 import signal
 import subprocess
 import sys
@@ -161,6 +163,32 @@ class Gateway:
         self.signal(signal.SIGCONT)
         self.signal(signal.SIGKILL)
         self.process.wait(PATIENCE)
+
+
+def has_browser() -> bool:
+    """Whether Chromium can be driven. NO_BROWSER says that it does not start here."""
+    return all(map(shutil.which, ("chromium", "chromedriver"))) and bool(importlib.util.find_spec("selenium")) and not os.environ.get("NO_BROWSER")
+
+
+def browser(*more: str):
+    """A Chromium without a window, asked for three times: the first start reads it from the disk."""
+    from selenium import webdriver
+    from selenium.common.exceptions import WebDriverException
+    from selenium.webdriver.chrome.service import Service
+    from urllib3.exceptions import HTTPError
+    options = webdriver.ChromeOptions()
+    for word in ("--headless=new", "--no-sandbox", "--disable-gpu", "--disable-dev-shm-usage", *more):
+        options.add_argument(word)
+    for wait in (1, 10, None):
+        try:
+            driver = webdriver.Chrome(options=options, service=Service(shutil.which("chromedriver")))
+            driver.set_script_timeout(PATIENCE)
+            driver.set_page_load_timeout(PATIENCE)
+            return driver
+        except (WebDriverException, HTTPError, OSError):
+            if wait is None:
+                raise
+            time.sleep(wait)
 
 
 BASE = [*({"do": "create_role", "name": name} for name in ("ann", "mia")),
