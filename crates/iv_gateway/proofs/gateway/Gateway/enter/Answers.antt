@@ -11,7 +11,7 @@ use Rattle.iv_gateway.proofs.gateway.Gateway.enter.Goals as goal
 pub returns : goal.returns
 returns c = λ g b.
     let who = Some (fresh (string_bytes c.args.role) c.args.digest.items) in
-    let there : IsAlive (record g { clients = set g.clients c.args.client (Some (fresh (string_bytes c.args.role) c.args.digest.items)) }) (record c.args.self.now { clients = c.enter.new.clients }) = record {
+    let there : IsAlive (record g { clients = set g.clients c.args.client (Some (fresh (string_bytes c.args.role) c.args.digest.items)) }) (record c.args.self.now { clients = c.enter.new.self }) = record {
       tokens = b.tokens;
       machine = b.machine;
       seats = b.seats;

@@ -18,7 +18,7 @@ returns-in-None c = λ g b.
 pub returns-in_ok-settle_told-in-Some : goal.returns-in_ok-settle_told-in-Some
 returns-in_ok-settle_told-in-Some c = λ g b.
     let start : Gate = record g { clients = set g.clients c.args.client None } in
-    let gone : IsAlive (record g { clients = set g.clients c.args.client None }) (record c.args.self.now { clients = c.leave.new.clients }) = record {
+    let gone : IsAlive (record g { clients = set g.clients c.args.client None }) (record c.args.self.now { clients = c.leave.new.self }) = record {
       tokens = b.tokens;
       machine = b.machine;
       seats = b.seats;
