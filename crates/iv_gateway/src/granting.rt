@@ -141,12 +141,7 @@ fn text_granted(alloc: Global, engine: &Engine, grants: &Grants) -> Result<Vec<u
 }
 
 /// Whether something is granted to the role of a client.
-fn is_granted_at(
-    clients: &[Option<Client>],
-    client: u32,
-    engine: &Engine,
-    grants: &Grants,
-) -> bool
+fn is_granted_at(clients: &[Option<Client>], client: u32, engine: &Engine, grants: &Grants) -> bool
     requires { engine.now.failed ≡ false }
     ensures { result ≡ if_some (client_at clients.now client) false (λ (k : Kept). is_granted engine.now.frame grants.now k.role) }
 {
