@@ -18,11 +18,32 @@ use Rattle.iv_gate.specs.Gate.{granted_by, is_accepted, reply_in}
 use Rattle.iv_gateway.specs.Granting.{IsGranting, granted_in, hearing_granted, holding_for, text_granted}
 use Rattle.iv_hall.specs.Hearing.{hearing_lines}
 use Rattle.iv_gateway.specs.declared.granting.Grants.{Grants}
-use Rattle.iv_hall.proofs.Each.{both_all, same_all, still_all}
 use Rattle.iv_hall.proofs.Heard.{all_append}
 use Rattle.iv_gateway.proofs.Keeping.{keeps_all, kept_telling, nonempty}
 
 -- ---- all places
+
+-- the same is done to each
+pub same_all : {C : Type 0} (f h : C → C) → ((c : C) → f c ≡ h c) → (os : List (Option C)) → at_all f os ≡ at_all h os
+same_all f h e os i = at_all (λ c. e c i) os
+
+still_slot : {C : Type 0} (o : Option C) → o ≡ option_map (λ c. c) o
+still_slot None = refl
+still_slot (Some c) = refl
+
+-- nothing is done to any
+pub still_all : {C : Type 0} (os : List (Option C)) → os ≡ at_all (λ c. c) os
+still_all [] = refl
+still_all (o ∷ os) = λ i. still_slot o i ∷ still_all os i
+
+both_slot : {C : Type 0} (f h : C → C) (o : Option C) → option_map f (option_map h o) ≡ option_map (λ c. f (h c)) o
+both_slot f h None = refl
+both_slot f h (Some c) = refl
+
+-- one thing after another is done to each
+pub both_all : {C : Type 0} (f h : C → C) (os : List (Option C)) → at_all f (at_all h os) ≡ at_all (λ c. f (h c)) os
+both_all f h [] = refl
+both_all f h (o ∷ os) = λ i. both_slot f h o i ∷ both_all f h os i
 
 -- the first of them are changed
 abbrev pub first_all : {C : Type 0} → (C → C) → ℕ → List (Option C) → List (Option C)
@@ -87,7 +108,7 @@ some_told n ns false k = refl
 
 -- where the text is empty nothing is granted
 pub tells_none : ((t : Told) → IsLine (told_text t)) → (p : Name → Bool) (names : List Name) (places : Places) → (length (text_granted names) == 0) ≡ true → places ≡ at_all (told_names p names) places
-tells_none law p [] places h = still_all (told_names p []) (λ k. none_told (p k.role) k) places
+tells_none law p [] places h = still_all places ∙ same_all (λ k. k) (told_names p []) (λ k. none_told (p k.role) k) places
 tells_none law p (n ∷ ns) places h = absurd (false≢true (sym (nonempty (granted n) (text_granted ns) (law (granted n))) ∙ h))
 
 pub tells_some : (p : Name → Bool) (names : List Name) (places : Places) → (length (text_granted names) == 0) ≡ false → at_all (holding_for p (text_granted names)) places ≡ at_all (told_names p names) places
@@ -137,7 +158,7 @@ stands_granted es feeds ls more slots places b =
 
 -- by a refused command nothing is granted
 pub grants_none : (b : Bool) (f : Frame) (gs : Grants) (places : Places) → b ≡ false → places ≡ at_all (hearing_granted b f gs) places
-grants_none b f gs places h = still_all (hearing_granted false f gs) (λ k. refl) places ∙ ap (λ z. at_all (hearing_granted z f gs) places) (sym h)
+grants_none b f gs places h = still_all places ∙ ap (λ z. at_all (hearing_granted z f gs) places) (sym h)
 
 -- what is granted in a frame is granted by the act
 pub granted_same : (ls ms : List Line) (e f : Frame) (act : Act) (gs : Grants) (places : Places) → ls ≡ ms → f ≡ e → IsGranting act gs

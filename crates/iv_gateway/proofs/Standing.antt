@@ -1,5 +1,5 @@
 -- What the code has of clients stands for the clients, whatever is done to both.
-use Rattle.std.proofs.Common.{◌≡◌, ℕ, Bool, true, false, cond, List, [], ◌++◌, map, refl, ap, ◌∙◌, sym, append-nil}
+use Rattle.std.proofs.Common.{◌≡◌, ℕ, Bool, true, false, cond, List, [], ◌∷◌, ◌++◌, map, Option, Some, None, option_map, refl, ap, ◌∙◌, sym, append-nil}
 use Rattle.iv_access.specs.Rights.{Name}
 use Rattle.iv_machine.specs.Act.{Line}
 use Rattle.iv_message.specs.Told.{Told, granted, settled, told_text}
@@ -8,7 +8,6 @@ use Rattle.iv_clients.specs.Feeds.{Feed}
 use Rattle.iv_clients.specs.Journal.{Entry}
 use Rattle.iv_clients.specs.Kept.{Places, holding, holding_all, holding_owed, keeping_on, kept, kept_slots}
 use Rattle.iv_hall.specs.Hearing.{hearing_lines}
-use Rattle.iv_hall.proofs.Each.{both_all}
 use Rattle.iv_gateway.proofs.Keeping.{keeps_all, keeps_at, kept_one, kept_settling, kept_telling}
 
 pub stands_told : (es : List Entry) (slots : Slots) (places : Places) (m : ℕ) (t : Told) (text : List ℕ) → told_text t ≡ text → places ≡ kept_slots slots
@@ -23,6 +22,14 @@ stands_settled es slots places text e b =
 
 -- ---- lines
 
+twice_slot : {C D E : Type 0} (f : D → E) (h : C → D) (o : Option C) → option_map f (option_map h o) ≡ option_map (λ c. f (h c)) o
+twice_slot f h None = refl
+twice_slot f h (Some c) = refl
+
+twice : (f h : Client → Client) (slots : Slots) → at_all f (at_all h slots) ≡ at_all (λ c. f (h c)) slots
+twice f h [] = refl
+twice f h (o ∷ os) = λ i. twice_slot f h o i ∷ twice f h os i
+
 pub no_grants : (b : Bool) (names : List Name) → names ≡ [] → cond b (map granted names) [] ≡ []
 no_grants true names e = ap (map granted) e
 no_grants false names e = refl
@@ -32,7 +39,7 @@ pub stands_heard : (es : List Entry) (feeds : List Feed) (ls : List Line) (more 
 stands_heard es feeds ls more none slots places b =
     ap (λ z. at_all (keeping_on ls) (at_all (hearing_lines feeds ls) z)) b
     ∙ (ap (at_all (keeping_on ls)) (keeps_all tells_all (hearing_lines feeds ls) one slots)
-    ∙ (keeps_all (staying ls) (keeping_on ls) (λ c. refl) (at_all tells_all slots) ∙ ap kept_slots (both_all (staying ls) tells_all slots)))
+    ∙ (keeps_all (staying ls) (keeping_on ls) (λ c. refl) (at_all tells_all slots) ∙ ap kept_slots (twice (staying ls) tells_all slots)))
   where
     tells_all : Client → Client
     tells_all c = telling es (own_lines feeds ls c.subs ++ more c) c
