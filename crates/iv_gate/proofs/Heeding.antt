@@ -25,7 +25,8 @@ use Rattle.iv_clients.specs.Journal.{is_shared}
 use Rattle.iv_gate.specs.Events.{Event, next}
 use Rattle.iv_gate.specs.Gate.{Gate, granted_by, in_session, is_accepted, reply_in, told_of}
 use Rattle.iv_gate.specs.Replies.{told_by}
-use Rattle.iv_gate.specs.Seen.{EndsForCause, HearsFollowed, IsEnd, hindrance, is_told_of}
+use Rattle.iv_gate.specs.Implied.{EndsForCause, HearsFollowed, IsCaused}
+use Rattle.iv_gate.specs.Seen.{hindrance, is_told_of}
 use Rattle.iv_gate.proofs.Doing.{AreCalm, is_news}
 use Rattle.iv_gate.proofs.News.{Hears, quietly, by_command, by_contents, IsToldContents, IsToldOf}
 use Rattle.iv_gate.proofs.Machine.{find_passes, is_kept, not_finish, number_same, some_is_none, there_some}
@@ -249,7 +250,7 @@ own_each g c a = both {P = λ (s : Sub). find (λ (x : Sub). s.own == x.own) c.s
 -- ---- ends
 
 abbrev IsEndTold : Gate → Event → Client → Told → Type 0
-IsEndTold g e c (over own rel why rows) = IsEnd g e c own rel why
+IsEndTold g e c (over own rel why rows) = IsCaused g e c own rel why
 IsEndTold g e c _ = Unit {0}
 
 calm_end : (g : Gate) (e : Event) (c : Client) (t : Told) → is_news t ≡ false → IsEndTold g e c t
@@ -274,7 +275,7 @@ module _ (g : Gate) (e : Event) (b : IsSoundGate g) (c d : Client) (a : IsToldOf
       by false = tt
   one_end (ended n k why rows) x s o = by (k == s.feed) refl
     where
-      the_end : k ≡ s.feed → IsEnd g e c s.own (rel_read g.feeds k) why
+      the_end : k ≡ s.feed → IsCaused g e c s.own (rel_read g.feeds k) why
       the_end same =
           let y = o.follows in
           let there : feed_of g.feeds k ≡ Some y.feed = ap (feed_of g.feeds) same ∙ y.found in

@@ -31,7 +31,7 @@ pub record AddsToView (g : Gate) (c : Client) (own k : ℕ) : Type 0 where
   pub sum : (q : List Cell) → weight_of (all_rows own (told c)) q ≡ pos (copies q (seen g.machine c.role (rel_read g.feeds k)))
 
 asked_by : (c : Client) (own : ℕ) (rel : Name) → IsAskedIn c.messages (told c) own rel → IsAskedBy c own rel
-asked_by c own rel a = record { place = a.place; id = a.id; columns = a.columns; reply = (a.text, a.there, a.asks, a.reply) }
+asked_by c own rel a = (a.place, a.id, a.columns, (a.text, a.there, a.asks, a.reply))
 
 pub adds_to_view : (g : Gate) → IsSoundGate g → (m : ℕ) (c : Client) (own k : ℕ) → IsClient g m c → followed c own ≡ Some k → AddsToView g c own k
 adds_to_view g b m c own k x h = look c.subs (b.clients m c x.there x.stays).follows h

@@ -25,8 +25,8 @@ use Rattle.iv_clients.specs.Clients.{Client, Sub, all_shown, followed, followed_
 use Rattle.iv_clients.specs.Feeds.{Feed, ends_in, feed_of, is_end, rel_read}
 use Rattle.iv_gate.specs.Events.{Event, next}
 use Rattle.iv_gate.specs.Gate.{Gate, granted_by, is_accepted, reply_in, told_of}
-use Rattle.iv_gate.specs.Replies.{IsClient, told_by}
-use Rattle.iv_gate.specs.Seen.{TellsChanges, TellsDifference, all_rows, change_told, is_told_of, read_by, rows_told, seen}
+use Rattle.iv_gate.specs.Replies.{ByClient, IsClient, told_by}
+use Rattle.iv_gate.specs.Seen.{all_rows, change_told, is_told_of, read_by, rows_told, seen}
 use Rattle.iv_gate.proofs.Doing.{AreCalm, is_news}
 use Rattle.iv_gate.proofs.Growing.{behind_front, map_front}
 use Rattle.iv_gate.proofs.Showing.{are_shown}
@@ -390,6 +390,14 @@ of_contents g c d own a = by (own == (c.given + 1)) refl
 
 -- ---- the difference
 
+-- Of a number that follows a feed behind an event, and did before or is given now, the event tells the difference of what it shows, in one
+-- text. Of one that follows none behind it, it tells nothing, or its end, which takes back all that it showed.
+pub record TellsApart (g : Gate) (e : Event) (c d : Client) (own : ℕ) : Type 0 where
+  pub goes_on : is_some (followed d own) ≡ true → (is_some (followed c own) ≡ true) ⊎ (c.given < own)
+      → filter (is_told_of own) (told_by c d) ≡ change_told own (difference (read_by g c own) (read_by (next g e) d own))
+  pub stops : followed d own ≡ None → (filter (is_told_of own) (told_by c d) ≡ [])
+      ⊎ ((rel : Name) × (why : Cause) × (filter (is_told_of own) (told_by c d) ≡ over own rel why (difference (read_by g c own) []) ∷ []))
+
 -- what it was told stays, and more comes behind it
 text_kept : (g : Gate) (e : Event) (m : ℕ) (c d : Client) → IsClient g m c → IsClient (next g e) m d → told d ≡ told c ++ told_by c d
 text_kept g e m c d a b =
@@ -466,14 +474,14 @@ module _ (adds : Adds) (sounds : Sounds) (exact : (xs ys : List (List Cell)) →
         weights = λ q. sym (ap (λ rows. weight_of rows q) (ap (all_rows own) t ∙ rows_of_change (difference xs ys))) ∙ weighs f p q;
       }))
 
-  tells_difference : Hears g (next g e) c d → TellsDifference g e c d own
+  tells_difference : Hears g (next g e) c d → TellsApart g e c d own
   tells_difference h = by (texts_of h)
     where
-      by : Texts g c d own → TellsDifference g e c d own
+      by : Texts g c d own → TellsApart g e c d own
       by (silent t) = record { goes_on = λ f p. told_exactly [] [] t f p; stops = λ f. inl t }
       by (differs xs ys t s) = record { goes_on = λ f p. told_exactly xs ys t f p; stops = λ f. absurd (false≢true (sym (ap is_some f) ∙ s)) }
       by (ends_so rel why t s) = record { goes_on = λ f p. absurd (false≢true (sym (ap is_some s) ∙ f)); stops = λ f. inr (rel, why, t) }
 
-pub tells_changes : Adds → Sounds → ((xs ys : List (List Cell)) → IsDifference xs ys (difference xs ys))
-    → ((xs ys : List (List Cell)) (rows : List (List Cell × ℤ)) → IsDifference xs ys rows → rows ≡ difference xs ys) → (g : Gate) (e : Event) → IsSoundGate g → IsSoundGate (next g e) → TellsChanges g e
-tells_changes adds sounds exact only g e b behind m c d x y own = tells_difference adds sounds exact only g e b m c d x y own behind (next_all sounds g e b m c d x.there x.stays y.there y.stays)
+pub tells_apart : Adds → Sounds → ((xs ys : List (List Cell)) → IsDifference xs ys (difference xs ys))
+    → ((xs ys : List (List Cell)) (rows : List (List Cell × ℤ)) → IsDifference xs ys rows → rows ≡ difference xs ys) → (g : Gate) (e : Event) → IsSoundGate g → IsSoundGate (next g e) → ByClient g e (λ m c d. (own : ℕ) → TellsApart g e c d own)
+tells_apart adds sounds exact only g e b behind m c d x y own = tells_difference adds sounds exact only g e b m c d x y own behind (next_all sounds g e b m c d x.there x.stays y.there y.stays)
