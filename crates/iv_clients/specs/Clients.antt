@@ -46,14 +46,10 @@ told_itself es t = record { told = t; entries = es; answers = true }
 abbrev pub greeting : List Entry → Name → List Told
 greeting es role = welcome role ∷ (shape_for role es ++ settled ∷ [])
 
--- a client that was told nothing
-abbrev pub untold : Name → List ℕ → Client
-untold role d =
-    record { role = role; digest = d; given = 0; subs = []; unsynced = []; sendable = []; asked = 0; owed = false; dropped = false; messages = []; handed = [] }
-
 -- a client that comes in, when these entries are accepted
 abbrev pub fresh : List Entry → Name → List ℕ → Client
-fresh es role digest = record (untold role digest) { unsynced = map (told_itself es) (greeting es role) }
+fresh es role digest = record { role = role; digest = digest; given = 0; subs = []; unsynced = map (told_itself es) (greeting es role); sendable = [];
+    asked = 0; owed = false; dropped = false; messages = []; handed = [] }
 
 -- all that it was told, in order
 abbrev pub all_shown : Client → List Shown
@@ -118,9 +114,6 @@ closing own c = record c { subs = filter (λ s. not (own == s.own)) c.subs }
 -- the feed that an own number follows
 abbrev pub followed_by : List Sub → ℕ → Option ℕ
 followed_by subs own = option_map (λ s. s.feed) (find (λ s. own == s.own) subs)
-
-abbrev pub followed : Client → ℕ → Option ℕ
-followed c own = followed_by c.subs own
 
 -- ---- bounds
 

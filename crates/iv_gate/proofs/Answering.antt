@@ -14,7 +14,7 @@ use Rattle.iv_machine.specs.State.{State}
 use Rattle.iv_message.specs.Message.{Message, no_json, too_long, no_object, no_request, request}
 use Rattle.iv_message.specs.Told.{Told, welcome, replied, opened, settled}
 use Rattle.iv_clients.specs.Bounds.{most_subs}
-use Rattle.iv_clients.specs.Clients.{Client, Sub, answered, at_client, client_at, closing, followed, followed_by, fresh, may_say, saying, told, told_one}
+use Rattle.iv_clients.specs.Clients.{Client, Sub, answered, at_client, client_at, closing, followed_by, fresh, may_say, saying, told, told_one}
 use Rattle.iv_clients.specs.Feeds.{Feed, feed_for, room_for, seat_of}
 use Rattle.iv_clients.specs.Journal.{Entry, said_by, shape_for}
 use Rattle.iv_gate.specs.Events.{Event, presented, message, gone, known, ticked, synced, handed, failed, happens, next}
@@ -97,7 +97,7 @@ follows_none (x ∷ xs) own h = by (own == x.own) h (follows_none xs own)
 
 closes_at : (g : Gate) (m : ℕ) (c : Client) (text : List ℕ) (id : Option Data) (own : ℕ) (d : Client) → client_at g.clients m ≡ Some (saying text c) → client_at (settles (closes g m c id own)).clients m ≡ Some d
     → is_own own d.subs ≡ false
-closes_at g m c text id own d h k = by (followed c own) refl k
+closes_at g m c text id own d h k = by (followed_by c.subs own) refl k
   where
     h2 : Gate
     h2 = record g { clients = at_client m (closing own) g.clients }
@@ -110,7 +110,7 @@ closes_at g m c text id own d h k = by (followed c own) refl k
     same : (old : Gate) → Behind m old.clients old.clients
     same old x t = record { now = x; there = t; so = hears_same x }
 
-    by : (o : Option ℕ) → followed c own ≡ o
+    by : (o : Option ℕ) → followed_by c.subs own ≡ o
         → client_at (settles (if_some o (tells g m (replied id (refused unknown_subscription))) (λ i. swept (tells (record g { clients = at_client m (closing own) g.clients }) m (replied id done)) i))).clients m ≡ Some d → is_own own d.subs ≡ false
     by None f e =
         let t = replied id (refused unknown_subscription) in

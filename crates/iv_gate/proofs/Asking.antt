@@ -13,7 +13,7 @@ use Rattle.iv_machine.specs.State.{State}
 use Rattle.iv_message.specs.Message.{Message, no_json, too_long, no_object, no_request, request}
 use Rattle.iv_message.specs.Told.{replied, fault, unasked}
 use Rattle.iv_clients.specs.Bounds.{most_feeds, most_subs}
-use Rattle.iv_clients.specs.Clients.{Client, at_client, client_at, closing, followed, staying, telling, told}
+use Rattle.iv_clients.specs.Clients.{Client, at_client, client_at, closing, followed_by, staying, telling, told}
 use Rattle.iv_clients.specs.Feeds.{Feed, Seat, ends_in, feed_for, has_room, is_of_role, is_reading, load, next_seat, room_for, seat_of}
 use Rattle.iv_clients.specs.Journal.{Entry, line_said, said_by}
 use Rattle.iv_gate.specs.Gate.{Gate, acts, begun_for, closes, done_for, entered, in_session, is_accepted, joins, ran, reads, reads_first, reply_in, reply_to, requests, seated, subscribes, swept, tells, told_of, entries_of, has_shape_room}
@@ -149,7 +149,7 @@ reads_sound adds sounds g m c id rel same b = test (nat_lt (length c.subs) most_
     test false = tells_sound g m (replied id (refused too_many)) (quiet_replied id (refused too_many)) b
 
 closes_sound : Adds → Sounds → (g : Gate) (m : ℕ) (c : Client) (id : Option Data) (own : ℕ) → IsSoundGate g → IsSoundGate (closes g m c id own)
-closes_sound adds sounds g m c id own b = by (followed c own)
+closes_sound adds sounds g m c id own b = by (followed_by c.subs own)
   where
     h : Gate
     h = record g { clients = at_client m (closing own) g.clients }

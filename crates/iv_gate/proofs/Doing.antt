@@ -14,7 +14,7 @@ use Rattle.iv_machine.specs.State.{State}
 use Rattle.iv_message.specs.Message.{Message, no_json, too_long, no_object, no_request, request}
 use Rattle.iv_message.specs.Told.{Told, changed, over, granted, replied, fault, unasked}
 use Rattle.iv_clients.specs.Bounds.{most_subs}
-use Rattle.iv_clients.specs.Clients.{Client, Slots, Sub, at_client, closing, followed, is_followed, moved, moved_sub, told, told_one}
+use Rattle.iv_clients.specs.Clients.{Client, Slots, Sub, at_client, closing, followed_by, is_followed, moved, moved_sub, told, told_one}
 use Rattle.iv_clients.specs.Feeds.{Feed, feed_for, feed_of, is_reading, room_for, seat_of}
 use Rattle.iv_clients.specs.Journal.{Entry, is_shared, line_said, said_by}
 use Rattle.iv_gate.specs.Gate.{Gate, acts, begun_for, closes, done_for, feed_begun, in_session, joined, joined_by, joins, ran, reads, reads_first, reply_to, requests, seated, shut, subscribes, swept, tells, has_shape_room}
@@ -256,7 +256,7 @@ module _ (sounds : Sounds) (g : Gate) (m : ℕ) (c : Client) where
       by false e o = telling_done g m c (replied id (refused too_many)) refl refl refl
 
   closes_done : (id : Option Data) (own : ℕ) → IsSoundState g.machine → IsDone g m c (closes g m c id own)
-  closes_done id own b = by (followed c own)
+  closes_done id own b = by (followed_by c.subs own)
     where
       h : Gate
       h = record g { clients = at_client m (closing own) g.clients }

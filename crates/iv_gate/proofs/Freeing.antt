@@ -16,7 +16,7 @@ use Rattle.iv_machine.specs.State.{State, Subscription, start}
 use Rattle.iv_message.specs.Message.{Message, no_json, too_long, no_object, no_request, request}
 use Rattle.iv_message.specs.Told.{Told, replied, opened, fault, unasked, settled}
 use Rattle.iv_clients.specs.Bounds.{entry_session, most_subs}
-use Rattle.iv_clients.specs.Clients.{Client, Shown, Slots, Sub, answered, at_all, at_client, beating, checked, client_at, closing, dropping, followed, followed_by, following, fresh, handing, is_followed, is_free, is_slow, may_say, moved, moved_sub, opens, released, saying, settling, staying, telling, told_one}
+use Rattle.iv_clients.specs.Clients.{Client, Shown, Slots, Sub, answered, at_all, at_client, beating, checked, client_at, closing, dropping, followed_by, following, fresh, handing, is_followed, is_free, is_slow, may_say, moved, moved_sub, opens, released, saying, settling, staying, telling, told_one}
 use Rattle.iv_clients.specs.Feeds.{Feed, Seat, feed_for, feed_of, is_of_role, is_reading, room_for, seat_of, without_seat}
 use Rattle.iv_clients.specs.Journal.{Entry, IsEntry, line_said, said_by, shape_for}
 use Rattle.iv_clients.specs.Tokens.{Token}
@@ -328,12 +328,12 @@ other_stays own k j given (x ∷ xs) o f w v = by (own == x.own) refl f (j == x.
 
 using_closes : (g : Gate) (m : ℕ) (c : Client) (id : Option Data) (own given : ℕ) → ((d : Client) → client_at g.clients m ≡ Some d → d.subs ≡ c.subs) → AreOwn given c.subs → IsSoundGate g → IsUsing none_but g
     → IsUsing none_but (closes g m c id own)
-using_closes g m c id own given same o b a = by (followed c own) refl
+using_closes g m c id own given same o b a = by (followed_by c.subs own) refl
   where
     h : Gate
     h = record g { clients = at_client m (closing own) g.clients }
 
-    by : (p : Option ℕ) → followed c own ≡ p → IsUsing none_but (if_some p (tells g m (replied id (refused unknown_subscription))) (λ k. swept (tells (record g { clients = at_client m (closing own) g.clients }) m (replied id done)) k))
+    by : (p : Option ℕ) → followed_by c.subs own ≡ p → IsUsing none_but (if_some p (tells g m (replied id (refused unknown_subscription))) (λ k. swept (tells (record g { clients = at_client m (closing own) g.clients }) m (replied id done)) k))
     by None e = using_tells none_but g m (replied id (refused unknown_subscription)) a
     by (Some k) e =
         let i = using_swept [] (tells h m (replied id done)) k b.feeds b.state.numbers (using_tells (but_of (k ∷ [])) h m (replied id done) (record {

@@ -16,7 +16,7 @@ use Rattle.iv_machine.specs.State.{State, Subscription, start}
 use Rattle.iv_message.specs.Message.{Message, no_json, too_long, no_object, no_request, request}
 use Rattle.iv_message.specs.Told.{Told, replied, fault, unasked, settled}
 use Rattle.iv_clients.specs.Bounds.{entry_session, most_feeds, most_subs}
-use Rattle.iv_clients.specs.Clients.{Client, Shown, Slots, Sub, answered, at_all, at_client, beating, checked, client_at, closing, dropping, followed, fresh, handing, has_role, is_followed, is_slow, may_say, moved, opens, released, saying, settling, told_one, telling}
+use Rattle.iv_clients.specs.Clients.{Client, Shown, Slots, Sub, answered, at_all, at_client, beating, checked, client_at, closing, dropping, followed_by, fresh, handing, has_role, is_followed, is_slow, may_say, moved, opens, released, saying, settling, telling, told_one}
 use Rattle.iv_clients.specs.Feeds.{Feed, Seat, ends_in, feed_for, feed_of, is_of_role, is_reading, room_for, seat_of, without_seat}
 use Rattle.iv_clients.specs.Journal.{Entry, IsEntry, is_shared, line_said, said_by, shape_for}
 use Rattle.iv_clients.specs.Tokens.{Token}
@@ -172,7 +172,7 @@ kept_reads adds sounds g m c id rel same s b = test (nat_lt (length c.subs) most
     test false = kept_tells g m (replied id (refused too_many)) b
 
 kept_closes : (g : Gate) (m : ℕ) (c : Client) (id : Option Data) (own : ℕ) → IsSoundGate g → IsKept g → IsKept (closes g m c id own)
-kept_closes g m c id own s b = by (followed c own)
+kept_closes g m c id own s b = by (followed_by c.subs own)
   where
     h : Gate
     h = record g { clients = at_client m (closing own) g.clients }

@@ -17,7 +17,8 @@ use Rattle.iv_clients.specs.Feeds.{Feed, rel_read, seat_of}
 use Rattle.iv_clients.specs.Journal.{Entry, is_shape, is_shared, line_said, said_by, shape_for, shape_of}
 use Rattle.iv_gate.specs.Events.{Event, presented, message, gone, known, ticked, synced, handed, failed, next}
 use Rattle.iv_gate.specs.Gate.{Gate, granted_by, has_shape_room, in_session, is_accepted, most_shape, reply_in, reply_to, shape_text, told_of}
-use Rattle.iv_gate.specs.Laws.{ShapeIsBounded, ShapeIsTold, entries_by, is_made, new_entries}
+use Rattle.iv_gate.specs.Implied.{ShapeIsBounded}
+use Rattle.iv_gate.specs.Laws.{ShapeIsTold, entries_by, is_made, new_entries}
 use Rattle.iv_gate.specs.Runs.{Runs, begins, goes_on, begins_again}
 use Rattle.iv_gate.proofs.Answering.{was_there}
 use Rattle.iv_gate.proofs.Entering.{same_card}

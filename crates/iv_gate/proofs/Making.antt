@@ -1,5 +1,5 @@
 -- The entries that make the shape lead, without the others, to the same roles, memberships, rights, relations and policies.
-use Rattle.std.proofs.Common.{◌≡◌, ℕ, Bool, true, false, cond, List, [], ◌∷◌, Some, None, refl, ap, ◌∙◌, sym, subst}
+use Rattle.std.proofs.Common.{◌≡◌, ℕ, Bool, true, false, cond, List, [], ◌∷◌, Some, None, option_map, refl, ap, ◌∙◌, sym, subst}
 use Rattle.std.specs.Prelude.{filter, option_and_then}
 use Rattle.std.specs.List.{AllByRecursion}
 use Rattle.std.proofs.lemmas.Bool.{false≢true}
@@ -15,7 +15,7 @@ use Rattle.iv_machine.specs.State.{State, start}
 use Rattle.iv_clients.specs.Bounds.{entry_session}
 use Rattle.iv_clients.specs.Journal.{Entry, IsEntry, is_shape, is_shared}
 use Rattle.iv_gate.specs.Gate.{Gate, in_session}
-use Rattle.iv_gate.specs.Laws.{MakesShape}
+use Rattle.iv_gate.specs.Laws.{MakesShape, shared}
 use Rattle.iv_gate.specs.Restoring.{all_replayed, passed, replayed}
 use Rattle.iv_gate.specs.Runs.{Runs}
 use Rattle.iv_gate.proofs.Holding.{runs_held}
@@ -163,8 +163,12 @@ all_make s t u (e ∷ es) w p q m h =
           same = r.same;
         }
 
+same_frame : (s t : State) → SameShape s t → (shared s).frame ≡ (shared t).frame
+same_frame s t a = λ i. record { cap = a.cap i; rights = a.rights i; catalog = a.catalog i; sessions = []; subscriptions = []; last = 0 }
+
 pub runs_make : Adds → Starts → Sounds → (cap : ℕ) (g : Gate) → Runs cap g → MakesShape cap g
 runs_make adds starts sounds cap g r =
     let l = runs_led adds starts sounds cap g r in
     let m = all_make (start cap) (start cap) l.end g.entries (runs_held cap g r).well (start_quiet cap) (start_quiet cap) (record { cap = refl; rights = refl; catalog = refl }) l.replays in
-    record { state = m.end; replays = m.replays; rights = l.same.rights ∙ m.same.rights; catalog = l.same.catalog ∙ m.same.catalog }
+    ap (option_map (λ s. (shared s).frame)) m.replays
+    ∙ ap Some (sym (same_frame g.machine m.end (record { cap = l.same.cap ∙ m.same.cap; rights = l.same.rights ∙ m.same.rights; catalog = l.same.catalog ∙ m.same.catalog })))

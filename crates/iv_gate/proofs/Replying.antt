@@ -11,7 +11,7 @@ use Rattle.iv_machine.specs.Machine.{step}
 use Rattle.iv_message.specs.Message.{Message, no_json, too_long, no_object, no_request, request}
 use Rattle.iv_message.specs.Told.{Told, replied, opened, fault, unasked}
 use Rattle.iv_clients.specs.Bounds.{most_subs}
-use Rattle.iv_clients.specs.Clients.{Client, Slots, Sub, answered, at_all, at_client, client_at, closing, followed, following, is_followed, moved, saying, settling, staying, telling, told, told_one}
+use Rattle.iv_clients.specs.Clients.{Client, Slots, Sub, answered, at_all, at_client, client_at, closing, followed_by, following, is_followed, moved, saying, settling, staying, telling, told, told_one}
 use Rattle.iv_clients.specs.Feeds.{Feed, feed_for, feed_of, is_reading, room_for, seat_of, without_feed}
 use Rattle.iv_clients.specs.Journal.{Entry, line_said, said_by, shape_for}
 use Rattle.iv_gate.specs.Gate.{Gate, acts, begun_for, closes, columns_in, done_for, entered, feed_begun, hears, in_session, is_accepted, joined, joined_by, joins, next_own, ran, reads, reads_first, reply_to, requests, seated, settles, shut, subscribes, swept, tells, told_of, informs, entries_of, has_shape_room}
@@ -278,7 +278,7 @@ abbrev pub act_reply : Gate → Client → Option Data → Act → Told
 act_reply g c id (begin role) = fault 2
 act_reply g c id finish = fault 2
 act_reply g c id (subscribe rel) = read_reply g c id rel
-act_reply g c id (unsubscribe own) = replied id (if is_some (followed c own) then done else refused unknown_subscription)
+act_reply g c id (unsubscribe own) = replied id (if is_some (followed_by c.subs own) then done else refused unknown_subscription)
 act_reply g c id act = other_reply g c id act
 
 abbrev pub said_reply : Gate → Client → Message → Told
@@ -361,8 +361,8 @@ module _ (g : Gate) (m : ℕ) (c : Client) (text : List ℕ) where
       test false = answers_plain g s (replied id (refused too_many)) m (saying text c) refl e
 
   answers_closes : (id : Option Data) (own : ℕ) → client_at g.clients m ≡ Some (saying text c)
-      → Answers g (request id (unsubscribe own)) (replied id (if is_some (followed c own) then done else refused unknown_subscription)) m (saying text c) (closes g m c id own).clients
-  answers_closes id own e = by (followed c own)
+      → Answers g (request id (unsubscribe own)) (replied id (if is_some (followed_by c.subs own) then done else refused unknown_subscription)) m (saying text c) (closes g m c id own).clients
+  answers_closes id own e = by (followed_by c.subs own)
     where
       h : Gate
       h = record g { clients = at_client m (closing own) g.clients }

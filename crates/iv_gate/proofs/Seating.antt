@@ -8,7 +8,7 @@ use Rattle.iv_machine.specs.Act.{Act, begin, finish, create_role, create_table, 
 use Rattle.iv_message.specs.Message.{Message, no_json, too_long, no_object, no_request, request}
 use Rattle.iv_message.specs.Told.{replied}
 use Rattle.iv_clients.specs.Bounds.{most_feeds, most_subs}
-use Rattle.iv_clients.specs.Clients.{Client, at_client, client_at, closing, followed, is_followed, may_say, moved, saying}
+use Rattle.iv_clients.specs.Clients.{Client, at_client, client_at, closing, followed_by, is_followed, may_say, moved, saying}
 use Rattle.iv_clients.specs.Feeds.{Feed, Seat, feed_for, feed_of, has_room, is_of_role, is_reading, load, room_for, seat_of, without_seat}
 use Rattle.iv_clients.specs.Journal.{line_said, said_by}
 use Rattle.iv_gate.specs.Events.{Event, presented, message, gone, known, ticked, synced, handed, failed, happens, next}
@@ -68,7 +68,7 @@ all_swept_same g (k ∷ ks) = all_swept_same (swept g k) ks ∙ swept_same g k
 
 closes_same : (g : Gate) (m : ℕ) (c : Client) (id : Option Data) (own : ℕ) → (closes g m c id own).seats ≡ g.seats
 closes_same g m c id own =
-    some_same (followed c own) g (tells g m (replied id (refused unknown_subscription))) (λ k. swept (tells (record g { clients = at_client m (closing own) g.clients }) m (replied id done)) k)
+    some_same (followed_by c.subs own) g (tells g m (replied id (refused unknown_subscription))) (λ k. swept (tells (record g { clients = at_client m (closing own) g.clients }) m (replied id done)) k)
     refl (λ k. swept_same (tells (record g { clients = at_client m (closing own) g.clients }) m (replied id done)) k)
 
 other_same : (g : Gate) (m : ℕ) (c : Client) (id : Option Data) (text : List ℕ) (act : Act) (o : Option ℕ)

@@ -9,7 +9,7 @@ use Rattle.iv_machine.specs.Act.{Act, begin, finish, create_role, create_table, 
 use Rattle.iv_message.specs.Message.{Message, no_json, too_long, no_object, no_request, request}
 use Rattle.iv_message.specs.Told.{Told, replied, opened, fault, unasked}
 use Rattle.iv_clients.specs.Bounds.{most_subs}
-use Rattle.iv_clients.specs.Clients.{Client, answered, at_client, client_at, closing, followed, following, fresh, is_followed, may_say, moved, saying}
+use Rattle.iv_clients.specs.Clients.{Client, answered, at_client, client_at, closing, followed_by, following, fresh, is_followed, may_say, moved, saying}
 use Rattle.iv_clients.specs.Feeds.{Feed, Seat, feed_for, feed_of, is_of_role, is_reading, room_for, seat_of, without_feed, without_seat}
 use Rattle.iv_clients.specs.Journal.{is_shared, line_said, said_by}
 use Rattle.iv_gate.specs.Gate.{Gate, acts, all_rested, all_swept, begun_for, came, closes, columns_in, done_for, feed_begun, hears, in_session, is_needed, joined, joined_by, joins, next_own, ran, reads, reads_first, reply_to, requests, rested, role_for, said, seated, settles, shut, subscribes, swept, tells, went, with_session, has_shape_room}
@@ -126,7 +126,7 @@ module _ (m : ℕ) (G : Gate → Gate → Type 0) (kit : Steps m G) where
   pub step_closes : (g : Gate) (c : Client) (id : Option Data) (own : ℕ) → G g (closes g m c id own)
   step_closes g c id own =
       let h = record g { clients = at_client m (closing own) g.clients } in let i = tells h m (replied id done) in
-      some_step (followed c own) g (tells g m (replied id (refused unknown_subscription))) (λ k. swept i k)
+      some_step (followed_by c.subs own) g (tells g m (replied id (refused unknown_subscription))) (λ k. swept i k)
       (kit.tell g (replied id (refused unknown_subscription)) refl)
       (λ k. kit.chain g h (swept i k) (kit.close g own) (kit.chain h i (swept i k) (kit.tell h (replied id done) refl) (step_swept i k)))
 

@@ -3,16 +3,17 @@ use Rattle.std.proofs.Common.{◌≡◌, ◌⊎◌, inl, inr, ℕ, suc, ◌+◌,
 use Rattle.std.specs.Prelude.{◌==◌, ◌&&◌, Contains, filter, get_or}
 use Rattle.std.specs.List.{AllByRecursion}
 use Rattle.std.proofs.lemmas.Bool.{false≢true, eqb-true}
+use Rattle.iv_rows.specs.Options.{if_some}
 use Rattle.iv_access.specs.Rights.{Name}
 use Rattle.iv_machine.specs.declared.Cause.{Cause}
 use Rattle.iv_machine.specs.Machine.{difference}
-use Rattle.iv_message.specs.Told.{over}
-use Rattle.iv_clients.specs.Clients.{Client, Shown, all_shown, client_at, followed, handing, may_say, saying, told}
+use Rattle.iv_message.specs.Told.{Told, over}
+use Rattle.iv_clients.specs.Clients.{Client, Shown, all_shown, client_at, followed_by, handing, may_say, saying, told}
 use Rattle.iv_clients.specs.Journal.{said_by}
 use Rattle.iv_gate.specs.Events.{Event, presented, message, gone, known, ticked, synced, handed, failed, next}
 use Rattle.iv_gate.specs.Gate.{Gate}
 use Rattle.iv_gate.specs.Implied.{EndsForCause}
-use Rattle.iv_gate.specs.Laws.{AreShown, LeavesMarks, marked, new_entries, shown_by}
+use Rattle.iv_gate.specs.Laws.{AreShown, LeavesMarks, marked, new_entries}
 use Rattle.iv_gate.specs.Replies.{ByClient, IsClient, heard_by, is_opened, told_by}
 use Rattle.iv_gate.specs.Seen.{IsEnd, TellsDifference, hindrance, is_told_of, read_by}
 use Rattle.iv_gate.specs.Touched.{AreTouched, StaysItself, itself_behind}
@@ -49,7 +50,7 @@ leaves_marks g e live =
 itself_card : (m : ℕ) (c : Client) (e : Event) → card_behind m c e ≡ card (itself_behind m c e)
 itself_card m c (message n text) = by (n == m && may_say c)
   where
-    by : (b : Bool) → cond b (card (saying text c)) (card c) ≡ card (cond b (saying text c) c)
+    by : (b : Bool) → cond b (card (saying text c)) (card c) ≡ card (if_some (cond b (Some text) None) c (λ t. saying t c))
     by true = refl
     by false = refl
 itself_card m c (handed n) = by (n == m)
@@ -92,6 +93,9 @@ touches g e live = let t = touched g e live in
     record { stays = λ m c h n. keeps g e m c (t.stays m c h (not_gone m e n)); leaves = λ m n. t.leaves m (ap (is_gone m) n ∙ same_self m); comes = λ m d h k. let x = t.comes m d h k in (x.token, x.event, x.opened, x.is) }
 
 -- ---- what is shown
+
+abbrev shown_by : Gate → Event → ℕ → Client → Told → Shown
+shown_by g e m c t = record { told = t; entries = (next g e).entries; answers = is_some (heard_by m c e) }
 
 as_shown : (g : Gate) (e : Event) (m : ℕ) (c : Client) (ss : List Shown) → AllByRecursion (IsShownBy g e m c) ss → map (shown_by g e m c) (map (λ (s : Shown). s.told) ss) ≡ ss
 as_shown g e m c [] a = refl
@@ -151,24 +155,24 @@ tells_changes g e apart ends m c d x y own = record {
     a : TellsApart g e c d own
     a = apart m c d x y own
 
-    followed_is : (xs : Client) → is_some (followed xs own) ≡ true → is_own own xs.subs ≡ true
+    followed_is : (xs : Client) → is_some (followed_by xs.subs own) ≡ true → is_own own xs.subs ≡ true
     followed_is z f = by (is_own own z.subs) refl
       where
         by : (t : Bool) → is_own own z.subs ≡ t → is_own own z.subs ≡ true
         by true q = q
         by false q = absurd (false≢true (sym (ap is_some (not_followed z.subs own q)) ∙ f))
 
-    is_followed : (z : Client) → is_own own z.subs ≡ true → is_some (followed z own) ≡ true
-    is_followed z q = by (followed z own) refl
+    is_followed : (z : Client) → is_own own z.subs ≡ true → is_some (followed_by z.subs own) ≡ true
+    is_followed z q = by (followed_by z.subs own) refl
       where
-        by : (o : Option ℕ) → followed z own ≡ o → is_some (followed z own) ≡ true
+        by : (o : Option ℕ) → followed_by z.subs own ≡ o → is_some (followed_by z.subs own) ≡ true
         by None f = absurd (false≢true (sym (follows_none z.subs own f) ∙ q))
         by (Some k) f = ap is_some f
 
-    since : is_some (followed d own) ≡ true → (is_some (followed c own) ≡ true) ⊎ (c.given < own)
+    since : is_some (followed_by d.subs own) ≡ true → (is_some (followed_by c.subs own) ≡ true) ⊎ (c.given < own)
     since f = by (comes_own g e m c d x y own (followed_is d f))
       where
-        by : (is_own own c.subs ≡ true) ⊎ (c.given < own) → (is_some (followed c own) ≡ true) ⊎ (c.given < own)
+        by : (is_own own c.subs ≡ true) ⊎ (c.given < own) → (is_some (followed_by c.subs own) ≡ true) ⊎ (c.given < own)
         by (inl k) = inl (is_followed c k)
         by (inr k) = inr k
 

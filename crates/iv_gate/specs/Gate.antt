@@ -16,7 +16,7 @@ use Rattle.iv_machine.specs.State.{Frame, State}
 use Rattle.iv_message.specs.Message.{Message, no_json, too_long, no_object, no_request, request}
 use Rattle.iv_message.specs.Told.{Told, replied, opened, fault, unasked, granted, told_text}
 use Rattle.iv_clients.specs.Bounds.{most_subs}
-use Rattle.iv_clients.specs.Clients.{Client, Shown, Slots, answered, at_all, at_client, client_at, closing, followed, following, fresh, has_role, is_followed, is_free, may_say, moved, own_lines, saying, settling, staying, telling, told_one}
+use Rattle.iv_clients.specs.Clients.{Client, Shown, Slots, answered, at_all, at_client, client_at, closing, followed_by, following, fresh, has_role, is_followed, is_free, may_say, moved, own_lines, saying, settling, staying, telling, told_one}
 use Rattle.iv_clients.specs.Feeds.{Feed, Seat, feed_for, feed_of, feeds_left, is_of_role, is_reading, next_seat, room_for, seat_of, without_feed, without_seat}
 use Rattle.iv_clients.specs.Journal.{Entry, is_shape, is_shared, line_said, said_by, shape_for, shape_of}
 use Rattle.iv_clients.specs.Tokens.{Token, role_opened}
@@ -179,7 +179,7 @@ all_swept g (k ∷ ks) = all_swept (swept g k) ks
 
 -- client m closes its own number, which follows a feed, or it has none to close
 abbrev pub closes : Gate → ℕ → Client → Option Data → ℕ → Gate
-closes g m c id own = if_some (followed c own) (tells g m (replied id (refused unknown_subscription)))
+closes g m c id own = if_some (followed_by c.subs own) (tells g m (replied id (refused unknown_subscription)))
     (λ k. swept (tells (record g { clients = at_client m (closing own) g.clients }) m (replied id done)) k)
 
 -- ---- other requests

@@ -1,5 +1,5 @@
 -- What holds whatever happens, in the order of reading.
-use Rattle.std.specs.Prelude.{◌≡◌, ◌≤◌, ◌⊎◌, ℕ, ◌+◌, ◌==◌, ◌&&◌, Bool, true, false, if◌then◌else◌, List, [], ◌∷◌, ◌++◌, take, filter, flat_map, length, map, nat_lt, count_by, option_map, Some, is_some}
+use Rattle.std.specs.Prelude.{◌≡◌, ◌≤◌, ◌⊎◌, ℕ, ◌+◌, ◌==◌, ◌&&◌, Bool, true, false, if◌then◌else◌, List, [], ◌∷◌, ◌++◌, take, filter, flat_map, length, map, count_by, option_map, Some, is_some}
 use Rattle.std.specs.List.{AllByRecursion, list_any}
 use Rattle.iv_rows.specs.Options.{if_some}
 use Rattle.iv_machine.specs.Machine.{step}
@@ -12,7 +12,7 @@ use Rattle.iv_clients.specs.Feeds.{seat_of}
 use Rattle.iv_clients.specs.Journal.{Entry, is_shape, is_shared, line_said, said_by, shape_for}
 use Rattle.iv_clients.specs.Tokens.{Token}
 use Rattle.iv_gate.specs.Events.{Event, failed, handed, known, message, next, synced, ticked}
-use Rattle.iv_gate.specs.Gate.{Gate, granted_by, has_shape_room, in_session, is_accepted, most_shape, reply_in, shape_text}
+use Rattle.iv_gate.specs.Gate.{Gate, granted_by, has_shape_room, in_session, is_accepted, reply_in}
 use Rattle.iv_gate.specs.Replies.{AreReplied, ByClient, IsAnswered, IsClient, heard_by, told_by}
 use Rattle.iv_gate.specs.Touched.{ActsByToken, AreTouched, LetsIn}
 use Rattle.iv_gate.specs.Needed.{AreSeatsBehind, KnowsMachine}
@@ -35,13 +35,11 @@ pub record SentIsKept (g : Gate) : Type 0 where
   pub sent : AllByRecursion (IsKeptOnDisk g) g.sent
   pub sendable : (m : ℕ) (c : Client) → client_at g.clients m ≡ Some c → AllByRecursion (IsKeptOnDisk g) c.sendable
 
--- what an event tells shows the entries that are accepted then, and comes of the client's own message where the event is that
-abbrev pub shown_by : Gate → Event → ℕ → Client → Told → Shown
-shown_by g e m c t = record { told = t; entries = (next g e).entries; answers = is_some (heard_by m c e) }
-
--- by an event a client keeps all that it was told, and is told more
+-- by an event a client keeps all that it was told, and is told more: it shows the entries that are accepted then, and comes of the client's
+-- own message where the event is that
 abbrev pub AreShown : Gate → Event → Type 0
-AreShown g e = ByClient g e (λ m c d. all_shown d ≡ all_shown c ++ map (shown_by g e m c) (told_by c d))
+AreShown g e = ByClient g e (λ m c d. all_shown d
+    ≡ all_shown c ++ map (λ t. record { told = t; entries = (next g e).entries; answers = is_some (heard_by m c e) }) (told_by c d))
 
 -- what is shared: tables, roles, memberships, rights, policies and rows, without sessions, subscriptions and their numbers
 abbrev pub shared : State → State
@@ -105,15 +103,8 @@ ShapeIsTold g = (m : ℕ) (c : Client) → IsClient g m c → filter is_made (to
 
 -- and who goes through it in order has the shape: the entries that make it lead a machine with nothing, without the others, to the same
 -- roles, memberships, rights, relations and policies
-pub record MakesShape (cap : ℕ) (g : Gate) : Type 0 where
-  pub state : State
-  pub replays : all_replayed (start cap) (filter (λ e. is_shape e.act) g.entries) ≡ Some state
-  pub rights : g.machine.frame.rights ≡ state.frame.rights
-  pub catalog : g.machine.frame.catalog ≡ state.frame.catalog
-
--- beyond its bound nothing more makes the shape
-abbrev pub ShapeIsBounded : Gate → Event → Type 0
-ShapeIsBounded g e = nat_lt most_shape (length (shape_text g.entries)) ≡ true → shape_text (next g e).entries ≡ shape_text g.entries
+abbrev pub MakesShape : (cap : ℕ) → Gate → Type 0
+MakesShape cap g = option_map (λ s. (shared s).frame) (all_replayed (start cap) (filter (λ e. is_shape e.act) g.entries)) ≡ Some (shared g.machine).frame
 
 -- ---- words
 
@@ -155,8 +146,7 @@ pub record Holds (cap : ℕ) (g : Gate) : Type 0 where
   pub over : AreOver g
   pub closed : StaysClosed g
   -- each is answered, and acts in the role of its token
-  pub answered : (m : ℕ) (c : Client) → IsClient g m c → IsAnswered c
-  pub acts : (m : ℕ) (c : Client) → IsClient g m c → ActsByToken g c
+  pub answered : (m : ℕ) (c : Client) → IsClient g m c → IsAnswered c × ActsByToken g c
   pub comes : g.dead ≡ false → LetsIn g
   -- what was told is on disk, which leads back
   pub sent : SentIsKept g
@@ -182,7 +172,6 @@ pub record HoldsBy (g : Gate) (e : Event) : Type 0 where
   pub settles : g.dead ≡ false → Settles g e
   pub shows : AreShown g e
   pub begins : AreSeatsBehind g (next g e).seats
-  pub bounded : ShapeIsBounded g e
 
 -- in whatever runs, over restarts
 abbrev pub HoldAlways : Type 0

@@ -10,7 +10,7 @@ use Rattle.iv_machine.specs.Machine.{step}
 use Rattle.iv_machine.specs.State.{Session, State, session_of}
 use Rattle.iv_message.specs.Message.{Message, no_json, too_long, no_object, no_request, request}
 use Rattle.iv_message.specs.Told.{Told, welcome, replied, opened, fault, unasked}
-use Rattle.iv_clients.specs.Clients.{Client, client_at, followed, may_say, told}
+use Rattle.iv_clients.specs.Clients.{Client, client_at, followed_by, may_say, told}
 use Rattle.iv_clients.specs.Bounds.{most_feeds, most_seats, most_subs}
 use Rattle.iv_clients.specs.Feeds.{Feed, Seat, feed_for}
 use Rattle.iv_clients.specs.Journal.{said_by}
@@ -80,7 +80,7 @@ IsFull g c rel = (most_subs ≤ length c.subs) ⊎ ((feed_for g.feeds c.role rel
 -- the reply to a client's act
 abbrev pub IsReplyToAct : Gate → Client → Option Data → Act → Told → Type 0
 IsReplyToAct g c id (subscribe rel) t = (IsFull g c rel × (t ≡ replied id (refused too_many))) ⊎ IsReadingReply g c id rel t
-IsReplyToAct g c id (unsubscribe own) t = t ≡ replied id (if is_some (followed c own) then done else refused unknown_subscription)
+IsReplyToAct g c id (unsubscribe own) t = t ≡ replied id (if is_some (followed_by c.subs own) then done else refused unknown_subscription)
 IsReplyToAct g c id (begin role) t = t ≡ fault 2
 IsReplyToAct g c id finish t = t ≡ fault 2
 IsReplyToAct g c id act t = (r : Reply) × IsMachineReply g.machine c.role act r × (t ≡ replied id r)
@@ -93,18 +93,15 @@ IsReplyTo g c no_object t = t ≡ fault 2
 IsReplyTo g c (no_request id why) t = t ≡ unasked id why
 IsReplyTo g c (request id act) t = ((has_shape_room g act ≡ true) × IsReplyToAct g c id act t) ⊎ ((has_shape_room g act ≡ false) × (t ≡ replied id (refused limit)))
 
--- the client is told first the reply to its message, and no other reply
-abbrev pub IsReplied : Gate → Client → List ℕ → List Told → Type 0
-IsReplied g c text ts = (reply : Told) × (others : List Told) × (ts ≡ reply ∷ others) × IsReplyTo g c (said_by text) reply × (replies others ≡ [])
-
 -- the event is a message of client m that is heard
 abbrev pub heard_by : ℕ → Client → Event → Option (List ℕ)
 heard_by m c (message n text) = if n == m && may_say c then Some text else None
 heard_by m c e = None
 
--- a client is replied to its own message that is heard, and to nothing else
+-- a client is told first the reply to its own message that is heard, and no other reply
 pub record AreReplied (g : Gate) (e : Event) : Type 0 where
-  pub own : ByClient g e (λ m c d. (text : List ℕ) → heard_by m c e ≡ Some text → IsReplied g c text (told_by c d))
+  pub own : ByClient g e (λ m c d. (text : List ℕ) → heard_by m c e ≡ Some text
+      → (reply : Told) × (others : List Told) × (told_by c d ≡ reply ∷ others) × IsReplyTo g c (said_by text) reply × (replies others ≡ []))
   pub others : ByClient g e (λ m c d. heard_by m c e ≡ None → replies (told_by c d) ≡ [])
 
 abbrev pub is_opened : Told → Bool

@@ -14,7 +14,7 @@ use Rattle.iv_machine.specs.declared.Cause.{Cause}
 use Rattle.iv_machine.specs.Machine.{difference, first_cause}
 use Rattle.iv_machine.specs.State.{State, is_within_for, missing_for, rel_of, view_for}
 use Rattle.iv_message.specs.Told.{Told, replied, opened, changed, over}
-use Rattle.iv_clients.specs.Clients.{Client, followed, told}
+use Rattle.iv_clients.specs.Clients.{Client, followed_by, told}
 use Rattle.iv_clients.specs.Feeds.{rel_read}
 use Rattle.iv_gate.specs.Events.{Event, next}
 use Rattle.iv_gate.specs.Gate.{Gate}
@@ -57,7 +57,7 @@ pub record ShowsView (g : Gate) (c : Client) (own : ℕ) (rel : Name) : Type 0 w
 
 -- each own number that follows a feed shows the feed's relation
 abbrev pub SeesViews : Gate → Type 0
-SeesViews g = (m : ℕ) (c : Client) (own k : ℕ) → IsClient g m c → followed c own ≡ Some k → ShowsView g c own (rel_read g.feeds k)
+SeesViews g = (m : ℕ) (c : Client) (own k : ℕ) → IsClient g m c → followed_by c.subs own ≡ Some k → ShowsView g c own (rel_read g.feeds k)
 
 -- ---- ends
 
@@ -72,11 +72,11 @@ IsOver c n = ((has_ended c n ≡ true) ⊎ IsClosed c n) × (has_ended c n ≡ t
 -- each number that was given follows something, or is over
 abbrev pub AreOver : Gate → Type 0
 AreOver g = (m : ℕ) (c : Client) (id : Option Data) (own : ℕ) (columns : List Column) → IsClient g m c → Contains (told c) (opened id own columns)
-    → followed c own ≡ None → IsOver c own
+    → followed_by c.subs own ≡ None → IsOver c own
 
 -- what a client closed it follows no more
 abbrev pub StaysClosed : Gate → Type 0
-StaysClosed g = (m : ℕ) (c : Client) (own : ℕ) → IsClient g m c → IsClosed c own → followed c own ≡ None
+StaysClosed g = (m : ℕ) (c : Client) (own : ℕ) → IsClient g m c → IsClosed c own → followed_by c.subs own ≡ None
 
 -- ---- what is told
 
@@ -88,7 +88,7 @@ is_told_of own _ = false
 
 -- what a client's own number shows
 abbrev pub read_by : Gate → Client → ℕ → List (List Cell)
-read_by g c own = if_some (followed c own) [] (λ k. seen g.machine c.role (rel_read g.feeds k))
+read_by g c own = if_some (followed_by c.subs own) [] (λ k. seen g.machine c.role (rel_read g.feeds k))
 
 -- ---- the difference
 
@@ -101,13 +101,13 @@ change_told own rows = changed own rows ∷ []
 pub record IsEnd (g : Gate) (e : Event) (c : Client) (own : ℕ) (ts : List Told) : Type 0 where
   pub feed : ℕ
   pub why : Cause
-  pub followed : followed c own ≡ Some feed
+  pub followed : followed_by c.subs own ≡ Some feed
   pub cause : hindrance (next g e).machine c.role (rel_read g.feeds feed) ≡ Some why
   pub told : ts ≡ over own (rel_read g.feeds feed) why (difference (read_by g c own) []) ∷ []
 
 -- of a number that follows a feed behind an event, it tells the difference of what it shows, in one text; of one that follows none nothing,
 -- or its end
 pub record TellsDifference (g : Gate) (e : Event) (c d : Client) (own : ℕ) : Type 0 where
-  pub goes_on : is_some (followed d own) ≡ true
+  pub goes_on : is_some (followed_by d.subs own) ≡ true
       → filter (is_told_of own) (told_by c d) ≡ change_told own (difference (read_by g c own) (read_by (next g e) d own))
-  pub stops : followed d own ≡ None → (filter (is_told_of own) (told_by c d) ≡ []) ⊎ IsEnd g e c own (filter (is_told_of own) (told_by c d))
+  pub stops : followed_by d.subs own ≡ None → (filter (is_told_of own) (told_by c d) ≡ []) ⊎ IsEnd g e c own (filter (is_told_of own) (told_by c d))

@@ -1,21 +1,22 @@
 -- Who is touched by an event: who comes, who stays, and who is to go.
-use Rattle.std.specs.Prelude.{◌≡◌, ◌⊎◌, ◌<◌, ℕ, ◌==◌, ◌&&◌, ◌||◌, Bool, true, false, not, if◌then◌else◌, List, length, Some, None, is_some}
+use Rattle.std.specs.Prelude.{◌≡◌, ◌⊎◌, ◌<◌, ℕ, ◌==◌, ◌||◌, Bool, true, false, not, if◌then◌else◌, List, length, Some, None, is_some}
 use Rattle.sha2.specs.Sha256.{sha256}
 use Rattle.iv_rows.specs.Names.{is_name}
+use Rattle.iv_rows.specs.Options.{if_some}
 use Rattle.iv_access.specs.Privileges.{role_of}
 use Rattle.iv_access.specs.Rights.{Name}
 use Rattle.iv_clients.specs.Bounds.{most_seats}
-use Rattle.iv_clients.specs.Clients.{Client, client_at, fresh, handing, is_free, is_slow, may_say, opens, saying}
+use Rattle.iv_clients.specs.Clients.{Client, client_at, fresh, handing, is_free, is_slow, opens, saying}
 use Rattle.iv_clients.specs.Feeds.{seat_of}
 use Rattle.iv_clients.specs.Tokens.{role_opened}
-use Rattle.iv_gate.specs.Events.{Event, presented, message, gone, known, synced, handed, next}
+use Rattle.iv_gate.specs.Events.{Event, presented, gone, known, synced, handed, next}
 use Rattle.iv_gate.specs.Gate.{Gate}
+use Rattle.iv_gate.specs.Replies.{heard_by}
 
 -- the client behind an event, as far as others cannot change it: its own message that is heard, and what is handed to it
 abbrev pub itself_behind : ℕ → Client → Event → Client
-itself_behind m c (message n text) = if n == m && may_say c then saying text c else c
 itself_behind m c (handed n) = if n == m then handing c else c
-itself_behind m c e = c
+itself_behind m c e = if_some (heard_by m c e) c (λ text. saying text c)
 
 -- the event drops the client: it does not take what it is offered, or its token is known no more
 abbrev pub drops : Client → Event → Bool

@@ -3,8 +3,8 @@ ghost use Rattle.std.specs.Prelude.{◌≡◌, ◌≤◌, ◌+◌, ℕ, false, l
 ghost use Rattle.iv_clients.specs.Clients.{Client, client_at};
 ghost use Rattle.iv_gate.specs.Events.{Event, next};
 ghost use Rattle.iv_gate.specs.Gate.{Gate};
-ghost use Rattle.iv_gate.specs.Implied.{EndsForCause, GrantsAreTrue, HearsFollowed};
-ghost use Rattle.iv_gate.specs.Laws.{GrantsAreTold, IsBounded, MakesShape, ShapeIsBounded, ShapeIsTold};
+ghost use Rattle.iv_gate.specs.Implied.{EndsForCause, GrantsAreTrue, HearsFollowed, ShapeIsBounded};
+ghost use Rattle.iv_gate.specs.Laws.{GrantsAreTold, IsBounded, MakesShape, ShapeIsTold};
 ghost use Rattle.iv_gate.specs.Replies.{ByClient, IsClient};
 ghost use Rattle.iv_gate.specs.Runs.{Runs};
 ghost use Rattle.iv_gate.specs.Seen.{TellsDifference};

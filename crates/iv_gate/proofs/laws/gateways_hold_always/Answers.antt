@@ -6,8 +6,7 @@ returns c = λ cap g r. (
     views = c.clients_see_their_views.ensures.views cap g r;
     over = c.clients_see_their_views.ensures.over cap g r;
     closed = c.closed_numbers_follow_nothing.ensures cap g r;
-    answered = λ m k x. c.clients_are_answered.ensures cap g m k r x;
-    acts = λ m k x. c.tokens_open_roles.ensures.acts cap g m k r x;
+    answered = λ m k x. (c.clients_are_answered.ensures cap g m k r x, c.tokens_open_roles.ensures.acts cap g m k r x);
     comes = c.tokens_open_roles.ensures.comes cap g r;
     sent = c.what_is_sent_is_on_disk.ensures cap g r;
     back = c.the_journal_leads_back.ensures.back cap g r;
@@ -29,6 +28,5 @@ returns c = λ cap g r. (
     settles = c.events_settle_what_they_tell.ensures cap g e r;
     shows = c.told_text_shows_its_entries.ensures g e;
     begins = c.sessions_are_begun_by_need.ensures g e;
-    shape = c.the_shape_is_told.ensures.bounded g e;
   },
 )
