@@ -48,8 +48,19 @@ greeting es role = welcome role ∷ (shape_for role es ++ settled ∷ [])
 
 -- a client that comes in, when these entries are accepted
 abbrev pub fresh : List Entry → Name → List ℕ → Client
-fresh es role digest = record { role = role; digest = digest; given = 0; subs = []; unsynced = map (told_itself es) (greeting es role); sendable = [];
-    asked = 0; owed = false; dropped = false; messages = []; handed = [] }
+fresh es role digest = record {
+  role = role;
+  digest = digest;
+  given = 0;
+  subs = [];
+  unsynced = map (told_itself es) (greeting es role);
+  sendable = [];
+  asked = 0;
+  owed = false;
+  dropped = false;
+  messages = [];
+  handed = [];
+}
 
 -- all that it was told, in order
 abbrev pub all_shown : Client → List Shown
