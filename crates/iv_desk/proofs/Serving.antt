@@ -26,7 +26,7 @@ use Rattle.iv_peer.specs.Lives as life
 use Rattle.iv_desk.specs.Front.{Front, FrontRuns, Happens, HearsAt, at_socket, begins, begun, by_event, closes, fails as front_fails, front_at_start, goes_on, has_presented, hears, knows, leaves, left, let_go, let_in, later_text, no_text, first_text, nothing, offered, offered_to, offers, sends, socket_at, starts, syncs, takes, text_for, ticks, told_some, turned_away, with_both, is_dropped}
 use Rattle.iv_desk.specs.Served.{BrowsersAreTold, CarriesFor}
 use Rattle.iv_desk.proofs.Presenting.{AlwaysCarries, has_heard}
-use Rattle.iv_desk.proofs.Slots.{at_each_number, at_every, at_other, at_same, free_every, free_none, nobody_there, none_some, set_gone, set_other, set_there, some_same}
+use Rattle.iv_desk.proofs.Slots.{at_each_number, at_other, at_same, free_every, free_none, nobody_there, none_some, set_gone, set_other, set_there, some_same}
 
 -- what holds always of the gateway, and of the life of a socket
 pub record Laws : Type 0 where
