@@ -14,7 +14,7 @@ use Rattle.iv_clients.specs.Journal.{Entry, said_by, shape_for}
 use Rattle.iv_clients.specs.Tokens.{Token}
 use Rattle.iv_gate.specs.Events.{Event, presented, message, gone, known, ticked, synced, handed, failed, happens, next}
 use Rattle.iv_gate.specs.Gate.{Gate, columns_in, done_for, entered, feed_begun, granted_by, hears, in_session, is_accepted, next_own, reply_in, reply_to, said, settles, tells, told_of, entries_of}
-use Rattle.iv_gate.specs.Laws.{IsSettledBy, Settles, is_word}
+use Rattle.iv_gate.specs.Laws.{IsSettledBy, is_word}
 use Rattle.iv_gate.specs.Replies.{told_by}
 use Rattle.iv_gate.specs.Runs.{Runs, begins, goes_on, begins_again}
 use Rattle.iv_gate.proofs.Growing.{assoc}
@@ -341,6 +341,6 @@ runs_owe adds starts sounds cap _ (begins tokens most journal g r) m c x = absur
 runs_owe adds starts sounds cap _ (goes_on h e r) m c x = next_owes sounds h e (runs_sound adds starts sounds cap h r) (runs_owe adds starts sounds cap h r) m c x
 runs_owe adds starts sounds cap _ (begins_again h disk tokens most i r l y) m c x = absurd (restored_empty cap tokens most h.sent disk i y m c x)
 
-pub runs_settle : Adds → Starts → Sounds → (cap : ℕ) (g : Gate) (e : Event) → Runs cap g → g.dead ≡ false → Settles g e
+pub runs_settle : Adds → Starts → Sounds → (cap : ℕ) (g : Gate) (e : Event) → Runs cap g → g.dead ≡ false → ByClient g e (λ m c d. IsSettledBy e (told_by c d))
 runs_settle adds starts sounds cap g e r live m c d x y =
     (next_told sounds g e (runs_sound adds starts sounds cap g r) live m c d x.there (runs_owe adds starts sounds cap g r m c x.there) y.there).told y.stays

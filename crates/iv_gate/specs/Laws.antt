@@ -122,9 +122,6 @@ IsSettledBy (message m text) ts = (ts ≡ [])
 IsSettledBy ticked ts = ts ≡ alive ∷ []
 IsSettledBy e ts = ts ≡ []
 
-abbrev pub Settles : Gate → Event → Type 0
-Settles g e = ByClient g e (λ m c d. IsSettledBy e (told_by c d))
-
 -- ---- bounds
 
 -- who is to go has no text; who is not has no more from others, that it was offered and has not taken, than it may leave when the journal
@@ -169,7 +166,7 @@ pub record HoldsBy (g : Gate) (e : Event) : Type 0 where
   pub last : (next g e).machine.frame.last ≤ 1 + g.machine.frame.last
   pub changes : ByClient g e (λ m c d. (own : ℕ) → TellsDifference g e c d own)
   pub told : g.dead ≡ false → GrantsAreTold g e
-  pub settles : g.dead ≡ false → Settles g e
+  pub settles : g.dead ≡ false → ByClient g e (λ m c d. IsSettledBy e (told_by c d))
   pub shows : AreShown g e
   pub begins : AreSeatsBehind g (next g e).seats
 

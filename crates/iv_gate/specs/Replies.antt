@@ -91,7 +91,8 @@ IsReplyTo g c no_json t = t ≡ fault 1
 IsReplyTo g c too_long t = t ≡ fault 22
 IsReplyTo g c no_object t = t ≡ fault 2
 IsReplyTo g c (no_request id why) t = t ≡ unasked id why
-IsReplyTo g c (request id act) t = ((has_shape_room g act ≡ true) × IsReplyToAct g c id act t) ⊎ ((has_shape_room g act ≡ false) × (t ≡ replied id (refused limit)))
+IsReplyTo g c (request id act) t =
+    ((has_shape_room g act ≡ true) × IsReplyToAct g c id act t) ⊎ ((has_shape_room g act ≡ false) × (t ≡ replied id (refused limit)))
 
 -- the event is a message of client m that is heard
 abbrev pub heard_by : ℕ → Client → Event → Option (List ℕ)

@@ -5,10 +5,10 @@ ghost use Rattle.iv_clients.specs.Clients.{Client};
 ghost use Rattle.iv_clients.specs.Feeds.{seat_of};
 ghost use Rattle.iv_gate.specs.Events.{Event, next};
 ghost use Rattle.iv_gate.specs.Gate.{Gate};
-ghost use Rattle.iv_gate.specs.Laws.{HoldAlways, LeavesMarks, Settles};
+ghost use Rattle.iv_gate.specs.Laws.{HoldAlways, IsSettledBy, LeavesMarks};
 ghost use Rattle.iv_gate.specs.Implied.{ReadsForClients};
 ghost use Rattle.iv_gate.specs.Needed.{AreSeatsBehind, KnowsMachine};
-ghost use Rattle.iv_gate.specs.Replies.{ActsAs, AreReplied, IsAnswered, IsClient};
+ghost use Rattle.iv_gate.specs.Replies.{ActsAs, AreReplied, ByClient, IsAnswered, IsClient, told_by};
 ghost use Rattle.iv_gate.specs.Runs.{Runs};
 ghost use Rattle.iv_gate.specs.Seen.{AreOver, SeesViews, StaysClosed};
 ghost use Rattle.iv_gate.specs.Touched.{AreTouched};
@@ -115,7 +115,7 @@ pub fn closed_numbers_follow_nothing()
 /// In whatever runs, over restarts, a message, its own or another's, tells a client nothing, or something and then by one word that this
 /// is all. A tick tells it one word, that the line is alive. No other event tells anything to a client that is there.
 pub fn events_settle_what_they_tell()
-    ensures { (cap : ℕ) (g : Gate) (e : Event) → Runs cap g → g.dead ≡ false → Settles g e }
+    ensures { (cap : ℕ) (g : Gate) (e : Event) → Runs cap g → g.dead ≡ false → ByClient g e (λ m c d. IsSettledBy e (told_by c d)) }
 {
     lines_add_up();
     steps_keep_sound();

@@ -17,7 +17,8 @@ use iv_machine::laws::{
 };
 use iv_request::laws::requests_are_well;
 
-/// In whatever runs, over restarts: the token that a client presented opens its role now, and its role has a session. Who presents a token that opens a known role comes in, where the number is free and a session is there or can be begun.
+/// In whatever runs, over restarts: the token that a client presented opens its role now, and its role has a session. Who presents a token
+/// that opens a known role comes in, where the number is free and a session is there or can be begun.
 pub fn tokens_open_roles()
     ensures acts { (cap : ℕ) (g : Gate) (m : ℕ) (c : Client) → Runs cap g → IsClient g m c → ActsByToken g c }
     ensures comes { (cap : ℕ) (g : Gate) → Runs cap g → g.dead ≡ false → LetsIn g }
