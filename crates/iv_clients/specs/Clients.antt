@@ -38,29 +38,18 @@ pub record Client : Type 0 where
   pub messages : List (List ℕ)
   pub handed : List (List Shown)
 
--- what is told when these entries are accepted, and comes of the client's own token
-abbrev pub told_itself : List Entry → Told → Shown
-told_itself es t = record { told = t; entries = es; answers = true }
-
 -- what a client that comes in is told: its role, the shape if it is an administrator, and that this is all
 abbrev pub greeting : List Entry → Name → List Told
 greeting es role = welcome role ∷ (shape_for role es ++ settled ∷ [])
 
--- a client that comes in, when these entries are accepted
+-- a client that was told nothing
+abbrev pub untold : Name → List ℕ → Client
+untold role d =
+    record { role = role; digest = d; given = 0; subs = []; unsynced = []; sendable = []; asked = 0; owed = false; dropped = false; messages = []; handed = [] }
+
+-- a client that comes in, when these entries are accepted: it is told its greeting, which comes of its own token
 abbrev pub fresh : List Entry → Name → List ℕ → Client
-fresh es role digest = record {
-  role = role;
-  digest = digest;
-  given = 0;
-  subs = [];
-  unsynced = map (told_itself es) (greeting es role);
-  sendable = [];
-  asked = 0;
-  owed = false;
-  dropped = false;
-  messages = [];
-  handed = [];
-}
+fresh es role digest = record (untold role digest) { unsynced = map (λ t. record { told = t; entries = es; answers = true }) (greeting es role) }
 
 -- all that it was told, in order
 abbrev pub all_shown : Client → List Shown

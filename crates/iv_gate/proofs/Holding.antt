@@ -13,7 +13,7 @@ use Rattle.iv_access.specs.Rights.{Name}
 use Rattle.iv_machine.specs.Act.{Command}
 use Rattle.iv_machine.specs.Machine.{step}
 use Rattle.iv_message.specs.Told.{Told, alive, replied, settled}
-use Rattle.iv_clients.specs.Clients.{Client, Shown, Slots, answered, at_all, at_client, beating, checked, client_at, closing, dropping, following, fresh, handing, is_free, is_slow, moved, opens, released, saying, settling, staying, telling, told_one, told_itself, greeting}
+use Rattle.iv_clients.specs.Clients.{Client, Shown, Slots, answered, at_all, at_client, beating, checked, client_at, closing, dropping, following, fresh, handing, is_free, is_slow, moved, opens, released, saying, settling, staying, telling, told_one, greeting}
 use Rattle.iv_clients.specs.Journal.{Entry, IsEntry, is_shared, journal_of, line_said, shape_for}
 use Rattle.iv_clients.specs.Tokens.{Token, role_opened}
 use Rattle.iv_gate.specs.Events.{Event, presented, message, gone, known, ticked, synced, handed, failed, happens, hands, knowing, next, on_disk, ticking}
@@ -30,6 +30,7 @@ use Rattle.iv_gate.proofs.Rereading.{front_of_bytes, torn_is_one}
 use Rattle.iv_gate.proofs.Running.{all_so}
 use Rattle.iv_gate.proofs.Stepping.{Keeps, Steps, came_keeps, said_keeps, went_keeps}
 use Rattle.iv_gate.proofs.Touching.{at_every, at_other, at_same, one_some, set_other}
+use Rattle.iv_gate.proofs.Shaping.{told_itself}
 
 -- ---- fronts
 

@@ -15,7 +15,7 @@ use Rattle.iv_clients.specs.Tokens.{Token}
 use Rattle.iv_gate.specs.Events.{Event, presented, message, gone, known, ticked, synced, handed, failed, happens, next}
 use Rattle.iv_gate.specs.Gate.{Gate, columns_in, done_for, entered, feed_begun, granted_by, hears, in_session, is_accepted, next_own, reply_in, reply_to, said, settles, tells, told_of, entries_of}
 use Rattle.iv_gate.specs.Laws.{IsSettledBy, is_word}
-use Rattle.iv_gate.specs.Replies.{told_by}
+use Rattle.iv_gate.specs.Replies.{ByClient, told_by}
 use Rattle.iv_gate.specs.Runs.{Runs, begins, goes_on, begins_again}
 use Rattle.iv_gate.proofs.Growing.{assoc}
 use Rattle.iv_gate.proofs.Lasting.{Starts, restored_empty, runs_sound}

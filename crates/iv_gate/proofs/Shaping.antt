@@ -6,7 +6,7 @@ use Rattle.std.proofs.lemmas.List.{map-append}
 use Rattle.std.proofs.lemmas.List.Elements.{filter-append}
 use Rattle.iv_access.specs.Rights.{Name}
 use Rattle.iv_message.specs.Told.{Told, made, settled, welcome}
-use Rattle.iv_clients.specs.Clients.{Shown, fresh, greeting, told, told_itself}
+use Rattle.iv_clients.specs.Clients.{Shown, fresh, greeting, told}
 use Rattle.iv_clients.specs.Journal.{Entry, is_shape, shape_for, shape_of}
 
 -- ---- the shape
@@ -69,6 +69,10 @@ all_greeting P w k s es role = (w role, with_last (shape_for role es) (all_made 
     with_last : (ts : List Told) → AllByRecursion P ts → AllByRecursion P (ts ++ settled ∷ [])
     with_last [] a = (s, tt)
     with_last (t ∷ ts) a = (a.0, with_last ts a.1)
+
+-- what is told when these entries are accepted, and comes of the client's own token
+abbrev pub told_itself : List Entry → Told → Shown
+told_itself es t = record { told = t; entries = es; answers = true }
 
 told_all_itself : (es : List Entry) (ts : List Told) → map (λ (s : Shown). s.told) (map (told_itself es) ts) ≡ ts
 told_all_itself es [] = refl

@@ -7,11 +7,11 @@ use Rattle.iv_access.specs.Rights.{Name}
 use Rattle.iv_machine.specs.Act.{Line}
 use Rattle.iv_message.specs.Lines.{IsLine}
 use Rattle.iv_message.specs.Told.{Told, made, settled, told_text, welcome}
-use Rattle.iv_clients.specs.Clients.{Client, Shown, Slots, at_all, by_others, fresh, greeting, telling, text_shown, told_itself}
+use Rattle.iv_clients.specs.Clients.{Client, Shown, Slots, at_all, by_others, fresh, greeting, telling, text_shown}
 use Rattle.iv_clients.specs.Journal.{Entry, is_shape, is_shared, shape_for, shape_of}
 use Rattle.iv_clients.specs.Kept.{Kept, Places, coming, holding, holding_all, kept, kept_slots}
 use Rattle.iv_gate.specs.Gate.{Gate, entered, entries_of, informs, is_accepted, reply_in, shape_text}
-use Rattle.iv_gate.proofs.Shaping.{shape_both}
+use Rattle.iv_gate.proofs.Shaping.{shape_both, told_itself}
 use Rattle.iv_gateway.specs.Granting.{holding_for}
 use Rattle.iv_gateway.specs.Shaping.{greeting_text, is_admin}
 use Rattle.iv_gateway.specs.Views.{IsAlive}
