@@ -1,5 +1,5 @@
 -- What is told of lines, one after another.
-use Rattle.std.proofs.Common.{◌≡◌, ◌<◌, ℕ, zero, suc, ◌+◌, true, false, cond, List, [], ◌∷◌, ◌++◌, length, take, Option, Some, None, option_map, get_or, map, refl, ap, ◌∙◌, sym, append-nil, add-one, arith}
+use Rattle.std.proofs.Common.{◌≡◌, ◌<◌, ℕ, zero, suc, ◌+◌, true, false, cond, List, [], ◌∷◌, ◌++◌, length, take, Some, None, get_or, map, refl, ap, ◌∙◌, sym, append-nil, add-one, arith}
 use Rattle.std.specs.Prelude.{◌==◌, flat_map, slice_get}
 use Rattle.std.proofs.lemmas.List.{map_more}
 use Rattle.std.proofs.lemmas.List.Concat.{flat_map-append}
@@ -9,6 +9,7 @@ use Rattle.iv_message.specs.Told.{Told, told_text}
 use Rattle.iv_clients.specs.Clients.{Sub, at_all, own_line}
 use Rattle.iv_clients.specs.Feeds.{Feed, rel_read}
 use Rattle.iv_clients.specs.Kept.{Kept, Places, holding, holding_all}
+use Rattle.iv_hall.proofs.Each.{both_all, same_all, still_all}
 use Rattle.iv_hall.specs.Hearing.{feed_told, hearing_for, hearing_line, hearing_lines, text_as, told_as, told_for}
 
 pub subs_kept : (ts : List Told) (k : Kept) → (holding_all ts k).subs ≡ k.subs
@@ -67,13 +68,8 @@ told_same feeds (reply n r) feed s h = cc
 told_same feeds (change n j rows) feed s h = let same : j ≡ feed = cc in sym (ap (λ z. told_for z (rel_read feeds z) (change n j rows) s) same)
 told_same feeds (ended n j why rows) feed s h = let same : j ≡ feed = cc in sym (ap (λ z. told_for z (rel_read feeds z) (ended n j why rows) s) same)
 
-hear_same : (feeds : List Feed) (l : Line) (feed : ℕ) (o : Option Kept) → feed_told l ≡ Some feed → option_map (hearing_for feed (rel_read feeds feed) l) o ≡ option_map (hearing_line feeds l) o
-hear_same feeds l feed None h = refl
-hear_same feeds l feed (Some k) h = λ i. Some (holding_all (flat_map (λ s. told_same feeds l feed s h i) k.subs) k)
-
 pub hear_feed : (feeds : List Feed) (l : Line) (feed : ℕ) (places : Places) → feed_told l ≡ Some feed → at_all (hearing_for feed (rel_read feeds feed) l) places ≡ at_all (hearing_line feeds l) places
-hear_feed feeds l feed [] h = refl
-hear_feed feeds l feed (o ∷ os) h = λ i. hear_same feeds l feed o h i ∷ hear_feed feeds l feed os h i
+hear_feed feeds l feed places h = same_all (hearing_for feed (rel_read feeds feed) l) (hearing_line feeds l) (λ k i. holding_all (flat_map (λ s. told_same feeds l feed s h i) k.subs) k) places
 
 untold : (feeds : List Feed) (l : Line) (subs : List Sub) → feed_told l ≡ None → flat_map (own_line feeds l) subs ≡ []
 untold feeds (reply n r) [] h = refl
@@ -81,35 +77,24 @@ untold feeds (reply n r) (s ∷ ss) h = untold feeds (reply n r) ss h
 untold feeds (change n j rows) subs h = cc
 untold feeds (ended n j why rows) subs h = cc
 
-unheard : (feeds : List Feed) (l : Line) (o : Option Kept) → feed_told l ≡ None → o ≡ option_map (hearing_line feeds l) o
-unheard feeds l None h = refl
-unheard feeds l (Some k) h = ap (λ ts. Some (holding_all ts k)) (sym (untold feeds l k.subs h))
-
 -- what is of no feed nobody is told
 pub hear_none : (feeds : List Feed) (l : Line) (places : Places) → feed_told l ≡ None → places ≡ at_all (hearing_line feeds l) places
-hear_none feeds l [] h = refl
-hear_none feeds l (o ∷ os) h = λ i. unheard feeds l o h i ∷ hear_none feeds l os h i
-
-no_line : (feeds : List Feed) (o : Option Kept) → o ≡ option_map (hearing_lines feeds []) o
-no_line feeds None = refl
-no_line feeds (Some k) = refl
+hear_none feeds l places h = still_all (hearing_line feeds l) (λ k. ap (λ ts. holding_all ts k) (sym (untold feeds l k.subs h))) places
 
 pub hear_nothing : (feeds : List Feed) (places : Places) → places ≡ at_all (hearing_lines feeds []) places
-hear_nothing feeds [] = refl
-hear_nothing feeds (o ∷ os) = λ i. no_line feeds o i ∷ hear_nothing feeds os i
+hear_nothing feeds places = still_all (hearing_lines feeds []) (λ k. refl) places
 
-line_more : (feeds : List Feed) (ls : List Line) (l : Line) (o : Option Kept) → option_map (hearing_line feeds l) (option_map (hearing_lines feeds ls) o) ≡ option_map (hearing_lines feeds (ls ++ l ∷ [])) o
-line_more feeds ls l None = refl
-line_more feeds ls l (Some k) =
+line_more : (feeds : List Feed) (ls : List Line) (l : Line) (k : Kept) → hearing_line feeds l (hearing_lines feeds ls k) ≡ hearing_lines feeds (ls ++ l ∷ []) k
+line_more feeds ls l k =
     let own = λ (m : Line). flat_map (own_line feeds m) k.subs in
-    ap Some
-    (ap (λ subs. holding_all (flat_map (own_line feeds l) subs) (holding_all (flat_map own ls) k)) (subs_kept (flat_map own ls) k)
+    ap (λ subs. holding_all (flat_map (own_line feeds l) subs) (holding_all (flat_map own ls) k)) (subs_kept (flat_map own ls) k)
     ∙ (sym (all_append (flat_map own ls) (own l) k)
-    ∙ ap (λ ts. holding_all ts k) (sym (flat_map-append own ls (l ∷ []) ∙ ap (λ z. flat_map own ls ++ z) (append-nil (own l))))))
+    ∙ ap (λ ts. holding_all ts k) (sym (flat_map-append own ls (l ∷ []) ∙ ap (λ z. flat_map own ls ++ z) (append-nil (own l)))))
 
-pub hear_more : (feeds : List Feed) (ls : List Line) (l : Line) (places : Places) → at_all (hearing_line feeds l) (at_all (hearing_lines feeds ls) places) ≡ at_all (hearing_lines feeds (ls ++ l ∷ [])) places
-hear_more feeds ls l [] = refl
-hear_more feeds ls l (o ∷ os) = λ i. line_more feeds ls l o i ∷ hear_more feeds ls l os i
+hear_more : (feeds : List Feed) (ls : List Line) (l : Line) (places : Places) → at_all (hearing_line feeds l) (at_all (hearing_lines feeds ls) places) ≡ at_all (hearing_lines feeds (ls ++ l ∷ [])) places
+hear_more feeds ls l places =
+    both_all (hearing_line feeds l) (hearing_lines feeds ls) places
+    ∙ same_all (λ k. hearing_line feeds l (hearing_lines feeds ls k)) (hearing_lines feeds (ls ++ l ∷ [])) (line_more feeds ls l) places
 
 -- one line more of a list
 pub hear_next : {A : Type 0} (read : A → Line) (feeds : List Feed) (xs : List A) (i : ℕ) (x : A) (places before now : Places) → i < length xs → x ≡ get_or xs i x

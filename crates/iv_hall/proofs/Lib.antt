@@ -1,4 +1,5 @@
 pub mod Calls
+pub mod Each
 pub mod Halls
 pub mod Heard
 pub mod Joined

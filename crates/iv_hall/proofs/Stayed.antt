@@ -1,5 +1,5 @@
 -- Who follows nothing any more that lines end.
-use Rattle.std.proofs.Common.{◌≡◌, ◌∙◌, ◌⊎◌, inl, inr, ℕ, ◌+◌, ◌<◌, Bool, true, false, ◌||◌, cond, not, eqb, List, [], ◌∷◌, ◌++◌, length, map, take, get_or, filter, Option, Some, None, option_map, refl, ap, sym, subst}
+use Rattle.std.proofs.Common.{◌≡◌, ◌∙◌, ◌⊎◌, inl, inr, ℕ, ◌+◌, ◌<◌, Bool, true, false, ◌||◌, cond, not, eqb, List, [], ◌∷◌, ◌++◌, length, map, take, get_or, filter, Some, None, refl, ap, sym, subst}
 use Rattle.std.specs.Prelude.{◌==◌}
 use Rattle.std.specs.List.{Contains, IsDistinct, list_any}
 use Rattle.std.proofs.lemmas.Bool.{cases_eq, eq-eqb, eqb-false, false≢true, ne_eqb, or_parts}
@@ -14,6 +14,7 @@ use Rattle.iv_hall.specs.Hearing.{feed_ended}
 use Rattle.iv_hall.specs.Listing.{AreListed, walked}
 use Rattle.iv_hall.specs.Numbers.{Numbers}
 use Rattle.iv_hall.specs.Readers.{Readers, readers_of}
+use Rattle.iv_hall.proofs.Each.{both_all, same_all, still_all}
 use Rattle.iv_hall.proofs.Halls.{hall_all}
 use Rattle.iv_hall.proofs.Joined.{others_left}
 use Rattle.iv_hall.proofs.Quiet.{follows_fewer}
@@ -87,19 +88,11 @@ not_ending (ended n j why rows) e = cc
 
 -- ---- lines
 
-at_none : (f : Kept → Kept) → ((c : Kept) → c ≡ f c) → (o : Option Kept) → o ≡ option_map f o
-at_none f h None = refl
-at_none f h (Some c) = ap Some (h c)
-
-all_still : (f : Kept → Kept) → ((c : Kept) → c ≡ f c) → (xs : Places) → xs ≡ at_all f xs
-all_still f h [] = refl
-all_still f h (o ∷ os) = λ i. at_none f h o i ∷ all_still f h os i
-
 pub no_end : (l : Line) (xs : Places) → IsNoEnd l → xs ≡ at_all (keeping_on (l ∷ [])) xs
-no_end l xs e = all_still (keeping_on (l ∷ [])) (λ c i. record c { subs = sym (filter_whole (λ (s : Sub). not (ends_in (l ∷ []) s.feed)) c.subs (λ s. ap (λ b. not (b || false)) (e s.feed))) i }) xs
+no_end l xs e = still_all (keeping_on (l ∷ [])) (λ c i. record c { subs = sym (filter_whole (λ (s : Sub). not (ends_in (l ∷ []) s.feed)) c.subs (λ s. ap (λ b. not (b || false)) (e s.feed))) i }) xs
 
 pub no_lines : (xs : Places) → xs ≡ at_all (keeping_on []) xs
-no_lines xs = all_still (keeping_on []) (λ c i. record c { subs = sym (filter_whole (λ (s : Sub). not (ends_in [] s.feed)) c.subs (λ s. refl)) i }) xs
+no_lines xs = still_all (keeping_on []) (λ c i. record c { subs = sym (filter_whole (λ (s : Sub). not (ends_in [] s.feed)) c.subs (λ s. refl)) i }) xs
 
 filter_twice : (p q r : Sub → Bool) → ((s : Sub) → r s ≡ (p s || q s)) → (subs : List Sub) → filter (λ s. not (q s)) (filter (λ s. not (p s)) subs) ≡ filter (λ s. not (r s)) subs
 filter_twice p q r e [] = refl
@@ -116,13 +109,8 @@ filter_twice p q r e (s ∷ ss) = by (p s) (filter_twice p q r e ss) ∙ ap (λ 
 line_more : (ls : List Line) (l : Line) (c : Kept) → keeping_on (l ∷ []) (keeping_on ls c) ≡ keeping_on (ls ++ l ∷ []) c
 line_more ls l c i = record c { subs = filter_twice (λ s. ends_in ls s.feed) (λ s. ends_in (l ∷ []) s.feed) (λ s. ends_in (ls ++ l ∷ []) s.feed) (λ s. list_any-append (is_end s.feed) ls (l ∷ [])) c.subs i }
 
-slot_more : (ls : List Line) (l : Line) (o : Option Kept) → option_map (keeping_on (l ∷ [])) (option_map (keeping_on ls) o) ≡ option_map (keeping_on (ls ++ l ∷ [])) o
-slot_more ls l None = refl
-slot_more ls l (Some c) = ap Some (line_more ls l c)
-
 all_more : (ls : List Line) (l : Line) (xs : Places) → at_all (keeping_on (l ∷ [])) (at_all (keeping_on ls) xs) ≡ at_all (keeping_on (ls ++ l ∷ [])) xs
-all_more ls l [] = refl
-all_more ls l (o ∷ os) = λ i. slot_more ls l o i ∷ all_more ls l os i
+all_more ls l xs = both_all (keeping_on (l ∷ [])) (keeping_on ls) xs ∙ same_all (λ c. keeping_on (l ∷ []) (keeping_on ls c)) (keeping_on (ls ++ l ∷ [])) (line_more ls l) xs
 
 -- one line more of a list
 pub stay_next : {A : Type 0} (read : A → Line) (xs : List A) (i : ℕ) (x : A) (places before now : Places) → i < length xs → x ≡ get_or xs i x
