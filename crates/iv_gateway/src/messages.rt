@@ -10,9 +10,10 @@ ghost use Rattle.iv_clients.specs.Clients.{client_at, saying};
 ghost use Rattle.iv_clients.specs.Journal.{Entry, is_shared, line_said};
 ghost use Rattle.iv_clients.specs.Kept.{kept};
 ghost use Rattle.iv_gate.specs.Events.{failed, message, next};
-ghost use Rattle.iv_gate.specs.Gate.{Gate, acts, done_for, entered, hears, is_accepted, is_heard, reply_in, requests, said, tells, shape_text};
+ghost use Rattle.iv_gate.specs.Gate.{Gate, acts, done_for, entered, hears, in_session, is_accepted, is_heard, reply_in, requests, said, tells, shape_text};
+ghost use Rattle.iv_gateway.specs.Granting.{IsGranting};
 ghost use Rattle.iv_gateway.specs.Speaking.{speaker_in, speaking};
-ghost use Rattle.iv_gateway.specs.Views.{IsAlive, IsGate};
+ghost use Rattle.iv_gateway.specs.Views.{IsAlive, IsGate, IsRun};
 
 use crate::gateway::{Gateway, GatewayFault};
 use crate::granting::Grants;
@@ -269,8 +270,7 @@ impl Gateway {
         }
     }
 
-    /// The engine answers a request in a session. The journal is to have it if it is accepted; its client is told the reply, then everybody
-    /// what changed, and then administrators the request, if it makes the shape.
+    /// The engine answers a request in a session, and what it answers is told.
     fn request_in(
         &mut self,
         session: u32,
@@ -292,10 +292,38 @@ impl Gateway {
         let mut made = Vec::new(self.alloc);
         push_shape(self.alloc, &mut made, speaker.role.as_str(), line, &act)?;
         let lines = self.run(Command { session, act })?;
-        self.enter_request(speaker.role.as_str(), line, &made, &lines)?;
-        self.reply_first(client, id, &lines)?;
-        self.hear(&lines, &grants)?;
-        self.inform(&made, &lines)?;
+        self.tell_request(
+            client,
+            id,
+            speaker.role.as_str(),
+            line,
+            &made,
+            &lines,
+            &grants,
+        )?;
+        Ok(())
+    }
+
+    /// Has told what the engine answered a request, by what it makes of the shape and what it grants. The journal is to have it if it is
+    /// accepted; its client is told the reply, then everybody what changed, and then administrators the request, if it makes the shape.
+    fn tell_request(
+        &mut self,
+        client: u32,
+        id: &Option<Id>,
+        role: &str,
+        line: &[u8],
+        made: &[u8],
+        lines: &[Line],
+        grants: &Grants,
+    ) -> Result<(), AllocError>
+        ensures { OnOk result ((g : Gate) (e : Entry) (n : ℕ) → IsRun g (in_session n e.act) (map line_of lines.now) self.old → is_shared e.act ≡ true
+            → e.role ≡ role.now → e.line ≡ line.now → made.now ≡ shape_text (e ∷ []) → IsGranting e.act grants.now
+            → IsAlive (requests g client (option_map id_data id.now) e n) self.new) }
+    {
+        self.enter_request(role, line, made, lines)?;
+        self.reply_first(client, id, lines)?;
+        self.hear(lines, grants)?;
+        self.inform(made, lines)?;
         Ok(())
     }
 
