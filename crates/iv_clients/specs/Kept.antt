@@ -45,8 +45,20 @@ Places = List (Option Kept)
 abbrev pub kept_slots : Slots → Places
 kept_slots slots = map (option_map kept) slots
 
-abbrev pub coming : Name → List ℕ → Kept
-coming role digest = record { role = role; digest = digest; given = 0; subs = []; unsynced = []; sendable = []; asked = 0; brought = 0; piled = 0; owed = false; dropped = false }
+abbrev pub coming : Name → List ℕ → List ℕ → Kept
+coming role digest text = record {
+  role = role;
+  digest = digest;
+  given = 0;
+  subs = [];
+  unsynced = text;
+  sendable = [];
+  asked = 0;
+  brought = 0;
+  piled = 0;
+  owed = false;
+  dropped = false;
+}
 
 -- ---- text
 
@@ -106,6 +118,14 @@ letting_go k = record k { unsynced = []; sendable = []; brought = 0; piled = 0; 
 abbrev pub releasing : Kept → Kept
 releasing k = if k.dropped || nat_lt most_piled k.piled then letting_go k
     else record k { unsynced = []; sendable = k.sendable ++ k.unsynced; brought = 0; piled = k.piled + k.brought }
+
+-- something may be sent to it, or it is to go
+abbrev pub is_due : Kept → Bool
+is_due k = k.dropped || not (length k.sendable == 0)
+
+-- or something waits for the journal, or has not been taken
+abbrev pub is_told : Kept → Bool
+is_told k = is_due k || (not (length k.unsynced == 0) || (not (k.brought == 0) || not (k.piled == 0)))
 
 -- it has nothing more that may be sent
 abbrev pub emptied : Kept → Kept

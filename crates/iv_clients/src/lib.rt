@@ -5,7 +5,6 @@ mod clients;
 mod feeds;
 mod journal;
 mod said;
-mod slots;
 mod tokens;
 
 pub use clients::{Client, Sub};
@@ -13,11 +12,6 @@ pub use feeds::{
     Feed, Seat, drop_ended, drop_feed, drop_seat, ends_in, feed_for, feed_of, has_feed, load,
     next_seat, rel_read, room_for, seat_of,
 };
-pub use journal::{behind, cut_at, entry_in, is_shared, push_entry};
+pub use journal::{behind, cut_at, entry_in, is_shape, is_shared, push_entry};
 pub use said::read_said;
-pub use slots::{
-    answered_at, ask_at, beat_all, check_all, close_at, empty_slots, follow_at, has_client,
-    has_role, hold_at, is_followed, is_free, put_at, redirect_at, release_all, settle_all,
-    stay_all, take_at,
-};
 pub use tokens::{Token, TokensFault, read_tokens, role_opened};

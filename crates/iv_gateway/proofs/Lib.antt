@@ -1,5 +1,4 @@
 pub mod Keeping
-pub mod Heard
 pub mod Standing
 pub mod Refused
 pub mod Seated
@@ -13,4 +12,5 @@ pub mod Said
 pub mod Reread
 pub mod Replayed
 pub mod Granted
+pub mod Shaped
 pub mod Subscribed

@@ -1,7 +1,6 @@
 pub mod Granting
-pub mod Hearing
 pub mod Reading
 pub mod Replays
-pub mod Saying
+pub mod Shaping
 pub mod Speaking
 pub mod Views

@@ -3,13 +3,13 @@ ghost use Rattle.std.specs.Prelude.{◌≡◌, ◌&&◌, if◌then◌else◌, So
 ghost use Rattle.iv_rows.specs.Names.{is_name};
 ghost use Rattle.iv_clients.specs.Clients.{fresh, is_free};
 ghost use Rattle.iv_clients.specs.Tokens.{role_opened};
-ghost use Rattle.iv_message.specs.Told.{welcome};
-ghost use Rattle.iv_gate.specs.Gate.{Gate, came, role_for, settles, tells};
+ghost use Rattle.iv_gate.specs.Gate.{Gate, came, role_for};
 ghost use Rattle.iv_gateway.specs.Views.{IsAlive};
 
 use crate::gateway::Gateway;
-use iv_clients::{Client, Token, is_free, put_at, role_opened};
-use iv_message::push_welcome;
+use crate::shaping::greeting;
+use iv_clients::{Token, role_opened};
+use iv_hall::Hall;
 use iv_rows::name_ok;
 use sha2::{Digest, Sha256};
 use std::alloc::{AllocError, Global};
@@ -18,7 +18,7 @@ use std::alloc::{AllocError, Global};
 fn role_presented(
     alloc: Global,
     tokens: &[Token],
-    clients: &[Option<Client>],
+    clients: &Hall,
     client: u32,
     digest: &[u8],
 ) -> Result<Option<String>, AllocError>
@@ -27,7 +27,7 @@ fn role_presented(
     match role_opened(tokens, digest) {
         None => Ok(None),
         Some(role) => {
-            if name_ok(role) && is_free(clients, client) {
+            if name_ok(role) && clients.is_free(client) {
                 Ok(Some(String::from_str(alloc, role)?))
             } else {
                 Ok(None)
@@ -37,7 +37,7 @@ fn role_presented(
 }
 
 impl Gateway {
-    /// A client of a role comes in, and is welcomed.
+    /// A client of a role comes in, and is told what it is to know.
     pub(crate) fn enter(
         &mut self,
         client: u32,
@@ -45,17 +45,10 @@ impl Gateway {
         digest: Vec<u8>,
     ) -> Result<(), AllocError>
         ensures { OnOk result ((g : Gate) → IsAlive g self.old
-            → IsAlive (settles (tells (record g { clients = slice_set g.clients client (Some (fresh (string_bytes role) digest.items)) }) client (welcome (string_bytes role)))) self.new) }
+            → IsAlive (record g { clients = slice_set g.clients client (Some (fresh g.entries (string_bytes role) digest.items)) }) self.new) }
     {
-        let mut text = Vec::new(self.alloc);
-        push_welcome(self.alloc, &mut text, role.as_str())?;
-        put_at(
-            &mut self.clients,
-            client,
-            Some(Client::new(self.alloc, role, digest)),
-        );
-        self.tell(client, &text)?;
-        self.settle_told()?;
+        let text = greeting(self.alloc, role.as_str(), &self.shape)?;
+        self.clients.enter(self.alloc, client, role, digest, text);
         Ok(())
     }
 
