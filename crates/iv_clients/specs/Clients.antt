@@ -4,13 +4,13 @@ use Rattle.std.specs.List.{list_any}
 use Rattle.iv_rows.specs.Options.{if_some}
 use Rattle.iv_access.specs.Rights.{Name}
 use Rattle.iv_machine.specs.Act.{Line, reply, change, ended}
-use Rattle.iv_message.specs.Told.{Told, changed, over, settled, alive, told_text}
+use Rattle.iv_message.specs.Told.{Told, welcome, changed, over, settled, alive, told_text}
 use Rattle.iv_clients.specs.Bounds.{most_requests, most_waiting, most_piled}
 use Rattle.iv_clients.specs.Feeds.{Feed, ends_in, rel_read}
-use Rattle.iv_clients.specs.Journal.{Entry}
+use Rattle.iv_clients.specs.Journal.{Entry, shape_for}
 use Rattle.iv_clients.specs.Tokens.{Token, role_opened}
 
--- what a client is told, with the entries that its text may show, and whether it comes of the client's own message
+-- what a client is told, with the entries that its text may show, and whether it comes of the client's own token or message
 pub record Shown : Type 0 where
   pub told : Told
   pub entries : List Entry
@@ -38,21 +38,18 @@ pub record Client : Type 0 where
   pub messages : List (List ℕ)
   pub handed : List (List Shown)
 
--- a client that comes in
-abbrev pub fresh : Name → List ℕ → Client
-fresh role digest = record {
-  role = role;
-  digest = digest;
-  given = 0;
-  subs = [];
-  unsynced = [];
-  sendable = [];
-  asked = 0;
-  owed = false;
-  dropped = false;
-  messages = [];
-  handed = [];
-}
+-- what a client that comes in is told: its role, the shape if it is an administrator, and that this is all
+abbrev pub greeting : List Entry → Name → List Told
+greeting es role = welcome role ∷ (shape_for role es ++ settled ∷ [])
+
+-- a client that was told nothing
+abbrev pub untold : Name → List ℕ → Client
+untold role d =
+    record { role = role; digest = d; given = 0; subs = []; unsynced = []; sendable = []; asked = 0; owed = false; dropped = false; messages = []; handed = [] }
+
+-- a client that comes in, when these entries are accepted: it is told its greeting, which comes of its own token
+abbrev pub fresh : List Entry → Name → List ℕ → Client
+fresh es role digest = record (untold role digest) { unsynced = map (λ t. record { told = t; entries = es; answers = true }) (greeting es role) }
 
 -- all that it was told, in order
 abbrev pub all_shown : Client → List Shown
@@ -117,9 +114,6 @@ closing own c = record c { subs = filter (λ s. not (own == s.own)) c.subs }
 -- the feed that an own number follows
 abbrev pub followed_by : List Sub → ℕ → Option ℕ
 followed_by subs own = option_map (λ s. s.feed) (find (λ s. own == s.own) subs)
-
-abbrev pub followed : Client → ℕ → Option ℕ
-followed c own = followed_by c.subs own
 
 -- ---- bounds
 

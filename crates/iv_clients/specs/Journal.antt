@@ -1,12 +1,13 @@
 -- The journal: accepted requests that change what is shared, one a line, each with the role that made it.
-use Rattle.std.specs.Prelude.{◌≡◌, ℕ, ◌==◌, ◌||◌, Bool, true, false, if◌then◌else◌, List, [], ◌∷◌, ◌++◌, drop, flat_map, length, codes, nat_lt, Option, Some, None, option_map, option_and_then, unwrap_or}
+use Rattle.std.specs.Prelude.{◌≡◌, ℕ, ◌==◌, ◌||◌, Bool, true, false, if◌then◌else◌, List, [], ◌∷◌, ◌++◌, drop, map, filter, flat_map, length, bytes_eq, codes, nat_lt, Option, Some, None, option_map, option_and_then, unwrap_or}
 use Rattle.std.specs.List.{list_any}
 use Rattle.serde_json.specs.Data.{Data}
 use Rattle.iv_rows.specs.Names.{is_name}
 use Rattle.iv_access.specs.Rights.{Name}
-use Rattle.iv_machine.specs.Act.{Act, begin, finish, subscribe, unsubscribe}
+use Rattle.iv_machine.specs.Act.{Act, begin, finish, subscribe, unsubscribe, write}
 use Rattle.iv_request.specs.Reading.{value_of}
 use Rattle.iv_message.specs.Message.{Message, no_json, too_long, no_object, no_request, request, wrong, id_in, message_of, on_one_line}
+use Rattle.iv_message.specs.Told.{Told, made}
 use Rattle.iv_clients.specs.Bounds.{most_said}
 use Rattle.iv_clients.specs.Tokens.{behind, cut_at}
 
@@ -76,11 +77,24 @@ is_shared (subscribe rel) = false
 is_shared (unsubscribe k) = false
 is_shared _ = true
 
+-- it makes the shape of what is shared: it changes that, and writes no rows
+abbrev pub is_shape : Act → Bool
+is_shape (write entries) = false
+is_shape act = is_shared act
+
 -- a request that changed what is shared: the role that made it, its line, and what it asked
 pub record Entry : Type 0 where
   pub role : Name
   pub line : List ℕ
   pub act : Act
+
+-- what tells of the shape that entries make: each that makes it, in order
+abbrev pub shape_of : List Entry → List Told
+shape_of es = map (λ e. made e.role e.line) (filter (λ e. is_shape e.act) es)
+
+-- what of it is for a client of the role: all for an administrator, and nothing for anyone else
+abbrev pub shape_for : Name → List Entry → List Told
+shape_for role es = if bytes_eq role (codes "admin") then shape_of es else []
 
 -- the line without its brace, behind the role
 abbrev pub entry_text : Entry → List ℕ

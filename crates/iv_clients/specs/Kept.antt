@@ -45,8 +45,20 @@ Places = List (Option Kept)
 abbrev pub kept_slots : Slots → Places
 kept_slots slots = map (option_map kept) slots
 
-abbrev pub coming : Name → List ℕ → Kept
-coming role digest = record { role = role; digest = digest; given = 0; subs = []; unsynced = []; sendable = []; asked = 0; brought = 0; piled = 0; owed = false; dropped = false }
+abbrev pub coming : Name → List ℕ → List ℕ → Kept
+coming role digest text = record {
+  role = role;
+  digest = digest;
+  given = 0;
+  subs = [];
+  unsynced = text;
+  sendable = [];
+  asked = 0;
+  brought = 0;
+  piled = 0;
+  owed = false;
+  dropped = false;
+}
 
 -- ---- text
 

@@ -13,7 +13,8 @@ text_of_entry role line = codes "{\"as\":\"" ++ (role ++ (codes "\"," ++ (drop 1
 -- the role of a line, and the message behind it without its brace
 abbrev pub entry_parts : List ℕ → Option (List ℕ × List ℕ)
 entry_parts line =
-    option_and_then (λ rest. option_and_then (λ (p : List ℕ × List ℕ). option_map {U = List ℕ × List ℕ} (λ text. (p.0, text)) (behind (codes ",") p.1)) (cut_at 34 rest))
+    option_and_then (λ rest.
+    option_and_then (λ (p : List ℕ × List ℕ). option_map {U = List ℕ × List ℕ} (λ text. (p.0, text)) (behind (codes ",") p.1)) (cut_at 34 rest))
     (behind (codes "{\"as\":\"") line)
 
 abbrev pub named_entry : List ℕ × List ℕ → Option (Name × List ℕ)

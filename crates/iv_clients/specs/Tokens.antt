@@ -29,7 +29,8 @@ behind prefix bytes = if bytes_eq (take (length prefix) bytes) prefix then Some 
 -- the digits of a digest and a role, each between quotation marks, and nothing behind them
 abbrev pub token_parts : List ℕ → Option (List ℕ × List ℕ)
 token_parts line =
-    option_and_then (λ (d : List ℕ × List ℕ). option_and_then (λ role_on. option_and_then {U = List ℕ × List ℕ} (λ (r : List ℕ × List ℕ). if length r.1 == 0 then Some (d.0, r.0) else None)
+    option_and_then (λ (d : List ℕ × List ℕ). option_and_then (λ role_on.
+    option_and_then {U = List ℕ × List ℕ} (λ (r : List ℕ × List ℕ). if length r.1 == 0 then Some (d.0, r.0) else None)
     (cut_at 34 role_on)) (behind (codes " = \"") d.1)) (option_and_then (cut_at 34) (behind (codes "\"") line))
 
 abbrev pub decoded : Result (List ℕ) FromHexError → Option (List ℕ)
@@ -47,7 +48,8 @@ abbrev pub token_with : Name → List ℕ → Option Token
 token_with role digest = if length digest == 32 then Some (record { digest = digest; role = role }) else None
 
 abbrev pub token_in : List ℕ → Option Token
-token_in line = option_and_then (λ (p : List ℕ × List ℕ). option_and_then (λ role. option_and_then (token_with role) (digest_in p.0)) (role_in p.1)) (token_parts line)
+token_in line = option_and_then (λ (p : List ℕ × List ℕ).
+    option_and_then (λ role. option_and_then (token_with role) (digest_in p.0)) (role_in p.1)) (token_parts line)
 
 -- the name of the table, a remark, or nothing
 abbrev pub is_no_token : List ℕ → Bool

@@ -112,16 +112,16 @@ fn drop_ended_in(subs: &mut Vec<Sub>, lines: &[Line])
 }
 
 impl Client {
-    /// A client who comes in.
-    pub fn new(alloc: Global, role: String, digest: Vec<u8>) -> Client
-        ensures { result ≡ coming (string_bytes role) digest.items }
+    /// A client who comes in, and the text that it is told of its token.
+    pub fn new(alloc: Global, role: String, digest: Vec<u8>, text: Vec<u8>) -> Client
+        ensures { result ≡ coming (string_bytes role) digest.items text.items }
     {
         Client {
             role,
             digest,
             given: 0,
             subs: Vec::new(alloc),
-            unsynced: Vec::new(alloc),
+            unsynced: text,
             sendable: Vec::new(alloc),
             asked: 0,
             brought: 0,

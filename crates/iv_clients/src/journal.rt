@@ -2,7 +2,7 @@
 ghost use Rattle.std.specs.Prelude.{◌≡◌, ◌==◌, if◌then◌else◌, ◌++◌, ℕ, List, Option, Some, IfOk, IfSome, OnOk, option_map, string_bytes, true};
 ghost use Rattle.iv_rows.specs.Names.{is_name};
 ghost use Rattle.iv_command.specs.Views.{act_of};
-ghost use Rattle.iv_clients.specs.Journal.{is_shared};
+ghost use Rattle.iv_clients.specs.Journal.{is_shape, is_shared};
 ghost use Rattle.iv_clients.specs.Tokens.{behind, cut_at};
 ghost use Rattle.iv_clients.specs.Parsed.{entry_in, entry_parts, text_of_entry};
 
@@ -18,6 +18,13 @@ pub fn is_shared(act: &Act) -> bool
         act,
         Act::Begin { .. } | Act::Finish | Act::Subscribe { .. } | Act::Unsubscribe { .. }
     )
+}
+
+/// Whether it makes the shape of what is shared: it changes that, and writes no rows.
+pub fn is_shape(act: &Act) -> bool
+    ensures { result ≡ is_shape (act_of act.now) }
+{
+    is_shared(act) && !matches!(act, Act::Write { .. })
 }
 
 /// Appends the line of an entry.

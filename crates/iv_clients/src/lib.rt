@@ -12,6 +12,6 @@ pub use feeds::{
     Feed, Seat, drop_ended, drop_feed, drop_seat, ends_in, feed_for, feed_of, has_feed, load,
     next_seat, rel_read, room_for, seat_of,
 };
-pub use journal::{behind, cut_at, entry_in, is_shared, push_entry};
+pub use journal::{behind, cut_at, entry_in, is_shape, is_shared, push_entry};
 pub use said::read_said;
 pub use tokens::{Token, TokensFault, read_tokens, role_opened};

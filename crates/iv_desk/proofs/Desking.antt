@@ -5,7 +5,7 @@ use Rattle.iv_rows.specs.Options.{if_some}
 use Rattle.iv_clients.specs.Clients.{client_at, is_free}
 use Rattle.iv_gate.specs.Events.{Event, failed, next}
 use Rattle.iv_gate.specs.Gate.{Gate}
-use Rattle.iv_gate.specs.Laws.{marks_behind}
+use Rattle.iv_gate.specs.Laws.{marked}
 use Rattle.iv_gate.specs.Restoring.{Restores}
 use Rattle.iv_gateway.specs.Views.{IsGate}
 use Rattle.iv_gateway.specs.declared.gateway.Gateway.{Gateway}
@@ -46,7 +46,7 @@ starts_behind g most x slots b a e = record { alive = a; gate = b; places = e �
 pub starts_many : (g : Gate) (most : ℕ) → most ≡ length (front_at_start g most).sockets
 starts_many g most = sym (length_replicate most None)
 
-pub event_behind : LeavesMarks → (d : Front) (e : Event) (v x : Gateway) (slots : List (Option Place)) → IsBehind d v slots → IsGate (next d.gate e) x → (marks_behind d.gate e).dead ≡ d.gate.dead
+pub event_behind : LeavesMarks → (d : Front) (e : Event) (v x : Gateway) (slots : List (Option Place)) → IsBehind d v slots → IsGate (next d.gate e) x → (marked d.gate e).dead ≡ d.gate.dead
     → IsBehind (by_event e d) x slots
 event_behind k d e v x slots b is same = record { alive = dead_by k d.gate e b.alive ∙ (same ∙ b.alive); gate = is; places = b.places; lives = b.lives }
 

@@ -7,7 +7,8 @@ use Rattle.websocket.specs.Content.{Content, text, binary, ping, pong, close}
 use Rattle.websocket.specs.Connection.{Connection, Effect}
 use Rattle.iv_gate.specs.Events.{Event, handed, message, next, presented}
 use Rattle.iv_gate.specs.Gate.{Gate, is_heard, role_for}
-use Rattle.iv_gate.specs.Laws.{Marks, marks, marks_behind}
+use Rattle.iv_gate.specs.Laws.{marked}
+use Rattle.iv_gate.specs.Laws as law
 use Rattle.iv_gateway.specs.Views.{IsGate}
 use Rattle.iv_gateway.specs.declared.gateway.Gateway.{Gateway}
 use Rattle.iv_peer.specs.declared.peer.Heard.TheVariants as heard
@@ -147,10 +148,10 @@ heard_text g m s x p t y w held is =
 
 -- the marks that an event leaves
 abbrev pub LeavesMarks : Type 0
-LeavesMarks = (g : Gate) (e : Event) → g.dead ≡ false → marks (next g e) ≡ marks_behind g e
+LeavesMarks = (g : Gate) (e : Event) → g.dead ≡ false → law.LeavesMarks g e
 
-pub dead_by : LeavesMarks → (g : Gate) (e : Event) → g.dead ≡ false → (next g e).dead ≡ (marks_behind g e).dead
-dead_by k g e a = ap (λ (x : Marks). x.dead) (k g e a)
+pub dead_by : LeavesMarks → (g : Gate) (e : Event) → g.dead ≡ false → (next g e).dead ≡ (marked g e).dead
+dead_by k g e a = ap (λ (x : Gate). x.dead) (k g e a)
 
 lived_on : (s t : Socket) (bytes : List ℕ) → (l : IsLived s) → Hears s (Some bytes) t → Lives (l.0 ++ bytes ∷ []) l.1 t
 lived_on s t bytes l h = life.hears l.0 l.1 s t (Some bytes) l.2 h

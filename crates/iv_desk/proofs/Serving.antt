@@ -8,16 +8,16 @@ use Rattle.iv_rows.specs.Names.{is_name}
 use Rattle.iv_rows.specs.Options.{if_some}
 use Rattle.iv_access.specs.Rights.{Name}
 use Rattle.iv_message.specs.Lines.{IsLine}
-use Rattle.iv_message.specs.Told.{Told, told_text, welcome}
-use Rattle.iv_clients.specs.Clients.{Client, Shown, at_client, client_at, fresh, handing, is_free, may_say, saying, settling, text_shown, told_one}
+use Rattle.iv_message.specs.Told.{Told, told_text}
+use Rattle.iv_clients.specs.Clients.{Client, Shown, at_client, client_at, fresh, handing, is_free, may_say, saying, text_shown}
 use Rattle.iv_clients.specs.Feeds.{seat_of}
 use Rattle.iv_clients.specs.Tokens.{Token, role_opened}
 use Rattle.iv_gate.specs.Events.{Event, failed, gone, handed, known, message, next, presented, synced, ticked}
-use Rattle.iv_gate.specs.Gate.{Gate, begun_for, came, has_session, is_heard, role_for, seated, settles, tells, with_session}
-use Rattle.iv_gate.specs.Laws.{HoldAlways, Marks, marks_behind}
+use Rattle.iv_gate.specs.Gate.{Gate, begun_for, came, has_session, is_heard, role_for, seated, with_session}
+use Rattle.iv_gate.specs.Laws.{HoldAlways, marked}
 use Rattle.iv_gate.specs.Runs.{Runs}
 use Rattle.iv_gate.specs.Runs as gate
-use Rattle.iv_gate.specs.Touched.{AreTouched, Card, IsNewcomer, card, card_behind, is_gone}
+use Rattle.iv_gate.specs.Touched.{AreTouched, IsNewcomer, itself_behind}
 use Rattle.iv_peer.specs.Socket.{Socket, closed, ended, is_open, passing, told_text as told_in_frame, took}
 use Rattle.iv_peer.specs.Socket as socket
 use Rattle.iv_peer.specs.Hearing.{Hears, accepts, refuses_other, refuses_bad, refuses_long, frames, fails}
@@ -26,7 +26,7 @@ use Rattle.iv_peer.specs.Lives as life
 use Rattle.iv_desk.specs.Front.{Front, FrontRuns, Happens, HearsAt, at_socket, begins, begun, by_event, closes, fails as front_fails, front_at_start, goes_on, has_presented, hears, knows, leaves, left, let_go, let_in, later_text, no_text, first_text, nothing, offered, offered_to, offers, sends, socket_at, starts, syncs, takes, text_for, ticks, told_some, turned_away, with_both, is_dropped}
 use Rattle.iv_desk.specs.Served.{BrowsersAreTold, CarriesFor}
 use Rattle.iv_desk.proofs.Presenting.{AlwaysCarries, has_heard}
-use Rattle.iv_desk.proofs.Slots.{at_each_number, at_every, at_other, at_same, free_every, free_none, nobody_there, none_some, set_gone, set_other, set_there, some_same}
+use Rattle.iv_desk.proofs.Slots.{at_each_number, at_other, at_same, free_every, free_none, nobody_there, none_some, set_gone, set_other, set_there, some_same}
 
 -- what holds always of the gateway, and of the life of a socket
 pub record Laws : Type 0 where
@@ -44,9 +44,6 @@ record Known : Type 0 where
 
 abbrev known_of : Client → Known
 known_of c = record { digest = c.digest; messages = c.messages; handed = c.handed }
-
-abbrev of_card : Card → Known
-of_card k = record { digest = k.digest; messages = k.messages; handed = k.handed }
 
 -- of client n as much is known as before
 abbrev IsSame : Gate → Gate → ℕ → Type 0
@@ -79,31 +76,42 @@ presented_at m n a b e = cc e
 presented_text : (m n : ℕ) (a b : List ℕ) → presented m a ≡ presented n b → a ≡ b
 presented_text m n a b e = cc e
 
--- an event that leaves its card, and by which nobody comes with its number
-stays_same : (g : Gate) (e : Event) (n : ℕ) → AreTouched g e → is_gone n e ≡ false → ((c : Client) → card_behind n c e ≡ card c) → ((token : List ℕ) → e ≡ presented n token → ⊥)
+-- whether somebody goes by it
+abbrev takes_leave : Event → Bool
+takes_leave (gone n) = true
+takes_leave e = false
+
+does_not_go : (n : ℕ) (e : Event) → takes_leave e ≡ false → e ≡ gone n → ⊥
+does_not_go n e h q = false≢true (sym h ∙ ap takes_leave q)
+
+gone_at : (m n : ℕ) → gone m ≡ gone n → m ≡ n
+gone_at m n e = cc e
+
+-- an event that leaves what is known of it, and by which nobody comes with its number
+stays_same : (g : Gate) (e : Event) (n : ℕ) → AreTouched g e → (e ≡ gone n → ⊥) → ((c : Client) → known_of (itself_behind n c e) ≡ known_of c) → ((token : List ℕ) → e ≡ presented n token → ⊥)
     → IsSame g (next g e) n
 stays_same g e n t stays same nobody = by (client_at g.clients n) refl
   where
     none : client_at g.clients n ≡ None → (p : Option Client) → client_at (next g e).clients n ≡ p → option_map known_of p ≡ None
     none h None k = refl
-    none h (Some d) k = let c = t.comes n d h k in absurd (nobody c.token c.event)
+    none h (Some d) k = let c = t.comes n d h k in absurd (nobody c.0 c.1)
 
     by : (o : Option Client) → client_at g.clients n ≡ o → option_map known_of (client_at (next g e).clients n) ≡ option_map known_of o
-    by (Some c) h = let k = t.stays n c h stays in ap (option_map known_of) k.there ∙ ap (λ z. Some (of_card z)) (k.card ∙ same c)
+    by (Some c) h = let k = t.stays n c h stays in ap (option_map known_of) k.there ∙ ap Some (ap known_of k.is ∙ same c)
     by None h = none h (client_at (next g e).clients n) refl
 
 beside_message : (g : Gate) (m n : ℕ) (text : List ℕ) → (m ≡ n → ⊥) → AreTouched g (message m text) → IsSame g (next g (message m text)) n
 beside_message g m n text ne t =
-    stays_same g (message m text) n t refl (λ c. ap (λ b. cond (b && may_say c) (card (saying text c)) (card c)) (ne_eqb m n ne)) (message_comes m n text)
+    stays_same g (message m text) n t (does_not_go n (message m text) refl) (λ c. ap (λ b. known_of (if_some (cond (b && may_say c) (Some text) None) c (λ x. saying x c))) (ne_eqb m n ne)) (message_comes m n text)
 
 beside_token : (g : Gate) (m n : ℕ) (token : List ℕ) → (m ≡ n → ⊥) → AreTouched g (presented m token) → IsSame g (next g (presented m token)) n
-beside_token g m n token ne t = stays_same g (presented m token) n t refl (λ c. refl) (λ b e. ne (presented_at m n token b e))
+beside_token g m n token ne t = stays_same g (presented m token) n t (does_not_go n (presented m token) refl) (λ c. refl) (λ b e. ne (presented_at m n token b e))
 
 beside_handed : (g : Gate) (m n : ℕ) → (m ≡ n → ⊥) → AreTouched g (handed m) → IsSame g (next g (handed m)) n
-beside_handed g m n ne t = stays_same g (handed m) n t refl (λ c. ap (λ b. cond b (card (handing c)) (card c)) (ne_eqb m n ne)) (handed_comes m n)
+beside_handed g m n ne t = stays_same g (handed m) n t (does_not_go n (handed m) refl) (λ c. ap (λ b. known_of (cond b (handing c) c)) (ne_eqb m n ne)) (handed_comes m n)
 
 beside_gone : (g : Gate) (m n : ℕ) → (m ≡ n → ⊥) → AreTouched g (gone m) → IsSame g (next g (gone m)) n
-beside_gone g m n ne t = stays_same g (gone m) n t (ne_eqb m n ne) (λ c. refl) (gone_comes m n)
+beside_gone g m n ne t = stays_same g (gone m) n t (λ e. ne (gone_at m n e)) (λ c. refl) (gone_comes m n)
 
 -- ---- who comes
 
@@ -120,15 +128,11 @@ free_with g role m = by (seat_of g.seats role)
 
 -- whose token opens a role for a number is the client of it
 abbrev came_as : Gate → ℕ → List ℕ → Name → Gate
-came_as g m token role = let h = with_session g role in settles (tells (record h { clients = set h.clients m (Some (fresh role (sha256 token))) }) m (welcome role))
+came_as g m token role = let h = with_session g role in record h { clients = set h.clients m (Some (fresh h.entries role (sha256 token))) }
 
 came_there : (g : Gate) (m : ℕ) (token : List ℕ) (role : Name) → is_free m g.clients ≡ true
-    → client_at (came_as g m token role).clients m ≡ Some (settling (came_as g m token role).entries (told_one (came_as g m token role).entries (welcome role) (fresh role (sha256 token))))
-came_there g m token role free =
-    let h = with_session g role in let es = h.entries in let slots = set h.clients m (Some (fresh role (sha256 token))) in
-    at_every (settling es) (at_client m (told_one es (welcome role)) slots) m
-    ∙ ap (option_map (settling es)) (at_same m (told_one es (welcome role)) slots
-    ∙ ap (option_map (told_one es (welcome role))) (set_there m (fresh role (sha256 token)) h.clients (free_with g role m ∙ free)))
+    → client_at (came_as g m token role).clients m ≡ Some (fresh (came_as g m token role).entries role (sha256 token))
+came_there g m token role free = let h = with_session g role in set_there m (fresh h.entries role (sha256 token)) h.clients (free_with g role m ∙ free)
 
 and_true : (b d : Bool) → (b && d) ≡ true → (b ≡ true) × (d ≡ true)
 and_true true d h = (refl, h)
@@ -232,8 +236,8 @@ record Led (cap m : ℕ) (g h : Gate) (t : Socket) : Type 0 where
 event_touches : Laws → (cap : ℕ) (g : Gate) (e : Event) → Runs cap g → g.dead ≡ false → AreTouched g e
 event_touches l cap g e r a = ((l.always cap g r).1 e).touched a
 
-event_marks : Laws → (cap : ℕ) (g : Gate) (e : Event) → Runs cap g → g.dead ≡ false → (next g e).dead ≡ (marks_behind g e).dead
-event_marks l cap g e r a = ap (λ (k : Marks). k.dead) (((l.always cap g r).1 e).marks a)
+event_marks : Laws → (cap : ℕ) (g : Gate) (e : Event) → Runs cap g → g.dead ≡ false → (next g e).dead ≡ (marked g e).dead
+event_marks l cap g e r a = ap (λ (k : Gate). k.dead) (((l.always cap g r).1 e).marks a)
 
 heard_over : (s t : Socket) (o : Option (List ℕ)) → Hears s o t → s.over ≡ false
 heard_over _ _ _ (accepts s head rest accept over at is) = over
@@ -289,8 +293,8 @@ token_lives l cap g m s t token r a h first k = by (client_at g.clients m) refl 
 
     is : (d : Client) → IsNewcomer g (presented m token) m d → LivesNobody s → LivesClient d t
     is d c nobody =
-        let same = presented_text m m token c.token c.event in
-        admitted_lives s t d token h nobody (ap (λ (x : Client). x.digest) c.is ∙ ap sha256 (sym same)) (ap (λ (x : Client). x.messages) c.is) (ap (λ (x : Client). x.handed) c.is)
+        let same = presented_text m m token c.0 c.1 in
+        admitted_lives s t d token h nobody (ap (λ (x : Client). x.digest) c.3 ∙ ap sha256 (sym same)) (ap (λ (x : Client). x.messages) c.3) (ap (λ (x : Client). x.handed) c.3)
 
     none : client_at g.clients m ≡ None → LivesNobody s → (o : Option Name) → role_for g m token ≡ o
         → LivesFor (client_at after.clients m) (Some (cond (is_some o) t (turned_away t)))
@@ -315,12 +319,15 @@ message_lives : Laws → (cap : ℕ) (g : Gate) (m : ℕ) (s t : Socket) (text :
     → LivesFor (client_at g.clients m) (Some s) → LivesFor (client_at (next g (message m text)).clients m) (Some t)
 message_lives l cap g m s t text r a h may k =
     let w = heard_client (client_at g.clients m) may in
-    let now = (event_touches l cap g (message m text) r a).stays m w.0 w.1 refl in
+    let now = (event_touches l cap g (message m text) r a).stays m w.0 w.1 (does_not_go m (message m text) refl) in
     let own : LivesClient w.0 s = subst (λ o. LivesFor o (Some s)) w.1 k in
-    let heard : card now.now ≡ card (saying text w.0) = now.card ∙ (ap (λ b. cond (b && may_say w.0) (card (saying text w.0)) (card w.0)) (eq-eqb m m refl) ∙ ap (λ b. cond b (card (saying text w.0)) (card w.0)) w.2) in
+    let heard : known_of now.now ≡ known_of (saying text w.0) =
+    ap known_of now.is
+    ∙ (ap (λ b. known_of (if_some (cond (b && may_say w.0) (Some text) None) w.0 (λ x. saying x w.0))) (eq-eqb m m refl)
+    ∙ ap (λ b. known_of (if_some (cond b (Some text) None) w.0 (λ x. saying x w.0))) w.2) in
     subst (λ o. LivesFor o (Some t)) (sym now.there) (client_lives (saying text w.0) now.now t own.token
-    (ap (λ (x : Card). x.digest) heard ∙ own.presented) (life.hears (own.token ∷ w.0.messages) (map text_shown w.0.handed) s t (Some text) own.life h)
-    (ap (λ (x : Card). x.messages) heard) (ap (λ (x : Card). x.handed) heard))
+    (ap (λ (x : Known). x.digest) heard ∙ own.presented) (life.hears (own.token ∷ w.0.messages) (map text_shown w.0.handed) s t (Some text) own.life h)
+    (ap (λ (x : Known). x.messages) heard) (ap (λ (x : Known). x.handed) heard))
 
 heard_leads : Laws → (cap m : ℕ) (g : Gate) (s : Socket) (h : Gate) (t : Socket) → Runs cap g → g.dead ≡ false → LivesFor (client_at g.clients m) (Some s) → HearsAt m g s h t
     → Led cap m g h t
@@ -386,14 +393,14 @@ handed_lives l cap g m s r a opened k = by (client_at g.clients m) refl k
 
     none : client_at g.clients m ≡ None → (p : Option Client) → client_at (next g (handed m)).clients m ≡ p → LivesNobody s → LivesFor p (Some s)
     none e None h k = k
-    none e (Some d) h k = let c = t.comes m d e h in absurd (handed_comes m m c.token c.event)
+    none e (Some d) h k = let c = t.comes m d e h in absurd (handed_comes m m c.0 c.1)
 
     by : (o : Option Client) → client_at g.clients m ≡ o → LivesFor o (Some s)
         → LivesFor (client_at (next g (handed m)).clients m) (Some (told_some (if_some o [] (λ c. text_shown c.sendable)) s))
     by None e k = none e (client_at (next g (handed m)).clients m) refl k
     by (Some c) e k =
-        let now = t.stays m c e refl in
-        let same : known_of now.now ≡ known_of (handing c) = ap of_card (now.card ∙ ap (λ b. cond b (card (handing c)) (card c)) (eq-eqb m m refl)) in
+        let now = t.stays m c e (does_not_go m (handed m) refl) in
+        let same : known_of now.now ≡ known_of (handing c) = ap known_of now.is ∙ ap (λ b. known_of (cond b (handing c) c)) (eq-eqb m m refl) in
         subst (λ o. LivesFor o (Some (told_some (text_shown c.sendable) s))) (sym now.there)
         (some_handed l c s c.sendable (text_shown c.sendable) refl refl refl opened k now.now same)
 
@@ -488,7 +495,7 @@ left_living l cap d m a v =
     record {
       runs = gate.goes_on d.gate (gone m) v.runs;
       numbers = at_each_number (λ n. LivesFor (client_at (next d.gate (gone m)).clients n) (client_at (set d.sockets m None) n)) m
-          (subst (λ o. LivesFor o (client_at (set d.sockets m None) m)) (sym (t.leaves m (eq-eqb m m refl))) (subst (LivesFor None) (sym (set_gone m d.sockets)) tt))
+          (subst (λ o. LivesFor o (client_at (set d.sockets m None) m)) (sym (t.leaves m refl)) (subst (LivesFor None) (sym (set_gone m d.sockets)) tt))
           (λ n ne. subst (LivesFor (client_at (next d.gate (gone m)).clients n)) (sym (set_other m n None d.sockets ne))
           (same_lives (client_at d.gate.clients n) (client_at (next d.gate (gone m)).clients n) (socket_at d n) (beside_gone d.gate m n ne t) (v.numbers n)));
     }
@@ -511,13 +518,13 @@ happens_living l cap d _ a v (closes m code words may) = socket_living cap d m (
 happens_living l cap d _ a v (sends m n) = socket_living cap d m (passing n) (sends_lives n) v
 happens_living l cap d _ a v (leaves m) = left_living l cap d m a v
 happens_living l cap d _ a v syncs =
-    event_living cap d synced v (λ n. stays_same d.gate synced n (event_touches l cap d.gate synced v.runs a) refl (λ c. refl) (synced_comes n))
+    event_living cap d synced v (λ n. stays_same d.gate synced n (event_touches l cap d.gate synced v.runs a) (does_not_go n synced refl) (λ c. refl) (synced_comes n))
 happens_living l cap d _ a v (knows tokens) =
-    event_living cap d (known tokens) v (λ n. stays_same d.gate (known tokens) n (event_touches l cap d.gate (known tokens) v.runs a) refl (λ c. refl) (known_comes tokens n))
+    event_living cap d (known tokens) v (λ n. stays_same d.gate (known tokens) n (event_touches l cap d.gate (known tokens) v.runs a) (does_not_go n (known tokens) refl) (λ c. refl) (known_comes tokens n))
 happens_living l cap d _ a v ticks =
-    event_living cap d ticked v (λ n. stays_same d.gate ticked n (event_touches l cap d.gate ticked v.runs a) refl (λ c. refl) (ticked_comes n))
+    event_living cap d ticked v (λ n. stays_same d.gate ticked n (event_touches l cap d.gate ticked v.runs a) (does_not_go n ticked refl) (λ c. refl) (ticked_comes n))
 happens_living l cap d _ a v front_fails =
-    event_living cap d failed v (λ n. stays_same d.gate failed n (event_touches l cap d.gate failed v.runs a) refl (λ c. refl) (failed_comes n))
+    event_living cap d failed v (λ n. stays_same d.gate failed n (event_touches l cap d.gate failed v.runs a) (does_not_go n failed refl) (λ c. refl) (failed_comes n))
 
 starts_living : (cap : ℕ) (g : Gate) (most : ℕ) → Runs cap g → ((m : ℕ) → client_at g.clients m ≡ None) → IsLiving cap (front_at_start g most)
 starts_living cap g most r nobody = record {

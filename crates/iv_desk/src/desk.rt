@@ -1,10 +1,10 @@
 //! `Desk`: the peers by their numbers, and the gateway whose clients have the same numbers.
-ghost use Rattle.std.specs.Prelude.{◌≡◌, ℕ, Err, IfOk, OnErr, OnOk, false, option_map, true};
+ghost use Rattle.std.specs.Prelude.{◌≡◌, ℕ, Err, IfOk, OnErr, OnOk, drop, false, option_map, true};
 ghost use Rattle.std.specs.Io.KnownBytes.{Appends};
 ghost use Rattle.iv_clients.specs.Clients.{client_at, is_free};
 ghost use Rattle.iv_clients.specs.Journal.{journal_of};
 ghost use Rattle.iv_gate.specs.Events.{failed, known, synced, ticked};
-ghost use Rattle.iv_gate.specs.Gate.{Gate, pending};
+ghost use Rattle.iv_gate.specs.Gate.{Gate};
 ghost use Rattle.iv_gate.specs.Restoring.{IsDamagedAt};
 ghost use Rattle.iv_gateway.specs.Views.{IsGate};
 ghost use Rattle.iv_peer.specs.Socket.{closed, passing, took};
@@ -160,7 +160,7 @@ impl Desk {
     /// `Journal` where the journal fails; else as of `read`. A front of what was pending for the journal may be on disk then.
     pub fn settle<J: Journal>(&mut self, journal: &mut J) -> Result<(), GatewayFault>
         ensures kept { OnOk result ((d : Front) → IsDesk d self.old → d.gate.dead ≡ false
-            → Appends (J.kept journal.old) (J.kept journal.new) (journal_of (pending d.gate))) }
+            → Appends (J.kept journal.old) (J.kept journal.new) (journal_of (drop d.gate.kept d.gate.entries))) }
         ensures front { OnOk result ((d : Front) → IsDesk d self.old → IsCalledOut offered (by_event synced d) self.new) }
         ensures fails { OnErr result ((d : Front) → IsDesk d self.old → IsDesk (by_event failed d) self.new) }
         ensures dead { (d : Front) → IsDesk d self.old → d.gate.dead ≡ true → result ≡ Err GatewayFault.Dead }

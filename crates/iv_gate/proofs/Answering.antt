@@ -9,28 +9,28 @@ use Rattle.serde_json.specs.Data.{Data}
 use Rattle.iv_rows.specs.Columns.{Column}
 use Rattle.iv_rows.specs.Options.{if_some}
 use Rattle.iv_access.specs.Rights.{Name}
-use Rattle.iv_machine.specs.Act.{Act, begin, finish, create_role, create_table, create_view, grant, revoke, grant_role, revoke_role, row_security, create_policy, drop_policy, subscribe, unsubscribe, write, Reply, done, subscribed, refused, no_session, too_many, unknown_subscription}
+use Rattle.iv_machine.specs.Act.{Act, begin, finish, create_role, create_table, create_view, grant, revoke, grant_role, revoke_role, row_security, create_policy, drop_policy, subscribe, unsubscribe, write, Reply, done, subscribed, refused, no_session, too_many, unknown_subscription, limit}
 use Rattle.iv_machine.specs.State.{State}
 use Rattle.iv_message.specs.Message.{Message, no_json, too_long, no_object, no_request, request}
-use Rattle.iv_message.specs.Told.{Told, welcome, replied, opened}
+use Rattle.iv_message.specs.Told.{Told, welcome, replied, opened, settled}
 use Rattle.iv_clients.specs.Bounds.{most_subs}
-use Rattle.iv_clients.specs.Clients.{Client, Sub, answered, at_client, client_at, closing, followed, followed_by, fresh, may_say, saying, settling, told, told_one}
+use Rattle.iv_clients.specs.Clients.{Client, Sub, answered, at_client, client_at, closing, followed_by, fresh, may_say, saying, told, told_one}
 use Rattle.iv_clients.specs.Feeds.{Feed, feed_for, room_for, seat_of}
-use Rattle.iv_clients.specs.Journal.{Entry, said_by}
+use Rattle.iv_clients.specs.Journal.{Entry, said_by, shape_for}
 use Rattle.iv_gate.specs.Events.{Event, presented, message, gone, known, ticked, synced, handed, failed, happens, next}
-use Rattle.iv_gate.specs.Gate.{Gate, begun_for, closes, done_for, hears, in_session, reply_to, seated, settles, swept, tells}
+use Rattle.iv_gate.specs.Gate.{Gate, begun_for, closes, done_for, hears, in_session, reply_to, seated, settles, swept, tells, has_shape_room}
 use Rattle.iv_gate.specs.Replies.{IsAnswered, IsClient, heard_by, is_opened, is_reply, reading_told, replies, told_by}
 use Rattle.iv_gate.specs.Seen.{IsClosed, has_ended, is_end_of}
-use Rattle.iv_gate.specs.Touched.{is_gone}
 use Rattle.iv_gate.proofs.Growing.{drop_front}
-use Rattle.iv_gate.proofs.Places.{any_before, any_behind, get_last, get_more, none_opened, none_passes, replies_both}
+use Rattle.iv_gate.proofs.Places.{any_before, any_behind, get_last, get_more, none_opened, none_passes, replies_both, none_replied}
 use Rattle.iv_gate.proofs.Hearing.{Hears, ends_for, happens_apart, hears_same, is_own}
 use Rattle.iv_gate.proofs.Replying.{Answer, Behind, IsClosing, act_reply, asked, begun_reply, behind_settles, behind_swept, closed_own, first_reply, heard_answers, other_reply, read_reply, said_reply}
-use Rattle.iv_gate.proofs.Touching.{alive as is_alive, at_same, one_some, rests, some_is_none, touched}
+use Rattle.iv_gate.proofs.Touching.{alive as is_alive, at_same, is_gone, one_some, rests, some_is_none, touched}
+use Rattle.iv_gate.proofs.Shaping.{all_made, filter_none, told_fresh, test_of}
 
 -- ---- what an event tells
 
-drop_text : (c d : Client) (more : List Told) → told d ≡ told c ++ more → told_by c d ≡ more
+pub drop_text : (c d : Client) (more : List Told) → told d ≡ told c ++ more → told_by c d ≡ more
 drop_text c d more e = ap (drop (length (told c))) e ∙ drop_front (told c) more
 
 -- the event is the message
@@ -97,7 +97,7 @@ follows_none (x ∷ xs) own h = by (own == x.own) h (follows_none xs own)
 
 closes_at : (g : Gate) (m : ℕ) (c : Client) (text : List ℕ) (id : Option Data) (own : ℕ) (d : Client) → client_at g.clients m ≡ Some (saying text c) → client_at (settles (closes g m c id own)).clients m ≡ Some d
     → is_own own d.subs ≡ false
-closes_at g m c text id own d h k = by (followed c own) refl k
+closes_at g m c text id own d h k = by (followed_by c.subs own) refl k
   where
     h2 : Gate
     h2 = record g { clients = at_client m (closing own) g.clients }
@@ -110,7 +110,7 @@ closes_at g m c text id own d h k = by (followed c own) refl k
     same : (old : Gate) → Behind m old.clients old.clients
     same old x t = record { now = x; there = t; so = hears_same x }
 
-    by : (o : Option ℕ) → followed c own ≡ o
+    by : (o : Option ℕ) → followed_by c.subs own ≡ o
         → client_at (settles (if_some o (tells g m (replied id (refused unknown_subscription))) (λ i. swept (tells (record g { clients = at_client m (closing own) g.clients }) m (replied id done)) i))).clients m ≡ Some d → is_own own d.subs ≡ false
     by None f e =
         let t = replied id (refused unknown_subscription) in
@@ -148,11 +148,11 @@ Closes text d = (id : Option Data) (own : ℕ) → said_by text ≡ request id (
 
 -- how a client comes to be what it is behind an event
 pub record Came (P : Client → Type 0) : Type 0 where
-  pub new : (es : List Entry) (role : Name) (digest : List ℕ) → P (settling es (told_one es (welcome role) (fresh role digest)))
+  pub new : (es : List Entry) (role : Name) (digest : List ℕ) → P (fresh es role digest)
   pub hears : (c d : Client) → Hears c d → P c → P d
   pub answers : (g : Gate) (m : ℕ) (c : Client) (text : List ℕ) (d : Client) → OwnAnswer g m c text d → Closes text d → P c → P d
 
-was_there : (g : Gate) (e : Event) (m : ℕ) (c d : Client) → g.dead ≡ false → client_at g.clients m ≡ Some c → IsClient (next g e) m d → c.dropped ≡ false
+pub was_there : (g : Gate) (e : Event) (m : ℕ) (c d : Client) → g.dead ≡ false → client_at g.clients m ≡ Some c → IsClient (next g e) m d → c.dropped ≡ false
 was_there g e m c d live h b = by (is_gone m e) refl
   where
     or_no : (x y : Bool) → (x || y) ≡ false → x ≡ false
@@ -235,7 +235,7 @@ said_is g c no_json = refl
 said_is g c too_long = refl
 said_is g c no_object = refl
 said_is g c (no_request id why) = refl
-said_is g c (request id act) = act_is g c id act
+said_is g c (request id act) = test_of (λ t. is_reply t ≡ true) (has_shape_room g act) (act_reply g c id act) (replied id (refused limit)) (act_is g c id act) refl
 
 pub replies_of : (ts us vs : List Told) (t : Told) → replies us ≡ [] → replies vs ≡ [] → is_reply t ≡ true → replies (ts ++ (us ++ t ∷ vs)) ≡ replies ts ++ t ∷ []
 replies_of ts us vs t a b h =
@@ -246,8 +246,19 @@ opened_of ts us vs t a b =
     filter-append is_opened ts (us ++ t ∷ vs)
     ∙ ap (λ z. filter is_opened ts ++ z) (filter-append is_opened us (t ∷ vs) ∙ ((λ i. none_opened us a i ++ cond (is_opened t) (t ∷ none_opened vs b i) (none_opened vs b i))))
 
-pub new_answered : (es : List Entry) (role : Name) (digest : List ℕ) → IsAnswered (settling es (told_one es (welcome role) (fresh role digest)))
-new_answered es role digest = record { welcome = (_, refl); each = refl; given = refl }
+-- behind its welcome a client that comes in is replied nothing
+greeting_quiet : (es : List Entry) (role : Name) → replies (shape_for role es ++ settled ∷ []) ≡ []
+greeting_quiet es role = none_replied (shape_for role es) (settled ∷ []) (filter_none is_reply (shape_for role es) (all_made (λ t. is_reply t ≡ false) (λ r line. refl) role es)) refl
+
+greeting_opens : (es : List Entry) (role : Name) (digest : List ℕ) → filter is_opened (told (fresh es role digest)) ≡ []
+greeting_opens es role digest = ap (filter is_opened) (told_fresh es role digest) ∙ none_opened (shape_for role es ++ settled ∷ []) (greeting_quiet es role)
+
+pub new_answered : (es : List Entry) (role : Name) (digest : List ℕ) → IsAnswered (fresh es role digest)
+new_answered es role digest = record {
+  welcome = (shape_for role es ++ settled ∷ [], told_fresh es role digest);
+  each = ap (λ z. length (replies z)) (told_fresh es role digest) ∙ ap (λ z. length (welcome role ∷ z)) (greeting_quiet es role);
+  given = ap length (sym (greeting_opens es role digest));
+}
 
 pub hears_answered : (c d : Client) → Hears c d → IsAnswered c → IsAnswered d
 hears_answered c d x a = record {
@@ -316,8 +327,8 @@ ended_more c d own ts t h = ap (list_any (is_end_of own)) t ∙ any_before (is_e
 ended_now : (c d : Client) (own : ℕ) (ts : List Told) → told d ≡ told c ++ ts → ends_for own ts ≡ true → has_ended d own ≡ true
 ended_now c d own ts t h = ap (list_any (is_end_of own)) t ∙ any_behind (is_end_of own) (told c) ts h
 
-new_settled : (es : List Entry) (role : Name) (digest : List ℕ) → IsSettled (settling es (told_one es (welcome role) (fresh role digest)))
-new_settled es role digest = (new_answered es role digest, λ id own columns k h. absurd (none_passes is_opened (told (settling es (told_one es (welcome role) (fresh role digest)))) (opened id own columns) k refl refl))
+new_settled : (es : List Entry) (role : Name) (digest : List ℕ) → IsSettled (fresh es role digest)
+new_settled es role digest = (new_answered es role digest, λ id own columns k h. absurd (none_passes is_opened (told (fresh es role digest)) (opened id own columns) k refl (greeting_opens es role digest)))
 
 hears_settled : (c d : Client) → Hears c d → IsSettled c → IsSettled d
 hears_settled c d x a = (hears_answered c d x a.0, λ id own columns k h. by id own columns (Contains-append_cases (told c) x.more (opened id own columns) (subst (λ ts. Contains ts (opened id own columns)) x.text k)) h)

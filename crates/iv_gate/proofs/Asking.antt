@@ -6,25 +6,26 @@ use Rattle.std.proofs.lemmas.Bool.{false≢true}
 use Rattle.serde_json.specs.Data.{Data}
 use Rattle.iv_rows.specs.Options.{if_some}
 use Rattle.iv_access.specs.Rights.{Name}
-use Rattle.iv_machine.specs.Act.{Act, begin, finish, create_role, create_table, create_view, grant, revoke, grant_role, revoke_role, row_security, create_policy, drop_policy, subscribe, unsubscribe, write, Command, Refusal, done, refused, no_session, too_many, unknown_subscription}
+use Rattle.iv_machine.specs.Act.{Act, begin, finish, create_role, create_table, create_view, grant, revoke, grant_role, revoke_role, row_security, create_policy, drop_policy, subscribe, unsubscribe, write, Command, Refusal, done, refused, no_session, too_many, unknown_subscription, limit}
 use Rattle.iv_machine.specs.Machine.{outcome, step}
 use Rattle.iv_machine.specs.Refusing.{refusal}
 use Rattle.iv_machine.specs.State.{State}
 use Rattle.iv_message.specs.Message.{Message, no_json, too_long, no_object, no_request, request}
 use Rattle.iv_message.specs.Told.{replied, fault, unasked}
 use Rattle.iv_clients.specs.Bounds.{most_feeds, most_subs}
-use Rattle.iv_clients.specs.Clients.{Client, at_client, client_at, closing, followed, staying, telling, told}
+use Rattle.iv_clients.specs.Clients.{Client, at_client, client_at, closing, followed_by, staying, telling, told}
 use Rattle.iv_clients.specs.Feeds.{Feed, Seat, ends_in, feed_for, has_room, is_of_role, is_reading, load, next_seat, room_for, seat_of}
 use Rattle.iv_clients.specs.Journal.{Entry, line_said, said_by}
-use Rattle.iv_gate.specs.Gate.{Gate, acts, begun_for, closes, done_for, entered, in_session, is_accepted, joins, ran, reads, reads_first, reply_in, reply_to, requests, seated, subscribes, swept, tells, told_of}
+use Rattle.iv_gate.specs.Gate.{Gate, acts, begun_for, closes, done_for, entered, in_session, is_accepted, joins, ran, reads, reads_first, reply_in, reply_to, requests, seated, subscribes, swept, tells, told_of, entries_of, has_shape_room}
 use Rattle.iv_gate.specs.Replies.{ActsAs, replies}
 use Rattle.iv_gate.proofs.Joining.{and_both, joins_sound, same_name}
 use Rattle.iv_gate.proofs.Machine.{some_is_none}
 use Rattle.iv_gate.proofs.Opening.{IsAsker, all_pushed, quiet_replied, subscribes_sound}
 use Rattle.iv_gate.proofs.Places.{replies_both, told_replies}
-use Rattle.iv_gate.proofs.Running.{IsQuiet, acts_step, all_so, closes_none, closing_sound, one_sound, ran_sound, spares_all, swept_sound, tells_sound}
+use Rattle.iv_gate.proofs.Running.{IsQuiet, acts_step, all_so, closes_none, closing_sound, one_sound, ran_sound, spares_all, swept_sound, tells_sound, informs_sound}
 use Rattle.iv_gate.proofs.Sound.{Adds, IsFeed, IsSoundGate, Seer, Sounds, feed_step, from, ran_ready, seer_telling}
 use Rattle.iv_gate.proofs.Touching.{at_every, one_some}
+use Rattle.iv_gate.proofs.Shaping.{test_of}
 
 -- ---- requests of the machine
 
@@ -34,7 +35,8 @@ entered_sound g e a b = record { state = b.state; seats = b.seats; feeds = b.fee
 requests_sound : Adds → Sounds → (g : Gate) (m : ℕ) (id : Option Data) (e : Entry) (n : ℕ) → closes_none e.act ≡ true → IsSoundGate g → IsSoundGate (requests g m id e n)
 requests_sound adds sounds g m id e n h b =
     let k = in_session n e.act in let r = reply_to g k in let i = entered g e (is_accepted r) in
-    ran_sound adds sounds (tells i m (replied id r)) k h (tells_sound i m (replied id r) (quiet_replied id r) (entered_sound g e (is_accepted r) b))
+    informs_sound (ran (tells i m (replied id r)) k) (entries_of e (is_accepted r))
+    (ran_sound adds sounds (tells i m (replied id r)) k h (tells_sound i m (replied id r) (quiet_replied id r) (entered_sound g e (is_accepted r) b)))
 
 other_sound : Adds → Sounds → (g : Gate) (m : ℕ) (c : Client) (id : Option Data) (text : List ℕ) (act : Act) (o : Option ℕ) → closes_none act ≡ true → IsSoundGate g
     → IsSoundGate (if_some o (tells g m (replied id (refused no_session))) (requests g m id (record { role = c.role; line = line_said text; act = act })))
@@ -147,7 +149,7 @@ reads_sound adds sounds g m c id rel same b = test (nat_lt (length c.subs) most_
     test false = tells_sound g m (replied id (refused too_many)) (quiet_replied id (refused too_many)) b
 
 closes_sound : Adds → Sounds → (g : Gate) (m : ℕ) (c : Client) (id : Option Data) (own : ℕ) → IsSoundGate g → IsSoundGate (closes g m c id own)
-closes_sound adds sounds g m c id own b = by (followed c own)
+closes_sound adds sounds g m c id own b = by (followed_by c.subs own)
   where
     h : Gate
     h = record g { clients = at_client m (closing own) g.clients }
@@ -193,4 +195,5 @@ done_sound adds sounds g m c text no_json said same b = tells_sound g m (fault 1
 done_sound adds sounds g m c text too_long said same b = tells_sound g m (fault 22) (quiet_fault 22) b
 done_sound adds sounds g m c text no_object said same b = tells_sound g m (fault 2) (quiet_fault 2) b
 done_sound adds sounds g m c text (no_request id why) said same b = tells_sound g m (unasked id why) (record { weighs = λ i q. refl; goes_on = λ i. refl }) b
-done_sound adds sounds g m c text (request id act) said same b = acts_sound adds sounds g m c id text act said same b
+done_sound adds sounds g m c text (request id act) said same b =
+    test_of IsSoundGate (has_shape_room g act) (acts g m c id text act) (tells g m (replied id (refused limit))) (acts_sound adds sounds g m c id text act said same b) (tells_sound g m (replied id (refused limit)) (quiet_replied id (refused limit)) b)

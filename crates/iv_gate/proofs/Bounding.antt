@@ -18,7 +18,7 @@ use Rattle.iv_clients.specs.Journal.{Entry, said_by}
 use Rattle.iv_clients.specs.Tokens.{Token}
 use Rattle.iv_gate.specs.Events.{Event, presented, message, gone, known, ticked, synced, handed, failed, happens, next}
 use Rattle.iv_gate.specs.Gate.{Gate, all_rested, all_swept, done_for, hears, role_for, said, settles, told_of, went}
-use Rattle.iv_gate.specs.Laws.{AreBounded}
+use Rattle.iv_gate.specs.Laws.{IsBounded}
 use Rattle.iv_gate.specs.Restoring.{Restores, gate_at_start}
 use Rattle.iv_gate.specs.Runs.{Runs, begins, goes_on, begins_again}
 use Rattle.iv_gate.proofs.Calm.{all_rested_last, all_swept_last, with_last}
@@ -26,7 +26,7 @@ use Rattle.iv_gate.proofs.Doing.{all_done}
 use Rattle.iv_gate.proofs.News.{done_bounded, done_last}
 use Rattle.iv_gate.proofs.Joining.{and_both, own_moved}
 use Rattle.iv_gate.proofs.Lasting.{Starts, nobody, runs_sound}
-use Rattle.iv_gate.proofs.Noticing.{came_turns, every_is, settled_same, went_turns}
+use Rattle.iv_gate.proofs.Noticing.{came_stays, every_is, settled_same, went_turns}
 use Rattle.iv_gate.proofs.Opening.{own_pushed}
 use Rattle.iv_gate.proofs.Running.{client_said, one_sound}
 use Rattle.iv_gate.proofs.Signs.{Mark, Sign, mark_of, marks_in}
@@ -70,6 +70,7 @@ slims m = record {
   hear = λ j c g k. slim_ran c g k;
   rest = λ j c es. slim_settling es c;
   tell = λ c es t. record { sendable = refl; asked = refl; dropped = refl };
+  show = λ j c es role line. record { sendable = refl; asked = refl; dropped = refl };
   follow = λ c k. record { sendable = refl; asked = refl; dropped = refl };
   move = λ c t k. record { sendable = refl; asked = refl; dropped = refl };
   close = λ c own. record { sendable = refl; asked = refl; dropped = refl };
@@ -89,6 +90,7 @@ owns m = record {
   hear = λ j c g k h. own_ran c g k h;
   rest = λ j c es h. subst₂ AreOwn (sym (settled_same es c).1) (sym (settled_same es c).0) h;
   tell = λ c es t h. h;
+  show = λ j c es role line h. h;
   follow = λ c k h. own_pushed c.given k c.subs h;
   move = λ c t k h. own_moved t k c.given c.subs h;
   close = λ c own h. own_left c.given (λ x. not (own == x.own)) c.subs h;
@@ -225,7 +227,7 @@ one_bounded m j f slots c d k t b h = by (m == j) refl
     by false e = subst Bounded (one_some c d (sym t ∙ (sym (at_other m j f slots (eqb-false m j e)) ∙ h))) b
 
 happens_bounded : Sounds → (g : Gate) (e : Event) → IsSoundGate g → (j : ℕ) (c d : Client) → client_at g.clients j ≡ Some c → Bounded c → client_at (happens g e).clients j ≡ Some d → Bounded d
-happens_bounded sounds g (presented m token) b j c d t x k = came_turns g b m token j c d t k (Bounded d) (λ s. subst Bounded s x) (λ es s. subst Bounded s (bounded_settled es c x))
+happens_bounded sounds g (presented m token) b j c d t x k = subst Bounded (came_stays g b m token j c d t k) x
 happens_bounded sounds g (message m text) b j c d t x k = said_bounded sounds g b m text j c d t x k
 happens_bounded sounds g (gone m) b j c d t x k = went_turns sounds g b m j c d t k (Bounded d) (λ s. subst Bounded s x) (λ es s. subst Bounded s (bounded_settled es c x))
 happens_bounded sounds g (known tokens) b j c d t x k = subst Bounded (every_is (checked tokens) g.clients j c d t k) (bounded_checked tokens c x)
@@ -271,7 +273,7 @@ is_synced c d e = by (c.dropped || is_slow c) refl e
     by true t s = (ap (λ (x : Client). x.unsynced) (sym s), λ k. absurd (false≢true (sym k ∙ ap (λ (x : Client). x.dropped) (sym s))))
     by false t s = (ap (λ (x : Client). x.unsynced) (sym s), λ k. not_less most_piled (length (text_shown (by_others c.sendable))) (neither c.dropped (is_slow c) t).1)
 
-pub are_bounded : Adds → Starts → Sounds → (cap : ℕ) (g : Gate) → Runs cap g → AreBounded g
+pub are_bounded : Adds → Starts → Sounds → (cap : ℕ) (g : Gate) → Runs cap g → (m : ℕ) (c : Client) → client_at g.clients m ≡ Some c → IsBounded g m c
 are_bounded adds starts sounds cap g r m c h =
     let b = runs_bounded adds starts sounds cap g r m c h in
     record {
@@ -310,8 +312,8 @@ happens_places g (presented m token) = by (role_for g m token)
   where
     by : (o : Option Name) → length (if_some o g (came_as g m token)).clients ≡ length g.clients
     by None = refl
-    by (Some role) = by_marks g.clients (came_as g m token role).clients (set (marks_in g.clients) m (Some (mark_of (fresh role (sha256 token))))) (ap (λ (x : Sign). x.slots) (came_sign g m token role))
-        (set_length (marks_in g.clients) m (Some (mark_of (fresh role (sha256 token)))) ∙ marks_length g.clients)
+    by (Some role) = by_marks g.clients (came_as g m token role).clients (set (marks_in g.clients) m (Some (mark_of (fresh g.entries role (sha256 token))))) (ap (λ (x : Sign). x.slots) (came_sign g m token role))
+        (set_length (marks_in g.clients) m (Some (mark_of (fresh g.entries role (sha256 token)))) ∙ marks_length g.clients)
 happens_places g (message m text) = by_marks g.clients (said g m text).clients _ (said_slots g m text) (by (client_at g.clients m))
   where
     test_by : (c : Client) (b : Bool) → length (cond b (marks_in (at_client m (saying text) g.clients)) (marks_in g.clients)) ≡ length g.clients

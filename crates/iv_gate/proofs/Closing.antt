@@ -6,8 +6,8 @@ use Rattle.serde_json.specs.Data.{Data}
 use Rattle.iv_access.specs.Rights.{Name}
 use Rattle.iv_machine.specs.Act.{done, refused, unknown_subscription, unsubscribe}
 use Rattle.iv_message.specs.Message.{Message, request}
-use Rattle.iv_message.specs.Told.{Told, replied, welcome}
-use Rattle.iv_clients.specs.Clients.{Client, fresh, settling, told, told_one}
+use Rattle.iv_message.specs.Told.{Told, replied}
+use Rattle.iv_clients.specs.Clients.{Client, fresh, told}
 use Rattle.iv_clients.specs.Journal.{Entry, said_by}
 use Rattle.iv_gate.specs.Gate.{Gate}
 use Rattle.iv_gate.specs.Replies.{IsAnswered, is_opened, replies}
@@ -49,14 +49,14 @@ record IsShut (c : Client) : Type 0 where
   given : (own : ℕ) → is_own own c.subs ≡ true → own ≤ c.given
   shut : (own : ℕ) → IsClosed c own → (own ≤ c.given) × (is_own own c.subs ≡ false)
 
-new_shut : (es : List Entry) (role : Name) (digest : List ℕ) → IsShut (settling es (told_one es (welcome role) (fresh role digest)))
+new_shut : (es : List Entry) (role : Name) (digest : List ℕ) → IsShut (fresh es role digest)
 new_shut es role digest = record {
   answered = new_answered es role digest;
   given = λ own h. absurd (false≢true h);
   shut = λ own k. absurd (nothing own k);
 }
   where
-    nothing : (own : ℕ) → IsClosed (settling es (told_one es (welcome role) (fresh role digest))) own → ⊥
+    nothing : (own : ℕ) → IsClosed (fresh es role digest) own → ⊥
     nothing own (place, id, (text, there, asks, reply)) = some_is_none text (sym there)
 
 hears_shut : (c d : Client) → Hears c d → IsShut c → IsShut d

@@ -11,7 +11,7 @@ use Rattle.serde_json.specs.Data.{Data}
 use Rattle.iv_rows.specs.Options.{if_some}
 use Rattle.iv_access.specs.Privileges.{role_of}
 use Rattle.iv_access.specs.Rights.{Name}
-use Rattle.iv_machine.specs.Act.{Act, begin, finish, create_role, create_table, create_view, grant, revoke, grant_role, revoke_role, row_security, create_policy, drop_policy, subscribe, unsubscribe, write, Refusal, Reply, done, subscribed, refused, no_session, session_in_use, too_many, unknown_role}
+use Rattle.iv_machine.specs.Act.{Act, begin, finish, create_role, create_table, create_view, grant, revoke, grant_role, revoke_role, row_security, create_policy, drop_policy, subscribe, unsubscribe, write, Refusal, Reply, done, subscribed, refused, no_session, session_in_use, too_many, unknown_role, limit}
 use Rattle.iv_machine.specs.Changing.{after}
 use Rattle.iv_machine.specs.Given.{count_to}
 use Rattle.iv_machine.specs.Machine.{outcome, settled, step}
@@ -25,12 +25,12 @@ use Rattle.iv_clients.specs.Clients.{Client, Slots, client_at, has_role}
 use Rattle.iv_clients.specs.Feeds.{Feed, Seat, feed_for, is_begun, next_seat, room_for, seat_of, without_feed, without_seat}
 use Rattle.iv_clients.specs.Journal.{said_by}
 use Rattle.iv_gate.specs.Events.{Event}
-use Rattle.iv_gate.specs.Gate.{Gate, begun_for, in_session, is_accepted, reply_in, reply_to, seated}
+use Rattle.iv_gate.specs.Gate.{Gate, begun_for, in_session, is_accepted, reply_in, reply_to, seated, has_shape_room}
 use Rattle.iv_gate.specs.Replies.{ActsAs, AreReplied, IsFull, IsReadingReply, IsReplyTo, IsReplyToAct, IsMachineReply, reading_told}
 use Rattle.iv_gate.proofs.Answering.{heard_is, others_told, own_answer, own_told}
 use Rattle.iv_gate.proofs.Asking.{begun_accepted, feed_acts, new_seat_acts, room_acts, seat_of_acts}
 use Rattle.iv_gate.proofs.Beginning.{begins_quietly, begun_state}
-use Rattle.iv_gate.proofs.Few.{feeds_in, one_less, shorter}
+use Rattle.iv_gate.proofs.Few.{feeds_in, one_less, shorter, none_full}
 use Rattle.iv_gate.proofs.Keeping.{IsKept}
 use Rattle.iv_gate.proofs.Machine.{find_passes, some_is_none}
 use Rattle.iv_gate.proofs.Replying.{act_reply, asked, begun_reply, first_reply, other_reply, read_reply, said_reply}
@@ -194,7 +194,7 @@ begun_true : (g : Gate) (c : Client) (id : Option Data) (rel : Name) (n : ℕ) �
 begun_true g c id rel n acts b k = record {
   sessions = g.machine.frame.sessions;
   reply = reply_to g (in_session n (subscribe rel));
-  is = record { session = n; acts = acts; reply = refl };
+  is = (n, acts, refl);
   place = places g b k n;
   told = refl;
 }
@@ -207,7 +207,7 @@ further_true : Sounds → (g : Gate) (c : Client) (id : Option Data) (rel : Name
 further_true sounds g c id rel n e b k = record {
   sessions = (after g.machine n (begin c.role)).frame.sessions;
   reply = reply_in (step w (in_session n (subscribe rel))).lines;
-  is = record { session = n; acts = subst (λ s. ActsAs s n c.role) same (new_seat_acts sounds g c.role n e); reply = refl };
+  is = (n, subst (λ s. ActsAs s n c.role) same (new_seat_acts sounds g c.role n e), refl);
   place = places g b k n;
   told = ap (λ s. reading_told s c id rel (reply_in (step s (in_session n (subscribe rel))).lines)) same ∙ alike (reply_in (step w (in_session n (subscribe rel))).lines);
 }
@@ -240,7 +240,7 @@ first_true : Sounds → (g : Gate) (c : Client) (id : Option Data) (rel : Name) 
 first_true sounds g c id rel seat new b k = by (room_for g.seats g.feeds c.role) refl
   where
     further : room_for g.seats g.feeds c.role ≡ None → (o : Option ℕ) → begun_for g c.role ≡ o → Reads g c id rel (if_some o (replied id (refused too_many)) (λ n. begun_reply (seated g n c.role) c id n rel))
-    further full None e = inl (inr (record { new = new; full = full; seats = all_begun g c.role b k (known_seat g b c.role seat) e }), refl)
+    further full None e = inl (inr (new, none_full g.seats g.feeds c.role full, all_begun g c.role b k (known_seat g b c.role seat) e), refl)
     further full (Some n) e = inr (further_true sounds g c id rel n e b k)
 
     by : (o : Option ℕ) → room_for g.seats g.feeds c.role ≡ o
@@ -269,7 +269,7 @@ other_true g c id act seat b = by (seat_of g.seats c.role) refl seat
     by : (o : Option ℕ) → seat_of g.seats c.role ≡ o → is_some o ≡ true
         → (r : Reply) × IsMachineReply g.machine c.role act r × (if_some o (replied id (refused no_session)) (λ n. replied id (reply_to g (in_session n act))) ≡ replied id r)
     by None e h = absurd (false≢true h)
-    by (Some n) e h = (reply_to g (in_session n act), record { session = n; acts = seat_of_acts g b c.role n e; reply = refl }, refl)
+    by (Some n) e h = (reply_to g (in_session n act), (n, seat_of_acts g b c.role n e, refl), refl)
 
 act_true : Sounds → (g : Gate) (slots : Slots) (c : Client) (id : Option Data) (act : Act) → is_some (seat_of g.seats c.role) ≡ true → IsSoundGate g → IsKept g → IsReplyToAct g c id act (act_reply (record g { clients = slots }) c id act)
 act_true sounds g slots c id (begin role) seat b k = refl
@@ -293,7 +293,11 @@ said_true sounds g slots c no_json seat b k = refl
 said_true sounds g slots c too_long seat b k = refl
 said_true sounds g slots c no_object seat b k = refl
 said_true sounds g slots c (no_request id why) seat b k = refl
-said_true sounds g slots c (request id act) seat b k = act_true sounds g slots c id act seat b k
+said_true sounds g slots c (request id act) seat b k = by (has_shape_room g act) refl
+  where
+    by : (t : Bool) → has_shape_room g act ≡ t → IsReplyTo g c (request id act) (cond t (act_reply (record g { clients = slots }) c id act) (replied id (refused limit)))
+    by true e = inl (e, act_true sounds g slots c id act seat b k)
+    by false e = inr (e, refl)
 
 -- ---- by an event
 
@@ -312,13 +316,12 @@ pub are_replied : Sounds → (g : Gate) (e : Event) → IsSoundGate g → IsKept
 are_replied sounds g e b k live = record {
   own = λ m c d x y text u.
       let a = own_answer g e m c d text live x.there y.there (heard_is m c e text u) in
-      let seat = k.shared.seated c.role (role_there g.clients m c x.there) in
-      record {
-        reply = said_reply (asked g m text) c (said_by text);
-        others = a.others;
-        first = own_told g m c text d a ∙ ap (λ z. z ++ said_reply (asked g m text) c (said_by text) ∷ a.others) (a.first (begins_quietly (asked g m text) b.state));
-        is = said_true sounds g (asked g m text).clients c (said_by text) seat b k;
-        alone = a.alone;
-      };
+      let seat = k.shared.seated c.role (role_there g.clients m c x.there) in (
+        said_reply (asked g m text) c (said_by text),
+        a.others,
+        own_told g m c text d a ∙ ap (λ z. z ++ said_reply (asked g m text) c (said_by text) ∷ a.others) (a.first (begins_quietly (asked g m text) b.state)),
+        said_true sounds g (asked g m text).clients c (said_by text) seat b k,
+        a.alone,
+      );
   others = λ m c d x y u. others_told g e m c d live x y u;
 }

@@ -6,7 +6,7 @@ use Rattle.std.proofs.lemmas.Bool.{ltb-true}
 use Rattle.serde_json.specs.Data.{Data}
 use Rattle.iv_rows.specs.Options.{if_some}
 use Rattle.iv_access.specs.Rights.{Name}
-use Rattle.iv_machine.specs.Act.{Act, begin, finish, create_role, create_table, create_view, grant, revoke, grant_role, revoke_role, row_security, create_policy, drop_policy, subscribe, unsubscribe, write, Refusal, Reply, done, subscribed, refused, no_session, too_many, unknown_subscription}
+use Rattle.iv_machine.specs.Act.{Act, begin, finish, create_role, create_table, create_view, grant, revoke, grant_role, revoke_role, row_security, create_policy, drop_policy, subscribe, unsubscribe, write, Refusal, Reply, done, subscribed, refused, no_session, too_many, unknown_subscription, limit}
 use Rattle.iv_machine.specs.Machine.{outcome}
 use Rattle.iv_machine.specs.Refusing.{refusal}
 use Rattle.iv_machine.specs.Sound.{IsSoundState}
@@ -14,15 +14,16 @@ use Rattle.iv_machine.specs.State.{State}
 use Rattle.iv_message.specs.Message.{Message, no_json, too_long, no_object, no_request, request}
 use Rattle.iv_message.specs.Told.{Told, changed, over, granted, replied, fault, unasked}
 use Rattle.iv_clients.specs.Bounds.{most_subs}
-use Rattle.iv_clients.specs.Clients.{Client, Slots, Sub, at_client, closing, followed, is_followed, moved, moved_sub, told, told_one}
+use Rattle.iv_clients.specs.Clients.{Client, Slots, Sub, at_client, closing, followed_by, is_followed, moved, moved_sub, told, told_one}
 use Rattle.iv_clients.specs.Feeds.{Feed, feed_for, feed_of, is_reading, room_for, seat_of}
 use Rattle.iv_clients.specs.Journal.{Entry, is_shared, line_said, said_by}
-use Rattle.iv_gate.specs.Gate.{Gate, acts, begun_for, closes, done_for, feed_begun, in_session, joined, joined_by, joins, ran, reads, reads_first, reply_to, requests, seated, shut, subscribes, swept, tells}
+use Rattle.iv_gate.specs.Gate.{Gate, acts, begun_for, closes, done_for, feed_begun, in_session, joined, joined_by, joins, ran, reads, reads_first, reply_to, requests, seated, shut, subscribes, swept, tells, has_shape_room}
 use Rattle.iv_gate.proofs.Calm.{ran_alone, seated_still, shut_clients, shut_last, swept_clients, swept_last}
 use Rattle.iv_gate.proofs.Joining.{any_moved}
 use Rattle.iv_gate.proofs.Opening.{reply_of_none, reply_of_some}
 use Rattle.iv_gate.proofs.Sound.{Seer, Sounds, seer_one}
-use Rattle.iv_gate.specs.Laws.{is_word}
+use Rattle.iv_gate.specs.Laws.{is_made, is_word}
+use Rattle.iv_gate.proofs.Shaping.{test_of}
 
 -- ---- texts
 
@@ -73,11 +74,12 @@ pub record HasRead (g : Gate) (m : ℕ) (c : Client) (h : Gate) : Type 0 where
   pub accepted : refusal first.machine session (subscribe rel) ≡ None
   pub behind : IsMoved m (ran (feed_begun first m id session role rel (subscribed (first.machine.frame.last + 1))) (in_session session (subscribe rel))) h
 
--- client m is told one thing that is no news, and no word of its own
+-- client m is told one thing that is no news, no word of its own, and nothing of the shape
 pub record HasAnswered (g : Gate) (m : ℕ) (h : Gate) : Type 0 where
   pub text : Told
   pub calm : is_news text ≡ false
   pub plain : is_word text ≡ false
+  pub unmade : is_made text ≡ false
   pub change : Client → Client
   pub told : (c : Client) → told (change c) ≡ told c ++ text ∷ []
   pub fewer : (c : Client) → length (change c).subs ≤ length c.subs
@@ -115,11 +117,12 @@ swept_entries g k = by (is_followed k g.clients) (feed_of g.feeds k)
     by false None = refl
     by false (Some f) = refl
 
-pub telling_done : (g : Gate) (m : ℕ) (c : Client) (t : Told) → is_news t ≡ false → is_word t ≡ false → IsDone g m c (tells g m t)
-telling_done g m c t calm plain = answers (record {
+pub telling_done : (g : Gate) (m : ℕ) (c : Client) (t : Told) → is_news t ≡ false → is_word t ≡ false → is_made t ≡ false → IsDone g m c (tells g m t)
+telling_done g m c t calm plain unmade = answers (record {
   text = t;
   calm = calm;
   plain = plain;
+  unmade = unmade;
   change = told_one g.entries t;
   told = λ x. told_more g.entries t x;
   fewer = λ x. omega arith;
@@ -215,6 +218,7 @@ module _ (sounds : Sounds) (g : Gate) (m : ℕ) (c : Client) where
             text = t;
             calm = refl;
             plain = refl;
+            unmade = refl;
             change = told_one i.entries t;
             told = λ x. told_more i.entries t x;
             fewer = λ x. omega arith;
@@ -237,7 +241,7 @@ module _ (sounds : Sounds) (g : Gate) (m : ℕ) (c : Client) where
     where
       by : (o p : Option ℕ) → IsDone g m c (if_some o (if_some p (tells g m (replied id (refused too_many))) (λ n. subscribes (seated g n role) m id n role rel)) (λ n. subscribes g m id n role rel))
       by (Some n) p = reads_in g id n role rel refl refl refl refl b room
-      by None None = telling_done g m c (replied id (refused too_many)) refl refl
+      by None None = telling_done g m c (replied id (refused too_many)) refl refl refl
       by None (Some n) =
           let e = seated_still g n role b in
           reads_in (seated g n role) id n role rel (ap (λ (x : Gate). x.clients) e) (ap (λ (x : Gate). x.feeds) e)
@@ -249,20 +253,21 @@ module _ (sounds : Sounds) (g : Gate) (m : ℕ) (c : Client) where
       by : (d : Bool) → nat_lt (length c.subs) most_subs ≡ d → (o : Option Feed) → IsDone g m c (cond d (if_some o (reads_first g m id c.role rel) (joins g m id)) (tells g m (replied id (refused too_many))))
       by true e None = first_done id c.role rel b e
       by true e (Some f) = subscribing g id f.session f.role f.rel (λ h r. joined_by h m f.number r) (λ h r d. joined_by_moves h f.number r d) (λ h r. refl) refl refl refl refl b e
-      by false e o = telling_done g m c (replied id (refused too_many)) refl refl
+      by false e o = telling_done g m c (replied id (refused too_many)) refl refl refl
 
   closes_done : (id : Option Data) (own : ℕ) → IsSoundState g.machine → IsDone g m c (closes g m c id own)
-  closes_done id own b = by (followed c own)
+  closes_done id own b = by (followed_by c.subs own)
     where
       h : Gate
       h = record g { clients = at_client m (closing own) g.clients }
 
       by : (o : Option ℕ) → IsDone g m c (if_some o (tells g m (replied id (refused unknown_subscription))) (λ k. swept (tells (record g { clients = at_client m (closing own) g.clients }) m (replied id done)) k))
-      by None = telling_done g m c (replied id (refused unknown_subscription)) refl refl
+      by None = telling_done g m c (replied id (refused unknown_subscription)) refl refl refl
       by (Some k) = answers (record {
         text = replied id done;
         calm = refl;
         plain = refl;
+        unmade = refl;
         change = λ x. told_one g.entries (replied id done) (closing own x);
         told = λ x. told_more g.entries (replied id done) (closing own x);
         fewer = λ x. fewer_left (λ (s : Sub). not (own == s.own)) x.subs;
@@ -274,12 +279,12 @@ module _ (sounds : Sounds) (g : Gate) (m : ℕ) (c : Client) where
 
   other_done : (id : Option Data) (text : List ℕ) (act : Act) (o : Option ℕ) → is_shared act ≡ true → IsSaid act
       → IsDone g m c (if_some o (tells g m (replied id (refused no_session))) (requests g m id (record { role = c.role; line = line_said text; act = act })))
-  other_done id text act None h said = telling_done g m c (replied id (refused no_session)) refl refl
+  other_done id text act None h said = telling_done g m c (replied id (refused no_session)) refl refl refl
   other_done id text act (Some n) h said = asks id (record { role = c.role; line = line_said text; act = act }) n h said refl
 
   acts_done : (id : Option Data) (text : List ℕ) (act : Act) → IsSoundState g.machine → IsSaid act → IsDone g m c (acts g m c id text act)
-  acts_done id text (begin role) b said = telling_done g m c (fault 2) refl refl
-  acts_done id text finish b said = telling_done g m c (fault 2) refl refl
+  acts_done id text (begin role) b said = telling_done g m c (fault 2) refl refl refl
+  acts_done id text finish b said = telling_done g m c (fault 2) refl refl refl
   acts_done id text (subscribe rel) b said = reads_done id rel b
   acts_done id text (unsubscribe own) b said = closes_done id own b
   acts_done id text (create_role name) b said = other_done id text (create_role name) (seat_of g.seats c.role) refl said
@@ -295,8 +300,10 @@ module _ (sounds : Sounds) (g : Gate) (m : ℕ) (c : Client) where
   acts_done id text (write entries) b said = other_done id text (write entries) (seat_of g.seats c.role) refl said
 
   pub all_done : (text : List ℕ) (s : Message) → IsSoundState g.machine → said_by text ≡ s → IsDone g m c (done_for g m c text s)
-  all_done text no_json b e = telling_done g m c (fault 1) refl refl
-  all_done text too_long b e = telling_done g m c (fault 22) refl refl
-  all_done text no_object b e = telling_done g m c (fault 2) refl refl
-  all_done text (no_request id why) b e = telling_done g m c (unasked id why) refl refl
-  all_done text (request id act) b e = acts_done id text act b (text, id, e)
+  all_done text no_json b e = telling_done g m c (fault 1) refl refl refl
+  all_done text too_long b e = telling_done g m c (fault 22) refl refl refl
+  all_done text no_object b e = telling_done g m c (fault 2) refl refl refl
+  all_done text (no_request id why) b e = telling_done g m c (unasked id why) refl refl refl
+  all_done text (request id act) b e =
+      test_of (IsDone g m c) (has_shape_room g act) (acts g m c id text act) (tells g m (replied id (refused limit))) (acts_done id text act b (text, id, e))
+      (telling_done g m c (replied id (refused limit)) refl refl refl)

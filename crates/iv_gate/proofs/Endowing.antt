@@ -25,7 +25,7 @@ use Rattle.iv_gate.specs.Gate.{Gate, all_rested, all_swept, granted_by, has_some
 use Rattle.iv_gate.specs.Replies.{IsClient, told_by}
 use Rattle.iv_gate.specs.Restoring.{Restores, all_replayed, gate_at_start, passed, replayed}
 use Rattle.iv_gate.specs.Runs.{Runs, begins, goes_on, begins_again}
-use Rattle.iv_gate.specs.Seen.{GrantsAreTrue}
+use Rattle.iv_gate.specs.Implied.{GrantsAreTrue}
 use Rattle.iv_gate.proofs.Asking.{accepted_by, seat_of_acts}
 use Rattle.iv_gate.proofs.Entering.{passed_is, runs_serving}
 use Rattle.iv_gate.proofs.Granting.{HasAdmin, admin_stays, names_hold, said_well}

@@ -21,23 +21,21 @@ use Rattle.iv_clients.specs.Journal.{Entry, said_by}
 use Rattle.iv_clients.specs.Tokens.{Token, role_opened}
 use Rattle.iv_gate.specs.Events.{Event, presented, message, gone, known, ticked, synced, handed, failed, happens, next}
 use Rattle.iv_gate.specs.Gate.{Gate, all_rested, all_swept, begun_for, came, has_session, hears, in_session, is_accepted, is_needed, ran, reply_in, reply_to, rested, role_for, seated, settles, went, with_session}
-use Rattle.iv_gate.specs.Laws.{Marks, marks_behind}
 use Rattle.iv_gate.specs.Replies.{IsClient}
 use Rattle.iv_gate.specs.Restoring.{Restores, all_replayed, gate_at_start, passed, replayed}
 use Rattle.iv_gate.specs.Runs.{Runs, begins, goes_on, begins_again}
-use Rattle.iv_gate.specs.Touched.{ActsByToken, Card, IsKept, LetsIn, MayCome, card, card_behind, drops, is_gone}
-use Rattle.iv_gate.proofs.Asking.{seat_of_acts}
+use Rattle.iv_gate.specs.Touched.{ActsByToken, LetsIn, drops}
 use Rattle.iv_gate.proofs.Growing.{map_front}
 use Rattle.iv_gate.proofs.Joining.{same_name}
 use Rattle.iv_gate.proofs.Lasting.{Starts, bound, nobody, runs_sound}
 use Rattle.iv_gate.proofs.Machine.{find_passes, some_is_none}
 use Rattle.iv_gate.proofs.Running.{all_so, filter_plain}
-use Rattle.iv_gate.proofs.Signs.{Mark, Sign, marks_in, sign_all_swept, sign_rested}
+use Rattle.iv_gate.proofs.Signs.{Card, Marks, card, Mark, Sign, marks_in, sign_all_swept, sign_rested}
 use Rattle.iv_gate.proofs.Sitting.{Alike, HasSeat, IsSeated, SeatsAct, alike_all, any_there, at_all_swept, at_done, at_with, begun_in, begun_there, bytes_self, filter_mapped, has_seat_kit, open_finished, open_in, seat_left, seat_there, seated_kit, seats_act_kit, sessions_kept, without_number}
 use Rattle.iv_gate.proofs.Sound.{Adds, IsSoundGate, Sounds}
 use Rattle.iv_gate.proofs.Still.{not_not}
 use Rattle.iv_gate.proofs.Summing.{neither}
-use Rattle.iv_gate.proofs.Touching.{alive, came_as, came_is, marked_by_event, one_some, opens_role, rests, set_other, touched}
+use Rattle.iv_gate.proofs.Touching.{IsKept, card_behind, is_gone, marks_behind, alive, came_as, came_is, marked_by_event, one_some, opens_role, rests, set_other, touched}
 
 pub or_right : (b : Bool) {d : Bool} → d ≡ true → (b || d) ≡ true
 or_right true h = refl
@@ -167,7 +165,7 @@ came_seat g m token d opened n h = by (role_for g m token) refl h
 
 -- ---- tokens
 
-same_card : (m : ℕ) (c : Client) (e : Event) → ((card_behind m c e).role ≡ c.role) × ((card_behind m c e).digest ≡ c.digest)
+pub same_card : (m : ℕ) (c : Client) (e : Event) → ((card_behind m c e).role ≡ c.role) × ((card_behind m c e).digest ≡ c.digest)
 same_card m c (message n text) = by ((n == m) && may_say c)
   where
     by : (b : Bool) → ((cond b (card (saying text c)) (card c)).role ≡ c.role) × ((cond b (card (saying text c)) (card c)).digest ≡ c.digest)
@@ -357,12 +355,7 @@ runs_serving adds starts sounds cap _ (begins_again h disk tokens most i r l x) 
 pub acts_by_token : Adds → Starts → Sounds → (cap : ℕ) (g : Gate) (m : ℕ) (c : Client) → Runs cap g → IsClient g m c → ActsByToken g c
 acts_by_token adds starts sounds cap g m c r x =
     let s = runs_serving adds starts sounds cap g r in let seat = seat_there c.role g.seats (s.seats m c x.there) in
-    record {
-      opened = s.opened m c x.there x.stays;
-      session = seat.session;
-      seat = seat.is;
-      acts = seat_of_acts g (runs_sound adds starts sounds cap g r) c.role seat.session seat.is;
-    }
+    record { opened = s.opened m c x.there x.stays; seat = ap is_some seat.is }
 
 -- ---- a session that is free
 
@@ -491,6 +484,14 @@ module _ (g : Gate) (role : Name) (h : IsSeated g.machine g.seats) (known : is_s
   pub has_room_for : is_some (begun_for g role) ≡ true
   has_room_for = let x = some_free most_seats g.seats l in ap is_some (can_begin x.session x.is)
 
+-- who presents a token that opens a role which the machine knows comes in, where the number is free and a session is there for the role
+pub record MayCome (g : Gate) (m : ℕ) (token : List ℕ) (role : Name) : Type 0 where
+  pub opened : role_opened g.tokens (sha256 token) ≡ Some role
+  pub name : is_name role ≡ true
+  pub known : is_some (role_of g.machine.frame.rights role) ≡ true
+  pub free : is_free m g.clients ≡ true
+  pub session : (is_some (seat_of g.seats role) ≡ true) ⊎ (length g.seats < most_seats)
+
 may_have : (g : Gate) (m : ℕ) (token : List ℕ) (role : Name) → IsSeated g.machine g.seats → MayCome g m token role → has_session g role ≡ true
 may_have g m token role h a = by a.session
   where
@@ -498,7 +499,8 @@ may_have g m token role h a = by a.session
     by (inl e) = ap (λ b. b || is_some (begun_for g role)) e
     by (inr l) = or_right (is_some (seat_of g.seats role)) (has_room_for g role h a.known l)
 
-lets_in : (g : Gate) → g.dead ≡ false → IsSeated g.machine g.seats → LetsIn g
+lets_in : (g : Gate) → g.dead ≡ false → IsSeated g.machine g.seats → (m : ℕ) (token : List ℕ) (role : Name) → MayCome g m token role
+    → is_some (client_at (next g (presented m token)).clients m) ≡ true
 lets_in g live h m token role a =
     let session = may_have g m token role h a in
     let opens_it : role_for g m token ≡ Some role =
@@ -508,4 +510,5 @@ lets_in g live h m token role a =
     ∙ (ap (λ o. is_some (client_at (if_some o g (came_as g m token)).clients m)) opens_it ∙ ap is_some (came_is g m token role a.free))
 
 pub comes_in : Adds → Starts → Sounds → (cap : ℕ) (g : Gate) → Runs cap g → g.dead ≡ false → LetsIn g
-comes_in adds starts sounds cap g r live = lets_in g live (runs_serving adds starts sounds cap g r).seated
+comes_in adds starts sounds cap g r live m token role o n k f s =
+    lets_in g live (runs_serving adds starts sounds cap g r).seated m token role (record { opened = o; name = n; known = k; free = f; session = s })

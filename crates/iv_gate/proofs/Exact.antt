@@ -22,7 +22,7 @@ use Rattle.iv_gate.proofs.Sound.{IsSoundGate, Sounds}
 use Rattle.iv_gate.proofs.Touching.{entered_by_event}
 
 -- behind the same front stands the same
-behind_same : {X : Type 0} (xs ys zs : List X) → xs ++ ys ≡ xs ++ zs → ys ≡ zs
+pub behind_same : {X : Type 0} (xs ys zs : List X) → xs ++ ys ≡ xs ++ zs → ys ≡ zs
 behind_same xs ys zs e = sym (drop_front xs ys) ∙ (ap (drop (length xs)) e ∙ drop_front xs zs)
 
 calm_grants : (t : Told) → is_news t ≡ false → is_granted t ≡ false

@@ -1,8 +1,9 @@
--- A session has as many feeds at most as it may.
+-- A session has as many feeds at most as it may, and a role reads a relation by one.
 use Rattle.std.proofs.Common.{◌≡◌, ℕ, zero, suc, ◌<◌, ◌≤◌, ◌+◌, Bool, true, false, not, cond, ◌||◌, List, [], ◌∷◌, length, Option, Some, None, is_some, refl, ap, ◌∙◌, sym, subst, arith}
-use Rattle.std.specs.Prelude.{◌==◌, ◌&&◌, filter, find, nat_lt}
+use Rattle.std.specs.Prelude.{◌==◌, ◌&&◌, bytes_eq, filter, find, nat_lt}
 use Rattle.std.specs.List.{AllByRecursion, list_any}
 use Rattle.std.proofs.lemmas.Bool.{false≢true, eqb-true, ltb-true}
+use Rattle.std.proofs.lemmas.Bool.Decides.{nat_tests}
 use Rattle.std.proofs.lemmas.List.Sums.{length-filter}
 use Rattle.std.proofs.lemmas.Slice.Eq.{bytes_eq-Decides}
 use Rattle.serde_json.specs.Data.{Data}
@@ -15,8 +16,9 @@ use Rattle.iv_clients.specs.Bounds.{most_feeds}
 use Rattle.iv_clients.specs.Clients.{at_client, moved}
 use Rattle.iv_clients.specs.Feeds.{Feed, Seat, ends_in, feed_for, feed_of, feeds_left, has_room, is_of_role, is_reading, load, room_for, without_feed}
 use Rattle.iv_gate.specs.Gate.{Gate, begun_for, feed_begun, in_session, joined, joined_by, joins, ran, seated, shut, subscribes}
+use Rattle.iv_gate.specs.Replies.{AreFull}
 use Rattle.iv_gate.proofs.Asking.{begun_accepted}
-use Rattle.iv_gate.proofs.Joining.{and_both}
+use Rattle.iv_gate.proofs.Joining.{and_both, same_name}
 use Rattle.iv_gate.proofs.Machine.{first_none, found_given, passed, some_is_none}
 use Rattle.iv_gate.proofs.Opening.{above_given, reply_of_none, reply_of_some}
 use Rattle.iv_gate.proofs.Sound.{IsFeed, IsSoundGate, left_of}
@@ -34,18 +36,22 @@ feeds_in n fs = filter (λ (f : Feed). n == f.session) fs
 pub record AreFew (fs : List Feed) : Type 0 where
   pub few : (n : ℕ) → length (feeds_in n fs) ≤ most_feeds
   pub apart : AreApart fs
+  pub once : (role rel : Name) → length (filter (is_reading role rel) fs) ≤ 1
 
 -- ---- some fewer
 
-pub shorter : (n : ℕ) (q : Feed → Bool) (fs : List Feed) → length (feeds_in n (filter q fs)) ≤ length (feeds_in n fs)
-shorter n q [] = omega arith
-shorter n q (f ∷ fs) = by (q f) (n == f.session) refl (shorter n q fs)
+pub shorter_by : (p q : Feed → Bool) (fs : List Feed) → length (filter p (filter q fs)) ≤ length (filter p fs)
+shorter_by p q [] = omega arith
+shorter_by p q (f ∷ fs) = by (q f) (p f) refl (shorter_by p q fs)
   where
-    by : (a b : Bool) → (n == f.session) ≡ b → length (feeds_in n (filter q fs)) ≤ length (feeds_in n fs) → length (feeds_in n (cond a (f ∷ filter q fs) (filter q fs))) ≤ length (cond b (f ∷ feeds_in n fs) (feeds_in n fs))
-    by true true e h = subst (λ t. length (cond t (f ∷ feeds_in n (filter q fs)) (feeds_in n (filter q fs))) ≤ suc (length (feeds_in n fs))) (sym e) (omega (arith, h))
-    by true false e h = subst (λ t. length (cond t (f ∷ feeds_in n (filter q fs)) (feeds_in n (filter q fs))) ≤ length (feeds_in n fs)) (sym e) h
+    by : (a b : Bool) → p f ≡ b → length (filter p (filter q fs)) ≤ length (filter p fs) → length (filter p (cond a (f ∷ filter q fs) (filter q fs))) ≤ length (cond b (f ∷ filter p fs) (filter p fs))
+    by true true e h = subst (λ t. length (cond t (f ∷ filter p (filter q fs)) (filter p (filter q fs))) ≤ suc (length (filter p fs))) (sym e) (omega (arith, h))
+    by true false e h = subst (λ t. length (cond t (f ∷ filter p (filter q fs)) (filter p (filter q fs))) ≤ length (filter p fs)) (sym e) h
     by false true e h = omega (arith, h)
     by false false e h = h
+
+pub shorter : (n : ℕ) (q : Feed → Bool) (fs : List Feed) → length (feeds_in n (filter q fs)) ≤ length (feeds_in n fs)
+shorter n q fs = shorter_by (λ (f : Feed). n == f.session) q fs
 
 none_less : (k : ℕ) (q : Feed → Bool) (fs : List Feed) → list_any (λ (x : Feed). k == x.number) fs ≡ false → list_any (λ (x : Feed). k == x.number) (filter q fs) ≡ false
 none_less k q [] h = refl
@@ -64,13 +70,26 @@ apart_less q (f ∷ fs) a = by (q f) (apart_less q fs a.1)
     by false more = more
 
 pub few_less : (q : Feed → Bool) (fs : List Feed) → AreFew fs → AreFew (filter q fs)
-few_less q fs a = record { few = λ n. let s = shorter n q fs in let f = a.few n in omega (arith, s, f); apart = apart_less q fs a.apart }
+few_less q fs a = record {
+  few = λ n. let s = shorter n q fs in let f = a.few n in omega (arith, s, f);
+  apart = apart_less q fs a.apart;
+  once = λ role rel. let s = shorter_by (is_reading role rel) q fs in let f = a.once role rel in omega (arith, s, f);
+}
 
 -- ---- one more
 
-few_more : (new : Feed) (fs : List Feed) → AreFew fs → list_any (λ (x : Feed). new.number == x.number) fs ≡ false → length (feeds_in new.session fs) < most_feeds → AreFew (new ∷ fs)
-few_more new fs a n l = record { few = λ j. by j (j == new.session) refl; apart = (n, a.apart) }
+few_more : (new : Feed) (fs : List Feed) → AreFew fs → list_any (λ (x : Feed). new.number == x.number) fs ≡ false → length (feeds_in new.session fs) < most_feeds
+    → length (filter (is_reading new.role new.rel) fs) ≡ 0 → AreFew (new ∷ fs)
+few_more new fs a n l z = record { few = λ j. by j (j == new.session) refl; apart = (n, a.apart); once = λ role rel. reads role rel (is_reading role rel new) refl }
   where
+    reads : (role rel : Name) (b : Bool) → is_reading role rel new ≡ b → length (cond b (new ∷ filter (is_reading role rel) fs) (filter (is_reading role rel) fs)) ≤ 1
+    reads role rel true e =
+        let both = and_both (bytes_eq new.role role) (bytes_eq new.rel rel) e in
+        let none : length (filter (is_reading role rel) fs) ≡ 0 = subst (λ r. length (filter (is_reading r rel) fs) ≡ 0) (same_name new.role role both.0)
+        (subst (λ r. length (filter (is_reading new.role r) fs) ≡ 0) (same_name new.rel rel both.1) z) in
+        omega (arith, none)
+    reads role rel false e = a.once role rel
+
     by : (j : ℕ) (b : Bool) → (j == new.session) ≡ b → length (cond b (new ∷ feeds_in j fs) (feeds_in j fs)) ≤ most_feeds
     by j true e = let k = subst (λ i. length (feeds_in i fs) < most_feeds) (sym (eqb-true j new.session e)) l in omega (arith, k)
     by j false e = a.few j
@@ -99,26 +118,39 @@ find_has P q (x ∷ xs) f a h = by (q x) h (find_has P q xs f a.1)
 pub found_for : (fs : List Feed) (role rel : Name) (f : Feed) → AreApart fs → feed_for fs role rel ≡ Some f → feed_of fs f.number ≡ Some f
 found_for fs role rel f a h = find_has (λ (x : Feed). feed_of fs x.number ≡ Some x) (is_reading role rel) fs f (all_there fs a) h
 
--- one that goes makes room
-pub one_less : (n : ℕ) (q : Feed → Bool) (fs : List Feed) (k : ℕ) (f : Feed) → feed_of fs k ≡ Some f → q f ≡ false → (n == f.session) ≡ true → length (feeds_in n (filter q fs)) < length (feeds_in n fs)
-one_less n q [] k f h g e = absurd (some_is_none f (sym h))
-one_less n q (x ∷ xs) k f h g e = by (k == x.number) h (one_less n q xs k f)
+-- a role that reads no relation by any has none
+pub none_reading : (role rel : Name) (fs : List Feed) → feed_for fs role rel ≡ None → length (filter (is_reading role rel) fs) ≡ 0
+none_reading role rel [] h = refl
+none_reading role rel (x ∷ xs) h = by (is_reading role rel x) h (none_reading role rel xs)
   where
-    here : x ≡ f → (a b : Bool) → q x ≡ a → (n == x.session) ≡ b → length (feeds_in n (cond a (x ∷ filter q xs) (filter q xs))) < length (cond b (x ∷ feeds_in n xs) (feeds_in n xs))
-    here i true b u v = absurd (false≢true (sym g ∙ (ap q (sym i) ∙ u)))
-    here i false true u v = let s = shorter n q xs in omega (arith, s)
-    here i false false u v = absurd (false≢true (sym v ∙ (ap (λ (y : Feed). n == y.session) i ∙ e)))
+    by : (b : Bool) → cond b (Some x) (feed_for xs role rel) ≡ None → (feed_for xs role rel ≡ None → length (filter (is_reading role rel) xs) ≡ 0)
+        → length (cond b (x ∷ filter (is_reading role rel) xs) (filter (is_reading role rel) xs)) ≡ 0
+    by true k more = absurd (some_is_none x k)
+    by false k more = more k
 
-    later : length (feeds_in n (filter q xs)) < length (feeds_in n xs) → (a b : Bool) → (n == x.session) ≡ b → length (feeds_in n (cond a (x ∷ filter q xs) (filter q xs))) < length (cond b (x ∷ feeds_in n xs) (feeds_in n xs))
-    later s true true v = subst (λ t. length (cond t (x ∷ feeds_in n (filter q xs)) (feeds_in n (filter q xs))) < suc (length (feeds_in n xs))) (sym v) (omega (arith, s))
-    later s true false v = subst (λ t. length (cond t (x ∷ feeds_in n (filter q xs)) (feeds_in n (filter q xs))) < length (feeds_in n xs)) (sym v) s
+-- one that goes makes room
+less_by : (p q : Feed → Bool) (fs : List Feed) (k : ℕ) (f : Feed) → feed_of fs k ≡ Some f → q f ≡ false → p f ≡ true → length (filter p (filter q fs)) < length (filter p fs)
+less_by p q [] k f h g e = absurd (some_is_none f (sym h))
+less_by p q (x ∷ xs) k f h g e = by (k == x.number) h (less_by p q xs k f)
+  where
+    here : x ≡ f → (a b : Bool) → q x ≡ a → p x ≡ b → length (filter p (cond a (x ∷ filter q xs) (filter q xs))) < length (cond b (x ∷ filter p xs) (filter p xs))
+    here i true b u v = absurd (false≢true (sym g ∙ (ap q (sym i) ∙ u)))
+    here i false true u v = let s = shorter_by p q xs in omega (arith, s)
+    here i false false u v = absurd (false≢true (sym v ∙ (ap p i ∙ e)))
+
+    later : length (filter p (filter q xs)) < length (filter p xs) → (a b : Bool) → p x ≡ b → length (filter p (cond a (x ∷ filter q xs) (filter q xs))) < length (cond b (x ∷ filter p xs) (filter p xs))
+    later s true true v = subst (λ t. length (cond t (x ∷ filter p (filter q xs)) (filter p (filter q xs))) < suc (length (filter p xs))) (sym v) (omega (arith, s))
+    later s true false v = subst (λ t. length (cond t (x ∷ filter p (filter q xs)) (filter p (filter q xs))) < length (filter p xs)) (sym v) s
     later s false true v = omega (arith, s)
     later s false false v = s
 
-    by : (b : Bool) → cond b (Some x) (feed_of xs k) ≡ Some f → (feed_of xs k ≡ Some f → q f ≡ false → (n == f.session) ≡ true → length (feeds_in n (filter q xs)) < length (feeds_in n xs))
-        → length (feeds_in n (filter q (x ∷ xs))) < length (feeds_in n (x ∷ xs))
-    by true i more = here (one_some x f i) (q x) (n == x.session) refl refl
-    by false i more = later (more i g e) (q x) (n == x.session) refl
+    by : (b : Bool) → cond b (Some x) (feed_of xs k) ≡ Some f → (feed_of xs k ≡ Some f → q f ≡ false → p f ≡ true → length (filter p (filter q xs)) < length (filter p xs))
+        → length (filter p (filter q (x ∷ xs))) < length (filter p (x ∷ xs))
+    by true i more = here (one_some x f i) (q x) (p x) refl refl
+    by false i more = later (more i g e) (q x) (p x) refl
+
+pub one_less : (n : ℕ) (q : Feed → Bool) (fs : List Feed) (k : ℕ) (f : Feed) → feed_of fs k ≡ Some f → q f ≡ false → (n == f.session) ≡ true → length (feeds_in n (filter q fs)) < length (feeds_in n fs)
+one_less n q fs k f h g e = less_by (λ (x : Feed). n == x.session) q fs k f h g e
 
 none_left : (ends : ℕ → Bool) (k : ℕ) (fs : List Feed) → ends k ≡ true → feed_of (filter (λ (x : Feed). not (ends x.number)) fs) k ≡ None
 none_left ends k [] h = refl
@@ -137,8 +169,9 @@ none_next s [] u a = refl
 none_next s (f ∷ fs) u a =
     (λ i. differs_back f.number (s.frame.last + 1) (above_given f.number s.frame.last (found_given s.frame.last f.number _ s.frame.subscriptions u.given a.0.found)) i || none_next s fs u a.1 i)
 
-pub few_subscribes : (g : Gate) (m : ℕ) (id : Option Data) (n : ℕ) (role rel : Name) → IsSoundGate g → AreFew g.feeds → length (feeds_in n g.feeds) < most_feeds → AreFew (subscribes g m id n role rel).feeds
-few_subscribes g m id n role rel b a l = by (refusal g.machine n (subscribe rel)) refl
+pub few_subscribes : (g : Gate) (m : ℕ) (id : Option Data) (n : ℕ) (role rel : Name) → IsSoundGate g → AreFew g.feeds → length (feeds_in n g.feeds) < most_feeds
+    → length (filter (is_reading role rel) g.feeds) ≡ 0 → AreFew (subscribes g m id n role rel).feeds
+few_subscribes g m id n role rel b a l z = by (refusal g.machine n (subscribe rel)) refl
   where
     k : Command
     k = in_session n (subscribe rel)
@@ -147,7 +180,7 @@ few_subscribes g m id n role rel b a l = by (refusal g.machine n (subscribe rel)
     by None h =
         subst (λ r. AreFew (ran (feed_begun g m id n role rel r) (in_session n (subscribe rel))).feeds) (sym (reply_of_none g.machine n rel (refusal g.machine n (subscribe rel)) h))
         (few_less (λ (f : Feed). not (ends_in (step g.machine k).lines f.number)) _
-        (few_more (record { number = g.machine.frame.last + 1; session = n; role = role; rel = rel }) g.feeds a (none_next g.machine g.feeds b.state.numbers b.feeds) l))
+        (few_more (record { number = g.machine.frame.last + 1; session = n; role = role; rel = rel }) g.feeds a (none_next g.machine g.feeds b.state.numbers b.feeds) l z))
     by (Some r) h =
         subst (λ x. AreFew (ran (feed_begun g m id n role rel x) (in_session n (subscribe rel))).feeds) (sym (reply_of_some g.machine n rel (refusal g.machine n (subscribe rel)) r h))
         (few_less (λ (f : Feed). not (ends_in (step g.machine k).lines f.number)) g.feeds a)
@@ -196,8 +229,11 @@ few_joins g m id f b a there = by (refusal g.machine f.session (subscribe f.rel)
     older : (f.number == (g.machine.frame.last + 1)) ≡ false
     older = above_given f.number g.machine.frame.last (found_given g.machine.frame.last f.number _ g.machine.frame.subscriptions b.state.numbers.given (find_has (IsFeed g.machine) (λ (x : Feed). f.number == x.number) g.feeds f b.feeds there).found)
 
+    self : is_reading f.role f.rel f ≡ true
+    self = λ i. (bytes_eq-Decides f.role f.role).1 refl i && (bytes_eq-Decides f.rel f.rel).1 refl i
+
     reads : (is_reading f.role f.rel f && not ((g.machine.frame.last + 1) == f.number)) ≡ true
-    reads = (λ i. ((bytes_eq-Decides f.role f.role).1 refl i && (bytes_eq-Decides f.rel f.rel).1 refl i) && not (differs_back f.number t older i))
+    reads = (λ i. self i && not (differs_back f.number t older i))
 
     drops_new : without_feed (g.machine.frame.last + 1) (new ∷ left) ≡ without_feed (g.machine.frame.last + 1) left
     drops_new = ap (λ z. cond (not z) (new ∷ without_feed (g.machine.frame.last + 1) left) (without_feed (g.machine.frame.last + 1) left)) (same_self t)
@@ -214,8 +250,9 @@ few_joins g m id f b a there = by (refusal g.machine f.session (subscribe f.rel)
     stands q true e =
         let gone : feed_of h.feeds f.number ≡ None = ap (λ fs. feed_of fs f.number) q ∙ (ap (λ z. cond z (Some new) (feed_of left f.number)) older ∙ none_left (ends_in ls) f.number g.feeds e) in
         let less = one_less n (λ (x : Feed). not (ends_in ls x.number)) g.feeds f.number f there (ap not e) (same_self n) in let most = a.few n in
+        let none = less_by (is_reading f.role f.rel) (λ (x : Feed). not (ends_in ls x.number)) g.feeds f.number f there (ap not e) self in let once = a.once f.role f.rel in
         subst (λ p. AreFew (joined h m (feed_of h.feeds (g.machine.frame.last + 1)) p).feeds) (sym gone) (few_joined h m (feed_of h.feeds (g.machine.frame.last + 1)) None
-        (subst AreFew (sym q) (few_more new left few_left fresh (omega (arith, less, most)))))
+        (subst AreFew (sym q) (few_more new left few_left fresh (omega (arith, less, most)) (omega (arith, none, once)))))
 
     whole : (e : Bool) → ends_in ls (g.machine.frame.last + 1) ≡ e → AreFew (joined h m (feed_of h.feeds (g.machine.frame.last + 1)) (feed_of h.feeds f.number)).feeds
     whole true e = few_joined h m (feed_of h.feeds (g.machine.frame.last + 1)) (feed_of h.feeds f.number) (subst AreFew (sym (ap (λ z. cond (not z) (new ∷ left) left) e)) few_left)
@@ -264,3 +301,18 @@ new_has_room g role n h b =
   where
     below : (x y : ℕ) → x ≤ y → y ≡ 0 → x < 15
     below x y i j = omega (arith, i, j)
+
+-- a role that has no session with a place has full ones
+pub none_full : (seats : List Seat) (feeds : List Feed) (role : Name) → room_for seats feeds role ≡ None → AreFull seats feeds role
+none_full [] feeds role h = tt
+none_full (s ∷ ss) feeds role h = by (is_of_role role s) refl (nat_lt (load feeds s.session) most_feeds) refl h (none_full ss feeds role)
+  where
+    at_least : (m n : ℕ) → nat_lt n m ≡ false → m ≤ n
+    at_least m n e = grind (arith, nat_tests)
+
+    by : (a : Bool) → is_of_role role s ≡ a → (b : Bool) → nat_lt (load feeds s.session) most_feeds ≡ b
+        → Rattle.std.proofs.Common.option_map (λ (x : Seat). x.session) (cond (a && b) (Some s) (find (has_room feeds role) ss)) ≡ None
+        → (room_for ss feeds role ≡ None → AreFull ss feeds role) → AreFull (s ∷ ss) feeds role
+    by true e true l k more = absurd (some_is_none s.session k)
+    by true e false l k more = (λ i. at_least most_feeds (load feeds s.session) l, more k)
+    by false e b l k more = (λ i. absurd (false≢true (sym e ∙ i)), more k)

@@ -7,22 +7,22 @@ use Rattle.sha2.specs.Sha256.{sha256}
 use Rattle.serde_json.specs.Data.{Data}
 use Rattle.iv_rows.specs.Options.{if_some}
 use Rattle.iv_access.specs.Rights.{Name}
-use Rattle.iv_machine.specs.Act.{Act, begin, finish, create_role, create_table, create_view, grant, revoke, grant_role, revoke_role, row_security, create_policy, drop_policy, subscribe, unsubscribe, write, Command, Refusal, Reply, done, subscribed, refused, no_session, too_many, unknown_subscription}
+use Rattle.iv_machine.specs.Act.{Act, begin, finish, create_role, create_table, create_view, grant, revoke, grant_role, revoke_role, row_security, create_policy, drop_policy, subscribe, unsubscribe, write, Command, Refusal, Reply, done, subscribed, refused, no_session, too_many, unknown_subscription, limit}
 use Rattle.iv_machine.specs.Changing.{after}
 use Rattle.iv_machine.specs.Machine.{ending_by, outcome, step}
 use Rattle.iv_machine.specs.Reached.{AreNumbersUnique}
 use Rattle.iv_machine.specs.Refusing.{refusal}
 use Rattle.iv_machine.specs.State.{State, Subscription, start}
 use Rattle.iv_message.specs.Message.{Message, no_json, too_long, no_object, no_request, request}
-use Rattle.iv_message.specs.Told.{Told, welcome, replied, opened, fault, unasked, settled}
+use Rattle.iv_message.specs.Told.{Told, replied, opened, fault, unasked, settled}
 use Rattle.iv_clients.specs.Bounds.{entry_session, most_subs}
-use Rattle.iv_clients.specs.Clients.{Client, Shown, Slots, Sub, answered, at_all, at_client, beating, checked, client_at, closing, dropping, followed, followed_by, following, fresh, handing, is_followed, is_free, is_slow, may_say, moved, moved_sub, opens, released, saying, settling, staying, telling, told_one}
+use Rattle.iv_clients.specs.Clients.{Client, Shown, Slots, Sub, answered, at_all, at_client, beating, checked, client_at, closing, dropping, followed_by, following, fresh, handing, is_followed, is_free, is_slow, may_say, moved, moved_sub, opens, released, saying, settling, staying, telling, told_one}
 use Rattle.iv_clients.specs.Feeds.{Feed, Seat, feed_for, feed_of, is_of_role, is_reading, room_for, seat_of, without_seat}
-use Rattle.iv_clients.specs.Journal.{Entry, IsEntry, line_said, said_by}
+use Rattle.iv_clients.specs.Journal.{Entry, IsEntry, line_said, said_by, shape_for}
 use Rattle.iv_clients.specs.Tokens.{Token}
 use Rattle.iv_gate.specs.Events.{Event, presented, message, gone, known, ticked, synced, handed, failed, happens, next}
-use Rattle.iv_gate.specs.Gate.{Gate, acts, all_rested, all_swept, begun_for, closes, columns_in, done_for, entered, feed_begun, hears, in_session, is_accepted, is_needed, joined, joined_by, joins, next_own, ran, reads, reads_first, reply_in, reply_to, requests, rested, role_for, said, seated, settles, shut, subscribes, swept, tells, told_of, went, with_session}
-use Rattle.iv_gate.specs.Needed.{ReadsForClients}
+use Rattle.iv_gate.specs.Gate.{Gate, acts, all_rested, all_swept, begun_for, closes, columns_in, done_for, entered, feed_begun, hears, in_session, is_accepted, is_needed, joined, joined_by, joins, next_own, ran, reads, reads_first, reply_in, reply_to, requests, rested, role_for, said, seated, settles, shut, subscribes, swept, tells, told_of, went, with_session, informs, entries_of, has_shape_room}
+use Rattle.iv_gate.specs.Implied.{ReadsForClients}
 use Rattle.iv_gate.specs.Restoring.{Restores, all_replayed, gate_at_start, passed, replayed}
 use Rattle.iv_gate.specs.Runs.{Runs, begins, goes_on, begins_again}
 use Rattle.iv_gate.specs.Replies.{ActsAs}
@@ -33,10 +33,11 @@ use Rattle.iv_gate.proofs.Machine.{find_passes, some_is_none}
 use Rattle.iv_gate.proofs.Opening.{IsAsker, reply_of_none, reply_of_some, subscribes_sound}
 use Rattle.iv_gate.proofs.Running.{all_so, all_swept_sound, client_said, found_all, one_sound, swept_sound}
 use Rattle.iv_gate.proofs.Serving.{AreEven, IsEven, put_sound, says_stays}
-use Rattle.iv_gate.proofs.Sound.{Adds, IsFeed, IsSoundGate, Sounds, any_more, filter_all, seer}
+use Rattle.iv_gate.proofs.Sound.{Adds, IsFeed, IsSoundGate, Sounds, any_more, filter_all, seer, seer_telling, Seer}
 use Rattle.iv_gate.proofs.Summing.{AreOwn, both, differs_back, is_back, neither, same_self}
 use Rattle.iv_gate.proofs.Touching.{at_every, at_same, came_as, one_some, opens_role}
 use Rattle.iv_gate.proofs.Using.{AreFeeds, IsUsing, followed_all, followed_by_one, followed_left, followed_one, followed_put, follows, is_plain, none_after, none_but, opens_none, ran_finish, ran_plain, ran_refused, ran_subscribe, shared_opens_none, shut_using}
+use Rattle.iv_gate.proofs.Shaping.{test_of}
 
 -- ---- clients that follow what they did
 
@@ -88,12 +89,16 @@ using_tells but g m t a = using_one but g m (told_one g.entries t) (λ c. refl) 
 using_settles : (g : Gate) → IsUsing none_but g → IsUsing none_but (settles g)
 using_settles g a = using_all none_but g (settling g.entries) (settling_subs g.entries) a
 
+using_informs : (g : Gate) (es : List Entry) → IsUsing none_but g → IsUsing none_but (informs g es)
+using_informs g es a = using_all none_but g (λ c. telling g.entries (shape_for c.role es) c) (λ c. ap (λ (v : Seer). v.subs) (seer_telling g.entries (shape_for c.role es) c)) a
+
 -- ---- requests of the machine
 
 using_requests : (g : Gate) (m : ℕ) (id : Option Data) (e : Entry) (n : ℕ) → is_plain e.act ≡ true → IsSoundGate g → IsUsing none_but g → IsUsing none_but (requests g m id e n)
 using_requests g m id e n h b a =
     let k = in_session n e.act in let r = reply_to g k in let i = entered g e (is_accepted r) in
-    ran_plain none_but (tells i m (replied id r)) k h b.state.numbers (using_tells none_but i m (replied id r) (record { followed = a.followed; read = a.read }))
+    using_informs (ran (tells i m (replied id r)) k) (entries_of e (is_accepted r))
+    (ran_plain none_but (tells i m (replied id r)) k h b.state.numbers (using_tells none_but i m (replied id r) (record { followed = a.followed; read = a.read })))
 
 using_other : (g : Gate) (m : ℕ) (c : Client) (id : Option Data) (text : List ℕ) (act : Act) (o : Option ℕ) → is_plain act ≡ true → IsSoundGate g → IsUsing none_but g
     → IsUsing none_but (if_some o (tells g m (replied id (refused no_session))) (requests g m id (record { role = c.role; line = line_said text; act = act })))
@@ -323,12 +328,12 @@ other_stays own k j given (x ∷ xs) o f w v = by (own == x.own) refl f (j == x.
 
 using_closes : (g : Gate) (m : ℕ) (c : Client) (id : Option Data) (own given : ℕ) → ((d : Client) → client_at g.clients m ≡ Some d → d.subs ≡ c.subs) → AreOwn given c.subs → IsSoundGate g → IsUsing none_but g
     → IsUsing none_but (closes g m c id own)
-using_closes g m c id own given same o b a = by (followed c own) refl
+using_closes g m c id own given same o b a = by (followed_by c.subs own) refl
   where
     h : Gate
     h = record g { clients = at_client m (closing own) g.clients }
 
-    by : (p : Option ℕ) → followed c own ≡ p → IsUsing none_but (if_some p (tells g m (replied id (refused unknown_subscription))) (λ k. swept (tells (record g { clients = at_client m (closing own) g.clients }) m (replied id done)) k))
+    by : (p : Option ℕ) → followed_by c.subs own ≡ p → IsUsing none_but (if_some p (tells g m (replied id (refused unknown_subscription))) (λ k. swept (tells (record g { clients = at_client m (closing own) g.clients }) m (replied id done)) k))
     by None e = using_tells none_but g m (replied id (refused unknown_subscription)) a
     by (Some k) e =
         let i = using_swept [] (tells h m (replied id done)) k b.feeds b.state.numbers (using_tells (but_of (k ∷ [])) h m (replied id done) (record {
@@ -366,7 +371,8 @@ using_done adds sounds g m c text no_json d given t w r s o b a = using_tells no
 using_done adds sounds g m c text too_long d given t w r s o b a = using_tells none_but g m (fault 22) a
 using_done adds sounds g m c text no_object d given t w r s o b a = using_tells none_but g m (fault 2) a
 using_done adds sounds g m c text (no_request id why) d given t w r s o b a = using_tells none_but g m (unasked id why) a
-using_done adds sounds g m c text (request id act) d given t w r s o b a = using_acts adds sounds g m c id text act d given t w r s o b a
+using_done adds sounds g m c text (request id act) d given t w r s o b a =
+    test_of (IsUsing none_but) (has_shape_room g act) (acts g m c id text act) (tells g m (replied id (refused limit))) (using_acts adds sounds g m c id text act d given t w r s o b a) (using_tells none_but g m (replied id (refused limit)) a)
 
 not_dropped : (d : Bool) (e : Bool) → (not d && e) ≡ true → d ≡ false
 not_dropped true e h = absurd (false≢true h)
@@ -421,12 +427,12 @@ using_with g role m e b a = by (seat_of g.seats role)
 using_came : (g : Gate) (m : ℕ) (token : List ℕ) (role : Name) → role_for g m token ≡ Some role → IsSoundGate g → IsUsing none_but g → IsUsing none_but (came_as g m token role)
 using_came g m token role e b a =
     let h = with_session g role in let p = using_with g role m (nobody_there m g.clients (opens_role g m token role e).free) b a in
-    let i = record h { clients = set h.clients m (Some (fresh role (sha256 token))) } in
-    using_settles (tells i m (welcome role)) (using_tells none_but i m (welcome role) (record {
-      followed = all_so {P = λ (f : Feed). none_but f.number ≡ false → is_followed f.number h.clients ≡ true} {Q = λ (f : Feed). none_but f.number ≡ false → is_followed f.number (set h.clients m (Some (fresh role (sha256 token)))) ≡ true}
-          (λ f v w. followed_put f.number m (Some (fresh role (sha256 token))) h.clients p.1 (v w)) h.feeds p.0.followed;
+    let who = Some (fresh h.entries role (sha256 token)) in
+    record {
+      followed = all_so {P = λ (f : Feed). none_but f.number ≡ false → is_followed f.number h.clients ≡ true} {Q = λ (f : Feed). none_but f.number ≡ false → is_followed f.number (set h.clients m who) ≡ true}
+          (λ f v w. followed_put f.number m who h.clients p.1 (v w)) h.feeds p.0.followed;
       read = p.0.read;
-    }))
+    }
 
 not_among : (j : ℕ) (xs : List Sub) → but_of (map (λ (s : Sub). s.feed) xs) j ≡ false → follows j xs ≡ false
 not_among j [] h = refl

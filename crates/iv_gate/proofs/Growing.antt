@@ -3,7 +3,7 @@ use Rattle.std.proofs.Common.{◌≡◌, ℕ, Bool, true, false, cond, List, [],
 use Rattle.std.specs.Prelude.{flat_map}
 use Rattle.iv_machine.specs.Act.{Command}
 use Rattle.iv_machine.specs.Machine.{step}
-use Rattle.iv_message.specs.Told.{Told, settled}
+use Rattle.iv_message.specs.Told.{Told, made, settled}
 use Rattle.iv_clients.specs.Clients.{Client, Shown, all_shown, settling, staying, telling, told_one}
 use Rattle.iv_clients.specs.Journal.{Entry}
 use Rattle.iv_gate.specs.Gate.{Gate, told_of}
@@ -63,6 +63,7 @@ grows m = record {
   hear = λ j c g k. grown_ran c g k;
   rest = λ j c es. grown_settling es c;
   tell = λ c es t. grown_one es t c;
+  show = λ j c es role line. grown_one es (made role line) c;
   follow = λ c k. grown_text c _ refl refl refl;
   move = λ c t k. grown_text c _ refl refl refl;
   close = λ c own. grown_text c _ refl refl refl;

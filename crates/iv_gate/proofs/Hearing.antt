@@ -1,7 +1,7 @@
 -- What a client is told by what is no message of its own that is heard: nothing that is a reply.
 use Rattle.std.proofs.Common.{◌≡◌, ℕ, ◌⊎◌, inl, inr, Bool, true, false, not, cond, ◌||◌, List, [], ◌∷◌, ◌++◌, length, map, set, Option, Some, None, option_map, refl, ap, ◌∙◌, sym, subst, append-nil}
 use Rattle.std.specs.Prelude.{◌==◌, ◌&&◌, filter, flat_map}
-use Rattle.std.specs.List.{list_any}
+use Rattle.std.specs.List.{list_any, AllByRecursion}
 use Rattle.std.proofs.lemmas.Bool.{false≢true, eqb-true, eqb-false}
 use Rattle.std.proofs.lemmas.List.Concat.{flat_map-append}
 use Rattle.sha2.specs.Sha256.{sha256}
@@ -9,13 +9,13 @@ use Rattle.iv_rows.specs.Options.{if_some}
 use Rattle.iv_access.specs.Rights.{Name}
 use Rattle.iv_machine.specs.Act.{begin, Command, Line, reply, change, ended}
 use Rattle.iv_machine.specs.Machine.{step}
-use Rattle.iv_message.specs.Told.{Told, welcome, over, settled, alive}
+use Rattle.iv_message.specs.Told.{Told, over, settled, made, alive}
 use Rattle.iv_clients.specs.Clients.{Client, Shown, Slots, Sub, all_shown, answered, at_all, at_client, beating, checked, client_at, dropping, fresh, handing, is_slow, may_say, moved, opens, own_line, own_lines, released, saying, settling, staying, telling, told, told_one}
 use Rattle.iv_clients.specs.Feeds.{Feed, ends_in, is_end, is_of_role, rel_read}
 use Rattle.iv_clients.specs.Journal.{Entry, said_by}
 use Rattle.iv_clients.specs.Tokens.{Token}
 use Rattle.iv_gate.specs.Events.{Event, presented, message, gone, known, ticked, synced, handed, failed, happens}
-use Rattle.iv_gate.specs.Gate.{Gate, all_rested, all_swept, done_for, hears, in_session, role_for, said, seated, settles, tells, told_of, went, with_session}
+use Rattle.iv_gate.specs.Gate.{Gate, all_rested, all_swept, done_for, hears, in_session, role_for, said, seated, settles, told_of, went, with_session}
 use Rattle.iv_gate.specs.Replies.{heard_by, is_reply, replies}
 use Rattle.iv_gate.specs.Seen.{is_end_of}
 use Rattle.iv_gate.proofs.Growing.{assoc}
@@ -24,7 +24,7 @@ use Rattle.iv_gate.proofs.Places.{any_before, any_behind, none_replied, or_true,
 use Rattle.iv_gate.proofs.Sound.{Seer, any_left, seer, seer_one, seer_telling}
 use Rattle.iv_gate.proofs.Summing.{is_back, neither}
 use Rattle.iv_gate.proofs.Touching.{at_every, at_other, at_same, came_as, leaves_at, not_free, one_some, opens_role, set_other, some_is_none}
-use Rattle.iv_gate.proofs.Walking.{Kit, Later, to_all_rested, to_all_swept, to_done, to_settles, to_tells, to_then, to_with}
+use Rattle.iv_gate.proofs.Walking.{Kit, Later, to_all_rested, to_all_swept, to_done, to_settles, to_then, to_with}
 
 -- ---- numbers of a client
 
@@ -165,6 +165,10 @@ hears_one es t c h = record {
   lost = λ own e k. absurd (false≢true (sym k ∙ e));
 }
 
+pub hears_all : (es : List Entry) (ts : List Told) (c : Client) → AllByRecursion (λ t. is_reply t ≡ false) ts → Hears c (telling es ts c)
+hears_all es [] c a = hears_same c
+hears_all es (t ∷ ts) c a = hears_then c (told_one es t c) (telling es ts (told_one es t c)) (hears_one es t c a.0) (hears_all es ts (told_one es t c) a.1)
+
 pub hears_rest : (es : List Entry) (c : Client) → Hears c (settling es c)
 hears_rest es c = by c.owed
   where
@@ -210,6 +214,7 @@ apart m = record {
   hear = λ j c g k n. hears_ran c g k;
   rest = λ j c es n. hears_rest es c;
   tell = λ c es t n. absurd (n refl);
+  show = λ j c es role line n. hears_one es (made role line) c refl;
   follow = λ c k n. absurd (n refl);
   move = λ c t k n. absurd (n refl);
   close = λ c own n. absurd (n refl);
@@ -229,12 +234,9 @@ came_apart : (g : Gate) (m : ℕ) (token : List ℕ) (j : ℕ) (c d : Client) (o
 came_apart g m token j c d None e h k = same_client g.clients j c d h k
 came_apart g m token j c d (Some role) e h k =
     let i = with_session g role in
-    let put = record i { clients = set i.clients m (Some (fresh role (sha256 token))) } in
     let p = to_with m (Apart m) (apart m) g role j c h in
-    let there : client_at put.clients j ≡ Some p.now = set_other m j (Some (fresh role (sha256 token))) i.clients ne ∙ p.there in
-    let q = to_then m (Apart m) (apart m) put.clients (tells put m (welcome role)).clients (settles (tells put m (welcome role))).clients
-    (to_tells m (Apart m) (apart m) put (welcome role)) (to_settles m (Apart m) (apart m) (tells put m (welcome role))) j p.now there in
-    hears_then c p.now d (p.so ne) (apart_of m (came_as g m token role).clients j p.now d ne q k)
+    let there : client_at (came_as g m token role).clients j ≡ Some p.now = set_other m j (Some (fresh i.entries role (sha256 token))) i.clients ne ∙ p.there in
+    subst (Hears c) (one_some p.now d (sym there ∙ k)) (p.so ne)
   where
     ne : m ≡ j → ⊥
     ne same = false≢true (sym (not_free m c g.clients (ap (client_at g.clients) same ∙ h)) ∙ (opens_role g m token role e).free)

@@ -19,13 +19,14 @@ use Rattle.iv_machine.specs.Refusing.{refusal}
 use Rattle.iv_machine.specs.State.{Session, State, Subscription, actor, is_within_for, missing_for, rel_of, session_of, shown, subscription_of, view_shown}
 use Rattle.iv_machine.specs.declared.Cause.{Cause}
 use Rattle.iv_message.specs.Told.{Told, changed, over, granted}
-use Rattle.iv_clients.specs.Clients.{Client, Sub, followed, followed_by, own_line, own_lines}
+use Rattle.iv_clients.specs.Clients.{Client, Sub, followed_by, own_line, own_lines}
 use Rattle.iv_clients.specs.Feeds.{Feed, feed_of, rel_read}
 use Rattle.iv_clients.specs.Journal.{is_shared}
 use Rattle.iv_gate.specs.Events.{Event, next}
 use Rattle.iv_gate.specs.Gate.{Gate, granted_by, in_session, is_accepted, reply_in, told_of}
 use Rattle.iv_gate.specs.Replies.{told_by}
-use Rattle.iv_gate.specs.Seen.{EndsForCause, HearsFollowed, IsEnd, hindrance, is_told_of}
+use Rattle.iv_gate.specs.Implied.{EndsForCause, HearsFollowed, IsCaused}
+use Rattle.iv_gate.specs.Seen.{hindrance, is_told_of}
 use Rattle.iv_gate.proofs.Doing.{AreCalm, is_news}
 use Rattle.iv_gate.proofs.News.{Hears, quietly, by_command, by_contents, IsToldContents, IsToldOf}
 use Rattle.iv_gate.proofs.Machine.{find_passes, is_kept, not_finish, number_same, some_is_none, there_some}
@@ -104,7 +105,7 @@ any_three p front news back f n b = any_more p front (news ++ back) ∙ (λ i. f
 pub hears_followed : Adds → Sounds → (g : Gate) (e : Event) → IsSoundGate g → HearsFollowed g e
 hears_followed adds sounds g e b m c d x y own h = by (next_all sounds g e b m c d x.there x.stays y.there y.stays)
   where
-    command : (a : IsToldOf g (next g e) c d) → (t : Bool) → list_any (λ (s : Sub). own == s.own) c.subs ≡ t → (is_some (followed c own) ≡ true) ⊎ ((c.given < own) × (own ≤ d.given))
+    command : (a : IsToldOf g (next g e) c d) → (t : Bool) → list_any (λ (s : Sub). own == s.own) c.subs ≡ t → (is_some (followed_by c.subs own) ≡ true) ⊎ ((c.given < own) × (own ≤ d.given))
     command a true f = inl (followed_any own c.subs ∙ f)
     command a false f =
         let o = step g.machine a.command in
@@ -115,14 +116,14 @@ hears_followed adds sounds g e b m c d x y own h = by (next_all sounds g e b m c
         absurd (false≢true (sym (ap (list_any (is_told_of own)) (told_now c d _ a.told)
         ∙ any_three (is_told_of own) a.front (told_of g a.command.act o c) a.back (calm_none own a.front a.calm.0) none (calm_none own a.back a.calm.1)) ∙ h))
 
-    newest : (a : IsToldContents c d) → (t : Bool) → (own == (c.given + 1)) ≡ t → (is_some (followed c own) ≡ true) ⊎ ((c.given < own) × (own ≤ d.given))
+    newest : (a : IsToldContents c d) → (t : Bool) → (own == (c.given + 1)) ≡ t → (is_some (followed_by c.subs own) ≡ true) ⊎ ((c.given < own) × (own ≤ d.given))
     newest a true f = let same = eqb-true own (c.given + 1) f in let l = a.given in inr (omega (arith, same), omega (arith, same, l))
     newest a false f =
         let news = changed (c.given + 1) (difference a.before a.after) in
         absurd (false≢true (sym (ap (list_any (is_told_of own)) (told_now c d _ a.told)
         ∙ any_three (is_told_of own) a.front (news ∷ []) a.back (calm_none own a.front a.calm.0) (ap (λ z. z || false) f) (calm_none own a.back a.calm.1)) ∙ h))
 
-    by : Hears g (next g e) c d → (is_some (followed c own) ≡ true) ⊎ ((c.given < own) × (own ≤ d.given))
+    by : Hears g (next g e) c d → (is_some (followed_by c.subs own) ≡ true) ⊎ ((c.given < own) × (own ≤ d.given))
     by (quietly a n) = absurd (false≢true (sym (ap (list_any (is_told_of own)) (told_now c d a.more a.told) ∙ calm_none own a.more a.calm) ∙ h))
     by (by_command a) = command a (list_any (λ (s : Sub). own == s.own) c.subs) refl
     by (by_contents a n) = newest a (own == (c.given + 1)) refl
@@ -249,7 +250,7 @@ own_each g c a = both {P = λ (s : Sub). find (λ (x : Sub). s.own == x.own) c.s
 -- ---- ends
 
 abbrev IsEndTold : Gate → Event → Client → Told → Type 0
-IsEndTold g e c (over own rel why rows) = IsEnd g e c own rel why
+IsEndTold g e c (over own rel why rows) = IsCaused g e c own rel why
 IsEndTold g e c _ = Unit {0}
 
 calm_end : (g : Gate) (e : Event) (c : Client) (t : Told) → is_news t ≡ false → IsEndTold g e c t
@@ -274,7 +275,7 @@ module _ (g : Gate) (e : Event) (b : IsSoundGate g) (c d : Client) (a : IsToldOf
       by false = tt
   one_end (ended n k why rows) x s o = by (k == s.feed) refl
     where
-      the_end : k ≡ s.feed → IsEnd g e c s.own (rel_read g.feeds k) why
+      the_end : k ≡ s.feed → IsCaused g e c s.own (rel_read g.feeds k) why
       the_end same =
           let y = o.follows in
           let there : feed_of g.feeds k ≡ Some y.feed = ap (feed_of g.feeds) same ∙ y.found in

@@ -13,11 +13,11 @@ use Rattle.iv_access.specs.Rights.{Name}
 use Rattle.iv_machine.specs.Act.{Command}
 use Rattle.iv_machine.specs.Machine.{step}
 use Rattle.iv_message.specs.Told.{Told, alive, replied, settled}
-use Rattle.iv_clients.specs.Clients.{Client, Shown, Slots, answered, at_all, at_client, beating, checked, client_at, closing, dropping, following, fresh, handing, is_free, is_slow, moved, opens, released, saying, settling, staying, telling, told_one}
-use Rattle.iv_clients.specs.Journal.{Entry, IsEntry, is_shared, journal_of, line_said}
+use Rattle.iv_clients.specs.Clients.{Client, Shown, Slots, answered, at_all, at_client, beating, checked, client_at, closing, dropping, following, fresh, handing, is_free, is_slow, moved, opens, released, saying, settling, staying, telling, told_one, greeting}
+use Rattle.iv_clients.specs.Journal.{Entry, IsEntry, is_shared, journal_of, line_said, shape_for}
 use Rattle.iv_clients.specs.Tokens.{Token, role_opened}
 use Rattle.iv_gate.specs.Events.{Event, presented, message, gone, known, ticked, synced, handed, failed, happens, hands, knowing, next, on_disk, ticking}
-use Rattle.iv_gate.specs.Gate.{Gate, came, entered, has_session, in_session, is_accepted, pending, ran, reply_to, requests, role_for, said, tells, told_of, went}
+use Rattle.iv_gate.specs.Gate.{Gate, came, entered, has_session, in_session, is_accepted, ran, reply_to, requests, role_for, said, tells, told_of, went, informs, entries_of}
 use Rattle.iv_gate.specs.Laws.{IsFront, SentIsKept}
 use Rattle.iv_gate.specs.Restoring.{Restores, gate_at_start}
 use Rattle.iv_gate.specs.Runs.{LeavesOnDisk, Runs, begins, goes_on, begins_again}
@@ -30,6 +30,7 @@ use Rattle.iv_gate.proofs.Rereading.{front_of_bytes, torn_is_one}
 use Rattle.iv_gate.proofs.Running.{all_so}
 use Rattle.iv_gate.proofs.Stepping.{Keeps, Steps, came_keeps, said_keeps, went_keeps}
 use Rattle.iv_gate.proofs.Touching.{at_every, at_other, at_same, one_some, set_other}
+use Rattle.iv_gate.proofs.Shaping.{told_itself}
 
 -- ---- fronts
 
@@ -196,6 +197,19 @@ module _ (base : List Entry) where
     clients = put_client (IsHolding (take g.kept g.entries) g.entries) m o k g.clients b.clients;
   }
 
+  informs_held : (g : Gate) (es : List Entry) → IsHeld base g → IsHeld base (informs g es)
+  informs_held g es b =
+      let kept = take g.kept g.entries in
+      record {
+        front = b.front;
+        kept = b.kept;
+        well = b.well;
+        short = b.short;
+        sent = b.sent;
+        clients = every_client (IsHolding kept g.entries) (IsHolding kept g.entries) (λ c. telling g.entries (shape_for c.role es) c)
+            (λ c x. holding_telling kept g.entries (shape_for c.role es) c x) g.clients b.clients;
+      }
+
   held_kit : (m : ℕ) → Steps m (Keeps (IsHeld base))
   held_kit m = record {
     same = λ g b. b;
@@ -210,7 +224,7 @@ module _ (base : List Entry) where
       clients = every_client (IsHolding (take g.kept g.entries) g.entries) (IsHolding (take g.kept g.entries) g.entries) (settling g.entries)
           (λ c x. holding_settling (take g.kept g.entries) g.entries c x) g.clients b.clients;
     };
-    tell = λ g t b. tells_held g m t b;
+    tell = λ g t _ b. tells_held g m t b;
     seat = λ g seats b. record { front = b.front; kept = b.kept; well = b.well; short = b.short; sent = b.sent; clients = b.clients };
     feed = λ g feeds b. record { front = b.front; kept = b.kept; well = b.well; short = b.short; sent = b.sent; clients = b.clients };
     follow = λ g k b. one_held g m (following k) (λ c x. record { name = x.name; sendable = x.sendable; unsynced = x.unsynced }) b;
@@ -247,7 +261,7 @@ module _ (base : List Entry) where
   requests_held : (g : Gate) (m : ℕ) (id : Option Data) (e : Entry) (n : ℕ) → IsEntry e → IsShort e → IsHeld base g → IsHeld base (requests g m id e n)
   requests_held g m id e n w v b =
       let k = in_session n e.act in let r = reply_to g k in let h = entered g e (is_accepted r) in
-      ran_held (tells h m (replied id r)) k (tells_held h m (replied id r) (entered_held g e (is_accepted r) w v b))
+      informs_held (ran (tells h m (replied id r)) k) (entries_of e (is_accepted r)) (ran_held (tells h m (replied id r)) k (tells_held h m (replied id r) (entered_held g e (is_accepted r) w v b)))
 
   answered_held : (h : Gate) (m : ℕ) (before : Client) → AllByRecursion (λ (s : Shown). IsFront s.entries h.entries) before.unsynced → IsHeld base h → IsHeld base (record h { clients = at_client m (answered before) h.clients })
   answered_held h m before a b = one_held h m (answered before)
@@ -274,10 +288,14 @@ name_opened g m token role h = by (role_opened g.tokens (sha256 token)) h
     by None e = absurd (some_is_none role (sym e))
     by (Some r) e = test r (is_name r && (is_free m g.clients && has_session g r)) refl e
 
+itself_shows : (es : List Entry) (ts : List Told) → AllByRecursion (λ (s : Shown). IsFront s.entries es) (map (told_itself es) ts)
+itself_shows es [] = tt
+itself_shows es (t ∷ ts) = (front_self es, itself_shows es ts)
+
 came_held : (g : Gate) (m : ℕ) (token : List ℕ) → IsHeld [] g → IsHeld [] (came g m token)
 came_held g m token b = came_keeps (IsHeld []) (held_kit []) g m token
-    (λ h role e x. put_held [] h m (Some (fresh role (sha256 token)))
-    (λ c same. subst (IsHolding (take h.kept h.entries) h.entries) (one_some (fresh role (sha256 token)) c same) (record { name = name_opened g m token role e; sendable = tt; unsynced = tt })) x) b
+    (λ h role e x. let who = fresh h.entries role (sha256 token) in put_held [] h m (Some who)
+    (λ c same. subst (IsHolding (take h.kept h.entries) h.entries) (one_some who c same) (record { name = name_opened g m token role e; sendable = tt; unsynced = itself_shows h.entries (greeting h.entries role) })) x) b
 
 nobody_new : (Q : Client → Type 0) (c : Client) → None ≡ Some c → Q c
 nobody_new Q c e = absurd (some_is_none c (sym e))
@@ -390,7 +408,7 @@ restored_held cap tokens most sent journal h r a = subst (IsHeld []) (sym r.gate
 -- what is on disk leads to all that was kept
 pub kept_again : (g h : Gate) (disk : List ℕ) (start : Gate) → AllByRecursion IsEntry g.entries → LeavesOnDisk g disk → Restores start disk h → IsFront (take g.kept g.entries) h.entries
 kept_again g h disk start w l r =
-    front_of_bytes (take g.kept g.entries) h.entries (take l.0 (journal_of (pending g))) r.torn (all_taken IsEntry g.kept g.entries w) r.leads.well (sym l.1 ∙ r.leads.text) (torn_is_one r.torn r.cut)
+    front_of_bytes (take g.kept g.entries) h.entries (take l.0 (journal_of (drop g.kept g.entries))) r.torn (all_taken IsEntry g.kept g.entries w) r.leads.well (sym l.1 ∙ r.leads.text) (torn_is_one r.torn r.cut)
 
 pub runs_held : (cap : ℕ) (g : Gate) → Runs cap g → IsHeld [] g
 runs_held cap _ (begins tokens most journal g r) = restored_held cap tokens most [] journal g r tt

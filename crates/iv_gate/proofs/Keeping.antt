@@ -1,5 +1,5 @@
 -- Whatever happens, sessions and subscriptions of the machine are those of the gateway, and each session has room for what is asked once more.
-use Rattle.std.proofs.Common.{◌≡◌, ◌⊎◌, inl, inr, ℕ, zero, suc, ◌<◌, Bool, true, false, not, cond, ◌||◌, List, [], ◌∷◌, ◌++◌, length, map, set, replicate, Option, Some, None, is_some, option_map, refl, ap, ◌∙◌, sym, subst, arith}
+use Rattle.std.proofs.Common.{◌≡◌, ◌⊎◌, inl, inr, ℕ, zero, suc, ◌<◌, ◌≤◌, Bool, true, false, not, cond, ◌||◌, List, [], ◌∷◌, ◌++◌, length, map, set, replicate, Option, Some, None, is_some, option_map, refl, ap, ◌∙◌, sym, subst, arith}
 use Rattle.std.specs.Prelude.{◌==◌, ◌&&◌, bytes_eq, filter, find, nat_lt, option_and_then}
 use Rattle.std.specs.List.{AllByRecursion, list_any}
 use Rattle.std.proofs.lemmas.Bool.{false≢true}
@@ -8,24 +8,24 @@ use Rattle.sha2.specs.Sha256.{sha256}
 use Rattle.serde_json.specs.Data.{Data}
 use Rattle.iv_rows.specs.Options.{if_some}
 use Rattle.iv_access.specs.Rights.{Name}
-use Rattle.iv_machine.specs.Act.{Act, begin, finish, create_role, create_table, create_view, grant, revoke, grant_role, revoke_role, row_security, create_policy, drop_policy, subscribe, unsubscribe, write, Command, Refusal, Reply, done, subscribed, refused, no_session, too_many, unknown_subscription}
+use Rattle.iv_machine.specs.Act.{Act, begin, finish, create_role, create_table, create_view, grant, revoke, grant_role, revoke_role, row_security, create_policy, drop_policy, subscribe, unsubscribe, write, Command, Refusal, Reply, done, subscribed, refused, no_session, too_many, unknown_subscription, limit}
 use Rattle.iv_machine.specs.Changing.{after, after_subscriptions}
 use Rattle.iv_machine.specs.Machine.{ending_by, outcome, step}
 use Rattle.iv_machine.specs.Refusing.{refusal}
 use Rattle.iv_machine.specs.State.{State, Subscription, start}
 use Rattle.iv_message.specs.Message.{Message, no_json, too_long, no_object, no_request, request}
-use Rattle.iv_message.specs.Told.{Told, welcome, replied, fault, unasked, settled}
+use Rattle.iv_message.specs.Told.{Told, replied, fault, unasked, settled}
 use Rattle.iv_clients.specs.Bounds.{entry_session, most_feeds, most_subs}
-use Rattle.iv_clients.specs.Clients.{Client, Shown, Slots, Sub, answered, at_all, at_client, beating, checked, client_at, closing, dropping, followed, fresh, handing, has_role, is_followed, is_slow, may_say, moved, opens, released, saying, settling, told_one}
-use Rattle.iv_clients.specs.Feeds.{Feed, Seat, feed_for, feed_of, is_of_role, is_reading, room_for, seat_of, without_seat}
-use Rattle.iv_clients.specs.Journal.{Entry, IsEntry, is_shared, line_said, said_by}
+use Rattle.iv_clients.specs.Clients.{Client, Shown, Slots, Sub, answered, at_all, at_client, beating, checked, client_at, closing, dropping, followed_by, fresh, handing, has_role, is_followed, is_slow, may_say, moved, opens, released, saying, settling, telling, told_one}
+use Rattle.iv_clients.specs.Feeds.{Feed, Seat, ends_in, feed_for, feed_of, is_of_role, is_reading, room_for, seat_of, without_seat}
+use Rattle.iv_clients.specs.Journal.{Entry, IsEntry, is_shared, line_said, said_by, shape_for}
 use Rattle.iv_clients.specs.Tokens.{Token}
 use Rattle.iv_gate.specs.Events.{Event, presented, message, gone, known, ticked, synced, handed, failed, happens, next}
-use Rattle.iv_gate.specs.Gate.{Gate, acts, all_rested, all_swept, begun_for, closes, done_for, entered, has_session, hears, in_session, is_accepted, is_needed, joined, joined_by, joins, ran, reads, reads_first, reply_in, reply_to, requests, rested, role_for, said, seated, settles, shut, subscribes, swept, tells, went, with_session}
+use Rattle.iv_gate.specs.Gate.{Gate, acts, all_rested, all_swept, begun_for, closes, done_for, entered, has_session, hears, in_session, is_accepted, is_needed, joined, joined_by, joins, ran, reads, reads_first, reply_in, reply_to, requests, rested, role_for, said, seated, settles, shut, subscribes, swept, tells, went, with_session, informs, entries_of, has_shape_room}
 use Rattle.iv_gate.specs.Replies.{ActsAs}
 use Rattle.iv_gate.specs.Restoring.{Restores, all_replayed, gate_at_start, passed, replayed}
 use Rattle.iv_gate.proofs.Asking.{IsHeard, accepted_by, asker_of, feed_acts, seated_sound}
-use Rattle.iv_gate.proofs.Few.{AreFew, feeds_in, few_joins, few_less, few_subscribes, found_for, new_has_room, room_has}
+use Rattle.iv_gate.proofs.Few.{AreFew, feeds_in, few_joins, few_less, few_subscribes, found_for, new_has_room, none_reading, room_has, shorter_by}
 use Rattle.iv_gate.proofs.Finishing.{rested_sound}
 use Rattle.iv_gate.proofs.Joining.{same_name}
 use Rattle.iv_gate.proofs.Machine.{some_is_none}
@@ -33,9 +33,10 @@ use Rattle.iv_gate.proofs.Opening.{IsAsker, subscribes_sound}
 use Rattle.iv_gate.proofs.Running.{all_so, all_swept_sound, client_said, filter_plain, found_all, one_sound, swept_sound}
 use Rattle.iv_gate.proofs.Serving.{AreEven, IsEven, put_sound, says_stays}
 use Rattle.iv_gate.proofs.Sharing.{IsAlone, IsFed, IsShared, alone_of, begun_sessions, finished_sessions, is_plain, numbers_in, plain_keeps, roles_one, seats_in, sessions_step, shared_all, shared_finished, shared_one, shared_plain, shared_seated, shared_shut, shared_subscribes, subscriptions_same}
-use Rattle.iv_gate.proofs.Sound.{Adds, IsFeed, IsSoundGate, Sounds, seer}
+use Rattle.iv_gate.proofs.Sound.{Adds, IsFeed, IsSoundGate, Sounds, seer, seer_telling, Seer}
 use Rattle.iv_gate.proofs.Summing.{neither}
 use Rattle.iv_gate.proofs.Touching.{at_same, came_as, one_some, opens_role}
+use Rattle.iv_gate.proofs.Shaping.{test_of}
 
 -- what holds of a gateway besides that its clients are in step
 pub record IsKept (g : Gate) : Type 0 where
@@ -61,6 +62,9 @@ settling_role es c = by c.owed
 kept_settles : (g : Gate) → IsKept g → IsKept (settles g)
 kept_settles g b = kept_all g (settling g.entries) (settling_role g.entries) b
 
+kept_informs : (g : Gate) (es : List Entry) → IsKept g → IsKept (informs g es)
+kept_informs g es b = kept_all g (λ c. telling g.entries (shape_for c.role es) c) (λ c. ap (λ (v : Seer). v.role) (seer_telling g.entries (shape_for c.role es) c)) b
+
 kept_plain : (g : Gate) (k : Command) → is_plain k.act ≡ true → IsSoundGate g → IsKept g → IsKept (ran g k)
 kept_plain g k p s b = record { shared = shared_plain g k p s.state.numbers b.shared; few = few_less _ g.feeds b.few }
 
@@ -68,8 +72,8 @@ kept_seated : (g : Gate) (n : ℕ) (role : Name) → begun_for g role ≡ Some n
 kept_seated g n role e s b = record { shared = shared_seated g n role e s.state.numbers b.shared; few = few_less _ g.feeds b.few }
 
 kept_subscribes : (g : Gate) (m : ℕ) (id : Option Data) (n : ℕ) (role rel : Name) → IsSoundGate g → length (feeds_in n g.feeds) < most_feeds
-    → IsKept g → IsKept (subscribes g m id n role rel)
-kept_subscribes g m id n role rel s l b = record { shared = shared_subscribes g m id n role rel s.state.numbers b.shared; few = few_subscribes g m id n role rel s b.few l }
+    → length (filter (is_reading role rel) g.feeds) ≡ 0 → IsKept g → IsKept (subscribes g m id n role rel)
+kept_subscribes g m id n role rel s l z b = record { shared = shared_subscribes g m id n role rel s.state.numbers b.shared; few = few_subscribes g m id n role rel s b.few l z }
 
 shut_shared : (g : Gate) (f : Feed) → AllByRecursion (IsFeed g.machine) g.feeds → IsSoundGate g → (k : ℕ) → feed_of g.feeds k ≡ Some f → IsShared g → IsShared (shut g f)
 shut_shared g f a s k h b = shared_shut g f (found_all (IsFeed g.machine) g.feeds k f a h) s.state.numbers b
@@ -134,24 +138,31 @@ kept_joins adds sounds g m id f acts same there s b = record {
   few = few_joins g m id f s b.few there;
 }
 
-kept_first : Adds → Sounds → (g : Gate) (m : ℕ) (id : Option Data) (role rel : Name) → IsSoundGate g → IsKept g → IsKept (reads_first g m id role rel)
-kept_first adds sounds g m id role rel s b = by (room_for g.seats g.feeds role) refl
+kept_first : Adds → Sounds → (g : Gate) (m : ℕ) (id : Option Data) (role rel : Name) → IsSoundGate g → length (filter (is_reading role rel) g.feeds) ≡ 0 → IsKept g → IsKept (reads_first g m id role rel)
+kept_first adds sounds g m id role rel s z b = by (room_for g.seats g.feeds role) refl
   where
+    still_none : (n : ℕ) → length (filter (is_reading role rel) (seated g n role).feeds) ≡ 0
+    still_none n = below (length (filter (is_reading role rel) (seated g n role).feeds)) (length (filter (is_reading role rel) g.feeds))
+        (shorter_by (is_reading role rel) (λ (f : Feed). not (ends_in (step g.machine (in_session n (begin role))).lines f.number)) g.feeds) z
+      where
+        below : (x y : ℕ) → x ≤ y → y ≡ 0 → x ≡ 0
+        below x y i j = omega (arith, i, j)
+
     further : (o : Option ℕ) → begun_for g role ≡ o → IsKept (if_some o (tells g m (replied id (refused too_many))) (λ n. subscribes (seated g n role) m id n role rel))
     further None e = kept_tells g m (replied id (refused too_many)) b
-    further (Some n) e = kept_subscribes (seated g n role) m id n role rel (seated_sound adds sounds g role n e s) (new_has_room g role n e s) (kept_seated g n role e s b)
+    further (Some n) e = kept_subscribes (seated g n role) m id n role rel (seated_sound adds sounds g role n e s) (new_has_room g role n e s) (still_none n) (kept_seated g n role e s b)
 
     by : (o : Option ℕ) → room_for g.seats g.feeds role ≡ o
         → IsKept (if_some o (if_some (begun_for g role) (tells g m (replied id (refused too_many))) (λ n. subscribes (seated g n role) m id n role rel)) (λ n. subscribes g m id n role rel))
     by None e = further (begun_for g role) refl
-    by (Some n) e = kept_subscribes g m id n role rel s (room_has g.seats g.feeds role n e) b
+    by (Some n) e = kept_subscribes g m id n role rel s (room_has g.seats g.feeds role n e) z b
 
 kept_reads : Adds → Sounds → (g : Gate) (m : ℕ) (c : Client) (id : Option Data) (rel : Name) → ((d : Client) → client_at g.clients m ≡ Some d → IsAsker d id c.role rel) → IsSoundGate g → IsKept g
     → IsKept (reads g m c id rel)
 kept_reads adds sounds g m c id rel same s b = test (nat_lt (length c.subs) most_subs)
   where
     by : (o : Option Feed) → feed_for g.feeds c.role rel ≡ o → IsKept (if_some o (reads_first g m id c.role rel) (joins g m id))
-    by None e = kept_first adds sounds g m id c.role rel s b
+    by None e = kept_first adds sounds g m id c.role rel s (none_reading c.role rel g.feeds e) b
     by (Some f) e =
         let p = feed_acts g.machine c.role rel g.feeds f s.feeds e in
         kept_joins adds sounds g m id f p.0 (λ d t. subst (λ r. IsAsker d id r f.rel) (sym p.1) (subst (λ r. IsAsker d id c.role r) (sym p.2) (same d t))) (found_for g.feeds c.role rel f b.few.apart e) s b
@@ -161,7 +172,7 @@ kept_reads adds sounds g m c id rel same s b = test (nat_lt (length c.subs) most
     test false = kept_tells g m (replied id (refused too_many)) b
 
 kept_closes : (g : Gate) (m : ℕ) (c : Client) (id : Option Data) (own : ℕ) → IsSoundGate g → IsKept g → IsKept (closes g m c id own)
-kept_closes g m c id own s b = by (followed c own)
+kept_closes g m c id own s b = by (followed_by c.subs own)
   where
     h : Gate
     h = record g { clients = at_client m (closing own) g.clients }
@@ -188,7 +199,14 @@ kept_requests : (g : Gate) (m : ℕ) (id : Option Data) (e : Entry) (n : ℕ) �
 kept_requests g m id e n p s b =
     let k = in_session n e.act in let r = reply_to g k in let i = tells (entered g e (is_accepted r)) m (replied id r) in
     let x = kept_tells g m (replied id r) b in
-    record { shared = shared_plain i k p s.state.numbers (record { sessions = b.shared.sessions; seated = λ role h. b.shared.seated role (sym (roles_one m (told_one (entered g e (is_accepted r)).entries (replied id r)) (λ c. refl) role g.clients) ∙ h); fed = b.shared.fed }); few = few_less _ g.feeds b.few }
+    kept_informs (ran i k) (entries_of e (is_accepted r)) (record {
+      shared = shared_plain i k p s.state.numbers (record {
+        sessions = b.shared.sessions;
+        seated = λ role h. b.shared.seated role (sym (roles_one m (told_one (entered g e (is_accepted r)).entries (replied id r)) (λ c. refl) role g.clients) ∙ h);
+        fed = b.shared.fed;
+      });
+      few = few_less _ g.feeds b.few;
+    })
 
 kept_other : (g : Gate) (m : ℕ) (c : Client) (id : Option Data) (text : List ℕ) (act : Act) (o : Option ℕ) → is_plain act ≡ true → IsSoundGate g → IsKept g
     → IsKept (if_some o (tells g m (replied id (refused no_session))) (requests g m id (record { role = c.role; line = line_said text; act = act })))
@@ -220,7 +238,8 @@ kept_done adds sounds g m c text no_json h same s b = kept_tells g m (fault 1) b
 kept_done adds sounds g m c text too_long h same s b = kept_tells g m (fault 22) b
 kept_done adds sounds g m c text no_object h same s b = kept_tells g m (fault 2) b
 kept_done adds sounds g m c text (no_request id why) h same s b = kept_tells g m (unasked id why) b
-kept_done adds sounds g m c text (request id act) h same s b = kept_acts adds sounds g m c id text act h same s b
+kept_done adds sounds g m c text (request id act) h same s b =
+    test_of IsKept (has_shape_room g act) (acts g m c id text act) (tells g m (replied id (refused limit))) (kept_acts adds sounds g m c id text act h same s b) (kept_tells g m (replied id (refused limit)) b)
 
 -- ---- events
 
@@ -268,9 +287,9 @@ with_seat g role h = by (seat_of g.seats role) refl (begun_for g role) h
     by None e (Some n) k = seat_new g.seats (record { session = n; role = role }) role ((bytes_eq-Decides role role).1 refl)
     by None e None k = absurd (false≢true k)
 
-role_put : (slots : Slots) (m : ℕ) (role name : Name) (digest : List ℕ) → has_role name (set slots m (Some (fresh role digest))) ≡ true → (role ≡ name) ⊎ (has_role name slots ≡ true)
-role_put [] m role name digest h = inr h
-role_put (o ∷ os) zero role name digest h = by (bytes_eq role name) refl h
+role_put : (slots : Slots) (m : ℕ) (es : List Entry) (role name : Name) (digest : List ℕ) → has_role name (set slots m (Some (fresh es role digest))) ≡ true → (role ≡ name) ⊎ (has_role name slots ≡ true)
+role_put [] m es role name digest h = inr h
+role_put (o ∷ os) zero es role name digest h = by (bytes_eq role name) refl h
   where
     right : (a b : Bool) → b ≡ true → (a || b) ≡ true
     right true b k = refl
@@ -279,12 +298,12 @@ role_put (o ∷ os) zero role name digest h = by (bytes_eq role name) refl h
     by : (b : Bool) → bytes_eq role name ≡ b → (b || has_role name os) ≡ true → (role ≡ name) ⊎ ((if_some o false (λ (c : Client). bytes_eq c.role name) || has_role name os) ≡ true)
     by true e k = inl (same_name role name e)
     by false e k = inr (right _ _ k)
-role_put (o ∷ os) (suc m) role name digest h = by (if_some o false (λ (c : Client). bytes_eq c.role name)) h (role_put os m role name digest)
+role_put (o ∷ os) (suc m) es role name digest h = by (if_some o false (λ (c : Client). bytes_eq c.role name)) h (role_put os m es role name digest)
   where
     more : (role ≡ name) ⊎ (has_role name os ≡ true) → (role ≡ name) ⊎ (has_role name os ≡ true)
     more x = x
 
-    by : (b : Bool) → (b || has_role name (set os m (Some (fresh role digest)))) ≡ true → (has_role name (set os m (Some (fresh role digest))) ≡ true → (role ≡ name) ⊎ (has_role name os ≡ true))
+    by : (b : Bool) → (b || has_role name (set os m (Some (fresh es role digest)))) ≡ true → (has_role name (set os m (Some (fresh es role digest))) ≡ true → (role ≡ name) ⊎ (has_role name os ≡ true))
         → (role ≡ name) ⊎ ((b || has_role name os) ≡ true)
     by true k go = inr refl
     by false k go = go k
@@ -303,7 +322,7 @@ role_left (o ∷ os) (suc m) name h = by (if_some o false (λ (c : Client). byte
     by false k go = go k
 
 kept_came : (g : Gate) (m : ℕ) (token : List ℕ) (role : Name) → role_for g m token ≡ Some role → IsSoundGate g → IsKept g → IsKept (came_as g m token role)
-kept_came g m token role e s b = kept_settles (tells put m (welcome role)) (kept_tells put m (welcome role) placed)
+kept_came g m token role e s b = placed
   where
     h : Gate
     h = with_session g role
@@ -312,14 +331,14 @@ kept_came g m token role e s b = kept_settles (tells put m (welcome role)) (kept
     k = kept_with g role s b
 
     put : Gate
-    put = record h { clients = set h.clients m (Some (fresh role (sha256 token))) }
+    put = record h { clients = set h.clients m (Some (fresh h.entries role (sha256 token))) }
 
     seats : (name : Name) → (role ≡ name) ⊎ (has_role name h.clients ≡ true) → is_some (seat_of h.seats name) ≡ true
     seats name (inl x) = subst (λ r. is_some (seat_of h.seats r) ≡ true) x (with_seat g role (opens_role g m token role e).session)
     seats name (inr x) = k.shared.seated name x
 
     placed : IsKept put
-    placed = record { shared = record { sessions = k.shared.sessions; seated = λ name i. seats name (role_put h.clients m role name (sha256 token) i); fed = k.shared.fed }; few = k.few }
+    placed = record { shared = record { sessions = k.shared.sessions; seated = λ name i. seats name (role_put h.clients m h.entries role name (sha256 token) i); fed = k.shared.fed }; few = k.few }
 
 kept_went : Adds → Sounds → (g : Gate) (m : ℕ) → IsSoundGate g → IsKept g → IsKept (went g m)
 kept_went adds sounds g m s b = by (client_at g.clients m)
@@ -479,5 +498,5 @@ kept_restored cap tokens most sent journal g r =
         seated = λ role h. absurd (false≢true (sym (no_roles most role) ∙ h));
         fed = subst (AllByRecursion (IsFed [])) (sym b.subscriptions) tt;
       };
-      few = record { few = λ n. omega arith; apart = tt };
+      few = record { few = λ n. omega arith; apart = tt; once = λ role rel. omega arith };
     })

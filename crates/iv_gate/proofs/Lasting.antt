@@ -108,10 +108,7 @@ seats_act adds starts sounds cap g role n r h = seat_of_acts g (runs_sound adds 
 pub are_over : Adds → Starts → Sounds → (cap : ℕ) (g : Gate) → Runs cap g → AreOver g
 are_over adds starts sounds cap g r m c id own columns x k h =
     let n = follows_none c.subs own h in
-    record {
-      why = (runs_keep IsSettled keeps_settled cap g r m c x).1 id own columns k n;
-      nothing = λ e q. ((runs_sound adds starts sounds cap g r).clients m c x.there x.stays).spent own n e q;
-    }
+    ((runs_keep IsSettled keeps_settled cap g r m c x).1 id own columns k n, λ e q. ((runs_sound adds starts sounds cap g r).clients m c x.there x.stays).spent own n e q)
 
 pub clients_answered : (cap : ℕ) (g : Gate) (m : ℕ) (c : Client) → Runs cap g → IsClient g m c → IsAnswered c
 clients_answered cap g m c r x = runs_keep IsAnswered keeps_answered cap g r m c x

@@ -1,5 +1,5 @@
 -- The entries lead a machine with nothing to where the gateway is; so does what a crash leaves of them.
-use Rattle.std.proofs.Common.{◌≡◌, ℕ, Bool, true, false, cond, List, [], ◌∷◌, ◌++◌, drop, take, length, Option, Some, refl, ap, ◌∙◌, sym, subst, append-nil}
+use Rattle.std.proofs.Common.{◌≡◌, ℕ, Bool, true, false, cond, List, [], ◌∷◌, ◌++◌, drop, take, length, Option, Some, option_map, refl, ap, ◌∙◌, sym, subst, append-nil}
 use Rattle.std.specs.Prelude.{◌&&◌, option_and_then}
 use Rattle.std.specs.List.{AllByRecursion}
 use Rattle.std.proofs.lemmas.Bool.{false≢true}
@@ -14,16 +14,16 @@ use Rattle.iv_clients.specs.Journal.{Entry, IsEntry, entry_text, is_shared, jour
 use Rattle.iv_clients.specs.Tokens.{Token}
 use Rattle.iv_gate.specs.Events.{Event, presented, message, gone, known, ticked, synced, handed, failed, happens, next}
 use Rattle.iv_gate.specs.Gate.{Gate, in_session, is_accepted, ran, reply_in, requests}
-use Rattle.iv_gate.specs.Laws.{CrashesAreSafe, IsSafe, LeadsBack, SameShared}
+use Rattle.iv_gate.specs.Laws.{CrashesAreSafe, LeadsBack, shared}
 use Rattle.iv_gate.specs.Replies.{ActsAs}
 use Rattle.iv_gate.specs.Restoring.{Restores, all_replayed, gate_at_start}
-use Rattle.iv_gate.specs.Runs.{LeavesOnDisk, Runs, begins, goes_on, begins_again}
+use Rattle.iv_gate.specs.Runs.{Runs, begins, goes_on, begins_again}
 use Rattle.iv_gate.proofs.Asking.{seat_of_acts}
 use Rattle.iv_gate.proofs.Requesting.{IsShort}
 use Rattle.iv_gate.proofs.Growing.{assoc}
 use Rattle.iv_gate.proofs.Holding.{all_dropped, runs_held}
 use Rattle.iv_gate.proofs.Lasting.{Starts, runs_sound}
-use Rattle.iv_gate.proofs.Replaying.{HasLed, IsQuiet, all_quiet, all_same, entry_leads, plain_same, refused_state, replayed_append, replayed_one, same_then, start_quiet, then_of}
+use Rattle.iv_gate.proofs.Replaying.{SameShared, HasLed, IsQuiet, all_quiet, all_same, entry_leads, plain_same, refused_state, replayed_append, replayed_one, same_then, start_quiet, then_of}
 use Rattle.iv_gate.proofs.Rereading.{cut_bytes}
 use Rattle.iv_gate.proofs.Sound.{Adds, IsSoundGate, Sounds}
 use Rattle.iv_gate.proofs.Stepping.{Keeps, Steps, came_keeps, said_keeps, went_keeps}
@@ -78,7 +78,7 @@ led_kit cap m = record {
   chain = λ g h i x y l. y (x l);
   run = λ g k e l. ran_led cap g k e l;
   settle = λ g l. l;
-  tell = λ g t l. l;
+  tell = λ g t _ l. l;
   seat = λ g seats l. l;
   feed = λ g feeds l. l;
   follow = λ g k l. l;
@@ -123,8 +123,13 @@ runs_led adds starts sounds cap _ (begins tokens most journal g r) = restored_le
 runs_led adds starts sounds cap _ (goes_on g e r) = next_led cap g e (runs_sound adds starts sounds cap g r) (runs_led adds starts sounds cap g r)
 runs_led adds starts sounds cap _ (begins_again g disk tokens most h r l x) = restored_led cap tokens most g.sent disk h x
 
+shared_same : (s t : State) → SameShared s t → shared s ≡ shared t
+shared_same s t a = λ i. record { frame = record { cap = a.cap i; rights = a.rights i; catalog = a.catalog i; sessions = []; subscriptions = []; last = 0 }; rows = a.rows i }
+
 pub leads_back : Adds → Starts → Sounds → (cap : ℕ) (g : Gate) → Runs cap g → LeadsBack cap g
-leads_back adds starts sounds cap g r = let l = runs_led adds starts sounds cap g r in record { state = l.end; replays = l.replays; same = l.same }
+leads_back adds starts sounds cap g r =
+    let l = runs_led adds starts sounds cap g r in
+    ap (option_map shared) l.replays ∙ ap Some (sym (shared_same g.machine l.end l.same))
 
 -- ---- crashes
 
@@ -133,7 +138,7 @@ well_front es [] gs e w = tt
 well_front es (f ∷ fs) gs e w = let x : AllByRecursion IsEntry (f ∷ (fs ++ gs)) = subst (AllByRecursion IsEntry) e w in (x.0, well_front (fs ++ gs) fs gs refl x.1)
 
 is_safe : (cap : ℕ) (g : Gate) (s : State) → AllByRecursion IsEntry g.entries → AllByRecursion IsShort (drop g.kept g.entries) → all_replayed (start cap) g.entries ≡ Some s
-    → (disk : List ℕ) (tokens : List Token) (most : ℕ) → LeavesOnDisk g disk → IsSafe cap g disk tokens most
+    → CrashesAreSafe cap g
 is_safe cap g s w v h disk tokens most l =
     let start_gate = gate_at_start cap tokens most g.sent in
     let kept = take g.kept g.entries in
@@ -142,10 +147,9 @@ is_safe cap g s w v h disk tokens most l =
     let all : g.entries ≡ (take g.kept g.entries ++ c.whole) ++ c.later =
     sym (take-append-drop g.kept g.entries) ∙ (ap (λ z. take g.kept g.entries ++ z) c.front ∙ sym (assoc (take g.kept g.entries) c.whole c.later)) in
     let r = then_of (all_replayed (start cap) again) (λ u. all_replayed u c.later) s
-    (sym (replayed_append (start cap) again c.later) ∙ (ap (all_replayed (start cap)) (sym all) ∙ h)) in
-    record {
-      again = record start_gate { machine = r.mid; entries = again; kept = length again };
-      restores = record {
+    (sym (replayed_append (start cap) again c.later) ∙ (ap (all_replayed (start cap)) (sym all) ∙ h)) in (
+      record start_gate { machine = r.mid; entries = again; kept = length again },
+      record {
         state = r.mid;
         torn = c.torn;
         leads = record {
@@ -156,10 +160,10 @@ is_safe cap g s w v h disk tokens most l =
         };
         cut = c.is;
         gate = refl;
-      };
-      kept = (c.whole, refl);
-      front = (c.later, all);
-    }
+      },
+      (c.whole, refl),
+      (c.later, all),
+    )
 
 pub crashes_are_safe : Adds → Starts → Sounds → (cap : ℕ) (g : Gate) → Runs cap g → CrashesAreSafe cap g
 crashes_are_safe adds starts sounds cap g r =

@@ -1,5 +1,6 @@
 pub mod Signs
 pub mod Places
+pub mod Shaping
 pub mod Ending
 pub mod Touching
 pub mod Walking
@@ -47,5 +48,9 @@ pub mod Bounding
 pub mod Granting
 pub mod Endowing
 pub mod Exact
+pub mod Knowing
+pub mod Making
 pub mod Telling
 pub mod Settling
+pub mod Tables
+pub mod Together

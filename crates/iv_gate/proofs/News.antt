@@ -16,8 +16,8 @@ use Rattle.iv_message.specs.Told.{Told, changed, granted, replied, opened}
 use Rattle.iv_clients.specs.Bounds.{most_subs}
 use Rattle.iv_clients.specs.Clients.{Client, Slots, Sub, at_client, client_at, following, own_line, own_lines, staying, telling, told, told_one}
 use Rattle.iv_clients.specs.Feeds.{Feed, ends_in}
-use Rattle.iv_clients.specs.Journal.{Entry, is_shared}
-use Rattle.iv_gate.specs.Gate.{Gate, acts, begun_for, closes, columns_in, done_for, entered, feed_begun, in_session, is_accepted, joined, joined_by, joins, next_own, ran, reads, reads_first, reply_in, reply_to, requests, seated, shut, subscribes, swept, tells, told_of}
+use Rattle.iv_clients.specs.Journal.{Entry, is_shared, shape_for}
+use Rattle.iv_gate.specs.Gate.{Gate, columns_in, entered, feed_begun, in_session, is_accepted, next_own, ran, reply_in, reply_to, requests, tells, told_of, entries_of}
 use Rattle.iv_gate.proofs.Calm.{no_lines, last_step}
 use Rattle.iv_gate.proofs.Growing.{assoc}
 use Rattle.iv_gate.proofs.Opening.{above_given, feed_given}
@@ -28,6 +28,8 @@ use Rattle.iv_gate.proofs.Summing.{differs_back, same_self}
 use Rattle.iv_gate.proofs.Touching.{at_every, at_other, at_same}
 use Rattle.iv_gate.proofs.Walking.{Later}
 use Rattle.iv_gate.proofs.Doing.{AreCalm, HasAnswered, HasRead, IsDone, IsSaid, answers, asks, opens, fewer_left, is_news, less_one, told_more}
+use Rattle.iv_gate.specs.Laws.{is_made}
+use Rattle.iv_gate.proofs.Shaping.{all_made, filter_whole}
 
 -- ---- what one client is told by it
 
@@ -35,8 +37,9 @@ pub record IsCalm (c d : Client) : Type 0 where
   pub more : List Told
   pub told : told d ≡ told c ++ more
   pub calm : AreCalm more
+  pub unmade : filter is_made more ≡ []
 
--- the lines of one command, which changes what is shared
+-- the lines of one command, which changes what is shared, and behind them what it makes of the shape
 pub record IsToldOf (g h : Gate) (c d : Client) : Type 0 where
   pub command : Command
   pub shared : is_shared command.act ≡ true
@@ -49,6 +52,8 @@ pub record IsToldOf (g h : Gate) (c d : Client) : Type 0 where
   pub back : List Told
   pub told : told d ≡ told c ++ (front ++ (told_of g command.act (step g.machine command) c ++ back))
   pub calm : AreCalm front × AreCalm back
+  pub unmade : filter is_made front ≡ []
+  pub shape : filter is_made back ≡ shape_for c.role (cond (is_accepted (reply_in (step g.machine command).lines)) (entry ∷ []) [])
   pub subs : d.subs ≡ filter (λ s. not (ends_in (step g.machine command).lines s.feed)) c.subs
 
 -- the contents of what it reads by its next number
@@ -59,6 +64,7 @@ pub record IsToldContents (c d : Client) : Type 0 where
   pub back : List Told
   pub told : told d ≡ told c ++ (front ++ (changed (c.given + 1) (difference before after) ∷ back))
   pub calm : AreCalm front × AreCalm back
+  pub unmade : (filter is_made front ≡ []) × (filter is_made back ≡ [])
   pub given : c.given + 1 ≤ d.given
   pub follows : list_any (λ (x : Sub). (c.given + 1) == x.own) d.subs ≡ true
   pub some : difference before after ≡ [] → ⊥
@@ -76,7 +82,7 @@ pub not_empty : {X : Type 0} (x : X) (xs : List X) → x ∷ xs ≡ [] → ⊥
 not_empty x xs e = false≢true (sym (ap is_filled e))
 
 pub nothing : (c d : Client) → told d ≡ told c → IsCalm c d
-nothing c d e = record { more = []; told = e ∙ sym (append-nil (told c)); calm = tt }
+nothing c d e = record { more = []; told = e ∙ sym (append-nil (told c)); calm = tt; unmade = refl }
 
 pub one_calm : (t : Told) → is_news t ≡ false → AreCalm (t ∷ [])
 one_calm t h = (h, tt)
@@ -190,7 +196,7 @@ module _ (g : Gate) (m : ℕ) (a0 : Client) (h : Gate) (r : HasRead g m a0 h) wh
           ∙ (assoc (told x) (text ∷ []) (news_of (x.given + 1) rows) ∙ ap (λ z. told x ++ (text ∷ news_of (x.given + 1) z)) e)))
 
       by : (o : List (List Cell × ℤ)) → rows ≡ o → Hears g h x now
-      by [] e = quietly (record { more = text ∷ []; told = told_now [] e; calm = (refl, tt) }) (r.behind.entries ∙ r.entries)
+      by [] e = quietly (record { more = text ∷ []; told = told_now [] e; calm = (refl, tt); unmade = refl }) (r.behind.entries ∙ r.entries)
       by (p ∷ ps) e = by_contents (record {
         before = shown i.machine t;
         after = shown (step i.machine k).state t;
@@ -198,6 +204,7 @@ module _ (g : Gate) (m : ℕ) (a0 : Client) (h : Gate) (r : HasRead g m a0 h) wh
         back = [];
         told = told_now (p ∷ ps) e ∙ ap (λ z. told x ++ (text ∷ changed (x.given + 1) z ∷ [])) (sym e);
         calm = ((refl, tt), tt);
+        unmade = (refl, refl);
         some = λ z. not_empty p ps (sym e ∙ z);
         given = subst (λ z. x.given + 1 ≤ z) (sym (r.behind.given (hears (opening x)) ∙ hears_given (opening x))) (omega arith);
         follows = r.behind.owns (x.given + 1) (hears (opening x))
@@ -273,9 +280,26 @@ module _ (g : Gate) (m : ℕ) (id : Option Data) (e : Entry) (n : ℕ) (s : is_s
   abbrev hears_lines : Client → Client
   hears_lines x = staying (step g.machine asking).lines (telling before.entries (told_of before asking.act (step g.machine asking) x) x)
 
+  abbrev making : List Entry
+  making = entries_of e (is_accepted (reply_to g (in_session n e.act)))
+
+  -- and an administrator the request, if it makes the shape
+  abbrev hears_all : Client → Client
+  hears_all x = telling before.entries (shape_for (hears_lines x).role making) (hears_lines x)
+
+  command_told : (front : List Told) (x y : Client) → told y ≡ told x ++ front → y.subs ≡ x.subs → y.role ≡ x.role → told (hears_lines y) ≡ told x ++ (front ++ told_of g asking.act (step g.machine asking) x)
+  command_told front x y h subs role =
+      ap (λ (v : Seer). v.told) (seer_telling before.entries (told_of before asking.act (step g.machine asking) y) y)
+      ∙ ((λ i. h i ++ (own_lines g.feeds (step g.machine asking).lines (subs i)
+      ++ cond (is_accepted (reply_in (step g.machine asking).lines)) (map granted (Rattle.iv_gate.specs.Gate.granted_by (step g.machine asking).state.frame asking.act (role i))) []))
+      ∙ assoc (told x) front (told_of g asking.act (step g.machine asking) x))
+
+  lines_role : (y : Client) → (hears_lines y).role ≡ y.role
+  lines_role y = ap (λ (v : Seer). v.role) (seer_telling before.entries (told_of before asking.act (step g.machine asking) y) y)
+
   -- by what it was told in front
-  one_hears : (front : List Told) (x y : Client) → AreCalm front → told y ≡ told x ++ front → y.subs ≡ x.subs → y.role ≡ x.role → Hears g (requests g m id e n) x (hears_lines y)
-  one_hears front x y c h subs role = by_command (record {
+  one_hears : (front : List Told) (x y : Client) → AreCalm front → filter is_made front ≡ [] → told y ≡ told x ++ front → y.subs ≡ x.subs → y.role ≡ x.role → Hears g (requests g m id e n) x (hears_all y)
+  one_hears front x y c unmade h subs role = by_command (record {
     command = in_session n e.act;
     shared = s;
     said = said;
@@ -284,18 +308,23 @@ module _ (g : Gate) (m : ℕ) (id : Option Data) (e : Entry) (n : ℕ) (s : is_s
     asks = refl;
     entries = ap (λ b. g.entries ++ cond (b && is_accepted (reply_in (step g.machine asking).lines)) (e ∷ []) []) s;
     front = front;
-    back = [];
-    told = ap (λ (v : Seer). v.told) (seer_telling before.entries (told_of before asking.act (step g.machine asking) y) y)
-        ∙ ((λ i. h i ++ (own_lines g.feeds (step g.machine asking).lines (subs i)
-        ++ cond (is_accepted (reply_in (step g.machine asking).lines)) (map granted (Rattle.iv_gate.specs.Gate.granted_by (step g.machine asking).state.frame asking.act (role i))) []))
-        ∙ (assoc (told x) front (told_of g asking.act (step g.machine asking) x) ∙ ap (λ z. told x ++ (front ++ z)) (sym (append-nil (told_of g asking.act (step g.machine asking) x)))));
-    calm = (c, tt);
-    subs = ap (λ (v : Seer). filter (λ z. not (ends_in (step g.machine asking).lines z.feed)) v.subs) (seer_telling before.entries (told_of before asking.act (step g.machine asking) y) y)
-        ∙ ap (filter (λ z. not (ends_in (step g.machine asking).lines z.feed))) subs;
+    back = shape_for (hears_lines y).role making;
+    told = ap (λ (v : Seer). v.told) (seer_telling before.entries (shape_for (hears_lines y).role making) (hears_lines y))
+        ∙ (ap (λ z. z ++ shape_for (hears_lines y).role making) (command_told front x y h subs role)
+        ∙ (assoc (told x) (front ++ told_of g asking.act (step g.machine asking) x) (shape_for (hears_lines y).role making)
+        ∙ ap (λ z. told x ++ z) (assoc front (told_of g asking.act (step g.machine asking) x) (shape_for (hears_lines y).role making))));
+    calm = (c, all_made (λ t. is_news t ≡ false) (λ r line. refl) (hears_lines y).role making);
+    unmade = unmade;
+    shape = filter_whole is_made (shape_for (hears_lines y).role making) (all_made (λ t. is_made t ≡ true) (λ r line. refl) (hears_lines y).role making)
+        ∙ ((λ i. shape_for ((lines_role y ∙ role) i) making)
+        ∙ ap (λ b. shape_for x.role (cond (b && is_accepted (reply_in (step g.machine asking).lines)) (e ∷ []) [])) s);
+    subs = ap (λ (v : Seer). v.subs) (seer_telling before.entries (shape_for (hears_lines y).role making) (hears_lines y))
+        ∙ (ap (λ (v : Seer). filter (λ z. not (ends_in (step g.machine asking).lines z.feed)) v.subs) (seer_telling before.entries (told_of before asking.act (step g.machine asking) y) y)
+        ∙ ap (filter (λ z. not (ends_in (step g.machine asking).lines z.feed))) subs);
   })
 
   pub request_there : (P : Client → Client → Type 0) (j : ℕ) (x : Client) → client_at g.clients j ≡ Some x
-      → (m ≡ j → P x (hears_lines (told_one before.entries (replied id (reply_to g (in_session n e.act))) x))) → ((m ≡ j → ⊥) → P x (hears_lines x))
+      → (m ≡ j → P x (hears_all (told_one before.entries (replied id (reply_to g (in_session n e.act))) x))) → ((m ≡ j → ⊥) → P x (hears_all x))
       → Later (λ i c d. P c d) (requests g m id e n).clients j x
   request_there P j x t this others = by (m == j) refl
     where
@@ -305,27 +334,33 @@ module _ (g : Gate) (m : ℕ) (id : Option Data) (e : Entry) (n : ℕ) (s : is_s
       es : List Entry
       es = before.entries
 
+      heard : (y : Client) → client_at before.clients j ≡ Some y → client_at (requests g m id e n).clients j ≡ Some (hears_all y)
+      heard y h =
+          at_every (λ c. telling before.entries (shape_for c.role making) c) (ran before asking).clients j
+          ∙ ap (option_map (λ c. telling before.entries (shape_for c.role making) c)) (at_every hears_lines before.clients j ∙ ap (option_map hears_lines) h)
+
       by : (d : Bool) → (m == j) ≡ d → Later (λ i c y. P c y) (requests g m id e n).clients j x
       by true q =
           let same = eqb-true m j q in
           let first : client_at before.clients j ≡ Some (told_one es text x) =
           ap (λ i. client_at (at_client i (told_one es text) g.clients) j) same ∙ (at_same j (told_one es text) g.clients ∙ ap (option_map (told_one es text)) t) in
-          record { now = hears_lines (told_one es text x); there = at_every hears_lines before.clients j ∙ ap (option_map hears_lines) first; so = this same }
+          record { now = hears_all (told_one es text x); there = heard (told_one es text x) first; so = this same }
       by false q = record {
-        now = hears_lines x;
-        there = at_every hears_lines before.clients j ∙ ap (option_map hears_lines) (at_other m j (told_one es text) g.clients (eqb-false m j q) ∙ t);
+        now = hears_all x;
+        there = heard x (at_other m j (told_one es text) g.clients (eqb-false m j q) ∙ t);
         so = others (eqb-false m j q);
       }
 
   heard_request : (j : ℕ) (x : Client) → client_at g.clients j ≡ Some x → Later (λ i c d. Hears g (requests g m id e n) c d) (requests g m id e n).clients j x
   heard_request j x t =
       let text = replied id (reply_to g (in_session n e.act)) in
-      request_there (Hears g (requests g m id e n)) j x t (λ same. one_hears (text ∷ []) x (told_one before.entries text x) (refl, tt) (told_more before.entries text x) refl refl)
-      (λ ne. one_hears [] x x tt (sym (append-nil (told x))) refl refl)
+      request_there (Hears g (requests g m id e n)) j x t (λ same. one_hears (text ∷ []) x (told_one before.entries text x) (refl, tt) refl (told_more before.entries text x) refl refl)
+      (λ ne. one_hears [] x x tt refl (sym (append-nil (told x))) refl refl)
 
-  fewer_heard : (x : Client) → length (hears_lines x).subs ≤ length x.subs
+  fewer_heard : (x : Client) → length (hears_all x).subs ≤ length x.subs
   fewer_heard x = subst (λ (z : List Sub). length z ≤ length x.subs)
-      (sym (ap (λ (v : Seer). filter (λ s. not (ends_in (step g.machine asking).lines s.feed)) v.subs) (seer_telling before.entries (told_of before asking.act (step g.machine asking) x) x)))
+      (sym (ap (λ (v : Seer). v.subs) (seer_telling before.entries (shape_for (hears_lines x).role making) (hears_lines x))
+      ∙ ap (λ (v : Seer). filter (λ s. not (ends_in (step g.machine asking).lines s.feed)) v.subs) (seer_telling before.entries (told_of before asking.act (step g.machine asking) x) x)))
       (fewer_left (λ s. not (ends_in (step g.machine asking).lines s.feed)) x.subs)
 
   bounded_request : (j : ℕ) (x : Client) → client_at g.clients j ≡ Some x → length x.subs ≤ most_subs → Later (λ i c d. length d.subs ≤ most_subs) (requests g m id e n).clients j x
@@ -345,7 +380,7 @@ heard_answer g m h a j x t = by (m == j) refl
         record {
           now = a.change x;
           there = ap (λ z. client_at z j) a.clients ∙ (ap (λ n. client_at (at_client n a.change g.clients) j) same ∙ (at_same j a.change g.clients ∙ ap (option_map a.change) t));
-          so = quietly (record { more = a.text ∷ []; told = a.told x; calm = one_calm a.text a.calm }) a.entries;
+          so = quietly (record { more = a.text ∷ []; told = a.told x; calm = one_calm a.text a.calm; unmade = ap (λ b. cond b (a.text ∷ []) []) a.unmade }) a.entries;
         }
     by false q = record {
       now = x;

@@ -9,13 +9,13 @@ use Rattle.iv_rows.specs.Options.{if_some}
 use Rattle.iv_access.specs.Rights.{Name}
 use Rattle.iv_machine.specs.Machine.{difference, step}
 use Rattle.iv_machine.specs.Sound.{IsSoundState}
-use Rattle.iv_message.specs.Told.{Told, alive, changed, settled, welcome}
+use Rattle.iv_message.specs.Told.{Told, alive, changed, settled}
 use Rattle.iv_clients.specs.Clients.{Client, Shown, Slots, Sub, answered, at_all, at_client, beating, checked, client_at, dropping, fresh, handing, is_slow, may_say, opens, released, saying, settling, told, told_one}
 use Rattle.iv_clients.specs.Feeds.{is_of_role}
 use Rattle.iv_clients.specs.Journal.{Entry, said_by}
 use Rattle.iv_clients.specs.Tokens.{Token}
 use Rattle.iv_gate.specs.Events.{Event, presented, message, gone, known, ticked, synced, handed, failed, happens, next}
-use Rattle.iv_gate.specs.Gate.{Gate, all_rested, all_swept, done_for, hears, role_for, said, settles, tells, told_of, with_session}
+use Rattle.iv_gate.specs.Gate.{Gate, all_rested, all_swept, done_for, hears, role_for, said, settles, told_of, with_session}
 use Rattle.iv_gate.specs.Replies.{told_by}
 use Rattle.iv_gate.proofs.Calm.{all_rested_clients, all_swept_clients, sound_kit, with_clients}
 use Rattle.iv_gate.proofs.Growing.{Grown, assoc, drop_front, grows}
@@ -29,6 +29,8 @@ use Rattle.iv_gate.proofs.Sitting.{at_all_swept}
 use Rattle.iv_gate.proofs.Sound.{IsSoundGate, Sounds, seer}
 use Rattle.iv_gate.proofs.Touching.{alive as is_alive, at_every, at_other, at_same, came_as, came_sign, leaves_at, not_free, one_some, opens_role, rests, set_other, went_sign}
 use Rattle.iv_gate.proofs.Walking.{Later, to_done, to_settles, to_then}
+use Rattle.iv_gate.specs.Laws.{is_made}
+use Rattle.std.proofs.lemmas.List.Elements.{filter-append}
 
 -- ---- one step and the next
 
@@ -38,6 +40,7 @@ after_calm g h i c z y machine entries m subs given (quietly a n) = quietly (rec
   more = a.more ++ m.more;
   told = m.told ∙ (ap (λ x. x ++ m.more) a.told ∙ assoc (told c) a.more m.more);
   calm = both_calm a.more m.more a.calm m.calm;
+  unmade = filter-append is_made a.more m.more ∙ (λ i. a.unmade i ++ m.unmade i);
 }) (entries ∙ n)
 after_calm g h i c z y machine entries m subs given (by_command a) =
     let news = told_of g a.command.act (step g.machine a.command) c in
@@ -54,6 +57,8 @@ after_calm g h i c z y machine entries m subs given (by_command a) =
       told = m.told ∙ (ap (λ x. x ++ m.more) a.told ∙ (assoc (told c) (a.front ++ (news ++ a.back)) m.more
           ∙ ap (λ x. told c ++ x) (assoc a.front (news ++ a.back) m.more ∙ ap (λ x. a.front ++ x) (assoc news a.back m.more))));
       calm = (a.calm.0, both_calm a.back m.more a.calm.1 m.calm);
+      unmade = a.unmade;
+      shape = filter-append is_made a.back m.more ∙ ((λ i. a.shape i ++ m.unmade i) ∙ append-nil _);
       subs = subs ∙ a.subs;
     })
 after_calm g h i c z y machine entries m subs given (by_contents a n) =
@@ -65,6 +70,7 @@ after_calm g h i c z y machine entries m subs given (by_contents a n) =
       back = a.back ++ m.more;
       told = m.told ∙ (ap (λ x. x ++ m.more) a.told ∙ (assoc (told c) (a.front ++ (news ∷ a.back)) m.more ∙ ap (λ x. told c ++ x) (assoc a.front (news ∷ a.back) m.more)));
       calm = (a.calm.0, both_calm a.back m.more a.calm.1 m.calm);
+      unmade = (a.unmade.0, filter-append is_made a.back m.more ∙ (λ i. a.unmade.1 i ++ m.unmade i));
       given = subst (λ x. c.given + 1 ≤ x) (sym given) a.given;
       follows = ap (list_any (λ (x : Sub). (c.given + 1) == x.own)) subs ∙ a.follows;
       some = a.some;
@@ -74,7 +80,7 @@ settled_calm : (es : List Entry) (c : Client) → IsCalm c (settling es c)
 settled_calm es c = by c.owed
   where
     by : (b : Bool) → IsCalm c (cond b (record (told_one es settled c) { owed = false }) c)
-    by true = record { more = settled ∷ []; told = told_more es settled c; calm = one_calm settled refl }
+    by true = record { more = settled ∷ []; told = told_more es settled c; calm = one_calm settled refl; unmade = refl }
     by false = nothing c c refl
 
 pub settled_same : (es : List Entry) (c : Client) → ((settling es c).subs ≡ c.subs) × ((settling es c).given ≡ c.given)
@@ -86,7 +92,7 @@ settled_same es c = by c.owed
 
 -- a message counts as said, whatever it is
 said_hears : (g : Gate) (slots : Slots) (h : Gate) (text : List ℕ) (c z : Client) → Hears (record g { clients = slots }) h (saying text c) z → Hears g h c z
-said_hears g slots h text c z (quietly a n) = quietly (record { more = a.more; told = a.told; calm = a.calm }) n
+said_hears g slots h text c z (quietly a n) = quietly (record { more = a.more; told = a.told; calm = a.calm; unmade = a.unmade }) n
 said_hears g slots h text c z (by_command a) = by_command (record {
   command = a.command;
   shared = a.shared;
@@ -99,6 +105,8 @@ said_hears g slots h text c z (by_command a) = by_command (record {
   back = a.back;
   told = a.told;
   calm = a.calm;
+  unmade = a.unmade;
+  shape = a.shape;
   subs = a.subs;
 })
 said_hears g slots h text c z (by_contents a n) = by_contents (record {
@@ -108,6 +116,7 @@ said_hears g slots h text c z (by_contents a n) = by_contents (record {
   back = a.back;
   told = a.told;
   calm = a.calm;
+  unmade = a.unmade;
   given = a.given;
   follows = a.follows;
   some = a.some;
@@ -127,6 +136,8 @@ other_hears g slots h c z (by_command a) = by_command (record {
   back = a.back;
   told = a.told;
   calm = a.calm;
+  unmade = a.unmade;
+  shape = a.shape;
   subs = a.subs;
 })
 other_hears g slots h c z (by_contents a n) = by_contents a n
@@ -210,23 +221,22 @@ said_all sounds g b m text j c d t live k = by (client_at g.clients m) refl k
 
 -- ---- who comes and goes
 
--- where another comes, it stays as it is, or is told that this is all
-pub came_turns : (g : Gate) → IsSoundGate g → (m : ℕ) (token : List ℕ) (j : ℕ) (c d : Client) → client_at g.clients j ≡ Some c → client_at (happens g (presented m token)).clients j ≡ Some d
-    → (P : Type 0) → (c ≡ d → P) → ((es : List Entry) → settling es c ≡ d → P) → P
-came_turns g b m token j c d t k P same turned = by (role_for g m token) refl k
+-- where another comes, it stays as it is
+pub came_stays : (g : Gate) → IsSoundGate g → (m : ℕ) (token : List ℕ) (j : ℕ) (c d : Client) → client_at g.clients j ≡ Some c → client_at (happens g (presented m token)).clients j ≡ Some d → c ≡ d
+came_stays g b m token j c d t k = by (role_for g m token) refl k
   where
-    by : (o : Option Name) → role_for g m token ≡ o → client_at (if_some o g (came_as g m token)).clients j ≡ Some d → P
-    by None e x = same (same_slot g.clients j c d t x)
+    by : (o : Option Name) → role_for g m token ≡ o → client_at (if_some o g (came_as g m token)).clients j ≡ Some d → c ≡ d
+    by None e x = same_slot g.clients j c d t x
     by (Some role) e x =
-        let i = with_session g role in let put = set i.clients m (Some (fresh role (sha256 token))) in
-        let there : client_at (tells (record i { clients = put }) m (welcome role)).clients j ≡ Some c =
-        at_other m j (told_one i.entries (welcome role)) put ne ∙ (set_other m j (Some (fresh role (sha256 token))) i.clients ne ∙ (ap (λ z. client_at z j) (with_clients g role b.state) ∙ t)) in
-        turned i.entries (one_some (settling i.entries c) d (sym (at_every (settling i.entries) (tells (record i { clients = put }) m (welcome role)).clients j ∙ ap (option_map (settling i.entries)) there) ∙ x))
+        let i = with_session g role in
+        let there : client_at (came_as g m token role).clients j ≡ Some c =
+        set_other m j (Some (fresh i.entries role (sha256 token))) i.clients ne ∙ (ap (λ z. client_at z j) (with_clients g role b.state) ∙ t) in
+        one_some c d (sym there ∙ x)
       where
         ne : m ≡ j → ⊥
         ne one = false≢true (sym (not_free m c g.clients (ap (client_at g.clients) one ∙ t)) ∙ (opens_role g m token role e).free)
 
--- and so where another goes
+-- where another goes, it stays as it is, or is told that this is all
 pub went_turns : Sounds → (g : Gate) → IsSoundGate g → (m j : ℕ) (c d : Client) → client_at g.clients j ≡ Some c → client_at (happens g (gone m)).clients j ≡ Some d
     → (P : Type 0) → (c ≡ d → P) → ((es : List Entry) → settling es c ≡ d → P) → P
 went_turns sounds g b m j c d t k P same turned = test_by (m == j) refl
@@ -304,13 +314,13 @@ came_entries g m token = by (role_for g m token)
 happens_all : Sounds → (g : Gate) (e : Event) → IsSoundGate g → (j : ℕ) (c d : Client) → client_at g.clients j ≡ Some c → c.dropped ≡ false → client_at (happens g e).clients j ≡ Some d → d.dropped ≡ false
     → Hears g (happens g e) c d
 happens_all sounds g (presented m token) b j c d t live k s =
-    let h = happens g (presented m token) in let same = came_entries g m token in came_turns g b m token j c d t k (Hears g h c d) (λ e. quietly (nothing c d (ap told (sym e))) same) (λ es e. subst (Hears g h c) e (quietly (settled_calm es c) same))
+    let h = happens g (presented m token) in let same = came_entries g m token in quietly (nothing c d (ap told (sym (came_stays g b m token j c d t k)))) same
 happens_all sounds g (message m text) b j c d t live k s = said_all sounds g b m text j c d t live k
 happens_all sounds g (gone m) b j c d t live k s =
     let h = happens g (gone m) in let same = ap (λ (x : Sign). x.entries) (went_sign g m) in went_turns sounds g b m j c d t k (Hears g h c d) (λ e. quietly (nothing c d (ap told (sym e))) same) (λ es e. subst (Hears g h c) e (quietly (settled_calm es c) same))
 happens_all sounds g (known tokens) b j c d t live k s = quietly (nothing c d (told_checked tokens c d (every_is (checked tokens) g.clients j c d t k) s)) refl
 happens_all sounds g ticked b j c d t live k s =
-    subst (Hears g (happens g ticked) c) (every_is (beating g.entries) g.clients j c d t k) (quietly (record { more = alive ∷ []; told = told_more g.entries alive c; calm = one_calm alive refl }) refl)
+    subst (Hears g (happens g ticked) c) (every_is (beating g.entries) g.clients j c d t k) (quietly (record { more = alive ∷ []; told = told_more g.entries alive c; calm = one_calm alive refl; unmade = refl }) refl)
 happens_all sounds g synced b j c d t live k s = quietly (nothing c d (told_released c d (every_is released g.clients j c d t k) s)) refl
 happens_all sounds g (handed m) b j c d t live k s = handed_all g (happens g (handed m)) m j c d refl t k
 happens_all sounds g failed b j c d t live k s = same_hears g (happens g failed) g.clients j c d refl t k

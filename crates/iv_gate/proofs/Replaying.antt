@@ -17,7 +17,6 @@ use Rattle.iv_machine.specs.State.{State, Frame, Session, Subscription, actor, i
 use Rattle.iv_clients.specs.Bounds.{entry_session}
 use Rattle.iv_clients.specs.Journal.{Entry, IsEntry, is_shared}
 use Rattle.iv_gate.specs.Gate.{in_session, is_accepted, reply_in}
-use Rattle.iv_gate.specs.Laws.{SameShared}
 use Rattle.iv_gate.specs.Replies.{ActsAs}
 use Rattle.iv_gate.specs.Restoring.{all_replayed, passed, replayed}
 use Rattle.iv_gate.proofs.Asking.{accepted_by}
@@ -31,6 +30,13 @@ pub record IsQuiet (s : State) : Type 0 where
   pub sessions : s.frame.sessions ≡ []
   pub subscriptions : s.frame.subscriptions ≡ []
 
+-- all that is shared is the same; sessions, subscriptions and their numbers are not
+pub record SameShared (s t : State) : Type 0 where
+  pub cap : s.frame.cap ≡ t.frame.cap
+  pub rights : s.frame.rights ≡ t.frame.rights
+  pub catalog : s.frame.catalog ≡ t.frame.catalog
+  pub rows : s.rows ≡ t.rows
+
 pub all_same : (s : State) → SameShared s s
 all_same s = record { cap = refl; rights = refl; catalog = refl; rows = refl }
 
@@ -38,15 +44,15 @@ pub same_then : (s t u : State) → SameShared s t → SameShared t u → SameSh
 same_then s t u h k = record { cap = h.cap ∙ k.cap; rights = h.rights ∙ k.rights; catalog = h.catalog ∙ k.catalog; rows = h.rows ∙ k.rows }
 
 -- a state of these parts
-abbrev state_of : ℕ → Rights → List CatalogEntry → List Session → List Subscription → ℕ → Lists → State
+abbrev pub state_of : ℕ → Rights → List CatalogEntry → List Session → List Subscription → ℕ → Lists → State
 state_of cap R C ss es last T = record { frame = record { cap = cap; rights = R; catalog = C; sessions = ss; subscriptions = es; last = last }; rows = T }
 
 -- nobody is there but the session of an entry
-abbrev alone : ℕ → Rights → List CatalogEntry → ℕ → ℕ → Lists → State
+abbrev pub alone : ℕ → Rights → List CatalogEntry → ℕ → ℕ → Lists → State
 alone cap R C role last T = state_of cap R C (record { number = entry_session; role = role } ∷ []) [] last T
 
 -- a quiet state that shares all with another has its parts
-quiet_parts : (s t : State) → SameShared s t → IsQuiet t → t ≡ state_of s.frame.cap s.frame.rights s.frame.catalog [] [] t.frame.last s.rows
+pub quiet_parts : (s t : State) → SameShared s t → IsQuiet t → t ≡ state_of s.frame.cap s.frame.rights s.frame.catalog [] [] t.frame.last s.rows
 quiet_parts s t same quiet =
     ap (λ z. state_of z t.frame.rights t.frame.catalog t.frame.sessions t.frame.subscriptions t.frame.last t.rows) (sym same.cap)
     ∙ (ap (λ z. state_of s.frame.cap z t.frame.catalog t.frame.sessions t.frame.subscriptions t.frame.last t.rows) (sym same.rights)
@@ -81,7 +87,7 @@ changed s k = settled k.act (after s k.session k.act)
 pub accepted_state : (s : State) (k : Command) → refusal s k.session k.act ≡ None → (step s k).state ≡ changed s k
 accepted_state s k h = ap (λ o. (outcome s k o).state) h
 
-passes : (s : State) (k : Command) → refusal s k.session k.act ≡ None → passed s k ≡ Some (changed s k)
+pub passes : (s : State) (k : Command) → refusal s k.session k.act ≡ None → passed s k ≡ Some (changed s k)
 passes s k h =
     ap (λ o. cond (is_accepted (reply_in (outcome s k o).lines)) (Some (outcome s k o).state) None) h
     ∙ ap (λ b. cond b (Some (changed s k)) None) (replies_well s.frame k.act)
@@ -184,7 +190,7 @@ still_accepted cap R C ss es last later T n role act x acts h =
     (rows_tests cap R C ss es last later T n role act x (later_none (frame_refusal s.frame n act) (rows_refusal s n act) h))
 
 -- where an entry leads that is run alone
-abbrev left : ℕ → Rights → List CatalogEntry → ℕ → ℕ → Lists → Act → State
+abbrev pub left : ℕ → Rights → List CatalogEntry → ℕ → ℕ → Lists → Act → State
 left cap R C role last T act = settled finish (after (settled act (after (alone cap R C role last T) entry_session act)) entry_session finish)
 
 -- the same is changed
@@ -211,7 +217,7 @@ pub record IsLeft (cap : ℕ) (R : Rights) (C : List CatalogEntry) (role last : 
   pub finishes : refusal (settled act (after (alone cap R C role last T) entry_session act)) entry_session finish ≡ None
   pub quiet : IsQuiet (left cap R C role last T act)
 
-is_left : (cap : ℕ) (R : Rights) (C : List CatalogEntry) (role last : ℕ) (T : Lists) (act : Act) → is_shared act ≡ true → IsLeft cap R C role last T act
+pub is_left : (cap : ℕ) (R : Rights) (C : List CatalogEntry) (role last : ℕ) (T : Lists) (act : Act) → is_shared act ≡ true → IsLeft cap R C role last T act
 is_left cap R C role last T (begin name) x = absurd (false≢true x)
 is_left cap R C role last T finish x = absurd (false≢true x)
 is_left cap R C role last T (subscribe rel) x = absurd (false≢true x)
@@ -302,9 +308,21 @@ and_some (Some u) = refl
 pub replayed_one : (s : State) (e : Entry) → all_replayed s (e ∷ []) ≡ replayed s e
 replayed_one s e = and_some (replayed s e)
 
--- an entry leads from where nobody is to where nobody is
-quiet_replayed : (s t : State) (e : Entry) → is_shared e.act ≡ true → IsQuiet s → replayed s e ≡ Some t → IsQuiet t
-quiet_replayed s t e x quiet h =
+passed_none : (s t : State) (k : Command) → passed s k ≡ Some t → refusal s k.session k.act ≡ None
+passed_none s t k h = by (refusal s k.session k.act) refl h
+  where
+    by : (o : Option Refusal) → refusal s k.session k.act ≡ o → cond (is_accepted (reply_in (outcome s k o).lines)) (Some (outcome s k o).state) None ≡ Some t → refusal s k.session k.act ≡ None
+    by None r e = r
+    by (Some x) r e = absurd (some_is_none t (sym e))
+
+-- what an entry that is accepted where nobody is had accepted, and where it leads
+pub record WasLed (s t : State) (e : Entry) : Type 0 where
+  pub begun : refusal (state_of s.frame.cap s.frame.rights s.frame.catalog [] [] s.frame.last s.rows) entry_session (begin e.role) ≡ None
+  pub acted : refusal (alone s.frame.cap s.frame.rights s.frame.catalog (role_number s.frame.rights e.role) s.frame.last s.rows) entry_session e.act ≡ None
+  pub ended : t ≡ left s.frame.cap s.frame.rights s.frame.catalog (role_number s.frame.rights e.role) s.frame.last s.rows e.act
+
+pub was_led : (s t : State) (e : Entry) → IsQuiet s → replayed s e ≡ Some t → WasLed s t e
+was_led s t e quiet h =
     let R = s.frame.rights in let role = role_number R e.role in
     let p = state_of s.frame.cap R s.frame.catalog [] [] s.frame.last s.rows in
     let u = alone s.frame.cap R s.frame.catalog role s.frame.last s.rows in
@@ -317,7 +335,16 @@ quiet_replayed s t e x quiet h =
     let acted : b.mid ≡ v = passed_is u b.mid (in_session entry_session e.act) b.one in
     let ended : t ≡ left s.frame.cap R s.frame.catalog role s.frame.last s.rows e.act =
     passed_is v t (in_session entry_session finish) (subst (λ z. passed z (in_session entry_session finish) ≡ Some t) acted b.two) in
-    subst IsQuiet (sym ended) (is_left s.frame.cap R s.frame.catalog role s.frame.last s.rows e.act x).quiet
+    record {
+      begun = passed_none p a.mid (in_session entry_session (begin e.role)) a.one;
+      acted = passed_none u b.mid (in_session entry_session e.act) b.one;
+      ended = ended;
+    }
+
+-- an entry leads from where nobody is to where nobody is
+pub quiet_replayed : (s t : State) (e : Entry) → is_shared e.act ≡ true → IsQuiet s → replayed s e ≡ Some t → IsQuiet t
+quiet_replayed s t e x quiet h =
+    subst IsQuiet (sym (was_led s t e quiet h).ended) (is_left s.frame.cap s.frame.rights s.frame.catalog (role_number s.frame.rights e.role) s.frame.last s.rows e.act x).quiet
 
 pub all_quiet : (s t : State) (es : List Entry) → AllByRecursion IsEntry es → IsQuiet s → all_replayed s es ≡ Some t → IsQuiet t
 all_quiet s t [] w quiet h = subst IsQuiet (one_some s t h) quiet

@@ -6,25 +6,26 @@ use Rattle.serde_json.specs.Data.{Data}
 use Rattle.iv_rows.specs.Columns.{Column}
 use Rattle.iv_rows.specs.Options.{if_some}
 use Rattle.iv_access.specs.Rights.{Name}
-use Rattle.iv_machine.specs.Act.{Act, begin, finish, create_role, create_table, create_view, grant, revoke, grant_role, revoke_role, row_security, create_policy, drop_policy, subscribe, unsubscribe, write, Command, Reply, done, subscribed, refused, no_session, too_many, unknown_subscription}
+use Rattle.iv_machine.specs.Act.{Act, begin, finish, create_role, create_table, create_view, grant, revoke, grant_role, revoke_role, row_security, create_policy, drop_policy, subscribe, unsubscribe, write, Command, Reply, done, subscribed, refused, no_session, too_many, unknown_subscription, limit}
 use Rattle.iv_machine.specs.Machine.{step}
 use Rattle.iv_message.specs.Message.{Message, no_json, too_long, no_object, no_request, request}
 use Rattle.iv_message.specs.Told.{Told, replied, opened, fault, unasked}
 use Rattle.iv_clients.specs.Bounds.{most_subs}
-use Rattle.iv_clients.specs.Clients.{Client, Slots, Sub, answered, at_all, at_client, client_at, closing, followed, following, is_followed, moved, saying, settling, staying, telling, told, told_one}
+use Rattle.iv_clients.specs.Clients.{Client, Slots, Sub, answered, at_all, at_client, client_at, closing, followed_by, following, is_followed, moved, saying, settling, staying, telling, told, told_one}
 use Rattle.iv_clients.specs.Feeds.{Feed, feed_for, feed_of, is_reading, room_for, seat_of, without_feed}
-use Rattle.iv_clients.specs.Journal.{Entry, line_said, said_by}
-use Rattle.iv_gate.specs.Gate.{Gate, acts, begun_for, closes, columns_in, done_for, entered, feed_begun, hears, in_session, is_accepted, joined, joined_by, joins, next_own, ran, reads, reads_first, reply_to, requests, seated, settles, shut, subscribes, swept, tells, told_of}
-use Rattle.iv_gate.specs.Replies.{is_opened, reading_told, replies}
+use Rattle.iv_clients.specs.Journal.{Entry, line_said, said_by, shape_for}
+use Rattle.iv_gate.specs.Gate.{Gate, acts, begun_for, closes, columns_in, done_for, entered, feed_begun, hears, in_session, is_accepted, joined, joined_by, joins, next_own, ran, reads, reads_first, reply_to, requests, seated, settles, shut, subscribes, swept, tells, told_of, informs, entries_of, has_shape_room}
+use Rattle.iv_gate.specs.Replies.{is_opened, reading_told, replies, is_reply}
 use Rattle.iv_gate.specs.Seen.{is_end_of}
 use Rattle.iv_gate.proofs.Growing.{Grown, assoc, grows}
-use Rattle.iv_gate.proofs.Hearing.{Began, BeginsQuietly, Hears, began_same, ends_for, hears_move, hears_ran, hears_rest, hears_same, hears_then, is_own, seated_began}
+use Rattle.iv_gate.proofs.Hearing.{Began, BeginsQuietly, Hears, began_same, ends_for, hears_move, hears_ran, hears_rest, hears_same, hears_then, is_own, seated_began, hears_all}
 use Rattle.iv_gate.proofs.Places.{any_before, any_behind, any_of_both, none_replied}
 use Rattle.iv_gate.proofs.Serving.{told_answered}
 use Rattle.iv_gate.proofs.Sound.{Seer, any_left, seer_one}
 use Rattle.iv_gate.proofs.Summing.{neither, same_self}
 use Rattle.iv_gate.proofs.Touching.{at_every, at_same, one_some}
 use Rattle.iv_gate.proofs.Walking.{Later, to_done, to_settles, to_then}
+use Rattle.iv_gate.proofs.Shaping.{all_made}
 
 -- ---- its own message
 
@@ -231,6 +232,10 @@ module _ (m : ℕ) where
   pub behind_settles : (g : Gate) → Behind m g.clients (settles g).clients
   behind_settles g = behind_all (settling g.entries) (λ c. hears_rest g.entries c) g.clients
 
+  pub behind_informs : (g : Gate) (es : List Entry) → Behind m g.clients (informs g es).clients
+  behind_informs g es = behind_all (λ c. telling g.entries (shape_for c.role es) c)
+      (λ c. hears_all g.entries (shape_for c.role es) c (all_made (λ t. is_reply t ≡ false) (λ role line. refl) c.role es)) g.clients
+
   behind_shut : (g : Gate) (f : Feed) → Behind m g.clients (shut g f).clients
   behind_shut g f = behind_ran (record g { feeds = without_feed f.number g.feeds }) (in_session f.session (unsubscribe f.number))
 
@@ -273,7 +278,7 @@ abbrev pub act_reply : Gate → Client → Option Data → Act → Told
 act_reply g c id (begin role) = fault 2
 act_reply g c id finish = fault 2
 act_reply g c id (subscribe rel) = read_reply g c id rel
-act_reply g c id (unsubscribe own) = replied id (if is_some (followed c own) then done else refused unknown_subscription)
+act_reply g c id (unsubscribe own) = replied id (if is_some (followed_by c.subs own) then done else refused unknown_subscription)
 act_reply g c id act = other_reply g c id act
 
 abbrev pub said_reply : Gate → Client → Message → Told
@@ -281,7 +286,7 @@ said_reply g c no_json = fault 1
 said_reply g c too_long = fault 22
 said_reply g c no_object = fault 2
 said_reply g c (no_request id why) = unasked id why
-said_reply g c (request id act) = act_reply g c id act
+said_reply g c (request id act) = cond (has_shape_room g act) (act_reply g c id act) (replied id (refused limit))
 
 -- ---- the walk
 
@@ -356,8 +361,8 @@ module _ (g : Gate) (m : ℕ) (c : Client) (text : List ℕ) where
       test false = answers_plain g s (replied id (refused too_many)) m (saying text c) refl e
 
   answers_closes : (id : Option Data) (own : ℕ) → client_at g.clients m ≡ Some (saying text c)
-      → Answers g (request id (unsubscribe own)) (replied id (if is_some (followed c own) then done else refused unknown_subscription)) m (saying text c) (closes g m c id own).clients
-  answers_closes id own e = by (followed c own)
+      → Answers g (request id (unsubscribe own)) (replied id (if is_some (followed_by c.subs own) then done else refused unknown_subscription)) m (saying text c) (closes g m c id own).clients
+  answers_closes id own e = by (followed_by c.subs own)
     where
       h : Gate
       h = record g { clients = at_client m (closing own) g.clients }
@@ -382,8 +387,10 @@ module _ (g : Gate) (m : ℕ) (c : Client) (text : List ℕ) where
       by None = answers_plain g s (replied id (refused no_session)) m (saying text c) refl e
       by (Some n) =
           let k = in_session n act in let r = reply_to g k in let h = entered g (record { role = c.role; line = line_said text; act = act }) (is_accepted r) in
-          answers_then g s (replied id r) m (saying text c) (tells h m (replied id r)).clients (ran (tells h m (replied id r)) k).clients
-          (answers_tells g h s (replied id r) m (saying text c) (saying text c) (began_same g (saying text c)) refl e) (behind_ran m (tells h m (replied id r)) k)
+          let i = tells h m (replied id r) in let more = entries_of (record { role = c.role; line = line_said text; act = act }) (is_accepted r) in
+          answers_then g s (replied id r) m (saying text c) i.clients (informs (ran i k) more).clients
+          (answers_tells g h s (replied id r) m (saying text c) (saying text c) (began_same g (saying text c)) refl e)
+          (behind_then m i.clients (ran i k).clients (informs (ran i k) more).clients (behind_ran m i k) (behind_informs m (ran i k) more))
 
   answers_acts : (id : Option Data) (act : Act) → client_at g.clients m ≡ Some (saying text c) → Answers g (request id act) (act_reply g c id act) m (saying text c) (acts g m c id text act).clients
   answers_acts id (begin role) e = answers_plain g (request id (begin role)) (fault 2) m (saying text c) refl e
@@ -407,7 +414,11 @@ module _ (g : Gate) (m : ℕ) (c : Client) (text : List ℕ) where
   answers_done too_long e = answers_plain g too_long (fault 22) m (saying text c) refl e
   answers_done no_object e = answers_plain g no_object (fault 2) m (saying text c) refl e
   answers_done (no_request id why) e = answers_plain g (no_request id why) (unasked id why) m (saying text c) refl e
-  answers_done (request id act) e = answers_acts id act e
+  answers_done (request id act) e = by (has_shape_room g act)
+    where
+      by : (b : Bool) → Answers g (request id act) (cond b (act_reply g c id act) (replied id (refused limit))) m (saying text c) (cond b (acts g m c id text act) (tells g m (replied id (refused limit)))).clients
+      by true = answers_acts id act e
+      by false = answers_plain g (request id act) (replied id (refused limit)) m (saying text c) refl e
 
 -- ---- a message that is heard
 

@@ -15,7 +15,7 @@ use Rattle.iv_clients.specs.Journal.{Entry, IsEntry, begins_object, entry_text, 
 use Rattle.iv_clients.specs.Parsed.{entry_in, entry_parts, named_entry}
 use Rattle.iv_clients.specs.Tokens.{behind, cut_at}
 use Rattle.iv_gate.specs.Laws.{IsFront}
-use Rattle.iv_gate.specs.Restoring.{is_torn, most_torn}
+use Rattle.iv_gate.specs.Restoring.{is_torn}
 use Rattle.iv_gate.proofs.Requesting.{IsShort, act_asked, none_behind, none_in_front}
 use Rattle.iv_gate.proofs.Growing.{assoc}
 use Rattle.iv_gate.proofs.Joining.{and_both}
@@ -182,7 +182,7 @@ begins_so (suc (suc (suc (suc (suc zero))))) xs = refl
 begins_so (suc (suc (suc (suc (suc (suc zero)))))) xs = refl
 begins_so (suc (suc (suc (suc (suc (suc (suc n))))))) xs = ap (λ z. bytes_eq (codes "{\"as\":\"") (codes "{\"as\":\"" ++ z)) (take_nothing (length (take n xs)))
 
-line_fits : (e : Entry) → IsEntry e → IsShort e → length (line_of e) ≤ most_torn
+line_fits : (e : Entry) → IsEntry e → IsShort e → length (line_of e) ≤ (most_said + 71)
 line_fits e w h =
     let role : length e.role ≤ 63 = leb-true (length e.role) 63 (and_both _ _ (and_both _ _ (and_both _ _ w.role).1).1).0 in
     let line : suc (length (drop 1 e.line)) ≡ length e.line = ap length (with_its_brace e.line w.brace) in
@@ -201,7 +201,7 @@ front_length n m xs h = le-leb (length (take n xs)) m (shorter (length (take n x
 torn_line : (e : Entry) → IsEntry e → IsShort e → (n : ℕ) → is_torn (take n (line_of e)) ≡ true
 torn_line e w s n =
     (λ i. not (none_in_front (λ b. b == 10) n (line_of e) (line_of_one e w) i)
-    && (front_length n most_torn (line_of e) (line_fits e w s) i && begins_so n (e.role ++ (codes "\"," ++ drop 1 e.line)) i))
+    && (front_length n (most_said + 71) (line_of e) (line_fits e w s) i && begins_so n (e.role ++ (codes "\"," ++ drop 1 e.line)) i))
 
 over : (l n : ℕ) → nat_le l n ≡ true → n ≡ l + (n - l)
 over l n h = grind (arith, nat_tests)

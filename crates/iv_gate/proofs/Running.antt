@@ -12,20 +12,21 @@ use Rattle.iv_machine.specs.Held.{closed_by, closed_in}
 use Rattle.iv_machine.specs.Machine.{step}
 use Rattle.iv_machine.specs.Refusing.{refusal}
 use Rattle.iv_machine.specs.State.{State}
-use Rattle.iv_message.specs.Told.{Told, alive, settled}
-use Rattle.iv_clients.specs.Clients.{Client, Shown, Slots, Sub, at_all, at_client, beating, checked, client_at, closing, dropping, handing, is_followed, is_slow, opens, released, settling, told, told_one}
+use Rattle.iv_message.specs.Told.{Told, alive, settled, made}
+use Rattle.iv_clients.specs.Clients.{Client, Shown, Slots, Sub, at_all, at_client, beating, checked, client_at, closing, dropping, handing, is_followed, is_slow, opens, released, settling, told, told_one, telling, greeting}
 use Rattle.iv_clients.specs.Feeds.{Feed, feed_of, without_feed}
-use Rattle.iv_clients.specs.Journal.{Entry}
+use Rattle.iv_clients.specs.Journal.{Entry, shape_for}
 use Rattle.iv_clients.specs.Tokens.{Token}
 use Rattle.iv_gate.specs.Events.{hands, knowing, on_disk, ticking}
-use Rattle.iv_gate.specs.Gate.{Gate, all_swept, in_session, ran, settles, shut, swept, tells}
+use Rattle.iv_gate.specs.Gate.{Gate, all_swept, in_session, ran, settles, shut, swept, tells, informs}
 use Rattle.iv_gate.specs.Replies.{ActsAs}
 use Rattle.iv_gate.specs.Seen.{is_end_of}
 use Rattle.iv_gate.proofs.Growing.{assoc}
-use Rattle.iv_gate.proofs.Machine.{find_passes, is_kept, not_finish, some_is_none}
-use Rattle.iv_gate.proofs.Sound.{Adds, IsFeed, IsFollowing, IsSoundClient, IsSoundGate, Seer, Sounds, Spares, acts_on, any_more, asked_said, asked_told, feed_step, filter_all, from, left_of, or_none, own_left, ran_ready, seer, seer_one, taken}
+use Rattle.iv_gate.proofs.Machine.{find_passes, is_kept, some_is_none, not_finish}
+use Rattle.iv_gate.proofs.Sound.{Adds, IsFeed, IsFollowing, IsSoundClient, IsSoundGate, Seer, Sounds, Spares, any_more, asked_said, asked_told, feed_step, filter_all, from, left_of, or_none, own_left, ran_ready, seer, seer_one, taken, seer_telling, telling_dropped, acts_on}
 use Rattle.iv_gate.proofs.Summing.{both, differs_back, neither, nothing_more, sum-append, sum_for}
 use Rattle.iv_gate.proofs.Touching.{at_every, at_other, at_same, one_some}
+use Rattle.iv_gate.proofs.Shaping.{all_made, all_greeting}
 
 pub all_so : {X : Type 0} {P Q : X → Type 0} → ((x : X) → P x → Q x) → (xs : List X) → AllByRecursion P xs → AllByRecursion Q xs
 all_so f [] a = tt
@@ -206,6 +207,24 @@ settling_sound s feeds es c b live = by c.owed live
 
 pub settles_sound : (g : Gate) → IsSoundGate g → IsSoundGate (settles g)
 settles_sound g b = every_sound g (settling g.entries) (λ m c h live. settling_sound g.machine g.feeds g.entries c (b.clients m c h) live) b
+
+quiet_made : (role line : List ℕ) → IsQuiet (made role line)
+quiet_made role line = record { weighs = λ own q. refl; goes_on = λ own. refl }
+
+pub quiet_greeting : (es : List Entry) (role : Name) → AllByRecursion IsQuiet (greeting es role)
+quiet_greeting es role = all_greeting IsQuiet (λ r. record { weighs = λ own q. refl; goes_on = λ own. refl }) quiet_made quiet_settled es role
+
+pub client_told_all : (s : State) (feeds : List Feed) (ts : List Told) (v : Seer) → AllByRecursion IsQuiet ts → IsSoundClient s feeds v → IsSoundClient s feeds (record v { told = v.told ++ ts })
+client_told_all s feeds [] v a b = subst (λ z. IsSoundClient s feeds (record v { told = z })) (sym (append-nil v.told)) b
+client_told_all s feeds (t ∷ ts) v a b =
+    subst (λ z. IsSoundClient s feeds (record v { told = z })) (assoc v.told (t ∷ []) ts)
+    (client_told_all s feeds ts (record v { told = v.told ++ t ∷ [] }) a.1 (client_told s feeds v t a.0 b))
+
+pub informs_sound : (g : Gate) (es : List Entry) → IsSoundGate g → IsSoundGate (informs g es)
+informs_sound g es b = every_sound g (λ c. telling g.entries (shape_for c.role es) c)
+    (λ m c h live. let ts = shape_for c.role es in
+    subst (IsSoundClient g.machine g.feeds) (sym (seer_telling g.entries ts c))
+    (client_told_all g.machine g.feeds ts (seer c) (all_made IsQuiet quiet_made c.role es) (b.clients m c h (sym (telling_dropped g.entries ts c) ∙ live)))) b
 
 pub ticking_sound : (g : Gate) → IsSoundGate g → IsSoundGate (ticking g)
 ticking_sound g b = every_sound g (beating g.entries)

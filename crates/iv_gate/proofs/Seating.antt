@@ -4,18 +4,21 @@ use Rattle.std.specs.Prelude.{◌==◌, ◌&&◌, filter, find, nat_lt}
 use Rattle.serde_json.specs.Data.{Data}
 use Rattle.iv_rows.specs.Options.{if_some}
 use Rattle.iv_access.specs.Rights.{Name}
-use Rattle.iv_machine.specs.Act.{Act, begin, finish, create_role, create_table, create_view, grant, revoke, grant_role, revoke_role, row_security, create_policy, drop_policy, subscribe, unsubscribe, write, Reply, done, subscribed, refused, no_session, too_many, unknown_subscription}
+use Rattle.iv_machine.specs.Act.{Act, begin, finish, create_role, create_table, create_view, grant, revoke, grant_role, revoke_role, row_security, create_policy, drop_policy, subscribe, unsubscribe, write, Reply, done, subscribed, refused, no_session, too_many, unknown_subscription, limit}
 use Rattle.iv_message.specs.Message.{Message, no_json, too_long, no_object, no_request, request}
 use Rattle.iv_message.specs.Told.{replied}
 use Rattle.iv_clients.specs.Bounds.{most_feeds, most_subs}
-use Rattle.iv_clients.specs.Clients.{Client, at_client, client_at, closing, followed, is_followed, may_say, moved, saying}
+use Rattle.iv_clients.specs.Clients.{Client, at_client, client_at, closing, followed_by, is_followed, may_say, moved, saying}
 use Rattle.iv_clients.specs.Feeds.{Feed, Seat, feed_for, feed_of, has_room, is_of_role, is_reading, load, room_for, seat_of, without_seat}
 use Rattle.iv_clients.specs.Journal.{line_said, said_by}
-use Rattle.iv_gate.specs.Events.{Event, presented, message, gone, known, ticked, synced, handed, failed, happens}
-use Rattle.iv_gate.specs.Gate.{Gate, acts, all_rested, all_swept, begun_for, closes, done_for, feed_begun, hears, in_session, is_needed, joined, joined_by, joins, ran, reads, reads_first, reply_to, requests, rested, role_for, said, seated, settles, shut, subscribes, swept, tells, went, with_session}
-use Rattle.iv_gate.specs.Needed.{AreSeatsBehind, BeginsAsNeeded, left, begun}
+use Rattle.iv_gate.specs.Events.{Event, presented, message, gone, known, ticked, synced, handed, failed, happens, next}
+use Rattle.iv_gate.specs.Gate.{Gate, acts, all_rested, all_swept, begun_for, closes, done_for, feed_begun, hears, in_session, is_needed, joined, joined_by, joins, ran, reads, reads_first, reply_to, requests, rested, role_for, said, seated, settles, shut, subscribes, swept, tells, went, with_session, has_shape_room}
+use Rattle.iv_gate.specs.Needed.{AreSeatsBehind, left, begun}
+use Rattle.iv_gate.specs.Replies.{AreFull}
+use Rattle.iv_gate.proofs.Few.{none_full}
 use Rattle.iv_gate.proofs.Machine.{some_is_none}
 use Rattle.iv_gate.proofs.Touching.{came_as}
+use Rattle.iv_gate.proofs.Shaping.{test_of}
 
 all_stay : {X : Type 0} (xs : List X) → filter (λ x. true) xs ≡ xs
 all_stay [] = refl
@@ -65,7 +68,7 @@ all_swept_same g (k ∷ ks) = all_swept_same (swept g k) ks ∙ swept_same g k
 
 closes_same : (g : Gate) (m : ℕ) (c : Client) (id : Option Data) (own : ℕ) → (closes g m c id own).seats ≡ g.seats
 closes_same g m c id own =
-    some_same (followed c own) g (tells g m (replied id (refused unknown_subscription))) (λ k. swept (tells (record g { clients = at_client m (closing own) g.clients }) m (replied id done)) k)
+    some_same (followed_by c.subs own) g (tells g m (replied id (refused unknown_subscription))) (λ k. swept (tells (record g { clients = at_client m (closing own) g.clients }) m (replied id done)) k)
     refl (λ k. swept_same (tells (record g { clients = at_client m (closing own) g.clients }) m (replied id done)) k)
 
 other_same : (g : Gate) (m : ℕ) (c : Client) (id : Option Data) (text : List ℕ) (act : Act) (o : Option ℕ)
@@ -78,7 +81,7 @@ by_same : (g : Gate) (xs : List Seat) → xs ≡ g.seats → AreSeatsBehind g xs
 by_same g xs e = subst (AreSeatsBehind g) (sym e) (same g)
 
 by_one : (g h : Gate) (n : ℕ) (role : Name) → room_for g.seats g.feeds role ≡ None → h.seats ≡ g.seats ++ record { session = n; role = role } ∷ [] → AreSeatsBehind g h.seats
-by_one g h n role r e = subst (AreSeatsBehind g) (sym e) (begun (record { session = n; role = role }) r)
+by_one g h n role r e = subst (AreSeatsBehind g) (sym e) (begun (record { session = n; role = role }) (none_full g.seats g.feeds role r))
 
 first_behind : (g : Gate) (m : ℕ) (id : Option Data) (role rel : Name) → AreSeatsBehind g (reads_first g m id role rel).seats
 first_behind g m id role rel = by (room_for g.seats g.feeds role) refl
@@ -125,12 +128,13 @@ done_behind g m c text no_json = same g
 done_behind g m c text too_long = same g
 done_behind g m c text no_object = same g
 done_behind g m c text (no_request id why) = same g
-done_behind g m c text (request id act) = acts_behind g m c id text act
+done_behind g m c text (request id act) =
+    test_of (λ (h : Gate). AreSeatsBehind g h.seats) (has_shape_room g act) (acts g m c id text act) (tells g m (replied id (refused limit))) (acts_behind g m c id text act) (same g)
 
 -- of two gateways with the same sessions and feeds
 like : (g h : Gate) (xs : List Seat) → h.seats ≡ g.seats → h.feeds ≡ g.feeds → AreSeatsBehind h xs → AreSeatsBehind g xs
 like g h _ e f (left stays) = subst (AreSeatsBehind g) (ap (filter stays) (sym e)) (left stays)
-like g h _ e f (begun s r) = subst (AreSeatsBehind g) (ap (λ z. z ++ s ∷ []) (sym e)) (begun s ((λ i. room_for (sym e i) (sym f i) s.role) ∙ r))
+like g h _ e f (begun s r) = subst (AreSeatsBehind g) (ap (λ z. z ++ s ∷ []) (sym e)) (begun s (subst (λ z. z) (λ i. AreFull (e i) (f i) s.role) r))
 
 said_behind : (g : Gate) (m : ℕ) (text : List ℕ) → AreSeatsBehind g (said g m text).seats
 said_behind g m text = by (client_at g.clients m)
@@ -159,7 +163,7 @@ with_behind g role = by (seat_of g.seats role) refl
   where
     further : seat_of g.seats role ≡ None → (o : Option ℕ) → AreSeatsBehind g (if_some o g (λ n. seated g n role)).seats
     further e None = same g
-    further e (Some n) = begun (record { session = n; role = role }) (none_with_room g.feeds role g.seats e)
+    further e (Some n) = begun (record { session = n; role = role }) (none_full g.seats g.feeds role (none_with_room g.feeds role g.seats e))
 
     by : (o : Option ℕ) → seat_of g.seats role ≡ o → AreSeatsBehind g (if_some o (if_some (begun_for g role) g (λ n. seated g n role)) (λ n. g)).seats
     by None e = further e (begun_for g role)
@@ -212,7 +216,7 @@ happens_behind g synced = same g
 happens_behind g (handed m) = same g
 happens_behind g failed = same g
 
-pub begins_as_needed : (g : Gate) (e : Event) → BeginsAsNeeded g e
+pub begins_as_needed : (g : Gate) (e : Event) → AreSeatsBehind g (next g e).seats
 begins_as_needed g e = by g.dead
   where
     by : (t : Bool) → AreSeatsBehind g (cond t g (happens g e)).seats

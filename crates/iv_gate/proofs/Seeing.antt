@@ -13,7 +13,7 @@ use Rattle.iv_machine.specs.Machine.{ending, first_cause}
 use Rattle.iv_machine.specs.Sound.{IsSoundState}
 use Rattle.iv_machine.specs.declared.Cause.{Cause}
 use Rattle.iv_machine.specs.State.{Session, State, Subscription, is_within_for, missing_for, rel_of, shown, subscription_of, view_for}
-use Rattle.iv_clients.specs.Clients.{Client, Sub, followed, followed_by, told}
+use Rattle.iv_clients.specs.Clients.{Client, Sub, followed_by, told}
 use Rattle.iv_clients.specs.Feeds.{Feed, feed_of, rel_read}
 use Rattle.iv_gate.specs.Gate.{Gate}
 use Rattle.iv_gate.specs.Replies.{IsAskedBy, IsClient}
@@ -31,9 +31,9 @@ pub record AddsToView (g : Gate) (c : Client) (own k : ℕ) : Type 0 where
   pub sum : (q : List Cell) → weight_of (all_rows own (told c)) q ≡ pos (copies q (seen g.machine c.role (rel_read g.feeds k)))
 
 asked_by : (c : Client) (own : ℕ) (rel : Name) → IsAskedIn c.messages (told c) own rel → IsAskedBy c own rel
-asked_by c own rel a = record { place = a.place; id = a.id; columns = a.columns; reply = (a.text, a.there, a.asks, a.reply) }
+asked_by c own rel a = (a.place, a.id, a.columns, (a.text, a.there, a.asks, a.reply))
 
-pub adds_to_view : (g : Gate) → IsSoundGate g → (m : ℕ) (c : Client) (own k : ℕ) → IsClient g m c → followed c own ≡ Some k → AddsToView g c own k
+pub adds_to_view : (g : Gate) → IsSoundGate g → (m : ℕ) (c : Client) (own k : ℕ) → IsClient g m c → followed_by c.subs own ≡ Some k → AddsToView g c own k
 adds_to_view g b m c own k x h = look c.subs (b.clients m c x.there x.stays).follows h
   where
     of_sub : (s : Sub) → (own == s.own) ≡ true → s.feed ≡ k → IsFollowing g.machine g.feeds (seer c) s → AddsToView g c own k
@@ -75,7 +75,7 @@ may_read s f b x =
     ∙ (sym (λ i. P (unwrap_or (option_map (λ (e : Session). e.role) (x.acts.session i)) (length s.frame.rights.roles)) (x.there i))
     ∙ sub_served s s.frame.subscriptions f.number (record { session = f.session; number = f.number; rel = x.rel }) b.served x.found)
 
-pub may_be_read : (g : Gate) → IsSoundGate g → (m : ℕ) (c : Client) (own k : ℕ) → IsClient g m c → followed c own ≡ Some k → hindrance g.machine c.role (rel_read g.feeds k) ≡ None
+pub may_be_read : (g : Gate) → IsSoundGate g → (m : ℕ) (c : Client) (own k : ℕ) → IsClient g m c → followed_by c.subs own ≡ Some k → hindrance g.machine c.role (rel_read g.feeds k) ≡ None
 may_be_read g b m c own k x h = look c.subs (b.clients m c x.there x.stays).follows h
   where
     of_sub : (s : Sub) → s.feed ≡ k → IsFollowing g.machine g.feeds (seer c) s → hindrance g.machine c.role (rel_read g.feeds k) ≡ None

@@ -5,22 +5,22 @@ use Rattle.std.proofs.lemmas.Bool.{false≢true, eqb-true, eqb-false}
 use Rattle.sha2.specs.Sha256.{sha256}
 use Rattle.iv_rows.specs.Options.{if_some}
 use Rattle.iv_access.specs.Rights.{Name}
-use Rattle.iv_message.specs.Told.{welcome}
 use Rattle.iv_clients.specs.Bounds.{most_requests, most_waiting}
-use Rattle.iv_clients.specs.Clients.{Client, Shown, Slots, answered, at_client, client_at, fresh, may_say, saying, told, waiting}
+use Rattle.iv_clients.specs.Clients.{Client, Shown, Slots, answered, at_client, client_at, fresh, may_say, saying, told, waiting, greeting}
 use Rattle.iv_clients.specs.Feeds.{is_of_role, seat_of}
-use Rattle.iv_clients.specs.Journal.{said_by}
+use Rattle.iv_clients.specs.Journal.{said_by, Entry}
 use Rattle.iv_gate.specs.Events.{Event, presented, message, gone, known, ticked, synced, handed, failed, happens, next}
-use Rattle.iv_gate.specs.Gate.{Gate, all_rested, all_swept, begun_for, done_for, hears, role_for, said, seated, settles, tells, went, with_session}
+use Rattle.iv_gate.specs.Gate.{Gate, all_rested, all_swept, begun_for, done_for, hears, role_for, said, seated, settles, went, with_session}
 use Rattle.iv_gate.specs.Replies.{IsClient, replies}
 use Rattle.iv_gate.proofs.Asking.{IsHeard, done_sound, seated_sound}
 use Rattle.iv_gate.proofs.Finishing.{all_rested_sound}
 use Rattle.iv_gate.proofs.Growing.{Grown, behind_front, grows}
 use Rattle.iv_gate.proofs.Machine.{some_is_none}
-use Rattle.iv_gate.proofs.Running.{all_swept_sound, client_said, hands_sound, knowing_sound, on_disk_sound, one_sound, settles_sound, tells_sound, ticking_sound}
-use Rattle.iv_gate.proofs.Sound.{Adds, IsSoundClient, IsSoundGate, Sounds, seer}
+use Rattle.iv_gate.proofs.Running.{all_swept_sound, client_said, hands_sound, knowing_sound, on_disk_sound, one_sound, settles_sound, ticking_sound, client_told_all, quiet_greeting}
+use Rattle.iv_gate.proofs.Sound.{Adds, IsSoundClient, IsSoundGate, Sounds, seer, Seer}
 use Rattle.iv_gate.proofs.Touching.{at_same, came_as, one_some, set_other}
 use Rattle.iv_gate.proofs.Walking.{to_done, to_settles, to_then}
+use Rattle.iv_gate.proofs.Shaping.{told_fresh}
 
 some_sound : {X : Type 0} (o : Option X) (h : Gate) (f : X → Gate) → IsSoundGate h → ((x : X) → o ≡ Some x → IsSoundGate (f x)) → IsSoundGate (if_some o h f)
 some_sound None h f a b = a
@@ -39,8 +39,11 @@ put_sound g m o k b = record { state = b.state; seats = b.seats; feeds = b.feeds
     by j c h live true e = k c (there g.clients m c (ap (client_at (set g.clients m o)) (eqb-true m j e) ∙ h))
     by j c h live false e = b.clients j c (sym (set_other m j o g.clients (eqb-false m j e)) ∙ h) live
 
-fresh_sound : (g : Gate) (role : Name) (digest : List ℕ) → IsSoundClient g.machine g.feeds (seer (fresh role digest))
-fresh_sound g role digest = record { own = tt; follows = tt; later = λ own q h. refl; unended = λ own h. refl; spent = λ own h e q. refl }
+fresh_sound : (g : Gate) (es : List Entry) (role : Name) (digest : List ℕ) → IsSoundClient g.machine g.feeds (seer (fresh es role digest))
+fresh_sound g es role digest =
+    let nothing : Seer = record { role = role; given = 0; subs = []; told = []; messages = [] } in
+    subst (λ z. IsSoundClient g.machine g.feeds (record { role = role; given = 0; subs = []; told = z; messages = [] })) (sym (told_fresh es role digest))
+    (client_told_all g.machine g.feeds (greeting es role) nothing (quiet_greeting es role) (record { own = tt; follows = tt; later = λ own q h. refl; unended = λ own h. refl; spent = λ own h e q. refl }))
 
 with_sound : Adds → Sounds → (g : Gate) (role : Name) → IsSoundGate g → IsSoundGate (with_session g role)
 with_sound adds sounds g role b = some_sound (seat_of g.seats role) (if_some (begun_for g role) g (λ n. seated g n role)) (λ n. g)
@@ -48,9 +51,8 @@ with_sound adds sounds g role b = some_sound (seat_of g.seats role) (if_some (be
 
 came_sound : Adds → Sounds → (g : Gate) (m : ℕ) (token : List ℕ) (role : Name) → IsSoundGate g → IsSoundGate (came_as g m token role)
 came_sound adds sounds g m token role b =
-    let h = with_session g role in let i = record h { clients = set h.clients m (Some (fresh role (sha256 token))) } in
-    settles_sound (tells i m (welcome role)) (tells_sound i m (welcome role) (record { weighs = λ own q. refl; goes_on = λ own. refl })
-    (put_sound h m (Some (fresh role (sha256 token))) (λ c e. subst (λ x. IsSoundClient h.machine h.feeds (seer x)) (one_some (fresh role (sha256 token)) c e) (fresh_sound h role (sha256 token))) (with_sound adds sounds g role b)))
+    let h = with_session g role in let who = fresh h.entries role (sha256 token) in
+    put_sound h m (Some who) (λ c e. subst (λ x. IsSoundClient h.machine h.feeds (seer x)) (one_some who c e) (fresh_sound h h.entries role (sha256 token))) (with_sound adds sounds g role b)
 
 went_sound : Adds → Sounds → (g : Gate) (m : ℕ) → IsSoundGate g → IsSoundGate (went g m)
 went_sound adds sounds g m b = by (client_at g.clients m)

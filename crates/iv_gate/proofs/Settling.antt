@@ -10,24 +10,25 @@ use Rattle.iv_machine.specs.Machine.{Outcome, step}
 use Rattle.iv_message.specs.Told.{Told, alive, changed, granted, opened, over, replied, settled}
 use Rattle.iv_clients.specs.Clients.{Client, Sub, answered, at_client, beating, checked, client_at, dropping, following, handing, is_slow, may_say, opens, own_line, own_lines, released, saying, settling, staying, telling, told, told_one}
 use Rattle.iv_clients.specs.Feeds.{Feed, rel_read}
-use Rattle.iv_clients.specs.Journal.{Entry, said_by}
+use Rattle.iv_clients.specs.Journal.{Entry, said_by, shape_for}
 use Rattle.iv_clients.specs.Tokens.{Token}
 use Rattle.iv_gate.specs.Events.{Event, presented, message, gone, known, ticked, synced, handed, failed, happens, next}
-use Rattle.iv_gate.specs.Gate.{Gate, columns_in, done_for, entered, feed_begun, granted_by, hears, in_session, is_accepted, next_own, reply_in, reply_to, said, settles, tells, told_of}
-use Rattle.iv_gate.specs.Laws.{EndsSettled, IsSettledBy, Settles, is_word}
-use Rattle.iv_gate.specs.Replies.{told_by}
+use Rattle.iv_gate.specs.Gate.{Gate, columns_in, done_for, entered, feed_begun, granted_by, hears, in_session, is_accepted, next_own, reply_in, reply_to, said, settles, tells, told_of, entries_of}
+use Rattle.iv_gate.specs.Laws.{IsSettledBy, is_word}
+use Rattle.iv_gate.specs.Replies.{ByClient, told_by}
 use Rattle.iv_gate.specs.Runs.{Runs, begins, goes_on, begins_again}
 use Rattle.iv_gate.proofs.Growing.{assoc}
 use Rattle.iv_gate.proofs.Lasting.{Starts, restored_empty, runs_sound}
 use Rattle.iv_gate.proofs.Doing.{HasAnswered, IsDone, answers, asks, opens as reads_more, all_done, told_more}
 use Rattle.iv_gate.proofs.News.{request_there, subscribe_there}
-use Rattle.iv_gate.proofs.Noticing.{came_turns, every_is, told_checked, told_handing, told_now, told_released, went_turns}
+use Rattle.iv_gate.proofs.Noticing.{came_stays, every_is, told_checked, told_handing, told_now, told_released, went_turns}
 use Rattle.iv_gate.proofs.Places.{any_of_both, or_true}
 use Rattle.iv_gate.proofs.Replying.{asked, grown_by}
 use Rattle.iv_gate.proofs.Serving.{told_answered}
 use Rattle.iv_gate.proofs.Sound.{Adds, IsSoundGate, Seer, Sounds, or_none, seer_telling}
 use Rattle.iv_gate.proofs.Touching.{alive as is_alive, at_every, at_other, at_same, one_some, rests, touched}
 use Rattle.iv_gate.proofs.Walking.{Later}
+use Rattle.iv_gate.proofs.Shaping.{all_made, any_none}
 
 -- ---- what a command tells
 
@@ -111,6 +112,14 @@ owes_ran g k c = let ts = told_of g k.act (step g.machine k) c in record {
   owed = owed_telling g.entries ts c;
 }
 
+owes_shape : (es more : List Entry) (c : Client) → Owes c (telling es (shape_for c.role more) c)
+owes_shape es more c = record {
+  more = shape_for c.role more;
+  text = ap (λ (v : Seer). v.told) (seer_telling es (shape_for c.role more) c);
+  plain = any_none is_word (shape_for c.role more) (all_made (λ t. is_word t ≡ false) (λ role line. refl) c.role more);
+  owed = owed_telling es (shape_for c.role more) c;
+}
+
 -- ---- what is done for a message
 
 answer_owes : (g : Gate) (m : ℕ) (h : Gate) → HasAnswered g m h → (j : ℕ) (x : Client) → client_at g.clients j ≡ Some x → Later (λ n c d. Owes c d) h.clients j x
@@ -132,10 +141,12 @@ done_owes g m a h (asks id e n s heard same) j x t =
     let text = replied id (reply_to g (in_session n e.act)) in
     let before = tells (entered g e (is_accepted (reply_to g (in_session n e.act)))) m text in
     let first = told_one before.entries text x in
+    let hears : Client → Client = λ c. staying (step g.machine (in_session n e.act)).lines (telling before.entries (told_of before e.act (step g.machine (in_session n e.act)) c) c) in
+    let more = entries_of e (is_accepted (reply_to g (in_session n e.act))) in
+    let all : (c : Client) → Owes c (telling before.entries (shape_for (hears c).role more) (hears c)) =
+    λ c. owes_then c (hears c) _ (owes_ran before (in_session n e.act) c) (owes_shape before.entries more (hears c)) in
     subst (λ (i : Gate). Later (λ n c d. Owes c d) i.clients j x) (sym same)
-    (request_there g m id e n s heard Owes j x t
-    (λ own. owes_then x first _ (owes_one text x first refl (told_more before.entries text x) refl) (owes_ran before (in_session n e.act) first))
-    (λ ne. owes_ran before (in_session n e.act) x))
+    (request_there g m id e n s heard Owes j x t (λ own. owes_then x first _ (owes_one text x first refl (told_more before.entries text x) refl) (all first)) (λ ne. all x))
 done_owes g m a h (reads_more r) j x t =
     let i = r.first in let k = in_session r.session (subscribe r.rel) in let n = i.machine.frame.last + 1 in
     let h0 = feed_begun i m r.id r.session r.role r.rel (subscribed n) in
@@ -147,6 +158,13 @@ done_owes g m a h (reads_more r) j x t =
     (λ ne. owes_ran h0 k x)
 
 -- ---- and then this is all
+
+-- something is told, and then by one word that this is all
+pub record EndsSettled (ts : List Told) : Type 0 where
+  pub first : Told
+  pub more : List Told
+  pub all : ts ≡ (first ∷ more) ++ settled ∷ []
+  pub plain : list_any is_word (first ∷ more) ≡ false
 
 -- it was told nothing, or something and that this is all
 record Ends (c d : Client) : Type 0 where
@@ -269,11 +287,15 @@ owed_handing c = by (length c.sendable == 0)
     by false = refl
 
 by_message : (m : ℕ) (text : List ℕ) (c d : Client) → Ends c d → IsTold (message m text) c d
-by_message m text c d x = record { told = λ s. subst (λ z. (z ≡ []) ⊎ EndsSettled z) (sym (told_now c d x.more x.text)) x.ends; owed = x.owed }
+by_message m text c d x = record { told = λ s. by (subst (λ z. (z ≡ []) ⊎ EndsSettled z) (sym (told_now c d x.more x.text)) x.ends); owed = x.owed }
+  where
+    by : (told_by c d ≡ []) ⊎ EndsSettled (told_by c d) → IsSettledBy (message m text) (told_by c d)
+    by (inl n) = inl n
+    by (inr a) = inr (a.first, a.more, a.all, a.plain)
 
 happens_told : Sounds → (g : Gate) (e : Event) → IsSoundGate g → (j : ℕ) (c d : Client) → client_at g.clients j ≡ Some c → c.owed ≡ false → client_at (happens g e).clients j ≡ Some d → IsTold e c d
 happens_told sounds g (presented m token) b j c d t o k =
-    came_turns g b m token j c d t k (IsTold (presented m token) c d) (λ e. still_told (presented m token) c d refl e o) (λ es e. still_told (presented m token) c d refl (sym (settling_none es c o) ∙ e) o)
+    still_told (presented m token) c d refl (came_stays g b m token j c d t k) o
 happens_told sounds g (message m text) b j c d t o k = by_message m text c d (said_ends sounds g b m text j c d t o k)
 happens_told sounds g (gone m) b j c d t o k =
     went_turns sounds g b m j c d t k (IsTold (gone m) c d) (λ e. still_told (gone m) c d refl e o) (λ es e. still_told (gone m) c d refl (sym (settling_none es c o) ∙ e) o)
@@ -319,6 +341,6 @@ runs_owe adds starts sounds cap _ (begins tokens most journal g r) m c x = absur
 runs_owe adds starts sounds cap _ (goes_on h e r) m c x = next_owes sounds h e (runs_sound adds starts sounds cap h r) (runs_owe adds starts sounds cap h r) m c x
 runs_owe adds starts sounds cap _ (begins_again h disk tokens most i r l y) m c x = absurd (restored_empty cap tokens most h.sent disk i y m c x)
 
-pub runs_settle : Adds → Starts → Sounds → (cap : ℕ) (g : Gate) (e : Event) → Runs cap g → g.dead ≡ false → Settles g e
+pub runs_settle : Adds → Starts → Sounds → (cap : ℕ) (g : Gate) (e : Event) → Runs cap g → g.dead ≡ false → ByClient g e (λ m c d. IsSettledBy e (told_by c d))
 runs_settle adds starts sounds cap g e r live m c d x y =
     (next_told sounds g e (runs_sound adds starts sounds cap g r) live m c d x.there (runs_owe adds starts sounds cap g r m c x.there) y.there).told y.stays

@@ -13,12 +13,11 @@ use Rattle.iv_machine.specs.Act.{Command}
 use Rattle.iv_machine.specs.Machine.{step}
 use Rattle.iv_message.specs.Told.{Told, alive, replied, settled}
 use Rattle.iv_clients.specs.Clients.{Client, Shown, Slots, all_shown, answered, at_all, at_client, beating, checked, client_at, closing, dropping, following, fresh, handing, is_slow, may_say, moved, opens, released, saying, settling, staying, telling, told_one}
-use Rattle.iv_clients.specs.Journal.{Entry, line_said, said_by}
+use Rattle.iv_clients.specs.Journal.{Entry, line_said, said_by, shape_for}
 use Rattle.iv_clients.specs.Tokens.{Token}
 use Rattle.iv_gate.specs.Events.{Event, presented, message, gone, known, ticked, synced, handed, failed, happens, next}
-use Rattle.iv_gate.specs.Gate.{Gate, came, done_for, entered, hears, in_session, is_accepted, ran, reply_to, requests, role_for, said, settles, tells, told_of, went}
-use Rattle.iv_gate.specs.Laws.{AreShown, IsShownBy}
-use Rattle.iv_gate.specs.Replies.{heard_by}
+use Rattle.iv_gate.specs.Gate.{Gate, came, done_for, entered, hears, in_session, is_accepted, ran, reply_to, requests, role_for, said, settles, tells, told_of, went, entries_of, informs}
+use Rattle.iv_gate.specs.Replies.{ByClient, heard_by}
 use Rattle.iv_gate.proofs.Growing.{Grown, assoc, shown_more}
 use Rattle.iv_gate.proofs.Holding.{all_more}
 use Rattle.iv_gate.proofs.Running.{all_so}
@@ -124,13 +123,19 @@ module _ (es : List Entry) (old : Slots) where
         told_as g.entries c (telling g.entries ts c) (staying (step g.machine k).lines (telling g.entries ts c)) refl refl refl (told_all g.entries ts c)) b;
   }
 
+  informs_tells : (g : Gate) (fs : List Entry) → IsTelling es old g → IsTelling es old (informs g fs)
+  informs_tells g fs b = record {
+    entries = b.entries;
+    clients = every_tells g (λ c. telling g.entries (shape_for c.role fs) c) (λ c. told_all g.entries (shape_for c.role fs) c) b;
+  }
+
   telling_kit : (m : ℕ) → Steps m (Keeps (IsTelling es old))
   telling_kit m = record {
     same = λ g b. b;
     chain = λ g h i x y b. y (x b);
     run = λ g k e b. ran_tells g k b;
     settle = λ g b. record { entries = b.entries; clients = every_tells g (settling g.entries) (told_settling g.entries) b };
-    tell = λ g t b. one_tells g m (told_one g.entries t) (told_more g.entries t) b;
+    tell = λ g t _ b. one_tells g m (told_one g.entries t) (told_more g.entries t) b;
     seat = λ g seats b. record { entries = b.entries; clients = b.clients };
     feed = λ g feeds b. record { entries = b.entries; clients = b.clients };
     follow = λ g k b. one_tells g m (following k) (λ c. told_same g.entries c (following k c) refl refl refl) b;
@@ -166,7 +171,7 @@ came_shows g m token j c d h k =
       entries = x.entries;
       clients = λ n a t. let p = x.clients n a t in record {
         now = p.now;
-        there = set_other m n (Some (fresh role (sha256 token))) i.clients (free role e n a t) ∙ p.there;
+        there = set_other m n (Some (fresh i.entries role (sha256 token))) i.clients (free role e n a t) ∙ p.there;
         so = p.so;
       };
     })
@@ -204,8 +209,8 @@ done_reaches g m c text =
     asked : (id : Option Data) (e : Entry) (n : ℕ) → Reached g.clients (requests g m id e n)
     asked id e n =
         let k = in_session n e.act in let r = reply_to g k in let i = entered g e (is_accepted r) in
-        let x = ran_tells i.entries g.clients (tells i m (replied id r)) k ((telling_kit i.entries g.clients m).tell i (replied id r) (record { entries = refl; clients = follow_start i.entries g.clients })) in
-        x.clients
+        let x = ran_tells i.entries g.clients (tells i m (replied id r)) k ((telling_kit i.entries g.clients m).tell i (replied id r) refl (record { entries = refl; clients = follow_start i.entries g.clients })) in
+        (informs_tells i.entries g.clients (ran (tells i m (replied id r)) k) (entries_of e (is_accepted r)) x).clients
 
 answering : (es : List Entry) (ss : List Shown) → AllByRecursion (Shows es false) ss → AllByRecursion (Shows es true) (map (λ (s : Shown). record s { answers = true }) ss)
 answering es [] a = tt
@@ -332,7 +337,17 @@ next_shows g e j c d h k s = by g.dead refl
         subst (λ (x : Gate). IsShowing x.entries (is_some (heard_by j c e)) c d) (sym (is_alive g e q))
         (happens_shows g e j c d h (ap (λ (x : Gate). client_at x.clients j) (sym (is_alive g e q)) ∙ k) s)
 
-pub are_shown : (g : Gate) (e : Event) → AreShown g e
+-- what is told shows the entries that are accepted then, and comes of the client's own message where the event is that
+pub record IsShownBy (g : Gate) (e : Event) (m : ℕ) (c : Client) (s : Shown) : Type 0 where
+  pub entries : s.entries ≡ (next g e).entries
+  pub answers : s.answers ≡ is_some (heard_by m c e)
+
+pub record IsToldMore (g : Gate) (e : Event) (m : ℕ) (c d : Client) : Type 0 where
+  pub more : List Shown
+  pub keeps : all_shown d ≡ all_shown c ++ more
+  pub shows : AllByRecursion (IsShownBy g e m c) more
+
+pub are_shown : (g : Gate) (e : Event) → ByClient g e (IsToldMore g e)
 are_shown g e m c d a b =
     let x = next_shows g e m c d a.there b.there b.stays in
     record {

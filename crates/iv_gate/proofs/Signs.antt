@@ -4,19 +4,40 @@ use Rattle.std.specs.Prelude.{◌&&◌}
 use Rattle.serde_json.specs.Data.{Data}
 use Rattle.iv_rows.specs.Options.{if_some}
 use Rattle.iv_access.specs.Rights.{Name}
-use Rattle.iv_machine.specs.Act.{Act, begin, finish, create_role, create_table, create_view, grant, revoke, grant_role, revoke_role, row_security, create_policy, drop_policy, subscribe, unsubscribe, write, Command, refused, no_session}
+use Rattle.iv_machine.specs.Act.{Act, begin, finish, create_role, create_table, create_view, grant, revoke, grant_role, revoke_role, row_security, create_policy, drop_policy, subscribe, unsubscribe, write, Command, refused, no_session, limit}
 use Rattle.iv_machine.specs.Machine.{step}
 use Rattle.iv_message.specs.Message.{Message, no_json, too_long, no_object, no_request, request}
 use Rattle.iv_message.specs.Told.{Told, replied, fault, unasked, settled}
-use Rattle.iv_clients.specs.Clients.{Client, Slots, answered, at_all, at_client, closing, following, moved, saying, settling, staying, telling, told_one}
+use Rattle.iv_clients.specs.Clients.{Client, Shown, Slots, answered, at_all, at_client, closing, following, moved, saying, settling, staying, telling, told_one}
 use Rattle.iv_clients.specs.Feeds.{Seat, seat_of}
-use Rattle.iv_clients.specs.Journal.{Entry, is_shared, line_said, said_by}
-use Rattle.iv_gate.specs.Gate.{Gate, acts, all_rested, all_swept, closes, done_for, entered, hears, in_session, is_accepted, ran, reads, reply_to, requests, rested, settles, tells, told_of, with_session}
-use Rattle.iv_gate.specs.Laws.{Marks, entries_by, marks}
-use Rattle.iv_gate.specs.Touched.{Card, card}
+use Rattle.iv_clients.specs.Journal.{Entry, is_shared, line_said, said_by, shape_for}
+use Rattle.iv_clients.specs.Tokens.{Token}
+use Rattle.iv_gate.specs.Gate.{Gate, acts, all_rested, all_swept, closes, done_for, entered, hears, in_session, is_accepted, ran, reads, reply_to, requests, rested, settles, tells, told_of, with_session, entries_of, informs, has_shape_room}
+use Rattle.iv_gate.specs.Laws.{entries_by}
 use Rattle.iv_gate.proofs.Stepping.{Steps, step_all_rested, step_all_swept, step_closes, step_reads, step_rested, step_with}
 
 -- ---- what is looked at
+
+-- what tokens it knows, what is on disk, what was sent, and whether it is dead
+pub record Marks : Type 0 where
+  pub tokens : List Token
+  pub kept : ℕ
+  pub sent : List Shown
+  pub dead : Bool
+
+abbrev pub marks : Gate → Marks
+marks g = record { tokens = g.tokens; kept = g.kept; sent = g.sent; dead = g.dead }
+
+-- what others cannot change of a client
+pub record Card : Type 0 where
+  pub role : Name
+  pub digest : List ℕ
+  pub asked : ℕ
+  pub messages : List (List ℕ)
+  pub handed : List (List Shown)
+
+abbrev pub card : Client → Card
+card c = record { role = c.role; digest = c.digest; asked = c.asked; messages = c.messages; handed = c.handed }
 
 pub record Mark : Type 0 where
   pub card : Card
@@ -77,6 +98,9 @@ sign_ran g k = ap (λ z. record (sign g) { slots = z })
 pub sign_tells : (g : Gate) (m : ℕ) (t : Told) → sign (tells g m t) ≡ sign g
 sign_tells g m t = sign_at g m (told_one g.entries t) (λ c. refl)
 
+sign_informs : (g : Gate) (es : List Entry) → sign (informs g es) ≡ sign g
+sign_informs g es = ap (λ z. record (sign g) { slots = z }) (all_marks (λ c. telling g.entries (shape_for c.role es) c) (λ c. telling_mark g.entries (shape_for c.role es) c) g.clients)
+
 pub sign_settles : (g : Gate) → sign (settles g) ≡ sign g
 sign_settles g = ap (λ z. record (sign g) { slots = z }) (all_marks (settling g.entries) (settling_mark g.entries) g.clients)
 
@@ -89,7 +113,7 @@ sign_steps m = record {
   chain = λ g h i x y. y ∙ x;
   run = λ g k e. sign_ran g k;
   settle = sign_settles;
-  tell = λ g t. sign_tells g m t;
+  tell = λ g t _. sign_tells g m t;
   seat = λ g seats. refl;
   feed = λ g feeds. refl;
   follow = λ g k. sign_at g m (following k) (λ c. refl);
@@ -124,8 +148,8 @@ and_false false = refl
 
 sign_requests : (g : Gate) (m : ℕ) (id : Option Data) (e : Entry) (n : ℕ) → sign (requests g m id e n) ≡ sign_more g (cond (is_shared e.act && is_accepted (reply_to g (in_session n e.act))) (e ∷ []) [])
 sign_requests g m id e n =
-    let r = reply_to g (in_session n e.act) in let h = entered g e (is_accepted r) in
-    sign_ran (tells h m (replied id r)) (in_session n e.act) ∙ sign_tells h m (replied id r)
+    let r = reply_to g (in_session n e.act) in let h = entered g e (is_accepted r) in let i = tells h m (replied id r) in
+    sign_informs (ran i (in_session n e.act)) (entries_of e (is_accepted r)) ∙ (sign_ran i (in_session n e.act) ∙ sign_tells h m (replied id r))
 
 sign_other : (g : Gate) (m : ℕ) (c : Client) (id : Option Data) (text : List ℕ) (act : Act) (t : Told) (o : Option ℕ)
     → sign (if_some o (tells g m t) (requests g m id (record { role = c.role; line = line_said text; act = act })))
@@ -134,7 +158,11 @@ sign_other g m c id text act t None =
     none_more g (tells g m t) _ (ap (λ b. cond b (record { role = c.role; line = line_said text; act = act } ∷ []) []) (and_false (is_shared act))) (sign_tells g m t)
 sign_other g m c id text act t (Some n) = sign_requests g m id (record { role = c.role; line = line_said text; act = act }) n
 
-sign_acts : (g : Gate) (m : ℕ) (c : Client) (id : Option Data) (text : List ℕ) (act : Act) → sign (acts g m c id text act) ≡ sign_more g (entries_by g c text (request id act))
+-- what the act adds, where the shape has room for it
+abbrev acted_by : Gate → Client → List ℕ → Act → List Entry
+acted_by g c text act = cond (is_shared act && if_some (seat_of g.seats c.role) false (λ n. is_accepted (reply_to g (in_session n act)))) (record { role = c.role; line = line_said text; act = act } ∷ []) []
+
+sign_acts : (g : Gate) (m : ℕ) (c : Client) (id : Option Data) (text : List ℕ) (act : Act) → sign (acts g m c id text act) ≡ sign_more g (acted_by g c text act)
 sign_acts g m c id text (begin role) = none_more g (tells g m (fault 2)) [] refl (sign_tells g m (fault 2))
 sign_acts g m c id text finish = none_more g (tells g m (fault 2)) [] refl (sign_tells g m (fault 2))
 sign_acts g m c id text (subscribe rel) = none_more g (reads g m c id rel) [] refl (step_reads m SameSign (sign_steps m) g c id rel)
@@ -156,7 +184,13 @@ sign_done g m c text no_json = none_more g (tells g m (fault 1)) [] refl (sign_t
 sign_done g m c text too_long = none_more g (tells g m (fault 22)) [] refl (sign_tells g m (fault 22))
 sign_done g m c text no_object = none_more g (tells g m (fault 2)) [] refl (sign_tells g m (fault 2))
 sign_done g m c text (no_request id why) = none_more g (tells g m (unasked id why)) [] refl (sign_tells g m (unasked id why))
-sign_done g m c text (request id act) = sign_acts g m c id text act
+sign_done g m c text (request id act) = by (has_shape_room g act)
+  where
+    by : (b : Bool) → sign (cond b (acts g m c id text act) (tells g m (replied id (refused limit))))
+        ≡ sign_more g (cond (is_shared act && (b && if_some (seat_of g.seats c.role) false (λ n. is_accepted (reply_to g (in_session n act))))) (record { role = c.role; line = line_said text; act = act } ∷ []) [])
+    by true = sign_acts g m c id text act
+    by false = none_more g (tells g m (replied id (refused limit))) _ (ap (λ d. cond d (record { role = c.role; line = line_said text; act = act } ∷ []) []) (and_false (is_shared act)))
+        (sign_tells g m (replied id (refused limit)))
 
 -- what is behind a message that is heard
 pub sign_hears : (g : Gate) (m : ℕ) (c : Client) (text : List ℕ)

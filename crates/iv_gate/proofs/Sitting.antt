@@ -7,7 +7,7 @@ use Rattle.std.proofs.lemmas.Slice.Eq.{bytes_eq-Decides}
 use Rattle.serde_json.specs.Data.{Data}
 use Rattle.iv_rows.specs.Options.{if_some}
 use Rattle.iv_access.specs.Rights.{Name}
-use Rattle.iv_machine.specs.Act.{Act, begin, finish, create_role, create_table, create_view, grant, revoke, grant_role, revoke_role, row_security, create_policy, drop_policy, subscribe, unsubscribe, write, Command, Refusal, Reply, done, subscribed, refused, no_session, too_many, unknown_subscription}
+use Rattle.iv_machine.specs.Act.{Act, begin, finish, create_role, create_table, create_view, grant, revoke, grant_role, revoke_role, row_security, create_policy, drop_policy, subscribe, unsubscribe, write, Command, Refusal, Reply, done, subscribed, refused, no_session, too_many, unknown_subscription, limit}
 use Rattle.iv_machine.specs.Changing.{after}
 use Rattle.iv_machine.specs.Machine.{outcome, settled, step}
 use Rattle.iv_machine.specs.Refusing.{or_else, refusal}
@@ -15,10 +15,10 @@ use Rattle.iv_machine.specs.State.{Session, State, is_open, session_of}
 use Rattle.iv_message.specs.Message.{Message, no_json, too_long, no_object, no_request, request}
 use Rattle.iv_message.specs.Told.{replied}
 use Rattle.iv_clients.specs.Bounds.{most_subs}
-use Rattle.iv_clients.specs.Clients.{Client, at_client, closing, followed, is_followed, moved}
+use Rattle.iv_clients.specs.Clients.{Client, at_client, closing, followed_by, is_followed, moved}
 use Rattle.iv_clients.specs.Feeds.{Feed, Seat, feed_for, feed_of, is_of_role, is_reading, room_for, seat_of, without_seat}
 use Rattle.iv_clients.specs.Journal.{line_said}
-use Rattle.iv_gate.specs.Gate.{Gate, acts, all_swept, begun_for, closes, done_for, feed_begun, in_session, joined, joined_by, joins, reads, reads_first, reply_to, requests, seated, shut, subscribes, swept, tells, with_session}
+use Rattle.iv_gate.specs.Gate.{Gate, acts, all_swept, begun_for, closes, done_for, feed_begun, in_session, joined, joined_by, joins, reads, reads_first, reply_to, requests, seated, shut, subscribes, swept, tells, with_session, has_shape_room}
 use Rattle.iv_gate.specs.Replies.{ActsAs}
 use Rattle.iv_gate.proofs.Asking.{begun_accepted, new_seat_acts}
 use Rattle.iv_gate.proofs.Growing.{map_front}
@@ -109,7 +109,7 @@ module _ (J : State → List Seat → Type 0) (kit : Sits J) where
   at_closes : (g : Gate) (m : ℕ) (c : Client) (id : Option Data) (own : ℕ) → At g → At (closes g m c id own)
   at_closes g m c id own a =
       let h = record g { clients = at_client m (closing own) g.clients } in
-      some_at (followed c own) (tells g m (replied id (refused unknown_subscription))) (λ k. swept (tells h m (replied id done)) k) a (λ k e. at_swept (tells h m (replied id done)) k a)
+      some_at (followed_by c.subs own) (tells g m (replied id (refused unknown_subscription))) (λ k. swept (tells h m (replied id done)) k) a (λ k e. at_swept (tells h m (replied id done)) k a)
 
   at_other : (g : Gate) (m : ℕ) (c : Client) (id : Option Data) (text : List ℕ) (act : Act) (o : Option ℕ) → is_plain act ≡ true → At g
       → At (if_some o (tells g m (replied id (refused no_session))) (requests g m id (record { role = c.role; line = line_said text; act = act })))
@@ -138,7 +138,7 @@ module _ (J : State → List Seat → Type 0) (kit : Sits J) where
   at_done g m c text too_long a = a
   at_done g m c text no_object a = a
   at_done g m c text (no_request id why) a = a
-  at_done g m c text (request id act) a = at_acts g m c id text act a
+  at_done g m c text (request id act) a = test_at (has_shape_room g act) (acts g m c id text act) (tells g m (replied id (refused limit))) (at_acts g m c id text act a) a
 
 -- ---- sessions by number
 

@@ -5,14 +5,16 @@ use Rattle.serde_json.specs.Data.{Data}
 use Rattle.sha2.specs.Sha256.{sha256}
 use Rattle.iv_rows.specs.Options.{if_some}
 use Rattle.iv_access.specs.Rights.{Name}
-use Rattle.iv_machine.specs.Act.{Act, begin, finish, create_role, create_table, create_view, grant, revoke, grant_role, revoke_role, row_security, create_policy, drop_policy, subscribe, unsubscribe, write, Command, Reply, done, subscribed, refused, no_session, too_many, unknown_subscription}
+use Rattle.iv_machine.specs.Act.{Act, begin, finish, create_role, create_table, create_view, grant, revoke, grant_role, revoke_role, row_security, create_policy, drop_policy, subscribe, unsubscribe, write, Command, Reply, done, subscribed, refused, no_session, too_many, unknown_subscription, limit}
 use Rattle.iv_message.specs.Message.{Message, no_json, too_long, no_object, no_request, request}
-use Rattle.iv_message.specs.Told.{Told, replied, opened, fault, unasked, welcome}
+use Rattle.iv_message.specs.Told.{Told, replied, opened, fault, unasked}
 use Rattle.iv_clients.specs.Bounds.{most_subs}
-use Rattle.iv_clients.specs.Clients.{Client, answered, at_client, client_at, closing, followed, following, fresh, is_followed, may_say, moved, saying}
+use Rattle.iv_clients.specs.Clients.{Client, answered, at_client, client_at, closing, followed_by, following, fresh, is_followed, may_say, moved, saying}
 use Rattle.iv_clients.specs.Feeds.{Feed, Seat, feed_for, feed_of, is_of_role, is_reading, room_for, seat_of, without_feed, without_seat}
 use Rattle.iv_clients.specs.Journal.{is_shared, line_said, said_by}
-use Rattle.iv_gate.specs.Gate.{Gate, acts, all_rested, all_swept, begun_for, came, closes, columns_in, done_for, feed_begun, hears, in_session, is_needed, joined, joined_by, joins, next_own, ran, reads, reads_first, reply_to, requests, rested, role_for, said, seated, settles, shut, subscribes, swept, tells, went, with_session}
+use Rattle.iv_gate.specs.Gate.{Gate, acts, all_rested, all_swept, begun_for, came, closes, columns_in, done_for, feed_begun, hears, in_session, is_needed, joined, joined_by, joins, next_own, ran, reads, reads_first, reply_to, requests, rested, role_for, said, seated, settles, shut, subscribes, swept, tells, went, with_session, has_shape_room}
+use Rattle.iv_gate.specs.Laws.{is_made}
+use Rattle.iv_gate.proofs.Shaping.{test_of}
 
 -- what each step keeps; client m alone is told what is its own. The commands are those that change nothing that is shared
 pub record Steps (m : ℕ) (G : Gate → Gate → Type 0) : Type 0 where
@@ -20,7 +22,7 @@ pub record Steps (m : ℕ) (G : Gate → Gate → Type 0) : Type 0 where
   pub chain : (g h i : Gate) → G g h → G h i → G g i
   pub run : (g : Gate) (k : Command) → is_shared k.act ≡ false → G g (ran g k)
   pub settle : (g : Gate) → G g (settles g)
-  pub tell : (g : Gate) (t : Told) → G g (tells g m t)
+  pub tell : (g : Gate) (t : Told) → is_made t ≡ false → G g (tells g m t)
   pub seat : (g : Gate) (seats : List Seat) → G g (record g { seats = seats })
   pub feed : (g : Gate) (feeds : List Feed) → G g (record g { feeds = feeds })
   pub follow : (g : Gate) (k : ℕ) → G g (record g { clients = at_client m (following k) g.clients })
@@ -64,9 +66,9 @@ module _ (m : ℕ) (G : Gate → Gate → Type 0) (kit : Steps m G) where
   step_begun g id n role rel (subscribed t) =
       let told = opened id (next_own g m) (columns_in g.machine rel) in let h = tells g m told in let i = record h { clients = at_client m (following t) h.clients } in
       let feeds = record { number = t; session = n; role = role; rel = rel } ∷ g.feeds in
-      kit.chain g h (record i { feeds = feeds }) (kit.tell g told) (kit.chain h i (record i { feeds = feeds }) (kit.follow h t) (kit.feed i feeds))
-  step_begun g id n role rel done = kit.tell g (replied id done)
-  step_begun g id n role rel (refused r) = kit.tell g (replied id (refused r))
+      kit.chain g h (record i { feeds = feeds }) (kit.tell g told refl) (kit.chain h i (record i { feeds = feeds }) (kit.follow h t) (kit.feed i feeds))
+  step_begun g id n role rel done = kit.tell g (replied id done) refl
+  step_begun g id n role rel (refused r) = kit.tell g (replied id (refused r)) refl
 
   step_subscribes : (g : Gate) (id : Option Data) (n : ℕ) (role rel : Name) → G g (subscribes g m id n role rel)
   step_subscribes g id n role rel =
@@ -100,7 +102,7 @@ module _ (m : ℕ) (G : Gate → Gate → Type 0) (kit : Steps m G) where
       some_step (room_for g.seats g.feeds role) g
       (if_some (begun_for g role) (tells g m (replied id (refused too_many))) (λ n. subscribes (seated g n role) m id n role rel)) (λ n. subscribes g m id n role rel)
       (some_step (begun_for g role) g (tells g m (replied id (refused too_many))) (λ n. subscribes (seated g n role) m id n role rel)
-      (kit.tell g (replied id (refused too_many)))
+      (kit.tell g (replied id (refused too_many)) refl)
       (λ n. kit.chain g (seated g n role) (subscribes (seated g n role) m id n role rel) (step_seated g n role) (step_subscribes (seated g n role) id n role rel)))
       (λ n. step_subscribes g id n role rel)
 
@@ -108,7 +110,7 @@ module _ (m : ℕ) (G : Gate → Gate → Type 0) (kit : Steps m G) where
   step_reads g c id rel =
       test_step (nat_lt (length c.subs) most_subs) g (if_some (feed_for g.feeds c.role rel) (reads_first g m id c.role rel) (joins g m id)) (tells g m (replied id (refused too_many)))
       (some_step (feed_for g.feeds c.role rel) g (reads_first g m id c.role rel) (joins g m id) (step_first g id c.role rel) (λ f. step_joins g id f))
-      (kit.tell g (replied id (refused too_many)))
+      (kit.tell g (replied id (refused too_many)) refl)
 
   -- ---- unsubscribing
 
@@ -124,9 +126,9 @@ module _ (m : ℕ) (G : Gate → Gate → Type 0) (kit : Steps m G) where
   pub step_closes : (g : Gate) (c : Client) (id : Option Data) (own : ℕ) → G g (closes g m c id own)
   step_closes g c id own =
       let h = record g { clients = at_client m (closing own) g.clients } in let i = tells h m (replied id done) in
-      some_step (followed c own) g (tells g m (replied id (refused unknown_subscription))) (λ k. swept i k)
-      (kit.tell g (replied id (refused unknown_subscription)))
-      (λ k. kit.chain g h (swept i k) (kit.close g own) (kit.chain h i (swept i k) (kit.tell h (replied id done)) (step_swept i k)))
+      some_step (followed_by c.subs own) g (tells g m (replied id (refused unknown_subscription))) (λ k. swept i k)
+      (kit.tell g (replied id (refused unknown_subscription)) refl)
+      (λ k. kit.chain g h (swept i k) (kit.close g own) (kit.chain h i (swept i k) (kit.tell h (replied id done) refl) (step_swept i k)))
 
   -- ---- messages: what holds of where steps lead holds where a message leads, if it does behind a request
 
@@ -134,14 +136,14 @@ module _ (m : ℕ) (G : Gate → Gate → Type 0) (kit : Steps m G) where
     step_other : (c : Client) (id : Option Data) (text : List ℕ) (act : Act) (o : Option ℕ) → seat_of g.seats c.role ≡ o
         → ((n : ℕ) → seat_of g.seats c.role ≡ Some n → F (requests g m id (record { role = c.role; line = line_said text; act = act }) n))
         → F (if_some o (tells g m (replied id (refused no_session))) (requests g m id (record { role = c.role; line = line_said text; act = act })))
-    step_other c id text act None e f = reach (tells g m (replied id (refused no_session))) (kit.tell g (replied id (refused no_session)))
+    step_other c id text act None e f = reach (tells g m (replied id (refused no_session))) (kit.tell g (replied id (refused no_session)) refl)
     step_other c id text act (Some n) e f = f n e
 
     step_acts : (c : Client) (id : Option Data) (text : List ℕ) (act : Act)
         → ((n : ℕ) → is_shared act ≡ true → seat_of g.seats c.role ≡ Some n → F (requests g m id (record { role = c.role; line = line_said text; act = act }) n))
         → F (acts g m c id text act)
-    step_acts c id text (begin role) f = reach (tells g m (fault 2)) (kit.tell g (fault 2))
-    step_acts c id text finish f = reach (tells g m (fault 2)) (kit.tell g (fault 2))
+    step_acts c id text (begin role) f = reach (tells g m (fault 2)) (kit.tell g (fault 2) refl)
+    step_acts c id text finish f = reach (tells g m (fault 2)) (kit.tell g (fault 2) refl)
     step_acts c id text (subscribe rel) f = reach (reads g m c id rel) (step_reads g c id rel)
     step_acts c id text (unsubscribe own) f = reach (closes g m c id own) (step_closes g c id own)
     step_acts c id text (create_role name) f = step_other c id text (create_role name) (seat_of g.seats c.role) refl (λ n e. f n refl e)
@@ -160,11 +162,13 @@ module _ (m : ℕ) (G : Gate → Gate → Type 0) (kit : Steps m G) where
         → ((id : Option Data) (act : Act) (n : ℕ) → s ≡ request id act → is_shared act ≡ true → seat_of g.seats c.role ≡ Some n
         → F (requests g m id (record { role = c.role; line = line_said text; act = act }) n))
         → F (done_for g m c text s)
-    step_done c text no_json f = reach (tells g m (fault 1)) (kit.tell g (fault 1))
-    step_done c text too_long f = reach (tells g m (fault 22)) (kit.tell g (fault 22))
-    step_done c text no_object f = reach (tells g m (fault 2)) (kit.tell g (fault 2))
-    step_done c text (no_request id why) f = reach (tells g m (unasked id why)) (kit.tell g (unasked id why))
-    step_done c text (request id act) f = step_acts c id text act (λ n x e. f id act n refl x e)
+    step_done c text no_json f = reach (tells g m (fault 1)) (kit.tell g (fault 1) refl)
+    step_done c text too_long f = reach (tells g m (fault 22)) (kit.tell g (fault 22) refl)
+    step_done c text no_object f = reach (tells g m (fault 2)) (kit.tell g (fault 2) refl)
+    step_done c text (no_request id why) f = reach (tells g m (unasked id why)) (kit.tell g (unasked id why) refl)
+    step_done c text (request id act) f =
+        test_of F (has_shape_room g act) (acts g m c id text act) (tells g m (replied id (refused limit))) (step_acts c id text act (λ n x e. f id act n refl x e))
+        (reach (tells g m (replied id (refused limit))) (kit.tell g (replied id (refused limit)) refl))
 
 -- ---- a fact of gateways that each step keeps
 
@@ -182,16 +186,15 @@ pub record MessageKeeps (P : Gate → Type 0) (g : Gate) (m : ℕ) (c : Client) 
 module _ (P : Gate → Type 0) (kit : (m : ℕ) → Steps m (Keeps P)) where
   -- a token is presented
   pub came_keeps : (g : Gate) (m : ℕ) (token : List ℕ)
-      → ((h : Gate) (role : Name) → role_for g m token ≡ Some role → P h → P (record h { clients = set h.clients m (Some (fresh role (sha256 token))) }))
+      → ((h : Gate) (role : Name) → role_for g m token ≡ Some role → P h → P (record h { clients = set h.clients m (Some (fresh h.entries role (sha256 token))) }))
       → P g → P (came g m token)
   came_keeps g m token put b = by (role_for g m token) (λ role e. put (with_session g role) role e)
     where
-      by : (o : Option Name) → ((role : Name) → o ≡ Some role → P (with_session g role) → P (record (with_session g role) { clients = set (with_session g role).clients m (Some (fresh role (sha256 token))) }))
-          → P (if_some o g (λ role. let h = with_session g role in settles (tells (record h { clients = set h.clients m (Some (fresh role (sha256 token))) }) m (welcome role))))
+      by : (o : Option Name) → ((role : Name) → o ≡ Some role → P (with_session g role)
+          → P (record (with_session g role) { clients = set (with_session g role).clients m (Some (fresh (with_session g role).entries role (sha256 token))) }))
+          → P (if_some o g (λ role. let h = with_session g role in record h { clients = set h.clients m (Some (fresh h.entries role (sha256 token))) }))
       by None f = b
-      by (Some role) f =
-          let h = with_session g role in let i = record h { clients = set h.clients m (Some (fresh role (sha256 token))) } in let k = kit m in
-          k.settle (tells i m (welcome role)) (k.tell i (welcome role) (f role refl (step_with m (Keeps P) k g role b)))
+      by (Some role) f = f role refl (step_with m (Keeps P) (kit m) g role b)
 
   -- a client goes
   pub went_keeps : (g : Gate) (m : ℕ) → (P g → P (record g { clients = set g.clients m None })) → P g → P (went g m)

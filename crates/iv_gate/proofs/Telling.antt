@@ -21,12 +21,12 @@ use Rattle.iv_access.specs.Access.{role_number}
 use Rattle.iv_machine.specs.State.{rel_of, view_for, State, Subscription, shown, subscription_of}
 use Rattle.iv_machine.specs.declared.Cause.{Cause}
 use Rattle.iv_message.specs.Told.{Told, changed, over, granted}
-use Rattle.iv_clients.specs.Clients.{Client, Sub, all_shown, followed, followed_by, own_line, own_lines, told}
+use Rattle.iv_clients.specs.Clients.{Client, Sub, all_shown, followed_by, own_line, own_lines, told}
 use Rattle.iv_clients.specs.Feeds.{Feed, ends_in, feed_of, is_end, rel_read}
 use Rattle.iv_gate.specs.Events.{Event, next}
 use Rattle.iv_gate.specs.Gate.{Gate, granted_by, is_accepted, reply_in, told_of}
-use Rattle.iv_gate.specs.Replies.{IsClient, told_by}
-use Rattle.iv_gate.specs.Seen.{TellsChanges, TellsDifference, all_rows, change_told, is_told_of, read_by, rows_told, seen}
+use Rattle.iv_gate.specs.Replies.{ByClient, IsClient, told_by}
+use Rattle.iv_gate.specs.Seen.{all_rows, change_told, is_told_of, read_by, rows_told, seen}
 use Rattle.iv_gate.proofs.Doing.{AreCalm, is_news}
 use Rattle.iv_gate.proofs.Growing.{behind_front, map_front}
 use Rattle.iv_gate.proofs.Showing.{are_shown}
@@ -200,7 +200,7 @@ module _ (old new : State) (ends : Subscription → Option Cause) (feeds : List 
       by false q t more = λ i. no_end k (ends e) e (difference (shown old e.number) (shown new e.number)) q i || more t i
 
 -- what a feed shows, the number that follows it shows
-shown_read : (g : Gate) → IsSoundGate g → (m : ℕ) (c : Client) (own k : ℕ) → IsClient g m c → followed c own ≡ Some k → shown g.machine k ≡ read_by g c own
+shown_read : (g : Gate) → IsSoundGate g → (m : ℕ) (c : Client) (own k : ℕ) → IsClient g m c → followed_by c.subs own ≡ Some k → shown g.machine k ≡ read_by g c own
 shown_read g b m c own k x h = look c.subs (b.clients m c x.there x.stays).follows h
   where
     of_sub : (s : Sub) → s.feed ≡ k → IsFollowing g.machine g.feeds (seer c) s → shown g.machine k ≡ read_by g c own
@@ -225,8 +225,8 @@ shown_read g b m c own k x h = look c.subs (b.clients m c x.there x.stays).follo
 
 data Texts (g : Gate) (c d : Client) (own : ℕ) : Type 0 where
   silent : filter (is_told_of own) (told_by c d) ≡ [] → Texts g c d own
-  differs : (xs ys : List (List Cell)) → filter (is_told_of own) (told_by c d) ≡ change_told own (difference xs ys) → is_some (followed d own) ≡ true → Texts g c d own
-  ends_so : (rel : Name) (why : Cause) → filter (is_told_of own) (told_by c d) ≡ over own rel why (difference (read_by g c own) []) ∷ [] → followed d own ≡ None → Texts g c d own
+  differs : (xs ys : List (List Cell)) → filter (is_told_of own) (told_by c d) ≡ change_told own (difference xs ys) → is_some (followed_by d.subs own) ≡ true → Texts g c d own
+  ends_so : (rel : Name) (why : Cause) → filter (is_told_of own) (told_by c d) ≡ over own rel why (difference (read_by g c own) []) ∷ [] → followed_by d.subs own ≡ None → Texts g c d own
 
 record IsFound (own : ℕ) (xs : List Sub) : Type 0 where
   sub : Sub
@@ -390,6 +390,14 @@ of_contents g c d own a = by (own == (c.given + 1)) refl
 
 -- ---- the difference
 
+-- Of a number that follows a feed behind an event, and did before or is given now, the event tells the difference of what it shows, in one
+-- text. Of one that follows none behind it, it tells nothing, or its end, which takes back all that it showed.
+pub record TellsApart (g : Gate) (e : Event) (c d : Client) (own : ℕ) : Type 0 where
+  pub goes_on : is_some (followed_by d.subs own) ≡ true → (is_some (followed_by c.subs own) ≡ true) ⊎ (c.given < own)
+      → filter (is_told_of own) (told_by c d) ≡ change_told own (difference (read_by g c own) (read_by (next g e) d own))
+  pub stops : followed_by d.subs own ≡ None → (filter (is_told_of own) (told_by c d) ≡ [])
+      ⊎ ((rel : Name) × (why : Cause) × (filter (is_told_of own) (told_by c d) ≡ over own rel why (difference (read_by g c own) []) ∷ []))
+
 -- what it was told stays, and more comes behind it
 text_kept : (g : Gate) (e : Event) (m : ℕ) (c d : Client) → IsClient g m c → IsClient (next g e) m d → told d ≡ told c ++ told_by c d
 text_kept g e m c d a b =
@@ -423,21 +431,21 @@ module _ (adds : Adds) (sounds : Sounds) (exact : (xs ys : List (List Cell)) →
       by true h more = ap (λ z. rows_told own t ++ z) more
       by false h more = (λ i. no_rows t h i ++ more i)
 
-  sum_before : (is_some (followed c own) ≡ true) ⊎ (c.given < own) → (q : List Cell) → sum_for own q (told c) ≡ pos (copies q (read_by g c own))
-  sum_before (inl h) q = by (followed c own) refl
+  sum_before : (is_some (followed_by c.subs own) ≡ true) ⊎ (c.given < own) → (q : List Cell) → sum_for own q (told c) ≡ pos (copies q (read_by g c own))
+  sum_before (inl h) q = by (followed_by c.subs own) refl
     where
-      by : (o : Option ℕ) → followed c own ≡ o → sum_for own q (told c) ≡ pos (copies q (read_by g c own))
+      by : (o : Option ℕ) → followed_by c.subs own ≡ o → sum_for own q (told c) ≡ pos (copies q (read_by g c own))
       by None f = absurd (false≢true (sym (ap is_some f) ∙ h))
       by (Some k) f = (adds_to_view g b m c own k x f).sum q ∙ sym (ap (λ o. pos (copies q (if_some o [] (λ j. seen g.machine c.role (rel_read g.feeds j))))) f)
   sum_before (inr l) q =
       let sound = b.clients m c x.there x.stays in
       sound.later own q l ∙ sym (ap (λ o. pos (copies q (if_some o [] (λ j. seen g.machine c.role (rel_read g.feeds j)))))
-      (absent (followed c own) (followed_any own c.subs ∙ above c.given own c.subs sound.own l)))
+      (absent (followed_by c.subs own) (followed_any own c.subs ∙ above c.given own c.subs sound.own l)))
 
-  sum_behind : is_some (followed d own) ≡ true → (q : List Cell) → sum_for own q (told d) ≡ pos (copies q (read_by (next g e) d own))
-  sum_behind h q = by (followed d own) refl
+  sum_behind : is_some (followed_by d.subs own) ≡ true → (q : List Cell) → sum_for own q (told d) ≡ pos (copies q (read_by (next g e) d own))
+  sum_behind h q = by (followed_by d.subs own) refl
     where
-      by : (o : Option ℕ) → followed d own ≡ o → sum_for own q (told d) ≡ pos (copies q (read_by (next g e) d own))
+      by : (o : Option ℕ) → followed_by d.subs own ≡ o → sum_for own q (told d) ≡ pos (copies q (read_by (next g e) d own))
       by None f = absurd (false≢true (sym (ap is_some f) ∙ h))
       by (Some k) f =
           (adds_to_view (next g e) after m d own k y f).sum q
@@ -447,7 +455,7 @@ module _ (adds : Adds) (sounds : Sounds) (exact : (xs ys : List (List Cell)) →
   left_over w p q h = omega (arith, ints, h)
 
   -- the texts weigh the difference
-  weighs : is_some (followed d own) ≡ true → (is_some (followed c own) ≡ true) ⊎ (c.given < own) → (q : List Cell)
+  weighs : is_some (followed_by d.subs own) ≡ true → (is_some (followed_by c.subs own) ≡ true) ⊎ (c.given < own) → (q : List Cell)
       → weight_of (all_rows own (filter (is_told_of own) (told_by c d))) q ≡ weight (read_by g c own) (read_by (next g e) d own) q
   weighs f p q =
       left_over (weight_of (all_rows own (filter (is_told_of own) (told_by c d))) q) (copies q (read_by g c own)) (copies q (read_by (next g e) d own))
@@ -458,7 +466,7 @@ module _ (adds : Adds) (sounds : Sounds) (exact : (xs ys : List (List Cell)) →
   rows_of_change [] = refl
   rows_of_change (p ∷ ps) = ap (λ z. cond z (p ∷ ps) [] ++ []) (same_self own) ∙ append-nil (p ∷ ps)
 
-  told_exactly : (xs ys : List (List Cell)) → filter (is_told_of own) (told_by c d) ≡ change_told own (difference xs ys) → is_some (followed d own) ≡ true → (is_some (followed c own) ≡ true) ⊎ (c.given < own)
+  told_exactly : (xs ys : List (List Cell)) → filter (is_told_of own) (told_by c d) ≡ change_told own (difference xs ys) → is_some (followed_by d.subs own) ≡ true → (is_some (followed_by c.subs own) ≡ true) ⊎ (c.given < own)
       → filter (is_told_of own) (told_by c d) ≡ change_told own (difference (read_by g c own) (read_by (next g e) d own))
   told_exactly xs ys t f p =
       t ∙ ap (change_told own) (only (read_by g c own) (read_by (next g e) d own) (difference xs ys) (record {
@@ -466,14 +474,14 @@ module _ (adds : Adds) (sounds : Sounds) (exact : (xs ys : List (List Cell)) →
         weights = λ q. sym (ap (λ rows. weight_of rows q) (ap (all_rows own) t ∙ rows_of_change (difference xs ys))) ∙ weighs f p q;
       }))
 
-  tells_difference : Hears g (next g e) c d → TellsDifference g e c d own
+  tells_difference : Hears g (next g e) c d → TellsApart g e c d own
   tells_difference h = by (texts_of h)
     where
-      by : Texts g c d own → TellsDifference g e c d own
+      by : Texts g c d own → TellsApart g e c d own
       by (silent t) = record { goes_on = λ f p. told_exactly [] [] t f p; stops = λ f. inl t }
       by (differs xs ys t s) = record { goes_on = λ f p. told_exactly xs ys t f p; stops = λ f. absurd (false≢true (sym (ap is_some f) ∙ s)) }
       by (ends_so rel why t s) = record { goes_on = λ f p. absurd (false≢true (sym (ap is_some s) ∙ f)); stops = λ f. inr (rel, why, t) }
 
-pub tells_changes : Adds → Sounds → ((xs ys : List (List Cell)) → IsDifference xs ys (difference xs ys))
-    → ((xs ys : List (List Cell)) (rows : List (List Cell × ℤ)) → IsDifference xs ys rows → rows ≡ difference xs ys) → (g : Gate) (e : Event) → IsSoundGate g → IsSoundGate (next g e) → TellsChanges g e
-tells_changes adds sounds exact only g e b behind m c d x y own = tells_difference adds sounds exact only g e b m c d x y own behind (next_all sounds g e b m c d x.there x.stays y.there y.stays)
+pub tells_apart : Adds → Sounds → ((xs ys : List (List Cell)) → IsDifference xs ys (difference xs ys))
+    → ((xs ys : List (List Cell)) (rows : List (List Cell × ℤ)) → IsDifference xs ys rows → rows ≡ difference xs ys) → (g : Gate) (e : Event) → IsSoundGate g → IsSoundGate (next g e) → ByClient g e (λ m c d. (own : ℕ) → TellsApart g e c d own)
+tells_apart adds sounds exact only g e b behind m c d x y own = tells_difference adds sounds exact only g e b m c d x y own behind (next_all sounds g e b m c d x.there x.stays y.there y.stays)

@@ -6,16 +6,54 @@ use Rattle.sha2.specs.Sha256.{sha256}
 use Rattle.iv_rows.specs.Names.{is_name}
 use Rattle.iv_rows.specs.Options.{if_some}
 use Rattle.iv_access.specs.Rights.{Name}
-use Rattle.iv_message.specs.Told.{welcome}
-use Rattle.iv_clients.specs.Clients.{Client, Slots, at_all, at_client, beating, checked, client_at, dropping, fresh, handing, is_free, is_slow, may_say, opens, released, saying, settling, told_one}
+use Rattle.iv_clients.specs.Clients.{Client, Slots, at_all, at_client, beating, checked, client_at, dropping, fresh, handing, is_free, is_slow, may_say, opens, released, saying}
 use Rattle.iv_clients.specs.Feeds.{is_of_role}
 use Rattle.iv_clients.specs.Journal.{Entry, said_by}
 use Rattle.iv_clients.specs.Tokens.{Token, role_opened}
 use Rattle.iv_gate.specs.Events.{Event, presented, message, gone, known, ticked, synced, handed, failed, happens, next, ticking}
-use Rattle.iv_gate.specs.Gate.{Gate, all_rested, all_swept, came, has_session, hears, role_for, said, settles, tells, went, with_session}
-use Rattle.iv_gate.specs.Laws.{Marks, entries_by, marks, marks_behind, new_entries}
-use Rattle.iv_gate.specs.Touched.{AreTouched, Card, IsKept, IsNewcomer, card, card_behind, drops, is_gone}
-use Rattle.iv_gate.proofs.Signs.{Mark, marking, Sign, mark_of, marks_in, sign, sign_all_rested, sign_all_swept, sign_hears, sign_settles, sign_tells, sign_with}
+use Rattle.iv_gate.specs.Gate.{Gate, all_rested, all_swept, came, has_session, hears, role_for, said, settles, went, with_session}
+use Rattle.iv_gate.specs.Laws.{entries_by, new_entries}
+use Rattle.iv_gate.specs.Touched.{drops}
+use Rattle.iv_gate.proofs.Signs.{Card, Mark, Marks, card, marking, marks, Sign, mark_of, marks_in, sign, sign_all_rested, sign_all_swept, sign_hears, sign_settles, sign_with}
+
+-- ---- what events leave
+
+-- the marks behind an event of one that is not dead
+abbrev pub marks_behind : Gate → Event → Marks
+marks_behind g (known tokens) = record (marks g) { tokens = tokens }
+marks_behind g synced = record (marks g) { kept = length g.entries }
+marks_behind g (handed m) = record (marks g) { sent = g.sent ++ if_some (client_at g.clients m) [] (λ c. c.sendable) }
+marks_behind g failed = record (marks g) { dead = true }
+marks_behind g e = marks g
+
+-- the card behind an event: its own message that is heard, and what is handed to it
+abbrev pub card_behind : ℕ → Client → Event → Card
+card_behind m c (message n text) = cond (n == m && may_say c) (card (saying text c)) (card c)
+card_behind m c (handed n) = cond (n == m) (card (handing c)) (card c)
+card_behind m c e = card c
+
+abbrev pub is_gone : ℕ → Event → Bool
+is_gone m (gone n) = n == m
+is_gone m e = false
+
+-- a client stays with its card, but for its own leaving
+pub record IsKept (g : Gate) (e : Event) (m : ℕ) (c : Client) : Type 0 where
+  pub now : Client
+  pub there : client_at (next g e).clients m ≡ Some now
+  pub card : card now ≡ card_behind m c e
+  pub dropped : now.dropped ≡ (c.dropped || drops c e)
+
+-- a number that nobody had has a client who presented a token, which opens its role, and who is told its greeting alone
+pub record IsNewcomer (g : Gate) (e : Event) (m : ℕ) (d : Client) : Type 0 where
+  pub token : List ℕ
+  pub event : e ≡ presented m token
+  pub opened : role_opened g.tokens (sha256 token) ≡ Some d.role
+  pub is : d ≡ fresh (next g e).entries d.role (sha256 token)
+
+pub record AreTouched (g : Gate) (e : Event) : Type 0 where
+  pub stays : (m : ℕ) (c : Client) → client_at g.clients m ≡ Some c → is_gone m e ≡ false → IsKept g e m c
+  pub leaves : (m : ℕ) → is_gone m e ≡ true → client_at (next g e).clients m ≡ None
+  pub comes : (m : ℕ) (d : Client) → client_at g.clients m ≡ None → client_at (next g e).clients m ≡ Some d → IsNewcomer g e m d
 
 -- ---- slots
 
@@ -190,20 +228,19 @@ opens_role g m token role h = by (role_opened g.tokens (sha256 token)) refl h
 
 -- the gateway behind it
 abbrev pub came_as : Gate → ℕ → List ℕ → Name → Gate
-came_as g m token role = let h = with_session g role in settles (tells (record h { clients = set h.clients m (Some (fresh role (sha256 token))) }) m (welcome role))
+came_as g m token role = let h = with_session g role in record h { clients = set h.clients m (Some (fresh h.entries role (sha256 token))) }
 
-pub came_sign : (g : Gate) (m : ℕ) (token : List ℕ) (role : Name) → sign (came_as g m token role) ≡ record (sign g) { slots = set (marks_in g.clients) m (Some (mark_of (fresh role (sha256 token)))) }
+pub came_sign : (g : Gate) (m : ℕ) (token : List ℕ) (role : Name) → sign (came_as g m token role) ≡ record (sign g) { slots = set (marks_in g.clients) m (Some (mark_of (fresh g.entries role (sha256 token)))) }
 came_sign g m token role =
-    let h = with_session g role in let i = record h { clients = set h.clients m (Some (fresh role (sha256 token))) } in
-    sign_settles (tells i m (welcome role)) ∙ (sign_tells i m (welcome role)
-    ∙ (ap (λ z. record (sign h) { slots = z }) (set_marks m (Some (fresh role (sha256 token))) h.clients)
-    ∙ ap (λ (s : Sign). record s { slots = set s.slots m (Some (mark_of (fresh role (sha256 token)))) }) (sign_with g role)))
+    let h = with_session g role in
+    ap (λ z. record (sign h) { slots = z }) (set_marks m (Some (fresh h.entries role (sha256 token))) h.clients)
+    ∙ ap (λ (s : Sign). record s { slots = set s.slots m (Some (mark_of (fresh g.entries role (sha256 token)))) }) (sign_with g role)
 
 came_other : (g : Gate) (m : ℕ) (token : List ℕ) (j : ℕ) (o : Option Name) → role_for g m token ≡ o → ((role : Name) → role_for g m token ≡ Some role → m ≡ j → ⊥)
     → client_at (marks_in (if_some o g (came_as g m token)).clients) j ≡ client_at (marks_in g.clients) j
 came_other g m token j None e ne = refl
 came_other g m token j (Some role) e ne =
-    ap (λ (s : Sign). client_at s.slots j) (came_sign g m token role) ∙ set_other m j (Some (mark_of (fresh role (sha256 token)))) (marks_in g.clients) (ne role e)
+    ap (λ (s : Sign). client_at s.slots j) (came_sign g m token role) ∙ set_other m j (Some (mark_of (fresh g.entries role (sha256 token)))) (marks_in g.clients) (ne role e)
 
 came_at : (g : Gate) (m : ℕ) (token : List ℕ) (j : ℕ) (c : Client) → client_at g.clients j ≡ Some c → client_at (marks_in (came g m token).clients) j ≡ Some (mark_of c)
 came_at g m token j c h =
@@ -322,11 +359,9 @@ said_none g m text j h = ap (λ z. client_at z j) (said_slots g m text) ∙ by (
 -- ---- who comes
 
 pub came_is : (g : Gate) (m : ℕ) (token : List ℕ) (role : Name) → is_free m g.clients ≡ true
-    → client_at (came_as g m token role).clients m ≡ Some (settling (came_as g m token role).entries (told_one (came_as g m token role).entries (welcome role) (fresh role (sha256 token))))
+    → client_at (came_as g m token role).clients m ≡ Some (fresh (came_as g m token role).entries role (sha256 token))
 came_is g m token role free =
-    let h = with_session g role in let es = h.entries in let slots = set h.clients m (Some (fresh role (sha256 token))) in
-    at_every (settling es) (at_client m (told_one es (welcome role)) slots) m
-    ∙ ap (option_map (settling es)) (at_same m (told_one es (welcome role)) slots ∙ ap (option_map (told_one es (welcome role))) (set_there m (fresh role (sha256 token)) h.clients (free_marks h.clients)))
+    let h = with_session g role in set_there m (fresh h.entries role (sha256 token)) h.clients (free_marks h.clients)
   where
     free_of : (slots : Slots) (j : ℕ) → is_free j (marks_in slots) ≡ is_free j slots
     free_of [] j = refl
@@ -339,13 +374,13 @@ came_is g m token role free =
 
 pub record IsCome (g h : Gate) (m : ℕ) (token : List ℕ) (d : Client) : Type 0 where
   pub opened : role_opened g.tokens (sha256 token) ≡ Some d.role
-  pub is : d ≡ settling h.entries (told_one h.entries (welcome d.role) (fresh d.role (sha256 token)))
+  pub is : d ≡ fresh h.entries d.role (sha256 token)
 
 come_of : (g h : Gate) (m : ℕ) (token : List ℕ) (d : Client) (role : Name) → role_opened g.tokens (sha256 token) ≡ Some role
-    → d ≡ settling h.entries (told_one h.entries (welcome role) (fresh role (sha256 token))) → IsCome g h m token d
+    → d ≡ fresh h.entries role (sha256 token) → IsCome g h m token d
 come_of g h m token d role o e =
     let same : d.role ≡ role = ap (λ (c : Client). c.role) e in
-    record { opened = o ∙ ap Some (sym same); is = e ∙ ap (λ r. settling h.entries (told_one h.entries (welcome r) (fresh r (sha256 token)))) (sym same) }
+    record { opened = o ∙ ap Some (sym same); is = e ∙ ap (λ r. fresh h.entries r (sha256 token)) (sym same) }
 
 pub one_some : {X : Type 0} (a b : X) → Some a ≡ Some b → a ≡ b
 one_some a b h = cc
@@ -371,7 +406,7 @@ comes_at g e j d live n h = by e refl (ap (λ (x : Gate). client_at x.clients j)
         let same = eqb-true m j q in
         let c = came_new g j token d (role_for g j token) refl n (ap (λ i. client_at (came g i token).clients j) (sym same) ∙ x) in
         let is_next : next g e ≡ came g j token = alive g e live ∙ (ap (happens g) s ∙ ap (λ i. came g i token) same) in
-        record { token = token; event = s ∙ ap (λ i. presented i token) same; opened = c.opened; is = c.is ∙ ap (λ (x : Gate). settling x.entries (told_one x.entries (welcome d.role) (fresh d.role (sha256 token)))) (sym is_next) }
+        record { token = token; event = s ∙ ap (λ i. presented i token) same; opened = c.opened; is = c.is ∙ ap (λ (x : Gate). fresh x.entries d.role (sha256 token)) (sym is_next) }
     came_by m token false q s x = never (came g m token).clients (came_other g m token j (role_for g m token) refl (λ role _. eqb-false m j q) ∙ nobody) x
 
     went_by : (m : ℕ) (b : Bool) → (m == j) ≡ b → client_at (marks_in (went g m).clients) j ≡ None

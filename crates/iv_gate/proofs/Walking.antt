@@ -1,17 +1,19 @@
 -- A fact of clients that each step keeps, through all that an event does.
-use Rattle.std.proofs.Common.{◌≡◌, ℕ, Bool, true, false, List, Option, Some, option_map, refl, ap, ◌∙◌, subst}
+use Rattle.std.proofs.Common.{◌≡◌, ℕ, Bool, true, false, List, [], ◌∷◌, Option, Some, option_map, refl, ap, ◌∙◌, subst}
 use Rattle.std.specs.Prelude.{◌==◌}
+use Rattle.std.specs.List.{AllByRecursion}
 use Rattle.std.proofs.lemmas.Bool.{eqb-true, eqb-false}
 use Rattle.serde_json.specs.Data.{Data}
 use Rattle.iv_access.specs.Rights.{Name}
 use Rattle.iv_machine.specs.Act.{Command}
 use Rattle.iv_machine.specs.Machine.{step}
 use Rattle.iv_message.specs.Message.{Message}
-use Rattle.iv_message.specs.Told.{Told, replied}
+use Rattle.iv_message.specs.Told.{Told, made, replied}
 use Rattle.iv_clients.specs.Clients.{Client, Slots, at_all, at_client, client_at, closing, following, moved, settling, staying, telling, told_one}
 use Rattle.iv_clients.specs.Feeds.{Seat}
-use Rattle.iv_clients.specs.Journal.{Entry, line_said}
-use Rattle.iv_gate.specs.Gate.{Gate, all_rested, all_swept, done_for, entered, in_session, is_accepted, ran, reply_to, requests, settles, tells, told_of, with_session}
+use Rattle.iv_clients.specs.Journal.{Entry, line_said, shape_for}
+use Rattle.iv_gate.specs.Gate.{Gate, all_rested, all_swept, done_for, entered, entries_of, in_session, is_accepted, ran, reply_to, requests, settles, informs, tells, told_of, with_session}
+use Rattle.iv_gate.proofs.Shaping.{all_made}
 use Rattle.iv_gate.proofs.Stepping.{Steps, step_all_rested, step_all_swept, step_done, step_with}
 use Rattle.iv_gate.proofs.Touching.{at_every, at_other, at_same}
 
@@ -22,6 +24,7 @@ pub record Kit (m : ℕ) (R : ℕ → Client → Client → Type 0) : Type 0 whe
   pub hear : (j : ℕ) (c : Client) (g : Gate) (k : Command) → R j c (staying (step g.machine k).lines (telling g.entries (told_of g k.act (step g.machine k) c) c))
   pub rest : (j : ℕ) (c : Client) (es : List Entry) → R j c (settling es c)
   pub tell : (c : Client) (es : List Entry) (t : Told) → R m c (told_one es t c)
+  pub show : (j : ℕ) (c : Client) (es : List Entry) (role line : List ℕ) → R j c (told_one es (made role line) c)
   pub follow : (c : Client) (k : ℕ) → R m c (following k c)
   pub move : (c : Client) (t k : ℕ) → R m c (moved t k c)
   pub close : (c : Client) (own : ℕ) → R m c (closing own c)
@@ -62,10 +65,19 @@ module _ (m : ℕ) (R : ℕ → Client → Client → Type 0) (kit : Kit m R) wh
   pub to_settles : (g : Gate) → Leads R g.clients (settles g).clients
   to_settles g = to_all (settling g.entries) (λ j c. kit.rest j c g.entries) g.clients
 
+  shown_all : (es : List Entry) (j : ℕ) (ts : List Told) (c : Client) → AllByRecursion (λ t. (d : Client) → R j d (told_one es t d)) ts → R j c (telling es ts c)
+  shown_all es j [] c a = kit.same j c
+  shown_all es j (t ∷ ts) c a = kit.chain j c (told_one es t c) (telling es ts (told_one es t c)) (a.0 c) (shown_all es j ts (told_one es t c) a.1)
+
+  to_informs : (g : Gate) (es : List Entry) → Leads R g.clients (informs g es).clients
+  to_informs g es = to_all (λ c. telling g.entries (shape_for c.role es) c)
+      (λ j c. shown_all g.entries j (shape_for c.role es) c (all_made (λ t. (d : Client) → R j d (told_one g.entries t d)) (λ role line d. kit.show j d g.entries role line) c.role es)) g.clients
+
   to_requests : (g : Gate) (id : Option Data) (e : Entry) (n : ℕ) → Leads R g.clients (requests g m id e n).clients
   to_requests g id e n =
-      let k = in_session n e.act in let r = reply_to g k in let h = entered g e (is_accepted r) in
-      to_then g.clients (tells h m (replied id r)).clients (ran (tells h m (replied id r)) k).clients (to_tells h (replied id r)) (to_ran (tells h m (replied id r)) k)
+      let k = in_session n e.act in let r = reply_to g k in let h = tells (entered g e (is_accepted r)) m (replied id r) in
+      to_then g.clients h.clients (requests g m id e n).clients (to_tells (entered g e (is_accepted r)) (replied id r))
+      (to_then h.clients (ran h k).clients (requests g m id e n).clients (to_ran h k) (to_informs (ran h k) (entries_of e (is_accepted r))))
 
   steps : Steps m (λ g h. Leads R g.clients h.clients)
   steps = record {
@@ -73,7 +85,7 @@ module _ (m : ℕ) (R : ℕ → Client → Client → Type 0) (kit : Kit m R) wh
     chain = λ g h i x y. to_then g.clients h.clients i.clients x y;
     run = λ g k e. to_ran g k;
     settle = to_settles;
-    tell = to_tells;
+    tell = λ g t _. to_tells g t;
     seat = λ g seats. to_same g.clients;
     feed = λ g feeds. to_same g.clients;
     follow = λ g k. to_one (following k) (λ c. kit.follow c k) g.clients;

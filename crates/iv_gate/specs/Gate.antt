@@ -1,5 +1,5 @@
 -- The gateway: the access machine, its sessions by role, the feeds that clients share, the clients, and the journal's entries.
-use Rattle.std.specs.Prelude.{ℕ, ◌+◌, ◌==◌, ◌&&◌, ◌||◌, not, Bool, true, false, if◌then◌else◌, List, [], ◌∷◌, ◌++◌, map, filter, drop, length, nat_lt, slice_set, Option, Some, None, option_and_then, is_some}
+use Rattle.std.specs.Prelude.{ℕ, ◌+◌, ◌==◌, ◌&&◌, ◌||◌, not, Bool, true, false, if◌then◌else◌, List, [], ◌∷◌, ◌++◌, map, filter, flat_map, length, nat_lt, slice_set, Option, Some, None, option_and_then, is_some}
 use Rattle.std.specs.List.{list_any}
 use Rattle.sha2.specs.Sha256.{sha256}
 use Rattle.serde_json.specs.Data.{Data}
@@ -10,15 +10,15 @@ use Rattle.iv_bind.specs.Catalogs.{columns_of, named}
 use Rattle.iv_access.specs.Privileges.{acts_as, has, role_of}
 use Rattle.iv_access.specs.Rights.{Name}
 use Rattle.iv_access.specs.declared.privilege.Privilege.TheVariants.{Select, Insert, Update, Delete}
-use Rattle.iv_machine.specs.Act.{Act, begin, finish, create_table, create_view, grant, grant_role, subscribe, unsubscribe, Command, Line, reply, Reply, done, subscribed, refused, no_session, too_many, unknown_subscription}
+use Rattle.iv_machine.specs.Act.{Act, begin, finish, create_table, create_view, grant, grant_role, subscribe, unsubscribe, Command, Line, reply, Reply, done, subscribed, refused, limit, no_session, too_many, unknown_subscription}
 use Rattle.iv_machine.specs.Machine.{Outcome, step}
 use Rattle.iv_machine.specs.State.{Frame, State}
 use Rattle.iv_message.specs.Message.{Message, no_json, too_long, no_object, no_request, request}
-use Rattle.iv_message.specs.Told.{Told, welcome, replied, opened, fault, unasked, granted}
+use Rattle.iv_message.specs.Told.{Told, replied, opened, fault, unasked, granted, told_text}
 use Rattle.iv_clients.specs.Bounds.{most_subs}
-use Rattle.iv_clients.specs.Clients.{Client, Shown, Slots, answered, at_all, at_client, client_at, closing, followed, following, fresh, has_role, is_followed, is_free, may_say, moved, own_lines, saying, settling, staying, telling, told_one}
+use Rattle.iv_clients.specs.Clients.{Client, Shown, Slots, answered, at_all, at_client, client_at, closing, followed_by, following, fresh, has_role, is_followed, is_free, may_say, moved, own_lines, saying, settling, staying, telling, told_one}
 use Rattle.iv_clients.specs.Feeds.{Feed, Seat, feed_for, feed_of, feeds_left, is_of_role, is_reading, next_seat, room_for, seat_of, without_feed, without_seat}
-use Rattle.iv_clients.specs.Journal.{Entry, is_shared, line_said, said_by}
+use Rattle.iv_clients.specs.Journal.{Entry, is_shape, is_shared, line_said, said_by, shape_for, shape_of}
 use Rattle.iv_clients.specs.Tokens.{Token, role_opened}
 
 -- `entries` are the accepted requests, of which the first `kept` are on disk. Once it is `dead` nothing happens any more. `sent` is all
@@ -33,10 +33,6 @@ pub record Gate : Type 0 where
   pub kept : ℕ
   pub dead : Bool
   pub sent : List Shown
-
--- what the journal is to have before anyone hears of it
-abbrev pub pending : Gate → List Entry
-pending g = drop g.kept g.entries
 
 -- ---- one command
 
@@ -183,18 +179,26 @@ all_swept g (k ∷ ks) = all_swept (swept g k) ks
 
 -- client m closes its own number, which follows a feed, or it has none to close
 abbrev pub closes : Gate → ℕ → Client → Option Data → ℕ → Gate
-closes g m c id own = if_some (followed c own) (tells g m (replied id (refused unknown_subscription)))
+closes g m c id own = if_some (followed_by c.subs own) (tells g m (replied id (refused unknown_subscription)))
     (λ k. swept (tells (record g { clients = at_client m (closing own) g.clients }) m (replied id done)) k)
 
 -- ---- other requests
 
--- the journal is to have it, where it changes what is shared
-abbrev pub entered : Gate → Entry → Bool → Gate
-entered g e accepted = record g { entries = g.entries ++ (if is_shared e.act && accepted then e ∷ [] else []) }
+-- what the journal is to have of a request: it, where it is accepted and changes what is shared
+abbrev pub entries_of : Entry → Bool → List Entry
+entries_of e accepted = if is_shared e.act && accepted then e ∷ [] else []
 
--- client m is told the reply, and then everybody what changed
+abbrev pub entered : Gate → Entry → Bool → Gate
+entered g e accepted = record g { entries = g.entries ++ entries_of e accepted }
+
+-- administrators are told what these entries make of the shape
+abbrev pub informs : Gate → List Entry → Gate
+informs g es = record g { clients = at_all (λ c. telling g.entries (shape_for c.role es) c) g.clients }
+
+-- client m is told the reply, then everybody what changed, and then administrators the request, if it makes the shape
 abbrev pub requests : Gate → ℕ → Option Data → Entry → ℕ → Gate
-requests g m id e n = let k = in_session n e.act in let r = reply_to g k in ran (tells (entered g e (is_accepted r)) m (replied id r)) k
+requests g m id e n = let k = in_session n e.act in let r = reply_to g k in
+    informs (ran (tells (entered g e (is_accepted r)) m (replied id r)) k) (entries_of e (is_accepted r))
 
 -- ---- messages
 
@@ -207,12 +211,24 @@ acts g m c id text (unsubscribe own) = closes g m c id own
 acts g m c id text act = if_some (seat_of g.seats c.role) (tells g m (replied id (refused no_session)))
     (requests g m id (record { role = c.role; line = line_said text; act = act }))
 
+-- bytes of the shape's text, beyond which nothing more makes the shape
+abbrev pub most_shape : ℕ
+most_shape = 16777216
+
+-- what tells of the shape that entries make, one text after another
+abbrev pub shape_text : List Entry → List ℕ
+shape_text es = flat_map told_text (shape_of es)
+
+-- the shape has room for what the act makes of it
+abbrev pub has_shape_room : Gate → Act → Bool
+has_shape_room g act = not (is_shape act && nat_lt most_shape (length (shape_text g.entries)))
+
 abbrev pub done_for : Gate → ℕ → Client → List ℕ → Message → Gate
 done_for g m c text no_json = tells g m (fault 1)
 done_for g m c text too_long = tells g m (fault 22)
 done_for g m c text no_object = tells g m (fault 2)
 done_for g m c text (no_request id why) = tells g m (unasked id why)
-done_for g m c text (request id act) = acts g m c id text act
+done_for g m c text (request id act) = if has_shape_room g act then acts g m c id text act else tells g m (replied id (refused limit))
 
 -- it is heard: there is such a client, who has little under way
 abbrev pub is_heard : Gate → ℕ → Bool
@@ -231,14 +247,16 @@ said g m text = if_some (client_at g.clients m) g (λ c. if may_say c then hears
 
 -- the role that is opened by what is presented for number m, which nobody has
 abbrev pub role_for : Gate → ℕ → List ℕ → Option Name
-role_for g m token = option_and_then (λ role. if is_name role && (is_free m g.clients && has_session g role) then Some role else None) (role_opened g.tokens (sha256 token))
+role_for g m token =
+    option_and_then (λ role. if is_name role && (is_free m g.clients && has_session g role) then Some role else None) (role_opened g.tokens (sha256 token))
 
--- who presents a token comes in as client m, in the role that it opens, and is welcomed; else nothing changes
+-- who presents a token comes in as client m, in the role that it opens, and is told what it is to know; else nothing changes
 abbrev pub came : Gate → ℕ → List ℕ → Gate
 came g m token = if_some (role_for g m token) g
-    (λ role. let h = with_session g role in settles (tells (record h { clients = slice_set h.clients m (Some (fresh role (sha256 token))) }) m (welcome role)))
+    (λ role. let h = with_session g role in record h { clients = slice_set h.clients m (Some (fresh h.entries role (sha256 token))) })
 
 -- client m goes; what only it followed is closed, and sessions that were its role's alone are finished
 abbrev pub went : Gate → ℕ → Gate
 went g m = if_some (client_at g.clients m) g (λ c.
-    let h = all_swept (record g { clients = slice_set g.clients m None }) (map (λ s. s.feed) c.subs) in settles (all_rested h (filter (is_of_role c.role) h.seats)))
+    let h = all_swept (record g { clients = slice_set g.clients m None }) (map (λ s. s.feed) c.subs) in
+    settles (all_rested h (filter (is_of_role c.role) h.seats)))

@@ -7,3 +7,4 @@ pub mod Touched
 pub mod Seen
 pub mod Laws
 pub mod Needed
+pub mod Implied

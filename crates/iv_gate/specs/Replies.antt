@@ -1,20 +1,21 @@
 -- What a client is replied.
-use Rattle.std.specs.Prelude.{◌≡◌, ◌≤◌, count_by, ◌⊎◌, ℕ, ◌+◌, ◌==◌, ◌&&◌, Bool, true, false, if◌then◌else◌, List, [], ◌∷◌, filter, drop, length, slice_get, Option, Some, None, is_some}
+use Rattle.std.specs.Prelude.{◌≡◌, ◌≤◌, bytes_eq, count_by, ◌⊎◌, ℕ, ◌+◌, ◌==◌, ◌&&◌, Bool, true, false, if◌then◌else◌, List, [], ◌∷◌, filter, drop, length, slice_get, Option, Some, None, is_some}
+use Rattle.std.specs.List.{AllByRecursion}
 use Rattle.serde_json.specs.Data.{Data}
 use Rattle.iv_rows.specs.Columns.{Column}
 use Rattle.iv_access.specs.Privileges.{role_of}
 use Rattle.iv_access.specs.Rights.{Name}
-use Rattle.iv_machine.specs.Act.{Act, begin, finish, subscribe, unsubscribe, done, subscribed, refused, Reply, too_many, unknown_subscription}
+use Rattle.iv_machine.specs.Act.{Act, begin, finish, subscribe, unsubscribe, done, subscribed, refused, Reply, limit, too_many, unknown_subscription}
 use Rattle.iv_machine.specs.Machine.{step}
 use Rattle.iv_machine.specs.State.{Session, State, session_of}
 use Rattle.iv_message.specs.Message.{Message, no_json, too_long, no_object, no_request, request}
-use Rattle.iv_message.specs.Told.{Told, welcome, replied, opened, fault, unasked, changed, over, settled, granted, alive}
-use Rattle.iv_clients.specs.Clients.{Client, client_at, followed, may_say, told}
+use Rattle.iv_message.specs.Told.{Told, welcome, replied, opened, fault, unasked}
+use Rattle.iv_clients.specs.Clients.{Client, client_at, followed_by, may_say, told}
 use Rattle.iv_clients.specs.Bounds.{most_feeds, most_seats, most_subs}
-use Rattle.iv_clients.specs.Feeds.{feed_for, room_for}
+use Rattle.iv_clients.specs.Feeds.{Feed, Seat, feed_for}
 use Rattle.iv_clients.specs.Journal.{said_by}
 use Rattle.iv_gate.specs.Events.{Event, message, next}
-use Rattle.iv_gate.specs.Gate.{Gate, columns_in, in_session, reply_in}
+use Rattle.iv_gate.specs.Gate.{Gate, columns_in, has_shape_room, in_session, reply_in}
 
 -- ---- clients
 
@@ -35,12 +36,12 @@ told_by c d = drop (length (told c)) (told d)
 
 -- to the token, or to a message
 abbrev pub is_reply : Told → Bool
-is_reply (changed own rows) = false
-is_reply (over own rel why rows) = false
-is_reply settled = false
-is_reply (granted rel) = false
-is_reply alive = false
-is_reply _ = true
+is_reply (welcome role) = true
+is_reply (replied id r) = true
+is_reply (opened id own columns) = true
+is_reply (fault number) = true
+is_reply (unasked id why) = true
+is_reply _ = false
 
 abbrev pub replies : List Told → List Told
 replies ts = filter is_reply ts
@@ -52,10 +53,8 @@ pub record ActsAs (s : State) (n : ℕ) (role : Name) : Type 0 where
   pub session : session_of s.frame.sessions n ≡ Some (record { number = n; role = place })
 
 -- the machine's reply to an act in a session of the role
-pub record IsMachineReply (s : State) (role : Name) (act : Act) (r : Reply) : Type 0 where
-  pub session : ℕ
-  pub acts : ActsAs s session role
-  pub reply : r ≡ reply_in (step s (in_session session act)).lines
+abbrev pub IsMachineReply : State → Name → Act → Reply → Type 0
+IsMachineReply s role act r = (n : ℕ) × ActsAs s n role × (r ≡ reply_in (step s (in_session n act)).lines)
 
 -- a subscription is told by the client's next number and the relation's columns
 abbrev pub reading_told : State → Client → Option Data → Name → Reply → Told
@@ -67,23 +66,21 @@ pub record IsReadingReply (g : Gate) (c : Client) (id : Option Data) (rel : Name
   pub sessions : List Session
   pub reply : Reply
   pub is : IsMachineReply (record g.machine { frame = record g.machine.frame { sessions = sessions } }) c.role (subscribe rel) reply
-  pub place : count_by (λ e. is.session == e.session) g.machine.frame.subscriptions ≤ most_feeds
+  pub place : count_by (λ e. is.0 == e.session) g.machine.frame.subscriptions ≤ most_feeds
   pub told : t ≡ reading_told g.machine c id rel reply
 
--- each session of the role is full, all sessions are begun, and the role does not read the relation yet
-pub record HasNoRoom (g : Gate) (role rel : Name) : Type 0 where
-  pub new : feed_for g.feeds role rel ≡ None
-  pub full : room_for g.seats g.feeds role ≡ None
-  pub seats : most_seats ≤ length g.seats
+-- each session of the role has as many feeds as it may
+abbrev pub AreFull : List Seat → List Feed → Name → Type 0
+AreFull seats feeds role = AllByRecursion (λ s. bytes_eq s.role role ≡ true → most_feeds ≤ count_by (λ f. s.session == f.session) feeds) seats
 
--- the client follows as much as it may, or its role has no room
+-- the client follows as much as it may; or its role does not read the relation yet, each session of the role is full, and all are begun
 abbrev pub IsFull : Gate → Client → Name → Type 0
-IsFull g c rel = (most_subs ≤ length c.subs) ⊎ HasNoRoom g c.role rel
+IsFull g c rel = (most_subs ≤ length c.subs) ⊎ ((feed_for g.feeds c.role rel ≡ None) × AreFull g.seats g.feeds c.role × (most_seats ≤ length g.seats))
 
 -- the reply to a client's act
 abbrev pub IsReplyToAct : Gate → Client → Option Data → Act → Told → Type 0
 IsReplyToAct g c id (subscribe rel) t = (IsFull g c rel × (t ≡ replied id (refused too_many))) ⊎ IsReadingReply g c id rel t
-IsReplyToAct g c id (unsubscribe own) t = t ≡ replied id (if is_some (followed c own) then done else refused unknown_subscription)
+IsReplyToAct g c id (unsubscribe own) t = t ≡ replied id (if is_some (followed_by c.subs own) then done else refused unknown_subscription)
 IsReplyToAct g c id (begin role) t = t ≡ fault 2
 IsReplyToAct g c id finish t = t ≡ fault 2
 IsReplyToAct g c id act t = (r : Reply) × IsMachineReply g.machine c.role act r × (t ≡ replied id r)
@@ -94,24 +91,18 @@ IsReplyTo g c no_json t = t ≡ fault 1
 IsReplyTo g c too_long t = t ≡ fault 22
 IsReplyTo g c no_object t = t ≡ fault 2
 IsReplyTo g c (no_request id why) t = t ≡ unasked id why
-IsReplyTo g c (request id act) t = IsReplyToAct g c id act t
-
--- the client is told first the reply to its message, and no other reply
-pub record IsReplied (g : Gate) (c : Client) (text : List ℕ) (ts : List Told) : Type 0 where
-  pub reply : Told
-  pub others : List Told
-  pub first : ts ≡ reply ∷ others
-  pub is : IsReplyTo g c (said_by text) reply
-  pub alone : replies others ≡ []
+IsReplyTo g c (request id act) t =
+    ((has_shape_room g act ≡ true) × IsReplyToAct g c id act t) ⊎ ((has_shape_room g act ≡ false) × (t ≡ replied id (refused limit)))
 
 -- the event is a message of client m that is heard
 abbrev pub heard_by : ℕ → Client → Event → Option (List ℕ)
 heard_by m c (message n text) = if n == m && may_say c then Some text else None
 heard_by m c e = None
 
--- a client is replied to its own message that is heard, and to nothing else
+-- a client is told first the reply to its own message that is heard, and no other reply
 pub record AreReplied (g : Gate) (e : Event) : Type 0 where
-  pub own : ByClient g e (λ m c d. (text : List ℕ) → heard_by m c e ≡ Some text → IsReplied g c text (told_by c d))
+  pub own : ByClient g e (λ m c d. (text : List ℕ) → heard_by m c e ≡ Some text
+      → (reply : Told) × (others : List Told) × (told_by c d ≡ reply ∷ others) × IsReplyTo g c (said_by text) reply × (replies others ≡ []))
   pub others : ByClient g e (λ m c d. heard_by m c e ≡ None → replies (told_by c d) ≡ [])
 
 abbrev pub is_opened : Told → Bool
@@ -126,11 +117,9 @@ pub record IsAnswered (c : Client) : Type 0 where
 
 -- its message at this place has the reply
 abbrev pub IsReplyAt : Client → ℕ → Option Data → Act → Told → Type 0
-IsReplyAt c place id act t = (text : List ℕ) × (slice_get c.messages place ≡ Some text) × (said_by text ≡ request id act) × (slice_get (replies (told c)) (place + 1) ≡ Some t)
+IsReplyAt c place id act t = (text : List ℕ) × (slice_get c.messages place ≡ Some text) × (said_by text ≡ request id act)
+    × (slice_get (replies (told c)) (place + 1) ≡ Some t)
 
 -- the client asked the relation by its own number: the reply to a message that asks it gave the number
-pub record IsAskedBy (c : Client) (own : ℕ) (rel : Name) : Type 0 where
-  pub place : ℕ
-  pub id : Option Data
-  pub columns : List Column
-  pub reply : IsReplyAt c place id (subscribe rel) (opened id own columns)
+abbrev pub IsAskedBy : Client → ℕ → Name → Type 0
+IsAskedBy c own rel = (place : ℕ) × (id : Option Data) × (columns : List Column) × IsReplyAt c place id (subscribe rel) (opened id own columns)

@@ -12,17 +12,8 @@ use Rattle.iv_gate.specs.Gate.{Gate, in_session, is_accepted, reply_in}
 
 -- a gateway with nobody, over a machine with nothing, in which `most` clients have a number
 abbrev pub gate_at_start : (cap : ℕ) → List Token → (most : ℕ) → List Shown → Gate
-gate_at_start cap tokens most sent = record {
-  tokens = tokens;
-  machine = start cap;
-  seats = [];
-  feeds = [];
-  clients = replicate most None;
-  entries = [];
-  kept = 0;
-  dead = false;
-  sent = sent;
-}
+gate_at_start cap tokens most sent =
+    record { tokens = tokens; machine = start cap; seats = []; feeds = []; clients = replicate most None; entries = []; kept = 0; dead = false; sent = sent }
 
 -- ---- entries
 
@@ -48,13 +39,9 @@ pub record LeadTo (s : State) (bytes : List ℕ) (entries : List Entry) (rest : 
   pub well : AllByRecursion IsEntry entries
   pub accepted : all_replayed s entries ≡ Some t
 
--- bytes of the longest entry's line, without its end: a role's name has at most 63
-abbrev pub most_torn : ℕ
-most_torn = most_said + 71
-
--- a last line without its end that begins as an entry does, and is no longer than one
+-- a last line without its end that begins as an entry does, and is no longer than the longest: a role's name has at most 63 bytes
 abbrev pub is_torn : List ℕ → Bool
-is_torn bytes = not (has_newline bytes) && (nat_le (length bytes) most_torn && bytes_eq (take 7 bytes) (take (length bytes) (codes "{\"as\":\"")))
+is_torn bytes = not (has_newline bytes) && (nat_le (length bytes) (most_said + 71) && bytes_eq (take 7 bytes) (take (length bytes) (codes "{\"as\":\"")))
 
 -- the journal leads a gateway that began to h: it is entries that are accepted, and a last one that was torn, which is cut off. It is on
 -- disk as it was read: who starts the gateway syncs the file behind the cut, before the first event. A last entry that was kept, of which

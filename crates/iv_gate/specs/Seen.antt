@@ -1,5 +1,5 @@
 -- What a client was told adds up to what it may see.
-use Rattle.std.specs.Prelude.{◌≡◌, ◌⊎◌, ◌≤◌, ◌<◌, ℕ, ◌==◌, if◌then◌else◌, ℤ, pos, Bool, true, false, List, [], ◌∷◌, Contains, filter, flat_map, Option, Some, None, is_some}
+use Rattle.std.specs.Prelude.{◌≡◌, ◌⊎◌, ℕ, ◌==◌, if◌then◌else◌, ℤ, pos, Bool, true, false, List, [], ◌∷◌, Contains, filter, flat_map, Option, Some, None, is_some}
 use Rattle.std.specs.List.{list_any}
 use Rattle.serde_json.specs.Data.{Data}
 use Rattle.iv_rows.specs.Cell.{Cell}
@@ -13,12 +13,12 @@ use Rattle.iv_machine.specs.Act.{done, unsubscribe}
 use Rattle.iv_machine.specs.declared.Cause.{Cause}
 use Rattle.iv_machine.specs.Machine.{difference, first_cause}
 use Rattle.iv_machine.specs.State.{State, is_within_for, missing_for, rel_of, view_for}
-use Rattle.iv_message.specs.Told.{Told, replied, opened, changed, over, granted}
-use Rattle.iv_clients.specs.Clients.{Client, followed, told}
+use Rattle.iv_message.specs.Told.{Told, replied, opened, changed, over}
+use Rattle.iv_clients.specs.Clients.{Client, followed_by, told}
 use Rattle.iv_clients.specs.Feeds.{rel_read}
 use Rattle.iv_gate.specs.Events.{Event, next}
-use Rattle.iv_gate.specs.Gate.{Gate, has_some}
-use Rattle.iv_gate.specs.Replies.{ByClient, IsAskedBy, IsClient, IsReplyAt, told_by}
+use Rattle.iv_gate.specs.Gate.{Gate}
+use Rattle.iv_gate.specs.Replies.{IsAskedBy, IsClient, IsReplyAt, told_by}
 
 -- the rows with their weights that a text has for a client's own number
 abbrev pub rows_told : ℕ → Told → List (List Cell × ℤ)
@@ -57,7 +57,7 @@ pub record ShowsView (g : Gate) (c : Client) (own : ℕ) (rel : Name) : Type 0 w
 
 -- each own number that follows a feed shows the feed's relation
 abbrev pub SeesViews : Gate → Type 0
-SeesViews g = (m : ℕ) (c : Client) (own k : ℕ) → IsClient g m c → followed c own ≡ Some k → ShowsView g c own (rel_read g.feeds k)
+SeesViews g = (m : ℕ) (c : Client) (own k : ℕ) → IsClient g m c → followed_by c.subs own ≡ Some k → ShowsView g c own (rel_read g.feeds k)
 
 -- ---- ends
 
@@ -66,29 +66,17 @@ abbrev pub IsClosed : Client → ℕ → Type 0
 IsClosed c own = (place : ℕ) × (id : Option Data) × IsReplyAt c place id (unsubscribe own) (replied id done)
 
 -- a number that follows nothing was closed by the client, or was told its end and adds up to nothing
-pub record IsOver (c : Client) (own : ℕ) : Type 0 where
-  pub why : (has_ended c own ≡ true) ⊎ IsClosed c own
-  pub nothing : has_ended c own ≡ true → (q : List Cell) → weight_of (all_rows own (told c)) q ≡ pos 0
+abbrev pub IsOver : Client → ℕ → Type 0
+IsOver c n = ((has_ended c n ≡ true) ⊎ IsClosed c n) × (has_ended c n ≡ true → (q : List Cell) → weight_of (all_rows n (told c)) q ≡ pos 0)
 
 -- each number that was given follows something, or is over
 abbrev pub AreOver : Gate → Type 0
 AreOver g = (m : ℕ) (c : Client) (id : Option Data) (own : ℕ) (columns : List Column) → IsClient g m c → Contains (told c) (opened id own columns)
-    → followed c own ≡ None → IsOver c own
+    → followed_by c.subs own ≡ None → IsOver c own
 
 -- what a client closed it follows no more
 abbrev pub StaysClosed : Gate → Type 0
-StaysClosed g = (m : ℕ) (c : Client) (own : ℕ) → IsClient g m c → IsClosed c own → followed c own ≡ None
-
--- what is told an end by an event was followed, and may be read no more, for the reason that is told
-pub record IsEnd (g : Gate) (e : Event) (c : Client) (own : ℕ) (rel : Name) (why : Cause) : Type 0 where
-  pub feed : ℕ
-  pub followed : followed c own ≡ Some feed
-  pub relation : rel ≡ rel_read g.feeds feed
-  pub cause : hindrance (next g e).machine c.role rel ≡ Some why
-
-abbrev pub EndsForCause : Gate → Event → Type 0
-EndsForCause g e = ByClient g e (λ m c d. (own : ℕ) (rel : Name) (why : Cause) (rows : List (List Cell × ℤ))
-    → Contains (told_by c d) (over own rel why rows) → IsEnd g e c own rel why)
+StaysClosed g = (m : ℕ) (c : Client) (own : ℕ) → IsClient g m c → IsClosed c own → followed_by c.subs own ≡ None
 
 -- ---- what is told
 
@@ -98,33 +86,28 @@ is_told_of own (changed j rows) = own == j
 is_told_of own (over j rel why rows) = own == j
 is_told_of own _ = false
 
--- by an event a client is told of numbers that followed something before, or that it is given now
-abbrev pub HearsFollowed : Gate → Event → Type 0
-HearsFollowed g e = ByClient g e (λ m c d. (own : ℕ) → list_any (is_told_of own) (told_by c d) ≡ true
-    → (is_some (followed c own) ≡ true) ⊎ ((c.given < own) × (own ≤ d.given)))
-
--- what a client is told to be granted its role has now
-abbrev pub GrantsAreTrue : Gate → Event → Type 0
-GrantsAreTrue g e = ByClient g e (λ m c d. (rel : Name) → Contains (told_by c d) (granted rel) → has_some (next g e).machine.frame c.role rel ≡ true)
-
 -- what a client's own number shows
 abbrev pub read_by : Gate → Client → ℕ → List (List Cell)
-read_by g c own = if_some (followed c own) [] (λ k. seen g.machine c.role (rel_read g.feeds k))
+read_by g c own = if_some (followed_by c.subs own) [] (λ k. seen g.machine c.role (rel_read g.feeds k))
 
 -- ---- the difference
 
 -- the text of a change; none where nothing changes
 abbrev pub change_told : ℕ → List (List Cell × ℤ) → List Told
 change_told own [] = []
-change_told own (p ∷ ps) = changed own (p ∷ ps) ∷ []
+change_told own rows = changed own rows ∷ []
 
--- Of a number that follows a feed behind an event, and did before or is given now, the event tells the difference of what it shows, in one
--- text. Of one that follows none behind it, it tells nothing, or its end, which takes back all that it showed.
+-- it is told one text, its end: the feed that it followed may be read no more, for the cause that is told, and all that it showed is taken back
+pub record IsEnd (g : Gate) (e : Event) (c : Client) (own : ℕ) (ts : List Told) : Type 0 where
+  pub feed : ℕ
+  pub why : Cause
+  pub followed : followed_by c.subs own ≡ Some feed
+  pub cause : hindrance (next g e).machine c.role (rel_read g.feeds feed) ≡ Some why
+  pub told : ts ≡ over own (rel_read g.feeds feed) why (difference (read_by g c own) []) ∷ []
+
+-- of a number that follows a feed behind an event, it tells the difference of what it shows, in one text; of one that follows none nothing,
+-- or its end
 pub record TellsDifference (g : Gate) (e : Event) (c d : Client) (own : ℕ) : Type 0 where
-  pub goes_on : is_some (followed d own) ≡ true → (is_some (followed c own) ≡ true) ⊎ (c.given < own)
+  pub goes_on : is_some (followed_by d.subs own) ≡ true
       → filter (is_told_of own) (told_by c d) ≡ change_told own (difference (read_by g c own) (read_by (next g e) d own))
-  pub stops : followed d own ≡ None → (filter (is_told_of own) (told_by c d) ≡ [])
-      ⊎ ((rel : Name) × (why : Cause) × (filter (is_told_of own) (told_by c d) ≡ over own rel why (difference (read_by g c own) []) ∷ []))
-
-abbrev pub TellsChanges : Gate → Event → Type 0
-TellsChanges g e = ByClient g e (λ m c d. (own : ℕ) → TellsDifference g e c d own)
+  pub stops : followed_by d.subs own ≡ None → (filter (is_told_of own) (told_by c d) ≡ []) ⊎ IsEnd g e c own (filter (is_told_of own) (told_by c d))

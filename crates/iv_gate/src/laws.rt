@@ -1,13 +1,14 @@
 //! Laws of the gateway. Each is the contract of a function that does nothing.
-ghost use Rattle.std.specs.Prelude.{◌≡◌, ◌++◌, ℕ, false, true, Some};
+ghost use Rattle.std.specs.Prelude.{◌≡◌, ℕ, false, true, Some};
 ghost use Rattle.iv_access.specs.Rights.{Name};
 ghost use Rattle.iv_clients.specs.Clients.{Client};
 ghost use Rattle.iv_clients.specs.Feeds.{seat_of};
 ghost use Rattle.iv_gate.specs.Events.{Event, next};
 ghost use Rattle.iv_gate.specs.Gate.{Gate};
-ghost use Rattle.iv_gate.specs.Laws.{HoldAlways, Settles, marks, marks_behind, new_entries};
-ghost use Rattle.iv_gate.specs.Needed.{BeginsAsNeeded, ReadsForClients};
-ghost use Rattle.iv_gate.specs.Replies.{ActsAs, AreReplied, IsAnswered, IsClient};
+ghost use Rattle.iv_gate.specs.Laws.{HoldAlways, IsSettledBy, LeavesMarks};
+ghost use Rattle.iv_gate.specs.Implied.{ReadsForClients};
+ghost use Rattle.iv_gate.specs.Needed.{AreSeatsBehind, KnowsMachine};
+ghost use Rattle.iv_gate.specs.Replies.{ActsAs, AreReplied, ByClient, IsAnswered, IsClient, told_by};
 ghost use Rattle.iv_gate.specs.Runs.{Runs};
 ghost use Rattle.iv_gate.specs.Seen.{AreOver, SeesViews, StaysClosed};
 ghost use Rattle.iv_gate.specs.Touched.{AreTouched};
@@ -24,8 +25,7 @@ pub mod hearing;
 /// entries what is told of it.
 pub fn events_leave_their_marks()
     ensures rests { (g : Gate) (e : Event) → g.dead ≡ true → next g e ≡ g }
-    ensures marks { (g : Gate) (e : Event) → g.dead ≡ false → marks (next g e) ≡ marks_behind g e }
-    ensures enters { (g : Gate) (e : Event) → g.dead ≡ false → (next g e).entries ≡ g.entries ++ new_entries g e }
+    ensures marks { (g : Gate) (e : Event) → g.dead ≡ false → LeavesMarks g e }
 {}
 
 /// By an event a client stays as it is, but for its own message, what is handed to it, its leaving, and what drops it; who comes has
@@ -59,6 +59,18 @@ pub fn nothing_is_read_for_nobody()
     requests_open_what_they_name();
 }
 
+/// In whatever runs, over restarts: the machine's sessions are those that the gateway has begun, each in its role. Each feed is open in the
+/// machine, in a session of its role, to its relation, and a role reads a relation by one feed.
+pub fn sessions_and_feeds_are_the_machines()
+    ensures { (cap : ℕ) (g : Gate) → Runs cap g → KnowsMachine g }
+{
+    lines_add_up();
+    steps_keep_sound();
+    what_stands_lasts();
+    ends_are_told();
+    requests_open_what_they_name();
+}
+
 /// In whatever runs, over restarts, the session of a role acts in that role.
 pub fn sessions_act_in_their_roles()
     ensures { (cap : ℕ) (g : Gate) (role : Name) (n : ℕ) → Runs cap g → seat_of g.seats role ≡ Some n → ActsAs g.machine n role }
@@ -72,7 +84,7 @@ pub fn sessions_act_in_their_roles()
 
 /// By an event no more than one session is begun, for a role that has none with a place.
 pub fn sessions_are_begun_by_need()
-    ensures { (g : Gate) (e : Event) → BeginsAsNeeded g e }
+    ensures { (g : Gate) (e : Event) → AreSeatsBehind g (next g e).seats }
 {}
 
 // ---- replies
@@ -103,7 +115,7 @@ pub fn closed_numbers_follow_nothing()
 /// In whatever runs, over restarts, a message, its own or another's, tells a client nothing, or something and then by one word that this
 /// is all. A tick tells it one word, that the line is alive. No other event tells anything to a client that is there.
 pub fn events_settle_what_they_tell()
-    ensures { (cap : ℕ) (g : Gate) (e : Event) → Runs cap g → g.dead ≡ false → Settles g e }
+    ensures { (cap : ℕ) (g : Gate) (e : Event) → Runs cap g → g.dead ≡ false → ByClient g e (λ m c d. IsSettledBy e (told_by c d)) }
 {
     lines_add_up();
     steps_keep_sound();
@@ -127,11 +139,12 @@ pub fn gateways_hold_always()
     hearing::news_are_of_what_is_followed();
     hearing::grants_are_told();
     hearing::clients_are_bounded();
+    hearing::the_shape_is_told();
     journal::what_is_sent_is_on_disk();
     journal::the_journal_leads_back();
     journal::told_text_shows_its_entries();
     events_leave_their_marks();
     events_touch_their_clients();
-    nothing_is_read_for_nobody();
+    sessions_and_feeds_are_the_machines();
     sessions_are_begun_by_need();
 }

@@ -5,12 +5,11 @@ use Rattle.sha2.specs.Sha256.{sha256}
 use Rattle.iv_rows.specs.Names.{is_name}
 use Rattle.iv_rows.specs.Options.{if_some}
 use Rattle.iv_access.specs.Rights.{Name}
-use Rattle.iv_message.specs.Told.{welcome}
 use Rattle.iv_clients.specs.Clients.{fresh, is_free}
 use Rattle.iv_clients.specs.Feeds.{seat_of}
 use Rattle.iv_clients.specs.Kept.{Places, kept_slots}
 use Rattle.iv_clients.specs.Tokens.{Token, role_opened}
-use Rattle.iv_gate.specs.Gate.{Gate, begun_for, came, has_session, role_for, seated, settles, tells, with_session}
+use Rattle.iv_gate.specs.Gate.{Gate, begun_for, came, has_session, role_for, seated, with_session}
 use Rattle.iv_gateway.specs.Views.{IsAlive}
 use Rattle.iv_gateway.specs.declared.gateway.Gateway.{Gateway}
 use Rattle.iv_gateway.proofs.Keeping.{is_free_kept}
@@ -49,7 +48,7 @@ abbrev pub presented_by : Gate → ℕ → List ℕ → Option Name
 presented_by g m token = option_and_then (λ r. cond (is_name r && is_free m g.clients) (Some r) None) (role_opened g.tokens (sha256 token))
 
 abbrev pub entering : Gate → ℕ → List ℕ → Name → Gate
-entering g m token role = let h = with_session g role in settles (tells (record h { clients = set h.clients m (Some (fresh role (sha256 token))) }) m (welcome role))
+entering g m token role = let h = with_session g role in record h { clients = set h.clients m (Some (fresh h.entries role (sha256 token))) }
 
 came_by : (g : Gate) (m : ℕ) (token : List ℕ) (o : Option Name) (x : Gateway) → role_for g m token ≡ o → IsAlive (if_some o g (entering g m token)) x
     → (is_some o ≡ is_some (role_for g m token)) × IsAlive (came g m token) x

@@ -88,7 +88,7 @@ held_twice x y k i = record (holding (x ++ y) k) { unsynced = append_assoc k.uns
     count : k.brought + length x + length y ≡ k.brought + length (x ++ y)
     count = add_assoc k.brought (length x) (length y) ∙ ap (λ n. k.brought + n) (sym (length-append x y))
 
-held_all : (ts : List Told) (x : List ℕ) (k : Kept) → holding_all ts (holding x k) ≡ holding (x ++ flat_map told_text ts) k
+pub held_all : (ts : List Told) (x : List ℕ) (k : Kept) → holding_all ts (holding x k) ≡ holding (x ++ flat_map told_text ts) k
 held_all [] x k = ap (λ z. holding z k) (sym (append-nil x))
 held_all (t ∷ ts) x k =
     ap (holding_all ts) (held_twice x (told_text t) k)

@@ -12,4 +12,5 @@ pub mod Said
 pub mod Reread
 pub mod Replayed
 pub mod Granted
+pub mod Shaped
 pub mod Subscribed

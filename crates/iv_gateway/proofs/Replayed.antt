@@ -16,12 +16,13 @@ use Rattle.iv_clients.specs.Bounds.{entry_session}
 use Rattle.iv_clients.specs.Journal.{Entry, IsEntry, entry_text, has_newline, is_shared, journal_of}
 use Rattle.iv_clients.specs.Parsed.{entry_in}
 use Rattle.iv_clients.specs.Tokens.{cut_at}
-use Rattle.iv_gate.specs.Gate.{Gate, in_session, is_accepted, reply_in}
+use Rattle.iv_gate.specs.Gate.{Gate, in_session, is_accepted, reply_in, shape_text}
 use Rattle.iv_gate.specs.Restoring.{IsDamagedAt, LeadTo, all_replayed, is_torn, passed, replayed}
 use Rattle.iv_gateway.specs.Replays.{HasReplayed, IsPassed, IsReplayed, IsReplayedTo, IsRestored, act_plain}
 use Rattle.iv_gateway.specs.Views.{IsAlive}
 use Rattle.iv_gateway.specs.declared.gateway.Gateway.{Gateway}
 use Rattle.iv_gateway.specs.declared.restoring.RestoreFault.TheVariants.{Damaged}
+use Rattle.iv_gateway.proofs.Shaped.{shape_more}
 use Rattle.iv_gateway.proofs.Reread.{IsRead, cut_is, entry_is, entry_read, read_brace, read_text, read_whole}
 
 some_is_none : {X : Type 0} (x : X) → Some x ≡ None → ⊥
@@ -102,15 +103,15 @@ finishes g role line act t u is y s b d h =
 -- ---- a line
 
 -- one that is not read
-pub unread : (g : Gate) (line : List ℕ) (x : Gateway) → entry_in line ≡ None → IsReplayed g line false x
-unread g line x h = λ e w t. absurd (never (sym h ∙ entry_read e line w t))
+pub unread : (g : Gate) (line before after : List ℕ) (x : Gateway) → entry_in line ≡ None → IsReplayed g line before after false x
+unread g line before after x h = λ e w t. absurd (never (sym h ∙ entry_read e line w t))
   where
     never : {X : Type 0} {p : X} → None ≡ Some p → ⊥
     never k = cc
 
 -- one whose message is no request without an id
-pub unasked : (g : Gate) (line : List ℕ) (role : Name) (text : List ℕ) (x : Gateway) → entry_in line ≡ Some (role, text) → act_plain (message_of text) ≡ None → IsReplayed g line false x
-unasked g line role text x h plain = λ e w t.
+pub unasked : (g : Gate) (line before after : List ℕ) (role : Name) (text : List ℕ) (x : Gateway) → entry_in line ≡ Some (role, text) → act_plain (message_of text) ≡ None → IsReplayed g line before after false x
+unasked g line before after role text x h plain = λ e w t.
     let same = some_same (role, text) (e.role, e.line) (sym h ∙ entry_read e line w t) in
     absurd (some_is_none e.act (sym (ap act_plain (ap message_of (ap (λ (p : Name × List ℕ). p.1) same) ∙ w.asks)) ∙ plain))
 
@@ -126,9 +127,9 @@ request_same : (a b : Act) (i j : Option Data) → request i a ≡ request j b �
 request_same a b i j h = cc
 
 -- one whose request is run
-pub asked : (g : Gate) (line : List ℕ) (role : Name) (text : List ℕ) (act : Act) (is : Bool) (x : Gateway) → entry_in line ≡ Some (role, text) → act_plain (message_of text) ≡ Some act
-    → is_name role ≡ true → has_newline line ≡ false → IsPassed g (replay_of g.machine role text act) is x → IsReplayed g line is x
-asked g line role text act is x h plain n w p = by is p
+pub asked : (g : Gate) (line before after : List ℕ) (role : Name) (text : List ℕ) (act : Act) (is : Bool) (x : Gateway) → after ≡ before ++ shape_text (record { role = role; line = text; act = act } ∷ []) → entry_in line ≡ Some (role, text) → act_plain (message_of text) ≡ Some act
+    → is_name role ≡ true → has_newline line ≡ false → IsPassed g (replay_of g.machine role text act) is x → IsReplayed g line before after is x
+asked g line before after role text act is x shape h plain n w p = by is p
   where
     m : message_of text ≡ request None act
     m = plain_is (message_of text) act plain
@@ -147,7 +148,7 @@ asked g line role text act is x h plain n w p = by is p
         let act_same : d.act ≡ act = request_same d.act act None None (sym v.asks ∙ (ap message_of line_same ∙ m)) in
         λ i. record { role = role_same i; line = line_same i; act = act_same i }
 
-    all : (s : Bool) → is_shared act ≡ s → (o : Option State) → replayed g.machine e ≡ o → IsPassed g (cond s o None) true x → IsReplayedTo g line x
+    all : (s : Bool) → is_shared act ≡ s → (o : Option State) → replayed g.machine e ≡ o → IsPassed g (cond s o None) true x → IsReplayedTo g line before after x
     all false f o k q = absurd (false≢true (sym q))
     all true f None k q = absurd (false≢true (sym q))
     all true f (Some t) k q = record {
@@ -156,6 +157,7 @@ asked g line role text act is x h plain n w p = by is p
       well = record { role = n; shared = f; brace = read_brace line (role, text) read; line = read_whole line (role, text) read w; asks = m };
       text = read_text line (role, text) read;
       accepted = k;
+      shape = shape;
       gate = q.1;
     }
 
@@ -164,22 +166,23 @@ asked g line role text act is x h plain n w p = by is p
     none true f None k q = λ d v t. ap (replayed g.machine) (same d v t) ∙ k
     none true f (Some t) k q = absurd (false≢true q.0)
 
-    by : (b : Bool) → IsPassed g (replay_of g.machine role text act) b x → IsReplayed g line b x
+    by : (b : Bool) → IsPassed g (replay_of g.machine role text act) b x → IsReplayed g line before after b x
     by true q = all (is_shared act) refl (replayed g.machine e) refl q
     by false q = none (is_shared act) refl (replayed g.machine e) refl q
 
 -- ---- a journal
 
--- entries with as many bytes have led the machine on, and the rest stands behind them
-pub record IsReplaying (g : Gate) (journal : List ℕ) (at : ℕ) (rest : List ℕ) (x : Gateway) : Type 0 where
+-- entries with as many bytes have led the machine on and made the shape, and the rest stands behind them
+pub record IsReplaying (g : Gate) (journal : List ℕ) (at : ℕ) (rest shape : List ℕ) (x : Gateway) : Type 0 where
   pub entries : List Entry
   pub state : State
   pub leads : LeadTo g.machine journal entries rest state
   pub bytes : at ≡ length (journal_of entries)
+  pub shape : shape ≡ shape_text entries
   pub gate : IsAlive (record g { machine = state }) x
 
-pub replays_none : (g : Gate) (journal : List ℕ) (x : Gateway) → IsAlive g x → IsReplaying g journal 0 journal x
-replays_none g journal x a = record { entries = []; state = g.machine; leads = record { text = refl; well = tt; accepted = refl }; bytes = refl; gate = a }
+pub replays_none : (g : Gate) (journal shape : List ℕ) (x : Gateway) → shape ≡ [] → IsAlive g x → IsReplaying g journal 0 journal shape x
+replays_none g journal shape x s a = record { entries = []; state = g.machine; leads = record { text = refl; well = tt; accepted = refl }; bytes = refl; shape = s; gate = a }
 
 all_more : {X : Type 0} (P : X → Type 0) (xs : List X) (x : X) → AllByRecursion P xs → P x → AllByRecursion P (xs ++ x ∷ [])
 all_more P [] x h k = (k, tt)
@@ -201,10 +204,10 @@ journal_more : (es : List Entry) (e : Entry) → journal_of (es ++ e ∷ []) ≡
 journal_more es e = flat_map-append entry_text es (e ∷ []) ∙ ap (λ z. journal_of es ++ z) (append-nil (entry_text e))
 
 -- a line more
-pub replays_on : (g : Gate) (journal rest : List ℕ) (at : ℕ) (p : List ℕ × List ℕ) (is : Bool) (x y : Gateway) (w : IsReplaying g journal at rest x) → cut_at 10 rest ≡ Some p
-    → IsReplayed (record g { machine = w.state }) p.0 is y → is ≡ true → IsReplaying g journal (at + (length p.0 + 1)) p.1 y
-replays_on g journal rest at p is x y w c h e =
-    let t : IsReplayedTo (record g { machine = w.state }) p.0 y = subst (λ b. IsReplayed (record g { machine = w.state }) p.0 b y) e h in
+pub replays_on : (g : Gate) (journal rest before after : List ℕ) (at : ℕ) (p : List ℕ × List ℕ) (is : Bool) (x y : Gateway) (w : IsReplaying g journal at rest before x) → cut_at 10 rest ≡ Some p
+    → IsReplayed (record g { machine = w.state }) p.0 before after is y → is ≡ true → IsReplaying g journal (at + (length p.0 + 1)) p.1 after y
+replays_on g journal rest before after at p is x y w c h e =
+    let t : IsReplayedTo (record g { machine = w.state }) p.0 before after y = subst (λ b. IsReplayed (record g { machine = w.state }) p.0 before after b y) e h in
     let cut = cut_is 10 rest p c in
     let text : journal_of (w.entries ++ t.entry ∷ []) ++ p.1 ≡ journal_of w.entries ++ rest =
     ap (λ z. z ++ p.1) (journal_more w.entries t.entry ∙ ap (λ z. journal_of w.entries ++ z) t.text)
@@ -216,42 +219,43 @@ replays_on g journal rest at p is x y w c h e =
       state = t.state;
       leads = record { text = w.leads.text ∙ sym text; well = all_more IsEntry w.entries t.entry w.leads.well t.well; accepted = replayed_more g.machine w.state w.entries t.entry (Some t.state) w.leads.accepted t.accepted };
       bytes = ap (λ z. z + (length p.0 + 1)) w.bytes ∙ sym size;
+      shape = t.shape ∙ (ap (λ z. z ++ shape_text (t.entry ∷ [])) w.shape ∙ sym (shape_more w.entries t.entry));
       gate = t.gate;
     }
 
 -- a line that is none
-pub replays_bad : (g : Gate) (journal rest : List ℕ) (at : ℕ) (p : List ℕ × List ℕ) (is : Bool) (x y : Gateway) (w : IsReplaying g journal at rest x) → cut_at 10 rest ≡ Some p
-    → IsReplayed (record g { machine = w.state }) p.0 is y → is ≡ false → IsDamagedAt g journal at
-replays_bad g journal rest at p is x y w c h e =
+pub replays_bad : (g : Gate) (journal rest before after : List ℕ) (at : ℕ) (p : List ℕ × List ℕ) (is : Bool) (x y : Gateway) (w : IsReplaying g journal at rest before x) → cut_at 10 rest ≡ Some p
+    → IsReplayed (record g { machine = w.state }) p.0 before after is y → is ≡ false → IsDamagedAt g journal at
+replays_bad g journal rest before after at p is x y w c h e =
     let cut = cut_is 10 rest p c in record {
       entries = w.entries;
       rest = rest;
       state = w.state;
       leads = w.leads;
       behind = w.bytes;
-      bad = inr (record { line = p.0; rest = p.1; text = cut.text; whole = cut.none; none = subst (λ b. IsReplayed (record g { machine = w.state }) p.0 b y) e h });
+      bad = inr (record { line = p.0; rest = p.1; text = cut.text; whole = cut.none; none = subst (λ b. IsReplayed (record g { machine = w.state }) p.0 before after b y) e h });
     }
 
 -- the last line, without its end
-pub replays_end : (g : Gate) (journal rest : List ℕ) (at : ℕ) (x : Gateway) → IsReplaying g journal at rest x → is_torn rest ≡ true → HasReplayed g journal at x
-replays_end g journal rest at x w h = record { entries = w.entries; torn = rest; state = w.state; leads = w.leads; cut = h; bytes = w.bytes; gate = w.gate }
+pub replays_end : (g : Gate) (journal rest shape : List ℕ) (at : ℕ) (x : Gateway) → IsReplaying g journal at rest shape x → is_torn rest ≡ true → HasReplayed g journal at shape x
+replays_end g journal rest shape at x w h = record { entries = w.entries; torn = rest; state = w.state; leads = w.leads; cut = h; bytes = w.bytes; shape = w.shape; gate = w.gate }
 
-pub replays_cut : (g : Gate) (journal rest : List ℕ) (at : ℕ) (x : Gateway) → IsReplaying g journal at rest x → has_newline rest ≡ false → is_torn rest ≡ false → IsDamagedAt g journal at
-replays_cut g journal rest at x w n h = record { entries = w.entries; rest = rest; state = w.state; leads = w.leads; behind = w.bytes; bad = inl (n, h) }
+pub replays_cut : (g : Gate) (journal rest shape : List ℕ) (at : ℕ) (x : Gateway) → IsReplaying g journal at rest shape x → has_newline rest ≡ false → is_torn rest ≡ false → IsDamagedAt g journal at
+replays_cut g journal rest shape at x w n h = record { entries = w.entries; rest = rest; state = w.state; leads = w.leads; behind = w.bytes; bad = inl (n, h) }
 
-pub end_damaged : (g : Gate) (journal rest : List ℕ) (at place : ℕ) (x : Gateway) → IsReplaying g journal at rest x → has_newline rest ≡ false
+pub end_damaged : (g : Gate) (journal rest shape : List ℕ) (at place : ℕ) (x : Gateway) → IsReplaying g journal at rest shape x → has_newline rest ≡ false
     → cond (is_torn rest) (Ok at) (Err (Damaged at)) ≡ Err (Damaged place) → IsDamagedAt g journal place
-end_damaged g journal rest at place x w n h = by (is_torn rest) refl h
+end_damaged g journal rest shape at place x w n h = by (is_torn rest) refl h
   where
     by : (b : Bool) → is_torn rest ≡ b → cond b (Ok at) (Err (Damaged at)) ≡ Err (Damaged place) → IsDamagedAt g journal place
     by true e k = cc
-    by false e k = subst (IsDamagedAt g journal) (let same : at ≡ place = cc k in same) (replays_cut g journal rest at x w n e)
+    by false e k = subst (IsDamagedAt g journal) (let same : at ≡ place = cc k in same) (replays_cut g journal rest shape at x w n e)
 
-pub end_torn : (g : Gate) (journal rest : List ℕ) (at kept : ℕ) (x : Gateway) → IsReplaying g journal at rest x → cond (is_torn rest) (Ok at) (Err (Damaged at)) ≡ Ok kept → HasReplayed g journal kept x
-end_torn g journal rest at kept x w h = by (is_torn rest) refl h
+pub end_torn : (g : Gate) (journal rest shape : List ℕ) (at kept : ℕ) (x : Gateway) → IsReplaying g journal at rest shape x → cond (is_torn rest) (Ok at) (Err (Damaged at)) ≡ Ok kept → HasReplayed g journal kept shape x
+end_torn g journal rest shape at kept x w h = by (is_torn rest) refl h
   where
-    by : (b : Bool) → is_torn rest ≡ b → cond b (Ok at) (Err (Damaged at)) ≡ Ok kept → HasReplayed g journal kept x
-    by true e k = subst (λ z. HasReplayed g journal z x) (let same : at ≡ kept = cc k in same) (replays_end g journal rest at x w e)
+    by : (b : Bool) → is_torn rest ≡ b → cond b (Ok at) (Err (Damaged at)) ≡ Ok kept → HasReplayed g journal kept shape x
+    by true e k = subst (λ z. HasReplayed g journal z shape x) (let same : at ≡ kept = cc k in same) (replays_end g journal rest shape at x w e)
     by false e k = cc
 
 -- ---- the gateway
@@ -261,9 +265,9 @@ nothing_waits [] r e h = refl
 nothing_waits (x ∷ xs) r e h = let same : length (x ∷ xs) ≡ 0 = eqb-true (length (x ∷ xs)) 0 (sym e ∙ h) in absurd (let never : ⊥ = omega (arith, same) in never)
 
 -- what the entries lead to, with nothing that waits
-pub restores : (g : Gate) (journal : List ℕ) (kept : ℕ) (old x y : Gateway) → g.dead ≡ false → y.dead ≡ false → IsAlive g old → old.pending.items ≡ [] → (w : HasReplayed g journal kept x)
-    → IsAlive (record g { machine = w.state }) y → IsRestored g journal kept y
-restores g journal kept old x y h d b p w a = record {
+pub restores : (g : Gate) (journal : List ℕ) (kept : ℕ) (shape : List ℕ) (old x y : Gateway) → g.dead ≡ false → y.dead ≡ false → IsAlive g old → old.pending.items ≡ [] → (w : HasReplayed g journal kept shape x)
+    → y.shape.items ≡ shape → IsAlive (record g { machine = w.state }) (record y { shape = x.shape }) → IsRestored g journal kept y
+restores g journal kept shape old x y h d b p w s a = record {
   now = record g { machine = w.state; entries = w.entries; kept = length w.entries };
   restores = record { state = w.state; torn = w.torn; leads = w.leads; cut = w.cut; gate = refl };
   bytes = w.bytes;
@@ -276,6 +280,7 @@ restores g journal kept old x y h d b p w a = record {
       feeds = a.feeds;
       clients = a.clients;
       pending = record { within = omega arith; text = a.pending.text ∙ (sym b.pending.text ∙ (p ∙ ap journal_of (sym (drop_all (length w.entries) w.entries (omega arith))))) };
+      shape = s ∙ w.shape;
     };
   };
 }

@@ -8,16 +8,17 @@ use Rattle.iv_access.specs.Rights.{Name}
 use Rattle.iv_command.specs.Views.{act_of}
 use Rattle.iv_command.specs.declared.command.Act as code
 use Rattle.iv_command.specs.declared.command.Act.TheVariants as asks
-use Rattle.iv_machine.specs.Act.{Act, begin, finish, create_role, create_table, create_view, grant, revoke, grant_role, revoke_role, row_security, create_policy, drop_policy, subscribe, unsubscribe, write, Line, refused, no_session}
+use Rattle.iv_machine.specs.Act.{Act, begin, finish, create_role, create_table, create_view, grant, revoke, grant_role, revoke_role, row_security, create_policy, drop_policy, subscribe, unsubscribe, write, Line, refused, limit, no_session}
 use Rattle.iv_machine.specs.Machine.{step}
+use Rattle.iv_message.specs.Message.{request}
 use Rattle.iv_message.specs.Told.{fault, replied}
 use Rattle.iv_clients.specs.Clients.{Client, Slots, answered, at_client, client_at, may_say, saying}
 use Rattle.iv_clients.specs.Feeds.{seat_of}
 use Rattle.iv_clients.specs.Journal.{Entry, entry_text, is_shared, journal_of, line_said, said_by}
 use Rattle.iv_clients.specs.Kept.{Kept, Places, answering, kept, kept_slots}
 use Rattle.iv_gate.specs.Events.{message, next}
-use Rattle.iv_gate.specs.Gate.{Gate, acts, done_for, entered, hears, in_session, is_accepted, is_heard, reply_in, reply_to, requests, said, settles, tells}
-use Rattle.iv_gate.specs.Laws.{Marks, marks}
+use Rattle.iv_gate.specs.Gate.{Gate, acts, done_for, entered, has_shape_room, hears, in_session, is_accepted, is_heard, reply_in, reply_to, requests, said, settles, tells}
+use Rattle.iv_gate.specs.Laws.{LeavesMarks}
 use Rattle.iv_gate.proofs.Growing.{Grown, grows}
 use Rattle.iv_gate.proofs.Touching.{at_same, one_some}
 use Rattle.iv_gate.proofs.Walking.{to_done, to_settles, to_then}
@@ -106,10 +107,19 @@ pub said_unheard : (g : Gate) (m : ℕ) (text : List ℕ) (places : Places) (x :
 said_unheard g m text places x b h a = quiet_by g m text x (client_at g.clients m) (h ∙ ap speaker_in (ap (λ z. client_at z m) b ∙ kept_at g.clients m)) a
 
 -- a message kills nothing
-pub message_lives : (g : Gate) (m : ℕ) (text : List ℕ) → g.dead ≡ false → marks (next g (message m text)) ≡ marks g → (said g m text).dead ≡ g.dead
-message_lives g m text h law = subst (λ b. (cond b g (said g m text)).dead ≡ g.dead) h (ap (λ (z : Marks). z.dead) law)
+pub message_lives : (g : Gate) (m : ℕ) (text : List ℕ) → g.dead ≡ false → LeavesMarks g (message m text) → (said g m text).dead ≡ g.dead
+message_lives g m text h law = subst (λ b. (cond b g (said g m text)).dead ≡ g.dead) h (ap (λ (z : Gate). z.dead) law)
 
 -- ---- acts
+
+-- what is asked is done where the shape has room for it
+pub done_with_room : (g : Gate) (m : ℕ) (c : Client) (id : Option Data) (text : List ℕ) (act : Act) (x : Gateway) → has_shape_room g act ≡ true → IsAlive (acts g m c id text act) x
+    → IsAlive (done_for g m c text (request id act)) x
+done_with_room g m c id text act x h a = subst (λ b. IsAlive (cond b (acts g m c id text act) (tells g m (replied id (refused limit)))) x) (sym h) a
+
+pub done_without_room : (g : Gate) (m : ℕ) (c : Client) (id : Option Data) (text : List ℕ) (act : Act) (x : Gateway) → has_shape_room g act ≡ false → IsAlive (tells g m (replied id (refused limit))) x
+    → IsAlive (done_for g m c text (request id act)) x
+done_without_room g m c id text act x h a = subst (λ b. IsAlive (cond b (acts g m c id text act) (tells g m (replied id (refused limit)))) x) (sym h) a
 
 -- what is done with a request that changes what is shared
 abbrev pub shares : Gate → ℕ → Option Data → Entry → Option ℕ → Gate

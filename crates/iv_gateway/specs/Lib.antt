@@ -1,5 +1,6 @@
 pub mod Granting
 pub mod Reading
 pub mod Replays
+pub mod Shaping
 pub mod Speaking
 pub mod Views

@@ -7,7 +7,7 @@ use Rattle.iv_machine.specs.Machine.{step}
 use Rattle.iv_store.specs.Engine.{IsBehind}
 use Rattle.iv_clients.specs.Journal.{Entry, journal_of}
 use Rattle.iv_clients.specs.Kept.{kept_slots}
-use Rattle.iv_gate.specs.Gate.{Gate, begun_for, seated}
+use Rattle.iv_gate.specs.Gate.{Gate, begun_for, seated, shape_text}
 use Rattle.iv_gateway.specs.declared.gateway.Gateway.{Gateway}
 use Rattle.iv_gateway.specs.declared.seats.Opening.{Opening}
 use Rattle.iv_gateway.specs.declared.seats.Opening.TheVariants as opening
@@ -25,6 +25,7 @@ pub record IsAlive (g : Gate) (x : Gateway) : Type 0 where
   pub feeds : x.feeds.items ≡ g.feeds
   pub clients : x.clients ≡ kept_slots g.clients
   pub pending : IsPending g.kept g.entries x.pending.items
+  pub shape : x.shape.items ≡ shape_text g.entries
 
 -- of a dead one nothing is known but that
 pub record IsGate (g : Gate) (x : Gateway) : Type 0 where

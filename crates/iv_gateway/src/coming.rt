@@ -3,14 +3,13 @@ ghost use Rattle.std.specs.Prelude.{◌≡◌, ◌&&◌, if◌then◌else◌, So
 ghost use Rattle.iv_rows.specs.Names.{is_name};
 ghost use Rattle.iv_clients.specs.Clients.{fresh, is_free};
 ghost use Rattle.iv_clients.specs.Tokens.{role_opened};
-ghost use Rattle.iv_message.specs.Told.{welcome};
-ghost use Rattle.iv_gate.specs.Gate.{Gate, came, role_for, settles, tells};
+ghost use Rattle.iv_gate.specs.Gate.{Gate, came, role_for};
 ghost use Rattle.iv_gateway.specs.Views.{IsAlive};
 
 use crate::gateway::Gateway;
+use crate::shaping::greeting;
 use iv_clients::{Token, role_opened};
 use iv_hall::Hall;
-use iv_message::push_welcome;
 use iv_rows::name_ok;
 use sha2::{Digest, Sha256};
 use std::alloc::{AllocError, Global};
@@ -38,7 +37,7 @@ fn role_presented(
 }
 
 impl Gateway {
-    /// A client of a role comes in, and is welcomed.
+    /// A client of a role comes in, and is told what it is to know.
     pub(crate) fn enter(
         &mut self,
         client: u32,
@@ -46,13 +45,10 @@ impl Gateway {
         digest: Vec<u8>,
     ) -> Result<(), AllocError>
         ensures { OnOk result ((g : Gate) → IsAlive g self.old
-            → IsAlive (settles (tells (record g { clients = slice_set g.clients client (Some (fresh (string_bytes role) digest.items)) }) client (welcome (string_bytes role)))) self.new) }
+            → IsAlive (record g { clients = slice_set g.clients client (Some (fresh g.entries (string_bytes role) digest.items)) }) self.new) }
     {
-        let mut text = Vec::new(self.alloc);
-        push_welcome(self.alloc, &mut text, role.as_str())?;
-        self.clients.enter(self.alloc, client, role, digest);
-        self.tell(client, &text)?;
-        self.settle_told()?;
+        let text = greeting(self.alloc, role.as_str(), &self.shape)?;
+        self.clients.enter(self.alloc, client, role, digest, text);
         Ok(())
     }
 

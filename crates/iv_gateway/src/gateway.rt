@@ -29,8 +29,9 @@ pub enum GatewayFault {
     Dead,
 }
 
-/// The engine, its sessions by role, the feeds that clients share, the clients by their numbers, the tokens that open roles, and what the
-/// journal is to have before anyone is told. After a fault it is dead: it does nothing any more.
+/// The engine, its sessions by role, the feeds that clients share, the clients by their numbers, the tokens that open roles, what the
+/// journal is to have before anyone is told, and what administrators are told of the shape. After a fault it is dead: it does nothing any
+/// more.
 #[derive(Drop)]
 pub struct Gateway {
     pub(crate) alloc: Global,
@@ -39,6 +40,7 @@ pub struct Gateway {
     pub(crate) feeds: Vec<Feed>,
     pub(crate) clients: Hall,
     pub(crate) pending: Vec<u8>,
+    pub(crate) shape: Vec<u8>,
     pub(crate) tokens: Vec<Token>,
     pub(crate) scratch: Scratch,
     pub(crate) dead: bool,
@@ -65,6 +67,7 @@ impl Gateway {
             feeds: Vec::new(alloc),
             clients,
             pending: Vec::new(alloc),
+            shape: Vec::new(alloc),
             tokens,
             scratch: Scratch::new(alloc),
             dead: false,

@@ -16,6 +16,7 @@ mod journal;
 mod messages;
 mod restoring;
 mod seats;
+mod shaping;
 mod subscribing;
 mod sweeping;
 mod telling;

@@ -1,8 +1,8 @@
 //! `said`: a client sends a message, which is done where it is heard. Its client is told the reply before what it changes.
-ghost use Rattle.std.specs.Prelude.{◌≡◌, ℕ, List, IfOk, OnErr, OnOk, Some, false, map, option_map, true};
+ghost use Rattle.std.specs.Prelude.{◌≡◌, ◌∷◌, [], ℕ, List, IfOk, OnErr, OnOk, Some, false, map, option_map, true};
 ghost use Rattle.iv_command.specs.Views.{act_of, line_of};
 ghost use Rattle.iv_machine.specs.Well.{is_well_act};
-ghost use Rattle.iv_message.specs.Message.{is_well_message};
+ghost use Rattle.iv_message.specs.Message.{is_well_message, request};
 ghost use Rattle.iv_message.specs.Seen.{id_data, said_of, why_of};
 ghost use Rattle.iv_message.specs.Told.{unasked};
 ghost use Rattle.iv_clients.specs.Clients as spec;
@@ -10,13 +10,15 @@ ghost use Rattle.iv_clients.specs.Clients.{client_at, saying};
 ghost use Rattle.iv_clients.specs.Journal.{Entry, is_shared, line_said};
 ghost use Rattle.iv_clients.specs.Kept.{kept};
 ghost use Rattle.iv_gate.specs.Events.{failed, message, next};
-ghost use Rattle.iv_gate.specs.Gate.{Gate, acts, done_for, entered, hears, is_accepted, is_heard, reply_in, requests, said, tells};
+ghost use Rattle.iv_gate.specs.Gate.{Gate, acts, done_for, entered, hears, in_session, is_accepted, is_heard, reply_in, requests, said, tells, shape_text};
+ghost use Rattle.iv_gateway.specs.Granting.{IsGranting};
 ghost use Rattle.iv_gateway.specs.Speaking.{speaker_in, speaking};
-ghost use Rattle.iv_gateway.specs.Views.{IsAlive, IsGate};
+ghost use Rattle.iv_gateway.specs.Views.{IsAlive, IsGate, IsRun};
 
 use crate::gateway::{Gateway, GatewayFault};
 use crate::granting::Grants;
 use crate::seats::is_accepted;
+use crate::shaping::push_shape;
 use iv_clients::{Client, is_shared, push_entry, read_said, seat_of};
 use iv_command::{Act, Command, Line, Refusal, Reply};
 use iv_gate::laws::events_leave_their_marks;
@@ -151,9 +153,31 @@ impl Gateway {
                 Ok(())
             }
             Message::Request { id, act } => {
-                self.act(client, speaker, &id, act, line)?;
+                self.act_within(client, speaker, &id, act, line)?;
                 Ok(())
             }
+        }
+    }
+
+    /// Has done what a client asks, where the shape has room for what it makes of it.
+    fn act_within(
+        &mut self,
+        client: u32,
+        speaker: &Speaker,
+        id: &Option<Id>,
+        act: Act,
+        line: &[u8],
+    ) -> Result<(), AllocError>
+        requires { is_well_act (act_of act) ≡ true }
+        ensures { OnOk result ((g : Gate) (c : spec.Client) (text : List ℕ) → IsAlive g self.old → client_at g.clients client ≡ Some (saying text c)
+            → speaker.now ≡ speaking (kept c) → line_said text ≡ line.now → IsAlive (done_for g client c text (request (option_map id_data id.now) (act_of act))) self.new) }
+    {
+        if self.has_shape_room(&act) {
+            self.act(client, speaker, id, act, line)?;
+            Ok(())
+        } else {
+            self.reply(client, id, &Reply::Refused(Refusal::Limit))?;
+            Ok(())
         }
     }
 
@@ -246,8 +270,7 @@ impl Gateway {
         }
     }
 
-    /// The engine answers a request in a session. The journal is to have it if it is accepted; its client is told the reply, and then
-    /// everybody what changed.
+    /// The engine answers a request in a session, and what it answers is told.
     fn request_in(
         &mut self,
         session: u32,
@@ -266,20 +289,58 @@ impl Gateway {
             return Err(AllocError);
         }
         let grants = Grants::of(&act)?;
+        let mut made = Vec::new(self.alloc);
+        push_shape(self.alloc, &mut made, speaker.role.as_str(), line, &act)?;
         let lines = self.run(Command { session, act })?;
-        self.enter_request(speaker.role.as_str(), line, &lines)?;
-        self.reply_first(client, id, &lines)?;
-        self.hear(&lines, &grants)?;
+        self.tell_request(
+            client,
+            id,
+            speaker.role.as_str(),
+            line,
+            &made,
+            &lines,
+            &grants,
+        )?;
         Ok(())
     }
 
-    /// Has the journal get a request that the lines of its answer accept.
-    fn enter_request(&mut self, role: &str, line: &[u8], lines: &[Line]) -> Result<(), AllocError>
+    /// Has told what the engine answered a request, by what it makes of the shape and what it grants. The journal is to have it if it is
+    /// accepted; its client is told the reply, then everybody what changed, and then administrators the request, if it makes the shape.
+    fn tell_request(
+        &mut self,
+        client: u32,
+        id: &Option<Id>,
+        role: &str,
+        line: &[u8],
+        made: &[u8],
+        lines: &[Line],
+        grants: &Grants,
+    ) -> Result<(), AllocError>
+        ensures { OnOk result ((g : Gate) (e : Entry) (n : ℕ) → IsRun g (in_session n e.act) (map line_of lines.now) self.old → is_shared e.act ≡ true
+            → e.role ≡ role.now → e.line ≡ line.now → made.now ≡ shape_text (e ∷ []) → IsGranting e.act grants.now
+            → IsAlive (requests g client (option_map id_data id.now) e n) self.new) }
+    {
+        self.enter_request(role, line, made, lines)?;
+        self.reply_first(client, id, lines)?;
+        self.hear(lines, grants)?;
+        self.inform(made, lines)?;
+        Ok(())
+    }
+
+    /// Has the journal get a request that the lines of its answer accept, and the shape what the request makes of it.
+    fn enter_request(
+        &mut self,
+        role: &str,
+        line: &[u8],
+        made: &[u8],
+        lines: &[Line],
+    ) -> Result<(), AllocError>
         ensures { OnOk result ((g : Gate) (e : Entry) → IsAlive g self.old → is_shared e.act ≡ true → e.role ≡ role.now → e.line ≡ line.now
-            → IsAlive (entered g e (is_accepted (reply_in (map line_of lines.now)))) self.new) }
+            → made.now ≡ shape_text (e ∷ []) → IsAlive (entered g e (is_accepted (reply_in (map line_of lines.now)))) self.new) }
     {
         if is_accepted(lines) {
             push_entry(&mut self.pending, role, line)?;
+            self.shape.extend_from_slice(made)?;
         }
         Ok(())
     }

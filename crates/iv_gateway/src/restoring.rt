@@ -1,5 +1,5 @@
 //! `restore`: brings a gateway to where the bytes of a journal lead.
-ghost use Rattle.std.specs.Prelude.{◌≡◌, ℕ, List, if◌then◌else◌, Err, None, Ok, IfOk, IfSome, OnErr, bytes_eq, codes, false, length, option_map, string_bytes, take, true};
+ghost use Rattle.std.specs.Prelude.{◌≡◌, [], ℕ, List, if◌then◌else◌, Err, None, Ok, IfOk, IfSome, OnErr, bytes_eq, codes, false, length, option_map, string_bytes, take, true};
 ghost use Rattle.iv_rows.specs.Names.{is_name};
 ghost use Rattle.iv_command.specs.Views.{act_of};
 ghost use Rattle.iv_machine.specs.Well.{is_well_act};
@@ -15,6 +15,7 @@ ghost use Rattle.iv_gateway.specs.Views.{IsAlive, IsGate};
 
 use crate::gateway::Gateway;
 use crate::seats::is_accepted;
+use crate::shaping::push_shape;
 use iv_clients::{cut_at, entry_in, is_shared};
 use iv_command::{Act, Command};
 use iv_message::{Message, read_message};
@@ -92,8 +93,10 @@ impl Gateway {
             self.dead = true;
             return Err(RestoreFault::Late);
         }
-        match self.replay(journal) {
+        let mut shape = Vec::new(self.alloc);
+        match self.replay(journal, &mut shape) {
             Ok(kept) => {
+                self.shape = shape;
                 self.dead = false;
                 Ok(kept)
             }
@@ -104,9 +107,10 @@ impl Gateway {
         }
     }
 
-    /// Runs the entries of a journal. Answers where they end: what stands behind them is torn.
-    fn replay(&mut self, journal: &[u8]) -> Result<usize, RestoreFault>
-        ensures replayed { IfOk result (λ kept. (g : Gate) → IsAlive g self.old → HasReplayed g journal.now kept self.new) }
+    /// Runs the entries of a journal, and appends what they make of the shape. Answers where they end: what stands behind them is torn.
+    fn replay(&mut self, journal: &[u8], shape: &mut Vec<u8>) -> Result<usize, RestoreFault>
+        requires { shape.old.items ≡ [] }
+        ensures replayed { IfOk result (λ kept. (g : Gate) → IsAlive g self.old → HasReplayed g journal.now kept shape.new.items self.new) }
         ensures damaged { (place : ℕ) → result ≡ Err (RestoreFault.Damaged place) → (g : Gate) → IsAlive g self.old → IsDamagedAt g journal.now place }
     {
         let mut rest = journal;
@@ -115,7 +119,7 @@ impl Gateway {
             match cut_at(rest, b'\n') {
                 None => return end_at(rest, at),
                 Some((line, later)) => {
-                    match self.replay_line(line) {
+                    match self.replay_line(line, shape) {
                         Err(_) => return Err(RestoreFault::Memory),
                         Ok(false) => return Err(RestoreFault::Damaged(at)),
                         Ok(true) => {}
@@ -128,9 +132,9 @@ impl Gateway {
         end_at(rest, at)
     }
 
-    /// Runs the entry of a line. Whether it is one that is accepted.
-    fn replay_line(&mut self, line: &[u8]) -> Result<bool, AllocError>
-        ensures { IfOk result (λ is. (g : Gate) → IsAlive g self.old → has_newline line.now ≡ false → IsReplayed g line.now is self.new) }
+    /// Runs the entry of a line, and appends what it makes of the shape. Whether it is one that is accepted.
+    fn replay_line(&mut self, line: &[u8], shape: &mut Vec<u8>) -> Result<bool, AllocError>
+        ensures { IfOk result (λ is. (g : Gate) → IsAlive g self.old → has_newline line.now ≡ false → IsReplayed g line.now shape.old.items shape.new.items is self.new) }
     {
         match entry_in(self.alloc, line)? {
             None => Ok(false),
@@ -139,6 +143,7 @@ impl Gateway {
                 match act_plain(message) {
                     None => Ok(false),
                     Some(act) => {
+                        push_shape(self.alloc, shape, role.as_str(), &text, &act)?;
                         let is_accepted = self.replay_request(role, act)?;
                         Ok(is_accepted)
                     }

@@ -133,21 +133,22 @@ takes most xs ys owing telling telling' reading n h e u =
     (λ k there is. u.kept n (λ p. false≢true (sym p.1 ∙ (ap (λ o. if_some o false is_told) (ap (λ z. client_at z n) e ∙ (at_this n emptied xs ∙ ap (option_map emptied) there)) ∙ is))) (h.told n k there (told_before emptied k (emptied_quiet k) is)))
     (λ k feed there is. h.readers feed n k there (follows_same feed k (emptied k) (emptied_subs k) is))
 
-pub enters : (most : ℕ) (xs ys : Places) (owing telling : Numbers) (reading : List Readers) (n : ℕ) (role : Name) (digest : List ℕ) → IsHall most xs owing telling reading → ys ≡ set xs n (Some (coming role digest)) → IsHall most ys owing telling reading
-enters most xs ys owing telling reading n role digest h e =
-    hall_set most xs ys owing owing telling telling reading reading n (Some (coming role digest)) h e refl refl (same n owing.list) (same n telling.list) (λ feed. same n (readers_of reading feed))
+pub enters : (most : ℕ) (xs ys : Places) (owing telling telling' : Numbers) (reading : List Readers) (n : ℕ) (role : Name) (digest text : List ℕ) → IsHall most xs owing telling reading → HasGained n telling telling'
+    → ys ≡ set xs n (Some (coming role digest text)) → IsHall most ys owing telling' reading
+enters most xs ys owing telling telling' reading n role digest text h t e =
+    hall_set most xs ys owing owing telling telling' reading reading n (Some (coming role digest text)) h e refl t.size (same n owing.list) (more n telling telling' t) (λ feed. same n (readers_of reading feed))
     (λ k there. ap (λ (x : Kept). x.owed) (is k there))
-    (λ k there. ap is_told (is k there))
+    (λ k l there is. t.put (omega (arith, l, h.within, h.told_size)))
     (λ k feed there. ap (is_following feed) (is k there))
   where
-    is : (k : Kept) → Some (coming role digest) ≡ Some k → k ≡ coming role digest
-    is k x = let y : coming role digest ≡ k = cc in sym y
+    is : (k : Kept) → Some (coming role digest text) ≡ Some k → k ≡ coming role digest text
+    is k x = let y : coming role digest text ≡ k = cc in sym y
 
 pub leaves : (most : ℕ) (xs ys : Places) (owing owing' telling telling' : Numbers) (reading reading' : List Readers) (n : ℕ) → IsHall most xs owing telling reading → HasLeft n reading reading' → HasLost n owing owing' → HasLost n telling telling'
     → ys ≡ set xs n None → IsHall most ys owing' telling' reading'
 leaves most xs ys owing owing' telling telling' reading reading' n h l o t e =
     hall_set most xs ys owing owing' telling telling' reading reading' n None h e o.size t.size (less n owing owing' o) (less n telling telling' t) (λ feed m ne c. l.kept feed m ne c)
-    (λ k there. cc) (λ k there. cc) (λ k feed there. cc)
+    (λ k there. cc) (λ k l there is. cc) (λ k feed there. cc)
 
 -- who has something that may be sent, or is to go, is listed
 pub told_due : (most : ℕ) (xs : Places) (owing telling : Numbers) (reading : List Readers) → IsHall most xs owing telling reading → (m : ℕ) (k : Kept) → client_at xs m ≡ Some k → is_due k ≡ true → Contains telling.list m

@@ -98,8 +98,11 @@ listed_all p f now xs here = λ m c there is.
     let w = changed f (client_at xs m) c (sym (of_all f xs m) ∙ there) in
     here m w.before w.there (ap p (sym w.is) ∙ is)
 
-pub listed_set : {C : Type 0} (p : C → Bool) (n : ℕ) (o : Option C) (ns now : List ℕ) (xs : List (Option C)) → AreListed p ns xs → Stays n ns now → ((c : C) → o ≡ Some c → p c ≡ true → Contains now n) → AreListed p now (set xs n o)
-listed_set p n o ns now xs listed stays here = listed_but p n ns now xs (set xs n o) listed stays (set_other n o xs) (λ c there is. here c (set_this n o xs c there) is)
+pub listed_set : {C : Type 0} (p : C → Bool) (n : ℕ) (o : Option C) (ns now : List ℕ) (xs : List (Option C)) → AreListed p ns xs → Stays n ns now
+    → ((c : C) → n < length xs → o ≡ Some c → p c ≡ true → Contains now n) → AreListed p now (set xs n o)
+listed_set p n o ns now xs listed stays here = listed_but p n ns now xs (set xs n o) listed stays (set_other n o xs) (λ c there is.
+    let l = within (set xs n o) n c there in
+    here c (omega (arith, l, length_put n o xs)) (set_this n o xs c there) is)
 
 -- ---- halls
 
@@ -150,14 +153,14 @@ hall_all most xs ys owing owing' telling telling' reading reading' f h e os ts o
 pub hall_set : (most : ℕ) (xs ys : Places) (owing owing' telling telling' : Numbers) (reading reading' : List Readers) (n : ℕ) (o : Option Kept) → IsHall most xs owing telling reading → ys ≡ set xs n o
     → owing'.size ≡ owing.size → telling'.size ≡ telling.size → Stays n owing.list owing'.list → Stays n telling.list telling'.list → ((feed : ℕ) → Stays n (readers_of reading feed) (readers_of reading' feed))
     → ((k : Kept) → o ≡ Some k → k.owed ≡ false)
-    → ((k : Kept) → o ≡ Some k → is_told k ≡ false)
+    → ((k : Kept) → n < length xs → o ≡ Some k → is_told k ≡ true → Contains telling'.list n)
     → ((k : Kept) (feed : ℕ) → o ≡ Some k → is_following feed k ≡ false)
     → IsHall most ys owing' telling' reading'
 hall_set most xs ys owing owing' telling telling' reading reading' n who h e os ts o t r owed told follows = subst (λ z. IsHall most z owing' telling' reading') (sym e) (record {
   within = omega (arith, h.within, length_put n who xs);
   owed_size = os ∙ h.owed_size;
   told_size = ts ∙ h.told_size;
-  owed = listed_set (λ (k : Kept). k.owed) n who owing.list owing'.list xs h.owed o (λ k there is. absurd (false≢true (sym (owed k there) ∙ is)));
-  told = listed_set is_told n who telling.list telling'.list xs h.told t (λ k there is. absurd (false≢true (sym (told k there) ∙ is)));
-  readers = λ feed. listed_set (is_following feed) n who (readers_of reading feed) (readers_of reading' feed) xs (h.readers feed) (r feed) (λ k there is. absurd (false≢true (sym (follows k feed there) ∙ is)));
+  owed = listed_set (λ (k : Kept). k.owed) n who owing.list owing'.list xs h.owed o (λ k l there is. absurd (false≢true (sym (owed k there) ∙ is)));
+  told = listed_set is_told n who telling.list telling'.list xs h.told t told;
+  readers = λ feed. listed_set (is_following feed) n who (readers_of reading feed) (readers_of reading' feed) xs (h.readers feed) (r feed) (λ k l there is. absurd (false≢true (sym (follows k feed there) ∙ is)));
 })

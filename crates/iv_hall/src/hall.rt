@@ -110,14 +110,22 @@ impl Hall {
         has_role(&self.slots, role)
     }
 
-    /// A client comes in.
-    pub fn enter(&mut self, alloc: Global, client: u32, role: String, digest: Vec<u8>)
-        ensures { self.new ≡ slice_set self.old client (Some (coming (string_bytes role) digest.items)) }
+    /// A client comes in, and is told a text.
+    pub fn enter(
+        &mut self,
+        alloc: Global,
+        client: u32,
+        role: String,
+        digest: Vec<u8>,
+        text: Vec<u8>,
+    )
+        ensures { self.new ≡ slice_set self.old client (Some (coming (string_bytes role) digest.items text.items)) }
     {
+        self.told.insert(client);
         put_at(
             &mut self.slots,
             client,
-            Some(Client::new(alloc, role, digest)),
+            Some(Client::new(alloc, role, digest, text)),
         );
     }
 

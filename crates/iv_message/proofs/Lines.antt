@@ -1,14 +1,16 @@
 -- A compact text has no newline, so what is told is one line.
-use Rattle.std.proofs.Common.{◌≡◌, ◌∙◌, ℕ, zero, suc, pos, negsuc, ◌/◌, ◌%◌, ◌==◌, ◌||◌, ◌&&◌, List, [], ◌∷◌, ◌++◌, Bool, true, false, cond, not, nat_lt, refl, arith}
+use Rattle.std.proofs.Common.{◌≡◌, ◌∙◌, ℕ, zero, suc, pos, negsuc, ◌/◌, ◌%◌, ◌==◌, ◌||◌, ◌&&◌, List, [], ◌∷◌, ◌++◌, Bool, true, false, cond, not, nat_lt, append_assoc, refl, arith}
 use Rattle.std.proofs.lemmas.Bool.Decides.{nat_tests}
 use Rattle.std.proofs.lemmas.List.Folds.{list_all-append}
 use Rattle.std.specs.Char.{digit_char}
-use Rattle.std.specs.Prelude.{decimal}
+use Rattle.std.specs.Prelude.{codes, decimal}
 use Rattle.std.specs.Fmt.{digits, digits_onto, digit_glyph}
 use Rattle.json.specs.Print.{escape_letter, escape_byte, escape, quoted}
 use Rattle.serde_json.specs.Data.{Num, unsigned, negative, float, Data, null, boolean, number, string, array, object, Items, no_items, item, Members, no_members, member}
 use Rattle.serde_json.specs.Written.{number_text, comma_if, compact_text, items_text, members_text}
-use Rattle.iv_message.specs.Told.{Told, told_data, told_text}
+use Rattle.iv_lines.specs.Texts.{fault_data, reply_members, text_of}
+use Rattle.iv_message.specs.Message.{on_one_line}
+use Rattle.iv_message.specs.Told.{Told, welcome, replied, opened, fault, unasked, changed, over, settled, granted, made, alive, changed_data, made_text, opened_members, over_data, told_text, why_members, with_id}
 use Rattle.iv_message.specs.Lines.{is_clean, IsLine}
 
 joined : (a b : List ℕ) → is_clean a ≡ true → is_clean b ≡ true → is_clean (a ++ b) ≡ true
@@ -111,5 +113,40 @@ mutual
       joined (comma_if later) (quoted k ++ 58 ∷ (compact_text d ++ members_text true ms)) (comma_clean later)
       (joined (quoted k) (58 ∷ (compact_text d ++ members_text true ms)) (quoted_clean k) (joined (compact_text d) (members_text true ms) (data_clean d) (members_clean true ms)))
 
+text_line : (d : Data) → IsLine (text_of d)
+text_line d = (compact_text d, refl, data_clean d)
+
+-- ---- a request
+
+on_one_clean : (text : List ℕ) → is_clean (on_one_line text) ≡ true
+on_one_clean [] = refl
+on_one_clean (b ∷ text) = by (b == 10) refl (on_one_clean text)
+  where
+    by : (t : Bool) → (b == 10) ≡ t → is_clean (on_one_line text) ≡ true → is_clean (cond t 32 b ∷ on_one_line text) ≡ true
+    by true e more = more
+    by false e more = then_clean b (on_one_line text) e more
+
+made_so : (a q b l : List ℕ) → a ++ (q ++ (b ++ (l ++ codes "}\n"))) ≡ (a ++ (q ++ (b ++ (l ++ codes "}")))) ++ codes "\n"
+made_so a q b l = simp append_assoc
+
+made_line : (role line : List ℕ) → IsLine (made_text role line)
+made_line role line =
+    let q = compact_text (string role) in let l = on_one_line line in let a = codes "{\"as\":" in let b = codes ",\"made\":" in (
+      a ++ (q ++ (b ++ (l ++ codes "}"))),
+      made_so a q b l,
+      joined a (q ++ (b ++ (l ++ codes "}"))) refl
+          (joined q (b ++ (l ++ codes "}")) (data_clean (string role)) (joined b (l ++ codes "}") refl (joined l (codes "}") (on_one_clean line) refl))),
+    )
+
 pub told_line : (t : Told) → IsLine (told_text t)
-told_line t = (compact_text (told_data t), refl, data_clean (told_data t))
+told_line (welcome role) = text_line (object (member (codes "role") (string role) no_members))
+told_line (replied id r) = text_line (with_id id (reply_members r))
+told_line (opened id own columns) = text_line (with_id id (opened_members own columns))
+told_line (fault n) = text_line (fault_data n)
+told_line (unasked id why) = text_line (with_id id (why_members why))
+told_line (changed own rows) = text_line (changed_data own rows)
+told_line (over own rel cause rows) = text_line (over_data own rel cause rows)
+told_line settled = text_line (object (member (codes "settled") (boolean true) no_members))
+told_line (granted rel) = text_line (object (member (codes "granted") (string rel) no_members))
+told_line (made role line) = made_line role line
+told_line alive = text_line (object (member (codes "alive") (boolean true) no_members))

@@ -1,5 +1,5 @@
--- What a client is told, and its text: compact JSON with keys in the order of their bytes, and a newline.
-use Rattle.std.specs.Prelude.{ℕ, ℤ, true, List, map, codes, Option, Some, None}
+-- What a client is told, and its text: JSON with keys in the order of their bytes, compact but for a request as it was written, and a newline.
+use Rattle.std.specs.Prelude.{ℕ, ℤ, true, List, ◌++◌, map, codes, Option, Some, None}
 use Rattle.iv_rows.specs.Cell.{Cell}
 use Rattle.iv_rows.specs.Columns.{Column}
 use Rattle.iv_access.specs.Rights.{Name}
@@ -7,13 +7,15 @@ use Rattle.iv_machine.specs.Act.{Reply}
 use Rattle.iv_machine.specs.declared.Cause.{Cause}
 use Rattle.serde_json.specs.Data.{Data, string, boolean, array, object, Members, no_members, member, put}
 use Rattle.serde_json.specs.View.{items_of}
+use Rattle.serde_json.specs.Written.{compact_text}
 use Rattle.iv_command.specs.RowTexts.{rows_data}
 use Rattle.iv_request.specs.Asked.{column_data}
 use Rattle.iv_request.specs.Values.{natural}
 use Rattle.iv_lines.specs.Texts.{cause_text, fault_data, reply_members, text_of}
-use Rattle.iv_message.specs.Message.{Why, missing, unknown, wrong}
+use Rattle.iv_message.specs.Message.{Why, missing, unknown, wrong, on_one_line}
 
--- `own` is the client's own number of a subscription, and `rel` the relation that it asked for
+-- `own` is the client's own number of a subscription, and `rel` the relation that it asked for; `line` is a request, as a client of the
+-- role wrote it
 pub data Told : Type 0 where
   welcome : (role : Name) → Told
   replied : (id : Option Data) → Reply → Told
@@ -24,6 +26,7 @@ pub data Told : Type 0 where
   over : (own : ℕ) → (rel : Name) → Cause → (rows : List (List Cell × ℤ)) → Told
   settled : Told
   granted : (rel : Name) → Told
+  made : (role : Name) → (line : List ℕ) → Told
   alive : Told
 
 -- the id that the client gave comes in, in the order of keys
@@ -57,18 +60,20 @@ over_data own rel cause rows = object (
     (member (codes "on") (string rel)
     (member (codes "sub") (natural own) no_members))))
 
--- a reply is viewd's, but for the session
-abbrev pub told_data : Told → Data
-told_data (welcome role) = object (member (codes "role") (string role) no_members)
-told_data (replied id r) = with_id id (reply_members r)
-told_data (opened id own columns) = with_id id (opened_members own columns)
-told_data (fault number) = fault_data number
-told_data (unasked id why) = with_id id (why_members why)
-told_data (changed own rows) = changed_data own rows
-told_data (over own rel cause rows) = over_data own rel cause rows
-told_data settled = object (member (codes "settled") (boolean true) no_members)
-told_data (granted rel) = object (member (codes "granted") (string rel) no_members)
-told_data alive = object (member (codes "alive") (boolean true) no_members)
+-- who made a request, and the request
+abbrev pub made_text : Name → List ℕ → List ℕ
+made_text role line = codes "{\"as\":" ++ (compact_text (string role) ++ (codes ",\"made\":" ++ (on_one_line line ++ codes "}\n")))
 
+-- a reply is viewd's, but for the session
 abbrev pub told_text : Told → List ℕ
-told_text t = text_of (told_data t)
+told_text (welcome role) = text_of (object (member (codes "role") (string role) no_members))
+told_text (replied id r) = text_of (with_id id (reply_members r))
+told_text (opened id own columns) = text_of (with_id id (opened_members own columns))
+told_text (fault number) = text_of (fault_data number)
+told_text (unasked id why) = text_of (with_id id (why_members why))
+told_text (changed own rows) = text_of (changed_data own rows)
+told_text (over own rel cause rows) = text_of (over_data own rel cause rows)
+told_text settled = text_of (object (member (codes "settled") (boolean true) no_members))
+told_text (granted rel) = text_of (object (member (codes "granted") (string rel) no_members))
+told_text (made role line) = made_text role line
+told_text alive = text_of (object (member (codes "alive") (boolean true) no_members))

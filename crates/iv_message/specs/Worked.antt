@@ -27,9 +27,12 @@ second_wrong = codes "{\"do\":\"write\",\"entries\":[{\"on\":\"notes\",\"insert\
 abbrev pub using_of_insert : List ℕ
 using_of_insert = codes "{\"do\":\"create_policy\",\"on\":\"notes\",\"name\":\"p\",\"command\":\"insert\",\"using\":\"true\",\"check\":\"true\"}"
 
--- what is told of a table that was opened, and of a write whose third entry is none
+-- what is told of a table that was opened, of a role that was made, and of a write whose third entry is none
 abbrev pub notes_opened : List ℕ
 notes_opened = codes "{\"columns\":[[\"id\",\"int\"],[\"who\",\"text\"]],\"id\":7,\"ok\":true,\"sub\":1}\n"
+
+abbrev pub mia_made : List ℕ
+mia_made = codes "{\"as\":\"admin\",\"made\":{\"do\":\"create_role\", \"name\":\"mia\"}}\n"
 
 abbrev pub third_wrong : List ℕ
 third_wrong = codes "{\"entry\":3,\"error\":2,\"id\":7,\"key\":\"entries\",\"why\":\"wrong\"}\n"

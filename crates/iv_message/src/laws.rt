@@ -8,8 +8,8 @@ ghost use Rattle.iv_request.specs.Worked.{notes, notes_columns, first_row};
 ghost use Rattle.iv_message.specs.Lines.{IsLine};
 ghost use Rattle.iv_message.specs.Meaning.{OneMeaning, ValuesDecide};
 ghost use Rattle.iv_message.specs.Message.{message_of, on_one_line, no_json, too_long, no_object, no_request, request, missing, unknown, wrong};
-ghost use Rattle.iv_message.specs.Told.{Told, told_text, welcome, replied, opened, fault, unasked, changed, over, settled, granted, alive};
-ghost use Rattle.iv_message.specs.Worked.{Asks, IsUnasked, notes_opened, second_wrong, seven, subscribe_text, third_wrong, using_of_insert};
+ghost use Rattle.iv_message.specs.Told.{Told, told_text, welcome, replied, opened, fault, unasked, changed, over, settled, granted, made, alive};
+ghost use Rattle.iv_message.specs.Worked.{Asks, IsUnasked, mia_made, notes_opened, second_wrong, seven, subscribe_text, third_wrong, using_of_insert};
 
 /// There is one meaning of requests: a client asks what viewd reads of its object in a session, and is told a reason exactly where
 /// viewd reads no request of a client there, or the object names a session itself. The values of a request pass one by one exactly where they make its act.
@@ -68,5 +68,6 @@ pub fn lines_are_told()
     ensures limit { told_text (over 2 notes cause.Limit []) ≡ codes "{\"changes\":[],\"ended\":\"limit\",\"on\":\"notes\",\"sub\":2}\n" }
     ensures settled { told_text settled ≡ codes "{\"settled\":true}\n" }
     ensures granted { told_text (granted notes) ≡ codes "{\"granted\":\"notes\"}\n" }
+    ensures made { told_text (made (codes "admin") (codes "{\"do\":\"create_role\", \"name\":\"mia\"}")) ≡ mia_made }
     ensures alive { told_text alive ≡ codes "{\"alive\":true}\n" }
 {}

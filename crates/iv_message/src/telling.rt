@@ -1,7 +1,7 @@
 //! `push_replied`, `push_changed` and others: what a client is told, appended to its text as lines of JSON.
 //!
-//! Changes are most of what is told: their lines are put together here, and the text of their rows is copied. The others
-//! are written by `serde_json`.
+//! Changes are most of what is told: their lines are put together here, and the text of their rows is copied; so is the text of a
+//! request. The others are written by `serde_json`.
 ghost use Rattle.std.specs.Prelude.{◌≡◌, ◌++◌, ℤ, List, false, IfOk, OnOk, option_map, string_bytes};
 ghost use Rattle.serde_json.specs.Data.{object, string, member, no_members};
 ghost use Rattle.serde_json.specs.View.{members_view};
@@ -9,14 +9,15 @@ ghost use Rattle.serde_json.specs.Written.{compact_text, has_float};
 ghost use Rattle.iv_rows.specs.Cell.{Cell};
 ghost use Rattle.iv_command.specs.RowTexts.{rows_text};
 ghost use Rattle.iv_command.specs.Views.{reply_of};
-ghost use Rattle.iv_lines.specs.Texts.{text_of};
+ghost use Rattle.iv_lines.specs.Texts.{reply_members, text_of};
 ghost use Rattle.iv_message.specs.Parts.{cause_key, own_text};
 ghost use Rattle.iv_message.specs.Seen.{id_data, why_of};
 ghost use Rattle.iv_message.specs.Told as told;
-ghost use Rattle.iv_message.specs.Told.{told_text};
+ghost use Rattle.iv_message.specs.Told.{opened_members, told_text, why_members, with_id};
 
 use crate::members::{put_id, put_opened, put_reply, put_why};
 use crate::message::{Id, Why};
+use crate::reading::on_one_line;
 use itoa::Buffer;
 use iv_command::{Cause, Reply};
 use iv_lines::{put_text, text_of, write_fault};
@@ -77,7 +78,7 @@ fn put_replied(
     reply: &Reply,
 ) -> Result<(), AllocError>
     requires { members_view members.old.entries ≡ no_members }
-    ensures { OnOk result (object (members_view members.new.entries) ≡ told.told_data (told.replied (option_map id_data id.now) (reply_of reply.now))) }
+    ensures { OnOk result (object (members_view members.new.entries) ≡ with_id (option_map id_data id.now) (reply_members (reply_of reply.now))) }
 {
     put_reply(alloc, members, reply)?;
     put_id(alloc, members, id)
@@ -111,7 +112,7 @@ fn put_columns(
     columns: &[Column],
 ) -> Result<(), AllocError>
     requires { members_view members.old.entries ≡ no_members }
-    ensures { OnOk result (object (members_view members.new.entries) ≡ told.told_data (told.opened (option_map id_data id.now) own columns.now)) }
+    ensures { OnOk result (object (members_view members.new.entries) ≡ with_id (option_map id_data id.now) (opened_members own columns.now)) }
 {
     put_opened(alloc, members, own, columns)?;
     put_id(alloc, members, id)
@@ -145,7 +146,7 @@ fn put_unasked(
     why: &Why,
 ) -> Result<(), AllocError>
     requires { members_view members.old.entries ≡ no_members }
-    ensures { OnOk result (object (members_view members.new.entries) ≡ told.told_data (told.unasked (option_map id_data id.now) (why_of why.now))) }
+    ensures { OnOk result (object (members_view members.new.entries) ≡ with_id (option_map id_data id.now) (why_members (why_of why.now))) }
 {
     put_why(alloc, members, why)?;
     put_id(alloc, members, id)
@@ -245,6 +246,25 @@ pub fn push_over(
     text.extend_from_slice(rows)?;
     push_cause(alloc, text, rel, cause)?;
     push_own(text, own)?;
+    Ok(())
+}
+
+/// Appends who made a request, and the request as its client wrote it.
+pub fn push_made(
+    alloc: Global,
+    text: &mut Vec<u8>,
+    role: &str,
+    line: &[u8],
+) -> Result<(), AllocError>
+    ensures { OnOk result (text.new.items ≡ text.old.items ++ told_text (told.made role.now line.now)) }
+{
+    let role = quoted(alloc, role)?;
+    let request = on_one_line(alloc, line)?;
+    text.extend_from_slice(b"{\"as\":")?;
+    text.extend_from_slice(role.as_bytes())?;
+    text.extend_from_slice(b",\"made\":")?;
+    text.extend_from_slice(&request)?;
+    text.extend_from_slice(b"}\n")?;
     Ok(())
 }
 

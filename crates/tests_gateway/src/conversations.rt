@@ -13,11 +13,14 @@ const SHARED: &str = r#"> come 0 admin
 0 {"role":"admin"}
 0 {"settled":true}
 0 {"ok":true}
+0 {"as":"admin","made":{"do":"create_role","name":"mia"}}
 0 {"settled":true}
 0 {"ok":true}
 0 {"granted":"notes"}
+0 {"as":"admin","made":{"do":"create_table","name":"notes","owner":"admin","columns":[["id","int"],["who","text"]]}}
 0 {"settled":true}
 0 {"id":1,"ok":true}
+0 {"as":"admin","made":{"do":"grant","on":"notes","privileges":["select","insert"],"to":"mia"}}
 0 {"settled":true}
 > come 1 mia
 > come 1 admin
@@ -89,11 +92,14 @@ const REFUSED: &str = r#"> come 0 admin
 0 {"role":"admin"}
 0 {"settled":true}
 0 {"ok":true}
+0 {"as":"admin","made":{"do":"create_role","name":"mia"}}
 0 {"settled":true}
 0 {"ok":true}
 0 {"granted":"notes"}
+0 {"as":"admin","made":{"do":"create_table","name":"notes","owner":"admin","columns":[["id","int"],["who","text"]]}}
 0 {"settled":true}
 0 {"ok":true}
+0 {"as":"admin","made":{"do":"grant","on":"notes","privileges":["insert"],"to":"mia"}}
 0 {"settled":true}
 1 {"role":"mia"}
 1 {"settled":true}
@@ -167,11 +173,16 @@ const GRANTED: &str = r#"> come 0 admin
 0 {"role":"admin"}
 0 {"settled":true}
 0 {"ok":true}
+0 {"as":"admin","made":{"do":"create_role","name":"mia"}}
 0 {"settled":true}
 0 {"ok":true}
+0 {"as":"admin","made":{"do":"create_role","name":"leo"}}
 0 {"settled":true}
 0 {"ok":true}
 0 {"granted":"notes"}
+0 {"as":"admin","made":{"do":"create_table","name":"notes","owner":"leo","columns":[["id","int"]]}}
+0 {"settled":true}
+0 {"as":"leo","made":{"do":"grant","on":"notes","privileges":["select"],"to":"mia"}}
 0 {"settled":true}
 1 {"role":"mia"}
 1 {"settled":true}
@@ -202,6 +213,8 @@ const GRANTED: &str = r#"> come 0 admin
 > say 2 {"do":"unsubscribe","sub":1}
 > say 3 {"do":"write","entries":[{"on":"notes","insert":[2]}]}
 > sync
+0 {"as":"leo","made":{"do":"revoke","on":"notes","privileges":["select"],"to":"mia"}}
+0 {"settled":true}
 1 {"changes":[[-1,[1]]],"ended":"privilege","on":"notes","sub":1}
 1 {"settled":true}
 2 {"changes":[[-1,[1]]],"ended":"privilege","on":"notes","sub":1}
@@ -217,6 +230,7 @@ const GRANTED: &str = r#"> come 0 admin
 > say 2 {"do":"subscribe","on":"notes"}
 > sync
 0 {"ok":true}
+0 {"as":"admin","made":{"do":"grant_role","role":"leo","to":"mia"}}
 0 {"settled":true}
 1 {"granted":"notes"}
 1 {"settled":true}
@@ -234,6 +248,7 @@ const TOKENS: &str = r#"> come 0 admin
 0 {"role":"admin"}
 0 {"settled":true}
 0 {"ok":true}
+0 {"as":"admin","made":{"do":"create_role","name":"mia"}}
 0 {"settled":true}
 > come 1 mia
 > tokens admin bob
@@ -265,9 +280,11 @@ const RESTORED: &str = r#"> come 0 admin
 0 {"role":"admin"}
 0 {"settled":true}
 0 {"ok":true}
+0 {"as":"admin","made":{"do":"create_role","name":"mia"}}
 0 {"settled":true}
 0 {"ok":true}
 0 {"granted":"notes"}
+0 {"as":"admin","made":{"do":"create_table","name":"notes","owner":"mia","columns":[["id","int"]]}}
 0 {"settled":true}
 1 {"role":"mia"}
 1 {"settled":true}
@@ -322,10 +339,77 @@ viewd {"changes":[[1,[2]],[1,[3]]],"session":100,"sub":1}
 > say 0 {"do":"subscribe","on":"notes"}
 > sync
 0 {"role":"admin"}
+0 {"as":"admin","made":{"do":"create_role","name":"mia"}}
+0 {"as":"admin","made":{"do":"create_table","name":"notes","owner":"mia","columns":[["id","int"]]}}
 0 {"settled":true}
 0 {"columns":[["id","int"]],"ok":true,"sub":1}
 0 {"changes":[[1,[2]],[1,[3]]],"sub":1}
 0 {"settled":true}
+"#;
+
+/// An administrator is told as it comes in what makes the shape, as it was written, and then each request that does, by whomever it is: no
+/// refused one, and no write. Nobody else is told any.
+const SHAPE: &str = r#"> come 0 admin
+> say 0 {"do":"create_role","name":"mia"}
+> come 1 mia
+> say 0 { "do": "create_table", "name": "notes", "owner": "mia", "columns": [["id", "int"]] }
+> say 1 {"do":"create_role","name":"bob"}
+> say 1 {"id":4,"do":"grant","on":"notes","privileges":["select"],"to":"public"}
+> say 1 {"do":"write","entries":[{"on":"notes","insert":[1]}]}
+> come 2 admin
+> say 1 {"do":"row_security","on":"notes","enable":true,"force":false}
+> say 2 {"id":5,"do":"create_policy","on":"notes","name":"few","using":"id < 7"}
+> sync
+0 {"role":"admin"}
+0 {"settled":true}
+0 {"ok":true}
+0 {"as":"admin","made":{"do":"create_role","name":"mia"}}
+0 {"settled":true}
+0 {"ok":true}
+0 {"granted":"notes"}
+0 {"as":"admin","made":{ "do": "create_table", "name": "notes", "owner": "mia", "columns": [["id", "int"]] }}
+0 {"settled":true}
+0 {"granted":"notes"}
+0 {"as":"mia","made":{"do":"grant","on":"notes","privileges":["select"],"to":"public"}}
+0 {"settled":true}
+0 {"as":"mia","made":{"do":"row_security","on":"notes","enable":true,"force":false}}
+0 {"settled":true}
+0 {"as":"admin","made":{"do":"create_policy","on":"notes","name":"few","using":"id < 7"}}
+0 {"settled":true}
+1 {"role":"mia"}
+1 {"settled":true}
+1 {"granted":"notes"}
+1 {"settled":true}
+1 {"error":11}
+1 {"settled":true}
+1 {"id":4,"ok":true}
+1 {"granted":"notes"}
+1 {"settled":true}
+1 {"ok":true}
+1 {"settled":true}
+1 {"ok":true}
+1 {"settled":true}
+2 {"role":"admin"}
+2 {"as":"admin","made":{"do":"create_role","name":"mia"}}
+2 {"as":"admin","made":{ "do": "create_table", "name": "notes", "owner": "mia", "columns": [["id", "int"]] }}
+2 {"as":"mia","made":{"do":"grant","on":"notes","privileges":["select"],"to":"public"}}
+2 {"settled":true}
+2 {"as":"mia","made":{"do":"row_security","on":"notes","enable":true,"force":false}}
+2 {"settled":true}
+2 {"id":5,"ok":true}
+2 {"as":"admin","made":{"do":"create_policy","on":"notes","name":"few","using":"id < 7"}}
+2 {"settled":true}
+> restart
+restored to 442
+> come 3 admin
+> sync
+3 {"role":"admin"}
+3 {"as":"admin","made":{"do":"create_role","name":"mia"}}
+3 {"as":"admin","made":{ "do": "create_table", "name": "notes", "owner": "mia", "columns": [["id", "int"]] }}
+3 {"as":"mia","made":{"do":"grant","on":"notes","privileges":["select"],"to":"public"}}
+3 {"as":"mia","made":{"do":"row_security","on":"notes","enable":true,"force":false}}
+3 {"as":"admin","made":{"do":"create_policy","on":"notes","name":"few","using":"id < 7"}}
+3 {"settled":true}
 "#;
 
 /// A journal with a line that is no entry, with an entry that is not accepted, or with an end that is no front of an entry, restores
@@ -383,6 +467,13 @@ fn grants_are_told_and_revokes_end(rt: HostRuntime) -> Result<(), Fail> {
 fn tokens_that_go_drop_their_clients(rt: HostRuntime) -> Result<(), Fail> {
     let text = played(rt.alloc(), TOKENS)?;
     assert_eq!(rt; str::from_utf8(&text), Ok(TOKENS));
+    Ok(())
+}
+
+#[test]
+fn administrators_are_told_the_shape(rt: HostRuntime) -> Result<(), Fail> {
+    let text = played(rt.alloc(), SHAPE)?;
+    assert_eq!(rt; str::from_utf8(&text), Ok(SHAPE));
     Ok(())
 }
 

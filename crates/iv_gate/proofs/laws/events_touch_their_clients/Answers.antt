@@ -1,5 +1,5 @@
-use Rattle.iv_gate.proofs.Touching.{touched}
+use Rattle.iv_gate.proofs.Together.{touches}
 use Rattle.iv_gate.proofs.laws.events_touch_their_clients.Goals as goal
 
 pub returns : goal.returns
-returns c = touched
+returns c = touches

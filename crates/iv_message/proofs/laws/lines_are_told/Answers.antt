@@ -59,6 +59,10 @@ pub returns-clause-granted : goal.returns-clause-granted
 unfolding serde_json_on_literals digits
 returns-clause-granted c = refl
 
+pub returns-clause-made : goal.returns-clause-made
+unfolding serde_json_on_literals digits
+returns-clause-made c = refl
+
 pub returns-clause-alive : goal.returns-clause-alive
 unfolding serde_json_on_literals digits
 returns-clause-alive c = refl

@@ -2,7 +2,8 @@ use Rattle.iv_gate.specs.Events.{next}
 use Rattle.iv_gate.specs.Runs.{goes_on}
 use Rattle.iv_gate.proofs.Heeding.{ends_for_cause, hears_followed}
 use Rattle.iv_gate.proofs.Lasting.{runs_sound}
-use Rattle.iv_gate.proofs.Telling.{tells_changes}
+use Rattle.iv_gate.proofs.Telling.{tells_apart}
+use Rattle.iv_gate.proofs.Together.{tells_changes}
 use Rattle.iv_gate.proofs.Sound.{Sounds}
 use Rattle.iv_gate.proofs.laws.hearing.news_are_of_what_is_followed.Goals as goal
 
@@ -25,4 +26,5 @@ returns-clause-changes c =
     let opens = c.requests_open_what_they_name.ensures in
     let laws : Sounds = record { sound = c.steps_keep_sound.ensures.step; lasts = c.what_stands_lasts.ensures; ends = c.ends_are_told.ensures; begins = opens.session; subscribes = opens.subscription } in
     let adds = c.lines_add_up.ensures in let start = c.steps_keep_sound.ensures.start in let exact = c.differences_are_exact.ensures in
-    λ cap g e r. tells_changes adds laws exact.is exact.only g e (runs_sound adds start laws cap g r) (runs_sound adds start laws cap (next g e) (goes_on g e r))
+    λ cap g e r. let b = runs_sound adds start laws cap g r in
+    tells_changes g e (tells_apart adds laws exact.is exact.only g e b (runs_sound adds start laws cap (next g e) (goes_on g e r))) (ends_for_cause laws g e b)

@@ -1,9 +1,8 @@
 use Rattle.std.proofs.Common.{◌≡◌, ◌∙◌, Some, ap, set, sym, subst}
 use Rattle.std.specs.Prelude.{option_map, string_bytes}
 use Rattle.sha2.specs.Sha256.{sha256}
-use Rattle.iv_message.specs.Told.{welcome}
 use Rattle.iv_clients.specs.Clients.{fresh}
-use Rattle.iv_gate.specs.Gate.{has_session, settles, tells, with_session}
+use Rattle.iv_gate.specs.Gate.{has_session, with_session}
 use Rattle.iv_gateway.specs.Views.{IsAlive}
 use Rattle.iv_gateway.proofs.Came.{comes_in, comes_none, comes_not, presented_is}
 use Rattle.iv_gateway.proofs.gateway.Gateway.come.Goals as goal
@@ -34,5 +33,8 @@ returns-in_ok-enter-in-Some c = λ g b.
     (presented_is g c.args.client c.args.token.now c.deref.result.now c.args.self.now.clients c.deref-2.result.now _ (c.deref.ensures.value ∙ b.tokens) (b.clients) (c.deref-2.ensures.value ∙ digest) c.in_ok-role_presented.ensures
     ∙ ap (option_map string_bytes) c.in-Some.is)
     (ap (has_session g) (sym c.as_str.ensures.value) ∙ (sym s.0 ∙ c.if-not-branch.false))
-    (subst (λ d. IsAlive (settles (tells (record (with_session g (string_bytes c.in-Some.role)) { clients = set (with_session g (string_bytes c.in-Some.role)).clients c.args.client (Some (fresh (string_bytes c.in-Some.role) d)) }) c.args.client (welcome (string_bytes c.in-Some.role)))) c.enter.new.self)
+    (subst (λ d. IsAlive (record (with_session g (string_bytes c.in-Some.role)) {
+      clients = set (with_session g (string_bytes c.in-Some.role)).clients c.args.client
+          (Some (fresh (with_session g (string_bytes c.in-Some.role)).entries (string_bytes c.in-Some.role) d));
+    }) c.enter.new.self)
     digest (c.in_ok-enter-in-Some.ensures (with_session g (string_bytes c.in-Some.role)) there))

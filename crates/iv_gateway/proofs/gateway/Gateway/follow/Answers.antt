@@ -26,6 +26,7 @@ returns c = λ g b.
       seats = told.seats;
       feeds = told.feeds;
       pending = told.pending;
+      shape = told.shape;
       clients = c.in_ok-follow.ensures ∙ (ap (at_client c.args.client (keeping_new c.args.number)) told.clients
           ∙ keeps_at c.args.client (following c.args.number) (keeping_new c.args.number) (λ k. refl) (tells g c.args.client (opened (option_map id_data c.args.id.now) (next_own g c.args.client) (columns_in g.machine c.args.rel.now))).clients);
     }

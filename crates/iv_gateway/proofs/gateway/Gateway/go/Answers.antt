@@ -24,6 +24,7 @@ returns-in_ok-settle_told-in-Some c = λ g b.
       seats = b.seats;
       feeds = b.feeds;
       pending = b.pending;
+      shape = b.shape;
       clients = c.leave.ensures ∙ (ap (λ z. set z c.args.client None) b.clients ∙ keeps_set c.args.client None g.clients);
     } in
     let swept : IsAlive (all_swept (record g { clients = set g.clients c.args.client None }) c.in-Some.feeds.items) c.sweep_all.new.self =

@@ -25,6 +25,7 @@ returns c = λ g k b grants.
       machine = b.gate.machine;
       seats = b.gate.seats;
       pending = b.gate.pending;
+      shape = b.gate.shape;
       feeds = c.drop_ended.ensures ∙ (ap (feeds_left ls) b.gate.feeds ∙ ap (λ z. feeds_left z g.feeds) b.lines);
       clients = c.stay.ensures
           ∙ (ap (at_all (keeping_on ls)) (c.in_ok-hear_grants.ensures

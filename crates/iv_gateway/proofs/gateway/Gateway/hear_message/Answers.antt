@@ -18,6 +18,7 @@ returns c = λ g k b there is.
       seats = b.seats;
       feeds = b.feeds;
       pending = b.pending;
+      shape = b.shape;
       clients = c.in_ok-ask.ensures ∙ (ap (at_client c.args.client asking) b.clients ∙ keeps_at c.args.client (saying c.args.text.now) asking (λ d. refl) g.clients);
     } in
     let done : IsAlive (done_for (asked g c.args.client c.args.text.now) c.args.client k c.args.text.now (said_by c.args.text.now)) c.answer.new.self =
@@ -31,5 +32,6 @@ returns c = λ g k b there is.
       seats = told.seats;
       feeds = told.feeds;
       pending = told.pending;
+      shape = told.shape;
       clients = c.answered.ensures ∙ stands_answered g c.args.client k c.args.text.now c.speaker.inside.brought _ there (brought ∙ ap (λ s. s.brought) is) told.clients;
     }

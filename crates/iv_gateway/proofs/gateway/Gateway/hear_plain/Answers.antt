@@ -20,6 +20,7 @@ returns c = λ g k b none.
       machine = b.gate.machine;
       seats = b.gate.seats;
       pending = b.gate.pending;
+      shape = b.gate.shape;
       feeds = c.drop_ended.ensures ∙ (ap (feeds_left ls) b.gate.feeds ∙ ap (λ z. feeds_left z g.feeds) b.lines);
       clients = c.stay.ensures
           ∙ (ap (at_all (keeping_on ls)) (c.in_ok-hear.ensures ∙ ap (λ fs. at_all (hearing_lines fs ls) places) (c.deref.ensures.value ∙ b.gate.feeds))

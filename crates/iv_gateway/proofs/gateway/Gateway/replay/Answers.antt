@@ -13,7 +13,7 @@ end_at-requires c =
 pub returns-in-None-clause-damaged : goal.returns-in-None-clause-damaged
 returns-in-None-clause-damaged c = λ place e g b.
     let none : cut_at 10 c.loop.rest.now ≡ None = search rules in
-    end_damaged g c.args.journal.now c.loop.rest.now c.loop.at place c.loop.self (c.loop.invariant.leads g b) (cut_none 10 c.loop.rest.now none) (sym c.end_at.ensures ∙ e)
+    end_damaged g c.args.journal.now c.loop.rest.now c.loop.shape.items c.loop.at place c.loop.self (c.loop.invariant.leads g b) (cut_none 10 c.loop.rest.now none) (sym c.end_at.ensures ∙ e)
 
 pub returns-in-Ok-false-clause-damaged : goal.returns-in-Ok-false-clause-damaged
 returns-in-Ok-false-clause-damaged c = λ place e g b.
@@ -21,7 +21,7 @@ returns-in-Ok-false-clause-damaged c = λ place e g b.
     let w = c.loop.invariant.leads g b in
     let same : c.loop.at ≡ place = cc e in
     subst (IsDamagedAt g c.args.journal.now) same
-    (replays_bad g c.args.journal.now c.loop.rest.now c.loop.at (c.in-Some.line.now, c.in-Some.later.now) c.in-Ok-false.field-0 c.loop.self c.replay_line.new.self w cut
+    (replays_bad g c.args.journal.now c.loop.rest.now c.loop.shape.items c.replay_line.new.shape.items c.loop.at (c.in-Some.line.now, c.in-Some.later.now) c.in-Ok-false.field-0 c.loop.self c.replay_line.new.self w cut
     (c.in-Ok-false.ensures (record g { machine = w.state }) w.gate (whole 10 c.loop.rest.now (c.in-Some.line.now, c.in-Some.later.now) cut)) (search rules))
 
 pub loop-preserved : goal.loop-preserved
@@ -34,6 +34,6 @@ loop-preserved c =
       place = omega (arith, parts, place);
       count = omega (arith, count);
       leads = λ g b. let w = c.loop.invariant.leads g b in
-          replays_on g c.args.journal.now c.loop.rest.now c.loop.at (c.in-Some.line.now, c.in-Some.later.now) c.in-Ok-true.field-0 c.loop.self c.replay_line.new.self w cut
+          replays_on g c.args.journal.now c.loop.rest.now c.loop.shape.items c.replay_line.new.shape.items c.loop.at (c.in-Some.line.now, c.in-Some.later.now) c.in-Ok-true.field-0 c.loop.self c.replay_line.new.self w cut
           (c.in-Ok-true.ensures (record g { machine = w.state }) w.gate (whole 10 c.loop.rest.now (c.in-Some.line.now, c.in-Some.later.now) cut)) (search rules);
     }

@@ -8,5 +8,5 @@ abbrev pub invariant-loop : goal.invariant-loop
 invariant-loop l = record {
   place : l.at + length l.rest ≡ length l.journal;
   count : l.counter ≤ l.at;
-  leads : (g : Gate) → IsAlive g l.fn.self → IsReplaying g l.journal l.at l.rest l.self;
+  leads : (g : Gate) → IsAlive g l.fn.self → IsReplaying g l.journal l.at l.rest l.shape.items l.self;
 }

@@ -29,6 +29,7 @@ returns c = λ g b.
               feeds = run.gate.feeds;
               clients = run.gate.clients;
               pending = run.gate.pending;
+              shape = run.gate.shape;
               seats = c.in_ok-push.ensures.items ∙ ap (λ z. z ++ record { session = c.in-Some.session; role = string_bytes c.args.role } ∷ []) run.gate.seats;
             };
           }) (λ f r. refl),
@@ -50,6 +51,7 @@ returns-then-not-is_accepted c = λ g b.
         feeds = run.gate.feeds;
         clients = run.gate.clients;
         pending = run.gate.pending;
+        shape = run.gate.shape;
         machine = subst (λ z. IsBehind z c.run.new.self.engine) (refused_leaves g.machine (in_session c.in-Some.session (begin (string_bytes c.args.role))) rejected) run.gate.machine;
       },
     )

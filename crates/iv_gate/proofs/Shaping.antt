@@ -1,0 +1,88 @@
+-- Each thing that is told of the shape is a request, and a client that comes in is told its greeting.
+use Rattle.std.proofs.Common.{◌≡◌, ℕ, Bool, true, false, cond, ◌||◌, List, [], ◌∷◌, ◌++◌, map, refl, ap, ◌∙◌}
+use Rattle.std.specs.Prelude.{bytes_eq, codes, filter}
+use Rattle.std.specs.List.{AllByRecursion, list_any}
+use Rattle.std.proofs.lemmas.List.{map-append}
+use Rattle.std.proofs.lemmas.List.Elements.{filter-append}
+use Rattle.iv_access.specs.Rights.{Name}
+use Rattle.iv_message.specs.Told.{Told, made, settled, welcome}
+use Rattle.iv_clients.specs.Clients.{Shown, fresh, greeting, told}
+use Rattle.iv_clients.specs.Journal.{Entry, is_shape, shape_for, shape_of}
+
+-- ---- the shape
+
+module _ (P : Told → Type 0) (k : (role line : List ℕ) → P (made role line)) where
+  all_of : (es : List Entry) → AllByRecursion P (shape_of es)
+  all_of [] = tt
+  all_of (e ∷ es) = by (is_shape e.act) (all_of es)
+    where
+      by : (b : Bool) → AllByRecursion P (shape_of es)
+          → AllByRecursion P (map (λ (x : Entry). made x.role x.line) (cond b (e ∷ filter (λ (x : Entry). is_shape x.act) es) (filter (λ (x : Entry). is_shape x.act) es)))
+      by true rest = (k e.role e.line, rest)
+      by false rest = rest
+
+  pub all_made : (role : Name) (es : List Entry) → AllByRecursion P (shape_for role es)
+  all_made role es = by (bytes_eq role (codes "admin"))
+    where
+      by : (b : Bool) → AllByRecursion P (cond b (shape_of es) [])
+      by true = all_of es
+      by false = tt
+
+pub shape_both : (es fs : List Entry) → shape_of (es ++ fs) ≡ shape_of es ++ shape_of fs
+shape_both es fs =
+    ap (map (λ (x : Entry). made x.role x.line)) (filter-append (λ (x : Entry). is_shape x.act) es fs)
+    ∙ map-append (λ (x : Entry). made x.role x.line) (filter (λ (x : Entry). is_shape x.act) es) (filter (λ (x : Entry). is_shape x.act) fs)
+
+pub shape_more : (role : Name) (es fs : List Entry) → shape_for role (es ++ fs) ≡ shape_for role es ++ shape_for role fs
+shape_more role es fs = by (bytes_eq role (codes "admin"))
+  where
+    by : (b : Bool) → cond b (shape_of (es ++ fs)) [] ≡ cond b (shape_of es) [] ++ cond b (shape_of fs) []
+    by true = shape_both es fs
+    by false = refl
+
+pub shape_none : (role : Name) → shape_for role [] ≡ []
+shape_none role = by (bytes_eq role (codes "admin"))
+  where
+    by : (b : Bool) → cond b (shape_of []) [] ≡ []
+    by true = refl
+    by false = refl
+
+-- ---- tests of what is told
+
+pub filter_none : (p : Told → Bool) (ts : List Told) → AllByRecursion (λ t. p t ≡ false) ts → filter p ts ≡ []
+filter_none p [] a = refl
+filter_none p (t ∷ ts) a = (λ i. cond (a.0 i) (t ∷ filter p ts) (filter p ts)) ∙ filter_none p ts a.1
+
+pub filter_whole : (p : Told → Bool) (ts : List Told) → AllByRecursion (λ t. p t ≡ true) ts → filter p ts ≡ ts
+filter_whole p [] a = refl
+filter_whole p (t ∷ ts) a = (λ i. cond (a.0 i) (t ∷ filter p ts) (filter p ts)) ∙ ap (λ z. t ∷ z) (filter_whole p ts a.1)
+
+pub any_none : (p : Told → Bool) (ts : List Told) → AllByRecursion (λ t. p t ≡ false) ts → list_any p ts ≡ false
+any_none p [] a = refl
+any_none p (t ∷ ts) a = (λ i. a.0 i || list_any p ts) ∙ any_none p ts a.1
+
+-- ---- who comes in
+
+pub all_greeting : (P : Told → Type 0) → ((role : Name) → P (welcome role)) → ((role line : List ℕ) → P (made role line)) → P settled → (es : List Entry) (role : Name) → AllByRecursion P (greeting es role)
+all_greeting P w k s es role = (w role, with_last (shape_for role es) (all_made P k role es))
+  where
+    with_last : (ts : List Told) → AllByRecursion P ts → AllByRecursion P (ts ++ settled ∷ [])
+    with_last [] a = (s, tt)
+    with_last (t ∷ ts) a = (a.0, with_last ts a.1)
+
+-- what is told when these entries are accepted, and comes of the client's own token
+abbrev pub told_itself : List Entry → Told → Shown
+told_itself es t = record { told = t; entries = es; answers = true }
+
+told_all_itself : (es : List Entry) (ts : List Told) → map (λ (s : Shown). s.told) (map (told_itself es) ts) ≡ ts
+told_all_itself es [] = refl
+told_all_itself es (t ∷ ts) = ap (λ z. t ∷ z) (told_all_itself es ts)
+
+pub told_fresh : (es : List Entry) (role : Name) (digest : List ℕ) → told (fresh es role digest) ≡ greeting es role
+told_fresh es role digest = told_all_itself es (greeting es role)
+
+-- ---- where a test leads
+
+pub test_of : {X : Type 0} (P : X → Type 0) (b : Bool) (x y : X) → P x → P y → P (cond b x y)
+test_of P true x y p q = p
+test_of P false x y p q = q

@@ -1,0 +1,42 @@
+-- What the laws imply, in other words; nobody has to believe it beside them.
+use Rattle.std.specs.Prelude.{◌≡◌, ◌⊎◌, ◌≤◌, ◌<◌, ℕ, true, List, Contains, length, nat_lt, Some, is_some, ℤ}
+use Rattle.std.specs.List.{AllByRecursion, list_any}
+use Rattle.iv_rows.specs.Cell.{Cell}
+use Rattle.iv_access.specs.Rights.{Name}
+use Rattle.iv_machine.specs.declared.Cause.{Cause}
+use Rattle.iv_message.specs.Told.{granted, over}
+use Rattle.iv_clients.specs.Clients.{Client, followed_by, is_followed}
+use Rattle.iv_clients.specs.Feeds.{rel_read}
+use Rattle.iv_gate.specs.Events.{Event, next}
+use Rattle.iv_gate.specs.Gate.{Gate, has_some, most_shape, shape_text}
+use Rattle.iv_gate.specs.Replies.{ByClient, told_by}
+use Rattle.iv_gate.specs.Seen.{hindrance, is_told_of}
+
+-- what is told an end by an event was followed, and may be read no more, for the reason that is told
+pub record IsCaused (g : Gate) (e : Event) (c : Client) (own : ℕ) (rel : Name) (why : Cause) : Type 0 where
+  pub feed : ℕ
+  pub followed : followed_by c.subs own ≡ Some feed
+  pub relation : rel ≡ rel_read g.feeds feed
+  pub cause : hindrance (next g e).machine c.role rel ≡ Some why
+
+abbrev pub EndsForCause : Gate → Event → Type 0
+EndsForCause g e = ByClient g e (λ m c d. (own : ℕ) (rel : Name) (why : Cause) (rows : List (List Cell × ℤ))
+    → Contains (told_by c d) (over own rel why rows) → IsCaused g e c own rel why)
+
+-- by an event a client is told of numbers that followed something before, or that it is given now
+abbrev pub HearsFollowed : Gate → Event → Type 0
+HearsFollowed g e = ByClient g e (λ m c d. (own : ℕ) → list_any (is_told_of own) (told_by c d) ≡ true
+    → (is_some (followed_by c.subs own) ≡ true) ⊎ ((c.given < own) × (own ≤ d.given)))
+
+-- what a client is told to be granted its role has now
+abbrev pub GrantsAreTrue : Gate → Event → Type 0
+GrantsAreTrue g e = ByClient g e (λ m c d. (rel : Name) → Contains (told_by c d) (granted rel) → has_some (next g e).machine.frame c.role rel ≡ true)
+
+-- where the shape's text is beyond its bound, an event adds nothing to it
+abbrev pub ShapeIsBounded : Gate → Event → Type 0
+ShapeIsBounded g e = nat_lt most_shape (length (shape_text g.entries)) ≡ true → shape_text (next g e).entries ≡ shape_text g.entries
+
+-- the machine reads what clients follow, and nothing else
+pub record ReadsForClients (g : Gate) : Type 0 where
+  pub subscriptions : AllByRecursion (λ e. is_followed e.number g.clients ≡ true) g.machine.frame.subscriptions
+  pub feeds : AllByRecursion (λ f. is_followed f.number g.clients ≡ true) g.feeds

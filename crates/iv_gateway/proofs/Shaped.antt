@@ -1,0 +1,136 @@
+-- What administrators are told of the shape, as the code tells it.
+use Rattle.std.proofs.Common.{◌≡◌, ◌∙◌, ℕ, Bool, true, false, cond, List, [], ◌∷◌, ◌++◌, length, map, refl, ap, sym, subst, append-nil, append_assoc}
+use Rattle.std.specs.Prelude.{◌==◌, ◌&&◌, ◌||◌, filter, flat_map, not}
+use Rattle.std.proofs.lemmas.Bool.{false≢true}
+use Rattle.std.proofs.lemmas.List.Concat.{flat_map-append}
+use Rattle.iv_access.specs.Rights.{Name}
+use Rattle.iv_machine.specs.Act.{Line}
+use Rattle.iv_message.specs.Lines.{IsLine}
+use Rattle.iv_message.specs.Told.{Told, made, settled, told_text, welcome}
+use Rattle.iv_clients.specs.Clients.{Client, Shown, Slots, at_all, by_others, fresh, greeting, telling, text_shown}
+use Rattle.iv_clients.specs.Journal.{Entry, is_shape, is_shared, shape_for, shape_of}
+use Rattle.iv_clients.specs.Kept.{Kept, Places, coming, holding, holding_all, kept, kept_slots}
+use Rattle.iv_gate.specs.Gate.{Gate, entered, entries_of, informs, is_accepted, reply_in, shape_text}
+use Rattle.iv_gate.proofs.Shaping.{shape_both, told_itself}
+use Rattle.iv_gateway.specs.Granting.{holding_for}
+use Rattle.iv_gateway.specs.Shaping.{greeting_text, is_admin}
+use Rattle.iv_gateway.specs.Views.{IsAlive}
+use Rattle.iv_gateway.specs.declared.gateway.Gateway.{Gateway}
+use Rattle.iv_gateway.proofs.Granted.{held_all, same_all, still_all}
+use Rattle.iv_gateway.proofs.Keeping.{keeps_all, kept_telling, nonempty}
+
+-- ---- text
+
+pub shape_more : (es : List Entry) (e : Entry) → shape_text (es ++ e ∷ []) ≡ shape_text es ++ shape_text (e ∷ [])
+shape_more es e = ap (flat_map told_text) (shape_both es (e ∷ [])) ∙ flat_map-append told_text (shape_of es) (shape_of (e ∷ []))
+
+pub one_shape : (e : Entry) → is_shape e.act ≡ true → told_text (made e.role e.line) ≡ shape_text (e ∷ [])
+one_shape e h = sym (append-nil (told_text (made e.role e.line))) ∙ ap (λ b. flat_map told_text (map (λ (x : Entry). made x.role x.line) (cond b (e ∷ []) []))) (sym h)
+
+pub no_shape : (e : Entry) → is_shape e.act ≡ false → shape_text (e ∷ []) ≡ []
+no_shape e h = ap (λ b. flat_map told_text (map (λ (x : Entry). made x.role x.line) (cond b (e ∷ []) []))) h
+
+-- ---- a client that comes in
+
+itself_text : (es : List Entry) (ts : List Told) → text_shown (map (told_itself es) ts) ≡ flat_map told_text ts
+itself_text es [] = refl
+itself_text es (t ∷ ts) = ap (λ z. told_text t ++ z) (itself_text es ts)
+
+itself_brought : (es : List Entry) (ts : List Told) → by_others (map (told_itself es) ts) ≡ []
+itself_brought es [] = refl
+itself_brought es (t ∷ ts) = itself_brought es ts
+
+shape_for_text : (role : Name) (es : List Entry) → flat_map told_text (shape_for role es) ≡ cond (is_admin role) (shape_text es) []
+shape_for_text role es = by (is_admin role)
+  where
+    by : (b : Bool) → flat_map told_text (cond b (shape_of es) []) ≡ cond b (flat_map told_text (shape_of es)) []
+    by true = refl
+    by false = refl
+
+greeting_is : (es : List Entry) (role : Name) → flat_map told_text (greeting es role) ≡ greeting_text role (shape_text es)
+greeting_is es role =
+    ap (λ z. told_text (welcome role) ++ z)
+    (flat_map-append told_text (shape_for role es) (settled ∷ []) ∙ (λ i. shape_for_text role es i ++ append-nil (told_text settled) i))
+
+pub kept_fresh : (es : List Entry) (role : Name) (digest : List ℕ) → kept (fresh es role digest) ≡ coming role digest (greeting_text role (shape_text es))
+kept_fresh es role digest i = record (coming role digest (greeting_text role (shape_text es))) {
+  unsynced = (itself_text es (greeting es role) ∙ greeting_is es role) i;
+  brought = length (text_shown (itself_brought es (greeting es role) i));
+}
+
+-- ---- one request
+
+-- what it makes is told to those whose role it is for
+one_told : (ts : List Told) (b : Bool) (t : Told) (k : Kept) → cond b (holding (flat_map told_text (t ∷ ts)) k) k ≡ holding_all (cond b (t ∷ ts) []) k
+one_told ts true t k = sym (held_all ts (told_text t) k)
+one_told ts false t k = refl
+
+none_told : (b : Bool) (k : Kept) → k ≡ holding_all (cond b [] []) k
+none_told true k = refl
+none_told false k = refl
+
+-- what entries tell a client of the shape
+abbrev pub told_shape : List Entry → Kept → Kept
+told_shape es k = holding_all (shape_for k.role es) k
+
+some_shape : (ts : List Told) → (length (flat_map told_text ts) == 0) ≡ false → (b : Bool) (k : Kept) → cond b (holding (flat_map told_text ts) k) k ≡ holding_all (cond b ts []) k
+some_shape [] h b k = absurd (false≢true (sym h))
+some_shape (t ∷ ts) h b k = one_told ts b t k
+
+empty_shape : ((t : Told) → IsLine (told_text t)) → (ts : List Told) → (length (flat_map told_text ts) == 0) ≡ true → (b : Bool) (k : Kept) → k ≡ holding_all (cond b ts []) k
+empty_shape law [] h b k = none_told b k
+empty_shape law (t ∷ ts) h b k = absurd (false≢true (sym (nonempty t (flat_map told_text ts) (law t)) ∙ h))
+
+pub informs_some : (es : List Entry) (places : Places) → (length (shape_text es) == 0) ≡ false → at_all (holding_for is_admin (shape_text es)) places ≡ at_all (told_shape es) places
+informs_some es places h = same_all (holding_for is_admin (shape_text es)) (told_shape es) (λ k. some_shape (shape_of es) h (is_admin k.role) k) places
+
+pub informs_empty : ((t : Told) → IsLine (told_text t)) → (es : List Entry) (places : Places) → (length (shape_text es) == 0) ≡ true → places ≡ at_all (told_shape es) places
+informs_empty law es places h = still_all places ∙ same_all (λ k. k) (told_shape es) (λ k. empty_shape law (shape_of es) h (is_admin k.role) k) places
+
+-- of no entry nothing is told
+pub informs_none : (places : Places) → places ≡ at_all (told_shape []) places
+informs_none places = still_all places ∙ same_all (λ k. k) (told_shape []) (λ k. none_told (is_admin k.role) k) places
+
+pub stands_informed : (all es : List Entry) (slots : Slots) (places : Places) → places ≡ kept_slots slots → at_all (told_shape es) places ≡ kept_slots (at_all (λ c. telling all (shape_for c.role es) c) slots)
+stands_informed all es slots places b =
+    ap (at_all (told_shape es)) b ∙ keeps_all (λ c. telling all (shape_for c.role es) c) (told_shape es) (λ c. kept_telling all (shape_for c.role es) c) slots
+
+pub stands_as : (g : Gate) (es : List Entry) (places now : Places) → places ≡ kept_slots g.clients → now ≡ at_all (told_shape es) places → now ≡ kept_slots (informs g es).clients
+stands_as g es places now b n = n ∙ stands_informed g.entries es g.clients places b
+
+-- ---- whether it is accepted
+
+refused_none : (e : Entry) → entries_of e false ≡ []
+refused_none e = by (is_shared e.act)
+  where
+    by : (b : Bool) → cond (b && false) (e ∷ []) [] ≡ []
+    by true = refl
+    by false = refl
+
+accepted_one : (e : Entry) → is_shared e.act ≡ true → entries_of e true ≡ e ∷ []
+accepted_one e s = ap (λ b. cond (b && true) (e ∷ []) []) s
+
+-- a request that is refused, or makes nothing of the shape, tells nobody anything
+pub informs_nobody : ((t : Told) → IsLine (told_text t)) → (e : Entry) (a : Bool) (text : List ℕ) (places : Places) → is_shared e.act ≡ true → text ≡ shape_text (e ∷ [])
+    → (not a || (length text == 0)) ≡ true → places ≡ at_all (told_shape (entries_of e a)) places
+informs_nobody law e false text places s t h = informs_none places ∙ ap (λ es. at_all (told_shape es) places) (sym (refused_none e))
+informs_nobody law e true text places s t h =
+    informs_empty law (e ∷ []) places (ap (λ z. length z == 0) (sym t) ∙ h) ∙ ap (λ es. at_all (told_shape es) places) (sym (accepted_one e s))
+
+pub informs_all : (e : Entry) (a : Bool) (text : List ℕ) (places : Places) → is_shared e.act ≡ true → text ≡ shape_text (e ∷ [])
+    → (not a || (length text == 0)) ≡ false → at_all (holding_for is_admin text) places ≡ at_all (told_shape (entries_of e a)) places
+informs_all e false text places s t h = absurd (false≢true (sym h))
+informs_all e true text places s t h =
+    ap (λ z. at_all (holding_for is_admin z) places) t
+    ∙ (informs_some (e ∷ []) places (ap (λ z. length z == 0) (sym t) ∙ h) ∙ ap (λ es. at_all (told_shape es) places) (sym (accepted_one e s)))
+
+-- ---- what the code keeps of it
+
+pub shape_added : (es : List Entry) (e : Entry) (old new text : List ℕ) → old ≡ shape_text es → text ≡ shape_text (e ∷ []) → new ≡ old ++ text → new ≡ shape_text (es ++ e ∷ [])
+shape_added es e old new text o t n = n ∙ ((λ i. o i ++ t i) ∙ sym (shape_more es e))
+
+pub shape_same : (es : List Entry) (text : List ℕ) → text ≡ shape_text es → text ≡ shape_text (es ++ [])
+shape_same es text t = t ∙ ap shape_text (sym (append-nil es))
+
+pub shape_entered : (g : Gate) (e : Entry) (accepted : Bool) (text : List ℕ) → is_shared e.act ≡ true → text ≡ shape_text (g.entries ++ cond accepted (e ∷ []) []) → text ≡ shape_text (entered g e accepted).entries
+shape_entered g e accepted text s t = subst (λ b. text ≡ shape_text (g.entries ++ cond (b && accepted) (e ∷ []) [])) (sym s) t
