@@ -1,6 +1,6 @@
 -- The entries of a journal, as the code runs them.
 use Rattle.std.proofs.Common.{◌≡◌, ◌∙◌, inl, inr, ℕ, ◌+◌, Bool, true, false, cond, List, [], ◌∷◌, ◌++◌, length, Option, Some, None, Ok, Err, refl, ap, sym, subst, arith, append_assoc, append-nil, length-append}
-use Rattle.std.specs.Prelude.{◌==◌, option_and_then}
+use Rattle.std.specs.Prelude.{◌==◌, IfOk, Result, option_and_then}
 use Rattle.std.specs.List.{AllByRecursion}
 use Rattle.std.proofs.lemmas.Bool.{false≢true, eqb-true}
 use Rattle.std.proofs.lemmas.List.{drop_all}
@@ -21,6 +21,7 @@ use Rattle.iv_gate.specs.Restoring.{IsDamagedAt, LeadTo, all_replayed, is_torn, 
 use Rattle.iv_gateway.specs.Replays.{HasReplayed, IsPassed, IsReplayed, IsReplayedTo, IsRestored, act_plain}
 use Rattle.iv_gateway.specs.Views.{IsAlive}
 use Rattle.iv_gateway.specs.declared.gateway.Gateway.{Gateway}
+use Rattle.iv_gateway.specs.declared.restoring.RestoreFault.{RestoreFault}
 use Rattle.iv_gateway.specs.declared.restoring.RestoreFault.TheVariants.{Damaged}
 use Rattle.iv_gateway.proofs.Shaped.{shape_more}
 use Rattle.iv_gateway.proofs.Reread.{IsRead, cut_is, entry_is, entry_read, read_brace, read_text, read_whole}
@@ -173,12 +174,12 @@ asked g line before after role text act is x shape h plain n w p = by is p
 -- ---- a journal
 
 -- entries with as many bytes have led the machine on and made the shape, and the rest stands behind them
-pub record IsReplaying (g : Gate) (journal : List ℕ) (at : ℕ) (rest shape : List ℕ) (x : Gateway) : Type 0 where
+pub record IsReplaying (g : Gate) (journal : List ℕ) (at : ℕ) (rest text : List ℕ) (x : Gateway) : Type 0 where
   pub entries : List Entry
   pub state : State
   pub leads : LeadTo g.machine journal entries rest state
   pub bytes : at ≡ length (journal_of entries)
-  pub shape : shape ≡ shape_text entries
+  pub shape : text ≡ shape_text entries
   pub gate : IsAlive (record g { machine = state }) x
 
 pub replays_none : (g : Gate) (journal shape : List ℕ) (x : Gateway) → shape ≡ [] → IsAlive g x → IsReplaying g journal 0 journal shape x
@@ -257,6 +258,12 @@ end_torn g journal rest shape at kept x w h = by (is_torn rest) refl h
     by : (b : Bool) → is_torn rest ≡ b → cond b (Ok at) (Err (Damaged at)) ≡ Ok kept → HasReplayed g journal kept shape x
     by true e k = subst (λ z. HasReplayed g journal z shape x) (let same : at ≡ kept = cc k in same) (replays_end g journal rest shape at x w e)
     by false e k = cc
+
+-- where the rest is torn, its entries have led there
+pub end_if : (journal rest shape : List ℕ) (at : ℕ) (before x : Gateway) (r : Result ℕ RestoreFault) → r ≡ cond (is_torn rest) (Ok at) (Err (Damaged at))
+    → ((g : Gate) → IsAlive g before → IsReplaying g journal at rest shape x) → IfOk r (λ kept. (g : Gate) → IsAlive g before → HasReplayed g journal kept shape x)
+end_if journal rest shape at before x (Ok kept) e w = λ g b. end_torn g journal rest shape at kept x (w g b) (sym e)
+end_if journal rest shape at before x (Err fault) e w = tt
 
 -- ---- the gateway
 

@@ -1,21 +1,18 @@
 -- What administrators are told of the shape, as the code tells it.
-use Rattle.std.proofs.Common.{◌≡◌, ◌∙◌, ℕ, Bool, true, false, cond, List, [], ◌∷◌, ◌++◌, length, map, refl, ap, sym, subst, append-nil, append_assoc}
-use Rattle.std.specs.Prelude.{◌==◌, ◌&&◌, ◌||◌, filter, flat_map, not}
+use Rattle.std.proofs.Common.{◌≡◌, ◌∙◌, ℕ, Bool, true, false, cond, List, [], ◌∷◌, ◌++◌, length, map, refl, ap, sym, subst, append-nil}
+use Rattle.std.specs.Prelude.{◌==◌, ◌&&◌, ◌||◌, flat_map, not}
 use Rattle.std.proofs.lemmas.Bool.{false≢true}
 use Rattle.std.proofs.lemmas.List.Concat.{flat_map-append}
 use Rattle.iv_access.specs.Rights.{Name}
-use Rattle.iv_machine.specs.Act.{Line}
 use Rattle.iv_message.specs.Lines.{IsLine}
 use Rattle.iv_message.specs.Told.{Told, made, settled, told_text, welcome}
-use Rattle.iv_clients.specs.Clients.{Client, Shown, Slots, at_all, by_others, fresh, greeting, telling, text_shown}
+use Rattle.iv_clients.specs.Clients.{Slots, at_all, by_others, fresh, greeting, telling, text_shown}
 use Rattle.iv_clients.specs.Journal.{Entry, is_shape, is_shared, shape_for, shape_of}
 use Rattle.iv_clients.specs.Kept.{Kept, Places, coming, holding, holding_all, kept, kept_slots}
-use Rattle.iv_gate.specs.Gate.{Gate, entered, entries_of, informs, is_accepted, reply_in, shape_text}
+use Rattle.iv_gate.specs.Gate.{Gate, entered, entries_of, informs, shape_text}
 use Rattle.iv_gate.proofs.Shaping.{shape_both, told_itself}
 use Rattle.iv_gateway.specs.Granting.{holding_for}
 use Rattle.iv_gateway.specs.Shaping.{greeting_text, is_admin}
-use Rattle.iv_gateway.specs.Views.{IsAlive}
-use Rattle.iv_gateway.specs.declared.gateway.Gateway.{Gateway}
 use Rattle.iv_gateway.proofs.Granted.{held_all, same_all, still_all}
 use Rattle.iv_gateway.proofs.Keeping.{keeps_all, kept_telling, nonempty}
 

@@ -17,14 +17,14 @@ pub record IsRestored (g : Gate) (journal : List ℕ) (kept : ℕ) (x : Gateway)
   pub gate : IsGate now x
 
 -- the entries with as many bytes have led the machine on and made the shape, and behind them is a last one that is torn
-pub record HasReplayed (g : Gate) (journal : List ℕ) (kept : ℕ) (shape : List ℕ) (x : Gateway) : Type 0 where
+pub record HasReplayed (g : Gate) (journal : List ℕ) (kept : ℕ) (text : List ℕ) (x : Gateway) : Type 0 where
   pub entries : List Entry
   pub torn : List ℕ
   pub state : State
   pub leads : LeadTo g.machine journal entries torn state
   pub cut : is_torn torn ≡ true
   pub bytes : kept ≡ length (journal_of entries)
-  pub shape : shape ≡ shape_text entries
+  pub shape : text ≡ shape_text entries
   pub gate : IsAlive (record g { machine = state }) x
 
 -- what a message asks that is a request without an id

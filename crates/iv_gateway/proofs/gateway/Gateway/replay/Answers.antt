@@ -2,13 +2,16 @@ use Rattle.std.proofs.Common.{◌≡◌, ◌∙◌, ◌+◌, ◌≤◌, arith, l
 use Rattle.iv_clients.specs.Tokens.{cut_at}
 use Rattle.iv_gate.specs.Restoring.{IsDamagedAt}
 use Rattle.iv_gateway.proofs.Reread.{cut_length, cut_none, whole}
-use Rattle.iv_gateway.proofs.Replayed.{replays_bad, replays_on, end_damaged}
+use Rattle.iv_gateway.proofs.Replayed.{end_damaged, end_if, replays_bad, replays_on}
 use Rattle.iv_gateway.proofs.gateway.Gateway.replay.Goals as goal
 
 pub end_at-requires : goal.end_at-requires
 end_at-requires c =
     let none : cut_at 10 c.loop.rest.now ≡ None = search rules in
     cut_none 10 c.loop.rest.now none
+
+pub returns-in-None-clause-replayed : goal.returns-in-None-clause-replayed
+returns-in-None-clause-replayed c = end_if c.args.journal.now c.loop.rest.now c.loop.shape.items c.loop.at c.args.self.now c.loop.self c.end_at.result c.end_at.ensures c.loop.invariant.leads
 
 pub returns-in-None-clause-damaged : goal.returns-in-None-clause-damaged
 returns-in-None-clause-damaged c = λ place e g b.
