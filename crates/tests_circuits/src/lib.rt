@@ -11,10 +11,6 @@ mod circuits;
 #[cfg(test)]
 mod index_seeds;
 #[cfg(test)]
-mod indexed;
-#[cfg(test)]
-mod kept;
-#[cfg(test)]
 mod pairs;
 #[cfg(test)]
 mod plans;
@@ -34,6 +30,8 @@ mod sets;
 mod singles;
 #[cfg(test)]
 mod steps;
+#[cfg(test)]
+mod sums;
 #[cfg(test)]
 mod worlds;
 #[cfg(test)]

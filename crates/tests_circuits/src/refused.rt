@@ -23,9 +23,9 @@ enum Outcome {
 }
 
 /// A row of three numbers, and its copies.
-type Weighed = ([i64; 3], i64);
+pub(crate) type Weighed = ([i64; 3], i64);
 
-const ROWS: [Entry; 5] = [
+pub(crate) const ROWS: [Entry; 5] = [
     (0, [1, 5], 1),
     (0, [2, 5], 2),
     (1, [1, 7], 1),
@@ -34,7 +34,7 @@ const ROWS: [Entry; 5] = [
 ];
 
 /// Of 1: 7 of a pair, and 5 of the left row, which stands on the left alone. Of 2: two pairs of 5.
-const BEFORE: [Weighed; 2] = [([1, 12, 2], 1), ([2, 10, 2], 1)];
+pub(crate) const BEFORE: [Weighed; 2] = [([1, 12, 2], 1), ([2, 10, 2], 1)];
 
 const BATCH: [Entry; 5] = [
     (0, [2, 5], -1),
@@ -65,7 +65,7 @@ fn row(alloc: Global, numbers: [i64; 3]) -> Result<Row, AllocError> {
 }
 
 /// Whether these are the rows, with their copies; none where memory was refused.
-fn are(alloc: Global, rows: &ZSet, wanted: &[Weighed]) -> Option<bool> {
+pub(crate) fn are(alloc: Global, rows: &ZSet, wanted: &[Weighed]) -> Option<bool> {
     for entry in wanted {
         let (numbers, copies) = *entry;
         let row = row(alloc, numbers).ok()?;

@@ -66,13 +66,6 @@ pub(crate) fn fill(
     }
 }
 
-/// Whether a change has no more rows than a step takes.
-pub(crate) fn are_few(change: &ZSet) -> bool
-    ensures { result ≡ true → IsFew change.now }
-{
-    change.rows() <= 4_294_967_296
-}
-
 /// The Z-set of two rows of numbers; a row of weight 0 is not there.
 pub(crate) fn two(
     alloc: Global,

@@ -1,6 +1,4 @@
 //! Tests of the steps of operators: each a table of cases with what is seen of their answers.
-use crate::indexed::{emptied_key, joined_by_key, kept_sums, moved};
-use crate::kept::regrouped;
 use crate::pairs::{counted, emptied, joined, multiplied, replaced, summed};
 use crate::sets::Seen;
 use crate::singles::{alone, filtered, once, projected, signs, united};
@@ -83,48 +81,6 @@ fn pairs(rt: HostRuntime) {
         Err(DeltaFault::Limit),
     ];
     assert!(rt; [both, left, large, larger] == want);
-}
-
-#[test]
-fn indexed_joins(rt: HostRuntime) {
-    let both = joined_by_key(rt.alloc(), 2, 1, 3, -1, 6);
-    let left = joined_by_key(rt.alloc(), 2, 1, 3, 0, 6);
-    let gone = joined_by_key(rt.alloc(), 2, -2, 3, 1, 6);
-    let large = joined_by_key(rt.alloc(), MAX, 0, 1, 1, MAX);
-    let want: [Answer; 4] = [
-        Ok((0, 0, 0)),
-        Ok((1, 3, 3)),
-        Ok((1, -6, -6)),
-        Err(DeltaFault::Limit),
-    ];
-    assert!(rt; [both, left, gone, large] == want);
-}
-
-#[test]
-fn keys_are_emptied(rt: HostRuntime) {
-    assert!(rt; emptied_key(rt.alloc()) == Ok((2, 1, 0)));
-}
-
-#[test]
-fn kept_groups(rt: HostRuntime) {
-    assert!(rt; kept_sums(rt.alloc()) == Ok(((Some(3), Some(17)), (None, None))));
-}
-
-#[test]
-fn kept_group_steps(rt: HostRuntime) {
-    for (old, first, second, new, want) in [
-        (5, (5, -1), (5, 0), 0, Ok((1, -1, 0))),
-        (MAX, (3, 1), (MAX, -1), 3, Ok((2, -1, 1))),
-        (MAX, (1, 1), (1, 0), 0, Err(DeltaFault::Limit)),
-        (0, (MAX, 2), (-MAX, 2), 0, Err(DeltaFault::Limit)),
-    ] {
-        assert!(rt; regrouped(rt.alloc(), old, first, second, new) == want);
-    }
-}
-
-#[test]
-fn a_key_changes_sides(rt: HostRuntime) {
-    assert!(rt; moved(rt.alloc(), 200) == Ok((0, 0, 0)));
 }
 
 #[test]
