@@ -138,6 +138,13 @@ impl Client {
         self.role.as_str()
     }
 
+    /// The SHA-256 of its token.
+    pub fn digest(&self) -> &[u8]
+        ensures { result.now ≡ self.now.digest }
+    {
+        &self.digest
+    }
+
     /// Its own numbers that are open.
     pub fn subs(&self) -> &[Sub]
         ensures { result.now ≡ self.now.subs }

@@ -1,5 +1,5 @@
 //! `Gateway`: the engine, sessions by role, feeds that clients share, clients, and the journal that is ahead of what they are told.
-ghost use Rattle.std.specs.Prelude.{◌≡◌, ℕ, IfOk, [], false};
+ghost use Rattle.std.specs.Prelude.{◌≡◌, ℕ, IfOk, [], false, option_map};
 ghost use Rattle.iv_rows.specs.Options.{if_some};
 ghost use Rattle.iv_machine.specs.State.{start};
 ghost use Rattle.iv_store.specs.Engine.{IsBehind};
@@ -73,6 +73,28 @@ impl Gateway {
         match self.clients.get(client as usize) {
             Some(Some(it)) => it.may_ask(),
             _ => false,
+        }
+    }
+
+    /// The role of a client, if the number has one.
+    pub fn role_of(&self, client: u32) -> Option<&str>
+        ensures { (g : Gate) → IsGate g self.now → g.dead ≡ false
+            → option_map (λ r. r.now) result ≡ option_map (λ c. c.role) (client_at g.clients client) }
+    {
+        match self.clients.get(client as usize) {
+            Some(Some(it)) => Some(it.role()),
+            _ => None,
+        }
+    }
+
+    /// The SHA-256 of the token by which a client came, if the number has one.
+    pub fn digest_of(&self, client: u32) -> Option<&[u8]>
+        ensures { (g : Gate) → IsGate g self.now → g.dead ≡ false
+            → option_map (λ d. d.now) result ≡ option_map (λ c. c.digest) (client_at g.clients client) }
+    {
+        match self.clients.get(client as usize) {
+            Some(Some(it)) => Some(it.digest()),
+            _ => None,
         }
     }
 
