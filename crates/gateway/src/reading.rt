@@ -1,0 +1,298 @@
+//! What a round reads: heads of requests, and what clients say, at most so much of each.
+use crate::fault::Fault;
+use crate::hall::{Hall, Kind};
+use crate::socket::{Got, Stage, read_at};
+use iv_desk::{Desk, Hearing};
+use iv_host::{ADMIN, FileJournal, Why, raise, refusal};
+use iv_pages::{Refusal, Wish, asked};
+use std::mem;
+
+/// Reads of a socket in a round, at most: 65,536 bytes.
+const READS: u32 = 4;
+
+/// Milliseconds for an answer to be taken.
+const ANSWERING: u64 = 60_000;
+
+/// Bytes of answers that wait to be sent, at most, before one more is made.
+const MOST_UNSENT: u64 = 67_108_864;
+
+/// Clients by one token, at most.
+const MOST_BY_TOKEN: usize = 64;
+
+/// Numbers that are kept for administrators.
+const KEPT: usize = 16;
+
+impl Hall {
+    /// Reads of the head of a request.
+    fn read_head(
+        &mut self,
+        rt: &HostRuntime,
+        desk: &mut Desk,
+        journal: &FileJournal,
+        at: u32,
+    ) -> Result<(), Fault> {
+        let Some(socket) = self.socket(at) else {
+            return Ok(());
+        };
+        match socket.read_head()? {
+            Got::Nothing => socket.readable = false,
+            Got::End => self.go(at, Why::Closed)?,
+            Got::Bytes(_) => self.ask(rt, desk, journal, at)?,
+        }
+        Ok(())
+    }
+
+    /// Does what the head of a request asks for, if it is whole.
+    fn ask(
+        &mut self,
+        rt: &HostRuntime,
+        desk: &mut Desk,
+        journal: &FileJournal,
+        at: u32,
+    ) -> Result<(), Fault> {
+        let head = match self.socket(at) {
+            Some(socket) => socket.take_head(),
+            None => return Ok(()),
+        };
+        match asked(&head) {
+            Wish::More => {
+                if let Some(socket) = self.socket(at) {
+                    socket.stage = Stage::Head(head);
+                }
+            }
+            Wish::Upgrade => self.upgrade(desk, at, &head)?,
+            Wish::Page(ask) => {
+                let answer = self.page(rt, desk, journal, &head, &ask)?;
+                self.answer(rt, at, answer)?;
+            }
+            Wish::Refused(why) => {
+                let answer = refusal(rt, why, false)?;
+                self.answer(rt, at, answer)?;
+            }
+        }
+        Ok(())
+    }
+
+    /// The desk has the connection of a number from now on, and hears what it has said so far.
+    fn upgrade(&mut self, desk: &mut Desk, at: u32, head: &[u8]) -> Result<(), Fault> {
+        if !desk.accept(at) {
+            return Err(Fault::Desk);
+        }
+        if let Some(socket) = self.socket(at) {
+            socket.stage = Stage::Desk;
+        }
+        let hearing = desk.read(at, head)?;
+        self.heed(at, hearing);
+        self.asked.push(at)?;
+        Ok(())
+    }
+
+    /// Bytes of answers that were not sent.
+    fn unsent(&self) -> u64 {
+        let mut sum: u64 = 0;
+        for slot in self.sockets.iter() {
+            if let Some(socket) = slot {
+                if let Stage::Answer(bytes, _) = &socket.stage {
+                    raise(&mut sum, bytes.len() as u64);
+                }
+            }
+        }
+        sum
+    }
+
+    /// A request is answered by these bytes, or told that too much waits for others.
+    fn answer(&mut self, rt: &HostRuntime, at: u32, bytes: Vec<u8>) -> Result<(), Fault> {
+        raise(&mut self.counts.asked, 1);
+        let answer = if self.unsent() > MOST_UNSENT {
+            refusal(rt, Refusal::Unavailable, false)?
+        } else {
+            bytes
+        };
+        let until = self.now.saturating_add(ANSWERING);
+        if let Some(socket) = self.socket(at) {
+            socket.stage = Stage::Answer(answer, 0);
+            socket.until = Some(until);
+        }
+        self.asked.push(at)?;
+        Ok(())
+    }
+
+    /// What the desk says of bytes that it was given.
+    fn heed(&mut self, at: u32, hearing: Hearing) {
+        if let Some(socket) = self.socket(at) {
+            socket.unheard = hearing == Hearing::Held;
+        }
+    }
+
+    /// Hears on at a number that was held. Whether it may be read.
+    fn resume(&mut self, desk: &mut Desk, at: u32) -> Result<bool, Fault> {
+        let is_unheard = match self.socket(at) {
+            Some(socket) => socket.unheard,
+            None => return Ok(false),
+        };
+        if is_unheard {
+            let hearing = desk.resume(at)?;
+            self.heed(at, hearing);
+            return Ok(hearing == Hearing::All);
+        }
+        Ok(!desk.is_over(at))
+    }
+
+    /// Reads once what a client says. Whether it may be read on.
+    fn read_once(&mut self, desk: &mut Desk, at: u32) -> Result<bool, Fault> {
+        let (got, hearing) = read_at(&mut self.sockets, desk, at)?;
+        match got {
+            Got::Nothing => {
+                if let Some(socket) = self.socket(at) {
+                    socket.readable = false;
+                }
+                Ok(false)
+            }
+            Got::End => {
+                self.go(at, Why::Closed)?;
+                Ok(false)
+            }
+            Got::Bytes(count) => {
+                raise(&mut self.counts.read, count as u64);
+                self.heed(at, hearing);
+                Ok(hearing == Hearing::All)
+            }
+        }
+    }
+
+    /// Reads what a client says, where it is heard.
+    fn read_desk(&mut self, desk: &mut Desk, at: u32) -> Result<(), Fault> {
+        self.asked.push(at)?;
+        if !self.resume(desk, at)? {
+            return Ok(());
+        }
+        for _ in 0..READS {
+            if !self.read_once(desk, at)? {
+                return Ok(());
+            }
+        }
+        Ok(())
+    }
+
+    /// Reads what nobody looks at.
+    fn read_ending(&mut self, at: u32) -> Result<(), Fault> {
+        let Some(socket) = self.socket(at) else {
+            return Ok(());
+        };
+        match socket.read_nothing() {
+            Got::Nothing => socket.readable = false,
+            Got::End => self.go(at, Why::Answered)?,
+            Got::Bytes(_) => {}
+        }
+        Ok(())
+    }
+
+    /// Who has presented a token that is known has no time limit, if there is room.
+    fn come(&mut self, rt: &HostRuntime, desk: &mut Desk, at: u32) -> Result<(), Fault> {
+        let now = self.now;
+        let Some(socket) = self.socket(at) else {
+            return Ok(());
+        };
+        if socket.came {
+            return Ok(());
+        }
+        let address = socket.address;
+        let Some(role) = desk.role_of(at) else {
+            if desk.is_over(at) && self.log.may_say(rt, now) {
+                let _ = eprintln!(rt; "gateway: {address} did not come in");
+            }
+            return Ok(());
+        };
+        socket.came = true;
+        socket.until = None;
+        raise(&mut self.counts.came, 1);
+        if self.log.may_say(rt, now) {
+            let _ = eprintln!(rt; "gateway: {address} came in as {role}");
+        }
+        if !self.has_room(desk, at, role) {
+            if self.log.may_say(rt, now) {
+                let _ = eprintln!(rt; "gateway: {address} goes: too many by this token, or in all");
+            }
+            desk.close(at, 1013, b"Too many connections.")?;
+        }
+        Ok(())
+    }
+
+    /// Whether one more client may stay.
+    fn has_room(&self, desk: &Desk, at: u32, role: &str) -> bool {
+        if role != ADMIN && self.free.len() < KEPT && self.sockets.len() > 4 * KEPT {
+            return false;
+        }
+        let Some(digest) = desk.digest_of(at) else {
+            return true;
+        };
+        let mut count: usize = 0;
+        for other in 0..self.sockets.len() {
+            if let Ok(other) = u32::try_from(other) {
+                if desk.digest_of(other) == Some(digest) {
+                    count = count.saturating_add(1);
+                }
+            }
+        }
+        count <= MOST_BY_TOKEN
+    }
+
+    /// Whether a number is to be read in the next round, too. One with more to read makes that round come at once; one that is over is
+    /// read no more.
+    fn goes_on(&mut self, desk: &Desk, at: u32) -> bool {
+        let Some(socket) = self.socket(at) else {
+            return false;
+        };
+        let is_read = match &socket.stage {
+            Stage::Head(_) | Stage::Ending => true,
+            Stage::Desk => !socket.unheard && !desk.is_over(at),
+            Stage::Answer(_, _) => false,
+        };
+        let is_held = socket.unheard;
+        let has_more = is_read && socket.readable;
+        if has_more {
+            self.again = true;
+        }
+        has_more || is_held
+    }
+
+    /// Reads at a number.
+    fn read(
+        &mut self,
+        rt: &HostRuntime,
+        desk: &mut Desk,
+        journal: &FileJournal,
+        at: u32,
+    ) -> Result<(), Fault> {
+        match self.kind(at) {
+            Kind::Head => self.read_head(rt, desk, journal, at)?,
+            Kind::Desk => self.read_desk(desk, at)?,
+            Kind::Ending => self.read_ending(at)?,
+            Kind::Answer | Kind::Nobody => return Ok(()),
+        }
+        if self.kind(at) == Kind::Desk {
+            self.come(rt, desk, at)?;
+        }
+        Ok(())
+    }
+
+    /// Reads all that are listed.
+    pub fn read_all(
+        &mut self,
+        rt: &HostRuntime,
+        desk: &mut Desk,
+        journal: &FileJournal,
+    ) -> Result<(), Fault> {
+        let listed = mem::replace(&mut self.to_read, Vec::new(self.alloc));
+        for at in listed {
+            if let Some(socket) = self.socket(at) {
+                socket.listed = false;
+            }
+            self.read(rt, desk, journal, at)?;
+            if self.goes_on(desk, at) {
+                self.list(at)?;
+            }
+        }
+        Ok(())
+    }
+}

@@ -1,0 +1,83 @@
+//! `page_in`: a file of the folder of pages, as the answer to a request.
+use iv_pages::{Ask, Page, Refusal, etag_of, kind_of, place_of, push_page, push_refusal};
+use std::alloc::AllocError;
+use std::fs;
+
+/// What pages may load and do.
+pub const POLICY: &str =
+    "default-src 'none'; script-src 'self'; style-src 'self'; connect-src 'self'; img-src 'self' data:; font-src 'self'; manifest-src 'self'; base-uri 'none'; form-action 'none'; frame-ancestors 'none'";
+
+/// Bytes of a page, at most.
+const MOST: u64 = 16_777_216;
+
+/// The contents of a file of the folder: none where a link leads out of it, or it is no plain file.
+fn contents(rt: &HostRuntime, folder: &str, place: &str) -> Option<Vec<u8>> {
+    let Ok(path) = format!(in rt.alloc(); "{folder}/{place}") else {
+        return None;
+    };
+    let (Ok(folder), Ok(path)) = (
+        fs::canonicalize(rt, folder),
+        fs::canonicalize(rt, path.as_str()),
+    ) else {
+        return None;
+    };
+    if !path.as_path().starts_with(folder.as_path()) {
+        return None;
+    }
+    match fs::metadata(rt, path.as_path()) {
+        Ok(is) if is.is_file() && is.len() <= MOST => fs::read(rt, path.as_path()).ok(),
+        _ => None,
+    }
+}
+
+/// The answer with these contents.
+pub fn answer(
+    rt: &HostRuntime,
+    ask: &Ask<'_>,
+    kind: &str,
+    tag: Option<&[u8]>,
+    contents: &[u8],
+) -> Result<Vec<u8>, AllocError> {
+    let mut out = Vec::new(rt.alloc());
+    let page = Page {
+        kind,
+        tag,
+        length: contents.len(),
+        policy: POLICY,
+    };
+    if push_page(&mut out, &page, ask)? {
+        out.extend_from_slice(contents)?;
+    }
+    Ok(out)
+}
+
+/// The answer to what is refused.
+pub fn refusal(rt: &HostRuntime, why: Refusal, only_head: bool) -> Result<Vec<u8>, AllocError> {
+    let mut out = Vec::new(rt.alloc());
+    push_refusal(&mut out, why, only_head)?;
+    Ok(out)
+}
+
+/// The answer to a request for a file of the folder.
+pub fn page_in(
+    rt: &HostRuntime,
+    folder: Option<&str>,
+    ask: &Ask<'_>,
+) -> Result<Vec<u8>, AllocError> {
+    let Some(folder) = folder else {
+        return refusal(rt, Refusal::NotFound, ask.only_head);
+    };
+    let Some(place) = place_of(rt.alloc(), ask.target)? else {
+        return refusal(rt, Refusal::NotFound, ask.only_head);
+    };
+    let Ok(name) = str::from_utf8(&place) else {
+        return refusal(rt, Refusal::NotFound, ask.only_head);
+    };
+    match contents(rt, folder, name) {
+        None => refusal(rt, Refusal::NotFound, ask.only_head),
+        Some(contents) => {
+            let tag = etag_of(rt.alloc(), &contents)?;
+            answer(rt, ask, kind_of(&place), Some(&tag), &contents)
+        }
+    }
+}
