@@ -50,6 +50,21 @@ def serving(base=BASE, **how):
         gate.end()
 
 
+def until(holds, what: str) -> None:
+    """Waits until it holds."""
+    end = time.monotonic() + PATIENCE
+    while not holds():
+        assert time.monotonic() < end, what
+        time.sleep(0.05)
+
+
+def comes_in(gate: Gateway, role: str) -> bool:
+    try:
+        return gate.enter(role) is not None
+    except (Ended, ConnectionError):
+        return False
+
+
 def insert(number: int, who: str, on: str = "notes", **keys) -> dict:
     return {**keys, "do": "write", "entries": [{"on": on, "insert": [number, who]}]}
 
@@ -361,7 +376,6 @@ def silence_has_an_end():
                     wire.more()
             took = time.monotonic() - start
             assert 8 < took < 10 + PATIENCE, (name, took)
-            start = start if took > 8 else time.monotonic()
 
 
 # ---- plain requests
@@ -379,10 +393,12 @@ def plain_requests_are_answered():
         assert state["ready"] and state["clients"] == 1 and state["journal"] == len(BASE) and state["bytes"] == gate.journal.stat().st_size
         figures = http(gate.port, "/metrics", "admin-demo")[2].decode()
         assert 'gateway_clients{role="admin"} 1\n' in figures and f"gateway_journal_entries_total {len(BASE)}\n" in figures, figures
-        for data, status in [(b"GET / HTTP/1.1\r\n\r\n", b"404"), (b"POST /healthz HTTP/1.1\r\n\r\n", b"405"), (b"nonsense\r\n\r\n", b"400"),
-                             (b"GET / HTTP/2.0\r\n\r\n", b"505"), (b"GET /" + b"x" * 9000 + b" HTTP/1.1\r\n\r\n", b"414"),
-                             (b"GET / HTTP/1.1\r\n" + b"a: b\r\n" * 2000 + b"\r\n", b"431"),
-                             (b"GET /live HTTP/1.1\r\nUpgrade: websocket\r\n\r\n", b"426")]:
+        for data, status in [(b"GET / HTTP/1.1\r\nHost: x\r\n\r\n", b"404"), (b"POST /healthz HTTP/1.1\r\nHost: x\r\n\r\n", b"405"),
+                             (b"nonsense\r\n\r\n", b"400"), (b"GET / HTTP/2.0\r\n\r\n", b"505"), (b"GET /" + b"x" * 9000 + b" HTTP/1.1\r\n\r\n", b"414"),
+                             (b"GET / HTTP/1.1\r\n" + b"a: b\r\n" * 2000 + b"\r\n", b"431"), (b"GET / HTTP/1.1\r\n\r\n", b"400"),
+                             (b"GET / HTTP/1.1\r\nHost: x\r\nHost: x\r\n\r\n", b"400"), (b"GET / HTTP/1.0\r\n\r\n", b"404"),
+                             (b"GET /live HTTP/1.1\r\nHost: x\r\nUpgrade: websocket\r\n\r\n", b"426"),
+                             (b"GET /live HTTP/1.1\r\nHost: x\r\nUpgrade: websocket\r\nContent-Length: 5\r\n\r\nhello", b"400")]:
             got = plain(gate.port, data)
             assert got.startswith(b"HTTP/1.1 " + status), (data[:60], got[:100])
 
@@ -408,7 +424,7 @@ def pages_of_a_folder_are_served_and_no_others():
         assert http(gate.port, "/img/a.svg")[1]["content-type"] == "image/svg+xml"
         for path in ("/.env", "/%2eenv", "/link.txt", "/out/outside.txt", "/../outside.txt", "/%2e%2e/outside.txt", "/img/..%2f..%2foutside.txt",
                      "/img/%2e%2e/%2e%2e/outside.txt", "/img", "/nothing", "//etc/passwd", "/img//a.svg", "/a%00b"):
-            got = plain(gate.port, f"GET {path} HTTP/1.1\r\n\r\n".encode())
+            got = plain(gate.port, f"GET {path} HTTP/1.1\r\nHost: x\r\n\r\n".encode())
             assert got.startswith(b"HTTP/1.1 404") and b"secret" not in got, (path, got)
     finally:
         gate.end()
@@ -427,22 +443,13 @@ def tokens_open_their_role_and_nothing_else():
         gate.know("admin", "ann", "bob")  # mia's token is taken away
         assert mia.end() == 4401 and Wire(gate.port, "mia-demo").end() == 4401
         gate.know("admin", "ann", "bob", "mia", "eve")
-        end = time.monotonic() + PATIENCE
-        while True:
-            wire = Wire(gate.port, "mia-demo")
-            try:
-                assert wire.enter() == "mia"
-                break
-            except Ended:
-                assert time.monotonic() < end
-                time.sleep(0.1)
+        until(lambda: comes_in(gate, "mia"), "a token that is there again opens nothing")
         assert Wire(gate.port, "eve-demo").end() in (4401, 1013)  # her role is not there
         admin.ask({"do": "create_role", "name": "eve"})
         assert gate.enter("eve")
         gate.tokens.write_text("nonsense\n")  # a file that is none changes nothing
-        time.sleep(2.5)
+        until(lambda: "line 1 is no token" in gate.said(), "a file that is none is not told of")
         assert gate.enter("mia") and admin.ask({"do": "unsubscribe", "sub": 9}) == ['{"error":19}']
-        assert "line 1 is no token" in gate.said()
         mia = gate.enter("mia")
         gate.know()  # an empty one lets nobody in
         assert mia.end() == 4401 and admin.end() == 4401 and Wire(gate.port, "admin-demo").end() == 4401
@@ -462,32 +469,18 @@ def one_token_takes_not_all_room():
         assert came == 64 and codes == {1013: 16}, (came, codes)
         assert gate.enter("bob") and gate.enter("admin")
         wires[0].shut()
-        end = time.monotonic() + PATIENCE
-        while True:
-            try:
-                assert gate.enter("mia")
-                break
-            except Ended:
-                assert time.monotonic() < end
-                time.sleep(0.1)
+        until(lambda: comes_in(gate, "mia"), "the room of one that is gone is not free")
 
 
 @test
 def sockets_have_a_bound():
     with serving(words=("--clients", "20")) as (gate, admin):
         idle = [socket.create_connection(("127.0.0.1", gate.port)) for _ in range(40)]
-        time.sleep(0.5)
-        assert admin.ask({"do": "unsubscribe", "sub": 9}) == ['{"error":19}'] and "no room" in gate.said()
+        until(lambda: "no room" in gate.said(), "there is room for all")
+        assert admin.ask({"do": "unsubscribe", "sub": 9}) == ['{"error":19}']
         for it in idle:
             it.close()
-        end = time.monotonic() + PATIENCE
-        while True:
-            try:
-                assert gate.enter("bob")
-                break
-            except (Ended, ConnectionError):
-                assert time.monotonic() < end
-                time.sleep(0.1)
+        until(lambda: comes_in(gate, "bob"), "the room of those that are gone is not free")
 
 
 # ---- the journal
@@ -564,15 +557,8 @@ def a_full_disk_ends_it_and_nobody_was_told():
             resource.setrlimit(resource.RLIMIT_FSIZE, (size + 1000, size + 1000))
         with gate.log.open("ab") as log:
             gate.process = subprocess.Popen(gate.process.args, stdin=subprocess.DEVNULL, stderr=log, preexec_fn=small)
-        end = time.monotonic() + PATIENCE
-        while True:
-            try:
-                admin = gate.enter("admin")
-                break
-            except ConnectionError:
-                assert time.monotonic() < end
-                time.sleep(0.05)
-        told = 0
+        until(lambda: comes_in(gate, "admin"), "it does not listen")
+        told, admin = 0, gate.enter("admin")
         with contextlib.suppress(Ended):
             for at in range(100):
                 told += admin.ask(insert(at, "ann")) == ['{"ok":true}']
@@ -629,7 +615,9 @@ def kills_lose_nothing(kills=20):
         for it in threads:
             it.start()
         for at in range(kills):
-            time.sleep(dice.uniform(0.1, 0.6))
+            before = len(acknowledged)
+            until(lambda: len(acknowledged) > before, "nothing is acknowledged")
+            time.sleep(dice.uniform(0, 0.4))
             gate.kill()
             if at % 4 == 3:  # half an entry stands behind what is whole
                 with gate.journal.open("ab") as file:
