@@ -1,0 +1,5 @@
+pub mod Admins
+pub mod Counts
+pub mod Disk
+pub mod Pages
+pub mod Settings
