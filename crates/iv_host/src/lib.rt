@@ -7,6 +7,7 @@ mod counts;
 mod disk;
 mod figures;
 mod journal;
+pub mod laws;
 mod log;
 mod pages;
 mod tokens;
