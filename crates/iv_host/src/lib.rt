@@ -15,7 +15,7 @@ mod tokens;
 pub use admins::{ADMIN, Admins};
 pub use arguments::{Settings, asked_for};
 pub use counts::{BOUNDS, Counts, Why, raise};
-pub use disk::Disk;
+pub use disk::{Disk, put};
 pub use figures::{Now, figures_now, state_now};
 pub use journal::{DiskJournal, FileJournal, OpenFault, Syncs};
 pub use log::Log;

@@ -16,6 +16,18 @@ pub enum TokenFault {
     File(TokensFault),
 }
 
+impl From<io::Error> for TokenFault {
+    fn from(error: io::Error) -> TokenFault {
+        TokenFault::System(error)
+    }
+}
+
+impl From<TokensFault> for TokenFault {
+    fn from(fault: TokensFault) -> TokenFault {
+        TokenFault::File(fault)
+    }
+}
+
 /// When a file was changed, and its length.
 type Stamp = (Option<SystemTime>, u64);
 
@@ -44,10 +56,7 @@ fn stamp_of(rt: &HostRuntime, path: &str) -> Stamp {
 fn tokens_in(alloc: Global, bytes: &[u8]) -> Result<Vec<Token>, TokenFault>
     ensures { IfOk result (λ ts. tokens_in bytes.now ≡ Some ts.items) }
 {
-    match read_tokens(alloc, bytes) {
-        Ok(tokens) => Ok(tokens),
-        Err(fault) => Err(TokenFault::File(fault)),
-    }
+    Ok(read_tokens(alloc, bytes)?)
 }
 
 /// The tokens in the bytes of a file that was read before: none, where it has none now.
@@ -61,14 +70,6 @@ fn tokens_left(alloc: Global, bytes: &[u8]) -> Result<Vec<Token>, TokenFault>
     }
 }
 
-/// The bytes of a file.
-fn bytes_of(rt: &HostRuntime, path: &str) -> Result<Vec<u8>, TokenFault> {
-    match fs::read(rt, path) {
-        Ok(bytes) => Ok(bytes),
-        Err(error) => Err(TokenFault::System(error)),
-    }
-}
-
 impl TokenFile {
     /// A file of tokens, with its tokens.
     ///
@@ -76,7 +77,7 @@ impl TokenFile {
     /// `System` where it could not be read, `File` where it is no file of tokens.
     pub fn open(rt: &HostRuntime, path: String) -> Result<(TokenFile, Vec<Token>), TokenFault> {
         let stamp = stamp_of(rt, path.as_str());
-        let bytes = bytes_of(rt, path.as_str())?;
+        let bytes = fs::read(rt, path.as_str())?;
         let tokens = tokens_in(rt.alloc(), &bytes)?;
         Ok((TokenFile { path, stamp }, tokens))
     }
@@ -91,7 +92,7 @@ impl TokenFile {
             return Ok(None);
         }
         self.stamp = stamp;
-        let bytes = bytes_of(rt, self.path.as_str())?;
+        let bytes = fs::read(rt, self.path.as_str())?;
         Ok(Some(tokens_left(rt.alloc(), &bytes)?))
     }
 }
