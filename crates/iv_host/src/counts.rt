@@ -1,4 +1,6 @@
 //! `Counts`: what the program counts of its connections since its start.
+ghost use Rattle.std.specs.Prelude.{◌≡◌};
+ghost use Rattle.iv_host.specs.Counts.{ended, raised};
 
 /// Why a connection ends.
 #[derive(Clone, Copy, Debug, PartialEq, Eq)]
@@ -58,12 +60,15 @@ pub struct Counts {
     pub told: u64,
 }
 
-/// Counts a thing.
-pub fn raise(count: &mut u64, by: u64) {
+/// Counts a thing. A count stops at the greatest number.
+pub fn raise(count: &mut u64, by: u64)
+    ensures { count.new ≡ raised count.old by }
+{
     *count = count.saturating_add(by);
 }
 
 impl Counts {
+    /// Nothing was counted yet.
     pub fn new() -> Counts {
         Counts {
             accepted: 0,
@@ -80,8 +85,10 @@ impl Counts {
         }
     }
 
-    /// Counts the end of a connection.
-    pub fn end(&mut self, why: Why) {
+    /// Counts the end of a connection, by its cause; not that of an answer.
+    pub fn end(&mut self, why: Why)
+        ensures { self.new ≡ ended why self.old }
+    {
         match why {
             Why::Closed => raise(&mut self.closed, 1),
             Why::Late => raise(&mut self.late, 1),

@@ -1,5 +1,10 @@
 //! `figures_now`, `state_now`: what the program tells of itself, as Prometheus reads it, and as JSON.
-use crate::counts::{BOUNDS, Counts};
+ghost use Rattle.std.specs.Prelude.{◌≡◌, ◌++◌, [], OnOk, codes, flat_map};
+ghost use Rattle.iv_pages.specs.Figures.{counter_text, gauge_text, sample_line};
+ghost use Rattle.iv_host.specs.Figures.{bytes_text, came_text, clients_in, clients_line, clients_text, counts_text, ends_text, one_more, why_label};
+ghost use Rattle.iv_host.specs.Roles.{by_role, first_at};
+
+use crate::counts::{BOUNDS, Counts, raise};
 use crate::journal::FileJournal;
 use iv_pages::{Label, Metric, push_counter, push_gauge, push_histogram, push_sample};
 use std::alloc::AllocError;
@@ -18,21 +23,48 @@ pub struct Now {
     pub time: u64,
 }
 
+/// Where a role stands first.
+fn first_at(roles: &[(String, u64)], role: &str) -> Option<usize>
+    ensures { result ≡ first_at role.now (by_role roles.now) }
+{
+    for at in 0..roles.len() {
+        if roles[at].0.as_str() == role {
+            return Some(at);
+        }
+    }
+    None
+}
+
 impl Now {
     /// Counts a client of a role.
     ///
     /// # Errors
     /// `AllocError` where a growth of memory was refused.
-    pub fn count(&mut self, role: &str) -> Result<(), AllocError> {
-        for (name, count) in self.roles.iter_mut() {
-            if name.as_str() == role {
-                *count = count.saturating_add(1);
-                return Ok(());
+    pub fn count(&mut self, role: &str) -> Result<(), AllocError>
+        ensures { OnOk result (by_role self.new.roles.items ≡ one_more role.now (by_role self.old.roles.items)) }
+    {
+        match first_at(&self.roles, role) {
+            Some(at) => {
+                raise(&mut self.roles[at].1, 1);
+                Ok(())
+            }
+            None => {
+                let name = String::from_str(*self.roles.allocator(), role)?;
+                self.roles.push((name, 1))?;
+                Ok(())
             }
         }
-        let name = String::from_str(*self.roles.allocator(), role)?;
-        self.roles.push((name, 1))?;
-        Ok(())
+    }
+
+    /// How many clients there are.
+    fn clients(&self) -> u64
+        ensures { result ≡ clients_in (by_role self.now.roles.items) }
+    {
+        let mut clients = 0;
+        for (_, count) in self.roles.iter() {
+            raise(&mut clients, *count);
+        }
+        clients
     }
 }
 
@@ -50,27 +82,24 @@ fn memory(rt: &HostRuntime) -> u64 {
     }
 }
 
-fn counter(out: &mut Vec<u8>, name: &str, help: &str, value: u64) -> Result<(), AllocError> {
+/// Appends a counter that has no label.
+fn counter(out: &mut Vec<u8>, name: &str, help: &str, value: u64) -> Result<(), AllocError>
+    ensures { OnOk result (out.new.items ≡ out.old.items ++ counter_text name.now help.now [] value) }
+{
     push_counter(out, &Metric { name, help }, &[], value)
 }
 
-fn gauge(out: &mut Vec<u8>, name: &str, help: &str, value: u64) -> Result<(), AllocError> {
+/// Appends a gauge that has no label.
+fn gauge(out: &mut Vec<u8>, name: &str, help: &str, value: u64) -> Result<(), AllocError>
+    ensures { OnOk result (out.new.items ≡ out.old.items ++ gauge_text name.now help.now [] value) }
+{
     push_gauge(out, &Metric { name, help }, &[], value)
 }
 
-/// Appends how connections ended.
-fn push_ends(out: &mut Vec<u8>, counts: &Counts) -> Result<(), AllocError> {
-    let name = "gateway_ends_total";
-    let help = "Connections that ended, by why";
-    let why = |value| Label { name: "why", value };
-    push_counter(out, &Metric { name, help }, &[why("closed")], counts.closed)?;
-    push_sample(out, name, &[why("late")], counts.late)?;
-    push_sample(out, name, &[why("stuck")], counts.stuck)?;
-    push_sample(out, name, &[why("told")], counts.told)
-}
-
-/// Appends what is counted of connections.
-fn push_counts(out: &mut Vec<u8>, counts: &Counts) -> Result<(), AllocError> {
+/// Appends how many connections came.
+fn push_came(out: &mut Vec<u8>, counts: &Counts) -> Result<(), AllocError>
+    ensures { OnOk result (out.new.items ≡ out.old.items ++ came_text counts.now) }
+{
     counter(
         out,
         "gateway_accepted_total",
@@ -95,6 +124,13 @@ fn push_counts(out: &mut Vec<u8>, counts: &Counts) -> Result<(), AllocError> {
         "Connections at which no token was known",
         counts.refused,
     )?;
+    Ok(())
+}
+
+/// Appends what was asked, read and sent.
+fn push_bytes(out: &mut Vec<u8>, counts: &Counts) -> Result<(), AllocError>
+    ensures { OnOk result (out.new.items ≡ out.old.items ++ bytes_text counts.now) }
+{
     counter(
         out,
         "gateway_asked_total",
@@ -113,7 +149,51 @@ fn push_counts(out: &mut Vec<u8>, counts: &Counts) -> Result<(), AllocError> {
         "Bytes that clients' sockets took",
         counts.sent,
     )?;
-    push_ends(out, counts)
+    Ok(())
+}
+
+/// Appends how many connections ended by a further cause.
+fn push_end(out: &mut Vec<u8>, why: &str, count: u64) -> Result<(), AllocError>
+    ensures { OnOk result (out.new.items ≡ out.old.items ++ sample_line (codes "gateway_ends_total") (why_label why.now) count) }
+{
+    push_sample(
+        out,
+        "gateway_ends_total",
+        &[Label {
+            name: "why",
+            value: why,
+        }],
+        count,
+    )
+}
+
+/// Appends how connections ended.
+fn push_ends(out: &mut Vec<u8>, counts: &Counts) -> Result<(), AllocError>
+    ensures { OnOk result (out.new.items ≡ out.old.items ++ ends_text counts.now) }
+{
+    let metric = Metric {
+        name: "gateway_ends_total",
+        help: "Connections that ended, by why",
+    };
+    let closed = [Label {
+        name: "why",
+        value: "closed",
+    }];
+    push_counter(out, &metric, &closed, counts.closed)?;
+    push_end(out, "late", counts.late)?;
+    push_end(out, "stuck", counts.stuck)?;
+    push_end(out, "told", counts.told)?;
+    Ok(())
+}
+
+/// Appends what is counted of connections.
+fn push_counts(out: &mut Vec<u8>, counts: &Counts) -> Result<(), AllocError>
+    ensures { OnOk result (out.new.items ≡ out.old.items ++ counts_text counts.now) }
+{
+    push_came(out, counts)?;
+    push_bytes(out, counts)?;
+    push_ends(out, counts)?;
+    Ok(())
 }
 
 /// Appends what is counted of the journal.
@@ -131,40 +211,48 @@ fn push_journal(out: &mut Vec<u8>, journal: &FileJournal) -> Result<(), AllocErr
         journal.len(),
     )?;
     let mut buckets = Vec::new(*out.allocator());
-    for (bound, count) in BOUNDS.iter().zip(journal.syncs()) {
+    let syncs = journal.syncs();
+    for (bound, count) in BOUNDS.iter().zip(&syncs.within) {
         buckets.push((*bound, *count))?;
     }
     let metric = Metric {
         name: "gateway_sync_microseconds",
         help: "Time of a write and sync of the journal",
     };
-    push_histogram(
-        out,
-        &metric,
-        &[],
-        &buckets,
-        journal.synced(),
-        journal.time(),
-    )
+    push_histogram(out, &metric, &[], &buckets, syncs.count, syncs.time)
 }
 
-/// Appends who is there.
-fn push_clients(out: &mut Vec<u8>, now: &Now) -> Result<(), AllocError> {
-    let name = "gateway_clients";
-    let help = "Clients who are there, by role";
-    let mut is_first = true;
-    for (role, count) in now.roles.iter() {
+/// Appends how many clients further roles have.
+fn push_further(out: &mut Vec<u8>, roles: &[(String, u64)]) -> Result<(), AllocError>
+    ensures { OnOk result (out.new.items ≡ out.old.items ++ flat_map clients_line (by_role roles.now)) }
+{
+    for (role, count) in roles {
         let labels = [Label {
             name: "role",
             value: role.as_str(),
         }];
-        if is_first {
-            push_gauge(out, &Metric { name, help }, &labels, *count)?;
-            is_first = false;
-        } else {
-            push_sample(out, name, &labels, *count)?;
-        }
+        push_sample(out, "gateway_clients", &labels, *count)?;
     }
+    Ok(())
+}
+
+/// Appends who is there.
+fn push_clients(out: &mut Vec<u8>, roles: &[(String, u64)]) -> Result<(), AllocError>
+    ensures { OnOk result (out.new.items ≡ out.old.items ++ clients_text (by_role roles.now)) }
+{
+    let [(role, count), rest @ ..] = roles else {
+        return Ok(());
+    };
+    let metric = Metric {
+        name: "gateway_clients",
+        help: "Clients who are there, by role",
+    };
+    let labels = [Label {
+        name: "role",
+        value: role.as_str(),
+    }];
+    push_gauge(out, &metric, &labels, *count)?;
+    push_further(out, rest)?;
     Ok(())
 }
 
@@ -181,7 +269,7 @@ pub fn figures_now(
     let mut out = Vec::new(rt.alloc());
     push_counts(&mut out, counts)?;
     push_journal(&mut out, journal)?;
-    push_clients(&mut out, now)?;
+    push_clients(&mut out, &now.roles)?;
     gauge(
         &mut out,
         "gateway_sockets",
@@ -219,10 +307,7 @@ pub fn state_now(
     journal: &FileJournal,
     now: &Now,
 ) -> Result<String, AllocError> {
-    let mut clients: u64 = 0;
-    for (_, count) in now.roles.iter() {
-        clients = clients.saturating_add(*count);
-    }
+    let clients = now.clients();
     let sockets = now.sockets;
     let dropped = counts.stuck.saturating_add(counts.told);
     let entries = journal.entries();

@@ -1,10 +1,14 @@
-//! `FileJournal`: the journal in a file, which one process at a time writes.
+//! `DiskJournal`: the journal on a disk, and `FileJournal`, that in a file which one process at a time writes.
 //!
-//! No contract can tell what a file has, so `kept` is `None` here, and what `settle` promises of a journal's bytes says nothing of this
-//! one. That `append` writes all of them and syncs before it answers is read below, and tested by kills and a full disk.
-ghost use Rattle.std.specs.Prelude.{None};
+//! What `append` promises is proved over any disk that tells its bytes. A real file tells none, so of one it is shown by kills and a full disk.
+ghost use Rattle.std.specs.Prelude.{◌≡◌, ◌==◌, ◌<◌, ℕ, List, OnErr, OnOk, Option, length, take};
+ghost use Rattle.std.specs.List.{count_by};
+ghost use Rattle.std.specs.Io.KnownBytes.{Appends, Keeps};
+ghost use Rattle.iv_host.specs.Counts.{raised};
+ghost use Rattle.iv_host.specs.Disk.{first_known};
 
 use crate::counts::{BOUNDS, raise};
+use crate::disk::{Disk, cut_synced, put};
 use iv_gateway::{Journal, JournalFault};
 use std::fs::{File, OpenOptions, TryLockError};
 use std::io::{ErrorKind, Write};
@@ -28,24 +32,68 @@ impl From<io::Error> for OpenFault {
     }
 }
 
-/// The journal in a file, and the lock that no other process has meanwhile.
+/// How often the journal was written and synced since the start, and how long that took.
+#[derive(Clone, Copy)]
+pub struct Syncs {
+    /// How often.
+    pub count: u64,
+    /// How often it took at most so long, for each bound of `BOUNDS`.
+    pub within: [u64; 7],
+    /// The microseconds of all of that.
+    pub time: u64,
+}
+
+impl Syncs {
+    /// None so far.
+    fn new() -> Syncs {
+        Syncs {
+            count: 0,
+            within: [0; 7],
+            time: 0,
+        }
+    }
+
+    /// Counts one that took as many microseconds.
+    fn note(&mut self, micros: u64)
+        ensures count { self.new.count ≡ raised self.old.count 1 }
+        ensures time { self.new.time ≡ raised self.old.time micros }
+    {
+        raise(&mut self.time, micros);
+        raise(&mut self.count, 1);
+        for (count, bound) in self.within.iter_mut().zip(&BOUNDS) {
+            if micros <= *bound {
+                raise(count, 1);
+            }
+        }
+    }
+}
+
+/// The journal on a disk, and the lock that no other process has meanwhile.
 #[derive(Drop)]
-pub struct FileJournal {
+pub struct DiskJournal<D> {
     rt: HostRuntime,
-    file: File,
+    disk: D,
     _lock: File,
     end: u64,
     entries: u64,
-    synced: u64,
-    syncs: [u64; 7],
-    time: u64,
+    syncs: Syncs,
     why: Option<io::Error>,
 }
 
+/// The journal in a file.
+pub type FileJournal = DiskJournal<File>;
+
 /// How many lines end among bytes.
-pub fn lines_in(bytes: &[u8]) -> u64 {
-    let count = bytes.iter().filter(|byte| **byte == b'\n').count();
-    count as u64
+pub fn lines_in(bytes: &[u8]) -> u64
+    ensures { result ≡ count_by (λ b. b == 10) bytes.now }
+{
+    let mut count = 0;
+    for byte in bytes {
+        if *byte == b'\n' {
+            count += 1;
+        }
+    }
+    count
 }
 
 /// A file that belongs to this user alone.
@@ -55,10 +103,15 @@ fn own() -> OpenOptions {
     options
 }
 
+/// Out of memory, as an error of the system.
+fn out_of_memory() -> io::Error {
+    io::Error::from(ErrorKind::OutOfMemory)
+}
+
 /// The lock of a journal. It is a file of its own, since a compaction puts another file in the journal's place.
 fn lock(rt: &HostRuntime, path: &str) -> Result<File, OpenFault> {
     let Ok(name) = format!(in rt.alloc(); "{path}.lock") else {
-        return Err(OpenFault::System(io::Error::from(ErrorKind::OutOfMemory)));
+        return Err(OpenFault::System(out_of_memory()));
     };
     let file = own().write(true).create(true).open(rt, name.as_str())?;
     match file.try_lock() {
@@ -80,7 +133,7 @@ fn sync_folder(rt: &HostRuntime, path: &str) -> io::Result<()> {
 /// Puts a file with these bytes where there is none, whole or not at all.
 fn sow(rt: &HostRuntime, path: &str, bytes: &[u8]) -> io::Result<()> {
     let Ok(fresh) = format!(in rt.alloc(); "{path}.new") else {
-        return Err(io::Error::from(ErrorKind::OutOfMemory));
+        return Err(out_of_memory());
     };
     let mut file = own()
         .write(true)
@@ -100,7 +153,32 @@ fn is_missing(rt: &HostRuntime, path: &str) -> bool {
     }
 }
 
-impl FileJournal {
+/// Puts the bytes of a seed where a journal is missing.
+fn sow_seed(rt: &HostRuntime, path: &str, seed: Option<&str>) -> io::Result<()> {
+    match seed {
+        Some(seed) if is_missing(rt, path) => {
+            let bytes = fs::read(rt, seed)?;
+            sow(rt, path, &bytes)
+        }
+        _ => Ok(()),
+    }
+}
+
+/// The microseconds since a moment; none where the system does not tell them.
+fn micros_since(rt: &HostRuntime, start: &io::Result<Instant>) -> u64 {
+    let Ok(start) = start else {
+        return 0;
+    };
+    match start.elapsed(rt) {
+        Ok(time) => time
+            .as_secs()
+            .saturating_mul(1_000_000)
+            .saturating_add(u64::from(time.subsec_micros())),
+        Err(_) => 0,
+    }
+}
+
+impl DiskJournal<File> {
     /// Opens a journal, and makes it where it is missing, with the bytes of a seed. Answers its bytes, too.
     ///
     /// # Errors
@@ -109,112 +187,91 @@ impl FileJournal {
         rt: &HostRuntime,
         path: &str,
         seed: Option<&str>,
-    ) -> Result<(FileJournal, Vec<u8>), OpenFault> {
+    ) -> Result<(DiskJournal<File>, Vec<u8>), OpenFault> {
         let lock = lock(rt, path)?;
-        if let Some(seed) = seed {
-            if is_missing(rt, path) {
-                let bytes = fs::read(rt, seed)?;
-                sow(rt, path, &bytes)?;
-            }
-        }
+        sow_seed(rt, path, seed)?;
         let file = own().append(true).create(true).open(rt, path)?;
         let bytes = fs::read(rt, path)?;
         sync_folder(rt, path)?;
-        Ok((
-            FileJournal {
-                rt: *rt,
-                file,
-                _lock: lock,
-                end: bytes.len() as u64,
-                entries: lines_in(&bytes),
-                synced: 0,
-                syncs: [0; 7],
-                time: 0,
-                why: None,
-            },
-            bytes,
-        ))
+        Ok((DiskJournal::over(rt, file, lock, &bytes), bytes))
+    }
+}
+
+impl<D: Disk> DiskJournal<D> {
+    /// The journal on a disk that has these bytes.
+    fn over(rt: &HostRuntime, disk: D, lock: File, bytes: &[u8]) -> DiskJournal<D> {
+        DiskJournal {
+            rt: *rt,
+            disk,
+            _lock: lock,
+            end: bytes.len() as u64,
+            entries: lines_in(bytes),
+            syncs: Syncs::new(),
+            why: None,
+        }
     }
 
-    /// Cuts the file behind as many bytes, and has all of it on disk.
+    /// Cuts the disk behind as many bytes, and syncs it.
     ///
     /// # Errors
     /// Where the system refuses.
-    pub fn begin(&mut self, kept: u64) -> io::Result<()> {
-        if kept < self.end {
-            self.file.set_len(kept)?;
-            self.end = kept;
-        }
-        self.file.sync_all()
-    }
-
-    /// Writes and syncs.
-    fn put(&mut self, bytes: &[u8]) -> io::Result<()> {
-        let start = Instant::now(&self.rt)?;
-        self.file.write_all(bytes)?;
-        self.file.sync_data()?;
-        let time = start.elapsed(&self.rt)?;
-        let micros = time
-            .as_secs()
-            .saturating_mul(1_000_000)
-            .saturating_add(u64::from(time.subsec_micros()));
-        raise(&mut self.time, micros);
-        raise(&mut self.synced, 1);
-        for (count, bound) in self.syncs.iter_mut().zip(&BOUNDS) {
-            if micros <= *bound {
-                raise(count, 1);
-            }
-        }
+    pub fn begin(&mut self, kept: u64) -> io::Result<()>
+        ensures cut { OnOk result (Keeps (first_known kept (D.held self.old.disk)) (D.held self.new.disk)) }
+        ensures synced { OnOk result (D.synced self.new.disk ≡ D.held self.new.disk) }
+    {
+        cut_synced(&mut self.disk, kept)?;
+        self.end = self.end.min(kept);
         Ok(())
     }
 
-    /// The length of the file in bytes.
-    pub fn len(&self) -> u64 {
+    /// The length of the disk in bytes.
+    pub fn len(&self) -> u64
+        ensures { result ≡ self.now.end }
+    {
         self.end
     }
 
-    /// How many entries the file has.
-    pub fn entries(&self) -> u64 {
+    /// How many entries it has.
+    pub fn entries(&self) -> u64
+        ensures { result ≡ self.now.entries }
+    {
         self.entries
     }
 
-    /// How often the file was written and synced since the start.
-    pub fn synced(&self) -> u64 {
-        self.synced
-    }
-
-    /// How often that took at most so long, for each bound of `BOUNDS`.
-    pub fn syncs(&self) -> &[u64; 7] {
+    /// How often it was written and synced since the start, and how long that took.
+    pub fn syncs(&self) -> &Syncs
+        ensures { result.now ≡ self.now.syncs }
+    {
         &self.syncs
     }
 
-    /// The microseconds of all of that.
-    pub fn time(&self) -> u64 {
-        self.time
-    }
-
-    /// Why the file could not be written.
+    /// Why it could not be written.
     pub fn why(&self) -> &Option<io::Error> {
         &self.why
     }
 }
 
-impl Journal for FileJournal {
-    ghost kept = { λ _. None };
+impl<D: Disk> Journal for DiskJournal<D> {
+    ghost kept = { λ j. D.held j.disk };
 
     /// Nothing is to stay of what could not be written whole. Where that fails too, the next start cuts what is torn.
-    fn append(&mut self, bytes: &[u8]) -> Result<(), JournalFault> {
+    fn append(&mut self, bytes: &[u8]) -> Result<(), JournalFault>
+        ensures appended { OnOk result (Appends (D.held self.old.disk) (D.held self.new.disk) bytes.now) }
+        ensures torn { OnErr result ((n : ℕ) × Appends (D.held self.old.disk) (D.held self.new.disk) (take n bytes.now)) }
+        ensures synced { OnOk result (0 < length bytes.now → D.synced self.new.disk ≡ D.held self.new.disk) }
+    {
         if bytes.is_empty() {
             return Ok(());
         }
-        match self.put(bytes) {
+        let start = Instant::now(&self.rt);
+        match put(&mut self.disk, bytes) {
             Ok(()) => {
+                self.syncs.note(micros_since(&self.rt, &start));
                 raise(&mut self.end, bytes.len() as u64);
                 raise(&mut self.entries, lines_in(bytes));
                 Ok(())
             }
             Err(error) => {
-                let _ = self.file.set_len(self.end);
                 self.why = Some(error);
                 Err(JournalFault)
             }

@@ -1,10 +1,15 @@
 //! `page_in`: a file of the folder of pages, as the answer to a request.
+ghost use Rattle.std.specs.Prelude.{◌≡◌, IfOk, option_map};
+ghost use Rattle.iv_pages.specs.Answer.{refusal_answer};
+ghost use Rattle.iv_pages.specs.Seen.{asked_by};
+ghost use Rattle.iv_host.specs.Pages.{IsPage, answer_of, policy, served};
+
 use iv_pages::{Ask, Page, Refusal, etag_of, kind_of, place_of, push_page, push_refusal};
-use std::alloc::AllocError;
+use std::alloc::{AllocError, Global};
 use std::fs;
 
 /// What pages may load and do.
-pub const POLICY: &str =
+const POLICY: &str =
     "default-src 'none'; script-src 'self'; style-src 'self'; connect-src 'self'; img-src 'self' data:; font-src 'self'; manifest-src 'self'; base-uri 'none'; form-action 'none'; frame-ancestors 'none'";
 
 /// Bytes of a page, at most.
@@ -31,13 +36,18 @@ fn contents(rt: &HostRuntime, folder: &str, place: &str) -> Option<Vec<u8>> {
 }
 
 /// The answer with these contents.
+///
+/// # Errors
+/// `AllocError` where a growth of memory was refused, as of each function here.
 pub fn answer(
     rt: &HostRuntime,
     ask: &Ask<'_>,
     kind: &str,
     tag: Option<&[u8]>,
     contents: &[u8],
-) -> Result<Vec<u8>, AllocError> {
+) -> Result<Vec<u8>, AllocError>
+    ensures { IfOk result (λ out. out.items ≡ answer_of (served kind.now (option_map (λ t. t.now) tag.entry) contents.now) (asked_by ask.now) contents.now) }
+{
     let mut out = Vec::new(rt.alloc());
     let page = Page {
         kind,
@@ -52,28 +62,31 @@ pub fn answer(
 }
 
 /// The answer to what is refused.
-pub fn refusal(rt: &HostRuntime, why: Refusal, only_head: bool) -> Result<Vec<u8>, AllocError> {
+pub fn refusal(rt: &HostRuntime, why: Refusal, only_head: bool) -> Result<Vec<u8>, AllocError>
+    ensures { IfOk result (λ out. out.items ≡ refusal_answer why only_head) }
+{
     let mut out = Vec::new(rt.alloc());
     push_refusal(&mut out, why, only_head)?;
     Ok(out)
 }
 
+/// The contents of the file of a place, if the folder has it.
+fn contents_at(rt: &HostRuntime, folder: Option<&str>, place: &[u8]) -> Option<Vec<u8>> {
+    let folder = folder?;
+    match str::from_utf8(place) {
+        Ok(place) => contents(rt, folder, place),
+        Err(_) => None,
+    }
+}
+
 /// The answer to a request for a file of the folder.
-pub fn page_in(
-    rt: &HostRuntime,
-    folder: Option<&str>,
-    ask: &Ask<'_>,
-) -> Result<Vec<u8>, AllocError> {
-    let Some(folder) = folder else {
-        return refusal(rt, Refusal::NotFound, ask.only_head);
-    };
+pub fn page_in(rt: &HostRuntime, folder: Option<&str>, ask: &Ask<'_>) -> Result<Vec<u8>, AllocError>
+    ensures { IfOk result (λ out. IsPage (asked_by ask.now) out.items) }
+{
     let Some(place) = place_of(rt.alloc(), ask.target)? else {
         return refusal(rt, Refusal::NotFound, ask.only_head);
     };
-    let Ok(name) = str::from_utf8(&place) else {
-        return refusal(rt, Refusal::NotFound, ask.only_head);
-    };
-    match contents(rt, folder, name) {
+    match contents_at(rt, folder, &place) {
         None => refusal(rt, Refusal::NotFound, ask.only_head),
         Some(contents) => {
             let tag = etag_of(rt.alloc(), &contents)?;

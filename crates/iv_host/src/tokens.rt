@@ -1,5 +1,9 @@
 //! `TokenFile`: the file of tokens, which is read again where it changes.
+ghost use Rattle.std.specs.Prelude.{◌≡◌, IfOk, Some, [], unwrap_or};
+ghost use Rattle.iv_clients.specs.Tokens.{tokens_in};
+
 use iv_clients::{Token, TokensFault, read_tokens};
+use std::alloc::Global;
 use std::time::SystemTime;
 use std::{fs, io};
 
@@ -10,6 +14,18 @@ pub enum TokenFault {
     System(io::Error),
     /// It is no file of tokens.
     File(TokensFault),
+}
+
+impl From<io::Error> for TokenFault {
+    fn from(error: io::Error) -> TokenFault {
+        TokenFault::System(error)
+    }
+}
+
+impl From<TokensFault> for TokenFault {
+    fn from(fault: TokensFault) -> TokenFault {
+        TokenFault::File(fault)
+    }
 }
 
 /// When a file was changed, and its length.
@@ -36,14 +52,21 @@ fn stamp_of(rt: &HostRuntime, path: &str) -> Stamp {
     }
 }
 
-/// The tokens of a file.
-fn read(rt: &HostRuntime, path: &str) -> Result<Vec<Token>, TokenFault> {
-    match fs::read(rt, path) {
-        Err(error) => Err(TokenFault::System(error)),
-        Ok(bytes) => match read_tokens(rt.alloc(), &bytes) {
-            Ok(tokens) => Ok(tokens),
-            Err(fault) => Err(TokenFault::File(fault)),
-        },
+/// The tokens in the bytes of a file.
+fn tokens_in(alloc: Global, bytes: &[u8]) -> Result<Vec<Token>, TokenFault>
+    ensures { IfOk result (λ ts. tokens_in bytes.now ≡ Some ts.items) }
+{
+    Ok(read_tokens(alloc, bytes)?)
+}
+
+/// The tokens in the bytes of a file that was read before: none, where it has none now.
+fn tokens_left(alloc: Global, bytes: &[u8]) -> Result<Vec<Token>, TokenFault>
+    ensures { IfOk result (λ ts. ts.items ≡ unwrap_or (tokens_in bytes.now) []) }
+{
+    match read_tokens(alloc, bytes) {
+        Ok(tokens) => Ok(tokens),
+        Err(TokensFault::Empty) => Ok(Vec::new(alloc)),
+        Err(fault) => Err(TokenFault::File(fault)),
     }
 }
 
@@ -54,7 +77,8 @@ impl TokenFile {
     /// `System` where it could not be read, `File` where it is no file of tokens.
     pub fn open(rt: &HostRuntime, path: String) -> Result<(TokenFile, Vec<Token>), TokenFault> {
         let stamp = stamp_of(rt, path.as_str());
-        let tokens = read(rt, path.as_str())?;
+        let bytes = fs::read(rt, path.as_str())?;
+        let tokens = tokens_in(rt.alloc(), &bytes)?;
         Ok((TokenFile { path, stamp }, tokens))
     }
 
@@ -68,10 +92,7 @@ impl TokenFile {
             return Ok(None);
         }
         self.stamp = stamp;
-        match read(rt, self.path.as_str()) {
-            Ok(tokens) => Ok(Some(tokens)),
-            Err(TokenFault::File(TokensFault::Empty)) => Ok(Some(Vec::new(rt.alloc()))),
-            Err(fault) => Err(fault),
-        }
+        let bytes = fs::read(rt, self.path.as_str())?;
+        Ok(Some(tokens_left(rt.alloc(), &bytes)?))
     }
 }

@@ -1,0 +1,20 @@
+-- Who is counted by role is counted in all.
+use Rattle.std.proofs.Common.{◌≡◌, ℕ, ◌+◌, min, Bool, true, false, cond, List, [], ◌∷◌, bytes_eq, refl, sym, ap, ◌∙◌, arith}
+use Rattle.iv_host.specs.Counts.{raised}
+use Rattle.iv_host.specs.Figures.{ByRole, clients_in, one_more}
+
+-- counts add up in any order
+pub raised_in_turn : (a b c : ℕ) → raised (raised a c) b ≡ raised (raised a b) c
+raised_in_turn a b c = omega arith
+
+pub raised_behind : (a b c : ℕ) → raised a (raised b c) ≡ raised (raised a b) c
+raised_behind a b c = omega arith
+
+added : (d : Bool) (role : List ℕ) (r : List ℕ × ℕ) (rs : ByRole) → clients_in (one_more role rs) ≡ raised (clients_in rs) 1
+    → clients_in (cond d ((r.0, raised r.1 1) ∷ rs) (r ∷ one_more role rs)) ≡ raised (raised r.1 (clients_in rs)) 1
+added true role r rs h = raised_in_turn r.1 (clients_in rs) 1
+added false role r rs h = ap (raised r.1) h ∙ raised_behind r.1 (clients_in rs) 1
+
+pub adds_up : (role : List ℕ) (rs : ByRole) → clients_in (one_more role rs) ≡ raised (clients_in rs) 1
+adds_up role [] = refl
+adds_up role (r ∷ rs) = added (bytes_eq r.0 role) role r rs (adds_up role rs)

@@ -1,0 +1,12 @@
+-- For contracts of the code: roles with their counts, as names and numbers.
+use Rattle.std.specs.Prelude.{ℕ, suc, if◌then◌else◌, List, [], ◌∷◌, Option, Some, None, String, bytes_eq, map, option_map, string_bytes}
+use Rattle.std.specs.declared.alloc.Global.{Global}
+use Rattle.iv_host.specs.Figures.{ByRole}
+
+abbrev pub by_role : List (String Global × ℕ) → ByRole
+by_role rs = map {U = List ℕ × ℕ} (λ r. (string_bytes r.0, r.1)) rs
+
+-- where a role stands first
+abbrev pub first_at : List ℕ → ByRole → Option ℕ
+first_at role [] = None
+first_at role (r ∷ rs) = if bytes_eq r.0 role then Some 0 else option_map suc (first_at role rs)
