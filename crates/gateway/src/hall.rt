@@ -1,6 +1,9 @@
 //! `Hall`: the sockets by their numbers, which are the desk's and the poll's, and what a round does with them.
+ghost use Rattle.gateway.specs.Running.{Leads};
+
 use crate::fault::Fault;
 use crate::socket::{Socket, Stage};
+use crate::steps::settle;
 use iv_desk::Desk;
 use iv_host::{Admins, Counts, FileJournal, Log, Why, raise};
 use mio::event::Event;
@@ -26,6 +29,8 @@ const TAKING: u64 = 30_000;
 #[derive(Drop)]
 pub struct Hall {
     pub alloc: Global,
+    /// The numbers are below this.
+    pub most: u32,
     /// A place for each number.
     pub sockets: Vec<Option<Socket>>,
     /// The numbers that no connection has.
@@ -82,6 +87,7 @@ impl Hall {
         }
         Ok(Hall {
             alloc,
+            most,
             sockets,
             free,
             to_read: Vec::new(alloc),
@@ -165,6 +171,14 @@ impl Hall {
         }
         if is_readable {
             self.list(at)?;
+        }
+        Ok(())
+    }
+
+    /// What the poll tells.
+    fn note_all(&mut self, events: &Events) -> Result<(), Fault> {
+        for event in events.iter() {
+            self.note(event)?;
         }
         Ok(())
     }
@@ -269,16 +283,15 @@ impl Hall {
         poll: &Poll,
         listener: &TcpListener,
         events: &Events,
-    ) -> Result<(), Fault> {
+    ) -> Result<(), Fault>
+        ensures { Leads desk.old desk.new }
+    {
         self.again = false;
-        for event in events.iter() {
-            self.note(event)?;
-        }
+        self.note_all(events)?;
         self.accept(rt, poll, listener)?;
         self.read_all(rt, desk, journal)?;
-        desk.settle(journal)?;
+        settle(desk, journal)?;
         self.send_all(desk)?;
-        self.drop_all(rt, desk)?;
-        Ok(())
+        self.drop_all(rt, desk)
     }
 }

@@ -8,18 +8,18 @@ mod reading;
 mod sending;
 mod serving;
 mod socket;
+mod steps;
 
 use iv_host::asked_for;
 use serving::work;
 use std::process::ExitCode;
 
 fn main(rt: HostRuntime) -> ExitCode {
-    let settings = match asked_for(&rt) {
-        Ok(settings) => settings,
-        Err(status) => return status,
-    };
-    match work(&rt, settings) {
-        Ok(()) => ExitCode::SUCCESS,
-        Err(status) => ExitCode::from(status),
+    match asked_for(&rt) {
+        Err(status) => status,
+        Ok(settings) => match work(&rt, &settings) {
+            Ok(()) => ExitCode::SUCCESS,
+            Err(status) => ExitCode::from(status),
+        },
     }
 }

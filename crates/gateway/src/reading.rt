@@ -1,7 +1,10 @@
 //! What a round reads: heads of requests, and what clients say, at most so much of each.
+ghost use Rattle.gateway.specs.Running.{Leads};
+
 use crate::fault::Fault;
 use crate::hall::{Hall, Kind};
 use crate::socket::{Got, Stage, read_at};
+use crate::steps::{accept, close, hear, hear_on};
 use iv_desk::{Desk, Hearing};
 use iv_host::{ADMIN, FileJournal, Why, raise, refusal};
 use iv_pages::{Refusal, Wish, asked};
@@ -30,16 +33,20 @@ impl Hall {
         desk: &mut Desk,
         journal: &FileJournal,
         at: u32,
-    ) -> Result<(), Fault> {
+    ) -> Result<(), Fault>
+        ensures { Leads desk.old desk.new }
+    {
         let Some(socket) = self.socket(at) else {
             return Ok(());
         };
         match socket.read_head()? {
-            Got::Nothing => socket.readable = false,
-            Got::End => self.go(at, Why::Closed)?,
-            Got::Bytes(_) => self.ask(rt, desk, journal, at)?,
+            Got::Nothing => {
+                socket.readable = false;
+                Ok(())
+            }
+            Got::End => self.go(at, Why::Closed),
+            Got::Bytes(_) => self.ask(rt, desk, journal, at),
         }
-        Ok(())
     }
 
     /// Does what the head of a request asks for, if it is whole.
@@ -49,39 +56,53 @@ impl Hall {
         desk: &mut Desk,
         journal: &FileJournal,
         at: u32,
-    ) -> Result<(), Fault> {
-        let head = match self.socket(at) {
-            Some(socket) => socket.take_head(),
-            None => return Ok(()),
-        };
+    ) -> Result<(), Fault>
+        ensures { Leads desk.old desk.new }
+    {
+        let head = self.head_of(at);
         match asked(&head) {
             Wish::More => {
-                if let Some(socket) = self.socket(at) {
-                    socket.stage = Stage::Head(head);
-                }
+                self.keep_head(at, head);
+                Ok(())
             }
-            Wish::Upgrade => self.upgrade(desk, at, &head)?,
+            Wish::Upgrade => self.upgrade(desk, at, &head),
             Wish::Page(ask) => {
                 let answer = self.page(rt, desk, journal, &head, &ask)?;
-                self.answer(rt, at, answer)?;
+                self.answer(rt, at, answer)
             }
             Wish::Refused(why) => {
                 let answer = refusal(rt, why, false)?;
-                self.answer(rt, at, answer)?;
+                self.answer(rt, at, answer)
             }
         }
-        Ok(())
+    }
+
+    /// What was read of the head at a number, which has it no more.
+    fn head_of(&mut self, at: u32) -> Vec<u8> {
+        match self.socket(at) {
+            Some(socket) => socket.take_head(),
+            None => Vec::new(self.alloc),
+        }
+    }
+
+    /// More is to come of a head.
+    fn keep_head(&mut self, at: u32, head: Vec<u8>) {
+        if let Some(socket) = self.socket(at) {
+            socket.stage = Stage::Head(head);
+        }
     }
 
     /// The desk has the connection of a number from now on, and hears what it has said so far.
-    fn upgrade(&mut self, desk: &mut Desk, at: u32, head: &[u8]) -> Result<(), Fault> {
-        if !desk.accept(at) {
+    fn upgrade(&mut self, desk: &mut Desk, at: u32, head: &[u8]) -> Result<(), Fault>
+        ensures { Leads desk.old desk.new }
+    {
+        if !accept(desk, at) {
             return Err(Fault::Desk);
         }
         if let Some(socket) = self.socket(at) {
             socket.stage = Stage::Desk;
         }
-        let hearing = desk.read(at, head)?;
+        let hearing = hear(desk, at, head)?;
         self.heed(at, hearing);
         self.asked.push(at)?;
         Ok(())
@@ -125,21 +146,24 @@ impl Hall {
     }
 
     /// Hears on at a number that was held. Whether it may be read.
-    fn resume(&mut self, desk: &mut Desk, at: u32) -> Result<bool, Fault> {
-        let is_unheard = match self.socket(at) {
-            Some(socket) => socket.unheard,
-            None => return Ok(false),
+    fn resume(&mut self, desk: &mut Desk, at: u32) -> Result<bool, Fault>
+        ensures { Leads desk.old desk.new }
+    {
+        let Some(socket) = self.socket(at) else {
+            return Ok(false);
         };
-        if is_unheard {
-            let hearing = desk.resume(at)?;
-            self.heed(at, hearing);
-            return Ok(hearing == Hearing::All);
+        if !socket.unheard {
+            return Ok(!desk.is_over(at));
         }
-        Ok(!desk.is_over(at))
+        let hearing = hear_on(desk, at)?;
+        self.heed(at, hearing);
+        Ok(hearing == Hearing::All)
     }
 
     /// Reads once what a client says. Whether it may be read on.
-    fn read_once(&mut self, desk: &mut Desk, at: u32) -> Result<bool, Fault> {
+    fn read_once(&mut self, desk: &mut Desk, at: u32) -> Result<bool, Fault>
+        ensures { Leads desk.old desk.new }
+    {
         let (got, hearing) = read_at(&mut self.sockets, desk, at)?;
         match got {
             Got::Nothing => {
@@ -161,7 +185,9 @@ impl Hall {
     }
 
     /// Reads what a client says, where it is heard.
-    fn read_desk(&mut self, desk: &mut Desk, at: u32) -> Result<(), Fault> {
+    fn read_desk(&mut self, desk: &mut Desk, at: u32) -> Result<(), Fault>
+        ensures { Leads desk.old desk.new }
+    {
         self.asked.push(at)?;
         if !self.resume(desk, at)? {
             return Ok(());
@@ -188,7 +214,12 @@ impl Hall {
     }
 
     /// Who has presented a token that is known has no time limit, if there is room.
-    fn come(&mut self, rt: &HostRuntime, desk: &mut Desk, at: u32) -> Result<(), Fault> {
+    fn come(&mut self, rt: &HostRuntime, desk: &mut Desk, at: u32) -> Result<(), Fault>
+        ensures { Leads desk.old desk.new }
+    {
+        if self.kind(at) != Kind::Desk {
+            return Ok(());
+        }
         let now = self.now;
         let Some(socket) = self.socket(at) else {
             return Ok(());
@@ -209,13 +240,13 @@ impl Hall {
         if self.log.may_say(rt, now) {
             let _ = eprintln!(rt; "gateway: {address} came in as {role}");
         }
-        if !self.has_room(desk, at, role) {
-            if self.log.may_say(rt, now) {
-                let _ = eprintln!(rt; "gateway: {address} goes: too many by this token, or in all");
-            }
-            desk.close(at, 1013, b"Too many connections.")?;
+        if self.has_room(desk, at, role) {
+            return Ok(());
         }
-        Ok(())
+        if self.log.may_say(rt, now) {
+            let _ = eprintln!(rt; "gateway: {address} goes: too many by this token, or in all");
+        }
+        close(desk, at, 1013, b"Too many connections.")
     }
 
     /// Whether one more client may stay.
@@ -227,11 +258,9 @@ impl Hall {
             return true;
         };
         let mut count: usize = 0;
-        for other in 0..self.sockets.len() {
-            if let Ok(other) = u32::try_from(other) {
-                if desk.digest_of(other) == Some(digest) {
-                    count = count.saturating_add(1);
-                }
+        for other in 0..self.most {
+            if desk.digest_of(other) == Some(digest) {
+                count = count.saturating_add(1);
             }
         }
         count <= MOST_BY_TOKEN
@@ -256,22 +285,41 @@ impl Hall {
         has_more || is_held
     }
 
-    /// Reads at a number.
+    /// Reads at a number, as far as its connection is.
+    fn read_kind(
+        &mut self,
+        rt: &HostRuntime,
+        desk: &mut Desk,
+        journal: &FileJournal,
+        at: u32,
+    ) -> Result<(), Fault>
+        ensures { Leads desk.old desk.new }
+    {
+        match self.kind(at) {
+            Kind::Head => self.read_head(rt, desk, journal, at),
+            Kind::Desk => self.read_desk(desk, at),
+            Kind::Ending => self.read_ending(at),
+            Kind::Answer | Kind::Nobody => Ok(()),
+        }
+    }
+
+    /// Reads at a number that was listed.
     fn read(
         &mut self,
         rt: &HostRuntime,
         desk: &mut Desk,
         journal: &FileJournal,
         at: u32,
-    ) -> Result<(), Fault> {
-        match self.kind(at) {
-            Kind::Head => self.read_head(rt, desk, journal, at)?,
-            Kind::Desk => self.read_desk(desk, at)?,
-            Kind::Ending => self.read_ending(at)?,
-            Kind::Answer | Kind::Nobody => return Ok(()),
+    ) -> Result<(), Fault>
+        ensures { Leads desk.old desk.new }
+    {
+        if let Some(socket) = self.socket(at) {
+            socket.listed = false;
         }
-        if self.kind(at) == Kind::Desk {
-            self.come(rt, desk, at)?;
+        self.read_kind(rt, desk, journal, at)?;
+        self.come(rt, desk, at)?;
+        if self.goes_on(desk, at) {
+            return self.list(at);
         }
         Ok(())
     }
@@ -282,16 +330,12 @@ impl Hall {
         rt: &HostRuntime,
         desk: &mut Desk,
         journal: &FileJournal,
-    ) -> Result<(), Fault> {
+    ) -> Result<(), Fault>
+        ensures { Leads desk.old desk.new }
+    {
         let listed = mem::replace(&mut self.to_read, Vec::new(self.alloc));
-        for at in listed {
-            if let Some(socket) = self.socket(at) {
-                socket.listed = false;
-            }
-            self.read(rt, desk, journal, at)?;
-            if self.goes_on(desk, at) {
-                self.list(at)?;
-            }
+        for at in listed.iter() {
+            self.read(rt, desk, journal, *at)?;
         }
         Ok(())
     }

@@ -1,7 +1,10 @@
 //! What a round sends: first to those who asked in it, then to all others; and whom it lets go.
+ghost use Rattle.gateway.specs.Running.{Leads};
+
 use crate::fault::Fault;
 use crate::hall::{Hall, Kind};
 use crate::socket::{Stage, send_at};
+use crate::steps::leave;
 use iv_desk::Desk;
 use iv_host::{Why, raise};
 use std::mem;
@@ -14,7 +17,9 @@ const ENDING: u64 = 2_000;
 
 impl Hall {
     /// Nothing is pending at a number any more.
-    fn is_sent(&mut self, desk: &mut Desk, at: u32) -> Result<(), Fault> {
+    fn is_sent(&mut self, desk: &mut Desk, at: u32) -> Result<(), Fault>
+        ensures { Leads desk.old desk.new }
+    {
         let Some(socket) = self.socket(at) else {
             return Ok(());
         };
@@ -23,13 +28,15 @@ impl Hall {
             self.again = true;
         }
         if desk.is_over(at) {
-            self.end(desk, at)?;
+            return self.end(desk, at);
         }
         Ok(())
     }
 
     /// The connection of a number is over, and all is sent.
-    fn end(&mut self, desk: &mut Desk, at: u32) -> Result<(), Fault> {
+    fn end(&mut self, desk: &mut Desk, at: u32) -> Result<(), Fault>
+        ensures { Leads desk.old desk.new }
+    {
         let until = self.now.saturating_add(ENDING);
         if let Some(socket) = self.socket(at) {
             let came = socket.came;
@@ -41,7 +48,7 @@ impl Hall {
                 raise(&mut self.counts.refused, 1);
             }
         }
-        desk.leave(at)?;
+        leave(desk, at)?;
         self.list(at)?;
         self.again = true;
         Ok(())
@@ -80,22 +87,19 @@ impl Hall {
     }
 
     /// Sends to a client what is pending, as far as the system takes it.
-    fn send_desk(&mut self, desk: &mut Desk, at: u32) -> Result<(), Fault> {
+    fn send_desk(&mut self, desk: &mut Desk, at: u32) -> Result<(), Fault>
+        ensures { Leads desk.old desk.new }
+    {
         for _ in 0..WRITES {
             if desk.pending(at).is_empty() {
                 return self.is_sent(desk, at);
             }
-            match send_at(&mut self.sockets, desk, at) {
-                None => {
-                    self.go(at, Why::Closed)?;
-                    return Ok(());
-                }
-                Some(count) => {
-                    self.note_sent(at, count);
-                    if count == 0 {
-                        return Ok(());
-                    }
-                }
+            let Some(count) = send_at(&mut self.sockets, desk, at) else {
+                return self.go(at, Why::Closed);
+            };
+            self.note_sent(at, count);
+            if count == 0 {
+                return Ok(());
             }
         }
         self.again = true;
@@ -103,7 +107,9 @@ impl Hall {
     }
 
     /// Sends to a number what is pending there.
-    fn send(&mut self, desk: &mut Desk, at: u32) -> Result<(), Fault> {
+    fn send(&mut self, desk: &mut Desk, at: u32) -> Result<(), Fault>
+        ensures { Leads desk.old desk.new }
+    {
         match self.kind(at) {
             Kind::Desk => self.send_desk(desk, at),
             Kind::Answer => self.send_answer(at),
@@ -125,55 +131,84 @@ impl Hall {
         }
     }
 
-    /// Sends first to who asked in this round, then to all others.
-    pub fn send_all(&mut self, desk: &mut Desk) -> Result<(), Fault> {
-        let first = mem::replace(&mut self.asked, Vec::new(self.alloc));
-        for at in first {
-            self.send(desk, at)?;
+    /// Sends to a number, if it may be sent something now.
+    fn send_owed(&mut self, desk: &mut Desk, at: u32) -> Result<(), Fault>
+        ensures { Leads desk.old desk.new }
+    {
+        if !self.is_owed(desk, at) {
+            return Ok(());
         }
-        for at in 0..self.sockets.len() {
-            let Ok(at) = u32::try_from(at) else {
-                return Ok(());
-            };
-            if self.is_owed(desk, at) {
-                self.send(desk, at)?;
-            }
+        self.send(desk, at)
+    }
+
+    /// Sends to those who asked in this round.
+    fn send_asked(&mut self, desk: &mut Desk) -> Result<(), Fault>
+        ensures { Leads desk.old desk.new }
+    {
+        let first = mem::replace(&mut self.asked, Vec::new(self.alloc));
+        for at in first.iter() {
+            self.send(desk, *at)?;
+        }
+        Ok(())
+    }
+
+    /// Sends first to those who asked in this round, then to all others.
+    pub fn send_all(&mut self, desk: &mut Desk) -> Result<(), Fault>
+        ensures { Leads desk.old desk.new }
+    {
+        self.send_asked(desk)?;
+        for at in 0..self.most {
+            self.send_owed(desk, at)?;
         }
         Ok(())
     }
 
     /// Lets go who is gone.
-    pub fn drop_all(&mut self, rt: &HostRuntime, desk: &mut Desk) -> Result<(), Fault> {
+    pub fn drop_all(&mut self, rt: &HostRuntime, desk: &mut Desk) -> Result<(), Fault>
+        ensures { Leads desk.old desk.new }
+    {
         let gone = mem::replace(&mut self.gone, Vec::new(self.alloc));
-        for (at, why) in gone {
-            self.drop_at(rt, desk, at, why)?;
+        for (at, why) in gone.iter() {
+            self.drop_at(rt, desk, *at, *why)?;
         }
         Ok(())
     }
 
-    /// Lets go the connection of a number, which is free then.
-    fn drop_at(
-        &mut self,
-        rt: &HostRuntime,
-        desk: &mut Desk,
-        at: u32,
-        why: Why,
-    ) -> Result<(), Fault> {
-        let kind = self.kind(at);
+    /// Counts and tells that a connection goes.
+    fn say_gone(&mut self, rt: &HostRuntime, at: u32, why: Why) {
+        let now = self.now;
         let Some(socket) = self.socket(at) else {
-            return Ok(());
+            return;
         };
-        let address = socket.address;
-        let came = socket.came;
-        if kind == Kind::Desk {
-            desk.leave(at)?;
+        let (address, came) = (socket.address, socket.came);
+        self.counts.end(why);
+        if (came || why != Why::Closed) && self.log.may_say(rt, now) {
+            let words = why.words();
+            let _ = eprintln!(rt; "gateway: {address} goes: {words}");
         }
+    }
+
+    /// Its client goes, if the desk has the connection of the number.
+    fn leave_at(&self, desk: &mut Desk, at: u32) -> Result<(), Fault>
+        ensures { Leads desk.old desk.new }
+    {
+        if self.kind(at) != Kind::Desk {
+            return Ok(());
+        }
+        leave(desk, at)
+    }
+
+    /// Lets go the connection of a number, which is free then.
+    fn drop_at(&mut self, rt: &HostRuntime, desk: &mut Desk, at: u32, why: Why) -> Result<(), Fault>
+        ensures { Leads desk.old desk.new }
+    {
+        let kind = self.kind(at);
+        if kind == Kind::Nobody {
+            return Ok(());
+        }
+        self.leave_at(desk, at)?;
         if kind != Kind::Ending {
-            self.counts.end(why);
-            if (came || why != Why::Closed) && self.log.may_say(rt, self.now) {
-                let words = why.words();
-                let _ = eprintln!(rt; "gateway: {address} goes: {words}");
-            }
+            self.say_gone(rt, at, why);
         }
         if let Some(slot) = self.sockets.get_mut(at as usize) {
             *slot = None;

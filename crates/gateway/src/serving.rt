@@ -1,14 +1,19 @@
 //! `work`: opens all that the settings name, brings the desk to where the journal leads, and serves.
+ghost use Rattle.std.specs.Prelude.{ℕ, OnOk};
+ghost use Rattle.iv_host.specs.Settings.{AreValid};
+ghost use Rattle.gateway.specs.Running.{IsNew, IsRunning, Leads};
+
 use crate::fault::Fault;
 use crate::hall::{Hall, LISTENER};
+use crate::steps::{know, new_desk, restore, tick};
 use iv_clients::{Token, TokensFault};
 use iv_desk::Desk;
-use iv_engine::{Engine, Seed};
-use iv_gateway::{Gateway, RestoreFault};
+use iv_engine::Seed;
+use iv_gateway::RestoreFault;
 use iv_host::{Admins, FileJournal, OpenFault, Settings, TokenFault, TokenFile};
 use mio::net::TcpListener;
 use mio::{Events, Interest, Poll};
-use std::alloc::AllocError;
+use std::alloc::{AllocError, Global};
 use std::net::SocketAddr;
 use std::time::{Duration, Instant};
 
@@ -93,13 +98,24 @@ fn since(rt: &HostRuntime, start: &Instant) -> u64 {
     }
 }
 
+/// Since when the program serves, and what of that time was seen.
+struct Clock {
+    start: Instant,
+    /// The second that was looked at.
+    second: u64,
+    /// How often clients were told that the line is alive.
+    alive: u64,
+}
+
 /// Has the desk know the tokens of the file, where it has changed.
 fn look_at_tokens(
     rt: &HostRuntime,
     desk: &mut Desk,
     hall: &mut Hall,
     tokens: &mut TokenFile,
-) -> Result<(), Fault> {
+) -> Result<(), Fault>
+    ensures { Leads desk.old desk.new }
+{
     match tokens.changed(rt) {
         Ok(None) => Ok(()),
         Ok(Some(tokens)) => {
@@ -107,13 +123,52 @@ fn look_at_tokens(
                 say_tokens(rt, &TokenFault::File(TokensFault::Empty));
             }
             hall.admins = Admins::among(rt.alloc(), &tokens)?;
-            desk.know(tokens)?;
-            Ok(())
+            know(desk, tokens)
         }
         Err(fault) => {
             say_tokens(rt, &fault);
             Ok(())
         }
+    }
+}
+
+/// Looks at the tokens and at who is late, once a second.
+fn each_second(
+    rt: &HostRuntime,
+    desk: &mut Desk,
+    hall: &mut Hall,
+    tokens: &mut TokenFile,
+    clock: &mut Clock,
+) -> Result<(), Fault>
+    ensures { Leads desk.old desk.new }
+{
+    let second = hall.now / 1000;
+    if second == clock.second {
+        return Ok(());
+    }
+    clock.second = second;
+    look_at_tokens(rt, desk, hall, tokens)?;
+    hall.look_at_clock()
+}
+
+/// Tells all clients that the line is alive, when it is time.
+fn each_tick(desk: &mut Desk, hall: &Hall, clock: &mut Clock) -> Result<(), Fault>
+    ensures { Leads desk.old desk.new }
+{
+    let alive = hall.now / ALIVE;
+    if alive == clock.alive {
+        return Ok(());
+    }
+    clock.alive = alive;
+    tick(desk)
+}
+
+/// Waits until something comes, a second at most.
+fn wait(hall: &Hall, poll: &mut Poll, events: &mut Events) -> Result<(), Fault> {
+    let wait = if hall.is_busy() { 0 } else { 1000 };
+    match poll.poll(events, Some(Duration::from_millis(wait))) {
+        Ok(()) => Ok(()),
+        Err(_) => Err(Fault::System),
     }
 }
 
@@ -126,32 +181,23 @@ fn serve(
     tokens: &mut TokenFile,
     poll: &mut Poll,
     listener: &TcpListener,
-) -> Result<(), Fault> {
+) -> Result<(), Fault>
+    ensures { Leads desk.old desk.new }
+{
     let Ok(start) = Instant::now(rt) else {
         return Err(Fault::System);
     };
+    let mut clock = Clock {
+        start,
+        second: 0,
+        alive: 0,
+    };
     let mut events = Events::with_capacity(rt.alloc(), 1024)?;
-    let mut second = 0;
-    let mut alive = 0;
     for _ in 0..u64::MAX {
-        let wait = if hall.is_busy() { 0 } else { 1000 };
-        if poll
-            .poll(&mut events, Some(Duration::from_millis(wait)))
-            .is_err()
-        {
-            return Err(Fault::System);
-        }
-        let now = since(rt, &start);
-        hall.is_at(now);
-        if now / 1000 != second {
-            second = now / 1000;
-            look_at_tokens(rt, desk, hall, tokens)?;
-            hall.look_at_clock()?;
-        }
-        if now / ALIVE != alive {
-            alive = now / ALIVE;
-            desk.tick()?;
-        }
+        wait(hall, poll, &mut events)?;
+        hall.is_at(since(rt, &clock.start));
+        each_second(rt, desk, hall, tokens, &mut clock)?;
+        each_tick(desk, hall, &mut clock)?;
         hall.round(rt, desk, journal, poll, listener, &events)?;
     }
     Ok(())
@@ -167,21 +213,35 @@ fn line_of(journal: &[u8], place: usize) -> usize {
         .saturating_add(1)
 }
 
-/// Brings the desk to where the journal leads, and has all of that on disk.
-fn restore(
+/// Says how much of a journal is cut off.
+fn say_cut(rt: &HostRuntime, path: &str, count: usize) {
+    let _ = eprintln!(rt;
+        "gateway: cut {count} bytes off {path}, of an entry that was never acknowledged"
+    );
+}
+
+/// Says where a journal is damaged.
+fn say_damaged(rt: &HostRuntime, path: &str, bytes: &[u8], place: usize) {
+    let line = line_of(bytes, place);
+    let _ = eprintln!(rt;
+        "gateway: damaged: {path}: line {line}, at byte {place}, is no entry that is accepted"
+    );
+}
+
+/// Brings a new desk to where the journal leads, and has all of that on disk.
+fn come_back(
     rt: &HostRuntime,
     desk: &mut Desk,
     path: &str,
     journal: &mut FileJournal,
     bytes: &[u8],
-) -> Result<(), u8> {
-    match desk.restore(bytes) {
+) -> Result<(), u8>
+    ensures { OnOk result ((cap : ℕ) → IsNew cap desk.old → IsRunning cap desk.new) }
+{
+    match restore(desk, bytes) {
         Ok(kept) => {
             if kept < bytes.len() {
-                let count = bytes.len() - kept;
-                let _ = eprintln!(rt;
-                    "gateway: cut {count} bytes off {path}, of an entry that was never acknowledged"
-                );
+                say_cut(rt, path, bytes.len() - kept);
             }
             match journal.begin(kept as u64) {
                 Ok(()) => Ok(()),
@@ -189,13 +249,28 @@ fn restore(
             }
         }
         Err(RestoreFault::Damaged(place)) => {
-            let line = line_of(bytes, place);
-            let _ = eprintln!(rt;
-                "gateway: damaged: {path}: line {line}, at byte {place}, is no entry that is accepted"
-            );
+            say_damaged(rt, path, bytes, place);
             Err(UNUSABLE)
         }
         Err(_) => Err(out_of_memory(rt)),
+    }
+}
+
+/// Says that the address cannot be listened on.
+fn no_address(rt: &HostRuntime, address: SocketAddr) -> u8 {
+    let _ = eprintln!(rt; "gateway: {address} cannot be listened on");
+    SYSTEM
+}
+
+/// A listener at an address that the poll tells of, if the system has that.
+fn listener_at(rt: &HostRuntime, address: SocketAddr, poll: &Poll) -> Option<TcpListener> {
+    let mut listener = TcpListener::bind(rt, address).ok()?;
+    match poll
+        .registry()
+        .register(&mut listener, LISTENER, Interest::READABLE)
+    {
+        Ok(()) => Some(listener),
+        Err(_) => None,
     }
 }
 
@@ -207,20 +282,16 @@ fn open(
     settings: &Settings,
     journal: &mut FileJournal,
     tokens: &mut TokenFile,
-) -> Result<(), u8> {
+) -> Result<(), u8>
+    ensures { Leads desk.old desk.new }
+{
     let address = SocketAddr::from((settings.host, settings.port));
-    let (Ok(mut listener), Ok(mut poll)) = (TcpListener::bind(rt, address), Poll::new(rt)) else {
-        let _ = eprintln!(rt; "gateway: {address} cannot be listened on");
-        return Err(SYSTEM);
+    let Ok(mut poll) = Poll::new(rt) else {
+        return Err(no_address(rt, address));
     };
-    if poll
-        .registry()
-        .register(&mut listener, LISTENER, Interest::READABLE)
-        .is_err()
-    {
-        let _ = eprintln!(rt; "gateway: {address} cannot be listened on");
-        return Err(SYSTEM);
-    }
+    let Some(listener) = listener_at(rt, address, &poll) else {
+        return Err(no_address(rt, address));
+    };
     let _ = eprintln!(rt; "gateway: listening on {address}");
     match serve(rt, desk, hall, journal, tokens, &mut poll, &listener) {
         Ok(()) => Ok(()),
@@ -228,14 +299,16 @@ fn open(
     }
 }
 
-/// The same, over a gateway.
+/// Opens the journal, brings a new desk to where it leads, and serves.
 fn begin(
     rt: &HostRuntime,
     desk: &mut Desk,
     hall: &mut Hall,
     settings: &Settings,
     tokens: &mut TokenFile,
-) -> Result<(), u8> {
+) -> Result<(), u8>
+    ensures { OnOk result ((cap : ℕ) → IsNew cap desk.old → IsRunning cap desk.new) }
+{
     let path = settings.journal.as_str();
     let seed = match &settings.seed {
         Some(seed) => Some(seed.as_str()),
@@ -244,7 +317,7 @@ fn begin(
     match FileJournal::open(rt, path, seed) {
         Err(fault) => Err(no_journal(rt, path, &fault)),
         Ok((mut journal, bytes)) => {
-            restore(rt, desk, path, &mut journal, &bytes)?;
+            come_back(rt, desk, path, &mut journal, &bytes)?;
             drop(bytes);
             open(rt, desk, hall, settings, &mut journal, tokens)
         }
@@ -259,58 +332,57 @@ fn copied(text: &Option<String>) -> Result<Option<String>, AllocError> {
     }
 }
 
-/// A desk over a new engine.
-fn new_desk(
-    rt: &HostRuntime,
-    seed: Seed,
-    rows: u32,
-    clients: u32,
-    tokens: Vec<Token>,
-) -> Option<Desk> {
-    let alloc = rt.alloc();
-    if rows < 1_024 || rows > 1_048_576 {
-        return None;
+/// The hall that the settings ask for.
+fn new_hall(alloc: Global, settings: &Settings, tokens: &[Token]) -> Result<Hall, AllocError> {
+    let admins = Admins::among(alloc, tokens)?;
+    let pages = copied(&settings.pages)?;
+    Hall::new(alloc, settings.clients, admins, pages)
+}
+
+/// Opens the file of tokens, or says why it is not taken.
+fn open_tokens(rt: &HostRuntime, path: String) -> Result<(TokenFile, Vec<Token>), u8> {
+    match TokenFile::open(rt, path) {
+        Ok(opened) => Ok(opened),
+        Err(fault) => {
+            say_tokens(rt, &fault);
+            Err(UNUSABLE)
+        }
     }
-    let Ok(engine) = Engine::with_seed(alloc, seed, rows) else {
-        return None;
+}
+
+/// Serves over a new desk, with these tokens.
+fn serve_anew(
+    rt: &HostRuntime,
+    settings: &Settings,
+    file: &mut TokenFile,
+    tokens: Vec<Token>,
+) -> Result<(), u8>
+    requires { AreValid settings.now }
+{
+    let Ok(seed) = Seed::random(rt) else {
+        let _ = eprintln!(rt; "gateway: no random bytes");
+        return Err(SYSTEM);
     };
-    let Ok(gateway) = Gateway::new(alloc, engine, tokens, clients) else {
-        return None;
+    let alloc = rt.alloc();
+    let Ok(mut hall) = new_hall(alloc, settings, &tokens) else {
+        return Err(out_of_memory(rt));
     };
-    let Ok(desk) = Desk::new(alloc, gateway, clients) else {
-        return None;
-    };
-    Some(desk)
+    match new_desk(alloc, seed, settings.rows, settings.clients, tokens) {
+        Err(_) => Err(out_of_memory(rt)),
+        Ok(mut desk) => begin(rt, &mut desk, &mut hall, settings, file),
+    }
 }
 
 /// Serves as the settings say.
 ///
 /// # Errors
 /// The status to exit with, once it was said why.
-pub fn work(rt: &HostRuntime, settings: Settings) -> Result<(), u8> {
-    let Ok(seed) = Seed::random(rt) else {
-        let _ = eprintln!(rt; "gateway: no random bytes");
-        return Err(SYSTEM);
-    };
+pub fn work(rt: &HostRuntime, settings: &Settings) -> Result<(), u8>
+    requires { AreValid settings.now }
+{
     let Ok(path) = settings.tokens.clone() else {
         return Err(out_of_memory(rt));
     };
-    let (mut file, tokens) = match TokenFile::open(rt, path) {
-        Ok(opened) => opened,
-        Err(fault) => {
-            say_tokens(rt, &fault);
-            return Err(UNUSABLE);
-        }
-    };
-    let (Ok(pages), Ok(admins)) = (copied(&settings.pages), Admins::among(rt.alloc(), &tokens))
-    else {
-        return Err(out_of_memory(rt));
-    };
-    let Ok(mut hall) = Hall::new(rt.alloc(), settings.clients, admins, pages) else {
-        return Err(out_of_memory(rt));
-    };
-    match new_desk(rt, seed, settings.rows, settings.clients, tokens) {
-        None => Err(out_of_memory(rt)),
-        Some(mut desk) => begin(rt, &mut desk, &mut hall, &settings, &mut file),
-    }
+    let (mut file, tokens) = open_tokens(rt, path)?;
+    serve_anew(rt, settings, &mut file, tokens)
 }

@@ -1,5 +1,8 @@
 //! `Socket`: a connection at a number, how far it is, and the two functions by which its bytes come to the desk and go from it.
+ghost use Rattle.gateway.specs.Running.{Leads};
+
 use crate::fault::Fault;
+use crate::steps::{hear, pass};
 use iv_desk::{Desk, Hearing};
 use mio::net::TcpStream;
 use std::alloc::Global;
@@ -176,24 +179,31 @@ pub fn read_at(
     sockets: &mut [Option<Socket>],
     desk: &mut Desk,
     at: u32,
-) -> Result<(Got, Hearing), Fault> {
+) -> Result<(Got, Hearing), Fault>
+    ensures { Leads desk.old desk.new }
+{
     let Some(Some(socket)) = sockets.get_mut(at as usize) else {
         return Ok((Got::Nothing, Hearing::All));
     };
     let mut buffer = [0u8; PIECE];
     match socket.stream.read(&mut buffer) {
         Ok(0) => Ok((Got::End, Hearing::All)),
-        Ok(count) => Ok((Got::Bytes(count), desk.read(at, &buffer[..count])?)),
+        Ok(count) => {
+            let hearing = hear(desk, at, &buffer[..count])?;
+            Ok((Got::Bytes(count), hearing))
+        }
         Err(error) => Ok((nothing_or_end(error.kind()), Hearing::All)),
     }
 }
 
 /// Sends once at a number what is pending there, and nothing else. How many bytes the system took; none where the connection is broken.
-pub fn send_at(sockets: &mut [Option<Socket>], desk: &mut Desk, at: u32) -> Option<usize> {
+pub fn send_at(sockets: &mut [Option<Socket>], desk: &mut Desk, at: u32) -> Option<usize>
+    ensures { Leads desk.old desk.new }
+{
     let Some(Some(socket)) = sockets.get_mut(at as usize) else {
         return None;
     };
     let count = socket.put(desk.pending(at))?;
-    desk.sent(at, count);
+    pass(desk, at, count);
     Some(count)
 }
