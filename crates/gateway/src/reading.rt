@@ -192,7 +192,7 @@ impl Hall {
         if !self.resume(desk, at)? {
             return Ok(());
         }
-        for _ in 0..READS {
+        'reads: for _ in 0..READS {
             if !self.read_once(desk, at)? {
                 return Ok(());
             }

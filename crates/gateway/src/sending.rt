@@ -90,7 +90,7 @@ impl Hall {
     fn send_desk(&mut self, desk: &mut Desk, at: u32) -> Result<(), Fault>
         ensures { Leads desk.old desk.new }
     {
-        for _ in 0..WRITES {
+        'writes: for _ in 0..WRITES {
             if desk.pending(at).is_empty() {
                 return self.is_sent(desk, at);
             }

@@ -193,7 +193,7 @@ fn serve(
         alive: 0,
     };
     let mut events = Events::with_capacity(rt.alloc(), 1024)?;
-    for _ in 0..u64::MAX {
+    'rounds: for _ in 0..u64::MAX {
         wait(hall, poll, &mut events)?;
         hall.is_at(since(rt, &clock.start));
         each_second(rt, desk, hall, tokens, &mut clock)?;
