@@ -1,6 +1,6 @@
 -- What a head asks, from what its parser answers.
-use Rattle.std.proofs.Common.{◌≡◌, ℕ, ◌≤◌, ◌<◌, min, Bool, cond, List, Option, length, take, drop, Ok, Err, ap, ◌∙◌, sym, subst, arith, map}
-use Rattle.std.specs.Prelude.{◌==◌}
+use Rattle.std.proofs.Common.{◌≡◌, ℕ, ◌≤◌, ◌<◌, min, Bool, cond, List, None, length, take, drop, Ok, Err, ap, ◌∙◌, sym, subst, arith, map}
+use Rattle.std.specs.Prelude.{◌==◌, Option}
 use Rattle.std.specs.List.{list_any}
 use Rattle.std.proofs.lemmas.List.{length-map, length-take}
 use Rattle.httparse.specs.declared.Error.{Error}
@@ -74,13 +74,13 @@ pub field_found : (bytes front name : List ℕ) (spans : List HeaderSpan) (r : R
 field_found bytes front name spans r o e finds same h rest reads few =
     same ∙ ap (field_in name) (finds h rest (subst (λ (f : List ℕ). ReadsRequest f h rest) (sym e) reads) few).fields
 
-pub no_field_partial : (bytes front : List ℕ) (spans : List HeaderSpan) (o p : Option (List ℕ)) → front ≡ window bytes → FindsRequest front most_fields spans (Ok Partial)
-    → (h : RequestHead) (rest : List ℕ) → ReadsRequest (window bytes) h rest → length h.fields ≤ most_fields → o ≡ p
-no_field_partial bytes front spans o p e finds h rest reads few = absurd (finds h rest (subst (λ (f : List ℕ). ReadsRequest f h rest) (sym e) reads) few)
+pub no_field_partial : (bytes front name : List ℕ) (spans : List HeaderSpan) → front ≡ window bytes → FindsRequest front most_fields spans (Ok Partial)
+    → (h : RequestHead) (rest : List ℕ) → ReadsRequest (window bytes) h rest → length h.fields ≤ most_fields → None ≡ field_in name (map name_and_value h.fields)
+no_field_partial bytes front name spans e finds h rest reads few = absurd (finds h rest (subst (λ (f : List ℕ). ReadsRequest f h rest) (sym e) reads) few)
 
-pub no_field_bad : (bytes front : List ℕ) (spans : List HeaderSpan) (error : Error) (o p : Option (List ℕ)) → front ≡ window bytes → FindsRequest front most_fields spans (Err error)
-    → (h : RequestHead) (rest : List ℕ) → ReadsRequest (window bytes) h rest → length h.fields ≤ most_fields → o ≡ p
-no_field_bad bytes front spans error o p e finds h rest reads few = absurd (finds h rest (subst (λ (f : List ℕ). ReadsRequest f h rest) (sym e) reads) few)
+pub no_field_bad : (bytes front name : List ℕ) (spans : List HeaderSpan) (error : Error) → front ≡ window bytes → FindsRequest front most_fields spans (Err error)
+    → (h : RequestHead) (rest : List ℕ) → ReadsRequest (window bytes) h rest → length h.fields ≤ most_fields → None ≡ field_in name (map name_and_value h.fields)
+no_field_bad bytes front name spans error e finds h rest reads few = absurd (finds h rest (subst (λ (f : List ℕ). ReadsRequest f h rest) (sym e) reads) few)
 
 pub head_found : (bytes front : List ℕ) (spans : List HeaderSpan) (r : RequestSpans) → front ≡ window bytes → length spans ≡ most_fields → IsRequestOf front spans r → HasHead bytes
 head_found bytes front spans r e all is =
