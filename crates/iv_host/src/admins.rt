@@ -57,6 +57,7 @@ fn is_bearer(text: &[u8]) -> bool
 }
 
 /// The token that a field `Authorization` presents.
+#[tactic(auto, using(std::proofs::lemmas::List::take_min, std::proofs::lemmas::List::drop_min))]
 fn presented(value: &[u8]) -> Option<&[u8]>
     ensures { option_map (λ t. t.now) result ≡ presented value.now }
 {

@@ -96,7 +96,8 @@ fn write_synced<D: Disk>(disk: &mut D, bytes: &[u8]) -> io::Result<()>
     ensures torn { OnErr result ((n : ℕ) × Appends (D.held disk.old) (D.held disk.new) (take n bytes.now)) }
 {
     write_whole(disk, bytes)?;
-    disk.sync()
+    disk.sync()?;
+    Ok(())
 }
 
 /// Writes all bytes behind those that are there, and syncs. Nothing is to stay of what could not be written whole: where that fails too, a
@@ -128,5 +129,6 @@ pub fn cut_synced<D: Disk>(disk: &mut D, length: u64) -> io::Result<()>
     ensures synced { OnOk result (D.synced disk.new ≡ D.held disk.new) }
 {
     disk.cut(length)?;
-    disk.sync()
+    disk.sync()?;
+    Ok(())
 }

@@ -35,6 +35,17 @@ fn first_at(roles: &[(String, u64)], role: &str) -> Option<usize>
     None
 }
 
+/// How many clients there are.
+fn clients_in(roles: &[(String, u64)]) -> u64
+    ensures { result ≡ clients_in (by_role roles.now) }
+{
+    let mut clients = 0;
+    for one in roles {
+        raise(&mut clients, one.1);
+    }
+    clients
+}
+
 impl Now {
     /// Counts a client of a role.
     ///
@@ -54,17 +65,6 @@ impl Now {
                 Ok(())
             }
         }
-    }
-
-    /// How many clients there are.
-    fn clients(&self) -> u64
-        ensures { result ≡ clients_in (by_role self.now.roles.items) }
-    {
-        let mut clients = 0;
-        for (_, count) in self.roles.iter() {
-            raise(&mut clients, *count);
-        }
-        clients
     }
 }
 
@@ -226,12 +226,12 @@ fn push_journal(out: &mut Vec<u8>, journal: &FileJournal) -> Result<(), AllocErr
 fn push_further(out: &mut Vec<u8>, roles: &[(String, u64)]) -> Result<(), AllocError>
     ensures { OnOk result (out.new.items ≡ out.old.items ++ flat_map clients_line (by_role roles.now)) }
 {
-    for (role, count) in roles {
+    for one in roles {
         let labels = [Label {
             name: "role",
-            value: role.as_str(),
+            value: one.0.as_str(),
         }];
-        push_sample(out, "gateway_clients", &labels, *count)?;
+        push_sample(out, "gateway_clients", &labels, one.1)?;
     }
     Ok(())
 }
@@ -240,7 +240,7 @@ fn push_further(out: &mut Vec<u8>, roles: &[(String, u64)]) -> Result<(), AllocE
 fn push_clients(out: &mut Vec<u8>, roles: &[(String, u64)]) -> Result<(), AllocError>
     ensures { OnOk result (out.new.items ≡ out.old.items ++ clients_text (by_role roles.now)) }
 {
-    let [(role, count), rest @ ..] = roles else {
+    let [first, rest @ ..] = roles else {
         return Ok(());
     };
     let metric = Metric {
@@ -249,9 +249,9 @@ fn push_clients(out: &mut Vec<u8>, roles: &[(String, u64)]) -> Result<(), AllocE
     };
     let labels = [Label {
         name: "role",
-        value: role.as_str(),
+        value: first.0.as_str(),
     }];
-    push_gauge(out, &metric, &labels, *count)?;
+    push_gauge(out, &metric, &labels, first.1)?;
     push_further(out, rest)?;
     Ok(())
 }
@@ -307,7 +307,7 @@ pub fn state_now(
     journal: &FileJournal,
     now: &Now,
 ) -> Result<String, AllocError> {
-    let clients = now.clients();
+    let clients = clients_in(&now.roles);
     let sockets = now.sockets;
     let dropped = counts.stuck.saturating_add(counts.told);
     let entries = journal.entries();
