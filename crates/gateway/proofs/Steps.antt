@@ -1,16 +1,17 @@
 -- A call of a desk leads from a run to a run.
-use Rattle.std.proofs.Common.{◌≡◌, ℕ, Bool, true, false, cond, List, [], Option, Some, None, Contains, refl, ap, ◌∙◌, sym, subst}
+use Rattle.std.specs.Prelude.{slice_set}
+use Rattle.std.proofs.Common.{◌≡◌, ℕ, Bool, true, false, cond, List, [], Some, refl, ap, ◌∙◌, sym}
 use Rattle.std.proofs.lemmas.Bool.{false≢true}
 use Rattle.iv_clients.specs.Clients.{Shown, is_free}
 use Rattle.iv_clients.specs.Tokens.{Token}
-use Rattle.iv_gate.specs.Events.{Event, failed, gone, known, next, synced, ticked}
+use Rattle.iv_gate.specs.Events.{Event, failed, next}
 use Rattle.iv_gate.specs.Gate.{Gate}
 use Rattle.iv_gate.specs.Laws.{Marks, marks, marks_behind}
 use Rattle.iv_gate.specs.Restoring.{Restores, gate_at_start}
 use Rattle.iv_gate.specs.Runs.{Runs}
 use Rattle.iv_gate.specs.Runs as run
-use Rattle.iv_peer.specs.Socket.{Socket, closed, fresh, passing, took}
-use Rattle.iv_desk.specs.Front.{Front, FrontRuns, Happens, at_socket, begins, begun, by_event, closes, dismissed, fails, front_at_start, goes_on, knows, leaves, left, may_tell, offered, sends, socket_at, syncs, takes, ticks}
+use Rattle.iv_peer.specs.Socket.{fresh, passing, took}
+use Rattle.iv_desk.specs.Front.{Front, FrontRuns, Happens, at_socket, begins, begun, by_event, fails, front_at_start, goes_on, sends, socket_at, takes}
 use Rattle.iv_desk.specs.Desks.{IsCalledOut, IsDesk, IsHeard, IsHeardBy, IsRestored, at_each}
 use Rattle.iv_desk.specs.declared.desk.Desk.{Desk}
 use Rattle.iv_desk.specs.declared.place.Hearing.{Hearing}
@@ -43,7 +44,7 @@ passed_on m n x y h = step_on x y (at_socket m (passing n)) (λ d e s. still_dea
 begun_dead : (d : Front) (m : ℕ) → (begun m d).gate.dead ≡ d.gate.dead
 begun_dead d m = by (is_free m d.sockets)
   where
-    by : (b : Bool) → (cond b (record d { sockets = Rattle.std.specs.Prelude.slice_set d.sockets m (Some fresh) }) d).gate.dead ≡ d.gate.dead
+    by : (b : Bool) → (cond b (record d { sockets = slice_set d.sockets m (Some fresh) }) d).gate.dead ≡ d.gate.dead
     by true = refl
     by false = refl
 

@@ -1,6 +1,7 @@
-//! The desk's calls as the program makes them: each leads from a run to a run, so that behind each of them all holds that
-//! `browsers_are_told_their_views` of iv_desk says of runs.
-ghost use Rattle.std.specs.Prelude.{◌≡◌, ℕ, IfOk, IfSome, true};
+//! The desk's calls as the program makes them: each leads from a run to a run.
+//!
+//! So behind each of them all holds that `browsers_are_told_their_views` of iv_desk says of runs.
+ghost use Rattle.std.specs.Prelude.{◌≡◌, ℕ, IfOk, true};
 ghost use Rattle.iv_rows.specs.RowLimit.{IsRowLimit};
 ghost use Rattle.iv_desk.specs.Front.{may_tell};
 ghost use Rattle.gateway.specs.Running.{IsNew, IsRunning, Leads};
@@ -30,7 +31,10 @@ pub fn new_desk(
 {
     let engine = Engine::with_seed(alloc, seed, rows)?;
     let gateway = Gateway::new(alloc, engine, tokens, clients)?;
-    Desk::new(alloc, gateway, clients)
+    match Desk::new(alloc, gateway, clients) {
+        Ok(desk) => Ok(desk),
+        Err(error) => Err(error),
+    }
 }
 
 /// Brings a new desk to where a journal leads. Answers how many of its bytes that is.
