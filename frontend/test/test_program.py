@@ -643,8 +643,8 @@ def main() -> int:
     words.add_argument("--steps", type=int, default=400)
     given, failed, passed = words.parse_args(), [], 0
     if not PROGRAM.is_file():
-        print(f"program: did not run, since {PROGRAM} is not built (./gateway)")
-        return 0
+        print(f"program: {PROGRAM} is not built (./gateway --help)")
+        return 1
     more = {"kills_lose_nothing": {"kills": given.kills}, "each_line_is_the_models": {"steps": given.steps}}
     for check in TESTS:
         name = check.__name__

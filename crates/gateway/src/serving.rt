@@ -99,6 +99,7 @@ fn since(rt: &HostRuntime, start: &Instant) -> u64 {
 }
 
 /// Since when the program serves, and what of that time was seen.
+#[derive(Drop)]
 struct Clock {
     start: Instant,
     /// The second that was looked at.
