@@ -19,12 +19,13 @@ use Rattle.gateway.specs.Running.{IsNew, IsRunning, Leads}
 
 -- ---- one step
 
-step_on : (x y : Desk) (f : Front → Front) → ((d : Front) → d.gate.dead ≡ true → IsDesk d x → IsDesk d y) → ((d : Front) → Happens d (f d)) → ((d : Front) → IsDesk d x → d.gate.dead ≡ false → IsDesk (f d) y) → Leads x y
-step_on x y f dead happens h = λ cap r. by cap r r.front.gate.dead refl
+step_on : (x y : Desk) (f : Front → Front) → ((d : Front) → d.gate.dead ≡ true → IsDesk d x → IsDesk d y)
+    → ((cap : ℕ) (d : Front) → FrontRuns cap d → d.gate.dead ≡ false → FrontRuns cap (f d)) → ((d : Front) → IsDesk d x → d.gate.dead ≡ false → IsDesk (f d) y) → Leads x y
+step_on x y f dead runs h = λ cap r. by cap r r.front.gate.dead refl
   where
     by : (cap : ℕ) (r : IsRunning cap x) (b : Bool) → r.front.gate.dead ≡ b → IsRunning cap y
     by cap r true e = record { front = r.front; runs = r.runs; stands = dead r.front e r.stands }
-    by cap r false e = record { front = f r.front; runs = goes_on r.front (f r.front) r.runs e (happens r.front); stands = h r.front r.stands e }
+    by cap r false e = record { front = f r.front; runs = runs cap r.front r.runs e; stands = h r.front r.stands e }
 
 -- nothing but that it is dead is known of a dead one
 still_dead : (d e : Front) (x y : Desk) → d.gate.dead ≡ true → e.gate.dead ≡ d.gate.dead → IsDesk e y → IsDesk d y
@@ -32,14 +33,15 @@ still_dead d e x y h same s = record { dead = s.dead ∙ same; alive = λ a. abs
 
 pub failed_on : (x y : Desk) → ((g : Gate) (e : Event) → g.dead ≡ true → next g e ≡ g) → ((d : Front) → IsDesk d x → IsDesk (by_event failed d) y) → Leads x y
 failed_on x y rests h = step_on x y (by_event failed)
-    (λ d e s. still_dead d (by_event failed d) x y e (ap (λ (g : Gate). g.dead) (rests d.gate failed e)) (h d s)) (λ d. fails) (λ d s e. h d s)
+    (λ d e s. still_dead d (by_event failed d) x y e (ap (λ (g : Gate). g.dead) (rests d.gate failed e)) (h d s)) (λ cap d r e. goes_on d (by_event failed d) r e fails) (λ d s e. h d s)
 
 -- where a dead one would have failed
-pub done_on : (x y : Desk) (f : Front → Front) → ((d : Front) → IsDesk d x → d.gate.dead ≡ true → ⊥) → ((d : Front) → Happens d (f d)) → ((d : Front) → IsDesk d x → IsDesk (f d) y) → Leads x y
-done_on x y f lives happens h = step_on x y f (λ d e s. absurd (lives d s e)) happens (λ d s e. h d s)
+pub done_on : (x y : Desk) (f : Front → Front) → ((d : Front) → IsDesk d x → d.gate.dead ≡ true → ⊥)
+    → ((cap : ℕ) (d : Front) → FrontRuns cap d → d.gate.dead ≡ false → FrontRuns cap (f d)) → ((d : Front) → IsDesk d x → IsDesk (f d) y) → Leads x y
+done_on x y f lives runs h = step_on x y f (λ d e s. absurd (lives d s e)) runs (λ d s e. h d s)
 
 pub passed_on : (m n : ℕ) (x y : Desk) → ((d : Front) → IsDesk d x → IsDesk (at_socket m (passing n) d) y) → Leads x y
-passed_on m n x y h = step_on x y (at_socket m (passing n)) (λ d e s. still_dead d (at_socket m (passing n) d) x y e refl (h d s)) (λ d. sends m n) (λ d s e. h d s)
+passed_on m n x y h = step_on x y (at_socket m (passing n)) (λ d e s. still_dead d (at_socket m (passing n) d) x y e refl (h d s)) (λ cap d r e. goes_on d (at_socket m (passing n) d) r e (sends m n)) (λ d s e. h d s)
 
 begun_dead : (d : Front) (m : ℕ) → (begun m d).gate.dead ≡ d.gate.dead
 begun_dead d m = by (is_free m d.sockets)
@@ -49,7 +51,7 @@ begun_dead d m = by (is_free m d.sockets)
     by false = refl
 
 pub begun_on : (m : ℕ) (x y : Desk) → ((d : Front) → IsDesk d x → IsDesk (begun m d) y) → Leads x y
-begun_on m x y h = step_on x y (begun m) (λ d e s. still_dead d (begun m d) x y e (begun_dead d m) (h d s)) (λ d. begins m) (λ d s e. h d s)
+begun_on m x y h = step_on x y (begun m) (λ d e s. still_dead d (begun m d) x y e (begun_dead d m) (h d s)) (λ cap d r e. goes_on d (begun m d) r e (begins m)) (λ d s e. h d s)
 
 -- ---- more than one
 
