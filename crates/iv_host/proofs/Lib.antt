@@ -1,3 +1,4 @@
 pub mod Adding
 pub mod Known
+pub mod Pages
 pub mod Roles

@@ -5,9 +5,9 @@ ghost use Rattle.iv_host.specs.Figures.{bytes_text, came_text, clients_in, clien
 ghost use Rattle.iv_host.specs.Roles.{by_role, first_at};
 
 use crate::counts::{BOUNDS, Counts, raise};
-use crate::journal::FileJournal;
+use crate::journal::{FileJournal, Syncs};
 use iv_pages::{Label, Metric, push_counter, push_gauge, push_histogram, push_sample};
-use std::alloc::AllocError;
+use std::alloc::{AllocError, Global};
 use std::fs;
 
 /// What stands at a moment.
@@ -73,12 +73,16 @@ fn memory(rt: &HostRuntime) -> u64 {
     let Ok(text) = fs::read_to_string(rt, "/proc/self/statm") else {
         return 0;
     };
-    match text.as_str().split(' ').nth(1) {
-        None => 0,
-        Some(pages) => match pages.parse::<u64>() {
-            Ok(pages) => pages.saturating_mul(4096),
-            Err(_) => 0,
-        },
+    let Some((_, rest)) = text.as_str().split_once(' ') else {
+        return 0;
+    };
+    let pages = match rest.split_once(' ') {
+        None => rest,
+        Some((pages, _)) => pages,
+    };
+    match pages.parse::<u64>() {
+        Ok(pages) => pages.saturating_mul(4096),
+        Err(_) => 0,
     }
 }
 
@@ -196,6 +200,15 @@ fn push_counts(out: &mut Vec<u8>, counts: &Counts) -> Result<(), AllocError>
     Ok(())
 }
 
+/// Bounds of times of syncs, each with how many syncs took at most so long.
+fn buckets_of(alloc: Global, syncs: &Syncs) -> Result<Vec<(u64, u64)>, AllocError> {
+    let mut buckets = Vec::new(alloc);
+    for at in 0..7 {
+        buckets.push((BOUNDS[at], syncs.within[at]))?;
+    }
+    Ok(buckets)
+}
+
 /// Appends what is counted of the journal.
 fn push_journal(out: &mut Vec<u8>, journal: &FileJournal) -> Result<(), AllocError> {
     counter(
@@ -210,11 +223,8 @@ fn push_journal(out: &mut Vec<u8>, journal: &FileJournal) -> Result<(), AllocErr
         "Bytes of the journal",
         journal.len(),
     )?;
-    let mut buckets = Vec::new(*out.allocator());
     let syncs = journal.syncs();
-    for (bound, count) in BOUNDS.iter().zip(&syncs.within) {
-        buckets.push((*bound, *count))?;
-    }
+    let buckets = buckets_of(*out.allocator(), syncs)?;
     let metric = Metric {
         name: "gateway_sync_microseconds",
         help: "Time of a write and sync of the journal",
