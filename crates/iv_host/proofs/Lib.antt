@@ -1,4 +1,5 @@
 pub mod Adding
+pub mod Heads
 pub mod Known
 pub mod Pages
 pub mod Roles

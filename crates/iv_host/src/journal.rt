@@ -1,8 +1,7 @@
 //! `DiskJournal`: the journal on a disk, and `FileJournal`, that in a file which one process at a time writes.
 //!
 //! What `append` promises is proved over any disk that tells its bytes. A real file tells none, so of one it is shown by kills and a full disk.
-ghost use Rattle.std.specs.Prelude.{◌≡◌, ◌==◌, ◌<◌, ℕ, List, OnErr, OnOk, Option, length, take};
-ghost use Rattle.std.specs.List.{count_by};
+ghost use Rattle.std.specs.Prelude.{◌≡◌, ◌==◌, ◌<◌, ℕ, List, OnErr, OnOk, Option, count_by, length, take};
 ghost use Rattle.std.specs.Io.KnownBytes.{Appends, Keeps};
 ghost use Rattle.iv_host.specs.Counts.{raised};
 ghost use Rattle.iv_host.specs.Disk.{first_known};
