@@ -1,5 +1,5 @@
 pub mod Adding
-pub mod Heads
+pub mod Answered
+pub mod Fields
 pub mod Known
-pub mod Pages
 pub mod Roles

@@ -2,7 +2,7 @@
 ghost use Rattle.std.specs.Prelude.{◌≡◌, ◌++◌, [], OnOk, codes, flat_map};
 ghost use Rattle.iv_pages.specs.Figures.{counter_text, gauge_text, sample_line};
 ghost use Rattle.iv_host.specs.Figures.{bytes_text, came_text, clients_in, clients_line, clients_text, counts_text, ends_text, one_more, why_label};
-ghost use Rattle.iv_host.specs.Roles.{by_role, first_at};
+ghost use Rattle.iv_host.specs.Roles.{by_role, first_at, more_at};
 
 use crate::counts::{BOUNDS, Counts, raise};
 use crate::journal::{FileJournal, Syncs};
@@ -35,6 +35,16 @@ fn first_at(roles: &[(String, u64)], role: &str) -> Option<usize>
     None
 }
 
+/// Counts one client more of the role at a place.
+fn count_at(roles: &mut Vec<(String, u64)>, at: usize)
+    ensures { by_role roles.new.items ≡ more_at at (by_role roles.old.items) }
+{
+    match roles.get_mut(at) {
+        None => {}
+        Some(one) => raise(&mut one.1, 1),
+    }
+}
+
 /// How many clients there are.
 fn clients_in(roles: &[(String, u64)]) -> u64
     ensures { result ≡ clients_in (by_role roles.now) }
@@ -56,7 +66,7 @@ impl Now {
     {
         match first_at(&self.roles, role) {
             Some(at) => {
-                raise(&mut self.roles[at].1, 1);
+                count_at(&mut self.roles, at);
                 Ok(())
             }
             None => {
