@@ -1,7 +1,7 @@
 //! `asked_for`: the words after the program's name as settings, with help, version and errors.
 //!
 //! Ranges alone are promised. Which words give which settings is shown by tests.
-ghost use Rattle.std.specs.Prelude.{◌×◌, ◌≤◌, IfOk, IfSome};
+ghost use Rattle.std.specs.Prelude.{◌≤◌, IfOk, IfSome};
 ghost use Rattle.iv_rows.specs.RowLimit.{IsRowLimit};
 ghost use Rattle.iv_host.specs.Settings.{AreValid};
 
