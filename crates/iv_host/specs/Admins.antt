@@ -1,8 +1,13 @@
 -- Who may ask what the program tells of itself (RFC 6750, section 2.1; RFC 9110, section 11.6.2).
-use Rattle.std.specs.Prelude.{ℕ, ◌==◌, Bool, false, if◌then◌else◌, List, [], ◌∷◌, take, drop, filter, bytes_eq, codes, Option, Some, None}
+use Rattle.std.specs.Prelude.{◌≤◌, ℕ, ◌==◌, Bool, false, if◌then◌else◌, List, [], ◌∷◌, length, take, drop, filter, bytes_eq, codes, Option, Some, None}
 use Rattle.sha2.specs.Sha256.{sha256}
 use Rattle.iv_clients.specs.Tokens.{Token, has_digest}
-use Rattle.iv_pages.specs.Asking.{same_name}
+use Rattle.httparse.specs.Grammar.{ReadsRequest, RequestHead}
+use Rattle.iv_pages.specs.Asking.{most_fields, same_name, window}
+
+-- a whole head stands in front of what was read (RFC 9112, section 2)
+abbrev pub HasHead : List ℕ → Type 0
+HasHead bytes = (h : RequestHead) × (rest : List ℕ) × ReadsRequest (window bytes) h rest × (length h.fields ≤ most_fields)
 
 -- it opens the role of administrators
 abbrev pub is_admin : Token → Bool

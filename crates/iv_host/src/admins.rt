@@ -3,11 +3,11 @@ ghost use Rattle.std.specs.Prelude.{◌≡◌, ◌≤◌, ℕ, List, IfOk, codes
 ghost use Rattle.httparse.specs.Grammar.{ReadsRequest, RequestHead};
 ghost use Rattle.httparse.specs.Spans.{name_and_value};
 ghost use Rattle.iv_clients.specs.Tokens.{has_digest};
-ghost use Rattle.iv_pages.specs.Asking.{HasHead, field_in, most_fields, same_name, window};
+ghost use Rattle.iv_pages.specs.Asking.{field_in, most_fields, window};
 ghost use Rattle.iv_host.specs.Admins.{admins_among, is_admin, is_known, opens_by, presented, without_spaces};
 
+use crate::heads::{field_of, same_name};
 use iv_clients::Token;
-use iv_pages::field_of;
 use sha2::{Digest, Sha256};
 use std::alloc::{AllocError, Global};
 
@@ -49,20 +49,13 @@ fn without_spaces(text: &[u8]) -> &[u8]
     &[]
 }
 
-/// Whether text is the name of the scheme `Bearer` and a space, in any case.
-fn is_bearer(text: &[u8]) -> bool
-    ensures { result ≡ same_name text.now (codes "bearer ") }
-{
-    text.eq_ignore_ascii_case(b"bearer ")
-}
-
 /// The token that a field `Authorization` presents.
 #[tactic(auto, using(std::proofs::lemmas::List::take_min, std::proofs::lemmas::List::drop_min))]
 fn presented(value: &[u8]) -> Option<&[u8]>
     ensures { option_map (λ t. t.now) result ≡ presented value.now }
 {
     let count = 7.min(value.len());
-    if is_bearer(&value[..count]) {
+    if same_name(&value[..count], b"bearer ") {
         Some(without_spaces(&value[count..]))
     } else {
         None

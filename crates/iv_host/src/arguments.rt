@@ -1,7 +1,7 @@
 //! `asked_for`: the words after the program's name as settings, with help, version and errors.
 //!
 //! Ranges alone are promised. Which words give which settings is shown by tests.
-ghost use Rattle.std.specs.Prelude.{◌×◌, ◌≤◌, IfOk, IfSome};
+ghost use Rattle.std.specs.Prelude.{◌≤◌, IfOk, IfSome};
 ghost use Rattle.iv_rows.specs.RowLimit.{IsRowLimit};
 ghost use Rattle.iv_host.specs.Settings.{AreValid};
 
@@ -245,7 +245,7 @@ fn invalid(alloc: Global, why: &str) -> Error {
 }
 
 /// The words after the program's name as settings.
-fn settings<'a>(alloc: Global, words: &'a [&'a str]) -> Result<Settings, Error>
+fn settings_in<'a>(alloc: Global, words: &'a [&'a str]) -> Result<Settings, Error>
     ensures { IfOk result AreValid }
 {
     let matches = matches(alloc, words)?;
@@ -281,7 +281,7 @@ pub fn asked_for(rt: &HostRuntime) -> Result<Settings, ExitCode>
         Ok(all) => match all.iter().skip(1).map(|word| word.as_str()).collect(alloc) {
             Ok(words) => {
                 let words: Vec<&str> = words;
-                match settings(alloc, words.as_slice()) {
+                match settings_in(alloc, words.as_slice()) {
                     Ok(settings) => return Ok(settings),
                     Err(error) => error,
                 }

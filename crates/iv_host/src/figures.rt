@@ -2,12 +2,12 @@
 ghost use Rattle.std.specs.Prelude.{◌≡◌, ◌++◌, [], OnOk, codes, flat_map};
 ghost use Rattle.iv_pages.specs.Figures.{counter_text, gauge_text, sample_line};
 ghost use Rattle.iv_host.specs.Figures.{bytes_text, came_text, clients_in, clients_line, clients_text, counts_text, ends_text, one_more, why_label};
-ghost use Rattle.iv_host.specs.Roles.{by_role, first_at};
+ghost use Rattle.iv_host.specs.Roles.{by_role, first_at, more_at};
 
 use crate::counts::{BOUNDS, Counts, raise};
-use crate::journal::FileJournal;
+use crate::journal::{FileJournal, Syncs};
 use iv_pages::{Label, Metric, push_counter, push_gauge, push_histogram, push_sample};
-use std::alloc::AllocError;
+use std::alloc::{AllocError, Global};
 use std::fs;
 
 /// What stands at a moment.
@@ -35,6 +35,16 @@ fn first_at(roles: &[(String, u64)], role: &str) -> Option<usize>
     None
 }
 
+/// Counts one client more of the role at a place.
+fn count_at(roles: &mut Vec<(String, u64)>, at: usize)
+    ensures { by_role roles.new.items ≡ more_at at (by_role roles.old.items) }
+{
+    match roles.get_mut(at) {
+        None => {}
+        Some(one) => raise(&mut one.1, 1),
+    }
+}
+
 /// How many clients there are.
 fn clients_in(roles: &[(String, u64)]) -> u64
     ensures { result ≡ clients_in (by_role roles.now) }
@@ -56,7 +66,7 @@ impl Now {
     {
         match first_at(&self.roles, role) {
             Some(at) => {
-                raise(&mut self.roles[at].1, 1);
+                count_at(&mut self.roles, at);
                 Ok(())
             }
             None => {
@@ -73,12 +83,16 @@ fn memory(rt: &HostRuntime) -> u64 {
     let Ok(text) = fs::read_to_string(rt, "/proc/self/statm") else {
         return 0;
     };
-    match text.as_str().split(' ').nth(1) {
-        None => 0,
-        Some(pages) => match pages.parse::<u64>() {
-            Ok(pages) => pages.saturating_mul(4096),
-            Err(_) => 0,
-        },
+    let Some((_, rest)) = text.as_str().split_once(' ') else {
+        return 0;
+    };
+    let pages = match rest.split_once(' ') {
+        None => rest,
+        Some((pages, _)) => pages,
+    };
+    match pages.parse::<u64>() {
+        Ok(pages) => pages.saturating_mul(4096),
+        Err(_) => 0,
     }
 }
 
@@ -196,6 +210,15 @@ fn push_counts(out: &mut Vec<u8>, counts: &Counts) -> Result<(), AllocError>
     Ok(())
 }
 
+/// Bounds of times of syncs, each with how many syncs took at most so long.
+fn buckets_of(alloc: Global, syncs: &Syncs) -> Result<Vec<(u64, u64)>, AllocError> {
+    let mut buckets = Vec::new(alloc);
+    for at in 0..7 {
+        buckets.push((BOUNDS[at], syncs.within[at]))?;
+    }
+    Ok(buckets)
+}
+
 /// Appends what is counted of the journal.
 fn push_journal(out: &mut Vec<u8>, journal: &FileJournal) -> Result<(), AllocError> {
     counter(
@@ -210,11 +233,8 @@ fn push_journal(out: &mut Vec<u8>, journal: &FileJournal) -> Result<(), AllocErr
         "Bytes of the journal",
         journal.len(),
     )?;
-    let mut buckets = Vec::new(*out.allocator());
     let syncs = journal.syncs();
-    for (bound, count) in BOUNDS.iter().zip(&syncs.within) {
-        buckets.push((*bound, *count))?;
-    }
+    let buckets = buckets_of(*out.allocator(), syncs)?;
     let metric = Metric {
         name: "gateway_sync_microseconds",
         help: "Time of a write and sync of the journal",

@@ -1,7 +1,7 @@
 //! `DiskJournal`: the journal on a disk, and `FileJournal`, that in a file which one process at a time writes.
 //!
 //! What `append` promises is proved over any disk that tells its bytes. A real file tells none, so of one it is shown by kills and a full disk.
-ghost use Rattle.std.specs.Prelude.{◌≡◌, ◌==◌, ◌<◌, ℕ, List, OnErr, OnOk, Option, filter, length, take};
+ghost use Rattle.std.specs.Prelude.{◌≡◌, ◌==◌, ◌<◌, ℕ, List, OnErr, OnOk, Option, count_by, length, take};
 ghost use Rattle.std.specs.Io.KnownBytes.{Appends, Keeps};
 ghost use Rattle.iv_host.specs.Counts.{raised};
 ghost use Rattle.iv_host.specs.Disk.{first_known};
@@ -44,9 +44,9 @@ pub struct Syncs {
 
 /// Counts one that took as many microseconds, at each bound that is not less.
 fn note_within(within: &mut [u64; 7], micros: u64) {
-    for (count, bound) in within.iter_mut().zip(&BOUNDS) {
-        if micros <= *bound {
-            raise(count, 1);
+    for at in 0..7 {
+        if micros <= BOUNDS[at] {
+            raise(&mut within[at], 1);
         }
     }
 }
@@ -89,10 +89,9 @@ pub type FileJournal = DiskJournal<File>;
 
 /// How many lines end among bytes.
 pub fn lines_in(bytes: &[u8]) -> u64
-    ensures { result ≡ length (filter (λ b. b == 10) bytes.now) }
+    ensures { result ≡ count_by (λ b. b == 10) bytes.now }
 {
-    let count = bytes.iter().filter(|byte| **byte == b'\n').count();
-    count as u64
+    bytes.iter().filter(|byte| **byte == b'\n').count() as u64
 }
 
 /// A file that belongs to this user alone.

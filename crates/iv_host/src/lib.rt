@@ -6,6 +6,7 @@ mod arguments;
 mod counts;
 mod disk;
 mod figures;
+mod heads;
 mod journal;
 pub mod laws;
 mod log;

@@ -1,5 +1,5 @@
 //! `Log`: lines on standard error, so many a second at most.
-ghost use Rattle.std.specs.Prelude.{◌≡◌, ◌×◌, ◌+◌, ◌/◌, if◌then◌else◌, nat_lt};
+ghost use Rattle.std.specs.Prelude.{◌≡◌, ◌+◌, ◌/◌, if◌then◌else◌, nat_lt};
 ghost use Rattle.iv_host.specs.Counts.{lines_at, most_lines};
 
 /// Lines a second at most.

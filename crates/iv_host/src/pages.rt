@@ -5,12 +5,16 @@ ghost use Rattle.iv_pages.specs.Seen.{asked_by};
 ghost use Rattle.iv_host.specs.Pages.{IsPage, answer_of, policy, served};
 
 use iv_pages::{Ask, Page, Refusal, etag_of, kind_of, place_of, push_page, push_refusal};
-use std::alloc::{AllocError, Global};
+use std::alloc::AllocError;
 use std::fs;
 
 /// What pages may load and do.
-const POLICY: &str =
-    "default-src 'none'; script-src 'self'; style-src 'self'; connect-src 'self'; img-src 'self' data:; font-src 'self'; manifest-src 'self'; base-uri 'none'; form-action 'none'; frame-ancestors 'none'";
+#[tactic(auto, unfolding(crate::specs::Pages::policy))]
+fn policy() -> &'static str
+    ensures { result.now ≡ policy }
+{
+    "default-src 'none'; script-src 'self'; style-src 'self'; connect-src 'self'; img-src 'self' data:; font-src 'self'; manifest-src 'self'; base-uri 'none'; form-action 'none'; frame-ancestors 'none'"
+}
 
 /// Bytes of a page, at most.
 const MOST: u64 = 16_777_216;
@@ -53,7 +57,7 @@ pub fn answer(
         kind,
         tag,
         length: contents.len(),
-        policy: POLICY,
+        policy: policy(),
     };
     if push_page(&mut out, &page, ask)? {
         out.extend_from_slice(contents)?;
@@ -84,13 +88,18 @@ pub fn page_in(rt: &HostRuntime, folder: Option<&str>, ask: &Ask<'_>) -> Result<
     ensures { IfOk result (λ out. IsPage (asked_by ask.now) out.items) }
 {
     let Some(place) = place_of(rt.alloc(), ask.target)? else {
-        return refusal(rt, Refusal::NotFound, ask.only_head);
+        let missing = refusal(rt, Refusal::NotFound, ask.only_head)?;
+        return Ok(missing);
     };
     match contents_at(rt, folder, &place) {
-        None => refusal(rt, Refusal::NotFound, ask.only_head),
+        None => {
+            let missing = refusal(rt, Refusal::NotFound, ask.only_head)?;
+            Ok(missing)
+        }
         Some(contents) => {
             let tag = etag_of(rt.alloc(), &contents)?;
-            answer(rt, ask, kind_of(&place), Some(&tag), &contents)
+            let page = answer(rt, ask, kind_of(&place), Some(&tag), &contents)?;
+            Ok(page)
         }
     }
 }

@@ -1,6 +1,6 @@
 -- What a head asks, from what its parser answers.
-use Rattle.std.proofs.Common.{◌≡◌, ℕ, ◌≤◌, ◌<◌, min, Bool, cond, List, None, length, take, drop, Ok, Err, ap, ◌∙◌, sym, subst, arith, map}
-use Rattle.std.specs.Prelude.{◌==◌, Option}
+use Rattle.std.proofs.Common.{◌≡◌, ℕ, ◌≤◌, ◌<◌, min, Bool, cond, List, length, take, drop, Ok, Err, ap, ◌∙◌, sym, subst, arith}
+use Rattle.std.specs.Prelude.{◌==◌}
 use Rattle.std.specs.List.{list_any}
 use Rattle.std.proofs.lemmas.List.{length-map, length-take}
 use Rattle.httparse.specs.declared.Error.{Error}
@@ -10,7 +10,7 @@ use Rattle.httparse.specs.declared.spans.RequestSpans.{RequestSpans}
 use Rattle.httparse.specs.Grammar.{RequestHead, ReadsRequest, MayBecomeRequest, NeverHasRequest}
 use Rattle.httparse.specs.Spans.{FindsRequest, IsRequestAt, IsRequestOf, RequestExceeds, header_bytes, name_and_value, span_bytes}
 use Rattle.iv_pages.specs.declared.answers.Refusal.TheVariants.{BadRequest, FieldsTooLarge, TargetTooLong, VersionNotSupported}
-use Rattle.iv_pages.specs.Asking.{Asks, HasHead, Want, asked_of, bad, field_in, long, many, most_fields, most_head, refused, says_other, waits, want_in, whole, window}
+use Rattle.iv_pages.specs.Asking.{Asks, Want, asked_of, bad, long, many, most_fields, most_head, refused, says_other, waits, want_in, whole, window}
 use Rattle.iv_pages.specs.Asking as asking
 use Rattle.iv_pages.specs.Seen.{fields_of}
 
@@ -65,23 +65,3 @@ pub asks_bad : (bytes front : List ℕ) (d : Bool) → front ≡ window bytes �
 asks_bad bytes front d e never says =
     subst (λ (z : Bool). Asks bytes (refused (cond z VersionNotSupported BadRequest))) (ap says_other (sym e) ∙ says)
     (bad bytes (subst (λ (f : List ℕ). NeverHasRequest f) e never))
-
--- ---- one field of a head
-
-pub field_found : (bytes front name : List ℕ) (spans : List HeaderSpan) (r : RequestSpans) (o : Option (List ℕ)) → front ≡ window bytes
-    → FindsRequest front most_fields spans (Ok (Complete r)) → o ≡ field_in name (fields_of front (take r.headers spans))
-    → (h : RequestHead) (rest : List ℕ) → ReadsRequest (window bytes) h rest → length h.fields ≤ most_fields → o ≡ field_in name (map name_and_value h.fields)
-field_found bytes front name spans r o e finds same h rest reads few =
-    same ∙ ap (field_in name) (finds h rest (subst (λ (f : List ℕ). ReadsRequest f h rest) (sym e) reads) few).fields
-
-pub no_field_partial : (bytes front name : List ℕ) (spans : List HeaderSpan) → front ≡ window bytes → FindsRequest front most_fields spans (Ok Partial)
-    → (h : RequestHead) (rest : List ℕ) → ReadsRequest (window bytes) h rest → length h.fields ≤ most_fields → None ≡ field_in name (map name_and_value h.fields)
-no_field_partial bytes front name spans e finds h rest reads few = absurd (finds h rest (subst (λ (f : List ℕ). ReadsRequest f h rest) (sym e) reads) few)
-
-pub no_field_bad : (bytes front name : List ℕ) (spans : List HeaderSpan) (error : Error) → front ≡ window bytes → FindsRequest front most_fields spans (Err error)
-    → (h : RequestHead) (rest : List ℕ) → ReadsRequest (window bytes) h rest → length h.fields ≤ most_fields → None ≡ field_in name (map name_and_value h.fields)
-no_field_bad bytes front name spans error e finds h rest reads few = absurd (finds h rest (subst (λ (f : List ℕ). ReadsRequest f h rest) (sym e) reads) few)
-
-pub head_found : (bytes front : List ℕ) (spans : List HeaderSpan) (r : RequestSpans) → front ≡ window bytes → length spans ≡ most_fields → IsRequestOf front spans r → HasHead bytes
-head_found bytes front spans r e all is =
-    (is.0, drop r.len front, subst (λ (f : List ℕ). ReadsRequest f is.0 (drop r.len front)) e is.1.reads, few_fields front spans r is.0 all is.1)

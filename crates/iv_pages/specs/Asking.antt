@@ -103,10 +103,6 @@ too_long front = if list_any (λ b. b == 10) front then FieldsTooLarge else Targ
 abbrev pub no_head : List ℕ → Refusal
 no_head front = if says_other front then VersionNotSupported else BadRequest
 
--- a whole head stands in front
-abbrev pub HasHead : List ℕ → Type 0
-HasHead bytes = (h : RequestHead) × (rest : List ℕ) × ReadsRequest (window bytes) h rest × (length h.fields ≤ most_fields)
-
 -- what the bytes ask that were read so far
 pub data Asks : List ℕ → Want → Type 0 where
   whole : (bytes rest : List ℕ) (h : RequestHead) → ReadsRequest (window bytes) h rest → length h.fields ≤ most_fields → Asks bytes (asked_of h)

@@ -1,9 +1,9 @@
 //! `asked`: what the bytes that were read from a connection ask, before any is answered.
-ghost use Rattle.std.specs.Prelude.{◌≡◌, ◌==◌, ◌≤◌, All, ℕ, List, IfSome, IsSome, length, is_some, map, take, option_map};
+ghost use Rattle.std.specs.Prelude.{◌≡◌, ◌==◌, ◌≤◌, All, ℕ, List, IsSome, length, is_some, take, option_map};
 ghost use Rattle.std.specs.List.{list_any};
 ghost use Rattle.httparse.specs.Grammar.{RequestHead, ReadsRequest};
-ghost use Rattle.httparse.specs.Spans.{IsHeaderWithin, IsRequestWithin, name_and_value, span_bytes};
-ghost use Rattle.iv_pages.specs.Asking.{Asks, HasHead, asked_of, begins_other, counted, field_in, has_contents, hosts, most_fields, page_by, same_name, says_other, want_in, window};
+ghost use Rattle.httparse.specs.Spans.{IsHeaderWithin, IsRequestWithin, span_bytes};
+ghost use Rattle.iv_pages.specs.Asking.{Asks, asked_of, begins_other, counted, field_in, has_contents, hosts, most_fields, page_by, same_name, says_other, want_in, window};
 ghost use Rattle.iv_pages.specs.Seen.{fields_of, want_of};
 
 use crate::answers::Refusal;
@@ -201,21 +201,5 @@ pub fn asked(bytes: &[u8]) -> Wish<'_>
                 }
             }
         },
-    }
-}
-
-/// The value of the first field with a name, in any case, where the bytes that were read from a connection so far have a whole head of a
-/// request, of at most 8,192 bytes and 64 fields. What stands behind the head is not looked at.
-pub fn field_of<'a>(bytes: &'a [u8], name: &[u8]) -> Option<&'a [u8]>
-    ensures field { (h : RequestHead) (rest : List ℕ) → ReadsRequest (window bytes.now) h rest → length h.fields ≤ most_fields
-        → option_map (λ v. v.now) result ≡ field_in name.now (map name_and_value h.fields) }
-    ensures head { IfSome result (λ _. HasHead bytes.now) }
-{
-    let front = window(bytes);
-    let mut spans = [EMPTY_HEADER_SPAN; 64];
-    match parse_request(front, &mut spans) {
-        Ok(Status::Complete(head)) => field_in(front, &spans[..head.headers], name),
-        Ok(Status::Partial) => None,
-        Err(_) => None,
     }
 }

@@ -10,7 +10,7 @@ pub mod laws;
 mod places;
 
 pub use answers::{Page, Refusal, etag_of, push_page, push_refusal};
-pub use asking::{Ask, Wish, asked, field_of};
+pub use asking::{Ask, Wish, asked};
 pub use figures::{Label, Metric, push_counter, push_gauge, push_histogram, push_sample};
 pub use kinds::{FIGURES_KIND, kind_of};
 pub use places::place_of;

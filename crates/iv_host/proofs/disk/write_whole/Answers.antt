@@ -17,3 +17,13 @@ returns-then-is_empty-clause-appended g c =
     let rest = c.loop.rest.now in
     let empty : rest ≡ [] = drop_of_length-le rest {i = 0} (search rules) in
     subst (Appends _ _) (sym (split ∙ ap (λ l. done ++ l) empty ∙ append-nil done)) appended
+
+pub returns-in-Ok-0-clause-torn : goal.returns-in-Ok-0-clause-torn
+returns-in-Ok-0-clause-torn g c =
+    let (done, split, appended) = c.loop.invariant in
+    front_grown _ _ _ _ done c.loop.rest.now 0 split appended c.in-Ok-0.ensures.bytes
+
+pub returns-clause-torn : goal.returns-clause-torn
+returns-clause-torn g c =
+    let (done, split, appended) = c.loop.invariant in
+    front_of _ _ _ done c.loop.rest.now split appended

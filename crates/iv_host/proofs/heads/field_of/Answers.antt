@@ -3,8 +3,8 @@ use Rattle.std.specs.Prelude.{Option}
 use Rattle.httparse.specs.declared.Status.TheVariants.{Complete, Partial}
 use Rattle.httparse.specs.Spans.{FindsRequest, IsRequestOf}
 use Rattle.iv_pages.specs.Asking.{most_fields}
-use Rattle.iv_pages.proofs.Heads.{field_found, head_found, no_field_bad, no_field_partial}
-use Rattle.iv_pages.proofs.asking.field_of.Goals as goal
+use Rattle.iv_host.proofs.Fields.{field_found, head_found, no_field_bad, no_field_partial}
+use Rattle.iv_host.proofs.heads.field_of.Goals as goal
 
 if_some_of : {X P : Type 0} (o : Option X) → P → IfSome o (λ _. P)
 if_some_of None p = tt

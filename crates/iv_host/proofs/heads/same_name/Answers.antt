@@ -1,7 +1,7 @@
 use Rattle.std.proofs.lemmas.Bool.Decides.{same_from_decides}
 use Rattle.std.proofs.lemmas.Slice.Eq.{bytes_eq-Decides}
 use Rattle.iv_pages.specs.Asking.{same_name}
-use Rattle.iv_host.proofs.admins.is_bearer.Goals as goal
+use Rattle.iv_host.proofs.heads.same_name.Goals as goal
 
 pub returns : goal.returns
 unfolding same_name
