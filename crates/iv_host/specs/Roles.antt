@@ -4,8 +4,11 @@ use Rattle.std.specs.declared.alloc.Global.{Global}
 use Rattle.iv_host.specs.Counts.{raised}
 use Rattle.iv_host.specs.Figures.{ByRole}
 
+abbrev pub role_of : String Global × ℕ → List ℕ × ℕ
+role_of r = (string_bytes r.0, r.1)
+
 abbrev pub by_role : List (String Global × ℕ) → ByRole
-by_role rs = map {U = List ℕ × ℕ} (λ r. (string_bytes r.0, r.1)) rs
+by_role rs = map role_of rs
 
 -- where a role stands first
 abbrev pub first_at : List ℕ → ByRole → Option ℕ

@@ -97,14 +97,19 @@ fn memory(rt: &HostRuntime) -> u64 {
 }
 
 /// Appends a counter that has no label.
-fn counter(out: &mut Vec<u8>, name: &str, help: &str, value: u64) -> Result<(), AllocError>
+fn counter<'a>(
+    out: &mut Vec<u8>,
+    name: &'a str,
+    help: &'a str,
+    value: u64,
+) -> Result<(), AllocError>
     ensures { OnOk result (out.new.items ≡ out.old.items ++ counter_text name.now help.now [] value) }
 {
     push_counter(out, &Metric { name, help }, &[], value)
 }
 
 /// Appends a gauge that has no label.
-fn gauge(out: &mut Vec<u8>, name: &str, help: &str, value: u64) -> Result<(), AllocError>
+fn gauge<'a>(out: &mut Vec<u8>, name: &'a str, help: &'a str, value: u64) -> Result<(), AllocError>
     ensures { OnOk result (out.new.items ≡ out.old.items ++ gauge_text name.now help.now [] value) }
 {
     push_gauge(out, &Metric { name, help }, &[], value)

@@ -43,11 +43,11 @@ fn contents(rt: &HostRuntime, folder: &str, place: &str) -> Option<Vec<u8>> {
 ///
 /// # Errors
 /// `AllocError` where a growth of memory was refused, as of each function here.
-pub fn answer(
+pub fn answer<'a>(
     rt: &HostRuntime,
     ask: &Ask<'_>,
-    kind: &str,
-    tag: Option<&[u8]>,
+    kind: &'a str,
+    tag: Option<&'a [u8]>,
     contents: &[u8],
 ) -> Result<Vec<u8>, AllocError>
     ensures { IfOk result (λ out. out.items ≡ answer_of (served kind.now (option_map (λ t. t.now) tag.entry) contents.now) (asked_by ask.now) contents.now) }
