@@ -120,7 +120,7 @@ export class Viewd {
     this.#on.state("connecting");
     const ws = this.#ws = new WebSocket(this.#url);
     ws.onopen = () => ws.send(this.#token);
-    ws.onmessage = ({data}) => this.#take(data.split("\n"));
+    ws.onmessage = ({data}) => this.#take(data.split("\n").filter((line) => line));
     ws.onclose = ({code, reason}) => this.#lost(code, reason);
   }
 

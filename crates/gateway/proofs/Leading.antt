@@ -1,0 +1,99 @@
+-- A call of a desk leads from a run to a run.
+use Rattle.std.specs.Prelude.{slice_set}
+use Rattle.std.proofs.Common.{◌≡◌, ℕ, Bool, true, false, cond, List, [], Some, refl, ap, ◌∙◌, sym}
+use Rattle.std.proofs.lemmas.Bool.{false≢true}
+use Rattle.iv_clients.specs.Clients.{Shown, is_free}
+use Rattle.iv_clients.specs.Tokens.{Token}
+use Rattle.iv_gate.specs.Events.{Event, failed, next}
+use Rattle.iv_gate.specs.Gate.{Gate}
+use Rattle.iv_gate.specs.Laws.{Marks, marks, marks_behind}
+use Rattle.iv_gate.specs.Restoring.{Restores, gate_at_start}
+use Rattle.iv_gate.specs.Runs.{Runs}
+use Rattle.iv_gate.specs.Runs as run
+use Rattle.iv_peer.specs.Socket.{fresh, passing, took}
+use Rattle.iv_desk.specs.Front.{Front, FrontRuns, Happens, at_socket, begins, begun, by_event, fails, front_at_start, goes_on, sends, socket_at, takes}
+use Rattle.iv_desk.specs.Desks.{IsCalledOut, IsDesk, IsHeard, IsHeardBy, IsRestored, at_each}
+use Rattle.iv_desk.specs.declared.desk.Desk.{Desk}
+use Rattle.iv_desk.specs.declared.place.Hearing.{Hearing}
+use Rattle.gateway.specs.Running.{IsNew, IsRunning, Leads}
+
+-- ---- one step
+
+step_on : (x y : Desk) (f : Front → Front) → ((d : Front) → d.gate.dead ≡ true → IsDesk d x → IsDesk d y)
+    → ((cap : ℕ) (d : Front) → FrontRuns cap d → d.gate.dead ≡ false → FrontRuns cap (f d)) → ((d : Front) → IsDesk d x → d.gate.dead ≡ false → IsDesk (f d) y) → Leads x y
+step_on x y f dead runs h = λ cap r. by cap r r.front.gate.dead refl
+  where
+    by : (cap : ℕ) (r : IsRunning cap x) (b : Bool) → r.front.gate.dead ≡ b → IsRunning cap y
+    by cap r true e = record { front = r.front; runs = r.runs; stands = dead r.front e r.stands }
+    by cap r false e = record { front = f r.front; runs = runs cap r.front r.runs e; stands = h r.front r.stands e }
+
+-- nothing but that it is dead is known of a dead one
+still_dead : (d e : Front) (x y : Desk) → d.gate.dead ≡ true → e.gate.dead ≡ d.gate.dead → IsDesk e y → IsDesk d y
+still_dead d e x y h same s = record { dead = s.dead ∙ same; alive = λ a. absurd (false≢true (sym a ∙ h)) }
+
+pub failed_on : (x y : Desk) → ((g : Gate) (e : Event) → g.dead ≡ true → next g e ≡ g) → ((d : Front) → IsDesk d x → IsDesk (by_event failed d) y) → Leads x y
+failed_on x y rests h = step_on x y (by_event failed)
+    (λ d e s. still_dead d (by_event failed d) x y e (ap (λ (g : Gate). g.dead) (rests d.gate failed e)) (h d s)) (λ cap d r e. goes_on d (by_event failed d) r e fails) (λ d s e. h d s)
+
+-- where a dead one would have failed
+pub done_on : (x y : Desk) (f : Front → Front) → ((d : Front) → IsDesk d x → d.gate.dead ≡ true → ⊥)
+    → ((cap : ℕ) (d : Front) → FrontRuns cap d → d.gate.dead ≡ false → FrontRuns cap (f d)) → ((d : Front) → IsDesk d x → IsDesk (f d) y) → Leads x y
+done_on x y f lives runs h = step_on x y f (λ d e s. absurd (lives d s e)) runs (λ d s e. h d s)
+
+pub passed_on : (m n : ℕ) (x y : Desk) → ((d : Front) → IsDesk d x → IsDesk (at_socket m (passing n) d) y) → Leads x y
+passed_on m n x y h = step_on x y (at_socket m (passing n)) (λ d e s. still_dead d (at_socket m (passing n) d) x y e refl (h d s)) (λ cap d r e. goes_on d (at_socket m (passing n) d) r e (sends m n)) (λ d s e. h d s)
+
+begun_dead : (d : Front) (m : ℕ) → (begun m d).gate.dead ≡ d.gate.dead
+begun_dead d m = by (is_free m d.sockets)
+  where
+    by : (b : Bool) → (cond b (record d { sockets = slice_set d.sockets m (Some fresh) }) d).gate.dead ≡ d.gate.dead
+    by true = refl
+    by false = refl
+
+pub begun_on : (m : ℕ) (x y : Desk) → ((d : Front) → IsDesk d x → IsDesk (begun m d) y) → Leads x y
+begun_on m x y h = step_on x y (begun m) (λ d e s. still_dead d (begun m d) x y e (begun_dead d m) (h d s)) (λ cap d r e. goes_on d (begun m d) r e (begins m)) (λ d s e. h d s)
+
+-- ---- more than one
+
+pub heard_on : ((cap m : ℕ) (d e : Front) (hearing : Hearing) → FrontRuns cap d → d.gate.dead ≡ false → IsHeardBy d m (socket_at d m) hearing e → FrontRuns cap e)
+    → (m : ℕ) (hearing : Hearing) (x y : Desk) (f : Front → Front) → ((d : Front) → IsDesk d x → d.gate.dead ≡ true → ⊥)
+    → ((cap : ℕ) (d : Front) → FrontRuns cap d → d.gate.dead ≡ false → FrontRuns cap (f d)) → ((d : Front) → (f d).gate.dead ≡ d.gate.dead)
+    → ((d : Front) → IsDesk d x → IsHeard (f d) m hearing y) → Leads x y
+heard_on law m hearing x y f lives runs same h = λ cap r. by cap r r.front.gate.dead refl
+  where
+    by : (cap : ℕ) (r : IsRunning cap x) (b : Bool) → r.front.gate.dead ≡ b → IsRunning cap y
+    by cap r true e = absurd (lives r.front r.stands e)
+    by cap r false e =
+        let w = h r.front r.stands in
+        record { front = w.now; runs = law cap m (f r.front) w.now hearing (runs cap r.front r.runs e) (same r.front ∙ e) w.heard; stands = w.stands }
+
+pub took_runs : (m : ℕ) (bytes : List ℕ) (cap : ℕ) (d : Front) → FrontRuns cap d → d.gate.dead ≡ false → FrontRuns cap (at_socket m (took bytes) d)
+took_runs m bytes cap d r e = goes_on d (at_socket m (took bytes) d) r e (takes m bytes)
+
+pub called_on : ((g : Gate) (e : Event) → g.dead ≡ false → marks (next g e) ≡ marks_behind g e)
+    → (f : ℕ → Front → Front) → ((cap : ℕ) (ms : List ℕ) (d : Front) → FrontRuns cap d → d.gate.dead ≡ false → FrontRuns cap (at_each f ms d))
+    → (e : Event) → ((g : Gate) → (marks_behind g e).dead ≡ g.dead) → ((d : Front) → Happens d (by_event e d))
+    → (x y : Desk) → ((d : Front) → IsDesk d x → d.gate.dead ≡ true → ⊥) → ((d : Front) → IsDesk d x → IsCalledOut f (by_event e d) y) → Leads x y
+called_on law f calls e same happens x y lives h = λ cap r. by cap r r.front.gate.dead refl
+  where
+    by : (cap : ℕ) (r : IsRunning cap x) (b : Bool) → r.front.gate.dead ≡ b → IsRunning cap y
+    by cap r true k = absurd (lives r.front r.stands k)
+    by cap r false k =
+        let w = h r.front r.stands in
+        record {
+          front = at_each f w.numbers (by_event e r.front);
+          runs = calls cap w.numbers (by_event e r.front) (goes_on r.front (by_event e r.front) r.runs k (happens r.front)) (ap (λ (z : Marks). z.dead) (law r.front.gate e k) ∙ (same r.front.gate ∙ k));
+          stands = w.stands;
+        }
+
+-- ---- it begins
+
+pub restored_on : ((cap most places : ℕ) (tokens : List Token) (sent : List Shown) (journal : List ℕ) (g : Gate) → Restores (gate_at_start cap tokens most sent) journal g → Runs cap g → FrontRuns cap (front_at_start g places))
+    → (cap : ℕ) (journal : List ℕ) (kept : ℕ) (x y : Desk) → IsNew cap x → ((d : Front) → IsDesk d x → IsRestored d journal kept y) → IsRunning cap y
+restored_on law cap journal kept x y new h =
+    let w = h (front_at_start (gate_at_start cap new.tokens new.most []) new.places) new.stands in
+    record {
+      front = front_at_start w.now new.places;
+      runs = law cap new.most new.places new.tokens [] journal w.now w.restores (run.begins new.tokens new.most journal w.now w.restores);
+      stands = w.stands;
+    }

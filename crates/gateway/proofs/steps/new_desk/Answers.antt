@@ -1,0 +1,11 @@
+use Rattle.std.proofs.Common.{[], refl}
+use Rattle.iv_gate.specs.Restoring.{gate_at_start}
+use Rattle.gateway.proofs.steps.new_desk.Goals as goal
+
+pub returns-in-Ok : goal.returns-in-Ok
+returns-in-Ok c = record {
+  tokens = c.args.tokens.items;
+  most = c.args.clients;
+  places = c.args.clients;
+  stands = c.in-Ok.ensures (gate_at_start c.args.rows c.args.tokens.items c.args.clients []) (c.in_ok-gateway.ensures c.args.rows c.in_ok-engine.ensures.start) refl;
+}

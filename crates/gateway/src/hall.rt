@@ -1,0 +1,297 @@
+//! `Hall`: the sockets by their numbers, which are the desk's and the poll's, and what a round does with them.
+ghost use Rattle.gateway.specs.Running.{Leads};
+
+use crate::fault::Fault;
+use crate::socket::{Socket, Stage};
+use crate::steps::settle;
+use iv_desk::Desk;
+use iv_host::{Admins, Counts, FileJournal, Log, Why, raise};
+use mio::event::Event;
+use mio::net::{TcpListener, TcpStream};
+use mio::{Events, Interest, Poll, Token};
+use std::alloc::{AllocError, Global};
+use std::io::ErrorKind;
+use std::net::SocketAddr;
+
+/// The poll's number of the listener.
+pub const LISTENER: Token = Token(usize::MAX);
+
+/// Connections that are accepted in a round, at most.
+const ACCEPTS: u32 = 256;
+
+/// Milliseconds from the first byte to the token, at most.
+const COMING: u64 = 10_000;
+
+/// Milliseconds in which a client takes something, where something waits for it.
+const TAKING: u64 = 30_000;
+
+/// The sockets by their numbers.
+#[derive(Drop)]
+pub struct Hall {
+    pub alloc: Global,
+    /// The numbers are below this.
+    pub most: u32,
+    /// A place for each number.
+    pub sockets: Vec<Option<Socket>>,
+    /// The numbers that no connection has.
+    pub free: Vec<u32>,
+    /// Those that are read in the next round.
+    pub to_read: Vec<u32>,
+    /// Those that are sent to first in this round.
+    pub asked: Vec<u32>,
+    /// Those that are let go at the end of this round.
+    pub gone: Vec<(u32, Why)>,
+    /// Somebody may wait to be accepted.
+    pub accepting: bool,
+    /// The next round is to come at once.
+    pub again: bool,
+    /// Milliseconds since the start.
+    pub now: u64,
+    pub log: Log,
+    pub counts: Counts,
+    pub admins: Admins,
+    pub pages: Option<String>,
+}
+
+/// How far the connection of a number is.
+#[derive(Clone, Copy, PartialEq, Eq)]
+pub enum Kind {
+    /// There is none.
+    Nobody,
+    /// The head of its request is read.
+    Head,
+    /// The desk has it.
+    Desk,
+    /// It is sent an answer.
+    Answer,
+    /// It is to be closed by the other end.
+    Ending,
+}
+
+impl Hall {
+    /// Places for as many.
+    ///
+    /// # Errors
+    /// `AllocError` where a growth of memory was refused.
+    pub fn new(
+        alloc: Global,
+        most: u32,
+        admins: Admins,
+        pages: Option<String>,
+    ) -> Result<Hall, AllocError> {
+        let mut sockets = Vec::new(alloc);
+        let mut free = Vec::new(alloc);
+        for at in 0..most {
+            sockets.push(None)?;
+            free.push(most - 1 - at)?;
+        }
+        Ok(Hall {
+            alloc,
+            most,
+            sockets,
+            free,
+            to_read: Vec::new(alloc),
+            asked: Vec::new(alloc),
+            gone: Vec::new(alloc),
+            accepting: false,
+            again: false,
+            now: 0,
+            log: Log::new(),
+            counts: Counts::new(),
+            admins,
+            pages,
+        })
+    }
+
+    /// Whether something is to be done before anything comes.
+    pub fn is_busy(&self) -> bool {
+        self.again
+    }
+
+    /// It is so late, in milliseconds since the start.
+    pub fn is_at(&mut self, now: u64) {
+        self.now = now;
+    }
+
+    /// The connection of a number, if there is one.
+    pub fn socket(&mut self, at: u32) -> Option<&mut Socket> {
+        match self.sockets.get_mut(at as usize) {
+            Some(Some(socket)) => Some(socket),
+            _ => None,
+        }
+    }
+
+    /// How far the connection of a number is.
+    pub fn kind(&self, at: u32) -> Kind {
+        match self.sockets.get(at as usize) {
+            Some(Some(socket)) => match &socket.stage {
+                Stage::Head(_) => Kind::Head,
+                Stage::Desk => Kind::Desk,
+                Stage::Answer(_, _) => Kind::Answer,
+                Stage::Ending => Kind::Ending,
+            },
+            _ => Kind::Nobody,
+        }
+    }
+
+    /// The socket of a number is read in this round.
+    pub fn list(&mut self, at: u32) -> Result<(), Fault> {
+        if let Some(socket) = self.socket(at) {
+            if !socket.listed {
+                socket.listed = true;
+                self.to_read.push(at)?;
+            }
+        }
+        Ok(())
+    }
+
+    /// A connection is to end.
+    pub fn go(&mut self, at: u32, why: Why) -> Result<(), Fault> {
+        self.gone.push((at, why))?;
+        Ok(())
+    }
+
+    /// What the poll tells of a number.
+    pub fn note(&mut self, event: &Event) -> Result<(), Fault> {
+        if event.token() == LISTENER {
+            self.accepting = true;
+            return Ok(());
+        }
+        let Ok(at) = u32::try_from(event.token().0) else {
+            return Ok(());
+        };
+        let is_readable = event.is_readable() || event.is_read_closed() || event.is_error();
+        if let Some(socket) = self.socket(at) {
+            if event.is_writable() {
+                socket.writable = true;
+            }
+            if is_readable {
+                socket.readable = true;
+            }
+        }
+        if is_readable {
+            self.list(at)?;
+        }
+        Ok(())
+    }
+
+    /// What the poll tells.
+    fn note_all(&mut self, events: &Events) -> Result<(), Fault> {
+        for event in events.iter() {
+            self.note(event)?;
+        }
+        Ok(())
+    }
+
+    /// A connection has a number, where one is free.
+    pub fn place(
+        &mut self,
+        rt: &HostRuntime,
+        poll: &Poll,
+        stream: TcpStream,
+        address: SocketAddr,
+    ) -> Result<(), Fault> {
+        let Some(at) = self.free.pop() else {
+            raise(&mut self.counts.no_room, 1);
+            if self.log.may_say(rt, self.now) {
+                let _ = eprintln!(rt; "gateway: no room for {address}");
+            }
+            return Ok(());
+        };
+        let mut stream = stream;
+        let _ = stream.set_nodelay(true);
+        let interest = Interest::READABLE | Interest::WRITABLE;
+        let is_registered = poll
+            .registry()
+            .register(&mut stream, Token(at as usize), interest)
+            .is_ok();
+        if !is_registered {
+            self.free.push(at)?;
+            return Ok(());
+        }
+        raise(&mut self.counts.accepted, 1);
+        let until = self.now.saturating_add(COMING);
+        if let Some(slot) = self.sockets.get_mut(at as usize) {
+            *slot = Some(Socket::new(self.alloc, stream, address, until));
+        }
+        Ok(())
+    }
+
+    /// Accepts who waits.
+    pub fn accept(
+        &mut self,
+        rt: &HostRuntime,
+        poll: &Poll,
+        listener: &TcpListener,
+    ) -> Result<(), Fault> {
+        if !self.accepting {
+            return Ok(());
+        }
+        for _ in 0..ACCEPTS {
+            match listener.accept() {
+                Ok((stream, address)) => self.place(rt, poll, stream, address)?,
+                Err(error) => {
+                    self.accepting = false;
+                    if error.kind() != ErrorKind::WouldBlock && self.log.may_say(rt, self.now) {
+                        let _ = eprintln!(rt;
+                            "gateway: a connection could not be accepted: {error}"
+                        );
+                    }
+                    return Ok(());
+                }
+            }
+        }
+        self.again = true;
+        Ok(())
+    }
+
+    /// Who is late, or has taken nothing for long, is to go.
+    pub fn look_at_clock(&mut self) -> Result<(), Fault> {
+        let now = self.now;
+        let mut at: u32 = 0;
+        for slot in self.sockets.iter() {
+            if let Some(socket) = slot {
+                let is_late = match socket.until {
+                    Some(until) => now > until,
+                    None => false,
+                };
+                let is_stuck = match socket.stuck {
+                    Some(since) => now > since.saturating_add(TAKING),
+                    None => false,
+                };
+                if is_late {
+                    self.gone.push((at, Why::Late))?;
+                } else if is_stuck {
+                    self.gone.push((at, Why::Stuck))?;
+                }
+            }
+            at = at.saturating_add(1);
+        }
+        self.accepting = true;
+        Ok(())
+    }
+
+    /// Takes in what the events bring, has the journal keep it, and then sends what may be sent.
+    ///
+    /// # Errors
+    /// `Memory` where a growth of memory was refused, `Journal` where the journal could not be written.
+    pub fn round(
+        &mut self,
+        rt: &HostRuntime,
+        desk: &mut Desk,
+        journal: &mut FileJournal,
+        poll: &Poll,
+        listener: &TcpListener,
+        events: &Events,
+    ) -> Result<(), Fault>
+        ensures { Leads desk.old desk.new }
+    {
+        self.again = false;
+        self.note_all(events)?;
+        self.accept(rt, poll, listener)?;
+        self.read_all(rt, desk, journal)?;
+        settle(desk, journal)?;
+        self.send_all(desk)?;
+        self.drop_all(rt, desk)
+    }
+}

@@ -1,0 +1,389 @@
+//! `work`: opens all that the settings name, brings the desk to where the journal leads, and serves.
+ghost use Rattle.std.specs.Prelude.{ℕ, OnOk};
+ghost use Rattle.iv_host.specs.Settings.{AreValid};
+ghost use Rattle.gateway.specs.Running.{IsNew, IsRunning, Leads};
+
+use crate::fault::Fault;
+use crate::hall::{Hall, LISTENER};
+use crate::steps::{know, new_desk, restore, tick};
+use iv_clients::{Token, TokensFault};
+use iv_desk::Desk;
+use iv_engine::Seed;
+use iv_gateway::RestoreFault;
+use iv_host::{Admins, FileJournal, OpenFault, Settings, TokenFault, TokenFile};
+use mio::net::TcpListener;
+use mio::{Events, Interest, Poll};
+use std::alloc::{AllocError, Global};
+use std::net::SocketAddr;
+use std::time::{Duration, Instant};
+
+/// The status where the journal, the tokens or a word is not usable.
+const UNUSABLE: u8 = 1;
+/// The status where the system refuses the network, or random bytes.
+const SYSTEM: u8 = 2;
+/// The status where memory is refused.
+const MEMORY: u8 = 3;
+
+/// Milliseconds between two lines that say that the gateway is there.
+const ALIVE: u64 = 20_000;
+
+/// Says why the program ends.
+fn out_of_memory(rt: &HostRuntime) -> u8 {
+    let _ = eprintln!(rt; "gateway: out of memory");
+    MEMORY
+}
+
+/// Says why a journal cannot be used.
+fn no_journal(rt: &HostRuntime, path: &str, fault: &OpenFault) -> u8 {
+    let _ = match fault {
+        OpenFault::Taken => eprintln!(rt; "gateway: another process writes {path}"),
+        OpenFault::System(error) => eprintln!(rt; "gateway: {path}: {error}"),
+    };
+    UNUSABLE
+}
+
+/// Says why a file of tokens is not taken.
+fn say_tokens(rt: &HostRuntime, fault: &TokenFault) {
+    let _ = match fault {
+        TokenFault::System(error) => eprintln!(rt; "gateway: the tokens: {error}"),
+        TokenFault::File(TokensFault::Memory) => eprintln!(rt;
+            "gateway: the tokens: out of memory"
+        ),
+        TokenFault::File(TokensFault::Line(line)) => {
+            eprintln!(rt; "gateway: the tokens: line {line} is no token")
+        }
+        TokenFault::File(TokensFault::Twice) => {
+            eprintln!(rt; "gateway: the tokens: one stands twice")
+        }
+        TokenFault::File(TokensFault::Empty) => eprintln!(rt;
+            "gateway: the tokens: there are none"
+        ),
+    };
+}
+
+/// Says why the gateway does no more.
+fn failed(rt: &HostRuntime, journal: &FileJournal, fault: Fault) -> u8 {
+    match fault {
+        Fault::Memory => out_of_memory(rt),
+        Fault::Journal => {
+            let _ = match journal.why() {
+                Some(error) => {
+                    eprintln!(rt;
+                        "gateway: the journal could not be written: {error}. Nobody was told of what it does not have"
+                    )
+                }
+                None => eprintln!(rt; "gateway: the journal could not be written"),
+            };
+            UNUSABLE
+        }
+        Fault::Desk => {
+            let _ = eprintln!(rt; "gateway: a number has two connections");
+            SYSTEM
+        }
+        Fault::System => {
+            let _ = eprintln!(rt; "gateway: the system has no clock, or does not tell of sockets");
+            SYSTEM
+        }
+    }
+}
+
+/// The milliseconds since a moment.
+fn since(rt: &HostRuntime, start: &Instant) -> u64 {
+    match start.elapsed(rt) {
+        Ok(time) => time
+            .as_secs()
+            .saturating_mul(1000)
+            .saturating_add(u64::from(time.subsec_millis())),
+        Err(_) => 0,
+    }
+}
+
+/// Since when the program serves, and what of that time was seen.
+#[derive(Drop)]
+struct Clock {
+    start: Instant,
+    /// The second that was looked at.
+    second: u64,
+    /// How often clients were told that the line is alive.
+    alive: u64,
+}
+
+/// Has the desk know the tokens of the file, where it has changed.
+fn look_at_tokens(
+    rt: &HostRuntime,
+    desk: &mut Desk,
+    hall: &mut Hall,
+    tokens: &mut TokenFile,
+) -> Result<(), Fault>
+    ensures { Leads desk.old desk.new }
+{
+    match tokens.changed(rt) {
+        Ok(None) => Ok(()),
+        Ok(Some(tokens)) => {
+            if tokens.is_empty() {
+                say_tokens(rt, &TokenFault::File(TokensFault::Empty));
+            }
+            hall.admins = Admins::among(rt.alloc(), &tokens)?;
+            know(desk, tokens)
+        }
+        Err(fault) => {
+            say_tokens(rt, &fault);
+            Ok(())
+        }
+    }
+}
+
+/// Looks at the tokens and at who is late, once a second.
+fn each_second(
+    rt: &HostRuntime,
+    desk: &mut Desk,
+    hall: &mut Hall,
+    tokens: &mut TokenFile,
+    clock: &mut Clock,
+) -> Result<(), Fault>
+    ensures { Leads desk.old desk.new }
+{
+    let second = hall.now / 1000;
+    if second == clock.second {
+        return Ok(());
+    }
+    clock.second = second;
+    look_at_tokens(rt, desk, hall, tokens)?;
+    hall.look_at_clock()
+}
+
+/// Tells all clients that the line is alive, when it is time.
+fn each_tick(desk: &mut Desk, hall: &Hall, clock: &mut Clock) -> Result<(), Fault>
+    ensures { Leads desk.old desk.new }
+{
+    let alive = hall.now / ALIVE;
+    if alive == clock.alive {
+        return Ok(());
+    }
+    clock.alive = alive;
+    tick(desk)
+}
+
+/// Waits until something comes, a second at most.
+fn wait(hall: &Hall, poll: &mut Poll, events: &mut Events) -> Result<(), Fault> {
+    let wait = if hall.is_busy() { 0 } else { 1000 };
+    match poll.poll(events, Some(Duration::from_millis(wait))) {
+        Ok(()) => Ok(()),
+        Err(_) => Err(Fault::System),
+    }
+}
+
+/// Serves until the journal or memory fails.
+fn serve(
+    rt: &HostRuntime,
+    desk: &mut Desk,
+    hall: &mut Hall,
+    journal: &mut FileJournal,
+    tokens: &mut TokenFile,
+    poll: &mut Poll,
+    listener: &TcpListener,
+) -> Result<(), Fault>
+    ensures { Leads desk.old desk.new }
+{
+    let Ok(start) = Instant::now(rt) else {
+        return Err(Fault::System);
+    };
+    let mut clock = Clock {
+        start,
+        second: 0,
+        alive: 0,
+    };
+    let mut events = Events::with_capacity(rt.alloc(), 1024)?;
+    'rounds: for _ in 0..u64::MAX {
+        wait(hall, poll, &mut events)?;
+        hall.is_at(since(rt, &clock.start));
+        each_second(rt, desk, hall, tokens, &mut clock)?;
+        each_tick(desk, hall, &mut clock)?;
+        hall.round(rt, desk, journal, poll, listener, &events)?;
+    }
+    Ok(())
+}
+
+/// The line of a journal, counted from 1, in which a byte stands.
+fn line_of(journal: &[u8], place: usize) -> usize {
+    journal
+        .iter()
+        .take(place)
+        .filter(|byte| **byte == b'\n')
+        .count()
+        .saturating_add(1)
+}
+
+/// Says how much of a journal is cut off.
+fn say_cut(rt: &HostRuntime, path: &str, count: usize) {
+    let _ = eprintln!(rt;
+        "gateway: cut {count} bytes off {path}, of an entry that was never acknowledged"
+    );
+}
+
+/// Says where a journal is damaged.
+fn say_damaged(rt: &HostRuntime, path: &str, bytes: &[u8], place: usize) {
+    let line = line_of(bytes, place);
+    let _ = eprintln!(rt;
+        "gateway: damaged: {path}: line {line}, at byte {place}, is no entry that is accepted"
+    );
+}
+
+/// Brings a new desk to where the journal leads, and has all of that on disk.
+fn come_back(
+    rt: &HostRuntime,
+    desk: &mut Desk,
+    path: &str,
+    journal: &mut FileJournal,
+    bytes: &[u8],
+) -> Result<(), u8>
+    ensures { OnOk result ((cap : ℕ) → IsNew cap desk.old → IsRunning cap desk.new) }
+{
+    match restore(desk, bytes) {
+        Ok(kept) => {
+            if kept < bytes.len() {
+                say_cut(rt, path, bytes.len() - kept);
+            }
+            match journal.begin(kept as u64) {
+                Ok(()) => Ok(()),
+                Err(error) => Err(no_journal(rt, path, &OpenFault::System(error))),
+            }
+        }
+        Err(RestoreFault::Damaged(place)) => {
+            say_damaged(rt, path, bytes, place);
+            Err(UNUSABLE)
+        }
+        Err(_) => Err(out_of_memory(rt)),
+    }
+}
+
+/// Says that the address cannot be listened on.
+fn no_address(rt: &HostRuntime, address: SocketAddr) -> u8 {
+    let _ = eprintln!(rt; "gateway: {address} cannot be listened on");
+    SYSTEM
+}
+
+/// A listener at an address that the poll tells of, if the system has that.
+fn listener_at(rt: &HostRuntime, address: SocketAddr, poll: &Poll) -> Option<TcpListener> {
+    let mut listener = TcpListener::bind(rt, address).ok()?;
+    match poll
+        .registry()
+        .register(&mut listener, LISTENER, Interest::READABLE)
+    {
+        Ok(()) => Some(listener),
+        Err(_) => None,
+    }
+}
+
+/// Listens, and serves.
+fn open(
+    rt: &HostRuntime,
+    desk: &mut Desk,
+    hall: &mut Hall,
+    settings: &Settings,
+    journal: &mut FileJournal,
+    tokens: &mut TokenFile,
+) -> Result<(), u8>
+    ensures { Leads desk.old desk.new }
+{
+    let address = SocketAddr::from((settings.host, settings.port));
+    let Ok(mut poll) = Poll::new(rt) else {
+        return Err(no_address(rt, address));
+    };
+    let Some(listener) = listener_at(rt, address, &poll) else {
+        return Err(no_address(rt, address));
+    };
+    let _ = eprintln!(rt; "gateway: listening on {address}");
+    match serve(rt, desk, hall, journal, tokens, &mut poll, &listener) {
+        Ok(()) => Ok(()),
+        Err(fault) => Err(failed(rt, journal, fault)),
+    }
+}
+
+/// Opens the journal, brings a new desk to where it leads, and serves.
+fn begin(
+    rt: &HostRuntime,
+    desk: &mut Desk,
+    hall: &mut Hall,
+    settings: &Settings,
+    tokens: &mut TokenFile,
+) -> Result<(), u8>
+    ensures { OnOk result ((cap : ℕ) → IsNew cap desk.old → IsRunning cap desk.new) }
+{
+    let path = settings.journal.as_str();
+    let seed = match &settings.seed {
+        Some(seed) => Some(seed.as_str()),
+        None => None,
+    };
+    match FileJournal::open(rt, path, seed) {
+        Err(fault) => Err(no_journal(rt, path, &fault)),
+        Ok((mut journal, bytes)) => {
+            come_back(rt, desk, path, &mut journal, &bytes)?;
+            drop(bytes);
+            open(rt, desk, hall, settings, &mut journal, tokens)
+        }
+    }
+}
+
+/// A copy of a text, if there is one.
+fn copied(text: &Option<String>) -> Result<Option<String>, AllocError> {
+    match text {
+        None => Ok(None),
+        Some(text) => Ok(Some(text.clone()?)),
+    }
+}
+
+/// The hall that the settings ask for.
+fn new_hall(alloc: Global, settings: &Settings, tokens: &[Token]) -> Result<Hall, AllocError> {
+    let admins = Admins::among(alloc, tokens)?;
+    let pages = copied(&settings.pages)?;
+    Hall::new(alloc, settings.clients, admins, pages)
+}
+
+/// Opens the file of tokens, or says why it is not taken.
+fn open_tokens(rt: &HostRuntime, path: String) -> Result<(TokenFile, Vec<Token>), u8> {
+    match TokenFile::open(rt, path) {
+        Ok(opened) => Ok(opened),
+        Err(fault) => {
+            say_tokens(rt, &fault);
+            Err(UNUSABLE)
+        }
+    }
+}
+
+/// Serves over a new desk, with these tokens.
+fn serve_anew(
+    rt: &HostRuntime,
+    settings: &Settings,
+    file: &mut TokenFile,
+    tokens: Vec<Token>,
+) -> Result<(), u8>
+    requires { AreValid settings.now }
+{
+    let Ok(seed) = Seed::random(rt) else {
+        let _ = eprintln!(rt; "gateway: no random bytes");
+        return Err(SYSTEM);
+    };
+    let alloc = rt.alloc();
+    let Ok(mut hall) = new_hall(alloc, settings, &tokens) else {
+        return Err(out_of_memory(rt));
+    };
+    match new_desk(alloc, seed, settings.rows, settings.clients, tokens) {
+        Err(_) => Err(out_of_memory(rt)),
+        Ok(mut desk) => begin(rt, &mut desk, &mut hall, settings, file),
+    }
+}
+
+/// Serves as the settings say.
+///
+/// # Errors
+/// The status to exit with, once it was said why.
+pub fn work(rt: &HostRuntime, settings: &Settings) -> Result<(), u8>
+    requires { AreValid settings.now }
+{
+    let Ok(path) = settings.tokens.clone() else {
+        return Err(out_of_memory(rt));
+    };
+    let (mut file, tokens) = open_tokens(rt, path)?;
+    serve_anew(rt, settings, &mut file, tokens)
+}

@@ -1,0 +1,5 @@
+pub mod Adding
+pub mod Answered
+pub mod Fields
+pub mod Known
+pub mod Roles

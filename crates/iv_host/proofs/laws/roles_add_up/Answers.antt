@@ -1,0 +1,5 @@
+use Rattle.iv_host.proofs.Adding.{adds_up}
+use Rattle.iv_host.proofs.laws.roles_add_up.Goals as goal
+
+pub returns : goal.returns
+returns c = adds_up

@@ -1,0 +1,7 @@
+pub mod Admins
+pub mod Counts
+pub mod Disk
+pub mod Figures
+pub mod Pages
+pub mod Roles
+pub mod Settings

@@ -1,0 +1,299 @@
+//! `asked_for`: the words after the program's name as settings, with help, version and errors.
+//!
+//! Ranges alone are promised. Which words give which settings is shown by tests.
+ghost use Rattle.std.specs.Prelude.{◌≤◌, IfOk, IfSome};
+ghost use Rattle.iv_rows.specs.RowLimit.{IsRowLimit};
+ghost use Rattle.iv_host.specs.Settings.{AreValid};
+
+use clap::error::ErrorKind;
+use clap::{Arg, ArgMatches, Command, Error, value_parser};
+use std::alloc::{AllocError, Global};
+use std::net::{IpAddr, Ipv4Addr};
+use std::process::ExitCode;
+use std::{env, io};
+
+/// The program's version.
+const VERSION: &str = "0.1.0";
+
+/// What the program is asked to do.
+#[derive(Debug, Drop)]
+pub struct Settings {
+    /// The address that is listened on.
+    pub host: IpAddr,
+    /// The port that is listened on.
+    pub port: u16,
+    /// The file of accepted requests.
+    pub journal: String,
+    /// The file of tokens.
+    pub tokens: String,
+    /// The folder of pages, if there are any.
+    pub pages: Option<String>,
+    /// The file that a journal begins with that is missing.
+    pub seed: Option<String>,
+    /// The number of different rows at most of a table, and of each step of a view that is read.
+    pub rows: u32,
+    /// The number of sockets at most.
+    pub clients: u32,
+}
+
+/// An option that takes a text.
+fn text<'a>(alloc: Global, name: &'a str, value: &'a str, help: &'a str) -> Arg<'a> {
+    Arg::new(alloc, name)
+        .long(name)
+        .value_name(value)
+        .help(help)
+}
+
+/// The option `--port`, with its range and its default.
+fn port<'a>(alloc: Global) -> Arg<'a> {
+    text(alloc, "port", "P", "The port")
+        .value_parser(value_parser!(u16).range(1..))
+        .default_value("8080")
+}
+
+/// The option `--rows`, with its range and its default.
+fn rows<'a>(alloc: Global) -> Arg<'a> {
+    text(
+        alloc,
+        "rows",
+        "N",
+        "The number of different rows at most of a table, and of each step of a view that is read",
+    )
+    .value_parser(value_parser!(u32).range(1_024..=1_048_576))
+    .default_value("65536")
+}
+
+/// The option `--clients`, with its range and its default.
+fn clients<'a>(alloc: Global) -> Arg<'a> {
+    text(alloc, "clients", "N", "The number of sockets at most")
+        .value_parser(value_parser!(u32).range(1..=1_000_000))
+        .default_value("10000")
+}
+
+/// Adds the options of the network and of sizes.
+fn with_numbers<'a>(alloc: Global, command: Command<'a>) -> Result<Command<'a>, AllocError> {
+    let host = text(alloc, "host", "ADDRESS", "The address").default_value("127.0.0.1");
+    command
+        .arg(port(alloc))?
+        .arg(host)?
+        .arg(rows(alloc))?
+        .arg(clients(alloc))
+}
+
+/// Adds the options of files.
+fn with_files<'a>(alloc: Global, command: Command<'a>) -> Result<Command<'a>, AllocError> {
+    let journal = text(
+        alloc,
+        "journal",
+        "FILE",
+        "The accepted requests. It is made where it is missing",
+    );
+    let tokens = text(
+        alloc,
+        "tokens",
+        "FILE",
+        "A line for each token: its SHA-256, and its role",
+    );
+    command
+        .arg(journal.required(true))?
+        .arg(tokens.required(true))?
+        .arg(text(alloc, "pages", "FOLDER", "Pages for browsers"))?
+        .arg(text(
+            alloc,
+            "seed",
+            "FILE",
+            "What a journal begins with that is missing",
+        ))
+}
+
+/// The command, by which clap reads the words.
+fn command<'a>(alloc: Global) -> Result<Command<'a>, AllocError> {
+    let command = Command::new(alloc, "gateway")
+        .version(VERSION)
+        .about("Serves browsers by WebSocket, with a journal")
+        .no_binary_name(true);
+    let command = with_files(alloc, command)?;
+    with_numbers(alloc, command)
+}
+
+/// The port of the matched words, if it is from 1 on.
+fn port_of(matches: &ArgMatches<'_>) -> Option<u16>
+    ensures { IfSome result (λ n. 1 ≤ n) }
+{
+    let port = matches.get_one::<u16>("port")?;
+    if port >= 1 { Some(port) } else { None }
+}
+
+/// The rows of the matched words, if they are in the range of a row limit.
+fn rows_of(matches: &ArgMatches<'_>) -> Option<u32>
+    ensures { IfSome result IsRowLimit }
+{
+    let rows = matches.get_one::<u32>("rows")?;
+    if rows >= 1_024 && rows <= 1_048_576 {
+        Some(rows)
+    } else {
+        None
+    }
+}
+
+/// The sockets of the matched words, if they are from 1 to 1,000,000.
+fn clients_of(matches: &ArgMatches<'_>) -> Option<u32>
+    ensures { IfSome result (λ n. (1 ≤ n) × (n ≤ 1000000)) }
+{
+    let clients = matches.get_one::<u32>("clients")?;
+    if clients >= 1 && clients <= 1_000_000 {
+        Some(clients)
+    } else {
+        None
+    }
+}
+
+/// The address of the matched words, if it is one.
+fn host_of(matches: &ArgMatches<'_>) -> Option<IpAddr> {
+    match matches.get_str("host") {
+        None => Some(IpAddr::V4(Ipv4Addr::LOCALHOST)),
+        Some(text) => match text.parse::<IpAddr>() {
+            Ok(host) => Some(host),
+            Err(_) => None,
+        },
+    }
+}
+
+/// The text of an option, if it has one.
+fn text_of(
+    alloc: Global,
+    matches: &ArgMatches<'_>,
+    name: &str,
+) -> Result<Option<String>, AllocError> {
+    match matches.get_str(name) {
+        None => Ok(None),
+        Some(text) => Ok(Some(String::from_str(alloc, text)?)),
+    }
+}
+
+/// The numbers of settings.
+#[derive(Clone, Copy)]
+struct Numbers {
+    host: IpAddr,
+    port: u16,
+    rows: u32,
+    clients: u32,
+}
+
+/// The numbers of the matched words, if each is in its range.
+fn numbers_of(matches: &ArgMatches<'_>) -> Option<Numbers>
+    ensures { IfSome result (λ n. (1 ≤ n.port) × IsRowLimit n.rows × (1 ≤ n.clients) × (n.clients ≤ 1000000)) }
+{
+    let host = host_of(matches)?;
+    let port = port_of(matches)?;
+    let rows = rows_of(matches)?;
+    let clients = clients_of(matches)?;
+    Some(Numbers {
+        host,
+        port,
+        rows,
+        clients,
+    })
+}
+
+/// The settings that the matched words ask for; none where a number or the address is not valid.
+fn found(alloc: Global, matches: &ArgMatches<'_>) -> Result<Option<Settings>, AllocError>
+    ensures { IfOk result (λ o. IfSome o AreValid) }
+{
+    let Some(numbers) = numbers_of(matches) else {
+        return Ok(None);
+    };
+    let (Some(journal), Some(tokens)) = (
+        text_of(alloc, matches, "journal")?,
+        text_of(alloc, matches, "tokens")?,
+    ) else {
+        return Ok(None);
+    };
+    Ok(Some(Settings {
+        host: numbers.host,
+        port: numbers.port,
+        journal,
+        tokens,
+        pages: text_of(alloc, matches, "pages")?,
+        seed: text_of(alloc, matches, "seed")?,
+        rows: numbers.rows,
+        clients: numbers.clients,
+    }))
+}
+
+/// The words as clap matches them, or its error.
+fn matches<'a>(alloc: Global, words: &'a [&'a str]) -> Result<ArgMatches<'a>, Error> {
+    let mut command = command(alloc)?;
+    let matches = command.try_get_matches_from_mut(words);
+    drop(command);
+    matches
+}
+
+/// The error of clap that a word of the command line is not valid, and why.
+fn invalid(alloc: Global, why: &str) -> Error {
+    match command(alloc) {
+        Ok(mut command) => {
+            let error = command.error(ErrorKind::InvalidValue, why);
+            drop(command);
+            match error {
+                Ok(error) => error,
+                Err(refused) => Error::from(refused),
+            }
+        }
+        Err(refused) => Error::from(refused),
+    }
+}
+
+/// The words after the program's name as settings.
+fn settings_in<'a>(alloc: Global, words: &'a [&'a str]) -> Result<Settings, Error>
+    ensures { IfOk result AreValid }
+{
+    let matches = matches(alloc, words)?;
+    let found = found(alloc, &matches);
+    drop(matches);
+    match found {
+        Ok(Some(settings)) => Ok(settings),
+        Ok(None) => Err(invalid(alloc, "an option is not valid")),
+        Err(refused) => Err(Error::from(refused)),
+    }
+}
+
+/// All words of the command line, the program's name first.
+fn read_words(rt: &HostRuntime) -> Result<Vec<String>, Error> {
+    let alloc = rt.alloc();
+    match env::args(rt) {
+        Ok(all) => Ok(all.collect(alloc)?),
+        Err(error) => {
+            if error.kind() == io::ErrorKind::OutOfMemory {
+                return Err(Error::from(AllocError));
+            }
+            Err(invalid(alloc, "an argument is not text"))
+        }
+    }
+}
+
+/// What the words of the command line ask for, or the status to exit with once the text of the error is printed.
+pub fn asked_for(rt: &HostRuntime) -> Result<Settings, ExitCode>
+    ensures { IfOk result AreValid }
+{
+    let alloc = rt.alloc();
+    let error = match read_words(rt) {
+        Ok(all) => match all.iter().skip(1).map(|word| word.as_str()).collect(alloc) {
+            Ok(words) => {
+                let words: Vec<&str> = words;
+                match settings_in(alloc, words.as_slice()) {
+                    Ok(settings) => return Ok(settings),
+                    Err(error) => error,
+                }
+            }
+            Err(AllocError) => Error::from(AllocError),
+        },
+        Err(error) => error,
+    };
+    let _ = error.print(rt);
+    Err(if error.use_stderr() {
+        ExitCode::FAILURE
+    } else {
+        ExitCode::SUCCESS
+    })
+}

@@ -1,0 +1,343 @@
+//! `figures_now`, `state_now`: what the program tells of itself, as Prometheus reads it, and as JSON.
+ghost use Rattle.std.specs.Prelude.{◌≡◌, ◌++◌, [], OnOk, codes, flat_map};
+ghost use Rattle.iv_pages.specs.Figures.{counter_text, gauge_text, sample_line};
+ghost use Rattle.iv_host.specs.Figures.{bytes_text, came_text, clients_in, clients_line, clients_text, counts_text, ends_text, one_more, why_label};
+ghost use Rattle.iv_host.specs.Roles.{by_role, first_at, more_at};
+
+use crate::counts::{BOUNDS, Counts, raise};
+use crate::journal::{FileJournal, Syncs};
+use iv_pages::{Label, Metric, push_counter, push_gauge, push_histogram, push_sample};
+use std::alloc::{AllocError, Global};
+use std::fs;
+
+/// What stands at a moment.
+#[derive(Drop)]
+pub struct Now {
+    /// Sockets that are open.
+    pub sockets: u64,
+    /// Clients by their roles.
+    pub roles: Vec<(String, u64)>,
+    /// Bytes that wait for sockets to take them.
+    pub pending: u64,
+    /// Milliseconds since the start.
+    pub time: u64,
+}
+
+/// Where a role stands first.
+fn first_at(roles: &[(String, u64)], role: &str) -> Option<usize>
+    ensures { result ≡ first_at role.now (by_role roles.now) }
+{
+    for at in 0..roles.len() {
+        if roles[at].0.as_str() == role {
+            return Some(at);
+        }
+    }
+    None
+}
+
+/// Counts one client more of the role at a place.
+fn count_at(roles: &mut Vec<(String, u64)>, at: usize)
+    ensures { by_role roles.new.items ≡ more_at at (by_role roles.old.items) }
+{
+    match roles.get_mut(at) {
+        None => {}
+        Some(one) => raise(&mut one.1, 1),
+    }
+}
+
+/// How many clients there are.
+fn clients_in(roles: &[(String, u64)]) -> u64
+    ensures { result ≡ clients_in (by_role roles.now) }
+{
+    let mut clients = 0;
+    for one in roles {
+        raise(&mut clients, one.1);
+    }
+    clients
+}
+
+impl Now {
+    /// Counts a client of a role.
+    ///
+    /// # Errors
+    /// `AllocError` where a growth of memory was refused.
+    pub fn count(&mut self, role: &str) -> Result<(), AllocError>
+        ensures { OnOk result (by_role self.new.roles.items ≡ one_more role.now (by_role self.old.roles.items)) }
+    {
+        match first_at(&self.roles, role) {
+            Some(at) => {
+                count_at(&mut self.roles, at);
+                Ok(())
+            }
+            None => {
+                let name = String::from_str(*self.roles.allocator(), role)?;
+                self.roles.push((name, 1))?;
+                Ok(())
+            }
+        }
+    }
+}
+
+/// Bytes of memory that the process has.
+fn memory(rt: &HostRuntime) -> u64 {
+    let Ok(text) = fs::read_to_string(rt, "/proc/self/statm") else {
+        return 0;
+    };
+    let Some((_, rest)) = text.as_str().split_once(' ') else {
+        return 0;
+    };
+    let pages = match rest.split_once(' ') {
+        None => rest,
+        Some((pages, _)) => pages,
+    };
+    match pages.parse::<u64>() {
+        Ok(pages) => pages.saturating_mul(4096),
+        Err(_) => 0,
+    }
+}
+
+/// Appends a counter that has no label.
+fn counter<'a>(
+    out: &mut Vec<u8>,
+    name: &'a str,
+    help: &'a str,
+    value: u64,
+) -> Result<(), AllocError>
+    ensures { OnOk result (out.new.items ≡ out.old.items ++ counter_text name.now help.now [] value) }
+{
+    push_counter(out, &Metric { name, help }, &[], value)
+}
+
+/// Appends a gauge that has no label.
+fn gauge<'a>(out: &mut Vec<u8>, name: &'a str, help: &'a str, value: u64) -> Result<(), AllocError>
+    ensures { OnOk result (out.new.items ≡ out.old.items ++ gauge_text name.now help.now [] value) }
+{
+    push_gauge(out, &Metric { name, help }, &[], value)
+}
+
+/// Appends how many connections came.
+fn push_came(out: &mut Vec<u8>, counts: &Counts) -> Result<(), AllocError>
+    ensures { OnOk result (out.new.items ≡ out.old.items ++ came_text counts.now) }
+{
+    counter(
+        out,
+        "gateway_accepted_total",
+        "Connections that were accepted",
+        counts.accepted,
+    )?;
+    counter(
+        out,
+        "gateway_no_room_total",
+        "Connections for which there was no room",
+        counts.no_room,
+    )?;
+    counter(
+        out,
+        "gateway_came_total",
+        "Clients who came in",
+        counts.came,
+    )?;
+    counter(
+        out,
+        "gateway_refused_total",
+        "Connections at which no token was known",
+        counts.refused,
+    )?;
+    Ok(())
+}
+
+/// Appends what was asked, read and sent.
+fn push_bytes(out: &mut Vec<u8>, counts: &Counts) -> Result<(), AllocError>
+    ensures { OnOk result (out.new.items ≡ out.old.items ++ bytes_text counts.now) }
+{
+    counter(
+        out,
+        "gateway_asked_total",
+        "Requests that asked for no WebSocket",
+        counts.asked,
+    )?;
+    counter(
+        out,
+        "gateway_read_bytes_total",
+        "Bytes that were read of clients",
+        counts.read,
+    )?;
+    counter(
+        out,
+        "gateway_sent_bytes_total",
+        "Bytes that clients' sockets took",
+        counts.sent,
+    )?;
+    Ok(())
+}
+
+/// Appends how many connections ended by a further cause.
+fn push_end(out: &mut Vec<u8>, why: &str, count: u64) -> Result<(), AllocError>
+    ensures { OnOk result (out.new.items ≡ out.old.items ++ sample_line (codes "gateway_ends_total") (why_label why.now) count) }
+{
+    push_sample(
+        out,
+        "gateway_ends_total",
+        &[Label {
+            name: "why",
+            value: why,
+        }],
+        count,
+    )
+}
+
+/// Appends how connections ended.
+fn push_ends(out: &mut Vec<u8>, counts: &Counts) -> Result<(), AllocError>
+    ensures { OnOk result (out.new.items ≡ out.old.items ++ ends_text counts.now) }
+{
+    let metric = Metric {
+        name: "gateway_ends_total",
+        help: "Connections that ended, by why",
+    };
+    let closed = [Label {
+        name: "why",
+        value: "closed",
+    }];
+    push_counter(out, &metric, &closed, counts.closed)?;
+    push_end(out, "late", counts.late)?;
+    push_end(out, "stuck", counts.stuck)?;
+    push_end(out, "told", counts.told)?;
+    Ok(())
+}
+
+/// Appends what is counted of connections.
+fn push_counts(out: &mut Vec<u8>, counts: &Counts) -> Result<(), AllocError>
+    ensures { OnOk result (out.new.items ≡ out.old.items ++ counts_text counts.now) }
+{
+    push_came(out, counts)?;
+    push_bytes(out, counts)?;
+    push_ends(out, counts)?;
+    Ok(())
+}
+
+/// Bounds of times of syncs, each with how many syncs took at most so long.
+fn buckets_of(alloc: Global, syncs: &Syncs) -> Result<Vec<(u64, u64)>, AllocError> {
+    let mut buckets = Vec::new(alloc);
+    for at in 0..7 {
+        buckets.push((BOUNDS[at], syncs.within[at]))?;
+    }
+    Ok(buckets)
+}
+
+/// Appends what is counted of the journal.
+fn push_journal(out: &mut Vec<u8>, journal: &FileJournal) -> Result<(), AllocError> {
+    counter(
+        out,
+        "gateway_journal_entries_total",
+        "Entries of the journal",
+        journal.entries(),
+    )?;
+    gauge(
+        out,
+        "gateway_journal_bytes",
+        "Bytes of the journal",
+        journal.len(),
+    )?;
+    let syncs = journal.syncs();
+    let buckets = buckets_of(*out.allocator(), syncs)?;
+    let metric = Metric {
+        name: "gateway_sync_microseconds",
+        help: "Time of a write and sync of the journal",
+    };
+    push_histogram(out, &metric, &[], &buckets, syncs.count, syncs.time)
+}
+
+/// Appends how many clients further roles have.
+fn push_further(out: &mut Vec<u8>, roles: &[(String, u64)]) -> Result<(), AllocError>
+    ensures { OnOk result (out.new.items ≡ out.old.items ++ flat_map clients_line (by_role roles.now)) }
+{
+    for one in roles {
+        let labels = [Label {
+            name: "role",
+            value: one.0.as_str(),
+        }];
+        push_sample(out, "gateway_clients", &labels, one.1)?;
+    }
+    Ok(())
+}
+
+/// Appends who is there.
+fn push_clients(out: &mut Vec<u8>, roles: &[(String, u64)]) -> Result<(), AllocError>
+    ensures { OnOk result (out.new.items ≡ out.old.items ++ clients_text (by_role roles.now)) }
+{
+    let [first, rest @ ..] = roles else {
+        return Ok(());
+    };
+    let metric = Metric {
+        name: "gateway_clients",
+        help: "Clients who are there, by role",
+    };
+    let labels = [Label {
+        name: "role",
+        value: first.0.as_str(),
+    }];
+    push_gauge(out, &metric, &labels, first.1)?;
+    push_further(out, rest)?;
+    Ok(())
+}
+
+/// What the program tells of itself, as Prometheus reads it.
+///
+/// # Errors
+/// `AllocError` where a growth of memory was refused.
+pub fn figures_now(
+    rt: &HostRuntime,
+    counts: &Counts,
+    journal: &FileJournal,
+    now: &Now,
+) -> Result<Vec<u8>, AllocError> {
+    let mut out = Vec::new(rt.alloc());
+    push_counts(&mut out, counts)?;
+    push_journal(&mut out, journal)?;
+    push_clients(&mut out, &now.roles)?;
+    gauge(
+        &mut out,
+        "gateway_sockets",
+        "Sockets that are open",
+        now.sockets,
+    )?;
+    gauge(
+        &mut out,
+        "gateway_pending_bytes",
+        "Bytes that wait for sockets to take them",
+        now.pending,
+    )?;
+    gauge(
+        &mut out,
+        "gateway_uptime_seconds",
+        "Seconds since the start",
+        now.time / 1000,
+    )?;
+    gauge(
+        &mut out,
+        "gateway_memory_bytes",
+        "Bytes of memory that the process has",
+        memory(rt),
+    )?;
+    Ok(out)
+}
+
+/// What administrators are told.
+///
+/// # Errors
+/// As of `figures_now`.
+pub fn state_now(
+    rt: &HostRuntime,
+    counts: &Counts,
+    journal: &FileJournal,
+    now: &Now,
+) -> Result<String, AllocError> {
+    let clients = clients_in(&now.roles);
+    let sockets = now.sockets;
+    let dropped = counts.stuck.saturating_add(counts.told);
+    let entries = journal.entries();
+    let bytes = journal.len();
+    format!(in rt.alloc();
+        "{{\"ready\":true,\"sockets\":{sockets},\"clients\":{clients},\"dropped\":{dropped},\"journal\":{entries},\"bytes\":{bytes}}}\n"
+    )
+}

@@ -1,0 +1,24 @@
+//! What a gateway has of its host: its words, its journal and tokens as files, pages, what it logs and counts.
+#![tactic(auto)]
+
+mod admins;
+mod arguments;
+mod counts;
+mod disk;
+mod figures;
+mod heads;
+mod journal;
+pub mod laws;
+mod log;
+mod pages;
+mod tokens;
+
+pub use admins::{ADMIN, Admins};
+pub use arguments::{Settings, asked_for};
+pub use counts::{BOUNDS, Counts, Why, raise};
+pub use disk::{Disk, put};
+pub use figures::{Now, figures_now, state_now};
+pub use journal::{DiskJournal, FileJournal, OpenFault, Syncs};
+pub use log::Log;
+pub use pages::{answer, page_in, refusal};
+pub use tokens::{TokenFault, TokenFile};

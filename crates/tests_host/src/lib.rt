@@ -1,0 +1,7 @@
+//! Tests of iv_host by its public calls: a journal's bytes on disks that fail, who may ask for figures, answers, and counts.
+#![tactic(auto)]
+
+#[cfg(test)]
+mod answering;
+#[cfg(test)]
+mod disks;

@@ -1,0 +1,298 @@
+"""A client of a gateway that is written from RFC 6455 and docs/PROTOCOL.md alone: a socket, frames, and lines.
+
+It can say what no browser would: frames without masks, of reserved kinds, cut anywhere; heads that do not end; and it can leave unread
+what it is told."""
+import base64
+import hashlib
+import json
+import os
+import pathlib
+import random
+import select
+import signal
+import socket
+import struct
+import subprocess
+import tempfile
+import time
+import urllib.error
+import urllib.request
+
+TOP = pathlib.Path(__file__).resolve().parent.parent.parent
+PROGRAM = pathlib.Path(os.environ.get("GATEWAY", TOP / "crates/gateway/out/gateway")).resolve()
+PATIENCE = float(os.environ.get("PATIENCE", 60))  # seconds for anything that has to come
+GUID = b"258EAFA5-E914-47DA-95CA-C5AB0DC85B11"
+TEXT, BINARY, CLOSE, PING, PONG = 1, 2, 8, 9, 10
+
+
+def frame(payload: bytes, kind: int = TEXT, final: bool = True, reserved: int = 0, mask: bytes | None = b"\0\0\0\0") -> bytes:
+    """A frame of a client (RFC 6455, 5.2). A mask of zeros leaves the bytes as they are; none at all is an error."""
+    head = bytes([(0x80 if final else 0) | reserved << 4 | kind])
+    bit, size = (0 if mask is None else 0x80), len(payload)
+    if size < 126:
+        head += bytes([bit | size])
+    elif size < 1 << 16:
+        head += bytes([bit | 126]) + struct.pack("!H", size)
+    else:
+        head += bytes([bit | 127]) + struct.pack("!Q", size)
+    if mask is None:
+        return head + payload
+    if mask != b"\0\0\0\0":
+        long = (mask * (size // 4 + 1))[:size]
+        payload = (int.from_bytes(payload, "big") ^ int.from_bytes(long, "big")).to_bytes(size, "big")
+    return head + mask + payload
+
+
+def masked(payload: bytes, kind: int = TEXT) -> bytes:
+    return frame(payload, kind, mask=os.urandom(4))
+
+
+def request(path: str = "/live", key: bytes | None = None, more: str = "") -> bytes:
+    key = key or base64.b64encode(os.urandom(16))
+    return (f"GET {path} HTTP/1.1\r\nHost: localhost\r\nUpgrade: websocket\r\nConnection: Upgrade\r\n"
+            f"Sec-WebSocket-Version: 13\r\nSec-WebSocket-Key: {key.decode()}\r\n{more}\r\n").encode()
+
+
+class Ended(Exception):
+    """The connection ended, by a close with a code, or without one."""
+
+
+class Wire:
+    """A connection. `lines` are those that were read and not taken yet."""
+
+    def __init__(self, port: int, token: str | None = None, receive: int | None = None, open_it: bool = True):
+        self.socket = socket.socket()
+        if receive:
+            self.socket.setsockopt(socket.SOL_SOCKET, socket.SO_RCVBUF, receive)
+        self.socket.settimeout(PATIENCE)
+        self.socket.connect(("127.0.0.1", port))
+        self.socket.setsockopt(socket.IPPROTO_TCP, socket.TCP_NODELAY, 1)
+        self.input, self.lines, self.code, self.words, self.kinds, self.messages = b"", [], None, b"", [], 0
+        if open_it:
+            self.open()
+        if token is not None:
+            self.say(token)
+
+    def open(self) -> None:
+        key = base64.b64encode(os.urandom(16))
+        self.socket.sendall(request(key=key))
+        while b"\r\n\r\n" not in self.input:
+            self.more()
+        head, self.input = self.input.split(b"\r\n\r\n", 1)
+        lines = head.split(b"\r\n")
+        assert lines[0] == b"HTTP/1.1 101 Switching Protocols", head
+        fields = {name.strip().lower(): value.strip() for name, _, value in (line.partition(b":") for line in lines[1:])}
+        assert fields[b"sec-websocket-accept"] == base64.b64encode(hashlib.sha1(key + GUID).digest()), head
+
+    def more(self, seconds: float = PATIENCE) -> None:
+        """Waits for bytes. Raises Ended, and TimeoutError."""
+        if not select.select([self.socket], [], [], seconds)[0]:
+            raise TimeoutError(f"nothing came; {self.lines[-3:]}")
+        try:
+            got = self.socket.recv(1 << 18)
+        except ConnectionError:
+            got = b""
+        if not got:
+            raise Ended(self.code)
+        self.input += got
+
+    def send(self, data: bytes) -> None:
+        self.socket.sendall(data)
+
+    def say(self, message: str | bytes | dict) -> None:
+        """A message, in one frame."""
+        if isinstance(message, dict):
+            message = json.dumps(message, separators=(",", ":"))
+        self.send(masked(message.encode() if isinstance(message, str) else message))
+
+    def frames(self) -> list[tuple[int, bytes]]:
+        """The whole frames that were read: no server's has a mask, a reserved bit, or is a part."""
+        found = []
+        while len(self.input) >= 2:
+            first, size = self.input[0], self.input[1]
+            assert first & 0x70 == 0 and first & 0x80 and size < 128, self.input[:20]
+            at = 2
+            if size == 126:
+                if len(self.input) < 4:
+                    break
+                size, at = struct.unpack("!H", self.input[2:4])[0], 4
+                assert size >= 126
+            elif size == 127:
+                if len(self.input) < 10:
+                    break
+                size, at = struct.unpack("!Q", self.input[2:10])[0], 10
+                assert size >= 1 << 16
+            if len(self.input) < at + size:
+                break
+            found.append((first & 15, self.input[at:at + size]))
+            self.input = self.input[at + size:]
+        return found
+
+    def take_in(self) -> None:
+        """The lines of the frames that were read."""
+        for kind, payload in self.frames():
+            assert self.code is None, "a frame behind a close"
+            if kind == TEXT:
+                assert payload.endswith(b"\n"), payload[-50:]
+                self.lines += payload[:-1].decode().split("\n")
+                self.messages += 1
+            elif kind == CLOSE:
+                self.code, self.words = struct.unpack("!H", payload[:2])[0] if payload else 1005, payload[2:]
+            else:
+                assert kind in (PING, PONG), kind
+                self.kinds.append((kind, payload))
+
+    def read(self, seconds: float = PATIENCE) -> None:
+        self.more(seconds)
+        self.take_in()
+
+    def line(self, seconds: float = PATIENCE) -> str:
+        """The next line but for those that say that the gateway is there."""
+        end = time.monotonic() + seconds
+        self.take_in()
+        while True:
+            while self.lines:
+                line = self.lines.pop(0)
+                if line != '{"alive":true}':
+                    return line
+            self.read(max(end - time.monotonic(), 0.001))
+
+    def event(self, seconds: float = PATIENCE) -> list[str]:
+        """The lines up to the next `settled`, without it."""
+        lines = []
+        while (line := self.line(seconds)) != '{"settled":true}':
+            lines.append(line)
+        return lines
+
+    def ask(self, message: str | dict) -> list[str]:
+        self.say(message)
+        return self.event()
+
+    def enter(self) -> str:
+        """The role that the token opens. An administrator is told the shape, too."""
+        role, *self.shape = self.event()
+        return json.loads(role)["role"]
+
+    def end(self, seconds: float = PATIENCE) -> int | None:
+        """Reads until the connection ends. The code of the close."""
+        end = time.monotonic() + seconds
+        try:
+            while True:
+                self.read(max(end - time.monotonic(), 0.001))
+        except Ended:
+            return self.code
+
+    def shut(self) -> None:
+        self.socket.close()
+
+
+def http(port: int, path: str, token: str | None = None, method: str = "GET", head: dict | None = None) -> tuple[int, dict, bytes]:
+    """A plain request."""
+    ask = urllib.request.Request(f"http://127.0.0.1:{port}{path}", method=method,
+                                 headers={**({"Authorization": f"Bearer {token}"} if token else {}), **(head or {})})
+    try:
+        with urllib.request.urlopen(ask, timeout=PATIENCE) as answer:
+            return answer.status, dict(answer.headers), answer.read()
+    except urllib.error.HTTPError as error:
+        with error:
+            return error.code, dict(error.headers), error.read()
+
+
+def plain(port: int, data: bytes, seconds: float = PATIENCE) -> bytes:
+    """All that is answered to these bytes, until the connection ends."""
+    with socket.create_connection(("127.0.0.1", port), seconds) as to:
+        to.sendall(data)
+        got = b""
+        try:
+            while more := to.recv(1 << 16):
+                got += more
+        except ConnectionError:
+            pass
+        return got
+
+
+def digest(token: str) -> str:
+    return hashlib.sha256(token.encode()).hexdigest()
+
+
+def free_port() -> int:
+    low = int(pathlib.Path("/proc/sys/net/ipv4/ip_local_port_range").read_text().split()[0])
+    while True:
+        with socket.socket() as probe:
+            try:
+                probe.bind(("127.0.0.1", random.randrange(10_000, low) if low > 12_000 else 0))
+                return probe.getsockname()[1]
+            except OSError:
+                pass
+
+
+class Gateway:
+    """The program, with a journal in a folder of its own. A token is the name of its role and `-demo`."""
+
+    running: list["Gateway"] = []
+
+    def __init__(self, roles: tuple[str, ...] = ("admin", "ann", "bob", "mia"), words: tuple = (), journal: bytes | None = None, start: bool = True):
+        self.place = tempfile.TemporaryDirectory(prefix="gateway.")
+        self.folder = pathlib.Path(self.place.name)
+        self.journal, self.tokens, self.log = self.folder / "journal.jsonl", self.folder / "tokens.toml", self.folder / "log"
+        self.know(*roles)
+        if journal is not None:
+            self.journal.write_bytes(journal)
+        self.port, self.words, self.process = free_port(), words, None
+        self.running.append(self)
+        if start:
+            self.start()
+
+    def know(self, *roles: str) -> None:
+        """These tokens are known from now on."""
+        fresh = self.folder / "tokens.new"
+        fresh.write_text("[tokens]\n" + "".join(f'"{digest(role + "-demo")}" = "{role}"\n' for role in roles))
+        fresh.rename(self.tokens)
+
+    def launch(self) -> subprocess.Popen:
+        with self.log.open("ab") as log:
+            self.process = subprocess.Popen([PROGRAM, "--journal", self.journal, "--tokens", self.tokens, "--port", str(self.port), *self.words],
+                                            stdin=subprocess.DEVNULL, stderr=log)
+        return self.process
+
+    def start(self) -> None:
+        """Starts it, and waits until it listens."""
+        self.launch()
+        end = time.monotonic() + PATIENCE
+        while True:
+            assert self.process.poll() is None, self.said()
+            try:
+                socket.create_connection(("127.0.0.1", self.port), 1).close()
+                return
+            except OSError:
+                assert time.monotonic() < end, "it does not listen"
+                time.sleep(0.02)
+
+    def kill(self, by: int = signal.SIGKILL) -> int:
+        self.process.send_signal(by)
+        return self.process.wait(PATIENCE)
+
+    def enter(self, role: str, receive: int | None = None) -> Wire:
+        wire = Wire(self.port, f"{role}-demo", receive)
+        assert wire.enter() == role
+        return wire
+
+    def entries(self) -> list[dict]:
+        return [json.loads(line) for line in self.journal.read_text().splitlines()]
+
+    def said(self) -> str:
+        return self.log.read_text()
+
+    def memory(self) -> int:
+        """Bytes of the process."""
+        return int(pathlib.Path(f"/proc/{self.process.pid}/statm").read_text().split()[1]) * 4096
+
+    def processor(self) -> float:
+        """Seconds of processor that the process has taken."""
+        fields = pathlib.Path(f"/proc/{self.process.pid}/stat").read_text().rsplit(")", 1)[1].split()
+        return (int(fields[11]) + int(fields[12])) / os.sysconf("SC_CLK_TCK")
+
+    def end(self) -> None:
+        if self.process and self.process.poll() is None:
+            self.kill()
+        self.place.cleanup()
