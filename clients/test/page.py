@@ -59,7 +59,7 @@ def main() -> int:
         assert starts == 1 and len(rest) >= 4
         gateway = subprocess.Popen(["sh", "-euc", setup], cwd=TOP, stderr=subprocess.DEVNULL)
         try:
-            end = time.monotonic() + 60
+            end = time.monotonic() + 300
             while not answers(port):
                 assert gateway.poll() is None and time.monotonic() < end, "the gateway of the page does not start"
                 time.sleep(0.02)
@@ -67,7 +67,7 @@ def main() -> int:
                 if kind == "js" and not shutil.which("node"):
                     print("the block of JavaScript did not run, since there is no node")
                     continue
-                ran = subprocess.run(words_of(kind, code.replace(":8080", f":{port}"), folder), cwd=folder, env=env, timeout=60,
+                ran = subprocess.run(words_of(kind, code.replace(":8080", f":{port}"), folder), cwd=folder, env=env, timeout=300,
                                      stdout=subprocess.PIPE, stderr=subprocess.STDOUT, text=True)
                 is_well = ran.returncode == 0 and ran.stdout == wanted
                 passed, failed = passed + is_well, failed + (not is_well)

@@ -60,7 +60,7 @@ export class Gateway {
     const words = ["--journal", this.file("journal.jsonl"), "--tokens", this.file("tokens.toml"), "--port", String(this.port)];
     this.process = spawn(GATEWAY, words, {stdio: ["ignore", "ignore", fs.openSync(this.file("log"), "a")]});
     this.ended = new Promise((done) => this.process.on("exit", done));
-    await until(() => fetch(`http://127.0.0.1:${this.port}/readyz`).then((it) => it.ok, () => false), "the gateway");
+    await until(() => fetch(`http://127.0.0.1:${this.port}/readyz`).then((it) => it.ok, () => false), "the gateway", 5 * PATIENCE);
   }
 
   signal(name) {
