@@ -124,7 +124,8 @@ async def columns_are_told(gate: Gate, http: aiohttp.ClientSession):
     await admin.ask(do="create_view", name="keys", owner="admin", query="select k from a")
     page = (TOP.parent / "docs/PROTOCOL.md").read_text().split("### What each part gives")[1]
     queries = [*re.findall(r"(?m)^\| `(select [^|]*)` \| `(\w+ (?:int|text)[^|]*)` \|$", page), (
-        "SELECT N.Who  whom, count(*)as n from notes\tas N where who <> 'it''s union ( from' group by who", "whom text, n int")]
+        "SELECT N.Who  whom, count(*)as n from notes\tas N where who <> 'it''s union ( from' group by who", "whom text, n int"),
+        ("select * from a join notes on a.k = notes.id", "k int, x int, id int, who text"), ("select * from notes where who <> ' from keys b'", "id int, who text")]
     assert len(queries) > 10
     for number, (query, _) in enumerate(queries):
         assert "ok" in await admin.ask(do="create_view", name=f"v{number}", owner="admin", query=query), query

@@ -147,7 +147,7 @@ class Gateway:
         words = [GATEWAY, "--journal", self.folder / "journal.jsonl", "--tokens", self.folder / "tokens.toml", "--port", str(self.port), *self.words]
         with (self.folder / "log").open("ab") as log:
             self.process = subprocess.Popen(words, stdin=subprocess.DEVNULL, stderr=log)
-        end = time.monotonic() + PATIENCE
+        end = time.monotonic() + 5 * PATIENCE
         while True:
             try:
                 urllib.request.urlopen(f"http://127.0.0.1:{self.port}/readyz", timeout=PATIENCE).close()
