@@ -1,5 +1,4 @@
 pub mod Counting
 pub mod Cutting
 pub mod Naming
-pub mod Placing
 pub mod Lines

@@ -107,6 +107,14 @@ abbrev pub releasing : Kept → Kept
 releasing k = if k.dropped || nat_lt most_piled k.piled then letting_go k
     else record k { unsynced = []; sendable = k.sendable ++ k.unsynced; brought = 0; piled = k.piled + k.brought }
 
+-- something may be sent to it, or it is to go
+abbrev pub is_due : Kept → Bool
+is_due k = k.dropped || not (length k.sendable == 0)
+
+-- or something waits for the journal, or has not been taken
+abbrev pub is_told : Kept → Bool
+is_told k = is_due k || (not (length k.unsynced == 0) || (not (k.brought == 0) || not (k.piled == 0)))
+
 -- it has nothing more that may be sent
 abbrev pub emptied : Kept → Kept
 emptied k = if length k.sendable == 0 then k else record k { sendable = []; asked = 0; piled = 0 }

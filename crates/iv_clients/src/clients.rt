@@ -3,7 +3,7 @@ ghost use Rattle.std.specs.Prelude.{◌≡◌, ◌==◌, ◌∷◌, ◌++◌, fi
 ghost use Rattle.iv_command.specs.Views.{line_of};
 ghost use Rattle.iv_clients.specs.Clients.{followed_by, moved_sub};
 ghost use Rattle.iv_clients.specs.Feeds.{ends_in};
-ghost use Rattle.iv_clients.specs.Kept.{asking, checking, coming, emptied, holding, holding_beat, holding_owed, is_following, keeping_closed, keeping_moved, keeping_new, keeping_on, letting_go, may_ask, releasing, answering};
+ghost use Rattle.iv_clients.specs.Kept.{asking, checking, coming, emptied, holding, holding_beat, holding_owed, is_following, is_told, keeping_closed, keeping_moved, keeping_new, keeping_on, letting_go, may_ask, releasing, answering};
 
 use crate::feeds::ends_in;
 use crate::tokens::{Token, role_opened};
@@ -138,6 +138,13 @@ impl Client {
         self.role.as_str()
     }
 
+    /// The SHA-256 of its token.
+    pub fn digest(&self) -> &[u8]
+        ensures { result.now ≡ self.now.digest }
+    {
+        &self.digest
+    }
+
     /// Its own numbers that are open.
     pub fn subs(&self) -> &[Sub]
         ensures { result.now ≡ self.now.subs }
@@ -157,6 +164,17 @@ impl Client {
         ensures { result ≡ self.now.dropped }
     {
         self.dropped
+    }
+
+    /// Whether something may be sent to it or waits for the journal, or it is to go.
+    pub fn is_told(&self) -> bool
+        ensures { result ≡ is_told self.now }
+    {
+        self.dropped
+            || !self.sendable.is_empty()
+            || !self.unsynced.is_empty()
+            || self.brought != 0
+            || self.piled != 0
     }
 
     /// The bytes that others brought it since the journal was synced.

@@ -5,7 +5,6 @@ mod clients;
 mod feeds;
 mod journal;
 mod said;
-mod slots;
 mod tokens;
 
 pub use clients::{Client, Sub};
@@ -15,9 +14,4 @@ pub use feeds::{
 };
 pub use journal::{behind, cut_at, entry_in, is_shared, push_entry};
 pub use said::read_said;
-pub use slots::{
-    answered_at, ask_at, beat_all, check_all, close_at, empty_slots, follow_at, has_client,
-    has_role, hold_at, is_followed, is_free, put_at, redirect_at, release_all, settle_all,
-    stay_all, take_at,
-};
 pub use tokens::{Token, TokensFault, read_tokens, role_opened};

@@ -1,7 +1,7 @@
 //! `Desk`: the peers by their numbers, and the gateway whose clients have the same numbers.
-ghost use Rattle.std.specs.Prelude.{◌≡◌, ℕ, Err, IfOk, OnErr, OnOk, false, true};
+ghost use Rattle.std.specs.Prelude.{◌≡◌, ℕ, Err, IfOk, OnErr, OnOk, false, option_map, true};
 ghost use Rattle.std.specs.Io.KnownBytes.{Appends};
-ghost use Rattle.iv_clients.specs.Clients.{is_free};
+ghost use Rattle.iv_clients.specs.Clients.{client_at, is_free};
 ghost use Rattle.iv_clients.specs.Journal.{journal_of};
 ghost use Rattle.iv_gate.specs.Events.{failed, known, synced, ticked};
 ghost use Rattle.iv_gate.specs.Gate.{Gate, pending};
@@ -251,6 +251,22 @@ impl Desk {
                 Err(GatewayFault::Memory)
             }
         }
+    }
+
+    /// The role of the client of a number, if one has come in there.
+    pub fn role_of(&self, at: u32) -> Option<&str>
+        ensures { (d : Front) → IsDesk d self.now → d.gate.dead ≡ false
+            → option_map (λ r. r.now) result ≡ option_map (λ c. c.role) (client_at d.gate.clients at) }
+    {
+        self.gateway.role_of(at)
+    }
+
+    /// The SHA-256 of the token by which the client of a number came in.
+    pub fn digest_of(&self, at: u32) -> Option<&[u8]>
+        ensures { (d : Front) → IsDesk d self.now → d.gate.dead ≡ false
+            → option_map (λ b. b.now) result ≡ option_map (λ c. c.digest) (client_at d.gate.clients at) }
+    {
+        self.gateway.digest_of(at)
     }
 
     /// What is to be sent at a number.

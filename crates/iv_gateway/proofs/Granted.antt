@@ -1,23 +1,24 @@
 -- What a command grants, as the code tells it.
-use Rattle.std.proofs.Common.{◌≡◌, ◌∙◌, ℕ, ◌+◌, ◌<◌, Bool, true, false, cond, List, [], ◌∷◌, ◌++◌, length, take, get_or, map, Option, Some, None, option_map, refl, ap, sym, append-nil, append_assoc, add_assoc, length-append}
+use Rattle.std.proofs.Common.{◌≡◌, ◌∙◌, ℕ, zero, suc, ◌+◌, ◌<◌, ◌≤◌, Bool, true, false, cond, List, [], ◌∷◌, ◌++◌, length, take, get_or, map, Option, Some, None, option_map, refl, ap, sym, append-nil, append_assoc, add-one, add_assoc, arith, length-append}
 use Rattle.std.specs.Prelude.{◌==◌, flat_map}
 use Rattle.std.proofs.lemmas.Bool.{false≢true}
 use Rattle.std.proofs.lemmas.List.{map_more, map-append}
 use Rattle.std.proofs.lemmas.List.Concat.{flat_map-append}
+use Rattle.iv_rows.specs.Options.{if_some}
 use Rattle.iv_access.specs.Rights.{Name}
 use Rattle.iv_machine.specs.Act.{Act, Line}
 use Rattle.iv_machine.specs.State.{Frame}
 use Rattle.iv_message.specs.Lines.{IsLine}
 use Rattle.iv_message.specs.Told.{Told, granted, told_text}
-use Rattle.iv_clients.specs.Clients.{Client, Slots, at_all, own_lines, staying, telling}
+use Rattle.iv_clients.specs.Clients.{Client, Slots, at_all, at_client, client_at, own_lines, staying, telling}
 use Rattle.iv_clients.specs.Feeds.{Feed}
 use Rattle.iv_clients.specs.Journal.{Entry}
 use Rattle.iv_clients.specs.Kept.{Kept, Places, holding, holding_all, keeping_on, kept, kept_slots}
 use Rattle.iv_gate.specs.Gate.{granted_by, is_accepted, reply_in}
 use Rattle.iv_gateway.specs.Granting.{IsGranting, granted_in, hearing_granted, holding_for, text_granted}
-use Rattle.iv_gateway.specs.Hearing.{hearing_lines}
+use Rattle.iv_hall.specs.Hearing.{hearing_lines}
 use Rattle.iv_gateway.specs.declared.granting.Grants.{Grants}
-use Rattle.iv_gateway.proofs.Heard.{all_append}
+use Rattle.iv_hall.proofs.Heard.{all_append}
 use Rattle.iv_gateway.proofs.Keeping.{keeps_all, kept_telling, nonempty}
 
 -- ---- all places
@@ -43,6 +44,40 @@ both_slot f h (Some c) = refl
 pub both_all : {C : Type 0} (f h : C → C) (os : List (Option C)) → at_all f (at_all h os) ≡ at_all (λ c. f (h c)) os
 both_all f h [] = refl
 both_all f h (o ∷ os) = λ i. both_slot f h o i ∷ both_all f h os i
+
+-- the first of them are changed
+abbrev pub first_all : {C : Type 0} → (C → C) → ℕ → List (Option C) → List (Option C)
+first_all f zero os = os
+first_all f (suc n) [] = []
+first_all f (suc n) (o ∷ os) = option_map f o ∷ first_all f n os
+
+one_first : {C : Type 0} (f : C → C) (n : ℕ) (os : List (Option C)) → at_client n f (first_all f n os) ≡ first_all f (suc n) os
+one_first f zero [] = refl
+one_first f zero (o ∷ os) = refl
+one_first f (suc n) [] = refl
+one_first f (suc n) (o ∷ os) = ap (λ z. option_map f o ∷ z) (one_first f n os)
+
+pub first_more : {C : Type 0} (f : C → C) (n : ℕ) (os before now : List (Option C)) → before ≡ first_all f n os → now ≡ at_client n f before → now ≡ first_all f (n + 1) os
+first_more f n os before now e g = g ∙ (ap (at_client n f) e ∙ (one_first f n os ∙ ap (λ k. first_all f k os) (sym (add-one n))))
+
+pub first_whole : {C : Type 0} (f : C → C) (n : ℕ) (os : List (Option C)) → length os ≤ n → first_all f n os ≡ at_all f os
+first_whole f zero [] h = refl
+first_whole f zero (o ∷ os) h = absurd (let none : ⊥ = omega (arith, h) in none)
+first_whole f (suc n) [] h = refl
+first_whole f (suc n) (o ∷ os) h = ap (λ z. option_map f o ∷ z) (first_whole f n os (omega (arith, h)))
+
+-- a client of such a role is told, and no other
+pub held_for : (p : Name → Bool) (text : List ℕ) (n : ℕ) (places : Places) → if_some (client_at places n) false (λ (k : Kept). p k.role) ≡ true → at_client n (holding text) places ≡ at_client n (holding_for p text) places
+held_for p text n [] h = refl
+held_for p text zero (None ∷ os) h = refl
+held_for p text zero (Some k ∷ os) h = ap (λ b. Some (cond b (holding text k) k) ∷ os) (sym h)
+held_for p text (suc n) (o ∷ os) h = ap (λ z. o ∷ z) (held_for p text n os h)
+
+pub not_held_for : (p : Name → Bool) (text : List ℕ) (n : ℕ) (places : Places) → if_some (client_at places n) false (λ (k : Kept). p k.role) ≡ false → places ≡ at_client n (holding_for p text) places
+not_held_for p text n [] h = refl
+not_held_for p text zero (None ∷ os) h = refl
+not_held_for p text zero (Some k ∷ os) h = ap (λ b. Some (cond b (holding text k) k) ∷ os) (sym h)
+not_held_for p text (suc n) (o ∷ os) h = ap (λ z. o ∷ z) (not_held_for p text n os h)
 
 -- ---- the text of what is granted
 

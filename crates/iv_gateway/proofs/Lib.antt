@@ -1,5 +1,4 @@
 pub mod Keeping
-pub mod Heard
 pub mod Standing
 pub mod Refused
 pub mod Seated

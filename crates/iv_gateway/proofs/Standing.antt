@@ -7,7 +7,7 @@ use Rattle.iv_clients.specs.Clients.{Client, Slots, at_all, at_client, own_lines
 use Rattle.iv_clients.specs.Feeds.{Feed}
 use Rattle.iv_clients.specs.Journal.{Entry}
 use Rattle.iv_clients.specs.Kept.{Places, holding, holding_all, holding_owed, keeping_on, kept, kept_slots}
-use Rattle.iv_gateway.specs.Hearing.{hearing_lines}
+use Rattle.iv_hall.specs.Hearing.{hearing_lines}
 use Rattle.iv_gateway.proofs.Keeping.{keeps_all, keeps_at, kept_one, kept_settling, kept_telling}
 
 pub stands_told : (es : List Entry) (slots : Slots) (places : Places) (m : ℕ) (t : Told) (text : List ℕ) → told_text t ≡ text → places ≡ kept_slots slots

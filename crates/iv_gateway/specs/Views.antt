@@ -23,7 +23,7 @@ pub record IsAlive (g : Gate) (x : Gateway) : Type 0 where
   pub machine : IsBehind g.machine x.engine
   pub seats : x.seats.items ≡ g.seats
   pub feeds : x.feeds.items ≡ g.feeds
-  pub clients : x.clients.items ≡ kept_slots g.clients
+  pub clients : x.clients ≡ kept_slots g.clients
   pub pending : IsPending g.kept g.entries x.pending.items
 
 -- of a dead one nothing is known but that

@@ -7,7 +7,7 @@ ghost use Rattle.iv_gate.specs.Gate.{Gate, closes};
 ghost use Rattle.iv_gateway.specs.Views.{IsAlive};
 
 use crate::gateway::Gateway;
-use iv_clients::{Client, close_at};
+use iv_clients::Client;
 use iv_command::{Refusal, Reply};
 use iv_message::Id;
 use std::alloc::AllocError;
@@ -27,14 +27,14 @@ impl Gateway {
     pub(crate) fn close(&mut self, client: u32, id: &Option<Id>, own: u64) -> Result<(), AllocError>
         ensures { OnOk result ((g : Gate) (c : spec.Client) → IsAlive g self.old → client_at g.clients client ≡ Some c → IsAlive (closes g client c (option_map id_data id.now) own) self.new) }
     {
-        match followed_at(&self.clients, client, own) {
+        match followed_at(self.clients.places(), client, own) {
             None => {
                 let reply = Reply::Refused(Refusal::UnknownSubscription);
                 self.reply(client, id, &reply)?;
                 Ok(())
             }
             Some(number) => {
-                close_at(&mut self.clients, client, own);
+                self.clients.close(client, own);
                 self.reply(client, id, &Reply::Ok)?;
                 self.sweep(number)?;
                 Ok(())

@@ -8,7 +8,8 @@ ghost use Rattle.iv_gate.specs.Gate.{Gate, came, role_for, settles, tells};
 ghost use Rattle.iv_gateway.specs.Views.{IsAlive};
 
 use crate::gateway::Gateway;
-use iv_clients::{Client, Token, is_free, put_at, role_opened};
+use iv_clients::{Token, role_opened};
+use iv_hall::Hall;
 use iv_message::push_welcome;
 use iv_rows::name_ok;
 use sha2::{Digest, Sha256};
@@ -18,7 +19,7 @@ use std::alloc::{AllocError, Global};
 fn role_presented(
     alloc: Global,
     tokens: &[Token],
-    clients: &[Option<Client>],
+    clients: &Hall,
     client: u32,
     digest: &[u8],
 ) -> Result<Option<String>, AllocError>
@@ -27,7 +28,7 @@ fn role_presented(
     match role_opened(tokens, digest) {
         None => Ok(None),
         Some(role) => {
-            if name_ok(role) && is_free(clients, client) {
+            if name_ok(role) && clients.is_free(client) {
                 Ok(Some(String::from_str(alloc, role)?))
             } else {
                 Ok(None)
@@ -49,11 +50,7 @@ impl Gateway {
     {
         let mut text = Vec::new(self.alloc);
         push_welcome(self.alloc, &mut text, role.as_str())?;
-        put_at(
-            &mut self.clients,
-            client,
-            Some(Client::new(self.alloc, role, digest)),
-        );
+        self.clients.enter(self.alloc, client, role, digest);
         self.tell(client, &text)?;
         self.settle_told()?;
         Ok(())

@@ -9,7 +9,7 @@ ghost use Rattle.iv_gateway.specs.Views.{IsAlive, IsGate};
 
 use crate::gateway::{Gateway, GatewayFault};
 use crate::journal::Journal;
-use iv_clients::{Token, beat_all, check_all, release_all, take_at};
+use iv_clients::Token;
 use iv_message::laws::told_texts_are_lines;
 use iv_message::push_alive;
 use std::alloc::AllocError;
@@ -43,7 +43,7 @@ impl Gateway {
         ensures { (g : Gate) → IsGate g self.old → IsGate (next g (known tokens.items)) self.new }
     {
         if !self.dead {
-            check_all(&mut self.clients, &tokens);
+            self.clients.check(&tokens);
             self.tokens = tokens;
         }
     }
@@ -53,7 +53,7 @@ impl Gateway {
     {
         let mut text = Vec::new(self.alloc);
         push_alive(&mut text)?;
-        beat_all(&mut self.clients, &text)?;
+        self.clients.beat(&text)?;
         Ok(())
     }
 
@@ -85,7 +85,7 @@ impl Gateway {
         ensures { OnOk result ((g : Gate) → IsAlive g self.old → IsAlive (on_disk g) self.new) }
     {
         self.pending.clear();
-        release_all(&mut self.clients)?;
+        self.clients.release()?;
         Ok(())
     }
 
@@ -130,7 +130,7 @@ impl Gateway {
             return Vec::new(self.alloc);
         }
         told_texts_are_lines();
-        take_at(self.alloc, &mut self.clients, client)
+        self.clients.take(self.alloc, client)
     }
 
     /// Lets in who presents a token, as the client of a number that nobody has, in the role that the token opens. Whether it came in.

@@ -1,15 +1,20 @@
 //! `Gateway`: the engine, sessions by role, feeds that clients share, clients, and the journal that is ahead of what they are told.
-ghost use Rattle.std.specs.Prelude.{◌≡◌, ℕ, IfOk, [], false};
+ghost use Rattle.std.specs.Prelude.{◌≡◌, ℕ, IfOk, Some, [], false, option_map, true};
+ghost use Rattle.std.specs.List.{Contains, IsDistinct};
+ghost use Rattle.std.proofs.Common.{eqb};
 ghost use Rattle.iv_rows.specs.Options.{if_some};
 ghost use Rattle.iv_machine.specs.State.{start};
 ghost use Rattle.iv_store.specs.Engine.{IsBehind};
+ghost use Rattle.iv_clients.specs.Clients as spec;
 ghost use Rattle.iv_clients.specs.Clients.{client_at, text_shown};
+ghost use Rattle.iv_clients.specs.Kept.{is_due, kept};
 ghost use Rattle.iv_gate.specs.Gate.{Gate, is_heard};
 ghost use Rattle.iv_gate.specs.Restoring.{gate_at_start};
 ghost use Rattle.iv_gateway.specs.Views.{IsGate};
 
-use iv_clients::{Client, Feed, Seat, Token, empty_slots};
+use iv_clients::{Feed, Seat, Token};
 use iv_engine::Engine;
+use iv_hall::Hall;
 use json::Scratch;
 use std::alloc::{AllocError, Global};
 
@@ -32,7 +37,7 @@ pub struct Gateway {
     pub(crate) engine: Engine,
     pub(crate) seats: Vec<Seat>,
     pub(crate) feeds: Vec<Feed>,
-    pub(crate) clients: Vec<Option<Client>>,
+    pub(crate) clients: Hall,
     pub(crate) pending: Vec<u8>,
     pub(crate) tokens: Vec<Token>,
     pub(crate) scratch: Scratch,
@@ -52,7 +57,7 @@ impl Gateway {
     ) -> Result<Gateway, AllocError>
         ensures { IfOk result (λ x. (cap : ℕ) → IsBehind (start cap) engine → IsGate (gate_at_start cap tokens.items most []) x) }
     {
-        let clients = empty_slots(alloc, most)?;
+        let clients = Hall::new(alloc, most)?;
         Ok(Gateway {
             alloc,
             engine,
@@ -70,9 +75,31 @@ impl Gateway {
     pub fn is_heard(&self, client: u32) -> bool
         ensures { (g : Gate) → IsGate g self.now → g.dead ≡ false → result ≡ is_heard g client }
     {
-        match self.clients.get(client as usize) {
+        match self.clients.places().get(client as usize) {
             Some(Some(it)) => it.may_ask(),
             _ => false,
+        }
+    }
+
+    /// The role of a client, if the number has one.
+    pub fn role_of(&self, client: u32) -> Option<&str>
+        ensures { (g : Gate) → IsGate g self.now → g.dead ≡ false
+            → option_map (λ r. r.now) result ≡ option_map (λ c. c.role) (client_at g.clients client) }
+    {
+        match self.clients.places().get(client as usize) {
+            Some(Some(it)) => Some(it.role()),
+            _ => None,
+        }
+    }
+
+    /// The SHA-256 of the token by which a client came, if the number has one.
+    pub fn digest_of(&self, client: u32) -> Option<&[u8]>
+        ensures { (g : Gate) → IsGate g self.now → g.dead ≡ false
+            → option_map (λ d. d.now) result ≡ option_map (λ c. c.digest) (client_at g.clients client) }
+    {
+        match self.clients.places().get(client as usize) {
+            Some(Some(it)) => Some(it.digest()),
+            _ => None,
         }
     }
 
@@ -80,9 +107,20 @@ impl Gateway {
     pub fn is_dropped(&self, client: u32) -> bool
         ensures { (g : Gate) → IsGate g self.now → g.dead ≡ false → result ≡ if_some (client_at g.clients client) false (λ c. c.dropped) }
     {
-        match self.clients.get(client as usize) {
+        match self.clients.places().get(client as usize) {
             Some(Some(it)) => it.is_dropped(),
             _ => false,
         }
+    }
+
+    /// The numbers of those to whom something may be sent, or who are to go: all of them, each once. Others may be there too. A number
+    /// leaves when its text is taken, unless something waits for the journal or its client is to go, and when its client goes. The last
+    /// number takes its place, so who takes as it goes over them begins at the last.
+    pub fn told(&self) -> &[u32]
+        ensures listed { (g : Gate) (m : ℕ) (c : spec.Client) → IsGate g self.now → g.dead ≡ false → client_at g.clients m ≡ Some c → is_due (kept c) ≡ true
+            → Contains result.now m }
+        ensures once { IsDistinct eqb result.now }
+    {
+        self.clients.told()
     }
 }

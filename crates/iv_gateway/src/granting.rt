@@ -1,19 +1,21 @@
 //! `Gateway::hear`: has the lines of a command told, and what it grants to those of whom it grants it.
 ghost use Rattle.std.specs.Prelude.{◌≡◌, ◌++◌, IfOk, OnOk, false, map, option_map, string_bytes, true};
+ghost use Rattle.iv_rows.specs.Options.{if_some};
 ghost use Rattle.iv_command.specs.Views.{act_of, line_of};
 ghost use Rattle.iv_machine.specs.Act.{Command};
 ghost use Rattle.iv_engine.specs.Known.{relations_with};
-ghost use Rattle.iv_clients.specs.Clients.{at_all};
+ghost use Rattle.iv_clients.specs.Clients.{at_all, at_client, client_at};
+ghost use Rattle.iv_clients.specs.Kept.{Kept};
 ghost use Rattle.iv_gate.specs.Gate.{Gate, is_accepted, ran, reply_in};
 ghost use Rattle.iv_gateway.specs.Granting.{IsGranting, hearing_granted, holding_for, is_granted, names_granted, text_granted};
 ghost use Rattle.iv_gateway.specs.Views.{IsAlive, IsRun};
 
 use crate::gateway::Gateway;
-use crate::hearing::hear_lines;
 use crate::seats::is_accepted;
-use iv_clients::{Client, drop_ended, stay_all};
+use iv_clients::{Client, drop_ended};
 use iv_command::{Act, Line};
 use iv_engine::Engine;
+use iv_hall::Hall;
 use iv_message::laws::told_texts_are_lines;
 use iv_message::push_granted;
 use std::alloc::{AllocError, Global};
@@ -138,53 +140,47 @@ fn text_granted(alloc: Global, engine: &Engine, grants: &Grants) -> Result<Vec<u
     Ok(text)
 }
 
-/// Has a text told to a client of whose role it is granted.
-fn grant(
-    client: &mut Client,
-    engine: &Engine,
-    grants: &Grants,
-    text: &[u8],
-) -> Result<(), AllocError>
+/// Whether something is granted to the role of a client.
+fn is_granted_at(clients: &[Option<Client>], client: u32, engine: &Engine, grants: &Grants) -> bool
     requires { engine.now.failed ≡ false }
-    ensures { OnOk result (client.new ≡ holding_for (is_granted engine.now.frame grants.now) text.now client.old) }
+    ensures { result ≡ if_some (client_at clients.now client) false (λ (k : Kept). is_granted engine.now.frame grants.now k.role) }
 {
-    if !is_granted(engine, grants, client.role()) {
-        return Ok(());
+    match clients.get(client as usize) {
+        Some(Some(it)) => is_granted(engine, grants, it.role()),
+        _ => false,
     }
-    client.hold(text)?;
-    Ok(())
 }
 
-fn grant_slot(
-    slot: &mut Option<Client>,
+/// Has a text told to a client if it is granted to its role.
+fn grant(
+    clients: &mut Hall,
+    client: u32,
     engine: &Engine,
     grants: &Grants,
     text: &[u8],
 ) -> Result<(), AllocError>
     requires { engine.now.failed ≡ false }
-    ensures { OnOk result (slot.new ≡ option_map (holding_for (is_granted engine.now.frame grants.now) text.now) slot.old) }
+    ensures { OnOk result (clients.new ≡ at_client client (holding_for (is_granted engine.now.frame grants.now) text.now) clients.old) }
 {
-    match slot {
-        None => Ok(()),
-        Some(client) => {
-            grant(client, engine, grants, text)?;
-            Ok(())
-        }
+    if !is_granted_at(clients.places(), client, engine, grants) {
+        return Ok(());
     }
+    clients.hold(client, text)?;
+    Ok(())
 }
 
 /// Has a text told to all of whose roles it is granted.
 fn grant_all(
-    clients: &mut Vec<Option<Client>>,
+    clients: &mut Hall,
     engine: &Engine,
     grants: &Grants,
     text: &[u8],
 ) -> Result<(), AllocError>
     requires { engine.now.failed ≡ false }
-    ensures { OnOk result (clients.new.items ≡ at_all (holding_for (is_granted engine.now.frame grants.now) text.now) clients.old.items) }
+    ensures { OnOk result (clients.new ≡ at_all (holding_for (is_granted engine.now.frame grants.now) text.now) clients.old) }
 {
-    for slot in clients.iter_mut() {
-        grant_slot(slot, engine, grants, text)?;
+    for client in 0..clients.most() {
+        grant(clients, client, engine, grants, text)?;
     }
     Ok(())
 }
@@ -192,11 +188,11 @@ fn grant_all(
 /// Has what an accepted command grants told to all of whose roles it is granted.
 fn hear_granted(
     alloc: Global,
-    clients: &mut Vec<Option<Client>>,
+    clients: &mut Hall,
     engine: &Engine,
     grants: &Grants,
 ) -> Result<(), AllocError>
-    ensures { OnOk result (clients.new.items ≡ at_all (hearing_granted true engine.now.frame grants.now) clients.old.items) }
+    ensures { OnOk result (clients.new ≡ at_all (hearing_granted true engine.now.frame grants.now) clients.old) }
 {
     if engine.is_failed() {
         return Err(AllocError);
@@ -213,13 +209,13 @@ fn hear_granted(
 /// Has what a command grants told, if the lines say that it was accepted. Where it grants nothing nobody is looked at.
 fn hear_grants(
     alloc: Global,
-    clients: &mut Vec<Option<Client>>,
+    clients: &mut Hall,
     engine: &Engine,
     lines: &[Line],
     grants: &Grants,
 ) -> Result<(), AllocError>
-    ensures { OnOk result (clients.new.items
-        ≡ at_all (hearing_granted (is_accepted (reply_in (map line_of lines.now))) engine.now.frame grants.now) clients.old.items) }
+    ensures { OnOk result (clients.new
+        ≡ at_all (hearing_granted (is_accepted (reply_in (map line_of lines.now))) engine.now.frame grants.now) clients.old) }
 {
     if !is_accepted(lines) {
         return Ok(());
@@ -234,9 +230,9 @@ impl Gateway {
         ensures { OnOk result ((g : Gate) (k : Command) → IsRun g k (map line_of lines.now) self.old → IsGranting k.act grants.now
             → IsAlive (ran g k) self.new) }
     {
-        hear_lines(self.alloc, &mut self.clients, &self.feeds, lines)?;
+        self.clients.hear(self.alloc, &self.feeds, lines)?;
         hear_grants(self.alloc, &mut self.clients, &self.engine, lines, grants)?;
-        stay_all(&mut self.clients, lines);
+        self.clients.stay(lines);
         drop_ended(&mut self.feeds, lines);
         Ok(())
     }

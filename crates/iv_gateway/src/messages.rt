@@ -17,7 +17,7 @@ ghost use Rattle.iv_gateway.specs.Views.{IsAlive, IsGate};
 use crate::gateway::{Gateway, GatewayFault};
 use crate::granting::Grants;
 use crate::seats::is_accepted;
-use iv_clients::{Client, answered_at, ask_at, is_shared, push_entry, read_said, seat_of};
+use iv_clients::{Client, is_shared, push_entry, read_said, seat_of};
 use iv_command::{Act, Command, Line, Refusal, Reply};
 use iv_gate::laws::events_leave_their_marks;
 use iv_message::{Id, Message, Why, push_unasked};
@@ -94,7 +94,7 @@ impl Gateway {
     fn listen(&mut self, client: u32, text: &[u8]) -> Result<bool, AllocError>
         ensures { IfOk result (λ is. (g : Gate) → IsAlive g self.old → (is ≡ is_heard g client) × IsAlive (said g client text.now) self.new) }
     {
-        match speaker_at(self.alloc, &self.clients, client)? {
+        match speaker_at(self.alloc, self.clients.places(), client)? {
             None => Ok(false),
             Some(speaker) => {
                 self.hear_message(client, &speaker, text)?;
@@ -113,11 +113,11 @@ impl Gateway {
         ensures { OnOk result ((g : Gate) (c : spec.Client) → IsAlive g self.old → client_at g.clients client ≡ Some c → speaker.now ≡ speaking (kept c)
             → IsAlive (hears g client c text.now) self.new) }
     {
-        ask_at(&mut self.clients, client)?;
+        self.clients.ask(client)?;
         let (message, line) = read_said(self.alloc, text, &mut self.scratch)?;
         self.answer(client, speaker, message, &line)?;
         self.settle_told()?;
-        answered_at(&mut self.clients, client, speaker.brought);
+        self.clients.answered(client, speaker.brought);
         Ok(())
     }
 

@@ -9,7 +9,7 @@ ghost use Rattle.iv_gate.specs.Gate.{Gate, all_rested, has_session, is_accepted,
 ghost use Rattle.iv_gateway.specs.Views.{IsAlive, IsRun, IsSeated, opening_of};
 
 use crate::gateway::Gateway;
-use iv_clients::{Seat, drop_seat, has_feed, has_role, next_seat, seat_of};
+use iv_clients::{Seat, drop_seat, has_feed, next_seat, seat_of};
 use iv_command::{Act, Command, Line, Reply};
 use iv_rows::name_ok;
 use std::alloc::AllocError;
@@ -103,7 +103,7 @@ impl Gateway {
     fn is_needed(&self, seat: &Seat) -> bool
         ensures { (g : Gate) → IsAlive g self.now → result ≡ is_needed g seat.now }
     {
-        has_role(&self.clients, seat.role.as_str()) || has_feed(&self.feeds, seat.session)
+        self.clients.has_role(seat.role.as_str()) || has_feed(&self.feeds, seat.session)
     }
 
     /// Finishes a session that is not needed.

@@ -15,7 +15,7 @@ ghost use Rattle.iv_gateway.specs.Views.{IsAlive, opening_of};
 
 use crate::gateway::Gateway;
 use crate::seats::{Opening, opening_in};
-use iv_clients::{Client, Feed, feed_for, feed_of, follow_at, redirect_at, room_for};
+use iv_clients::{Client, Feed, feed_for, feed_of, room_for};
 use iv_command::{Act, Command, Line, Refusal, Reply};
 use iv_engine::Engine;
 use iv_message::{Id, push_opened};
@@ -175,7 +175,7 @@ impl Gateway {
         match doubled(&self.feeds, new, older) {
             None => Ok(()),
             Some((session, new, older)) => {
-                redirect_at(&mut self.clients, client, new, older);
+                self.clients.redirect(self.alloc, client, new, older)?;
                 self.shut(session, new)?;
                 Ok(())
             }
@@ -305,9 +305,16 @@ impl Gateway {
         ensures { OnOk result ((g : Gate) → IsAlive g self.old
             → IsAlive (follows_new g client (option_map id_data id.now) rel.now number) self.new) }
     {
-        let text = text_opened(self.alloc, &self.engine, &self.clients, client, id, rel)?;
+        let text = text_opened(
+            self.alloc,
+            &self.engine,
+            self.clients.places(),
+            client,
+            id,
+            rel,
+        )?;
         self.tell(client, &text)?;
-        follow_at(&mut self.clients, client, number)?;
+        self.clients.follow(self.alloc, client, number)?;
         Ok(())
     }
 }

@@ -7,7 +7,7 @@ ghost use Rattle.iv_gate.specs.Gate.{Gate, all_swept, shut, swept, went};
 ghost use Rattle.iv_gateway.specs.Views.{IsAlive};
 
 use crate::gateway::Gateway;
-use iv_clients::{Client, Feed, Seat, Sub, drop_feed, feed_of, is_followed, put_at};
+use iv_clients::{Client, Feed, Seat, Sub, drop_feed, feed_of};
 use iv_command::{Act, Command};
 use std::alloc::{AllocError, Global};
 
@@ -72,7 +72,7 @@ impl Gateway {
     pub(crate) fn sweep(&mut self, number: u64) -> Result<(), AllocError>
         ensures { OnOk result ((g : Gate) → IsAlive g self.old → IsAlive (swept g number) self.new) }
     {
-        if is_followed(&self.clients, number) {
+        if self.clients.is_followed(number) {
             return Ok(());
         }
         match place_of(&self.feeds, number) {
@@ -118,10 +118,10 @@ impl Gateway {
     pub(crate) fn go(&mut self, client: u32) -> Result<(), AllocError>
         ensures { OnOk result ((g : Gate) → IsAlive g self.old → IsAlive (went g client) self.new) }
     {
-        match leaver(self.alloc, &self.clients, client)? {
+        match leaver(self.alloc, self.clients.places(), client)? {
             None => Ok(()),
             Some((role, feeds)) => {
-                put_at(&mut self.clients, client, None);
+                self.clients.leave(client);
                 self.sweep_all(&feeds)?;
                 let seats = seats_for(self.alloc, &self.seats, role.as_str())?;
                 self.rest_all(&seats)?;

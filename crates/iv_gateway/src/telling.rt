@@ -10,8 +10,7 @@ ghost use Rattle.iv_gate.specs.Gate.{Gate, granted_by, ran, reply_in, settles, t
 ghost use Rattle.iv_gateway.specs.Views.{IsAlive, IsRun};
 
 use crate::gateway::Gateway;
-use crate::hearing::hear_lines;
-use iv_clients::{drop_ended, hold_at, settle_all, stay_all};
+use iv_clients::drop_ended;
 use iv_command::{Line, Refusal, Reply};
 use iv_message::{Id, push_fault, push_replied, push_settled};
 use std::alloc::AllocError;
@@ -21,7 +20,7 @@ impl Gateway {
     pub(crate) fn tell(&mut self, client: u32, text: &[u8]) -> Result<(), AllocError>
         ensures { OnOk result ((g : Gate) (t : Told) → IsAlive g self.old → told_text t ≡ text.now → IsAlive (tells g client t) self.new) }
     {
-        hold_at(&mut self.clients, client, text)?;
+        self.clients.hold(client, text)?;
         Ok(())
     }
 
@@ -78,8 +77,8 @@ impl Gateway {
         ensures { OnOk result ((g : Gate) (k : Command) → IsRun g k (map line_of lines.now) self.old → ((f : Frame) (role : Name) → granted_by f k.act role ≡ [])
             → IsAlive (ran g k) self.new) }
     {
-        hear_lines(self.alloc, &mut self.clients, &self.feeds, lines)?;
-        stay_all(&mut self.clients, lines);
+        self.clients.hear(self.alloc, &self.feeds, lines)?;
+        self.clients.stay(lines);
         drop_ended(&mut self.feeds, lines);
         Ok(())
     }
@@ -90,7 +89,7 @@ impl Gateway {
     {
         let mut text = Vec::new(self.alloc);
         push_settled(&mut text)?;
-        settle_all(&mut self.clients, &text)?;
+        self.clients.settle(&text)?;
         Ok(())
     }
 }

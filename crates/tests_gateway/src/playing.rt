@@ -2,8 +2,8 @@
 //! behind it comes what it brings. The other lines of a conversation are what was brought, by hand, and are not read.
 //!
 //! `come N TOKEN`: who presents the token is client N. `say N TEXT`: client N sends the message. `go N`: client N goes. `tokens NAME..`:
-//! these tokens are known from now on. `tick`: all are told that the line is alive. `sync`: the journal is synced, and each client takes
-//! what it may be sent, one line each behind its number. `journal`: the journal's lines. `tear TEXT`: the journal ends with the text.
+//! these tokens are known from now on. `tick`: all are told that the line is alive. `sync`: the journal is synced, and each client that is listed
+//! as told takes what it may be sent, one line each behind its number. `journal`: the journal's lines. `tear TEXT`: the journal ends with the text.
 //! `spoil TEXT`: the journal has the line. `restart`: another gateway begins from the journal. `viewd REL`: what viewd answers to the
 //! journal's entries as lines of its own, and then to a subscribe to the relation by the administrator.
 ghost use Rattle.std.specs.Prelude.{None};
@@ -130,13 +130,22 @@ fn take(play: &mut Play, client: u32) -> Result<(), AllocError> {
     Ok(())
 }
 
-/// Syncs the journal, and takes what all clients may be sent.
+/// The numbers of those to whom something may be sent, or who are to go, in their order.
+fn told(play: &Play) -> Result<Vec<u32>, AllocError> {
+    let mut numbers = Vec::new(play.alloc);
+    numbers.extend_from_slice(play.gateway.told())?;
+    numbers.sort()?;
+    Ok(numbers)
+}
+
+/// Syncs the journal, and takes what those may be sent who are listed as told.
 fn sync(play: &mut Play) -> Result<(), AllocError> {
     if play.gateway.settle(&mut play.journal).is_err() {
         return push(play, "not synced\n");
     }
-    for client in 0..MOST {
-        take(play, client)?;
+    let numbers = told(play)?;
+    for number in &numbers {
+        take(play, *number)?;
     }
     Ok(())
 }

@@ -10,7 +10,7 @@ returns-then-is_empty c =
     let p = is_granted c.args.engine.now.frame c.args.grants.now in
     let names = names_granted c.args.engine.now.frame c.args.grants.now in
     let empty : (length c.in_ok-text.text.items == 0) ≡ true = search rules in
-    tells_none c.told_texts_are_lines.ensures p names c.args.clients.now.items (ap (λ z. length z == 0) (sym c.in_ok-text.ensures) ∙ empty)
+    tells_none c.told_texts_are_lines.ensures p names c.args.clients.now (ap (λ z. length z == 0) (sym c.in_ok-text.ensures) ∙ empty)
 
 pub returns : goal.returns
 returns c =
@@ -18,5 +18,5 @@ returns c =
     let names = names_granted c.args.engine.now.frame c.args.grants.now in
     let some : (length c.in_ok-text.text.items == 0) ≡ false = search rules in
     c.in_ok-grant_all.ensures
-    ∙ (ap (λ z. at_all (holding_for p z) c.args.clients.now.items) (c.deref.ensures.value ∙ c.in_ok-text.ensures)
-    ∙ tells_some p names c.args.clients.now.items (ap (λ z. length z == 0) (sym c.in_ok-text.ensures) ∙ some))
+    ∙ (ap (λ z. at_all (holding_for p z) c.args.clients.now) (c.deref.ensures.value ∙ c.in_ok-text.ensures)
+    ∙ tells_some p names c.args.clients.now (ap (λ z. length z == 0) (sym c.in_ok-text.ensures) ∙ some))

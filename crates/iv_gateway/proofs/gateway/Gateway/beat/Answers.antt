@@ -12,7 +12,7 @@ returns c = λ g b. record {
   seats = b.seats;
   feeds = b.feeds;
   pending = b.pending;
-  clients = c.in_ok-beat_all.ensures
-      ∙ (ap (λ z. at_all (holding_beat z) c.args.self.now.clients.items) (c.deref.ensures.value ∙ (c.in_ok-push_alive.ensures ∙ ap (λ z. z ++ told_text alive) c.new-text.ensures.items))
+  clients = c.in_ok-beat.ensures
+      ∙ (ap (λ z. at_all (holding_beat z) c.args.self.now.clients) (c.deref.ensures.value ∙ (c.in_ok-push_alive.ensures ∙ ap (λ z. z ++ told_text alive) c.new-text.ensures.items))
       ∙ (ap (at_all (holding_beat (told_text alive))) b.clients ∙ keeps_all (beating g.entries) (holding_beat (told_text alive)) (kept_beating g.entries) g.clients));
 }

@@ -9,13 +9,13 @@ use Rattle.iv_gateway.proofs.gateway.Gateway.close.Goals as goal
 pub returns-in_ok-reply-in-None : goal.returns-in_ok-reply-in-None
 returns-in_ok-reply-in-None c = λ g x b e.
     closes_none g c.args.client x (option_map id_data c.args.id.now) c.args.own _
-    (followed_is g x c.args.client c.args.own c.deref.result.now _ (c.deref.ensures.value ∙ b.clients) e c.followed_at.ensures ∙ c.in-None.is)
+    (followed_is g x c.args.client c.args.own c.places.result.now _ (c.places.ensures ∙ b.clients) e c.followed_at.ensures ∙ c.in-None.is)
     (c.in_ok-reply-in-None.ensures g b)
 
 pub returns-in_ok-sweep-in-Some : goal.returns-in_ok-sweep-in-Some
 returns-in_ok-sweep-in-Some c = λ g x b e.
     closes_some g c.args.client x (option_map id_data c.args.id.now) c.args.own c.in-Some.number _
-    (followed_is g x c.args.client c.args.own c.deref.result.now _ (c.deref.ensures.value ∙ b.clients) e c.followed_at.ensures ∙ c.in-Some.is)
+    (followed_is g x c.args.client c.args.own c.places.result.now _ (c.places.ensures ∙ b.clients) e c.followed_at.ensures ∙ c.in-Some.is)
     (c.in_ok-sweep-in-Some.ensures _ (c.in_ok-reply-in-Some.ensures (record g { clients = at_client c.args.client (closing c.args.own) g.clients })
     (record {
       tokens = b.tokens;
@@ -23,5 +23,5 @@ returns-in_ok-sweep-in-Some c = λ g x b e.
       seats = b.seats;
       feeds = b.feeds;
       pending = b.pending;
-      clients = c.close_at.ensures ∙ (ap (at_client c.args.client (keeping_closed c.args.own)) b.clients ∙ keeps_at c.args.client (closing c.args.own) (keeping_closed c.args.own) (λ k. refl) g.clients);
+      clients = c.close.ensures ∙ (ap (at_client c.args.client (keeping_closed c.args.own)) b.clients ∙ keeps_at c.args.client (closing c.args.own) (keeping_closed c.args.own) (λ k. refl) g.clients);
     })))

@@ -8,7 +8,7 @@ use Rattle.iv_clients.specs.Feeds.{feeds_left}
 use Rattle.iv_clients.specs.Kept.{Kept, holding_all, keeping_on}
 use Rattle.iv_gate.specs.Gate.{granted_by, is_accepted, reply_in}
 use Rattle.iv_gateway.specs.Granting.{hearing_granted}
-use Rattle.iv_gateway.specs.Hearing.{hearing_lines}
+use Rattle.iv_hall.specs.Hearing.{hearing_lines}
 use Rattle.iv_gateway.proofs.Granted.{granted_same, stands_granted}
 use Rattle.iv_gateway.proofs.gateway.Gateway.hear.Goals as goal
 
@@ -16,7 +16,7 @@ pub returns : goal.returns
 returns c = λ g k b grants.
     let ls = map line_of c.args.lines.now in
     let o = step g.machine k in
-    let places = c.args.self.now.clients.items in
+    let places = c.args.self.now.clients in
     let more = λ (role : Name). cond (is_accepted (reply_in (step g.machine k).lines)) (map granted (granted_by (step g.machine k).state.frame k.act role)) [] in
     let frame = c.args.self.now.engine.frame in
     let gives = at_all (hearing_granted (is_accepted (reply_in ls)) frame c.args.grants.now) in
@@ -26,9 +26,9 @@ returns c = λ g k b grants.
       seats = b.gate.seats;
       pending = b.gate.pending;
       feeds = c.drop_ended.ensures ∙ (ap (feeds_left ls) b.gate.feeds ∙ ap (λ z. feeds_left z g.feeds) b.lines);
-      clients = c.stay_all.ensures
+      clients = c.stay.ensures
           ∙ (ap (at_all (keeping_on ls)) (c.in_ok-hear_grants.ensures
-          ∙ (ap gives (c.in_ok-hear_lines.ensures ∙ ap (λ fs. at_all (hearing_lines fs ls) places) (c.deref.ensures.value ∙ b.gate.feeds))
+          ∙ (ap gives (c.in_ok-hear.ensures ∙ ap (λ fs. at_all (hearing_lines fs ls) places) (c.deref.ensures.value ∙ b.gate.feeds))
           ∙ granted_same ls (step g.machine k).lines frame (step g.machine k).state.frame k.act c.args.grants.now (at_all (hearing_lines g.feeds ls) places) b.lines b.gate.machine.frame grants))
           ∙ (ap (λ z. at_all (keeping_on z) (at_all (λ (x : Kept). holding_all (more x.role) x) (at_all (hearing_lines g.feeds z) places))) b.lines
           ∙ stands_granted g.entries g.feeds (step g.machine k).lines more g.clients places b.gate.clients));

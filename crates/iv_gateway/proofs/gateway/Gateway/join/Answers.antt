@@ -25,5 +25,5 @@ returns-in_ok-shut-in-Some c = λ g b.
       seats = b.seats;
       feeds = b.feeds;
       pending = b.pending;
-      clients = c.redirect_at.ensures ∙ (ap (at_client c.args.client (keeping_moved new older)) b.clients ∙ keeps_at c.args.client (moved new older) (keeping_moved new older) (λ k. refl) g.clients);
+      clients = c.in_ok-redirect-in-Some.ensures ∙ (ap (at_client c.args.client (keeping_moved new older)) b.clients ∙ keeps_at c.args.client (moved new older) (keeping_moved new older) (λ k. refl) g.clients);
     }) s k)

@@ -18,6 +18,6 @@ returns-then-not-self c = λ g b.
       seats = a.seats;
       feeds = a.feeds;
       pending = a.pending;
-      clients = c.check_all.ensures ∙ (ap (λ z. at_all (checking z) c.args.self.now.clients.items) c.deref.ensures.value
+      clients = c.check.ensures ∙ (ap (λ z. at_all (checking z) c.args.self.now.clients) c.deref.ensures.value
           ∙ (ap (at_all (checking c.args.tokens.items)) a.clients ∙ keeps_all (checked c.args.tokens.items) (checking c.args.tokens.items) (kept_checked c.args.tokens.items) g.clients));
     })

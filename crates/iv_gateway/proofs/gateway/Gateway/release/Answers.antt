@@ -13,5 +13,5 @@ returns c = λ g b. record {
   seats = b.seats;
   feeds = b.feeds;
   pending = record { within = omega arith; text = c.clear.ensures.items ∙ ap journal_of (sym (drop_all (length g.entries) g.entries (omega arith))) };
-  clients = c.in_ok-release_all.ensures ∙ (ap (at_all releasing) b.clients ∙ keeps_all released releasing kept_released g.clients);
+  clients = c.in_ok-release.ensures ∙ (ap (at_all releasing) b.clients ∙ keeps_all released releasing kept_released g.clients);
 }

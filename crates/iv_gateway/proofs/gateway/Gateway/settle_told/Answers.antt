@@ -10,5 +10,5 @@ returns c = λ g b. record {
   seats = b.seats;
   feeds = b.feeds;
   pending = b.pending;
-  clients = c.in_ok-settle_all.ensures ∙ stands_settled g.entries g.clients c.args.self.now.clients.items c.deref.result.now (c.deref.ensures.value ∙ (c.in_ok-push_settled.ensures ∙ ap (λ z. z ++ told_text settled) c.new-text.ensures.items)) b.clients;
+  clients = c.in_ok-settle.ensures ∙ stands_settled g.entries g.clients c.args.self.now.clients c.deref.result.now (c.deref.ensures.value ∙ (c.in_ok-push_settled.ensures ∙ ap (λ z. z ++ told_text settled) c.new-text.ensures.items)) b.clients;
 }

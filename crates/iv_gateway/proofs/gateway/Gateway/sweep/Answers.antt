@@ -7,11 +7,11 @@ use Rattle.iv_gateway.proofs.gateway.Gateway.sweep.Goals as goal
 
 pub returns-then-is_followed : goal.returns-then-is_followed
 returns-then-is_followed c = λ g b.
-    swept_followed g c.args.number _ c.is_followed.result (c.is_followed.ensures ∙ (ap (is_followed_by c.args.number) (c.deref.ensures.value ∙ b.clients) ∙ followed_kept c.args.number g.clients)) c.if-is_followed.true b
+    swept_followed g c.args.number _ c.is_followed.result (c.is_followed.ensures ∙ (ap (is_followed_by c.args.number) b.clients ∙ followed_kept c.args.number g.clients)) c.if-is_followed.true b
 
 pub returns-in_ok-shut-in-Some : goal.returns-in_ok-shut-in-Some
 returns-in_ok-shut-in-Some c = λ g b.
     swept_shut g c.args.number _ c.is_followed.result c.in-Some.session c.in-Some.number
-    (c.is_followed.ensures ∙ (ap (is_followed_by c.args.number) (c.deref.ensures.value ∙ b.clients) ∙ followed_kept c.args.number g.clients)) c.if-is_followed.false
-    (feed_of c.deref-2.result.now c.args.number) (ap (λ fs. feed_of fs c.args.number) (c.deref-2.ensures.value ∙ b.feeds)) (sym c.place_of.ensures ∙ c.in-Some.is)
+    (c.is_followed.ensures ∙ (ap (is_followed_by c.args.number) b.clients ∙ followed_kept c.args.number g.clients)) c.if-is_followed.false
+    (feed_of c.deref.result.now c.args.number) (ap (λ fs. feed_of fs c.args.number) (c.deref.ensures.value ∙ b.feeds)) (sym c.place_of.ensures ∙ c.in-Some.is)
     (λ f s k. c.in_ok-shut-in-Some.ensures g f b s k)

@@ -7,7 +7,7 @@ use Rattle.iv_gateway.proofs.Keeping.{keeps_at, kept_handing, sendable_kept}
 use Rattle.iv_gateway.proofs.gateway.Gateway.take.Goals as goal
 
 pub returns-clause-bytes : goal.returns-clause-bytes
-returns-clause-bytes c = λ g b d. c.take_at.ensures.bytes ∙ sendable_kept c.args.self.now.clients.items g.clients c.args.client (b.alive d).clients
+returns-clause-bytes c = λ g b d. c.take.ensures.bytes ∙ sendable_kept c.args.self.now.clients g.clients c.args.client (b.alive d).clients
 
 pub returns-clause-gate : goal.returns-clause-gate
 returns-clause-gate c = λ g b.
@@ -20,5 +20,5 @@ returns-clause-gate c = λ g b.
       seats = a.seats;
       feeds = a.feeds;
       pending = a.pending;
-      clients = c.take_at.ensures.slots ∙ (ap (at_client c.args.client emptied) a.clients ∙ keeps_at c.args.client handing emptied (kept_handing c.told_texts_are_lines.ensures) g.clients);
+      clients = c.take.ensures.hall ∙ (ap (at_client c.args.client emptied) a.clients ∙ keeps_at c.args.client handing emptied (kept_handing c.told_texts_are_lines.ensures) g.clients);
     })

@@ -9,5 +9,5 @@ returns c = λ g t b e. record {
   seats = b.seats;
   feeds = b.feeds;
   pending = b.pending;
-  clients = c.in_ok-hold_at.ensures ∙ stands_told g.entries g.clients c.args.self.now.clients.items c.args.client t c.args.text.now e b.clients;
+  clients = c.in_ok-hold.ensures ∙ stands_told g.entries g.clients c.args.self.now.clients c.args.client t c.args.text.now e b.clients;
 }

@@ -1,0 +1,105 @@
+-- What is told of lines, one after another.
+use Rattle.std.proofs.Common.{◌≡◌, ◌<◌, ℕ, zero, suc, ◌+◌, true, false, cond, List, [], ◌∷◌, ◌++◌, length, take, Some, None, get_or, map, refl, ap, ◌∙◌, sym, append-nil, add-one, arith}
+use Rattle.std.specs.Prelude.{◌==◌, flat_map, slice_get}
+use Rattle.std.proofs.lemmas.List.{map_more}
+use Rattle.std.proofs.lemmas.List.Concat.{flat_map-append}
+use Rattle.iv_access.specs.Rights.{Name}
+use Rattle.iv_machine.specs.Act.{Line, reply, change, ended}
+use Rattle.iv_message.specs.Told.{Told, told_text}
+use Rattle.iv_clients.specs.Clients.{Sub, at_all, own_line}
+use Rattle.iv_clients.specs.Feeds.{Feed, rel_read}
+use Rattle.iv_clients.specs.Kept.{Kept, Places, holding, holding_all}
+use Rattle.iv_hall.proofs.Each.{both_all, same_all, still_all}
+use Rattle.iv_hall.specs.Hearing.{feed_told, hearing_for, hearing_line, hearing_lines, text_as, told_as, told_for}
+
+pub subs_kept : (ts : List Told) (k : Kept) → (holding_all ts k).subs ≡ k.subs
+subs_kept [] k = refl
+subs_kept (t ∷ ts) k = subs_kept ts (holding (told_text t) k)
+
+pub all_append : (xs ys : List Told) (k : Kept) → holding_all (xs ++ ys) k ≡ holding_all ys (holding_all xs k)
+all_append [] ys k = refl
+all_append (x ∷ xs) ys k = all_append xs ys (holding (told_text x) k)
+
+-- ---- one number
+
+line_held : (l : Line) (rel : Name) (own feed : ℕ) (k : Kept) → feed_told l ≡ Some feed → holding (text_as rel l own) k ≡ holding_all (told_as rel l own) k
+line_held (reply n r) rel own feed k h = cc
+line_held (change n j rows) rel own feed k h = refl
+line_held (ended n j why rows) rel own feed k h = refl
+
+pub told_here : (feed : ℕ) (rel : Name) (l : Line) (s : Sub) (k : Kept) → feed_told l ≡ Some feed → (feed == s.feed) ≡ true → holding (text_as rel l s.own) k ≡ holding_all (told_for feed rel l s) k
+told_here feed rel l s k h e = line_held l rel s.own feed k h ∙ ap (λ b. holding_all (cond b (told_as rel l s.own) []) k) (sym e)
+
+pub told_not : (feed : ℕ) (rel : Name) (l : Line) (s : Sub) (k : Kept) → (feed == s.feed) ≡ false → k ≡ holding_all (told_for feed rel l s) k
+told_not feed rel l s k e = ap (λ b. holding_all (cond b (told_as rel l s.own) []) k) (sym e)
+
+-- ---- one number after another
+
+take_more : (subs : List Sub) (at : ℕ) (s : Sub) → slice_get subs at ≡ Some s → take (suc at) subs ≡ take at subs ++ s ∷ []
+take_more [] at s h = cc
+take_more (x ∷ xs) zero s h = let same : x ≡ s = cc in ap (λ z. z ∷ []) same
+take_more (x ∷ xs) (suc at) s h = ap (λ z. x ∷ z) (take_more xs at s h)
+
+pub told_more : (f : Sub → List Told) (subs : List Sub) (at : ℕ) (s : Sub) (c before now : Kept) → slice_get subs at ≡ Some s
+    → before ≡ holding_all (flat_map f (take at subs)) c → now ≡ holding_all (f s) before → now ≡ holding_all (flat_map f (take (at + 1) subs)) c
+told_more f subs at s c before now h e g =
+    g ∙ (ap (holding_all (f s)) e ∙ (sym (all_append (flat_map f (take at subs)) (f s) c)
+    ∙ ap (λ ts. holding_all ts c) (sym (ap (flat_map f) (ap (λ n. take n subs) (add-one at) ∙ take_more subs at s h)
+    ∙ (flat_map-append f (take at subs) (s ∷ []) ∙ ap (λ z. flat_map f (take at subs) ++ z) (append-nil (f s)))))))
+
+there : (subs : List Sub) (at : ℕ) → at < length subs → (s : Sub) × (slice_get subs at ≡ Some s)
+there [] at h = absurd (let no : ⊥ = omega (arith, h) in no)
+there (x ∷ xs) zero h = (x, refl)
+there (x ∷ xs) (suc at) h = there xs at (omega (arith, h))
+
+pub same_subs : (ts : List Told) (c now : Kept) → now ≡ holding_all ts c → now.subs ≡ c.subs
+same_subs ts c now e = ap (λ (k : Kept). k.subs) e ∙ subs_kept ts c
+
+pub told_next : (f : Sub → List Told) (at : ℕ) (c before now : Kept) → at < length c.subs → before ≡ holding_all (flat_map f (take at c.subs)) c
+    → ((s : Sub) → slice_get before.subs at ≡ Some s → now ≡ holding_all (f s) before) → now ≡ holding_all (flat_map f (take (at + 1) c.subs)) c
+told_next f at c before now lt e step =
+    let p = there c.subs at lt in
+    told_more f c.subs at p.0 c before now p.1 e (step p.0 (ap (λ ss. slice_get ss at) (same_subs (flat_map f (take at c.subs)) c before e) ∙ p.1))
+
+-- ---- lines
+
+told_same : (feeds : List Feed) (l : Line) (feed : ℕ) (s : Sub) → feed_told l ≡ Some feed → told_for feed (rel_read feeds feed) l s ≡ own_line feeds l s
+told_same feeds (reply n r) feed s h = cc
+told_same feeds (change n j rows) feed s h = let same : j ≡ feed = cc in sym (ap (λ z. told_for z (rel_read feeds z) (change n j rows) s) same)
+told_same feeds (ended n j why rows) feed s h = let same : j ≡ feed = cc in sym (ap (λ z. told_for z (rel_read feeds z) (ended n j why rows) s) same)
+
+pub hear_feed : (feeds : List Feed) (l : Line) (feed : ℕ) (places : Places) → feed_told l ≡ Some feed → at_all (hearing_for feed (rel_read feeds feed) l) places ≡ at_all (hearing_line feeds l) places
+hear_feed feeds l feed places h = same_all (hearing_for feed (rel_read feeds feed) l) (hearing_line feeds l) (λ k i. holding_all (flat_map (λ s. told_same feeds l feed s h i) k.subs) k) places
+
+untold : (feeds : List Feed) (l : Line) (subs : List Sub) → feed_told l ≡ None → flat_map (own_line feeds l) subs ≡ []
+untold feeds (reply n r) [] h = refl
+untold feeds (reply n r) (s ∷ ss) h = untold feeds (reply n r) ss h
+untold feeds (change n j rows) subs h = cc
+untold feeds (ended n j why rows) subs h = cc
+
+-- what is of no feed nobody is told
+pub hear_none : (feeds : List Feed) (l : Line) (places : Places) → feed_told l ≡ None → places ≡ at_all (hearing_line feeds l) places
+hear_none feeds l places h = still_all (hearing_line feeds l) (λ k. ap (λ ts. holding_all ts k) (sym (untold feeds l k.subs h))) places
+
+pub hear_nothing : (feeds : List Feed) (places : Places) → places ≡ at_all (hearing_lines feeds []) places
+hear_nothing feeds places = still_all (hearing_lines feeds []) (λ k. refl) places
+
+line_more : (feeds : List Feed) (ls : List Line) (l : Line) (k : Kept) → hearing_line feeds l (hearing_lines feeds ls k) ≡ hearing_lines feeds (ls ++ l ∷ []) k
+line_more feeds ls l k =
+    let own = λ (m : Line). flat_map (own_line feeds m) k.subs in
+    ap (λ subs. holding_all (flat_map (own_line feeds l) subs) (holding_all (flat_map own ls) k)) (subs_kept (flat_map own ls) k)
+    ∙ (sym (all_append (flat_map own ls) (own l) k)
+    ∙ ap (λ ts. holding_all ts k) (sym (flat_map-append own ls (l ∷ []) ∙ ap (λ z. flat_map own ls ++ z) (append-nil (own l)))))
+
+hear_more : (feeds : List Feed) (ls : List Line) (l : Line) (places : Places) → at_all (hearing_line feeds l) (at_all (hearing_lines feeds ls) places) ≡ at_all (hearing_lines feeds (ls ++ l ∷ [])) places
+hear_more feeds ls l places =
+    both_all (hearing_line feeds l) (hearing_lines feeds ls) places
+    ∙ same_all (λ k. hearing_line feeds l (hearing_lines feeds ls k)) (hearing_lines feeds (ls ++ l ∷ [])) (line_more feeds ls l) places
+
+-- one line more of a list
+pub hear_next : {A : Type 0} (read : A → Line) (feeds : List Feed) (xs : List A) (i : ℕ) (x : A) (places before now : Places) → i < length xs → x ≡ get_or xs i x
+    → before ≡ at_all (hearing_lines feeds (map read (take i xs))) places → now ≡ at_all (hearing_line feeds (read x)) before
+    → now ≡ at_all (hearing_lines feeds (map read (take (i + 1) xs))) places
+hear_next read feeds xs i x places before now lt is e g =
+    g ∙ (ap (at_all (hearing_line feeds (read x))) e ∙ (hear_more feeds (map read (take i xs)) (read x) places
+    ∙ ap (λ ls. at_all (hearing_lines feeds ls) places) (ap (λ y. map read (take i xs) ++ read y ∷ []) is ∙ sym (map_more read xs i x lt))))

@@ -1,0 +1,10 @@
+pub mod Calls
+pub mod Each
+pub mod Halls
+pub mod Heard
+pub mod Joined
+pub mod Placed
+pub mod Placing
+pub mod Quiet
+pub mod Stayed
+pub mod Walked

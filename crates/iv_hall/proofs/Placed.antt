@@ -1,0 +1,124 @@
+-- Which numbers are in the list, as one comes into it or leaves it.
+use Rattle.std.proofs.Common.{List, [], ap, arith, eqb, get_or, inl, inr, length, refl, subst, sym, take, ℕ, ◌++◌, ◌+◌, ◌<◌, ◌∙◌, ◌∷◌, ◌≡◌, ◌≤◌, ◌⊎◌}
+use Rattle.std.specs.List.{Contains, IsDistinct}
+use Rattle.std.proofs.lemmas.Bool.{cases_eq, ne_eqb}
+use Rattle.std.proofs.lemmas.List.{get_or_default, get_or-take, length-take-le, take_more}
+use Rattle.std.proofs.lemmas.List.Elements.{Contains-append_left, Contains-push, Contains-push_cases}
+use Rattle.std.proofs.lemmas.Map.Keys.{IsDistinct-from_apart}
+use Rattle.iv_hall.specs.Numbers.{HasGained, HasGainedAll, HasLost, IsExchanged, IsOrder, Numbers}
+
+-- ---- which are in the list
+
+-- a number is in the list where its place is in front
+pub front_place : (order places : List ℕ) (count m : ℕ) → IsOrder order places → count ≤ length order → Contains (take count order) m → (m < length order) × (get_or places m 0 < count)
+front_place order places count m w lc c =
+    let k = c.0 in
+    let lk : k < count = omega (arith, c.1, length-take-le count order lc) in
+    let lo : k < length order = omega (arith, lk, lc) in
+    let is : get_or order k 0 ≡ m = get_or_default order k 0 m lo ∙ (sym (get_or-take count order k m lk) ∙ c.2) in
+    let h = w.numbered k lo in
+    (omega (arith, h.0, is), omega (arith, lk, sym (ap (λ z. get_or places z 0) is) ∙ h.1))
+
+pub place_front : (order places : List ℕ) (count m : ℕ) → IsOrder order places → count ≤ length order → m < length order → get_or places m 0 < count → Contains (take count order) m
+place_front order places count m w lc lm lp =
+    let h = w.placed m lm in
+    (get_or places m 0, omega (arith, lp, length-take-le count order lc), get_or-take count order (get_or places m 0) m lp ∙ (get_or_default order (get_or places m 0) m 0 h.0 ∙ h.1))
+
+pub listed_once : (order places : List ℕ) (count : ℕ) → IsOrder order places → count ≤ length order → IsDistinct eqb (take count order)
+listed_once order places count w lc = IsDistinct-from_apart eqb (take count order) (λ i j d lt lj.
+    let hj : j < count = omega (arith, lj, length-take-le count order lc) in
+    let hi : i < count = omega (arith, lt, hj) in
+    let li : i < length order = omega (arith, hi, lc) in
+    let lj' : j < length order = omega (arith, hj, lc) in
+    ne_eqb (get_or (take count order) i d) (get_or (take count order) j d) (λ e.
+    let same : get_or order i 0 ≡ get_or order j 0 =
+    get_or_default order i 0 d li ∙ (sym (get_or-take count order i d hi) ∙ (e ∙ (get_or-take count order j d hj ∙ get_or_default order j d 0 lj'))) in
+    let eq : i ≡ j = sym (w.numbered i li).1 ∙ (ap (λ z. get_or places z 0) same ∙ (w.numbered j lj').1) in
+    omega (arith, eq, lt)))
+
+-- ---- one comes in, or leaves
+
+pub gained : (order places now after : List ℕ) (count n : ℕ) → IsOrder order places → count < length order → n < length order → count ≤ get_or places n 0 → IsExchanged n count order places now after
+    → HasGained n (record { list = take count order; size = length order }) (record { list = take (count + 1) now; size = length now })
+gained order places now after count n w lc ln above x = record {
+  size = x.size;
+  put = λ h. come n ln (omega (arith, x.here));
+  kept = λ m c. let p = front_place order places count m w (omega (arith, lc)) c in come m p.0 (stays m p.0 p.1 (cases_eq m n) (cases_eq m (get_or order count 0)));
+  only = λ m c. let p = front_place now after (count + 1) m x.whole (omega (arith, lc, x.size)) c in from m (omega (arith, p.0, x.size)) p.1 (cases_eq m n) (cases_eq m (get_or order count 0));
+}
+  where
+    come : (m : ℕ) → m < length order → get_or after m 0 < count + 1 → Contains (take (count + 1) now) m
+    come m l p = place_front now after (count + 1) m x.whole (omega (arith, lc, x.size)) (omega (arith, l, x.size)) p
+
+    stays : (m : ℕ) → m < length order → get_or places m 0 < count → (m ≡ n) ⊎ (m ≡ n → ⊥) → (m ≡ get_or order count 0) ⊎ (m ≡ get_or order count 0 → ⊥) → get_or after m 0 < count + 1
+    stays m l p (inl e) c = omega (arith, ap (λ z. get_or after z 0) e ∙ x.here)
+    stays m l p (inr ne) (inl e) = absurd (omega (arith, p, ap (λ z. get_or places z 0) e ∙ (w.numbered count lc).1))
+    stays m l p (inr ne) (inr nx) = omega (arith, p, x.others m ne nx)
+
+    from : (m : ℕ) → m < length order → get_or after m 0 < count + 1 → (m ≡ n) ⊎ (m ≡ n → ⊥) → (m ≡ get_or order count 0) ⊎ (m ≡ get_or order count 0 → ⊥) → Contains (take count order) m ⊎ (m ≡ n)
+    from m l p (inl e) c = inr e
+    from m l p (inr ne) (inl e) =
+        let same : get_or places n 0 ≡ count = let h = x.there m e ne in omega (arith, h, p, above) in
+        inr (e ∙ (sym (ap (λ z. get_or order z 0) same) ∙ (w.placed n ln).1))
+    from m l p (inr ne) (inr nx) =
+        let h = x.others m ne nx in
+        let not : get_or places m 0 ≡ count → ⊥ = λ s. nx (sym (w.placed m l).1 ∙ ap (λ z. get_or order z 0) s) in
+        inl (place_front order places count m w (omega (arith, lc)) l (omega (arith, h, p, not)))
+
+pub lost : (order places now after : List ℕ) (count n : ℕ) → IsOrder order places → count < length order → n < length order → get_or places n 0 < count + 1 → IsExchanged n count order places now after
+    → HasLost n (record { list = take (count + 1) order; size = length order }) (record { list = take count now; size = length now })
+lost order places now after count n w lc ln below x = record {
+  size = x.size;
+  gone = λ c. let p = front_place now after count n x.whole (omega (arith, lc, x.size)) c in omega (arith, p.1, x.here);
+  kept = λ m ne c. let p = front_place order places (count + 1) m w (omega (arith, lc)) c in
+      place_front now after count m x.whole (omega (arith, lc, x.size)) (omega (arith, p.0, x.size)) (stays m p.0 p.1 ne (cases_eq m (get_or order count 0)));
+  only = λ m c. let p = front_place now after count m x.whole (omega (arith, lc, x.size)) c in
+      let l : m < length order = omega (arith, p.0, x.size) in
+      place_front order places (count + 1) m w (omega (arith, lc)) l (was m l p.1 (cases_eq m n) (cases_eq m (get_or order count 0)));
+}
+  where
+    stays : (m : ℕ) → m < length order → get_or places m 0 < count + 1 → (m ≡ n → ⊥) → (m ≡ get_or order count 0) ⊎ (m ≡ get_or order count 0 → ⊥) → get_or after m 0 < count
+    stays m l p ne (inl e) =
+        let not : get_or places n 0 ≡ count → ⊥ = λ s. ne (e ∙ (sym (ap (λ z. get_or order z 0) s) ∙ (w.placed n ln).1)) in
+        omega (arith, x.there m e ne, below, not)
+    stays m l p ne (inr nx) =
+        let not : get_or places m 0 ≡ count → ⊥ = λ s. nx (sym (w.placed m l).1 ∙ ap (λ z. get_or order z 0) s) in
+        omega (arith, x.others m ne nx, p, not)
+
+    was : (m : ℕ) → m < length order → get_or after m 0 < count → (m ≡ n) ⊎ (m ≡ n → ⊥) → (m ≡ get_or order count 0) ⊎ (m ≡ get_or order count 0 → ⊥) → get_or places m 0 < count + 1
+    was m l p (inl e) c = omega (arith, ap (λ z. get_or places z 0) e, below)
+    was m l p (inr ne) (inl e) = omega (arith, ap (λ z. get_or places z 0) e ∙ (w.numbered count lc).1)
+    was m l p (inr ne) (inr nx) = omega (arith, x.others m ne nx, p)
+
+-- a number that is not in front is not in the list
+pub not_in : (order places : List ℕ) (count n : ℕ) → IsOrder order places → count ≤ length order → (n < length order → count ≤ get_or places n 0) → Contains (take count order) n → ⊥
+not_in order places count n w lc above c = let p = front_place order places count n w lc c in let h = above p.0 in omega (arith, p.1, h)
+
+-- ---- a list of them comes in
+
+pub gained_none : (old : Numbers) → HasGainedAll [] old old
+gained_none old = record { size = refl; put = λ m h c. absurd (let l = c.1 in let none : ⊥ = omega (arith, l) in none); kept = λ m c. c; only = λ m c. inl c }
+
+-- one number more of a list
+pub gained_next : (ns : List ℕ) (i : ℕ) (old before now : Numbers) → i < length ns → HasGainedAll (take i ns) old before → HasGained (get_or ns i 0) before now → HasGainedAll (take (i + 1) ns) old now
+gained_next ns i old before now lt g h = record {
+  size = h.size ∙ g.size;
+  put = λ m l c. put m l (Contains-push_cases (take i ns) (get_or ns i 0) m (subst (λ z. Contains z m) more c));
+  kept = λ m c. h.kept m (g.kept m c);
+  only = λ m c. only m (h.only m c);
+}
+  where
+    more : take (i + 1) ns ≡ take i ns ++ get_or ns i 0 ∷ []
+    more = take_more ns i 0 lt
+
+    put : (m : ℕ) → m < old.size → Contains (take i ns) m ⊎ (get_or ns i 0 ≡ m) → Contains now.list m
+    put m l (inl c) = h.kept m (g.put m l c)
+    put m l (inr e) = subst (Contains now.list) e (h.put (omega (arith, l, e, g.size)))
+
+    from : (m : ℕ) → Contains old.list m ⊎ Contains (take i ns) m → Contains old.list m ⊎ Contains (take (i + 1) ns) m
+    from m (inl c) = inl c
+    from m (inr c) = inr (subst (λ z. Contains z m) (sym more) (Contains-append_left (take i ns) (get_or ns i 0 ∷ []) m c))
+
+    only : (m : ℕ) → Contains before.list m ⊎ (m ≡ get_or ns i 0) → Contains old.list m ⊎ Contains (take (i + 1) ns) m
+    only m (inl c) = from m (g.only m c)
+    only m (inr e) = inr (subst (λ z. Contains z m) (sym more) (subst (Contains (take i ns ++ get_or ns i 0 ∷ [])) (sym e) (Contains-push (take i ns) (get_or ns i 0))))

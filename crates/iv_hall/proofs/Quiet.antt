@@ -1,0 +1,204 @@
+-- Clients to whom something is done that leaves them as they were, or of whom less is so than before.
+use Rattle.std.proofs.Common.{◌≡◌, ◌∙◌, ◌⊎◌, inl, inr, ℕ, suc, ◌+◌, Bool, true, false, ◌||◌, cond, not, List, [], ◌∷◌, ◌++◌, length, map, filter, refl, ap, sym, arith, append-nil}
+use Rattle.std.specs.Prelude.{◌==◌, bytes_eq, flat_map, nat_lt}
+use Rattle.std.specs.List.{list_any}
+use Rattle.std.proofs.lemmas.Bool.{cases_Bool, eqb-true, false≢true, not-false, or_cases, or_left, or_parts, or_right}
+use Rattle.std.proofs.lemmas.List.Folds.{list_any-append}
+use Rattle.iv_access.specs.Rights.{Name}
+use Rattle.iv_machine.specs.Act.{Line}
+use Rattle.iv_message.specs.Told.{Told}
+use Rattle.iv_clients.specs.Bounds.{most_piled}
+use Rattle.iv_clients.specs.Clients.{Sub, moved_sub}
+use Rattle.iv_clients.specs.Kept.{Kept, checking, emptied, holding, holding_all, holding_owed, is_due, is_following, is_told, letting_go, releasing}
+use Rattle.iv_clients.specs.Tokens.{Token, role_opened}
+use Rattle.iv_rows.specs.Options.{if_some}
+use Rattle.iv_hall.specs.Hearing.{hearing_for, told_as, told_for}
+
+-- ---- told
+
+-- what a client is that was told nothing
+pub record IsQuiet (k : Kept) : Type 0 where
+  pub dropped : k.dropped ≡ false
+  pub sendable : k.sendable ≡ []
+  pub unsynced : k.unsynced ≡ []
+  pub brought : k.brought ≡ 0
+  pub piled : k.piled ≡ 0
+
+no_text : (xs : List ℕ) → not (length xs == 0) ≡ false → xs ≡ []
+no_text [] h = refl
+no_text (x ∷ xs) h = absurd (let e : suc (length xs) ≡ 0 = eqb-true (suc (length xs)) 0 (not-false (suc (length xs) == 0) h) in let none : ⊥ = omega (arith, e) in none)
+
+pub quiet : (k : Kept) → is_told k ≡ false → IsQuiet k
+quiet k h =
+    let a = or_parts (is_due k) (not (length k.unsynced == 0) || (not (k.brought == 0) || not (k.piled == 0))) h in
+    let b = or_parts k.dropped (not (length k.sendable == 0)) a.0 in
+    let c = or_parts (not (length k.unsynced == 0)) (not (k.brought == 0) || not (k.piled == 0)) a.1 in
+    let d = or_parts (not (k.brought == 0)) (not (k.piled == 0)) c.1 in
+    record {
+      dropped = b.0;
+      sendable = no_text k.sendable b.1;
+      unsynced = no_text k.unsynced c.0;
+      brought = eqb-true k.brought 0 (not-false (k.brought == 0) d.0);
+      piled = eqb-true k.piled 0 (not-false (k.piled == 0) d.1);
+    }
+
+-- who was told nothing has nothing released
+pub released_quiet : (k : Kept) → is_told k ≡ false → releasing k ≡ k
+released_quiet k h =
+    let q = quiet k h in
+    (λ i. cond (q.dropped i || nat_lt most_piled (q.piled i)) (letting_go k) (record k { unsynced = []; sendable = k.sendable ++ k.unsynced; brought = 0; piled = k.piled + k.brought }))
+    ∙ (λ i. record k { unsynced = sym q.unsynced i; sendable = text q i; brought = sym q.brought i; piled = count q i })
+  where
+    text : IsQuiet k → k.sendable ++ k.unsynced ≡ k.sendable
+    text q = ap (λ z. k.sendable ++ z) q.unsynced ∙ append-nil k.sendable
+
+    count : IsQuiet k → k.piled + k.brought ≡ k.piled
+    count q = omega (arith, q.brought)
+
+-- who is told something was told something before
+pub told_before : (f : Kept → Kept) (k : Kept) → (is_told k ≡ false → f k ≡ k) → is_told (f k) ≡ true → is_told k ≡ true
+told_before f k still h = by (cases_Bool (is_told k))
+  where
+    by : (is_told k ≡ true) ⊎ (is_told k ≡ false) → is_told k ≡ true
+    by (inl e) = e
+    by (inr e) = absurd (false≢true (sym e ∙ (ap is_told (sym (still e)) ∙ h)))
+
+-- who was told nothing has nothing to take
+pub emptied_quiet : (k : Kept) → is_told k ≡ false → emptied k ≡ k
+emptied_quiet k h = ap (λ z. cond (length z == 0) k (record k { sendable = []; asked = 0; piled = 0 })) (quiet k h).sendable
+
+-- who has something that may be sent was told something
+pub due_told : (k : Kept) → is_due k ≡ true → is_told k ≡ true
+due_told k h = or_left (is_due k) (not (length k.unsynced == 0) || (not (k.brought == 0) || not (k.piled == 0))) h
+
+emptied_by : (b : Bool) (k : Kept) → (cond b k (record k { sendable = []; asked = 0; piled = 0 })).owed ≡ k.owed
+emptied_by true k = refl
+emptied_by false k = refl
+
+pub emptied_owed : (k : Kept) → (emptied k).owed ≡ k.owed
+emptied_owed k = emptied_by (length k.sendable == 0) k
+
+emptied_with : (b : Bool) (k : Kept) → (cond b k (record k { sendable = []; asked = 0; piled = 0 })).subs ≡ k.subs
+emptied_with true k = refl
+emptied_with false k = refl
+
+pub emptied_subs : (k : Kept) → (emptied k).subs ≡ k.subs
+emptied_subs k = emptied_with (length k.sendable == 0) k
+
+released_by : (b : Bool) (k : Kept) → (cond b (letting_go k) (record k { unsynced = []; sendable = k.sendable ++ k.unsynced; brought = 0; piled = k.piled + k.brought })).owed ≡ k.owed
+released_by true k = refl
+released_by false k = refl
+
+pub released_owed : (k : Kept) → (releasing k).owed ≡ k.owed
+released_owed k = released_by (k.dropped || nat_lt most_piled k.piled) k
+
+released_with : (b : Bool) (k : Kept) → (cond b (letting_go k) (record k { unsynced = []; sendable = k.sendable ++ k.unsynced; brought = 0; piled = k.piled + k.brought })).subs ≡ k.subs
+released_with true k = refl
+released_with false k = refl
+
+pub released_subs : (k : Kept) → (releasing k).subs ≡ k.subs
+released_subs k = released_with (k.dropped || nat_lt most_piled k.piled) k
+
+checked_by : (b : Bool) (k : Kept) → (cond b k (letting_go k)).owed ≡ k.owed
+checked_by true k = refl
+checked_by false k = refl
+
+pub checked_owed : (tokens : List Token) (k : Kept) → (checking tokens k).owed ≡ k.owed
+checked_owed tokens k = checked_by (if_some (role_opened tokens k.digest) false (λ (r : Name). bytes_eq k.role r)) k
+
+checked_with : (b : Bool) (k : Kept) → (cond b k (letting_go k)).subs ≡ k.subs
+checked_with true k = refl
+checked_with false k = refl
+
+pub checked_subs : (tokens : List Token) (k : Kept) → (checking tokens k).subs ≡ k.subs
+checked_subs tokens k = checked_with (if_some (role_opened tokens k.digest) false (λ (r : Name). bytes_eq k.role r)) k
+
+-- ---- owed
+
+pub settled_still : (text : List ℕ) (k : Kept) → k.owed ≡ false → holding_owed text k ≡ k
+settled_still text k h = ap (λ b. cond b (record (holding text k) { owed = false }) k) h
+
+settled_by : (text : List ℕ) (b : Bool) (k : Kept) → k.owed ≡ b → (cond b (record (holding text k) { owed = false }) k).owed ≡ false
+settled_by text true k h = refl
+settled_by text false k h = h
+
+pub settled_owed : (text : List ℕ) (k : Kept) → (holding_owed text k).owed ≡ false
+settled_owed text k = settled_by text k.owed k refl
+
+settled_with : (text : List ℕ) (b : Bool) (k : Kept) → (cond b (record (holding text k) { owed = false }) k).subs ≡ k.subs
+settled_with text true k = refl
+settled_with text false k = refl
+
+pub settled_subs : (text : List ℕ) (k : Kept) → (holding_owed text k).subs ≡ k.subs
+settled_subs text k = settled_with text k.owed k
+
+-- ---- follows
+
+-- who has the same subscriptions follows the same
+pub follows_same : (feed : ℕ) (k c : Kept) → c.subs ≡ k.subs → is_following feed c ≡ true → is_following feed k ≡ true
+follows_same feed k c e h = ap (λ z. list_any (λ (s : Sub). feed == s.feed) z) (sym e) ∙ h
+
+any_filter : {X : Type 0} (p q : X → Bool) (xs : List X) → list_any p (filter q xs) ≡ true → list_any p xs ≡ true
+any_filter p q [] h = h
+any_filter p q (x ∷ xs) h = by (q x) h (λ e. any_filter p q xs e)
+  where
+    from : (p x ≡ true) ⊎ (list_any p (filter q xs) ≡ true) → (list_any p (filter q xs) ≡ true → list_any p xs ≡ true) → (p x || list_any p xs) ≡ true
+    from (inl e) rest = or_left (p x) (list_any p xs) e
+    from (inr e) rest = or_right (p x) (list_any p xs) (rest e)
+
+    by : (b : Bool) → list_any p (cond b (x ∷ filter q xs) (filter q xs)) ≡ true → (list_any p (filter q xs) ≡ true → list_any p xs ≡ true) → (p x || list_any p xs) ≡ true
+    by true h rest = from (or_cases (p x) (list_any p (filter q xs)) h) rest
+    by false h rest = or_right (p x) (list_any p xs) (rest h)
+
+-- who closed a number, or stayed behind lines, follows no more than before
+pub follows_fewer : (feed : ℕ) (q : Sub → Bool) (subs : List Sub) → list_any (λ (s : Sub). feed == s.feed) (filter q subs) ≡ true → list_any (λ (s : Sub). feed == s.feed) subs ≡ true
+follows_fewer feed q subs h = any_filter (λ s. feed == s.feed) q subs h
+
+-- who follows one feed more follows that one, or did before
+pub follows_new : (feed new own : ℕ) (subs : List Sub) → list_any (λ (s : Sub). feed == s.feed) (subs ++ record { own = own; feed = new } ∷ []) ≡ true → (feed ≡ new) ⊎ (list_any (λ (s : Sub). feed == s.feed) subs ≡ true)
+follows_new feed new own subs h = from (or_cases (list_any (λ (s : Sub). feed == s.feed) subs) ((feed == new) || false) (sym (list_any-append (λ (s : Sub). feed == s.feed) subs (record { own = own; feed = new } ∷ [])) ∙ h))
+  where
+    from : (list_any (λ (s : Sub). feed == s.feed) subs ≡ true) ⊎ (((feed == new) || false) ≡ true) → (feed ≡ new) ⊎ (list_any (λ (s : Sub). feed == s.feed) subs ≡ true)
+    from (inl e) = inr e
+    from (inr e) = last (or_cases (feed == new) false e)
+      where
+        last : ((feed == new) ≡ true) ⊎ (false ≡ true) → (feed ≡ new) ⊎ (list_any (λ (s : Sub). feed == s.feed) subs ≡ true)
+        last (inl x) = inl (eqb-true feed new x)
+        last (inr x) = absurd (false≢true x)
+
+-- who is led from one feed to another follows that one, or the same as before
+pub follows_moved : (feed from to : ℕ) (subs : List Sub) → list_any (λ (s : Sub). feed == s.feed) (map (moved_sub from to) subs) ≡ true → (feed ≡ to) ⊎ (list_any (λ (s : Sub). feed == s.feed) subs ≡ true)
+follows_moved feed from to [] h = inr h
+follows_moved feed from to (s ∷ ss) h = by (from == s.feed) h (λ e. follows_moved feed from to ss e)
+  where
+    one : (feed ≡ to) ⊎ ((feed == s.feed) ≡ true) → (feed ≡ to) ⊎ (((feed == s.feed) || list_any (λ (x : Sub). feed == x.feed) ss) ≡ true)
+    one (inl x) = inl x
+    one (inr x) = inr (or_left (feed == s.feed) (list_any (λ (x : Sub). feed == x.feed) ss) x)
+
+    many : (feed ≡ to) ⊎ (list_any (λ (x : Sub). feed == x.feed) ss ≡ true) → (feed ≡ to) ⊎ (((feed == s.feed) || list_any (λ (x : Sub). feed == x.feed) ss) ≡ true)
+    many (inl x) = inl x
+    many (inr x) = inr (or_right (feed == s.feed) (list_any (λ (x : Sub). feed == x.feed) ss) x)
+
+    from_both : (b : Bool) → (b ≡ true → (feed ≡ to) ⊎ ((feed == s.feed) ≡ true)) → (b ≡ true) ⊎ (list_any (λ (x : Sub). feed == x.feed) (map (moved_sub from to) ss) ≡ true)
+        → (list_any (λ (x : Sub). feed == x.feed) (map (moved_sub from to) ss) ≡ true → (feed ≡ to) ⊎ (list_any (λ (x : Sub). feed == x.feed) ss ≡ true))
+        → (feed ≡ to) ⊎ (((feed == s.feed) || list_any (λ (x : Sub). feed == x.feed) ss) ≡ true)
+    from_both b first (inl e) rest = one (first e)
+    from_both b first (inr e) rest = many (rest e)
+
+    by : (b : Bool) → ((feed == (cond b (record s { feed = to }) s).feed) || list_any (λ (x : Sub). feed == x.feed) (map (moved_sub from to) ss)) ≡ true
+        → (list_any (λ (x : Sub). feed == x.feed) (map (moved_sub from to) ss) ≡ true → (feed ≡ to) ⊎ (list_any (λ (x : Sub). feed == x.feed) ss ≡ true))
+        → (feed ≡ to) ⊎ (((feed == s.feed) || list_any (λ (x : Sub). feed == x.feed) ss) ≡ true)
+    by true h rest = from_both (feed == to) (λ e. inl (eqb-true feed to e)) (or_cases (feed == to) (list_any (λ (x : Sub). feed == x.feed) (map (moved_sub from to) ss)) h) rest
+    by false h rest = from_both (feed == s.feed) (λ e. inr e) (or_cases (feed == s.feed) (list_any (λ (x : Sub). feed == x.feed) (map (moved_sub from to) ss)) h) rest
+
+-- ---- hears
+
+untold : (feed : ℕ) (rel : Name) (l : Line) (subs : List Sub) → list_any (λ (s : Sub). feed == s.feed) subs ≡ false → flat_map (told_for feed rel l) subs ≡ []
+untold feed rel l [] h = refl
+untold feed rel l (s ∷ ss) h =
+    let p = or_parts (feed == s.feed) (list_any (λ (x : Sub). feed == x.feed) ss) h in
+    ap (λ b. cond b (told_as rel l s.own) [] ++ flat_map (told_for feed rel l) ss) p.0 ∙ untold feed rel l ss p.1
+
+-- who does not follow a feed is told nothing of it
+pub hears_nothing : (feed : ℕ) (rel : Name) (l : Line) (k : Kept) → is_following feed k ≡ false → hearing_for feed rel l k ≡ k
+hears_nothing feed rel l k h = ap (λ (ts : List Told). holding_all ts k) (untold feed rel l k.subs h)

@@ -1,0 +1,9 @@
+use Rattle.std.proofs.Common.{◌∙◌, Some, ap, set, string_bytes}
+use Rattle.iv_hall.proofs.Calls.{enters}
+use Rattle.iv_hall.proofs.hall.Hall.enter.Goals as goal
+
+pub invariant_of-self : goal.invariant_of-self
+invariant_of-self c = enters c.self.inside.most c.self.inside.slots.items _ c.self.inside.owed c.self.inside.told c.self.inside.readers.items c.args.client (string_bytes c.args.role) c.args.digest.items c.self.invariant (c.put_at.ensures ∙ ap (λ k. set c.self.inside.slots.items c.args.client (Some k)) c.new.ensures)
+
+pub returns : goal.returns
+returns c = c.put_at.ensures ∙ ((λ i. set (c.self.view_is i) c.args.client (Some (c.new.ensures i))))

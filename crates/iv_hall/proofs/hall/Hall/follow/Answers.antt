@@ -1,0 +1,14 @@
+use Rattle.std.proofs.Common.{◌∙◌, ap, refl}
+use Rattle.iv_clients.specs.Clients.{at_client}
+use Rattle.iv_clients.specs.Kept.{keeping_new}
+use Rattle.iv_hall.proofs.Calls.{fails, follows}
+use Rattle.iv_hall.proofs.hall.Hall.follow.Goals as goal
+
+pub invariant_of-self : goal.invariant_of-self
+invariant_of-self c = follows c.self.inside.most c.self.inside.slots.items _ c.self.inside.owed c.self.inside.told c.self.inside.readers.items _ c.args.client c.args.feed c.self.invariant c.in-Ok.ensures.clients c.in-Ok.ensures.readers
+
+pub invariant_of-self-in-Err : goal.invariant_of-self-in-Err
+invariant_of-self-in-Err c = fails c.self.inside.most c.self.inside.slots.items _ c.self.inside.owed c.self.inside.owed c.self.inside.told c.self.inside.told c.self.inside.readers.items _ c.self.invariant (refl) (refl) c.clear.ensures.items
+
+pub returns-in-Ok : goal.returns-in-Ok
+returns-in-Ok c = c.in-Ok.ensures.clients ∙ ap (at_client c.args.client (keeping_new c.args.feed)) c.self.view_is

@@ -1,0 +1,5 @@
+use Rattle.iv_hall.proofs.Calls.{begins}
+use Rattle.iv_hall.proofs.hall.Hall.new.Goals as goal
+
+pub invariant_of-result : goal.invariant_of-result
+invariant_of-result c = rw c.new-3.ensures.items (begins c.args.most _ _ _ c.in_ok-slots.ensures c.in_ok-owed.ensures c.in_ok-told.ensures)

@@ -1,0 +1,15 @@
+use Rattle.iv_hall.specs.Readers.{HasKept}
+use Rattle.std.proofs.Common.{◌∙◌, ap, refl, subst}
+use Rattle.iv_clients.specs.Clients.{at_client}
+use Rattle.iv_clients.specs.Kept.{keeping_moved}
+use Rattle.iv_hall.proofs.Calls.{fails, redirects}
+use Rattle.iv_hall.proofs.hall.Hall.redirect.Goals as goal
+
+pub invariant_of-self : goal.invariant_of-self
+invariant_of-self c = redirects c.self.inside.most c.self.inside.slots.items _ c.self.inside.owed c.self.inside.told c.self.inside.readers.items c.join.new.readers.items _ c.args.client c.args.from c.args.to c.self.invariant c.in-Ok.ensures c.redirect_at.ensures (subst (λ z. HasKept c.args.client z c.join.new.readers.items c.quit_unfollowed.new.readers.items) c.deref.ensures.value c.quit_unfollowed.ensures)
+
+pub invariant_of-self-in-Err : goal.invariant_of-self-in-Err
+invariant_of-self-in-Err c = fails c.self.inside.most c.self.inside.slots.items _ c.self.inside.owed c.self.inside.owed c.self.inside.told c.self.inside.told c.self.inside.readers.items _ c.self.invariant (refl) (refl) c.clear.ensures.items
+
+pub returns-in-Ok : goal.returns-in-Ok
+returns-in-Ok c = c.redirect_at.ensures ∙ ap (at_client c.args.client (keeping_moved c.args.from c.args.to)) c.self.view_is

@@ -1,0 +1,16 @@
+use Rattle.iv_hall.specs.Hall.{IsUnlisted}
+use Rattle.std.proofs.Common.{◌∙◌, [], ap, subst}
+use Rattle.iv_clients.specs.Clients.{at_client, client_at}
+use Rattle.iv_clients.specs.Kept.{Kept, emptied}
+use Rattle.iv_rows.specs.Options.{if_some}
+use Rattle.iv_hall.proofs.Calls.{takes}
+use Rattle.iv_hall.proofs.hall.Hall.take.Goals as goal
+
+pub invariant_of-self : goal.invariant_of-self
+invariant_of-self c = takes c.self.inside.most c.self.inside.slots.items _ c.self.inside.owed c.self.inside.told _ c.self.inside.readers.items c.args.client c.self.invariant c.take_at-text.ensures.slots (subst (λ z. IsUnlisted c.args.client z c.self.inside.told c.unlist.new.told) c.deref.ensures.value c.unlist.ensures)
+
+pub returns-clause-bytes : goal.returns-clause-bytes
+returns-clause-bytes c = c.take_at-text.ensures.bytes ∙ ap (λ z. if_some (client_at z c.args.client) [] (λ (k : Kept). k.sendable)) c.self.view_is
+
+pub returns-clause-hall : goal.returns-clause-hall
+returns-clause-hall c = c.take_at-text.ensures.slots ∙ ap (at_client c.args.client emptied) c.self.view_is

@@ -1,0 +1,12 @@
+use Rattle.iv_command.specs.Views.{line_of}
+use Rattle.iv_hall.specs.Hearing.{hearing_for}
+use Rattle.iv_hall.proofs.Walked.{walked_more}
+use Rattle.iv_hall.proofs.hearing.hear_said.Goals as goal
+
+pub loop-number-preserved : goal.loop-number-preserved
+loop-number-preserved c = record {
+  saying = c.in_ok-hear_client.ensures.saying;
+  slots =
+      walked_more (hearing_for c.args.feed c.args.rel.now (line_of c.args.line.now)) c.args.numbers.now c.loop-number.number-index c.args.clients.now.items c.loop-number.clients.items c.hear_client.new.clients.items
+      c.loop-number-test.true c.loop-number.invariant.slots c.in_ok-hear_client.ensures.told;
+}
