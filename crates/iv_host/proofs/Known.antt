@@ -3,7 +3,7 @@ use Rattle.std.proofs.Common.{◌≡◌, ℕ, ◌-◌, List, [], ◌++◌, None,
 use Rattle.std.specs.Prelude.{Option}
 use Rattle.std.proofs.lemmas.List.{take_rest}
 use Rattle.std.specs.Io.KnownBytes.{Appends, Keeps}
-use Rattle.std.proofs.KnownBytes.{Appends-kept}
+use Rattle.std.proofs.KnownBytes.{Appends-kept, Appends-nil}
 use lib.Seq.{take-append_seam}
 use Rattle.iv_host.specs.Disk.{first_known}
 
@@ -14,10 +14,17 @@ on_err (Ok x) p = tt
 on_err (Err e) p = p
 
 -- nothing was appended
-pub kept_of : (a b : Option (List ℕ)) → Appends a b [] → Keeps a b
+kept_of : (a b : Option (List ℕ)) → Appends a b [] → Keeps a b
 kept_of None b p = tt
 kept_of (Some xs) None p = absurd p
 kept_of (Some xs) (Some ys) p = p ∙ append-nil xs
+
+pub kept_none : (a b : Option (List ℕ)) (n : ℕ) (bs : List ℕ) → n ≡ 0 → Appends a b (take n bs) → Keeps a b
+kept_none a b n bs h p = kept_of a b (subst (λ m. Appends a b (take m bs)) h p)
+
+-- where nothing was written, a front of it was
+pub none_torn : (a : Option (List ℕ)) (bs : List ℕ) → (k : ℕ) × Appends a a (take k bs)
+none_torn a bs = (0, Appends-nil a)
 
 -- a front of the rest goes to what is done
 pub moves_front : (all done rest : List ℕ) (n : ℕ) → all ≡ done ++ rest → all ≡ (done ++ take n rest) ++ take (length rest - n) (drop n rest)

@@ -7,3 +7,8 @@ pub returns-in-Some : goal.returns-in-Some
 returns-in-Some c =
     c.count_at.ensures ∙ sym (one_more_at c.args.role.now (by_role c.args.self.now.roles.items) c.in-Some.at
     (ap (λ l. first_at c.args.role.now (by_role l)) (sym c.deref.ensures.value) ∙ sym c.in-Some.ensures))
+
+pub returns-in_ok-push-in-None : goal.returns-in_ok-push-in-None
+returns-in_ok-push-in-None c =
+    more_pushed c.args.role.now c.args.self.now.roles.items c.push.new.self.items c.in_ok-name-in-None.name
+    (ap (λ l. first_at c.args.role.now (by_role l)) (sym c.deref.ensures.value) ∙ sym c.in-None.ensures) c.in_ok-name-in-None.ensures.ok c.in_ok-push-in-None.ensures.items
