@@ -1,5 +1,5 @@
 -- Who is counted by role is counted in all.
-use Rattle.std.proofs.Common.{◌≡◌, ℕ, ◌+◌, ◌-◌, ◌^◌, ◌≤◌, min, Bool, true, false, cond, List, [], ◌∷◌, bytes_eq, refl, sym, ap, ◌∙◌, arith}
+use Rattle.std.proofs.Common.{◌≡◌, ℕ, ◌-◌, ◌^◌, ◌≤◌, Bool, true, false, cond, List, [], ◌∷◌, bytes_eq, refl, sym, ap, ◌∙◌, arith}
 use Rattle.iv_host.specs.Counts.{raised}
 use Rattle.iv_host.specs.Figures.{ByRole, clients_in, one_more}
 use Rattle.iv_host.specs.Roles.{sum_from}

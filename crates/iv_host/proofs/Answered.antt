@@ -1,5 +1,5 @@
 -- A page that is answered.
-use Rattle.std.proofs.Common.{◌≡◌, ℕ, Bool, cond, List, [], ◌++◌, length, Some, None, sym, subst, ap, ◌∙◌}
+use Rattle.std.proofs.Common.{◌≡◌, ℕ, Bool, cond, List, [], ◌++◌, length, Some, sym, subst, ap, ◌∙◌}
 use Rattle.std.specs.Prelude.{Option}
 use Rattle.iv_pages.specs.Asking.{Asked}
 use Rattle.iv_pages.specs.Answer.{Served, has_body, page_head, refusal_answer, tag_of}

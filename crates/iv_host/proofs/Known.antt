@@ -1,5 +1,5 @@
 -- What is known of the bytes of a disk, behind writes and cuts.
-use Rattle.std.proofs.Common.{◌≡◌, ℕ, ◌-◌, List, [], ◌++◌, None, Some, IfSome, OnOk, OnErr, Result, Ok, Err, length, take, drop, sym, ap, ◌∙◌, subst, append_assoc, append-nil, refl, take-append-drop}
+use Rattle.std.proofs.Common.{◌≡◌, ℕ, ◌-◌, List, [], ◌++◌, None, Some, IfSome, OnOk, OnErr, Result, Ok, Err, length, take, drop, sym, ap, ◌∙◌, subst, append_assoc, append-nil, take-append-drop}
 use Rattle.std.specs.Prelude.{Option}
 use Rattle.std.proofs.lemmas.List.{take_rest}
 use Rattle.std.specs.Io.KnownBytes.{Appends, Keeps}

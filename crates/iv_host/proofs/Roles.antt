@@ -1,5 +1,5 @@
 -- Where a role stands among roles, and what one client more of it makes of them.
-use Rattle.std.proofs.Common.{◌≡◌, ℕ, zero, suc, ◌+◌, ◌<◌, ◌≤◌, Bool, true, false, cond, List, [], ◌∷◌, ◌++◌, Some, None, length, get_or, set, bytes_eq, refl, sym, ap, ◌∙◌, arith}
+use Rattle.std.proofs.Common.{◌≡◌, ℕ, zero, suc, ◌<◌, ◌≤◌, Bool, true, false, cond, List, [], ◌∷◌, ◌++◌, Some, None, length, get_or, set, bytes_eq, refl, sym, ap, ◌∙◌, arith}
 use Rattle.std.specs.Prelude.{Option, String, option_map, string_bytes}
 use Rattle.std.specs.declared.alloc.Global.{Global}
 use Rattle.iv_host.specs.Counts.{raised}

@@ -1,4 +1,4 @@
-use Rattle.std.proofs.Common.{◌≡◌, ◌∙◌, ap}
+use Rattle.std.proofs.Common.{◌∙◌, ap}
 use Rattle.iv_host.specs.Admins.{opens_by}
 use Rattle.iv_host.proofs.admins.Admins.is_asking.Goals as goal
 
