@@ -1,10 +1,8 @@
 -- Who is counted by role is counted in all.
-use Rattle.std.proofs.Common.{◌≡◌, ℕ, ◌+◌, ◌-◌, ◌^◌, ◌≤◌, min, Bool, true, false, cond, List, [], ◌∷◌, bytes_eq, refl, sym, ap, ◌∙◌, arith}
-use Rattle.std.specs.Prelude.{String}
-use Rattle.std.specs.declared.alloc.Global.{Global}
+use Rattle.std.proofs.Common.{◌≡◌, ℕ, ◌-◌, ◌^◌, ◌≤◌, Bool, true, false, cond, List, [], ◌∷◌, bytes_eq, refl, sym, ap, ◌∙◌, arith}
 use Rattle.iv_host.specs.Counts.{raised}
 use Rattle.iv_host.specs.Figures.{ByRole, clients_in, one_more}
-use Rattle.iv_host.specs.Roles.{by_role}
+use Rattle.iv_host.specs.Roles.{sum_from}
 
 pub clients_bound : (rs : ByRole) → clients_in rs ≤ 2 ^ 64 - 1
 clients_bound [] = omega arith
@@ -33,8 +31,9 @@ adds_up role [] = refl
 adds_up role (r ∷ rs) = added (bytes_eq r.0 role) role r rs (adds_up role rs)
 
 -- a sum from left to right
-pub clients_next : (xs ys : List (String Global × ℕ)) (x : String Global × ℕ) (n m t : ℕ) → xs ≡ x ∷ ys → m ≡ raised n x.1
-    → raised n (clients_in (by_role xs)) ≡ t → raised m (clients_in (by_role ys)) ≡ t
-clients_next xs ys x n m t split e h =
-    ap (λ z. raised z (clients_in (by_role ys))) e
-    ∙ (sym (raised_behind n x.1 (clients_in (by_role ys))) ∙ (ap (λ l. raised n (clients_in (by_role l))) (sym split) ∙ h))
+sum_from_is : (n : ℕ) (rs : ByRole) → n ≤ 2 ^ 64 - 1 → sum_from n rs ≡ raised n (clients_in rs)
+sum_from_is n [] h = omega (arith, h)
+sum_from_is n (r ∷ rs) h = sum_from_is (raised n r.1) rs (omega arith) ∙ sym (raised_behind n r.1 (clients_in rs))
+
+pub sum_is : (rs : ByRole) → sum_from 0 rs ≡ clients_in rs
+sum_is rs = sum_from_is 0 rs (omega arith) ∙ raised_nothing rs

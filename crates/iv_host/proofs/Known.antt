@@ -1,13 +1,30 @@
 -- What is known of the bytes of a disk, behind writes and cuts.
-use Rattle.std.proofs.Common.{◌≡◌, ℕ, ◌-◌, List, [], ◌++◌, None, Some, IfSome, OnOk, OnErr, Result, Ok, Err, length, take, drop, sym, ap, ◌∙◌, subst, append_assoc, append-nil, refl, take-append-drop}
+use Rattle.std.proofs.Common.{◌≡◌, ℕ, ◌-◌, List, [], ◌++◌, None, Some, IfSome, OnOk, OnErr, Result, Ok, Err, length, take, drop, sym, ap, ◌∙◌, subst, append_assoc, append-nil, take-append-drop}
 use Rattle.std.specs.Prelude.{Option}
 use Rattle.std.proofs.lemmas.List.{take_rest}
 use Rattle.std.specs.Io.KnownBytes.{Appends, Keeps}
-use Rattle.std.proofs.KnownBytes.{Appends-trans, Appends-nil, Appends-kept}
+use Rattle.std.proofs.KnownBytes.{Appends-kept, Appends-nil}
 use lib.Seq.{take-append_seam}
 use Rattle.iv_host.specs.Disk.{first_known}
 
 -- ---- writes
+
+pub on_err : {X E P : Type 0} (r : Result X E) → P → OnErr r P
+on_err (Ok x) p = tt
+on_err (Err e) p = p
+
+-- nothing was appended
+kept_of : (a b : Option (List ℕ)) → Appends a b [] → Keeps a b
+kept_of None b p = tt
+kept_of (Some xs) None p = absurd p
+kept_of (Some xs) (Some ys) p = p ∙ append-nil xs
+
+pub kept_none : (a b : Option (List ℕ)) (n : ℕ) (bs : List ℕ) → n ≡ 0 → Appends a b (take n bs) → Keeps a b
+kept_none a b n bs h p = kept_of a b (subst (λ m. Appends a b (take m bs)) h p)
+
+-- where nothing was written, a front of it was
+pub none_torn : (a : Option (List ℕ)) (bs : List ℕ) → (k : ℕ) × Appends a a (take k bs)
+none_torn a bs = (0, Appends-nil a)
 
 -- a front of the rest goes to what is done
 pub moves_front : (all done rest : List ℕ) (n : ℕ) → all ≡ done ++ rest → all ≡ (done ++ take n rest) ++ take (length rest - n) (drop n rest)
@@ -17,14 +34,6 @@ moves_front all done rest n e =
 -- what is done is a front of all
 pub front_of : (a b : Option (List ℕ)) (all done rest : List ℕ) → all ≡ done ++ rest → Appends a b done → (n : ℕ) × Appends a b (take n all)
 front_of a b all done rest e p = (length done, subst (Appends a b) (sym (ap (take (length done)) e ∙ take-append_seam done rest)) p)
-
--- and so is what is done with a front of the rest
-pub front_grown : (a b c : Option (List ℕ)) (all done rest : List ℕ) (n : ℕ) → all ≡ done ++ rest → Appends a b done → Appends b c (take n rest)
-    → (k : ℕ) × Appends a c (take k all)
-front_grown a b c all done rest n e p q =
-    front_of a c all (done ++ take n rest) (drop n rest)
-    (e ∙ ap (λ l. done ++ l) (sym (take-append-drop n rest)) ∙ sym (append_assoc done (take n rest) (drop n rest)))
-    (Appends-trans a b c done (take n rest) p q)
 
 pub front_kept : (a b c : Option (List ℕ)) (all done rest : List ℕ) → all ≡ done ++ rest → Appends a b done → Keeps b c → (k : ℕ) × Appends a c (take k all)
 front_kept a b c all done rest e p q = front_of a c all done rest e (Appends-kept a b c done p q)

@@ -1,5 +1,5 @@
 -- Where a role stands among roles, and what one client more of it makes of them.
-use Rattle.std.proofs.Common.{◌≡◌, ℕ, zero, suc, ◌+◌, ◌<◌, ◌≤◌, Bool, true, false, cond, List, [], ◌∷◌, ◌++◌, Some, None, length, get_or, set, bytes_eq, refl, sym, ap, ◌∙◌, arith}
+use Rattle.std.proofs.Common.{◌≡◌, ℕ, zero, suc, ◌<◌, ◌≤◌, Bool, true, false, cond, List, [], ◌∷◌, ◌++◌, Some, None, length, get_or, set, bytes_eq, refl, sym, ap, ◌∙◌, arith}
 use Rattle.std.specs.Prelude.{Option, String, option_map, string_bytes}
 use Rattle.std.specs.declared.alloc.Global.{Global}
 use Rattle.iv_host.specs.Counts.{raised}
@@ -15,39 +15,27 @@ is_some_none n h = cc h
 same_number : (m n : ℕ) → Some m ≡ Some n → m ≡ n
 same_number m n h = cc
 
--- ---- a search from left to right
-
-shift : (n : ℕ) (o : Option ℕ) → option_map (λ k. n + k) (option_map suc o) ≡ option_map (λ k. (n + 1) + k) o
-shift n None = refl
-shift n (Some k) = ap (λ m. Some m) (let e : n + suc k ≡ (n + 1) + k = omega arith in e)
-
-pub first_later : (role : List ℕ) (r : List ℕ × ℕ) (rs : ByRole) (n : ℕ) → bytes_eq r.0 role ≡ false
-    → option_map (λ k. n + k) (first_at role (r ∷ rs)) ≡ option_map (λ k. (n + 1) + k) (first_at role rs)
-first_later role r rs n h = ap (λ b. option_map (λ k. n + k) (cond b (Some 0) (option_map suc (first_at role rs)))) h ∙ shift n (first_at role rs)
-
-pub first_here : (role : List ℕ) (r : List ℕ × ℕ) (rs : ByRole) (n : ℕ) → bytes_eq r.0 role ≡ true → option_map (λ k. n + k) (first_at role (r ∷ rs)) ≡ Some n
-first_here role r rs n h =
-    ap (λ b. option_map (λ k. n + k) (cond b (Some 0) (option_map suc (first_at role rs)))) h ∙ ap (λ m. Some m) (let e : n + 0 ≡ n = omega arith in e)
-
 -- ---- one more
+
+one_more_by : (role : List ℕ) (r : List ℕ × ℕ) (rs : ByRole) (n : ℕ) → ((m : ℕ) → first_at role rs ≡ Some m → one_more role rs ≡ more_at m rs) → (b : Bool) (o : Option ℕ)
+    → first_at role rs ≡ o → cond b (Some 0) (option_map suc o) ≡ Some n → cond b ((r.0, raised r.1 1) ∷ rs) (r ∷ one_more role rs) ≡ more_at n (r ∷ rs)
+one_more_by role r rs n more true o e k = ap (λ m. more_at m (r ∷ rs)) (same_number 0 n k)
+one_more_by role r rs n more false None e k = absurd (is_none_some n k)
+one_more_by role r rs n more false (Some m) e k = ap (λ l. r ∷ l) (more m e) ∙ ap (λ q. more_at q (r ∷ rs)) (same_number (suc m) n k)
 
 pub one_more_at : (role : List ℕ) (rs : ByRole) (n : ℕ) → first_at role rs ≡ Some n → one_more role rs ≡ more_at n rs
 one_more_at role [] n h = absurd (is_none_some n h)
-one_more_at role (r ∷ rs) n h = by (bytes_eq r.0 role) (first_at role rs) refl h
-  where
-    by : (b : Bool) (o : Option ℕ) → first_at role rs ≡ o → cond b (Some 0) (option_map suc o) ≡ Some n → cond b ((r.0, raised r.1 1) ∷ rs) (r ∷ one_more role rs) ≡ more_at n (r ∷ rs)
-    by true o e k = ap (λ m. more_at m (r ∷ rs)) (same_number 0 n k)
-    by false None e k = absurd (is_none_some n k)
-    by false (Some m) e k = ap (λ l. r ∷ l) (one_more_at role rs m e) ∙ ap (λ q. more_at q (r ∷ rs)) (same_number (suc m) n k)
+one_more_at role (r ∷ rs) n h = one_more_by role r rs n (λ m e. one_more_at role rs m e) (bytes_eq r.0 role) (first_at role rs) refl h
+
+behind_by : (role : List ℕ) (r : List ℕ × ℕ) (rs : ByRole) → (first_at role rs ≡ None → one_more role rs ≡ rs ++ (role, 1) ∷ []) → (b : Bool) (o : Option ℕ)
+    → first_at role rs ≡ o → cond b (Some 0) (option_map suc o) ≡ None → cond b ((r.0, raised r.1 1) ∷ rs) (r ∷ one_more role rs) ≡ (r ∷ rs) ++ (role, 1) ∷ []
+behind_by role r rs more true o e k = absurd (is_some_none 0 k)
+behind_by role r rs more false None e k = ap (λ l. r ∷ l) (more e)
+behind_by role r rs more false (Some m) e k = absurd (is_some_none (suc m) k)
 
 one_more_behind : (role : List ℕ) (rs : ByRole) → first_at role rs ≡ None → one_more role rs ≡ rs ++ (role, 1) ∷ []
 one_more_behind role [] h = refl
-one_more_behind role (r ∷ rs) h = by (bytes_eq r.0 role) (first_at role rs) refl h
-  where
-    by : (b : Bool) (o : Option ℕ) → first_at role rs ≡ o → cond b (Some 0) (option_map suc o) ≡ None → cond b ((r.0, raised r.1 1) ∷ rs) (r ∷ one_more role rs) ≡ (r ∷ rs) ++ (role, 1) ∷ []
-    by true o e k = absurd (is_some_none 0 k)
-    by false None e k = ap (λ l. r ∷ l) (one_more_behind role rs e)
-    by false (Some m) e k = absurd (is_some_none (suc m) k)
+one_more_behind role (r ∷ rs) h = behind_by role r rs (λ e. one_more_behind role rs e) (bytes_eq r.0 role) (first_at role rs) refl h
 
 -- ---- in the code's list
 
@@ -72,15 +60,3 @@ behind (x ∷ xs) y = ap (λ l. (string_bytes x.0, x.1) ∷ l) (behind xs y)
 pub more_pushed : (role : List ℕ) (xs ys : List (String Global × ℕ)) (name : String Global) → first_at role (by_role xs) ≡ None → string_bytes name ≡ role → ys ≡ xs ++ (name, 1) ∷ []
     → by_role ys ≡ one_more role (by_role xs)
 more_pushed role xs ys name h e p = ap by_role p ∙ (behind xs (name, 1) ∙ (ap (λ k. by_role xs ++ (k, 1) ∷ []) e ∙ sym (one_more_behind role (by_role xs) h)))
-
--- a search at the next place
-pub search_later : (role : List ℕ) (xs ys : List (String Global × ℕ)) (x : String Global × ℕ) (n m : ℕ) (o : Option ℕ) → xs ≡ x ∷ ys → m ≡ n + 1 → bytes_eq (string_bytes x.0) role ≡ false
-    → o ≡ option_map (λ k. n + k) (first_at role (by_role xs)) → o ≡ option_map (λ k. m + k) (first_at role (by_role ys))
-search_later role xs ys x n m o split e h before =
-    before ∙ (ap (λ l. option_map (λ k. n + k) (first_at role (by_role l))) split
-    ∙ (first_later role (string_bytes x.0, x.1) (by_role ys) n h ∙ ap (λ j. option_map (λ k. j + k) (first_at role (by_role ys))) (sym e)))
-
-pub search_here : (role : List ℕ) (xs ys : List (String Global × ℕ)) (x : String Global × ℕ) (n : ℕ) (o : Option ℕ) → xs ≡ x ∷ ys → bytes_eq (string_bytes x.0) role ≡ true
-    → o ≡ option_map (λ k. n + k) (first_at role (by_role xs)) → Some n ≡ o
-search_here role xs ys x n o split h before =
-    sym (before ∙ (ap (λ l. option_map (λ k. n + k) (first_at role (by_role l))) split ∙ first_here role (string_bytes x.0, x.1) (by_role ys) n h))

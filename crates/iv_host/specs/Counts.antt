@@ -1,5 +1,5 @@
 -- What the program counts of its connections, and when it may write a line of its log.
-use Rattle.std.specs.Prelude.{ℕ, ◌+◌, ◌-◌, ◌^◌, ◌==◌, Bool, if◌then◌else◌, min, nat_lt}
+use Rattle.std.specs.Prelude.{ℕ, ◌+◌, ◌-◌, ◌^◌, ◌==◌, if◌then◌else◌, min}
 use Rattle.iv_host.specs.declared.counts.Counts.{Counts}
 use Rattle.iv_host.specs.declared.counts.Why.{Why}
 use Rattle.iv_host.specs.declared.counts.Why.TheVariants.{Closed, Late, Stuck, Told, Answered}

@@ -1,5 +1,5 @@
 -- What a request for a page is answered, whole.
-use Rattle.std.specs.Prelude.{◌≡◌, ℕ, Bool, if◌then◌else◌, List, [], ◌++◌, length, codes, Option, Some}
+use Rattle.std.specs.Prelude.{◌≡◌, ℕ, if◌then◌else◌, List, [], ◌++◌, length, codes, Option, Some}
 use Rattle.iv_pages.specs.Asking.{Asked}
 use Rattle.iv_pages.specs.Answer.{Served, has_body, page_head, refusal_answer, tag_of}
 use Rattle.iv_pages.specs.declared.answers.Refusal.TheVariants.{NotFound}

@@ -20,3 +20,8 @@ abbrev pub more_at : ℕ → ByRole → ByRole
 more_at n [] = []
 more_at zero (r ∷ rs) = (r.0, raised r.1 1) ∷ rs
 more_at (suc n) (r ∷ rs) = r ∷ more_at n rs
+
+-- all of them, counted from left to right
+abbrev pub sum_from : ℕ → ByRole → ℕ
+sum_from n [] = n
+sum_from n (r ∷ rs) = sum_from (raised n r.1) rs

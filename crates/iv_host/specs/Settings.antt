@@ -1,5 +1,5 @@
 -- What holds of the settings that the words on the command line give.
-use Rattle.std.specs.Prelude.{ℕ, ◌≤◌}
+use Rattle.std.specs.Prelude.{◌≤◌}
 use Rattle.iv_rows.specs.RowLimit.{IsRowLimit}
 use Rattle.iv_host.specs.declared.arguments.Settings.{Settings}
 

@@ -66,6 +66,24 @@ impl Disk for File {
     }
 }
 
+/// Writes a front of the bytes behind those that are there: none, where that is interrupted. Answers how many.
+fn write_front<D: Disk>(disk: &mut D, bytes: &[u8]) -> io::Result<usize>
+    ensures bound { WritesAtMost result bytes.now }
+    ensures bytes { WriteAppends (D.held disk.old) (D.held disk.new) result bytes.now }
+{
+    match disk.write(bytes) {
+        Ok(0) => Err(io::Error::from(ErrorKind::WriteZero)),
+        Ok(count) => Ok(count),
+        Err(error) => {
+            if error.kind() == ErrorKind::Interrupted {
+                Ok(0)
+            } else {
+                Err(error)
+            }
+        }
+    }
+}
+
 /// Writes all bytes behind those that are there.
 fn write_whole<D: Disk>(disk: &mut D, bytes: &[u8]) -> io::Result<()>
     ensures appended { OnOk result (Appends (D.held disk.old) (D.held disk.new) bytes.now) }
@@ -76,15 +94,8 @@ fn write_whole<D: Disk>(disk: &mut D, bytes: &[u8]) -> io::Result<()>
         if rest.is_empty() {
             return Ok(());
         }
-        match disk.write(rest) {
-            Ok(0) => return Err(io::Error::from(ErrorKind::WriteZero)),
-            Ok(count) => rest = &rest[count..],
-            Err(error) => {
-                if error.kind() != ErrorKind::Interrupted {
-                    return Err(error);
-                }
-            }
-        }
+        let count = write_front(disk, rest)?;
+        rest = &rest[count..];
     }
     Err(io::Error::from(ErrorKind::TimedOut))
 }

