@@ -6,7 +6,7 @@ use Rattle.iv_clients.specs.Clients.{Shown, is_free}
 use Rattle.iv_clients.specs.Tokens.{Token}
 use Rattle.iv_gate.specs.Events.{Event, failed, next}
 use Rattle.iv_gate.specs.Gate.{Gate}
-use Rattle.iv_gate.specs.Laws.{Marks, marks, marks_behind}
+use Rattle.iv_gate.specs.Laws.{LeavesMarks, marked}
 use Rattle.iv_gate.specs.Restoring.{Restores, gate_at_start}
 use Rattle.iv_gate.specs.Runs.{Runs}
 use Rattle.iv_gate.specs.Runs as run
@@ -70,9 +70,9 @@ heard_on law m hearing x y f lives runs same h = λ cap r. by cap r r.front.gate
 pub took_runs : (m : ℕ) (bytes : List ℕ) (cap : ℕ) (d : Front) → FrontRuns cap d → d.gate.dead ≡ false → FrontRuns cap (at_socket m (took bytes) d)
 took_runs m bytes cap d r e = goes_on d (at_socket m (took bytes) d) r e (takes m bytes)
 
-pub called_on : ((g : Gate) (e : Event) → g.dead ≡ false → marks (next g e) ≡ marks_behind g e)
+pub called_on : ((g : Gate) (e : Event) → g.dead ≡ false → LeavesMarks g e)
     → (f : ℕ → Front → Front) → ((cap : ℕ) (ms : List ℕ) (d : Front) → FrontRuns cap d → d.gate.dead ≡ false → FrontRuns cap (at_each f ms d))
-    → (e : Event) → ((g : Gate) → (marks_behind g e).dead ≡ g.dead) → ((d : Front) → Happens d (by_event e d))
+    → (e : Event) → ((g : Gate) → (marked g e).dead ≡ g.dead) → ((d : Front) → Happens d (by_event e d))
     → (x y : Desk) → ((d : Front) → IsDesk d x → d.gate.dead ≡ true → ⊥) → ((d : Front) → IsDesk d x → IsCalledOut f (by_event e d) y) → Leads x y
 called_on law f calls e same happens x y lives h = λ cap r. by cap r r.front.gate.dead refl
   where
@@ -82,7 +82,7 @@ called_on law f calls e same happens x y lives h = λ cap r. by cap r r.front.ga
         let w = h r.front r.stands in
         record {
           front = at_each f w.numbers (by_event e r.front);
-          runs = calls cap w.numbers (by_event e r.front) (goes_on r.front (by_event e r.front) r.runs k (happens r.front)) (ap (λ (z : Marks). z.dead) (law r.front.gate e k) ∙ (same r.front.gate ∙ k));
+          runs = calls cap w.numbers (by_event e r.front) (goes_on r.front (by_event e r.front) r.runs k (happens r.front)) (ap (λ (z : Gate). z.dead) (law r.front.gate e k) ∙ (same r.front.gate ∙ k));
           stands = w.stands;
         }
 
