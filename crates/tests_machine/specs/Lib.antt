@@ -8,3 +8,4 @@ pub mod Counts
 pub mod Shapes
 pub mod OfLearning
 pub mod OfSoundness
+pub mod OfSteps

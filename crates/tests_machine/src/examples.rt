@@ -12,6 +12,7 @@ ghost use Rattle.tests_machine.specs.OfGrants as grants;
 ghost use Rattle.tests_machine.specs.OfLearning.{RowsAreNews, SubscriptionsAreNews, WithoutAnswer, WithoutBefore, WithoutFrame, WithoutLater};
 ghost use Rattle.tests_machine.specs.OfPolicies as policies;
 ghost use Rattle.tests_machine.specs.OfRoles as roles;
+ghost use Rattle.tests_machine.specs.OfSteps as steps;
 ghost use Rattle.tests_machine.specs.OfSoundness.{UnsoundIsLoud, UnsoundLeaves, UnsoundOrder, UnsoundReads, UnsoundSubscribes, UnsoundTells, watched};
 ghost use Rattle.tests_machine.specs.OfViews as views;
 ghost use Rattle.iv_machine.specs.Refusing.{frame_refusal, refusal};
@@ -171,4 +172,16 @@ pub fn many_copies_compute()
     ensures sums_limit { (c : ℕ) → c ≡ 2 ^ 62 → Computes copies.summed (copies.sums_limit c) }
     ensures batch { (c : ℕ) → c ≡ 2 ^ 63 - 1 → Computes first (copies.batch c) }
     ensures no_sums { (c : ℕ) → c ≡ 2 ^ 62 → Computes copies.unread (copies.no_sums c) }
+{}
+
+/// A step is told by the states before and behind it, and is not taken where a fact is refused.
+pub fn steps_compute()
+    ensures nothing { steps.Tells [] (Some []) }
+    ensures taken_and_given { steps.Tells steps.taken_and_given (Some []) }
+    ensures in_and_out { steps.Tells steps.in_and_out (Some []) }
+    ensures two_rows { steps.Tells steps.two_rows (Some steps.both_rows) }
+    ensures row_then_revoke { steps.Tells steps.row_then_revoke (Some steps.end_of_ann) }
+    ensures hidden_row { steps.Tells steps.hidden_row (Some []) }
+    ensures without_right { steps.Tells steps.without_right None }
+    ensures of_session { steps.Tells steps.of_session None }
 {}

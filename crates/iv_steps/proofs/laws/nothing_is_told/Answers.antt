@@ -1,0 +1,5 @@
+use Rattle.iv_steps.proofs.Showing.{nothing_is_told}
+use Rattle.iv_steps.proofs.laws.nothing_is_told.Goals as goal
+
+pub returns : goal.returns
+returns c = nothing_is_told

@@ -1,0 +1,5 @@
+use Rattle.iv_steps.proofs.Showing.{steps_are_told}
+use Rattle.iv_steps.proofs.laws.steps_are_told.Goals as goal
+
+pub returns : goal.returns
+returns c = steps_are_told
