@@ -1,0 +1,8 @@
+pub mod Bytes
+pub mod Bodies
+pub mod Readings
+pub mod Cuts
+pub mod Fronts
+pub mod Ended
+pub mod Told
+pub mod Digests
