@@ -1,0 +1,9 @@
+pub mod Lists
+pub mod Kept
+pub mod Sound
+pub mod Once
+pub mod Final
+pub mod Bounds
+pub mod Places
+pub mod Read
+pub mod Put
