@@ -17,6 +17,7 @@ use Rattle.iv_clients.specs.Bounds.{most_subs}
 use Rattle.iv_clients.specs.Clients.{Client, Sub, answered, at_client, client_at, closing, followed_by, fresh, may_say, saying, told, told_one}
 use Rattle.iv_clients.specs.Feeds.{Feed, feed_for, room_for, seat_of}
 use Rattle.iv_clients.specs.Journal.{Entry, said_by, shape_for}
+use Rattle.iv_clients.proofs.Slots.{at_same, one_some, some_is_none}
 use Rattle.iv_gate.specs.Events.{Event, presented, message, gone, known, ticked, synced, handed, failed, happens, next}
 use Rattle.iv_gate.specs.Gate.{Gate, begun_for, closes, done_for, hears, in_session, reply_to, seated, settles, swept, tells, has_shape_room}
 use Rattle.iv_gate.specs.Replies.{IsAnswered, IsClient, heard_by, is_opened, is_reply, reading_told, replies, told_by}
@@ -25,7 +26,7 @@ use Rattle.iv_gate.proofs.Growing.{drop_front}
 use Rattle.iv_gate.proofs.Places.{any_before, any_behind, get_last, get_more, none_opened, none_passes, replies_both, none_replied}
 use Rattle.iv_gate.proofs.Hearing.{Hears, ends_for, happens_apart, hears_same, is_own}
 use Rattle.iv_gate.proofs.Replying.{Answer, Behind, IsClosing, act_reply, asked, begun_reply, behind_settles, behind_swept, closed_own, first_reply, heard_answers, other_reply, read_reply, said_reply}
-use Rattle.iv_gate.proofs.Touching.{alive as is_alive, at_same, is_gone, one_some, rests, some_is_none, touched}
+use Rattle.iv_gate.proofs.Touching.{alive as is_alive, is_gone, rests, touched}
 use Rattle.iv_gate.proofs.Shaping.{all_made, filter_none, told_fresh, test_of}
 
 -- ---- what an event tells

@@ -16,15 +16,14 @@ use Rattle.iv_clients.specs.Bounds.{most_feeds, most_subs}
 use Rattle.iv_clients.specs.Clients.{Client, at_client, client_at, closing, followed_by, staying, telling, told}
 use Rattle.iv_clients.specs.Feeds.{Feed, Seat, ends_in, feed_for, has_room, is_of_role, is_reading, load, next_seat, room_for, seat_of}
 use Rattle.iv_clients.specs.Journal.{Entry, line_said, said_by}
+use Rattle.iv_clients.proofs.Slots.{at_every, from, one_some, some_is_none}
 use Rattle.iv_gate.specs.Gate.{Gate, acts, begun_for, closes, done_for, entered, in_session, is_accepted, joins, ran, reads, reads_first, reply_in, reply_to, requests, seated, subscribes, swept, tells, told_of, entries_of, has_shape_room}
 use Rattle.iv_gate.specs.Replies.{ActsAs, replies}
 use Rattle.iv_gate.proofs.Joining.{and_both, joins_sound, same_name}
-use Rattle.iv_gate.proofs.Machine.{some_is_none}
 use Rattle.iv_gate.proofs.Opening.{IsAsker, all_pushed, quiet_replied, subscribes_sound}
 use Rattle.iv_gate.proofs.Places.{replies_both, told_replies}
 use Rattle.iv_gate.proofs.Running.{IsQuiet, acts_step, all_so, closes_none, closing_sound, one_sound, ran_sound, spares_all, swept_sound, tells_sound, informs_sound}
-use Rattle.iv_gate.proofs.Sound.{Adds, IsFeed, IsSoundGate, Seer, Sounds, feed_step, from, ran_ready, seer_telling}
-use Rattle.iv_gate.proofs.Touching.{at_every, one_some}
+use Rattle.iv_gate.proofs.Sound.{Adds, IsFeed, IsSoundGate, Seer, Sounds, feed_step, ran_ready, seer_telling}
 use Rattle.iv_gate.proofs.Shaping.{test_of}
 
 -- ---- requests of the machine

@@ -19,11 +19,10 @@ use Rattle.iv_machine.proofs.Sound.{may_read, sound_whole}
 use Rattle.iv_message.specs.Told.{granted}
 use Rattle.iv_clients.specs.Clients.{Sub, own_line, own_lines}
 use Rattle.iv_clients.specs.Feeds.{Feed}
+use Rattle.iv_clients.proofs.Slots.{one_some, some_is_none}
 use Rattle.iv_gate.specs.Gate.{Gate, in_session, is_accepted, reply_in}
-use Rattle.iv_gate.proofs.Machine.{some_is_none}
 use Rattle.iv_gate.proofs.Hearing.{BeginsQuietly}
 use Rattle.iv_gate.proofs.Summing.{both}
-use Rattle.iv_gate.proofs.Touching.{one_some}
 
 -- ---- what stays the same has no difference
 

@@ -16,6 +16,7 @@ use Rattle.iv_clients.specs.Clients.{Client, Shown, Slots, Sub, answered, at_all
 use Rattle.iv_clients.specs.Feeds.{ends_in, is_of_role}
 use Rattle.iv_clients.specs.Journal.{Entry, said_by}
 use Rattle.iv_clients.specs.Tokens.{Token}
+use Rattle.iv_clients.proofs.Slots.{at_every, at_other, at_same, nobody, one_some}
 use Rattle.iv_gate.specs.Events.{Event, presented, message, gone, known, ticked, synced, handed, failed, happens, next}
 use Rattle.iv_gate.specs.Gate.{Gate, all_rested, all_swept, done_for, hears, role_for, said, settles, told_of, went}
 use Rattle.iv_gate.specs.Laws.{IsBounded}
@@ -25,14 +26,14 @@ use Rattle.iv_gate.proofs.Calm.{all_rested_last, all_swept_last, with_last}
 use Rattle.iv_gate.proofs.Doing.{all_done}
 use Rattle.iv_gate.proofs.News.{done_bounded, done_last}
 use Rattle.iv_gate.proofs.Joining.{and_both, own_moved}
-use Rattle.iv_gate.proofs.Lasting.{Starts, nobody, runs_sound}
+use Rattle.iv_gate.proofs.Lasting.{Starts, runs_sound}
 use Rattle.iv_gate.proofs.Noticing.{came_stays, every_is, settled_same, went_turns}
 use Rattle.iv_gate.proofs.Opening.{own_pushed}
 use Rattle.iv_gate.proofs.Running.{client_said, one_sound}
 use Rattle.iv_gate.proofs.Signs.{Mark, Sign, mark_of, marks_in}
 use Rattle.iv_gate.proofs.Sound.{Adds, IsSoundGate, Seer, Sounds, own_left, seer, seer_telling}
 use Rattle.iv_gate.proofs.Summing.{AreOwn, neither}
-use Rattle.iv_gate.proofs.Touching.{alive as is_alive, at_every, at_other, at_same, came_as, came_sign, one_some, rests, said_slots, touched, went_sign}
+use Rattle.iv_gate.proofs.Touching.{alive as is_alive, came_as, came_sign, rests, said_slots, touched, went_sign}
 use Rattle.iv_gate.proofs.Walking.{Kit, Later, to_done}
 
 -- ---- by a step

@@ -9,6 +9,7 @@ use Rattle.iv_message.specs.Message.{Message, request}
 use Rattle.iv_message.specs.Told.{Told, replied}
 use Rattle.iv_clients.specs.Clients.{Client, fresh, told}
 use Rattle.iv_clients.specs.Journal.{Entry, said_by}
+use Rattle.iv_clients.proofs.Slots.{some_is_none}
 use Rattle.iv_gate.specs.Gate.{Gate}
 use Rattle.iv_gate.specs.Replies.{IsAnswered, is_opened, replies}
 use Rattle.iv_gate.specs.Runs.{Runs}
@@ -18,7 +19,6 @@ use Rattle.iv_gate.proofs.Hearing.{Hears, is_own}
 use Rattle.iv_gate.proofs.Lasting.{runs_keep}
 use Rattle.iv_gate.proofs.Places.{replies_both}
 use Rattle.iv_gate.proofs.Replying.{asked, had_before, said_reply}
-use Rattle.iv_gate.proofs.Touching.{some_is_none}
 
 -- ---- lists
 

@@ -12,15 +12,14 @@ use Rattle.iv_message.specs.Message.{Message, no_json, too_long, no_object, no_r
 use Rattle.iv_clients.specs.Journal.{Entry, IsEntry, begins_object, entry_text, has_newline, is_shared, journal_of}
 use Rattle.iv_clients.specs.Parsed.{entry_in, entry_parts, named_entry}
 use Rattle.iv_clients.specs.Tokens.{behind, cut_at}
+use Rattle.iv_clients.proofs.Slots.{one_some, some_is_none}
 use Rattle.iv_gate.specs.Gate.{Gate}
 use Rattle.iv_gate.specs.Restoring.{IsBadLine, IsDamagedAt, IsDecided, LeadTo, Restores, all_replayed, is_torn, replayed}
 use Rattle.iv_gate.proofs.Requesting.{cut_is, is_plain}
 use Rattle.iv_gate.proofs.Growing.{assoc}
-use Rattle.iv_gate.proofs.Machine.{some_is_none}
 use Rattle.iv_gate.proofs.Replaying.{then_of}
 use Rattle.iv_gate.proofs.Rereading.{entry_of_line, has_one, journal_first, line_of, line_of_one, same_act, same_cut, same_line, text_is_line, torn_is_one}
 use Rattle.iv_gate.proofs.Summing.{neither}
-use Rattle.iv_gate.proofs.Touching.{one_some}
 
 -- ---- a line is some entry's, or no entry's
 

@@ -1,12 +1,11 @@
 -- What a client is replied is the machine's reply in a session of its role, or the refusal that is said.
 use Rattle.std.proofs.Common.{◌≡◌, ◌⊎◌, inl, inr, ℕ, zero, suc, ◌<◌, ◌≤◌, Bool, true, false, not, cond, ◌||◌, List, [], ◌∷◌, ◌++◌, length, Option, Some, None, is_some, refl, ap, ◌∙◌, sym, subst, arith}
-use Rattle.std.specs.Prelude.{◌==◌, bytes_eq, count_by, filter, find, nat_le, nat_lt, option_and_then}
+use Rattle.std.specs.Prelude.{◌==◌, count_by, filter, find, nat_le, nat_lt, option_and_then}
 use Rattle.std.specs.List.{AllByRecursion, list_any}
 use Rattle.std.proofs.lemmas.Bool.{false≢true, eqb-true}
 use Rattle.std.proofs.lemmas.Bool.Decides.{nat_tests}
 use Rattle.std.proofs.lemmas.List.{length-map}
 use Rattle.std.proofs.lemmas.List.Sums.{length-filter}
-use Rattle.std.proofs.lemmas.Slice.Eq.{bytes_eq-Decides}
 use Rattle.serde_json.specs.Data.{Data}
 use Rattle.iv_rows.specs.Options.{if_some}
 use Rattle.iv_access.specs.Privileges.{role_of}
@@ -21,9 +20,10 @@ use Rattle.iv_machine.specs.State.{Session, State, Subscription, is_open, sessio
 use Rattle.iv_message.specs.Message.{Message, no_json, too_long, no_object, no_request, request}
 use Rattle.iv_message.specs.Told.{Told, replied}
 use Rattle.iv_clients.specs.Bounds.{most_feeds, most_seats, most_subs}
-use Rattle.iv_clients.specs.Clients.{Client, Slots, client_at, has_role}
+use Rattle.iv_clients.specs.Clients.{Client, Slots}
 use Rattle.iv_clients.specs.Feeds.{Feed, Seat, feed_for, is_begun, next_seat, room_for, seat_of, without_feed, without_seat}
 use Rattle.iv_clients.specs.Journal.{said_by}
+use Rattle.iv_clients.proofs.Slots.{some_is_none}
 use Rattle.iv_gate.specs.Events.{Event}
 use Rattle.iv_gate.specs.Gate.{Gate, begun_for, in_session, is_accepted, reply_in, reply_to, seated, has_shape_room}
 use Rattle.iv_gate.specs.Replies.{ActsAs, AreReplied, IsFull, IsReadingReply, IsReplyTo, IsReplyToAct, IsMachineReply, reading_told}
@@ -32,12 +32,11 @@ use Rattle.iv_gate.proofs.Asking.{begun_accepted, feed_acts, new_seat_acts, room
 use Rattle.iv_gate.proofs.Beginning.{begins_quietly, begun_state}
 use Rattle.iv_gate.proofs.Few.{feeds_in, one_less, shorter, none_full}
 use Rattle.iv_gate.proofs.Keeping.{IsKept}
-use Rattle.iv_gate.proofs.Machine.{find_passes, some_is_none}
+use Rattle.iv_gate.proofs.Machine.{find_passes}
 use Rattle.iv_gate.proofs.Replying.{act_reply, asked, begun_reply, first_reply, other_reply, read_reply, said_reply}
-use Rattle.iv_gate.proofs.Sharing.{IsFed, numbers_in, seats_in}
+use Rattle.iv_gate.proofs.Sharing.{IsFed, numbers_in, role_there, seats_in}
 use Rattle.iv_gate.proofs.Sound.{IsSoundGate, Sounds, left_of}
 use Rattle.iv_gate.proofs.Summing.{neither}
-use Rattle.iv_gate.proofs.Touching.{one_some}
 
 -- ---- a session's subscriptions are feeds of it
 
@@ -170,7 +169,7 @@ at_most : (n : ℕ) → nat_le 256 n ≡ true → 255 ≤ n
 at_most n h = grind (arith, nat_tests)
 
 -- then all are begun
-all_begun : (g : Gate) (role : Name) → IsSoundGate g → IsKept g → is_some (role_of g.machine.frame.rights role) ≡ true → begun_for g role ≡ None → most_seats ≤ length g.seats
+pub all_begun : (g : Gate) (role : Name) → IsSoundGate g → IsKept g → is_some (role_of g.machine.frame.rights role) ≡ true → begun_for g role ≡ None → most_seats ≤ length g.seats
 all_begun g role b k known h = by (next_seat g.seats) refl h
   where
     full : (n : ℕ) → next_seat g.seats ≡ Some n → (t : Bool) → nat_le 256 (length g.machine.frame.sessions) ≡ t → cond (is_accepted (reply_to g (in_session n (begin role)))) (Some n) None ≡ None → most_seats ≤ length g.seats
@@ -300,16 +299,6 @@ said_true sounds g slots c (request id act) seat b k = by (has_shape_room g act)
     by false e = inr (e, refl)
 
 -- ---- by an event
-
-role_there : (slots : Slots) (m : ℕ) (c : Client) → client_at slots m ≡ Some c → has_role c.role slots ≡ true
-role_there [] m c h = absurd (some_is_none c (sym h))
-role_there (None ∷ ss) zero c h = absurd (some_is_none c (sym h))
-role_there (Some d ∷ ss) zero c h = ap (λ b. b || has_role c.role ss) (ap (λ (x : Client). bytes_eq x.role c.role) (one_some d c h) ∙ (bytes_eq-Decides c.role c.role).1 refl)
-role_there (s ∷ ss) (suc m) c h = right (if_some s false (λ (d : Client). bytes_eq d.role c.role)) (role_there ss m c h)
-  where
-    right : (a : Bool) → has_role c.role ss ≡ true → (a || has_role c.role ss) ≡ true
-    right true k = refl
-    right false k = k
 
 -- a client is told first the reply to its message, and others are told none
 pub are_replied : Sounds → (g : Gate) (e : Event) → IsSoundGate g → IsKept g → g.dead ≡ false → AreReplied g e

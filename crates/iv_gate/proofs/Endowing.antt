@@ -17,9 +17,10 @@ use Rattle.iv_message.proofs.Meaning.{ReadsWell}
 use Rattle.iv_message.specs.Told.{Told, changed, over, granted}
 use Rattle.iv_clients.specs.Bounds.{entry_session}
 use Rattle.iv_clients.specs.Clients.{Client, Shown, Sub, at_client, client_at, may_say, own_line, own_lines, saying}
-use Rattle.iv_clients.specs.Feeds.{Feed, Seat, is_of_role, rel_read, without_seat}
+use Rattle.iv_clients.specs.Feeds.{Feed, Seat, is_of_role, rel_read, seat_of, without_seat}
 use Rattle.iv_clients.specs.Journal.{Entry, said_by}
 use Rattle.iv_clients.specs.Tokens.{Token}
+use Rattle.iv_clients.proofs.Slots.{one_some}
 use Rattle.iv_gate.specs.Events.{Event, presented, message, gone, known, ticked, synced, handed, failed, happens, next}
 use Rattle.iv_gate.specs.Gate.{Gate, all_rested, all_swept, granted_by, has_some, hears, in_session, is_accepted, is_needed, ran, reply_in, rested, role_for, settles, told_of}
 use Rattle.iv_gate.specs.Replies.{IsClient, told_by}
@@ -27,17 +28,19 @@ use Rattle.iv_gate.specs.Restoring.{Restores, all_replayed, gate_at_start, passe
 use Rattle.iv_gate.specs.Runs.{Runs, begins, goes_on, begins_again}
 use Rattle.iv_gate.specs.Implied.{GrantsAreTrue}
 use Rattle.iv_gate.proofs.Asking.{accepted_by, seat_of_acts}
-use Rattle.iv_gate.proofs.Entering.{passed_is, runs_serving}
 use Rattle.iv_gate.proofs.Granting.{HasAdmin, admin_stays, names_hold, said_well}
 use Rattle.iv_gate.proofs.Doing.{AreCalm, is_news}
 use Rattle.iv_gate.proofs.News.{Hears, quietly, by_command, by_contents, IsToldOf}
 use Rattle.iv_gate.proofs.Heeding.{all_both, all_flat, of_contained}
-use Rattle.iv_gate.proofs.Lasting.{Starts, bound, runs_sound}
+use Rattle.iv_gate.proofs.Keeping.{passed_step}
+use Rattle.iv_gate.proofs.Lasting.{Starts, bound, runs_kept, runs_sound}
+use Rattle.iv_gate.proofs.Machine.{there_some}
 use Rattle.iv_gate.proofs.Noticing.{next_all, told_now}
 use Rattle.iv_gate.proofs.Running.{all_so, all_true}
-use Rattle.iv_gate.proofs.Sitting.{Sits, at_all_swept, at_done, at_with, seat_there}
+use Rattle.iv_gate.proofs.Sharing.{role_there}
+use Rattle.iv_gate.proofs.Sitting.{Sits, at_all_swept, at_done, at_with}
 use Rattle.iv_gate.proofs.Sound.{Adds, IsSoundGate, Sounds}
-use Rattle.iv_gate.proofs.Touching.{came_as, one_some}
+use Rattle.iv_gate.proofs.Touching.{came_as}
 
 -- ---- the superuser stays the first role
 
@@ -101,9 +104,9 @@ replayed_admin sounds s t e b h =
     bound (passed s (in_session entry_session (begin e.role))) (λ u. option_and_then (λ v. passed v (in_session entry_session finish)) (passed u (in_session entry_session e.act))) t (HasAdmin t) h
     (λ u i k. bound (passed u (in_session entry_session e.act)) (λ v. passed v (in_session entry_session finish)) t (HasAdmin t) k
     (λ v j l.
-    let first : HasAdmin u = subst HasAdmin (passed_is s u (in_session entry_session (begin e.role)) i) (admin_stays sounds s (in_session entry_session (begin e.role)) b) in
-    let second : HasAdmin v = subst HasAdmin (passed_is u v (in_session entry_session e.act) j) (admin_stays sounds u (in_session entry_session e.act) first) in
-    subst HasAdmin (passed_is v t (in_session entry_session finish) l) (admin_stays sounds v (in_session entry_session finish) second)))
+    let first : HasAdmin u = subst HasAdmin (passed_step s u (in_session entry_session (begin e.role)) i).state (admin_stays sounds s (in_session entry_session (begin e.role)) b) in
+    let second : HasAdmin v = subst HasAdmin (passed_step u v (in_session entry_session e.act) j).state (admin_stays sounds u (in_session entry_session e.act) first) in
+    subst HasAdmin (passed_step v t (in_session entry_session finish) l).state (admin_stays sounds v (in_session entry_session finish) second)))
 
 replays_admin : Sounds → (s t : State) (es : List Entry) → HasAdmin s → all_replayed s es ≡ Some t → HasAdmin t
 replays_admin sounds s t [] b h = subst HasAdmin (one_some s t h) b
@@ -157,8 +160,8 @@ module _ (adds : Adds) (starts : Starts) (sounds : Sounds) (gives : GrantsGive) 
   grants_of a true h =
       let s = g.machine in let k = a.command in
       let z : refusal s k.session k.act ≡ None = accepted_by s k (refusal s k.session k.act) h in
-      let seat = seat_there c.role g.seats ((runs_serving adds starts sounds cap g r).seats m c x.there) in
-      let acts = seat_of_acts g sound c.role seat.session seat.is in
+      let seat = there_some (seat_of g.seats c.role) ((runs_kept adds starts sounds cap g r).shared.seated c.role (role_there g.clients m c x.there)) in
+      let acts = seat_of_acts g sound c.role seat.0 seat.1 in
       let known = subst (λ o. role_of (outcome s k o).state.frame.rights c.role ≡ Some acts.place) z ((sounds.lasts s k).roles c.role acts.place acts.known) in
       let well : is_well_act k.act ≡ true = ap is_well_message (sym a.said.2) ∙ said_well reads a.said.0 in
       names_told (next g e).machine.frame c.role (granted_by (step g.machine a.command).state.frame a.command.act c.role)

@@ -1,5 +1,5 @@
 -- A session has as many feeds at most as it may, and a role reads a relation by one.
-use Rattle.std.proofs.Common.{◌≡◌, ℕ, zero, suc, ◌<◌, ◌≤◌, ◌+◌, Bool, true, false, not, cond, ◌||◌, List, [], ◌∷◌, length, Option, Some, None, is_some, refl, ap, ◌∙◌, sym, subst, arith}
+use Rattle.std.proofs.Common.{◌≡◌, ℕ, suc, ◌<◌, ◌≤◌, ◌+◌, Bool, true, false, not, cond, ◌||◌, List, [], ◌∷◌, length, Option, Some, None, is_some, refl, ap, ◌∙◌, sym, subst, arith}
 use Rattle.std.specs.Prelude.{◌==◌, ◌&&◌, bytes_eq, filter, find, nat_lt}
 use Rattle.std.specs.List.{AllByRecursion, list_any}
 use Rattle.std.proofs.lemmas.Bool.{false≢true, eqb-true, ltb-true}
@@ -15,15 +15,15 @@ use Rattle.iv_machine.specs.State.{State, is_open}
 use Rattle.iv_clients.specs.Bounds.{most_feeds}
 use Rattle.iv_clients.specs.Clients.{at_client, moved}
 use Rattle.iv_clients.specs.Feeds.{Feed, Seat, ends_in, feed_for, feed_of, feeds_left, has_room, is_of_role, is_reading, load, room_for, without_feed}
+use Rattle.iv_clients.proofs.Slots.{one_some, some_is_none}
 use Rattle.iv_gate.specs.Gate.{Gate, begun_for, feed_begun, in_session, joined, joined_by, joins, ran, seated, shut, subscribes}
 use Rattle.iv_gate.specs.Replies.{AreFull}
 use Rattle.iv_gate.proofs.Asking.{begun_accepted}
 use Rattle.iv_gate.proofs.Joining.{and_both, same_name}
-use Rattle.iv_gate.proofs.Machine.{first_none, found_given, passed, some_is_none}
+use Rattle.iv_gate.proofs.Machine.{first_none, found_given, passed}
 use Rattle.iv_gate.proofs.Opening.{above_given, reply_of_none, reply_of_some}
 use Rattle.iv_gate.proofs.Sound.{IsFeed, IsSoundGate, left_of}
 use Rattle.iv_gate.proofs.Summing.{differs_back, neither, same_self}
-use Rattle.iv_gate.proofs.Touching.{one_some}
 
 abbrev pub AreApart : List Feed → Type 0
 AreApart [] = Unit {0}

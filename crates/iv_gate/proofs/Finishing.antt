@@ -11,13 +11,13 @@ use Rattle.iv_machine.specs.Refusing.{refusal}
 use Rattle.iv_machine.specs.State.{State, Subscription, subscription_of}
 use Rattle.iv_clients.specs.Clients.{has_role}
 use Rattle.iv_clients.specs.Feeds.{Feed, Seat, ends_in, without_seat}
+use Rattle.iv_clients.proofs.Slots.{one_some}
 use Rattle.iv_gate.specs.Gate.{Gate, all_rested, in_session, is_needed, ran, rested}
 use Rattle.iv_gate.specs.Replies.{ActsAs}
 use Rattle.iv_gate.proofs.Machine.{find_passes}
 use Rattle.iv_gate.proofs.Running.{all_so, found_all}
 use Rattle.iv_gate.proofs.Sound.{Adds, IsFeed, IsSoundGate, Sounds, acts_on, feed_on, filter_all, ran_ready}
 use Rattle.iv_gate.proofs.Summing.{both, neither}
-use Rattle.iv_gate.proofs.Touching.{one_some}
 
 -- ---- the machine
 

@@ -1,123 +1,100 @@
--- Each event leads from a gateway whose machine reads what clients follow to another, and so does whatever happens.
-use Rattle.std.proofs.Common.{◌≡◌, ℕ, zero, suc, ◌+◌, Bool, true, false, not, cond, ◌||◌, List, [], ◌∷◌, ◌++◌, length, map, set, Option, Some, None, option_map, is_some, refl, ap, ◌∙◌, sym, subst}
-use Rattle.std.specs.Prelude.{◌==◌, ◌&&◌, filter, find, nat_lt, option_and_then}
+-- Each event leads from a gateway whose feeds are followed, by clients of their roles, to another, and so does whatever happens.
+use Rattle.std.proofs.Common.{◌≡◌, ℕ, ◌+◌, Bool, true, false, not, cond, ◌||◌, List, [], ◌∷◌, ◌++◌, length, map, set, Option, Some, None, option_map, refl, ap, ◌∙◌, sym, subst, arith, ◌≤◌, ◌⊎◌, inl, inr}
+use Rattle.std.specs.Prelude.{◌==◌, ◌&&◌, bytes_eq, filter, find, nat_lt}
 use Rattle.std.specs.List.{AllByRecursion, list_any}
-use Rattle.std.proofs.lemmas.Bool.{false≢true, eqb-true}
+use Rattle.std.proofs.lemmas.Bool.{false≢true, eqb-true, or_left, or_right}
 use Rattle.sha2.specs.Sha256.{sha256}
 use Rattle.serde_json.specs.Data.{Data}
 use Rattle.iv_rows.specs.Options.{if_some}
 use Rattle.iv_access.specs.Rights.{Name}
 use Rattle.iv_machine.specs.Act.{Act, begin, finish, create_role, create_table, create_view, grant, revoke, grant_role, revoke_role, row_security, create_policy, drop_policy, subscribe, unsubscribe, write, Command, Refusal, Reply, done, subscribed, refused, no_session, too_many, unknown_subscription, limit}
 use Rattle.iv_machine.specs.Changing.{after}
-use Rattle.iv_machine.specs.Machine.{ending_by, outcome, step}
-use Rattle.iv_machine.specs.Reached.{AreNumbersUnique}
+use Rattle.iv_machine.specs.Machine.{step}
 use Rattle.iv_machine.specs.Refusing.{refusal}
-use Rattle.iv_machine.specs.State.{State, Subscription, start}
+use Rattle.iv_machine.specs.State.{State, Subscription, subscription_of}
 use Rattle.iv_message.specs.Message.{Message, no_json, too_long, no_object, no_request, request}
 use Rattle.iv_message.specs.Told.{Told, replied, opened, fault, unasked, settled}
-use Rattle.iv_clients.specs.Bounds.{entry_session, most_subs}
-use Rattle.iv_clients.specs.Clients.{Client, Shown, Slots, Sub, answered, at_all, at_client, beating, checked, client_at, closing, dropping, followed_by, following, fresh, handing, is_followed, is_free, is_slow, may_say, moved, moved_sub, opens, released, saying, settling, staying, telling, told_one}
+use Rattle.iv_clients.specs.Bounds.{most_subs}
+use Rattle.iv_clients.specs.Clients.{Client, Shown, Slots, Sub, answered, at_all, at_client, beating, checked, client_at, closing, dropping, followed_by, following, fresh, handing, is_followed, is_slow, may_say, moved, moved_sub, opens, released, saying, settling, staying, telling, told_one}
 use Rattle.iv_clients.specs.Feeds.{Feed, Seat, feed_for, feed_of, is_of_role, is_reading, room_for, seat_of, without_seat}
-use Rattle.iv_clients.specs.Journal.{Entry, IsEntry, line_said, said_by, shape_for}
+use Rattle.iv_clients.specs.Journal.{Entry, line_said, said_by, shape_for}
 use Rattle.iv_clients.specs.Tokens.{Token}
+use Rattle.iv_clients.proofs.Slots.{at_every, at_same, free_none, from, nobody, one_some, some_is_none}
 use Rattle.iv_gate.specs.Events.{Event, presented, message, gone, known, ticked, synced, handed, failed, happens, next}
-use Rattle.iv_gate.specs.Gate.{Gate, acts, all_rested, all_swept, begun_for, closes, columns_in, done_for, entered, feed_begun, hears, in_session, is_accepted, is_needed, joined, joined_by, joins, next_own, ran, reads, reads_first, reply_in, reply_to, requests, rested, role_for, said, seated, settles, shut, subscribes, swept, tells, told_of, went, with_session, informs, entries_of, has_shape_room}
+use Rattle.iv_gate.specs.Gate.{Gate, acts, all_rested, all_swept, begun_for, closes, columns_in, done_for, entered, feed_begun, hears, in_session, is_accepted, is_needed, joined, joined_by, joins, next_own, ran, reads, reads_first, reply_to, requests, rested, role_for, said, seated, settles, shut, subscribes, swept, tells, told_of, went, with_session, informs, entries_of, has_shape_room}
 use Rattle.iv_gate.specs.Implied.{ReadsForClients}
-use Rattle.iv_gate.specs.Restoring.{Restores, all_replayed, gate_at_start, passed, replayed}
+use Rattle.iv_gate.specs.Restoring.{Restores, gate_at_start}
 use Rattle.iv_gate.specs.Runs.{Runs, begins, goes_on, begins_again}
 use Rattle.iv_gate.specs.Replies.{ActsAs}
 use Rattle.iv_gate.proofs.Asking.{IsHeard, asker_of, feed_acts, seated_sound}
-use Rattle.iv_gate.proofs.Finishing.{rested_sound}
-use Rattle.iv_gate.proofs.Lasting.{Starts, bound, runs_even, runs_sound}
-use Rattle.iv_gate.proofs.Machine.{find_passes, some_is_none}
-use Rattle.iv_gate.proofs.Opening.{IsAsker, reply_of_none, reply_of_some, subscribes_sound}
-use Rattle.iv_gate.proofs.Running.{all_so, all_swept_sound, client_said, found_all, one_sound, swept_sound}
-use Rattle.iv_gate.proofs.Serving.{AreEven, IsEven, put_sound, says_stays}
+use Rattle.iv_gate.proofs.Joining.{and_both, same_name}
+use Rattle.iv_gate.proofs.Keeping.{checked_role, handing_role, released_role, settling_role}
+use Rattle.iv_gate.proofs.Lasting.{Starts, runs_even, runs_kept, runs_sound}
+use Rattle.iv_gate.proofs.Machine.{find_passes, found_given}
+use Rattle.iv_gate.proofs.Opening.{IsAsker, above_given, reply_of_none, reply_of_some, subscribes_sound}
+use Rattle.iv_gate.proofs.Running.{all_so, at_one, client_said, found_all, one_sound}
+use Rattle.iv_gate.proofs.Serving.{AreEven, IsEven, put_one, says_stays}
+use Rattle.iv_gate.proofs.Sharing.{IsFed, one_role}
 use Rattle.iv_gate.proofs.Sound.{Adds, IsFeed, IsSoundGate, Sounds, any_more, filter_all, seer, seer_telling, Seer}
 use Rattle.iv_gate.proofs.Summing.{AreOwn, both, differs_back, is_back, neither, same_self}
-use Rattle.iv_gate.proofs.Touching.{at_every, at_same, came_as, one_some, opens_role}
-use Rattle.iv_gate.proofs.Using.{AreFeeds, IsUsing, followed_all, followed_by_one, followed_left, followed_one, followed_put, follows, is_plain, none_after, none_but, opens_none, ran_finish, ran_plain, ran_refused, ran_subscribe, shared_opens_none, shut_using}
+use Rattle.iv_gate.proofs.Touching.{came_as, opens_role, test_same}
+use Rattle.iv_gate.proofs.Using.{ran_using, AreFit, AreFollowed, Fits, IsUsing, fit_all, fit_one, followed_all, followed_by_one, followed_left, followed_one, followed_put, follows, follows_fewer, none_but, ran_subscribe, shrinks_same, shut_using}
 use Rattle.iv_gate.proofs.Shaping.{test_of}
 
 -- ---- clients that follow what they did
 
-using_one : (but : ℕ → Bool) (g : Gate) (m : ℕ) (f : Client → Client) → ((c : Client) → (f c).subs ≡ c.subs) → IsUsing but g → IsUsing but (record g { clients = at_client m f g.clients })
-using_one but g m f k a = record {
+using_one : (but : ℕ → Bool) (g : Gate) (m : ℕ) (f : Client → Client) → ((c : Client) → (f c).subs ≡ c.subs) → ((c : Client) → (f c).role ≡ c.role) → IsUsing but g
+    → IsUsing but (record g { clients = at_client m f g.clients })
+using_one but g m f k r a = record {
   followed = all_so {P = λ (x : Feed). but x.number ≡ false → is_followed x.number g.clients ≡ true} {Q = λ (x : Feed). but x.number ≡ false → is_followed x.number (at_client m f g.clients) ≡ true}
       (λ x h n. followed_one x.number m f g.clients (λ c e t. ap (follows x.number) (k c) ∙ t) (h n)) g.feeds a.followed;
-  read = a.read;
+  fit = fit_one g.machine.frame.last g.feeds m f g.clients (shrinks_same f r k) a.fit;
 }
 
-using_all : (but : ℕ → Bool) (g : Gate) (f : Client → Client) → ((c : Client) → (f c).subs ≡ c.subs) → IsUsing but g → IsUsing but (record g { clients = at_all f g.clients })
-using_all but g f k a = record {
+using_all : (but : ℕ → Bool) (g : Gate) (f : Client → Client) → ((c : Client) → (f c).subs ≡ c.subs) → ((c : Client) → (f c).role ≡ c.role) → IsUsing but g
+    → IsUsing but (record g { clients = at_all f g.clients })
+using_all but g f k r a = record {
   followed = all_so {P = λ (x : Feed). but x.number ≡ false → is_followed x.number g.clients ≡ true} {Q = λ (x : Feed). but x.number ≡ false → is_followed x.number (at_all f g.clients) ≡ true}
       (λ x h n. followed_all x.number f g.clients (λ c t. ap (follows x.number) (k c) ∙ t) (h n)) g.feeds a.followed;
-  read = a.read;
+  fit = fit_all g.machine.frame.last g.machine.frame.last g.feeds g.feeds f g.clients (omega arith) (λ P b. b) (shrinks_same f r k) a.fit;
 }
 
 settling_subs : (es : List Entry) (c : Client) → (settling es c).subs ≡ c.subs
-settling_subs es c = by c.owed
-  where
-    by : (b : Bool) → (cond b (record (told_one es settled c) { owed = false }) c).subs ≡ c.subs
-    by true = refl
-    by false = refl
+settling_subs es c = test_same (λ (x : Client). x.subs) (c.owed) (record (told_one es settled c) { owed = false }) c c.subs refl refl
 
 released_subs : (c : Client) → (released c).subs ≡ c.subs
-released_subs c = by (c.dropped || is_slow c)
-  where
-    by : (b : Bool) → (cond b (dropping c) (record c { unsynced = []; sendable = c.sendable ++ c.unsynced })).subs ≡ c.subs
-    by true = refl
-    by false = refl
+released_subs c = test_same (λ (x : Client). x.subs) (c.dropped || is_slow c) (dropping c) (record c { unsynced = []; sendable = c.sendable ++ c.unsynced }) c.subs refl refl
 
 checked_subs : (tokens : List Token) (c : Client) → (checked tokens c).subs ≡ c.subs
-checked_subs tokens c = by (opens tokens c)
-  where
-    by : (b : Bool) → (cond b c (dropping c)).subs ≡ c.subs
-    by true = refl
-    by false = refl
+checked_subs tokens c = test_same (λ (x : Client). x.subs) (opens tokens c) c (dropping c) c.subs refl refl
 
 handing_subs : (c : Client) → (handing c).subs ≡ c.subs
-handing_subs c = by (length c.sendable == 0)
-  where
-    by : (b : Bool) → (cond b c (record c { sendable = []; asked = 0; handed = c.handed ++ c.sendable ∷ [] })).subs ≡ c.subs
-    by true = refl
-    by false = refl
+handing_subs c = test_same (λ (x : Client). x.subs) (length c.sendable == 0) c (record c { sendable = []; asked = 0; handed = c.handed ++ c.sendable ∷ [] }) c.subs refl refl
 
 using_tells : (but : ℕ → Bool) (g : Gate) (m : ℕ) (t : Told) → IsUsing but g → IsUsing but (tells g m t)
-using_tells but g m t a = using_one but g m (told_one g.entries t) (λ c. refl) a
+using_tells but g m t a = using_one but g m (told_one g.entries t) (λ c. refl) (λ c. refl) a
 
 using_settles : (g : Gate) → IsUsing none_but g → IsUsing none_but (settles g)
-using_settles g a = using_all none_but g (settling g.entries) (settling_subs g.entries) a
+using_settles g a = using_all none_but g (settling g.entries) (settling_subs g.entries) (settling_role g.entries) a
 
 using_informs : (g : Gate) (es : List Entry) → IsUsing none_but g → IsUsing none_but (informs g es)
-using_informs g es a = using_all none_but g (λ c. telling g.entries (shape_for c.role es) c) (λ c. ap (λ (v : Seer). v.subs) (seer_telling g.entries (shape_for c.role es) c)) a
+using_informs g es a = using_all none_but g (λ c. telling g.entries (shape_for c.role es) c) (λ c. ap (λ (v : Seer). v.subs) (seer_telling g.entries (shape_for c.role es) c))
+    (λ c. ap (λ (v : Seer). v.role) (seer_telling g.entries (shape_for c.role es) c)) a
 
 -- ---- requests of the machine
 
-using_requests : (g : Gate) (m : ℕ) (id : Option Data) (e : Entry) (n : ℕ) → is_plain e.act ≡ true → IsSoundGate g → IsUsing none_but g → IsUsing none_but (requests g m id e n)
-using_requests g m id e n h b a =
+using_requests : (g : Gate) (m : ℕ) (id : Option Data) (e : Entry) (n : ℕ) → IsUsing none_but g → IsUsing none_but (requests g m id e n)
+using_requests g m id e n a =
     let k = in_session n e.act in let r = reply_to g k in let i = entered g e (is_accepted r) in
     using_informs (ran (tells i m (replied id r)) k) (entries_of e (is_accepted r))
-    (ran_plain none_but (tells i m (replied id r)) k h b.state.numbers (using_tells none_but i m (replied id r) (record { followed = a.followed; read = a.read })))
+    (ran_using none_but (tells i m (replied id r)) k (using_tells none_but i m (replied id r) (record { followed = a.followed; fit = a.fit })))
 
-using_other : (g : Gate) (m : ℕ) (c : Client) (id : Option Data) (text : List ℕ) (act : Act) (o : Option ℕ) → is_plain act ≡ true → IsSoundGate g → IsUsing none_but g
+using_other : (g : Gate) (m : ℕ) (c : Client) (id : Option Data) (text : List ℕ) (act : Act) (o : Option ℕ) → IsUsing none_but g
     → IsUsing none_but (if_some o (tells g m (replied id (refused no_session))) (requests g m id (record { role = c.role; line = line_said text; act = act })))
-using_other g m c id text act None h b a = using_tells none_but g m (replied id (refused no_session)) a
-using_other g m c id text act (Some n) h b a = using_requests g m id (record { role = c.role; line = line_said text; act = act }) n h b a
+using_other g m c id text act None a = using_tells none_but g m (replied id (refused no_session)) a
+using_other g m c id text act (Some n) a = using_requests g m id (record { role = c.role; line = line_said text; act = act }) n a
 
 -- ---- subscribing
-
-or_left : (b c : Bool) → b ≡ true → (b || c) ≡ true
-or_left true c h = refl
-or_left false c h = absurd (false≢true h)
-
-or_right : (b c : Bool) → c ≡ true → (b || c) ≡ true
-or_right true c h = refl
-or_right false c h = h
-
-some_before : {X : Type 0} (b : Bool) (x : X) (o : Option X) → is_some o ≡ true → is_some (cond b (Some x) o) ≡ true
-some_before true x o h = refl
-some_before false x o h = h
 
 module _ (g : Gate) (m : ℕ) (id : Option Data) (n : ℕ) (role rel : Name) where
   abbrev next_number : ℕ
@@ -138,30 +115,66 @@ module _ (g : Gate) (m : ℕ) (id : Option Data) (n : ℕ) (role rel : Name) whe
   old_follows : (k : ℕ) (d : Client) → follows k d.subs ≡ true → follows k (following next_number d).subs ≡ true
   old_follows k d w = any_more (λ (s : Sub). k == s.feed) d.subs (record { own = d.given + 1; feed = next_number } ∷ []) ∙ or_left (follows k d.subs) ((k == next_number) || false) w
 
-  begun_using : (c : Client) → client_at g.clients m ≡ Some c → IsUsing none_but g → IsUsing none_but begun_gate
-  begun_using c e a = record {
-    followed = (
-      λ w. followed_by_one next_number m (following next_number) (at_client m (told_one g.entries next_told) g.clients) (told_one g.entries next_told c)
-          (at_same m (told_one g.entries next_told) g.clients ∙ ap (option_map (told_one g.entries next_told)) e) (new_follows (told_one g.entries next_told c)),
-      all_so {P = λ (x : Feed). none_but x.number ≡ false → is_followed x.number g.clients ≡ true}
-          {Q = λ (x : Feed). none_but x.number ≡ false → is_followed x.number (at_client m (following next_number) (at_client m (told_one g.entries next_told) g.clients)) ≡ true}
-          (λ x f w. followed_one x.number m (following next_number) (at_client m (told_one g.entries next_told) g.clients) (λ d i v. old_follows x.number d v)
-          (followed_one x.number m (told_one g.entries next_told) g.clients (λ d i v. v) (f w))) g.feeds a.followed,
-    );
-    read = all_so {P = λ (x : Subscription). is_some (feed_of g.feeds x.number) ≡ true} {Q = λ (x : Subscription). is_some (feed_of (next_feed ∷ g.feeds) x.number) ≡ true}
-        (λ x w. some_before (x.number == next_feed.number) next_feed (feed_of g.feeds x.number) w) g.machine.frame.subscriptions a.read;
-  }
+  abbrev told_slots : Slots
+  told_slots = at_client m (told_one g.entries next_told) g.clients
 
-  pub using_subscribes : (c : Client) → client_at g.clients m ≡ Some c → IsSoundGate g → IsUsing none_but g → IsUsing none_but (subscribes g m id n role rel)
-  using_subscribes c e b a = by (refusal g.machine n (subscribe rel)) refl
+  begun_followed : (c : Client) → client_at g.clients m ≡ Some c → IsUsing none_but g → AreFollowed none_but begun_gate.feeds begun_gate.clients
+  begun_followed c e a = (
+    λ w. followed_by_one next_number m (following next_number) told_slots (told_one g.entries next_told c)
+        (at_same m (told_one g.entries next_told) g.clients ∙ ap (option_map (told_one g.entries next_told)) e) (new_follows (told_one g.entries next_told c)),
+    all_so {P = λ (x : Feed). none_but x.number ≡ false → is_followed x.number g.clients ≡ true}
+        {Q = λ (x : Feed). none_but x.number ≡ false → is_followed x.number (at_client m (following next_number) told_slots) ≡ true}
+        (λ x f w. followed_one x.number m (following next_number) told_slots (λ d i v. old_follows x.number d v)
+        (followed_one x.number m (told_one g.entries next_told) g.clients (λ d i v. v) (f w))) g.feeds a.followed,
+  )
+
+  -- what it follows already is no new feed, and the new one is of its role
+  older_fits : (d : Client) → Fits g.machine.frame.last g.feeds d → Fits next_number (next_feed ∷ g.feeds) d
+  older_fits d a k h =
+      let x = a k h in let given = x.0 in
+      (omega (arith, given), ((λ w. absurd (false≢true (sym (above_given k g.machine.frame.last given) ∙ w))), x.1))
+
+  none_above : (k f : ℕ) → k ≡ next_number → k ≡ f → f ≤ g.machine.frame.last → ⊥
+  none_above k f e h l = omega (arith, e, h, l)
+
+  newest_fits : (d : Client) → d.role ≡ role → IsSoundGate g → (k : ℕ) → k ≡ next_number → (k ≤ next_number) × AllByRecursion (λ (f : Feed). (k == f.number) ≡ true → f.role ≡ d.role) (next_feed ∷ g.feeds)
+  newest_fits d same b k e = (
+    omega (arith, e),
+    (
+      (λ w. sym same),
+      all_so {P = IsFeed g.machine} {Q = λ (f : Feed). (k == f.number) ≡ true → f.role ≡ d.role}
+          (λ f y w. absurd (none_above k f.number e (eqb-true k f.number w) (found_given g.machine.frame.last f.number _ g.machine.frame.subscriptions b.state.numbers.given y.found))) g.feeds b.feeds,
+    ),
+  )
+
+  asker_fits : (d : Client) → d.role ≡ role → IsSoundGate g → Fits g.machine.frame.last g.feeds d → Fits next_number (next_feed ∷ g.feeds) (following next_number d)
+  asker_fits d same b a k h = by (follows k d.subs) refl (k == next_number) refl (sym (any_more (λ (s : Sub). k == s.feed) d.subs (record { own = d.given + 1; feed = next_number } ∷ [])) ∙ h)
+    where
+      by : (t : Bool) → follows k d.subs ≡ t → (u : Bool) → (k == next_number) ≡ u → (follows k d.subs || ((k == next_number) || false)) ≡ true
+          → (k ≤ next_number) × AllByRecursion (λ (f : Feed). (k == f.number) ≡ true → f.role ≡ d.role) (next_feed ∷ g.feeds)
+      by true p u q i = older_fits d a k p
+      by false p true q i = newest_fits d same b k (eqb-true k next_number q)
+      by false p false q i = absurd (false≢true (sym (λ j. p j || (q j || false)) ∙ i))
+
+  begun_fit : (c : Client) → client_at g.clients m ≡ Some c → c.role ≡ role → IsSoundGate g → AreFit g.machine.frame.last g.feeds g.clients → AreFit next_number begun_gate.feeds begun_gate.clients
+  begun_fit c e same b a =
+      let told = fit_one g.machine.frame.last g.feeds m (told_one g.entries next_told) g.clients (shrinks_same (told_one g.entries next_told) (λ d. refl) (λ d. refl)) a in
+      at_one (λ i d. Fits next_number (next_feed ∷ g.feeds) d) m (following next_number) told_slots
+      (λ d h.
+      let o = from (told_one g.entries next_told) (client_at g.clients m) d (sym (at_same m (told_one g.entries next_told) g.clients) ∙ h) in
+      asker_fits d (ap (λ (x : Client). x.role) (sym o.same) ∙ (ap (λ (x : Client). x.role) (one_some o.old c (sym o.there ∙ e)) ∙ same)) b (told m d h))
+      (λ i d ne h. older_fits d (told i d h))
+
+  pub using_subscribes : (c : Client) → client_at g.clients m ≡ Some c → c.role ≡ role → IsSoundGate g → IsUsing none_but g → IsUsing none_but (subscribes g m id n role rel)
+  using_subscribes c e same b a = by (refusal g.machine n (subscribe rel)) refl
     where
       by : (o : Option Refusal) → refusal g.machine n (subscribe rel) ≡ o → IsUsing none_but (subscribes g m id n role rel)
       by None w =
           subst (λ r. IsUsing none_but (ran (feed_begun g m id n role rel r) (in_session n (subscribe rel)))) (sym (reply_of_none g.machine n rel (refusal g.machine n (subscribe rel)) w))
-          (ran_subscribe begun_gate n rel (ap (λ z. is_some (cond z (Some next_feed) (feed_of g.feeds (g.machine.frame.last + 1)))) (same_self (g.machine.frame.last + 1))) b.state.numbers (begun_using c e a))
+          (ran_subscribe begun_gate n rel w (begun_followed c e a) (begun_fit c e same b a.fit))
       by (Some r) w =
           subst (λ x. IsUsing none_but (ran (feed_begun g m id n role rel x) (in_session n (subscribe rel)))) (sym (reply_of_some g.machine n rel (refusal g.machine n (subscribe rel)) r w))
-          (ran_refused none_but (tells g m (replied id (refused r))) (in_session n (subscribe rel)) r w (using_tells none_but g m (replied id (refused r)) a))
+          (ran_using none_but (tells g m (replied id (refused r))) (in_session n (subscribe rel)) (using_tells none_but g m (replied id (refused r)) a))
 
 -- ---- a feed that a client leaves for an older one
 
@@ -177,28 +190,82 @@ still_follows t k j (x ∷ xs) w v = by (t == x.feed) refl (j == x.feed) refl v 
     by false q true u s more = or_left (j == x.feed) (follows j (map (moved_sub t k) xs)) u
     by false q false u s more = or_right (j == x.feed) (follows j (map (moved_sub t k) xs)) (more s)
 
-using_joined : (g : Gate) (m t k : ℕ) → IsSoundGate g → IsUsing none_but g → IsUsing none_but (joined g m (feed_of g.feeds t) (feed_of g.feeds k))
-using_joined g m t k b a = by (feed_of g.feeds t) (feed_of g.feeds k) refl
+-- a number that is followed then was followed before, or is the one that was moved to
+moved_from : (t k j : ℕ) (xs : List Sub) → follows j (map (moved_sub t k) xs) ≡ true → (follows j xs ≡ true) ⊎ ((j ≡ k) × (follows t xs ≡ true))
+moved_from t k j [] h = inl h
+moved_from t k j (x ∷ xs) h = by (moved_from t k j xs) (t == x.feed) refl h
   where
-    goes : (x y : Feed) → feed_of g.feeds t ≡ Some x → (d : Bool) → IsUsing none_but (cond d (shut (record g { clients = at_client m (moved x.number y.number) g.clients }) x) g)
-    goes x y w false = a
-    goes x y w true = shut_using none_but (record g { clients = at_client m (moved x.number y.number) g.clients }) x (found_all (IsFeed g.machine) g.feeds t x b.feeds w) b.state.numbers
+    more : (follows j xs ≡ true) ⊎ ((j ≡ k) × (follows t xs ≡ true)) → (((j == x.feed) || follows j xs) ≡ true) ⊎ ((j ≡ k) × (((t == x.feed) || follows t xs) ≡ true))
+    more (inl f) = inl (or_right (j == x.feed) (follows j xs) f)
+    more (inr p) = inr (p.0, or_right (t == x.feed) (follows t xs) p.1)
+
+    Rest : Type 0
+    Rest = follows j (map (moved_sub t k) xs) ≡ true → (follows j xs ≡ true) ⊎ ((j ≡ k) × (follows t xs ≡ true))
+
+    here : Rest → (t == x.feed) ≡ true → (b : Bool) → (j == k) ≡ b → (b || follows j (map (moved_sub t k) xs)) ≡ true
+        → (((j == x.feed) || follows j xs) ≡ true) ⊎ ((j ≡ k) × (((t == x.feed) || follows t xs) ≡ true))
+    here rest q true e i = inr (eqb-true j k e, or_left (t == x.feed) (follows t xs) q)
+    here rest q false e i = more (rest i)
+
+    there : Rest → (b : Bool) → (j == x.feed) ≡ b → (b || follows j (map (moved_sub t k) xs)) ≡ true → (((j == x.feed) || follows j xs) ≡ true) ⊎ ((j ≡ k) × (((t == x.feed) || follows t xs) ≡ true))
+    there rest true e i = inl (or_left (j == x.feed) (follows j xs) e)
+    there rest false e i = more (rest i)
+
+    by : Rest → (d : Bool) → (t == x.feed) ≡ d → ((j == (cond d (record x { feed = k }) x).feed) || follows j (map (moved_sub t k) xs)) ≡ true
+        → (((j == x.feed) || follows j xs) ≡ true) ⊎ ((j ≡ k) × (((t == x.feed) || follows t xs) ≡ true))
+    by rest true q i = here rest q (j == k) refl i
+    by rest false q i = there rest (j == x.feed) refl i
+
+-- feeds of one number are of one role
+same_feed : (s : State) (f k : Feed) → IsFeed s f → IsFeed s k → f.number ≡ k.number → f.role ≡ k.role
+same_feed s f k x y e =
+    let session : f.session ≡ k.session = ap (λ (z : Subscription). z.session)
+    (one_some (record { session = f.session; number = f.number; rel = x.rel }) (record { session = k.session; number = k.number; rel = y.rel })
+    (sym x.found ∙ (ap (subscription_of s.frame.subscriptions) e ∙ y.found))) in
+    one_role s k.session f.role k.role (subst (λ n. ActsAs s n f.role) session x.acts) y.acts
+
+moved_fit : (g : Gate) (m t k : ℕ) (x y : Feed) → IsSoundGate g → feed_of g.feeds t ≡ Some x → feed_of g.feeds k ≡ Some y → y.role ≡ x.role
+    → AreFit g.machine.frame.last g.feeds g.clients → AreFit g.machine.frame.last g.feeds (at_client m (moved x.number y.number) g.clients)
+moved_fit g m t k x y b w v same a = at_one (λ i c. Fits g.machine.frame.last g.feeds c) m (moved x.number y.number) g.clients (λ c e j h. by c e j (moved_from x.number y.number j c.subs h)) (λ i c ne e. a i c e)
+  where
+    fy : IsFeed g.machine y
+    fy = found_all (IsFeed g.machine) g.feeds k y b.feeds v
+
+    by : (c : Client) → client_at g.clients m ≡ Some c → (j : ℕ) → (follows j c.subs ≡ true) ⊎ ((j ≡ y.number) × (follows x.number c.subs ≡ true))
+        → (j ≤ g.machine.frame.last) × AllByRecursion (λ (f : Feed). (j == f.number) ≡ true → f.role ≡ c.role) g.feeds
+    by c e j (inl h) = a m c e j h
+    by c e j (inr p) =
+        let given : y.number ≤ g.machine.frame.last = found_given g.machine.frame.last y.number _ g.machine.frame.subscriptions b.state.numbers.given fy.found in
+        let number = p.0 in
+        let role : y.role ≡ c.role = same ∙ found_all (λ (f : Feed). (x.number == f.number) ≡ true → f.role ≡ c.role) g.feeds t x (a m c e x.number p.1).1 w (same_self x.number) in (
+          omega (arith, number, given),
+          all_so {P = IsFeed g.machine} {Q = λ (f : Feed). (j == f.number) ≡ true → f.role ≡ c.role} (λ f z i. same_feed g.machine f y z fy (sym (eqb-true j f.number i) ∙ number) ∙ role) g.feeds b.feeds,
+        )
+
+using_joined : (g : Gate) (m t k : ℕ) → IsSoundGate g → IsUsing none_but g → IsUsing none_but (joined g m (feed_of g.feeds t) (feed_of g.feeds k))
+using_joined g m t k b a = by (feed_of g.feeds t) (feed_of g.feeds k) refl refl
+  where
+    goes : (x y : Feed) → feed_of g.feeds t ≡ Some x → feed_of g.feeds k ≡ Some y → (d : Bool) → (is_reading x.role x.rel y && not (x.number == y.number)) ≡ d
+        → IsUsing none_but (cond d (shut (record g { clients = at_client m (moved x.number y.number) g.clients }) x) g)
+    goes x y w v false i = a
+    goes x y w v true i = shut_using none_but (record g { clients = at_client m (moved x.number y.number) g.clients }) x
         (filter_all (λ (f : Feed). none_but f.number ≡ false → is_followed f.number (at_client m (moved x.number y.number) g.clients) ≡ true) (λ (f : Feed). x.number == f.number) g.feeds
         (all_so {P = λ (f : Feed). none_but f.number ≡ false → is_followed f.number g.clients ≡ true}
         {Q = λ (f : Feed). (x.number == f.number) ≡ false → none_but f.number ≡ false → is_followed f.number (at_client m (moved x.number y.number) g.clients) ≡ true}
-        (λ f u q n. followed_one f.number m (moved x.number y.number) g.clients (λ c e v. still_follows x.number y.number f.number c.subs q v) (u n)) g.feeds a.followed)) a.read
+        (λ f u q n. followed_one f.number m (moved x.number y.number) g.clients (λ c e h. still_follows x.number y.number f.number c.subs q h) (u n)) g.feeds a.followed))
+        (moved_fit g m t k x y b w v (same_name y.role x.role (and_both (bytes_eq y.role x.role) (bytes_eq y.rel x.rel) (and_both (is_reading x.role x.rel y) (not (x.number == y.number)) i).0).0) a.fit)
 
-    by : (o p : Option Feed) → feed_of g.feeds t ≡ o → IsUsing none_but (joined g m o p)
-    by None p w = a
-    by (Some x) None w = a
-    by (Some x) (Some y) w = goes x y w (is_reading x.role x.rel y && not (x.number == y.number))
+    by : (o p : Option Feed) → feed_of g.feeds t ≡ o → feed_of g.feeds k ≡ p → IsUsing none_but (joined g m o p)
+    by None p w v = a
+    by (Some x) None w v = a
+    by (Some x) (Some y) w v = goes x y w v (is_reading x.role x.rel y && not (x.number == y.number)) refl
 
 using_joins : Adds → Sounds → (g : Gate) (m : ℕ) (id : Option Data) (f : Feed) (c : Client) → client_at g.clients m ≡ Some c → ActsAs g.machine f.session f.role → IsAsker c id f.role f.rel → IsSoundGate g → IsUsing none_but g
     → IsUsing none_but (joins g m id f)
 using_joins adds sounds g m id f c e acts same b a = by (reply_to g (in_session f.session (subscribe f.rel)))
   where
     after : IsUsing none_but (subscribes g m id f.session f.role f.rel)
-    after = using_subscribes g m id f.session f.role f.rel c e b a
+    after = using_subscribes g m id f.session f.role f.rel c e same.same b a
 
     by : (r : Reply) → IsUsing none_but (joined_by (subscribes g m id f.session f.role f.rel) m f.number r)
     by (subscribed t) = using_joined (subscribes g m id f.session f.role f.rel) m t f.number
@@ -208,43 +275,44 @@ using_joins adds sounds g m id f c e acts same b a = by (reply_to g (in_session 
 
 -- ---- sessions
 
-still_there : (g : Gate) (k : Command) (m : ℕ) (c : Client) → client_at g.clients m ≡ Some c → (d : Client) × (client_at (ran g k).clients m ≡ Some d)
-still_there g k m c e = (hears c, at_every hears g.clients m ∙ ap (option_map hears) e)
+still_there : (g : Gate) (k : Command) (m : ℕ) (c : Client) → client_at g.clients m ≡ Some c → (d : Client) × (client_at (ran g k).clients m ≡ Some d) × (d.role ≡ c.role)
+still_there g k m c e = (hears c, at_every hears g.clients m ∙ ap (option_map hears) e, ap (λ (v : Seer). v.role) (seer_telling g.entries (told_of g k.act (step g.machine k) c) c))
   where
     hears : Client → Client
     hears x = staying (step g.machine k).lines (telling g.entries (told_of g k.act (step g.machine k) x) x)
 
-using_seated : (g : Gate) (n : ℕ) (role : Name) → IsSoundGate g → IsUsing none_but g → IsUsing none_but (seated g n role)
-using_seated g n role b a = ran_plain none_but (record g { seats = g.seats ++ record { session = n; role = role } ∷ [] }) (in_session n (begin role)) refl b.state.numbers (record { followed = a.followed; read = a.read })
+using_seated : (g : Gate) (n : ℕ) (role : Name) → IsUsing none_but g → IsUsing none_but (seated g n role)
+using_seated g n role a = ran_using none_but (record g { seats = g.seats ++ record { session = n; role = role } ∷ [] }) (in_session n (begin role)) (record { followed = a.followed; fit = a.fit })
 
-using_rested : (g : Gate) (s : Seat) → IsSoundGate g → IsUsing none_but g → IsUsing none_but (rested g s)
-using_rested g s b a = by (is_needed g s)
+using_rested : (g : Gate) (s : Seat) → IsUsing none_but g → IsUsing none_but (rested g s)
+using_rested g s a = by (is_needed g s)
   where
     by : (d : Bool) → IsUsing none_but (cond d g (ran (record g { seats = without_seat s.session g.seats }) (in_session s.session finish)))
     by true = a
-    by false = ran_finish none_but (record g { seats = without_seat s.session g.seats }) s.session b.state.numbers (record { followed = a.followed; read = a.read })
+    by false = ran_using none_but (record g { seats = without_seat s.session g.seats }) (in_session s.session finish) (record { followed = a.followed; fit = a.fit })
 
 -- ---- a client reads
 
-using_first : Adds → Sounds → (g : Gate) (m : ℕ) (id : Option Data) (role rel : Name) (c : Client) → client_at g.clients m ≡ Some c → IsSoundGate g → IsUsing none_but g → IsUsing none_but (reads_first g m id role rel)
-using_first adds sounds g m id role rel c e b a = by (room_for g.seats g.feeds role)
+using_first : Adds → Sounds → (g : Gate) (m : ℕ) (id : Option Data) (role rel : Name) (c : Client) → client_at g.clients m ≡ Some c → c.role ≡ role → IsSoundGate g → IsUsing none_but g
+    → IsUsing none_but (reads_first g m id role rel)
+using_first adds sounds g m id role rel c e same b a = by (room_for g.seats g.feeds role)
   where
     further : (o : Option ℕ) → begun_for g role ≡ o → IsUsing none_but (if_some o (tells g m (replied id (refused too_many))) (λ n. subscribes (seated g n role) m id n role rel))
     further None w = using_tells none_but g m (replied id (refused too_many)) a
     further (Some n) w =
         let d = still_there (record g { seats = g.seats ++ record { session = n; role = role } ∷ [] }) (in_session n (begin role)) m c e in
-        using_subscribes (seated g n role) m id n role rel d.0 d.1 (seated_sound adds sounds g role n w b) (using_seated g n role b a)
+        using_subscribes (seated g n role) m id n role rel d.0 d.1 (d.2 ∙ same) (seated_sound adds sounds g role n w b) (using_seated g n role a)
 
     by : (o : Option ℕ) → IsUsing none_but (if_some o (if_some (begun_for g role) (tells g m (replied id (refused too_many))) (λ n. subscribes (seated g n role) m id n role rel)) (λ n. subscribes g m id n role rel))
     by None = further (begun_for g role) refl
-    by (Some n) = using_subscribes g m id n role rel c e b a
+    by (Some n) = using_subscribes g m id n role rel c e same b a
 
 using_reads : Adds → Sounds → (g : Gate) (m : ℕ) (c : Client) (id : Option Data) (rel : Name) (d : Client) → client_at g.clients m ≡ Some d → IsAsker d id c.role rel → IsSoundGate g → IsUsing none_but g
     → IsUsing none_but (reads g m c id rel)
 using_reads adds sounds g m c id rel d e same b a = test (nat_lt (length c.subs) most_subs)
   where
     by : (o : Option Feed) → feed_for g.feeds c.role rel ≡ o → IsUsing none_but (if_some o (reads_first g m id c.role rel) (joins g m id))
-    by None w = using_first adds sounds g m id c.role rel d e b a
+    by None w = using_first adds sounds g m id c.role rel d e same.same b a
     by (Some f) w = let p = feed_acts g.machine c.role rel g.feeds f b.feeds w in using_joins adds sounds g m id f d e p.0 (subst (λ r. IsAsker d id r f.rel) (sym p.1) (subst (λ r. IsAsker d id c.role r) (sym p.2) same)) b a
 
     test : (t : Bool) → IsUsing none_but (cond t (if_some (feed_for g.feeds c.role rel) (reads_first g m id c.role rel) (joins g m id)) (tells g m (replied id (refused too_many))))
@@ -265,8 +333,8 @@ none_found k (f ∷ fs) h = by (k == f.number) refl h (none_found k fs)
     by true q w more = absurd (some_is_none f w)
     by false q w more = (q, more w)
 
-using_swept : (ks : List ℕ) (g : Gate) (k : ℕ) → AllByRecursion (IsFeed g.machine) g.feeds → AreNumbersUnique g.machine.frame → IsUsing (but_of (k ∷ ks)) g → IsUsing (but_of ks) (swept g k)
-using_swept ks g k b u a = by (is_followed k g.clients) refl (feed_of g.feeds k) refl
+using_swept : (ks : List ℕ) (g : Gate) (k : ℕ) → IsUsing (but_of (k ∷ ks)) g → IsUsing (but_of ks) (swept g k)
+using_swept ks g k a = by (is_followed k g.clients) refl (feed_of g.feeds k) refl
   where
     test : is_followed k g.clients ≡ true → (f : Feed) → (but_of (k ∷ ks) f.number ≡ false → is_followed f.number g.clients ≡ true) → but_of ks f.number ≡ false
         → (c : Bool) → (k == f.number) ≡ c → is_followed f.number g.clients ≡ true
@@ -277,27 +345,27 @@ using_swept ks g k b u a = by (is_followed k g.clients) refl (feed_of g.feeds k)
     by true h o e = record {
       followed = all_so {P = λ (f : Feed). but_of (k ∷ ks) f.number ≡ false → is_followed f.number g.clients ≡ true} {Q = λ (f : Feed). but_of ks f.number ≡ false → is_followed f.number g.clients ≡ true}
           (λ f v w. test h f v w (k == f.number) refl) g.feeds a.followed;
-      read = a.read;
+      fit = a.fit;
     }
     by false h None e = record {
       followed = both {P = λ (f : Feed). but_of (k ∷ ks) f.number ≡ false → is_followed f.number g.clients ≡ true} {Q = λ (f : Feed). (k == f.number) ≡ false}
           {R = λ (f : Feed). but_of ks f.number ≡ false → is_followed f.number g.clients ≡ true} (λ f v q w. v (λ i. q i || w i)) g.feeds a.followed (none_found k g.feeds e);
-      read = a.read;
+      fit = a.fit;
     }
     by false h (Some x) e =
         let same : k ≡ x.number = eqb-true k x.number (find_passes (λ (f : Feed). k == f.number) g.feeds x e) in
-        shut_using (but_of ks) g x (found_all (IsFeed g.machine) g.feeds k x b e) u
+        shut_using (but_of ks) g x
         (filter_all (λ (f : Feed). but_of ks f.number ≡ false → is_followed f.number g.clients ≡ true) (λ (f : Feed). x.number == f.number) g.feeds
         (all_so {P = λ (f : Feed). but_of (k ∷ ks) f.number ≡ false → is_followed f.number g.clients ≡ true} {Q = λ (f : Feed). (x.number == f.number) ≡ false → but_of ks f.number ≡ false → is_followed f.number g.clients ≡ true}
-        (λ f v q w. v (λ i. (ap (λ j. j == f.number) same ∙ q) i || w i)) g.feeds a.followed)) a.read
+        (λ f v q w. v (λ i. (ap (λ j. j == f.number) same ∙ q) i || w i)) g.feeds a.followed)) a.fit
 
-using_all_swept : Adds → Sounds → (g : Gate) (ks : List ℕ) → IsSoundGate g → IsUsing (but_of ks) g → IsUsing none_but (all_swept g ks)
-using_all_swept adds sounds g [] b a = record { followed = a.followed; read = a.read }
-using_all_swept adds sounds g (k ∷ ks) b a = using_all_swept adds sounds (swept g k) ks (swept_sound adds sounds g k b) (using_swept ks g k b.feeds b.state.numbers a)
+using_all_swept : (g : Gate) (ks : List ℕ) → IsUsing (but_of ks) g → IsUsing none_but (all_swept g ks)
+using_all_swept g [] a = record { followed = a.followed; fit = a.fit }
+using_all_swept g (k ∷ ks) a = using_all_swept (swept g k) ks (using_swept ks g k a)
 
-using_all_rested : Adds → Sounds → (g : Gate) (ss : List Seat) → IsSoundGate g → IsUsing none_but g → IsUsing none_but (all_rested g ss)
-using_all_rested adds sounds g [] b a = a
-using_all_rested adds sounds g (s ∷ ss) b a = using_all_rested adds sounds (rested g s) ss (rested_sound adds sounds g s b) (using_rested g s b a)
+using_all_rested : (g : Gate) (ss : List Seat) → IsUsing none_but g → IsUsing none_but (all_rested g ss)
+using_all_rested g [] a = a
+using_all_rested g (s ∷ ss) a = using_all_rested (rested g s) ss (using_rested g s a)
 
 -- ---- a client closes
 
@@ -326,9 +394,9 @@ other_stays own k j given (x ∷ xs) o f w v = by (own == x.own) refl f (j == x.
     by false q e true u t more = or_left (j == x.feed) (follows j left) u
     by false q e false u t more = or_right (j == x.feed) (follows j left) (more e t)
 
-using_closes : (g : Gate) (m : ℕ) (c : Client) (id : Option Data) (own given : ℕ) → ((d : Client) → client_at g.clients m ≡ Some d → d.subs ≡ c.subs) → AreOwn given c.subs → IsSoundGate g → IsUsing none_but g
+using_closes : (g : Gate) (m : ℕ) (c : Client) (id : Option Data) (own given : ℕ) → ((d : Client) → client_at g.clients m ≡ Some d → d.subs ≡ c.subs) → AreOwn given c.subs → IsUsing none_but g
     → IsUsing none_but (closes g m c id own)
-using_closes g m c id own given same o b a = by (followed_by c.subs own) refl
+using_closes g m c id own given same o a = by (followed_by c.subs own) refl
   where
     h : Gate
     h = record g { clients = at_client m (closing own) g.clients }
@@ -336,14 +404,14 @@ using_closes g m c id own given same o b a = by (followed_by c.subs own) refl
     by : (p : Option ℕ) → followed_by c.subs own ≡ p → IsUsing none_but (if_some p (tells g m (replied id (refused unknown_subscription))) (λ k. swept (tells (record g { clients = at_client m (closing own) g.clients }) m (replied id done)) k))
     by None e = using_tells none_but g m (replied id (refused unknown_subscription)) a
     by (Some k) e =
-        let i = using_swept [] (tells h m (replied id done)) k b.feeds b.state.numbers (using_tells (but_of (k ∷ [])) h m (replied id done) (record {
+        let i = using_swept [] (tells h m (replied id done)) k (using_tells (but_of (k ∷ [])) h m (replied id done) (record {
           followed = all_so {P = λ (f : Feed). none_but f.number ≡ false → is_followed f.number g.clients ≡ true} {Q = λ (f : Feed). but_of (k ∷ []) f.number ≡ false → is_followed f.number (at_client m (closing own) g.clients) ≡ true}
               (λ f v w. followed_one f.number m (closing own) g.clients
               (λ d t u. ap (λ ss. follows f.number (filter (λ (s : Sub). not (own == s.own)) ss)) (same d t)
               ∙ other_stays own k f.number given c.subs o e (neither (k == f.number) false w).0 (sym (ap (follows f.number) (same d t)) ∙ u)) (v refl)) g.feeds a.followed;
-          read = a.read;
+          fit = fit_one g.machine.frame.last g.feeds m (closing own) g.clients (record { role = λ d. refl; fewer = λ d j t. follows_fewer j (λ (s : Sub). not (own == s.own)) d.subs t }) a.fit;
         })) in
-        record { followed = i.followed; read = i.read }
+        record { followed = i.followed; fit = i.fit }
 
 -- ---- a message
 
@@ -352,18 +420,18 @@ using_acts : Adds → Sounds → (g : Gate) (m : ℕ) (c : Client) (id : Option 
 using_acts adds sounds g m c id text (begin role) d given t w r s o b a = using_tells none_but g m (fault 2) a
 using_acts adds sounds g m c id text finish d given t w r s o b a = using_tells none_but g m (fault 2) a
 using_acts adds sounds g m c id text (subscribe rel) d given t w r s o b a = using_reads adds sounds g m c id rel d t (asker_of g m c id text rel d w r) b a
-using_acts adds sounds g m c id text (unsubscribe own) d given t w r s o b a = using_closes g m c id own given (λ x e. ap (λ (y : Client). y.subs) (one_some x d (sym e ∙ t)) ∙ s) o b a
-using_acts adds sounds g m c id text (create_role name) d given t w r s o b a = using_other g m c id text (create_role name) (seat_of g.seats c.role) refl b a
-using_acts adds sounds g m c id text (create_table name owner columns) d given t w r s o b a = using_other g m c id text (create_table name owner columns) (seat_of g.seats c.role) refl b a
-using_acts adds sounds g m c id text (create_view name owner query) d given t w r s o b a = using_other g m c id text (create_view name owner query) (seat_of g.seats c.role) refl b a
-using_acts adds sounds g m c id text (grant rel privileges to) d given t w r s o b a = using_other g m c id text (grant rel privileges to) (seat_of g.seats c.role) refl b a
-using_acts adds sounds g m c id text (revoke rel privileges to) d given t w r s o b a = using_other g m c id text (revoke rel privileges to) (seat_of g.seats c.role) refl b a
-using_acts adds sounds g m c id text (grant_role group to) d given t w r s o b a = using_other g m c id text (grant_role group to) (seat_of g.seats c.role) refl b a
-using_acts adds sounds g m c id text (revoke_role group to) d given t w r s o b a = using_other g m c id text (revoke_role group to) (seat_of g.seats c.role) refl b a
-using_acts adds sounds g m c id text (row_security rel enable force) d given t w r s o b a = using_other g m c id text (row_security rel enable force) (seat_of g.seats c.role) refl b a
-using_acts adds sounds g m c id text (create_policy p) d given t w r s o b a = using_other g m c id text (create_policy p) (seat_of g.seats c.role) refl b a
-using_acts adds sounds g m c id text (drop_policy rel name) d given t w r s o b a = using_other g m c id text (drop_policy rel name) (seat_of g.seats c.role) refl b a
-using_acts adds sounds g m c id text (write entries) d given t w r s o b a = using_other g m c id text (write entries) (seat_of g.seats c.role) refl b a
+using_acts adds sounds g m c id text (unsubscribe own) d given t w r s o b a = using_closes g m c id own given (λ x e. ap (λ (y : Client). y.subs) (one_some x d (sym e ∙ t)) ∙ s) o a
+using_acts adds sounds g m c id text (create_role name) d given t w r s o b a = using_other g m c id text (create_role name) (seat_of g.seats c.role) a
+using_acts adds sounds g m c id text (create_table name owner columns) d given t w r s o b a = using_other g m c id text (create_table name owner columns) (seat_of g.seats c.role) a
+using_acts adds sounds g m c id text (create_view name owner query) d given t w r s o b a = using_other g m c id text (create_view name owner query) (seat_of g.seats c.role) a
+using_acts adds sounds g m c id text (grant rel privileges to) d given t w r s o b a = using_other g m c id text (grant rel privileges to) (seat_of g.seats c.role) a
+using_acts adds sounds g m c id text (revoke rel privileges to) d given t w r s o b a = using_other g m c id text (revoke rel privileges to) (seat_of g.seats c.role) a
+using_acts adds sounds g m c id text (grant_role group to) d given t w r s o b a = using_other g m c id text (grant_role group to) (seat_of g.seats c.role) a
+using_acts adds sounds g m c id text (revoke_role group to) d given t w r s o b a = using_other g m c id text (revoke_role group to) (seat_of g.seats c.role) a
+using_acts adds sounds g m c id text (row_security rel enable force) d given t w r s o b a = using_other g m c id text (row_security rel enable force) (seat_of g.seats c.role) a
+using_acts adds sounds g m c id text (create_policy p) d given t w r s o b a = using_other g m c id text (create_policy p) (seat_of g.seats c.role) a
+using_acts adds sounds g m c id text (drop_policy rel name) d given t w r s o b a = using_other g m c id text (drop_policy rel name) (seat_of g.seats c.role) a
+using_acts adds sounds g m c id text (write entries) d given t w r s o b a = using_other g m c id text (write entries) (seat_of g.seats c.role) a
 
 using_done : Adds → Sounds → (g : Gate) (m : ℕ) (c : Client) (text : List ℕ) (x : Message) (d : Client) (given : ℕ) → client_at g.clients m ≡ Some d → said_by text ≡ x → IsHeard g m c text d → d.subs ≡ c.subs → AreOwn given c.subs
     → IsSoundGate g → IsUsing none_but g → IsUsing none_but (done_for g m c text x)
@@ -382,11 +450,11 @@ using_hears : Adds → Sounds → (g : Gate) (m : ℕ) (c : Client) (text : List
 using_hears adds sounds g m c text t says even b a =
     let asked = record g { clients = at_client m (saying text) g.clients } in
     let live : c.dropped ≡ false = not_dropped c.dropped _ says in
-    using_one none_but (settles (done_for asked m c text (said_by text))) m (answered c) (λ d. refl)
+    using_one none_but (settles (done_for asked m c text (said_by text))) m (answered c) (λ d. refl) (λ d. refl)
     (using_settles (done_for asked m c text (said_by text))
     (using_done adds sounds asked m c text (said_by text) (saying text c) c.given (at_same m (saying text) g.clients ∙ ap (option_map (saying text)) t) refl
     (record { role = refl; before = c.messages; messages = refl; pending = even }) refl (b.clients m c t live).own
-    (one_sound g m (saying text) (λ d e l. client_said g.machine g.feeds (seer d) text (b.clients m d e l)) b) (using_one none_but g m (saying text) (λ d. refl) a)))
+    (one_sound g m (saying text) (λ d e l. client_said g.machine g.feeds (seer d) text (b.clients m d e l)) b) (using_one none_but g m (saying text) (λ d. refl) (λ d. refl) a)))
 
 some_using : {X : Type 0} (o : Option X) (h : Gate) (f : X → Gate) → IsUsing none_but h → ((x : X) → o ≡ Some x → IsUsing none_but (f x)) → IsUsing none_but (if_some o h f)
 some_using None h f a b = a
@@ -401,21 +469,15 @@ using_said adds sounds g m text even b a = some_using (client_at g.clients m) g 
 
 -- ---- a client comes, and goes
 
-nobody_there : (m : ℕ) (slots : Slots) → is_free m slots ≡ true → client_at slots m ≡ None
-nobody_there m [] h = absurd (false≢true h)
-nobody_there zero (None ∷ ss) h = refl
-nobody_there zero (Some c ∷ ss) h = absurd (false≢true h)
-nobody_there (suc m) (s ∷ ss) h = nobody_there m ss h
-
-using_with : (g : Gate) (role : Name) (m : ℕ) → client_at g.clients m ≡ None → IsSoundGate g → IsUsing none_but g
+using_with : (g : Gate) (role : Name) (m : ℕ) → client_at g.clients m ≡ None → IsUsing none_but g
     → IsUsing none_but (with_session g role) × (client_at (with_session g role).clients m ≡ None)
-using_with g role m e b a = by (seat_of g.seats role)
+using_with g role m e a = by (seat_of g.seats role)
   where
     further : (o : Option ℕ) → IsUsing none_but (if_some o g (λ n. seated g n role)) × (client_at (if_some o g (λ n. seated g n role)).clients m ≡ None)
     further None = (a, e)
     further (Some n) =
         let h = record g { seats = g.seats ++ record { session = n; role = role } ∷ [] } in let k = in_session n (begin role) in (
-          using_seated g n role b a,
+          using_seated g n role a,
           at_every (λ (x : Client). staying (step h.machine k).lines (telling h.entries (told_of h k.act (step h.machine k) x) x)) g.clients m
               ∙ ap (option_map (λ (x : Client). staying (step h.machine k).lines (telling h.entries (told_of h k.act (step h.machine k) x) x))) e,
         )
@@ -424,22 +486,22 @@ using_with g role m e b a = by (seat_of g.seats role)
     by None = further (begun_for g role)
     by (Some n) = (a, e)
 
-using_came : (g : Gate) (m : ℕ) (token : List ℕ) (role : Name) → role_for g m token ≡ Some role → IsSoundGate g → IsUsing none_but g → IsUsing none_but (came_as g m token role)
-using_came g m token role e b a =
-    let h = with_session g role in let p = using_with g role m (nobody_there m g.clients (opens_role g m token role e).free) b a in
+using_came : (g : Gate) (m : ℕ) (token : List ℕ) (role : Name) → role_for g m token ≡ Some role → IsUsing none_but g → IsUsing none_but (came_as g m token role)
+using_came g m token role e a =
+    let h = with_session g role in let p = using_with g role m (free_none m g.clients (opens_role g m token role e).free) a in
     let who = Some (fresh h.entries role (sha256 token)) in
     record {
       followed = all_so {P = λ (f : Feed). none_but f.number ≡ false → is_followed f.number h.clients ≡ true} {Q = λ (f : Feed). none_but f.number ≡ false → is_followed f.number (set h.clients m who) ≡ true}
           (λ f v w. followed_put f.number m who h.clients p.1 (v w)) h.feeds p.0.followed;
-      read = p.0.read;
+      fit = put_one (Fits h.machine.frame.last h.feeds) m who h.clients (λ c i k t. absurd (false≢true (ap (λ (x : Client). follows k x.subs) (one_some (fresh h.entries role (sha256 token)) c i) ∙ t))) p.0.fit;
     }
 
 not_among : (j : ℕ) (xs : List Sub) → but_of (map (λ (s : Sub). s.feed) xs) j ≡ false → follows j xs ≡ false
 not_among j [] h = refl
 not_among j (x ∷ xs) h = let p = neither (x.feed == j) (but_of (map (λ (s : Sub). s.feed) xs) j) h in (λ i. differs_back x.feed j p.0 i || not_among j xs p.1 i)
 
-using_went : Adds → Sounds → (g : Gate) (m : ℕ) → IsSoundGate g → IsUsing none_but g → IsUsing none_but (went g m)
-using_went adds sounds g m b a = by (client_at g.clients m) refl
+using_went : (g : Gate) (m : ℕ) → IsUsing none_but g → IsUsing none_but (went g m)
+using_went g m a = by (client_at g.clients m) refl
   where
     by : (o : Option Client) → client_at g.clients m ≡ o
         → IsUsing none_but (if_some o g (λ c. let h = all_swept (record g { clients = set g.clients m None }) (map (λ s. s.feed) c.subs) in settles (all_rested h (filter (is_of_role c.role) h.seats))))
@@ -447,24 +509,23 @@ using_went adds sounds g m b a = by (client_at g.clients m) refl
     by (Some c) e =
         let left = record g { clients = set g.clients m None } in let ks = map (λ (s : Sub). s.feed) c.subs in
         let h = all_swept left ks in let ss = filter (is_of_role c.role) h.seats in
-        let bl = put_sound g m None (λ d w. absurd (some_is_none d (sym w))) b in
-        using_settles (all_rested h ss) (using_all_rested adds sounds h ss (all_swept_sound adds sounds left ks bl) (using_all_swept adds sounds left ks bl (record {
+        using_settles (all_rested h ss) (using_all_rested h ss (using_all_swept left ks (record {
           followed = all_so {P = λ (f : Feed). none_but f.number ≡ false → is_followed f.number g.clients ≡ true} {Q = λ (f : Feed). but_of ks f.number ≡ false → is_followed f.number (set g.clients m None) ≡ true}
               (λ f v w. followed_left f.number m g.clients c e (not_among f.number c.subs w) (v refl)) g.feeds a.followed;
-          read = a.read;
+          fit = put_one (Fits g.machine.frame.last g.feeds) m None g.clients (λ d i. absurd (some_is_none d (sym i))) a.fit;
         })))
 
 -- ---- each event, and whatever happens
 
 happens_using : Adds → Sounds → (g : Gate) (e : Event) → AreEven g → IsSoundGate g → IsUsing none_but g → IsUsing none_but (happens g e)
-happens_using adds sounds g (presented m token) even b a = some_using (role_for g m token) g (came_as g m token) a (λ role e. using_came g m token role e b a)
+happens_using adds sounds g (presented m token) even b a = some_using (role_for g m token) g (came_as g m token) a (λ role e. using_came g m token role e a)
 happens_using adds sounds g (message m text) even b a = using_said adds sounds g m text even b a
-happens_using adds sounds g (gone m) even b a = using_went adds sounds g m b a
-happens_using adds sounds g (known tokens) even b a = let x = using_all none_but g (checked tokens) (checked_subs tokens) a in record { followed = x.followed; read = x.read }
-happens_using adds sounds g ticked even b a = using_all none_but g (beating g.entries) (λ c. refl) a
-happens_using adds sounds g synced even b a = let x = using_all none_but g released released_subs a in record { followed = x.followed; read = x.read }
-happens_using adds sounds g (handed m) even b a = let x = using_one none_but g m handing handing_subs a in record { followed = x.followed; read = x.read }
-happens_using adds sounds g failed even b a = record { followed = a.followed; read = a.read }
+happens_using adds sounds g (gone m) even b a = using_went g m a
+happens_using adds sounds g (known tokens) even b a = let x = using_all none_but g (checked tokens) (checked_subs tokens) (checked_role tokens) a in record { followed = x.followed; fit = x.fit }
+happens_using adds sounds g ticked even b a = using_all none_but g (beating g.entries) (λ c. refl) (λ c. refl) a
+happens_using adds sounds g synced even b a = let x = using_all none_but g released released_subs released_role a in record { followed = x.followed; fit = x.fit }
+happens_using adds sounds g (handed m) even b a = let x = using_one none_but g m handing handing_subs handing_role a in record { followed = x.followed; fit = x.fit }
+happens_using adds sounds g failed even b a = record { followed = a.followed; fit = a.fit }
 
 next_using : Adds → Sounds → (g : Gate) (e : Event) → AreEven g → IsSoundGate g → IsUsing none_but g → IsUsing none_but (next g e)
 next_using adds sounds g e even b a = by g.dead
@@ -473,49 +534,27 @@ next_using adds sounds g e even b a = by g.dead
     by true = a
     by false = happens_using adds sounds g e even b a
 
--- entries open no subscription
-none_opened : (s : State) (k : Command) (o : Option Refusal) → opens_none k.act ≡ true → s.frame.subscriptions ≡ [] → (outcome s k o).state.frame.subscriptions ≡ []
-none_opened s k (Some r) p h = h
-none_opened s k None p h = ap (filter (λ (e : Subscription). not (is_some (ending_by k.act (after s k.session k.act) e)))) (none_after s.frame k.session k.act p h)
-
-passed_none : (s t : State) (k : Command) → opens_none k.act ≡ true → s.frame.subscriptions ≡ [] → passed s k ≡ Some t → t.frame.subscriptions ≡ []
-passed_none s t k p h e = by (is_accepted (reply_in (step s k).lines)) e
-  where
-    by : (a : Bool) → cond a (Some (step s k).state) None ≡ Some t → t.frame.subscriptions ≡ []
-    by true w = ap (λ (x : State). x.frame.subscriptions) (sym (one_some (step s k).state t w)) ∙ none_opened s k (refusal s k.session k.act) p h
-    by false w = absurd (some_is_none t (sym w))
-
-replayed_none : (s t : State) (e : Entry) → IsEntry e → s.frame.subscriptions ≡ [] → replayed s e ≡ Some t → t.frame.subscriptions ≡ []
-replayed_none s t e i h w =
-    bound (passed s (in_session entry_session (begin e.role))) (λ u. option_and_then (λ v. passed v (in_session entry_session finish)) (passed u (in_session entry_session e.act))) t (t.frame.subscriptions ≡ []) w
-    (λ u x y. bound (passed u (in_session entry_session e.act)) (λ v. passed v (in_session entry_session finish)) t (t.frame.subscriptions ≡ []) y
-    (λ v p q. passed_none v t (in_session entry_session finish) refl
-    (passed_none u v (in_session entry_session e.act) (shared_opens_none e.act i.shared) (passed_none s u (in_session entry_session (begin e.role)) refl h x) p) q))
-
-replays_none : (s t : State) (es : List Entry) → AllByRecursion IsEntry es → s.frame.subscriptions ≡ [] → all_replayed s es ≡ Some t → t.frame.subscriptions ≡ []
-replays_none s t [] w h e = ap (λ (x : State). x.frame.subscriptions) (sym (one_some s t e)) ∙ h
-replays_none s t (x ∷ xs) w h e = bound (replayed s x) (λ u. all_replayed u xs) t (t.frame.subscriptions ≡ []) e (λ u i k. replays_none u t xs w.1 (replayed_none s u x w.0 h i) k)
-
 restored_using : (cap : ℕ) (tokens : List Token) (most : ℕ) (sent : List Shown) (journal : List ℕ) (g : Gate) → Restores (gate_at_start cap tokens most sent) journal g → IsUsing none_but g
 restored_using cap tokens most sent journal g r = subst (IsUsing none_but) (sym r.gate) (record {
   followed = tt;
-  read = subst (AreFeeds []) (sym (replays_none (start cap) r.state g.entries r.leads.well refl r.leads.accepted)) tt;
+  fit = λ m c h. absurd (nobody most m c h);
 })
 
-runs_using : Adds → Starts → Sounds → (cap : ℕ) (g : Gate) → Runs cap g → IsUsing none_but g
+pub runs_using : Adds → Starts → Sounds → (cap : ℕ) (g : Gate) → Runs cap g → IsUsing none_but g
 runs_using adds starts sounds cap _ (begins tokens most journal g r) = restored_using cap tokens most [] journal g r
 runs_using adds starts sounds cap _ (goes_on h e r) = next_using adds sounds h e (runs_even cap h r) (runs_sound adds starts sounds cap h r) (runs_using adds starts sounds cap h r)
 runs_using adds starts sounds cap _ (begins_again h disk tokens most i r l x) = restored_using cap tokens most h.sent disk i x
 
 -- each subscription of the machine is a feed that some client follows
 pub reads_for_clients : Adds → Starts → Sounds → (cap : ℕ) (g : Gate) → Runs cap g → ReadsForClients g
-reads_for_clients adds starts sounds cap g r = let a = runs_using adds starts sounds cap g r in record {
-  subscriptions = all_so {P = λ (e : Subscription). is_some (feed_of g.feeds e.number) ≡ true} {Q = λ (e : Subscription). is_followed e.number g.clients ≡ true} (λ e h. by e (feed_of g.feeds e.number) refl h) g.machine.frame.subscriptions a.read;
+reads_for_clients adds starts sounds cap g r = record {
+  subscriptions = all_so {P = IsFed g.feeds} {Q = λ (e : Subscription). is_followed e.number g.clients ≡ true}
+      (λ e h.
+      let same : e.number ≡ h.feed.number = eqb-true e.number h.feed.number (find_passes (λ (x : Feed). e.number == x.number) g.feeds h.feed h.found) in
+      ap (λ i. is_followed i g.clients) same ∙ found_all (λ (x : Feed). none_but x.number ≡ false → is_followed x.number g.clients ≡ true) g.feeds e.number h.feed a.followed h.found refl)
+      g.machine.frame.subscriptions (runs_kept adds starts sounds cap g r).shared.fed;
   feeds = all_so {P = λ (f : Feed). none_but f.number ≡ false → is_followed f.number g.clients ≡ true} {Q = λ (f : Feed). is_followed f.number g.clients ≡ true} (λ f h. h refl) g.feeds a.followed;
 }
   where
-    by : (e : Subscription) (o : Option Feed) → feed_of g.feeds e.number ≡ o → is_some o ≡ true → is_followed e.number g.clients ≡ true
-    by e None q h = absurd (false≢true h)
-    by e (Some f) q h =
-        let same : e.number ≡ f.number = eqb-true e.number f.number (find_passes (λ (x : Feed). e.number == x.number) g.feeds f q) in
-        ap (λ i. is_followed i g.clients) same ∙ found_all (λ (x : Feed). none_but x.number ≡ false → is_followed x.number g.clients ≡ true) g.feeds e.number f (runs_using adds starts sounds cap g r).followed q refl
+    a : IsUsing none_but g
+    a = runs_using adds starts sounds cap g r

@@ -2,7 +2,7 @@
 use Rattle.std.proofs.Common.{◌≡◌, ℕ, Bool, true, false, cond, not, ◌||◌, List, [], ◌∷◌, ◌++◌, codes, length, map, Option, Some, None, refl, ap, ◌∙◌, sym, subst}
 use Rattle.std.specs.Prelude.{◌==◌, ◌&&◌, bytes_eq, filter, nat_lt, unwrap_or}
 use Rattle.std.specs.List.{AllByRecursion, list_any}
-use Rattle.std.proofs.lemmas.Bool.{false≢true, eqb-true}
+use Rattle.std.proofs.lemmas.Bool.{false≢true, eqb-true, not-true, or_right}
 use Rattle.serde_json.specs.Data.{Data}
 use Rattle.iv_rows.specs.Names.{is_name}
 use Rattle.iv_rows.specs.Options.{if_some}
@@ -32,10 +32,9 @@ use Rattle.iv_clients.specs.Bounds.{most_said}
 use Rattle.iv_clients.specs.Journal.{Parts, begins_object, not_request, parts_of, said_by, said_in, unindented, with_front}
 use Rattle.iv_request.specs.Reading.{value_of}
 use Rattle.iv_gate.specs.Gate.{granted_by, has_some, is_member}
-use Rattle.iv_gate.proofs.Entering.{not_passed, or_right}
-use Rattle.iv_gate.proofs.Joining.{and_both}
+use Rattle.iv_gate.proofs.Joining.{and_both, bytes_self}
 use Rattle.iv_gate.proofs.Machine.{first_none, later_none, passed, there}
-use Rattle.iv_gate.proofs.Sitting.{bytes_self, one_name}
+use Rattle.iv_gate.proofs.Sharing.{same_position}
 use Rattle.iv_gate.proofs.Sound.{Sounds, any_more}
 use Rattle.iv_gate.proofs.Summing.{same_self}
 
@@ -86,9 +85,9 @@ admin_stays sounds s k h = (sounds.lasts s k).roles (codes "admin") 0 h
 
 some_privilege : (H : Privilege → Bool) (p : Privilege) → H p ≡ true → list_any H (Select ∷ Insert ∷ Update ∷ Delete ∷ []) ≡ true
 some_privilege H Select h = ap (λ b. b || (H Insert || (H Update || (H Delete || false)))) h
-some_privilege H Insert h = or_right (H Select) (ap (λ b. b || (H Update || (H Delete || false))) h)
-some_privilege H Update h = or_right (H Select) (or_right (H Insert) (ap (λ b. b || (H Delete || false)) h))
-some_privilege H Delete h = or_right (H Select) (or_right (H Insert) (or_right (H Update) (ap (λ b. b || false) h)))
+some_privilege H Insert h = or_right (H Select) _ (ap (λ b. b || (H Update || (H Delete || false))) h)
+some_privilege H Update h = or_right (H Select) _ (or_right (H Insert) _ (ap (λ b. b || (H Delete || false)) h))
+some_privilege H Delete h = or_right (H Select) _ (or_right (H Insert) _ (or_right (H Update) _ (ap (λ b. b || false) h)))
 
 any_weaker : {X : Type 0} (p q : X → Bool) → ((x : X) → p x ≡ true → q x ≡ true) → (xs : List X) → list_any p xs ≡ true → list_any q xs ≡ true
 any_weaker p q k [] h = absurd (false≢true h)
@@ -96,7 +95,7 @@ any_weaker p q k (x ∷ xs) h = by (p x) refl h (λ t. any_weaker p q k xs t)
   where
     by : (b : Bool) → p x ≡ b → (b || list_any p xs) ≡ true → (list_any p xs ≡ true → list_any q xs ≡ true) → (q x || list_any q xs) ≡ true
     by true e t more = ap (λ b. b || list_any q xs) (k x e)
-    by false e t more = or_right (q x) (more t)
+    by false e t more = or_right (q x) _ (more t)
 
 -- some privilege of the role of a number on the relation of a name
 abbrev has_at : Frame → ℕ → Name → Bool
@@ -119,8 +118,8 @@ pub grant_gives : GrantsGive → (r : Rights) (rel role : ℕ) (p : Privilege) (
     → has (with_grants rel (p ∷ ps) to r) role p rel ≡ true
 grant_gives gives r rel role p ps to h =
     let R = with_grants rel (p ∷ ps) to r in
-    or_right (is_admin role) (given R role p rel to R.grants h
-    (gives r rel (p ∷ ps) to (grant_to to p rel) ∙ or_right (is_among r.grants (grant_to to p rel)) (named_itself rel p ps to)))
+    or_right (is_admin role) _ (given R role p rel to R.grants h
+    (gives r rel (p ∷ ps) to (grant_to to p rel) ∙ or_right (is_among r.grants (grant_to to p rel)) _ (named_itself rel p ps to)))
 
 no_none : (to : Option Name) (rel : Name) → is_well_act (grant rel [] to) ≡ true → ⊥
 no_none to rel h = false≢true (each_part (is_name rel) (is_between 1 4 0) (is_grantee to) h).1
@@ -167,18 +166,18 @@ module _ (s : State) (n : ℕ) (role : Name) (place : ℕ) where
 
       by : (b : Bool) → is_direct ms m ≡ b → is_direct (cond b ms (ms ++ m ∷ [])) m ≡ true
       by true e = e
-      by false e = any_more (membership_eq m) ms (m ∷ []) ∙ or_right (is_direct ms m) (λ i. (same m.role i && same m.member i) || false)
+      by false e = any_more (membership_eq m) ms (m ∷ []) ∙ or_right (is_direct ms m) _ (λ i. (same m.role i && same m.member i) || false)
 
   not_admin : (other : Name) (i : ℕ) → HasAdmin s → is_group other ≡ true → role_of s.frame.rights other ≡ Some i → is_admin i ≡ false
   not_admin other i h g k = by (i == 0) refl
     where
       not_it : bytes_eq other (codes "admin") ≡ false
-      not_it = not_passed (bytes_eq other (codes "admin")) (and_both (is_name other) (not (bytes_eq other (codes "admin"))) g).1
+      not_it = not-true (bytes_eq other (codes "admin")) (and_both (is_name other) (not (bytes_eq other (codes "admin"))) g).1
 
       by : (b : Bool) → (i == 0) ≡ b → (i == 0) ≡ false
       by false e = e
       by true e =
-          let same : other ≡ codes "admin" = one_name s.frame.rights.roles other (codes "admin") 0 (k ∙ ap Some (eqb-true i 0 e)) h in
+          let same : other ≡ codes "admin" = same_position other (codes "admin") s.frame.rights.roles 0 (k ∙ ap Some (eqb-true i 0 e)) h in
           absurd (false≢true (sym not_it ∙ (ap (λ x. bytes_eq x (codes "admin")) same ∙ bytes_self (codes "admin"))))
 
   gets : (group to : Name) → refusal s n (grant_role group to) ≡ None → is_well_act (grant_role group to) ≡ true → HasAdmin s

@@ -14,6 +14,7 @@ use Rattle.iv_clients.specs.Clients.{Client, Shown, Slots, Sub, all_shown, answe
 use Rattle.iv_clients.specs.Feeds.{Feed, ends_in, is_end, is_of_role, rel_read}
 use Rattle.iv_clients.specs.Journal.{Entry, said_by}
 use Rattle.iv_clients.specs.Tokens.{Token}
+use Rattle.iv_clients.proofs.Slots.{at_every, at_other, at_same, not_free, one_some, set_other, some_is_none}
 use Rattle.iv_gate.specs.Events.{Event, presented, message, gone, known, ticked, synced, handed, failed, happens}
 use Rattle.iv_gate.specs.Gate.{Gate, all_rested, all_swept, done_for, hears, in_session, role_for, said, seated, settles, told_of, went, with_session}
 use Rattle.iv_gate.specs.Replies.{heard_by, is_reply, replies}
@@ -23,7 +24,7 @@ use Rattle.iv_gate.proofs.Joining.{any_moved}
 use Rattle.iv_gate.proofs.Places.{any_before, any_behind, none_replied, or_true, told_replies}
 use Rattle.iv_gate.proofs.Sound.{Seer, any_left, seer, seer_one, seer_telling}
 use Rattle.iv_gate.proofs.Summing.{is_back, neither}
-use Rattle.iv_gate.proofs.Touching.{at_every, at_other, at_same, came_as, leaves_at, not_free, one_some, opens_role, set_other, some_is_none}
+use Rattle.iv_gate.proofs.Touching.{came_as, leaves_at, opens_role}
 use Rattle.iv_gate.proofs.Walking.{Kit, Later, to_all_rested, to_all_swept, to_done, to_settles, to_then, to_with}
 
 -- ---- numbers of a client

@@ -22,6 +22,7 @@ use Rattle.iv_message.specs.Told.{Told, changed, over, granted}
 use Rattle.iv_clients.specs.Clients.{Client, Sub, followed_by, own_line, own_lines}
 use Rattle.iv_clients.specs.Feeds.{Feed, feed_of, rel_read}
 use Rattle.iv_clients.specs.Journal.{is_shared}
+use Rattle.iv_clients.proofs.Slots.{one_some, some_is_none}
 use Rattle.iv_gate.specs.Events.{Event, next}
 use Rattle.iv_gate.specs.Gate.{Gate, granted_by, in_session, is_accepted, reply_in, told_of}
 use Rattle.iv_gate.specs.Replies.{told_by}
@@ -29,13 +30,12 @@ use Rattle.iv_gate.specs.Implied.{EndsForCause, HearsFollowed, IsCaused}
 use Rattle.iv_gate.specs.Seen.{hindrance, is_told_of}
 use Rattle.iv_gate.proofs.Doing.{AreCalm, is_news}
 use Rattle.iv_gate.proofs.News.{Hears, quietly, by_command, by_contents, IsToldContents, IsToldOf}
-use Rattle.iv_gate.proofs.Machine.{find_passes, is_kept, not_finish, number_same, some_is_none, there_some}
+use Rattle.iv_gate.proofs.Machine.{find_passes, is_kept, not_finish, number_same, there_some}
 use Rattle.iv_gate.proofs.Noticing.{next_all, told_now}
 use Rattle.iv_gate.proofs.Running.{all_so, found_all}
 use Rattle.iv_gate.proofs.Sound.{Adds, IsFeed, IsFollowing, IsSoundClient, IsSoundGate, Sounds, any_more, seer}
 use Rattle.iv_gate.proofs.Still.{found_each}
 use Rattle.iv_gate.proofs.Summing.{AreOwn, both, differs_back, neither, same_self}
-use Rattle.iv_gate.proofs.Touching.{one_some}
 
 -- ---- lists
 

@@ -16,6 +16,7 @@ use Rattle.iv_message.specs.Told.{Told, alive, replied, settled}
 use Rattle.iv_clients.specs.Clients.{Client, Shown, Slots, answered, at_all, at_client, beating, checked, client_at, closing, dropping, following, fresh, handing, is_free, is_slow, moved, opens, released, saying, settling, staying, telling, told_one, greeting}
 use Rattle.iv_clients.specs.Journal.{Entry, IsEntry, is_shared, journal_of, line_said, shape_for}
 use Rattle.iv_clients.specs.Tokens.{Token, role_opened}
+use Rattle.iv_clients.proofs.Slots.{at_every, at_other, at_same, nobody, one_some, set_other, some_is_none}
 use Rattle.iv_gate.specs.Events.{Event, presented, message, gone, known, ticked, synced, handed, failed, happens, hands, knowing, next, on_disk, ticking}
 use Rattle.iv_gate.specs.Gate.{Gate, came, entered, has_session, in_session, is_accepted, ran, reply_to, requests, role_for, said, tells, told_of, went, informs, entries_of}
 use Rattle.iv_gate.specs.Laws.{IsFront, SentIsKept}
@@ -24,12 +25,9 @@ use Rattle.iv_gate.specs.Runs.{LeavesOnDisk, Runs, begins, goes_on, begins_again
 use Rattle.iv_gate.proofs.Requesting.{IsShort, entry_heard, entry_short}
 use Rattle.iv_gate.proofs.Growing.{assoc}
 use Rattle.iv_gate.proofs.Joining.{and_both}
-use Rattle.iv_gate.proofs.Lasting.{nobody}
-use Rattle.iv_gate.proofs.Machine.{some_is_none}
 use Rattle.iv_gate.proofs.Rereading.{front_of_bytes, torn_is_one}
 use Rattle.iv_gate.proofs.Running.{all_so}
 use Rattle.iv_gate.proofs.Stepping.{Keeps, Steps, came_keeps, said_keeps, went_keeps}
-use Rattle.iv_gate.proofs.Touching.{at_every, at_other, at_same, one_some, set_other}
 use Rattle.iv_gate.proofs.Shaping.{told_itself}
 
 -- ---- fronts

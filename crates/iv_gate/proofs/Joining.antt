@@ -16,14 +16,14 @@ use Rattle.iv_machine.specs.State.{State, Session, rel_of, shown, view_for, view
 use Rattle.iv_message.specs.Told.{Told, opened}
 use Rattle.iv_clients.specs.Clients.{Client, Sub, at_client, client_at, following, moved, moved_sub, staying, telling, told, told_one}
 use Rattle.iv_clients.specs.Feeds.{Feed, ends_in, feed_of, is_reading}
+use Rattle.iv_clients.proofs.Slots.{at_every, at_other, from, one_some}
 use Rattle.iv_gate.specs.Gate.{Gate, columns_in, feed_begun, in_session, joined, joined_by, joins, next_own, ran, shut, subscribes, tells, told_of}
 use Rattle.iv_gate.specs.Replies.{ActsAs}
 use Rattle.iv_gate.proofs.Machine.{find_passes}
 use Rattle.iv_gate.proofs.Opening.{IsAsker, above_given, feed_given, reply_of_none, reply_of_some, subscribes_sound}
 use Rattle.iv_gate.proofs.Running.{FollowsNot, all_so, at_one, filter_plain, found_all, shut_sound}
-use Rattle.iv_gate.proofs.Sound.{Adds, IsAskedIn, IsFeed, IsFollowing, IsSoundClient, IsSoundGate, Sounds, from, seer, seer_telling, telling_dropped}
+use Rattle.iv_gate.proofs.Sound.{Adds, IsAskedIn, IsFeed, IsFollowing, IsSoundClient, IsSoundGate, Sounds, seer, seer_telling, telling_dropped}
 use Rattle.iv_gate.proofs.Summing.{AreOwn, differs_back}
-use Rattle.iv_gate.proofs.Touching.{at_every, at_other, one_some}
 
 -- what a feed shows: its relation, over what its role may see
 pub shows_view : (s : State) (f : Feed) → IsFeed s f → shown s f.number ≡ view_for s (role_number s.frame.rights f.role) (rel_of s.frame.catalog f.rel)
@@ -96,6 +96,9 @@ and_both false c h = cc
 not_true : (b : Bool) → not b ≡ true → b ≡ false
 not_true true h = cc
 not_true false h = refl
+
+pub bytes_self : (x : Name) → bytes_eq x x ≡ true
+bytes_self x = (bytes_eq-Decides x x).1 refl
 
 pub same_name : (x y : Name) → bytes_eq x y ≡ true → x ≡ y
 same_name x y h = (bytes_eq-Decides x y).0 h

@@ -20,6 +20,7 @@ use Rattle.iv_clients.specs.Clients.{Client, Shown, Slots, Sub, answered, at_all
 use Rattle.iv_clients.specs.Feeds.{Feed, Seat, ends_in, feed_for, feed_of, is_of_role, is_reading, room_for, seat_of, without_seat}
 use Rattle.iv_clients.specs.Journal.{Entry, IsEntry, is_shared, line_said, said_by, shape_for}
 use Rattle.iv_clients.specs.Tokens.{Token}
+use Rattle.iv_clients.proofs.Slots.{at_same, one_some, some_is_none}
 use Rattle.iv_gate.specs.Events.{Event, presented, message, gone, known, ticked, synced, handed, failed, happens, next}
 use Rattle.iv_gate.specs.Gate.{Gate, acts, all_rested, all_swept, begun_for, closes, done_for, entered, has_session, hears, in_session, is_accepted, is_needed, joined, joined_by, joins, ran, reads, reads_first, reply_in, reply_to, requests, rested, role_for, said, seated, settles, shut, subscribes, swept, tells, went, with_session, informs, entries_of, has_shape_room}
 use Rattle.iv_gate.specs.Replies.{ActsAs}
@@ -28,14 +29,13 @@ use Rattle.iv_gate.proofs.Asking.{IsHeard, accepted_by, asker_of, feed_acts, sea
 use Rattle.iv_gate.proofs.Few.{AreFew, feeds_in, few_joins, few_less, few_subscribes, found_for, new_has_room, none_reading, room_has, shorter_by}
 use Rattle.iv_gate.proofs.Finishing.{rested_sound}
 use Rattle.iv_gate.proofs.Joining.{same_name}
-use Rattle.iv_gate.proofs.Machine.{some_is_none}
 use Rattle.iv_gate.proofs.Opening.{IsAsker, subscribes_sound}
 use Rattle.iv_gate.proofs.Running.{all_so, all_swept_sound, client_said, filter_plain, found_all, one_sound, swept_sound}
 use Rattle.iv_gate.proofs.Serving.{AreEven, IsEven, put_sound, says_stays}
 use Rattle.iv_gate.proofs.Sharing.{IsAlone, IsFed, IsShared, alone_of, begun_sessions, finished_sessions, is_plain, numbers_in, plain_keeps, roles_one, seats_in, sessions_step, shared_all, shared_finished, shared_one, shared_plain, shared_seated, shared_shut, shared_subscribes, subscriptions_same}
 use Rattle.iv_gate.proofs.Sound.{Adds, IsFeed, IsSoundGate, Sounds, seer, seer_telling, Seer}
 use Rattle.iv_gate.proofs.Summing.{neither}
-use Rattle.iv_gate.proofs.Touching.{at_same, came_as, one_some, opens_role}
+use Rattle.iv_gate.proofs.Touching.{came_as, opens_role, test_same}
 use Rattle.iv_gate.proofs.Shaping.{test_of}
 
 -- what holds of a gateway besides that its clients are in step
@@ -52,12 +52,8 @@ kept_all g f k b = record { shared = shared_all g f k b.shared; few = b.few }
 kept_tells : (g : Gate) (m : ℕ) (t : Told) → IsKept g → IsKept (tells g m t)
 kept_tells g m t b = kept_one g m (told_one g.entries t) (λ c. refl) b
 
-settling_role : (es : List Entry) (c : Client) → (settling es c).role ≡ c.role
-settling_role es c = by c.owed
-  where
-    by : (b : Bool) → (cond b (record (told_one es settled c) { owed = false }) c).role ≡ c.role
-    by true = refl
-    by false = refl
+pub settling_role : (es : List Entry) (c : Client) → (settling es c).role ≡ c.role
+settling_role es c = test_same (λ (x : Client). x.role) (c.owed) (record (told_one es settled c) { owed = false }) c c.role refl refl
 
 kept_settles : (g : Gate) → IsKept g → IsKept (settles g)
 kept_settles g b = kept_all g (settling g.entries) (settling_role g.entries) b
@@ -364,26 +360,14 @@ kept_went adds sounds g m s b = by (client_at g.clients m)
     by None = b
     by (Some c) = gone_as c
 
-checked_role : (tokens : List Token) (c : Client) → (checked tokens c).role ≡ c.role
-checked_role tokens c = by (opens tokens c)
-  where
-    by : (b : Bool) → (cond b c (dropping c)).role ≡ c.role
-    by true = refl
-    by false = refl
+pub checked_role : (tokens : List Token) (c : Client) → (checked tokens c).role ≡ c.role
+checked_role tokens c = test_same (λ (x : Client). x.role) (opens tokens c) c (dropping c) c.role refl refl
 
-released_role : (c : Client) → (released c).role ≡ c.role
-released_role c = by (c.dropped || is_slow c)
-  where
-    by : (b : Bool) → (cond b (dropping c) (record c { unsynced = []; sendable = c.sendable ++ c.unsynced })).role ≡ c.role
-    by true = refl
-    by false = refl
+pub released_role : (c : Client) → (released c).role ≡ c.role
+released_role c = test_same (λ (x : Client). x.role) (c.dropped || is_slow c) (dropping c) (record c { unsynced = []; sendable = c.sendable ++ c.unsynced }) c.role refl refl
 
-handing_role : (c : Client) → (handing c).role ≡ c.role
-handing_role c = by (length c.sendable == 0)
-  where
-    by : (b : Bool) → (cond b c (record c { sendable = []; asked = 0; handed = c.handed ++ c.sendable ∷ [] })).role ≡ c.role
-    by true = refl
-    by false = refl
+pub handing_role : (c : Client) → (handing c).role ≡ c.role
+handing_role c = test_same (λ (x : Client). x.role) (length c.sendable == 0) c (record c { sendable = []; asked = 0; handed = c.handed ++ c.sendable ∷ [] }) c.role refl refl
 
 -- what is not looked at changes
 kept_as : (g h : Gate) → h.machine ≡ g.machine → h.seats ≡ g.seats → h.feeds ≡ g.feeds → h.clients ≡ g.clients → IsKept g → IsKept h
@@ -454,7 +438,7 @@ pub record IsPassed (s t : State) (k : Command) : Type 0 where
   pub accepted : refusal s k.session k.act ≡ None
   pub state : (step s k).state ≡ t
 
-passed_step : (s t : State) (k : Command) → passed s k ≡ Some t → IsPassed s t k
+pub passed_step : (s t : State) (k : Command) → passed s k ≡ Some t → IsPassed s t k
 passed_step s t k h = by (is_accepted (reply_in (step s k).lines)) refl h
   where
     by : (a : Bool) → is_accepted (reply_in (step s k).lines) ≡ a → cond a (Some (step s k).state) None ≡ Some t → IsPassed s t k

@@ -15,6 +15,7 @@ use Rattle.iv_message.specs.Told.{Told, changed, over, granted, made, settled, t
 use Rattle.iv_clients.specs.Clients.{Client, Sub, client_at, fresh, may_say, own_line, own_lines, told}
 use Rattle.iv_clients.specs.Feeds.{Feed, rel_read, seat_of}
 use Rattle.iv_clients.specs.Journal.{Entry, is_shape, is_shared, line_said, said_by, shape_for, shape_of}
+use Rattle.iv_clients.proofs.Slots.{one_some, some_is_none}
 use Rattle.iv_gate.specs.Events.{Event, presented, message, gone, known, ticked, synced, handed, failed, next}
 use Rattle.iv_gate.specs.Gate.{Gate, granted_by, has_shape_room, in_session, is_accepted, most_shape, reply_in, reply_to, shape_text, told_of}
 use Rattle.iv_gate.specs.Implied.{ShapeIsBounded}
@@ -31,7 +32,7 @@ use Rattle.iv_gate.proofs.Running.{all_true}
 use Rattle.iv_gate.proofs.Shaping.{all_made, filter_none, filter_whole, shape_both, shape_more, shape_none, told_fresh}
 use Rattle.iv_gate.proofs.Sound.{Adds, IsSoundGate, Sounds}
 use Rattle.iv_gate.proofs.Signs.{Card}
-use Rattle.iv_gate.proofs.Touching.{is_gone, entered_by_event, one_some, rests, some_is_none, touched}
+use Rattle.iv_gate.proofs.Touching.{is_gone, entered_by_event, rests, touched}
 
 -- ---- a command tells nothing of it
 

@@ -1,5 +1,5 @@
 -- Whatever happens, over restarts, clients are in step with what their feeds show.
-use Rattle.std.proofs.Common.{◌≡◌, ℕ, zero, suc, Bool, true, false, cond, List, [], ◌∷◌, replicate, Option, Some, None, length, refl, ap, ◌∙◌, sym, subst, arith}
+use Rattle.std.proofs.Common.{◌≡◌, ℕ, Bool, true, false, cond, List, [], ◌∷◌, Option, Some, None, length, refl, ap, ◌∙◌, sym, subst, arith}
 use Rattle.std.specs.Prelude.{◌+◌, option_and_then}
 use Rattle.iv_access.specs.Rights.{Name}
 use Rattle.iv_machine.specs.Act.{begin, finish, Command}
@@ -11,6 +11,7 @@ use Rattle.iv_clients.specs.Clients.{Client, Shown, client_at, told}
 use Rattle.iv_clients.specs.Feeds.{seat_of}
 use Rattle.iv_clients.specs.Journal.{Entry}
 use Rattle.iv_clients.specs.Tokens.{Token}
+use Rattle.iv_clients.proofs.Slots.{nobody, one_some, some_is_none}
 use Rattle.iv_gate.specs.Gate.{Gate, in_session, is_accepted, reply_in}
 use Rattle.iv_gate.specs.Events.{Event}
 use Rattle.iv_gate.specs.Replies.{ActsAs, AreReplied, IsAnswered, IsClient, replies}
@@ -21,11 +22,9 @@ use Rattle.iv_gate.proofs.Answering.{Came, IsSettled, came_next, follows_none, k
 use Rattle.iv_gate.proofs.Asking.{seat_of_acts}
 use Rattle.iv_gate.proofs.Deciding.{are_replied}
 use Rattle.iv_gate.proofs.Keeping.{IsKept, kept_next, kept_restored}
-use Rattle.iv_gate.proofs.Machine.{some_is_none}
 use Rattle.iv_gate.proofs.Seeing.{adds_to_view, may_be_read}
 use Rattle.iv_gate.proofs.Serving.{AreEven, next_sound}
 use Rattle.iv_gate.proofs.Sound.{Adds, IsSoundGate, Sounds}
-use Rattle.iv_gate.proofs.Touching.{one_some}
 
 abbrev pub Starts : Type 0
 Starts = (cap : ℕ) → IsSoundState (start cap)
@@ -52,11 +51,6 @@ replays_sound : Sounds → (s t : State) (es : List Entry) → IsSoundState s �
 replays_sound sounds s t [] b h = subst IsSoundState (one_some s t h) b
 replays_sound sounds s t (e ∷ es) b h =
     bound (replayed s e) (λ u. all_replayed u es) t (IsSoundState t) h (λ u i k. replays_sound sounds u t es (replayed_sound sounds s u e b i) k)
-
-pub nobody : (most m : ℕ) (c : Client) → client_at (replicate most None) m ≡ Some c → ⊥
-nobody zero m c h = some_is_none c (sym h)
-nobody (suc n) zero c h = some_is_none c (sym h)
-nobody (suc n) (suc m) c h = nobody n m c h
 
 restored_sound : Starts → Sounds → (cap : ℕ) (tokens : List Token) (most : ℕ) (sent : List Shown) (journal : List ℕ) (g : Gate) → Restores (gate_at_start cap tokens most sent) journal g → IsSoundGate g
 restored_sound starts sounds cap tokens most sent journal g r = subst IsSoundGate (sym r.gate) (record {

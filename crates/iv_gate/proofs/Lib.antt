@@ -28,6 +28,7 @@ pub mod Closing
 pub mod Using
 pub mod Freeing
 pub mod Seating
+pub mod Needing
 pub mod Stepping
 pub mod Replaying
 pub mod Requesting

@@ -15,11 +15,9 @@ use Rattle.iv_machine.specs.Refusing.{or_else, test}
 use Rattle.iv_machine.specs.State.{State, Subscription, rel_of, shown, subscription_of}
 use Rattle.iv_machine.specs.declared.Cause.{Cause}
 use Rattle.iv_clients.specs.Feeds.{ends_in, is_end}
+use Rattle.iv_clients.proofs.Slots.{some_is_none}
 
 -- ---- options and lists
-
-pub some_is_none : {X : Type 0} (x : X) → Some x ≡ None → ⊥
-some_is_none x e = false≢true (sym (ap is_some e))
 
 pub first_none : (o p : Option Refusal) → or_else o p ≡ None → o ≡ None
 first_none None p h = refl

@@ -14,6 +14,7 @@ use Rattle.iv_machine.specs.Refusing.{refusal}
 use Rattle.iv_machine.specs.State.{State, start}
 use Rattle.iv_clients.specs.Bounds.{entry_session}
 use Rattle.iv_clients.specs.Journal.{Entry, IsEntry, is_shape, is_shared}
+use Rattle.iv_clients.proofs.Slots.{one_some}
 use Rattle.iv_gate.specs.Gate.{Gate, in_session}
 use Rattle.iv_gate.specs.Laws.{MakesShape, shared}
 use Rattle.iv_gate.specs.Restoring.{all_replayed, passed, replayed}
@@ -23,7 +24,6 @@ use Rattle.iv_gate.proofs.Lasting.{Starts}
 use Rattle.iv_gate.proofs.Leading.{runs_led}
 use Rattle.iv_gate.proofs.Replaying.{IsQuiet, alone, is_left, left, passes, quiet_replayed, start_quiet, state_of, then_of, was_led}
 use Rattle.iv_gate.proofs.Sound.{Adds, Sounds}
-use Rattle.iv_gate.proofs.Touching.{one_some}
 
 -- ---- states of one shape
 

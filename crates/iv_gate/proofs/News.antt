@@ -17,6 +17,7 @@ use Rattle.iv_clients.specs.Bounds.{most_subs}
 use Rattle.iv_clients.specs.Clients.{Client, Slots, Sub, at_client, client_at, following, own_line, own_lines, staying, telling, told, told_one}
 use Rattle.iv_clients.specs.Feeds.{Feed, ends_in}
 use Rattle.iv_clients.specs.Journal.{Entry, is_shared, shape_for}
+use Rattle.iv_clients.proofs.Slots.{at_every, at_other, at_same}
 use Rattle.iv_gate.specs.Gate.{Gate, columns_in, entered, feed_begun, in_session, is_accepted, next_own, ran, reply_in, reply_to, requests, tells, told_of, entries_of}
 use Rattle.iv_gate.proofs.Calm.{no_lines, last_step}
 use Rattle.iv_gate.proofs.Growing.{assoc}
@@ -25,7 +26,6 @@ use Rattle.iv_gate.proofs.Running.{all_so}
 use Rattle.iv_gate.proofs.Sound.{IsFollowing, IsSoundClient, IsSoundGate, Seer, any_more, seer, seer_telling}
 use Rattle.iv_gate.proofs.Still.{subscribed_lines}
 use Rattle.iv_gate.proofs.Summing.{differs_back, same_self}
-use Rattle.iv_gate.proofs.Touching.{at_every, at_other, at_same}
 use Rattle.iv_gate.proofs.Walking.{Later}
 use Rattle.iv_gate.proofs.Doing.{AreCalm, HasAnswered, HasRead, IsDone, IsSaid, answers, asks, opens, fewer_left, is_news, less_one, told_more}
 use Rattle.iv_gate.specs.Laws.{is_made}

@@ -14,6 +14,7 @@ use Rattle.iv_clients.specs.Clients.{Client, Shown, Slots, Sub, answered, at_all
 use Rattle.iv_clients.specs.Feeds.{is_of_role}
 use Rattle.iv_clients.specs.Journal.{Entry, said_by}
 use Rattle.iv_clients.specs.Tokens.{Token}
+use Rattle.iv_clients.proofs.Slots.{at_every, at_other, at_same, not_free, one_some, set_other, some_is_none}
 use Rattle.iv_gate.specs.Events.{Event, presented, message, gone, known, ticked, synced, handed, failed, happens, next}
 use Rattle.iv_gate.specs.Gate.{Gate, all_rested, all_swept, done_for, hears, role_for, said, settles, told_of, with_session}
 use Rattle.iv_gate.specs.Replies.{told_by}
@@ -21,13 +22,12 @@ use Rattle.iv_gate.proofs.Calm.{all_rested_clients, all_swept_clients, sound_kit
 use Rattle.iv_gate.proofs.Growing.{Grown, assoc, drop_front, grows}
 use Rattle.iv_gate.proofs.Doing.{all_done, both_calm, told_more}
 use Rattle.iv_gate.proofs.News.{Hears, quietly, by_command, by_contents, IsCalm, heard_done, nothing, one_calm}
-use Rattle.iv_gate.proofs.Machine.{some_is_none}
 use Rattle.iv_gate.proofs.Running.{client_said, one_sound}
 use Rattle.iv_gate.proofs.Serving.{told_answered}
 use Rattle.iv_gate.proofs.Signs.{Sign}
 use Rattle.iv_gate.proofs.Sitting.{at_all_swept}
 use Rattle.iv_gate.proofs.Sound.{IsSoundGate, Sounds, seer}
-use Rattle.iv_gate.proofs.Touching.{alive as is_alive, at_every, at_other, at_same, came_as, came_sign, leaves_at, not_free, one_some, opens_role, rests, set_other, went_sign}
+use Rattle.iv_gate.proofs.Touching.{alive as is_alive, came_as, came_sign, leaves_at, opens_role, rests, went_sign}
 use Rattle.iv_gate.proofs.Walking.{Later, to_done, to_settles, to_then}
 use Rattle.iv_gate.specs.Laws.{is_made}
 use Rattle.std.proofs.lemmas.List.Elements.{filter-append}

@@ -20,14 +20,14 @@ use Rattle.iv_message.specs.Told.{replied, opened}
 use Rattle.iv_clients.specs.Clients.{Client, Sub, at_client, client_at, following, told, told_one}
 use Rattle.iv_clients.specs.Feeds.{Feed, ends_in, feed_of}
 use Rattle.iv_clients.specs.Journal.{said_by}
+use Rattle.iv_clients.proofs.Slots.{one_some, some_is_none}
 use Rattle.iv_gate.specs.Gate.{Gate, columns_in, feed_begun, in_session, next_own, ran, reply_in, subscribes, tells}
 use Rattle.iv_gate.specs.Replies.{ActsAs, replies}
-use Rattle.iv_gate.proofs.Machine.{find_passes, found_given, next_is_free, number_same, some_is_none, there_some}
+use Rattle.iv_gate.proofs.Machine.{find_passes, found_given, next_is_free, number_same, there_some}
 use Rattle.iv_gate.proofs.Places.{any_of_both, get_last, replies_both}
 use Rattle.iv_gate.proofs.Running.{IsQuiet, acts_step, all_so, at_one, found_all, ran_sound, spares_all, tells_sound}
 use Rattle.iv_gate.proofs.Sound.{Adds, IsAskedIn, IsFeed, IsFollowing, IsReady, IsSoundClient, IsSoundGate, Seer, Sounds, feed_step, ran_ready, seer, seer_one}
 use Rattle.iv_gate.proofs.Summing.{AreOwn, neither, same_self}
-use Rattle.iv_gate.proofs.Touching.{one_some}
 
 pub above_given : (a b : ℕ) → a ≤ b → (a == (b + 1)) ≡ false
 above_given a b h = grind (arith, nat_tests)

@@ -16,12 +16,12 @@ use Rattle.iv_machine.specs.Refusing.{entries_present, first, frame_refusal, or_
 use Rattle.iv_machine.specs.State.{State, Frame, Session, Subscription, actor, is_within, start}
 use Rattle.iv_clients.specs.Bounds.{entry_session}
 use Rattle.iv_clients.specs.Journal.{Entry, IsEntry, is_shared}
+use Rattle.iv_clients.proofs.Slots.{one_some, some_is_none}
 use Rattle.iv_gate.specs.Gate.{in_session, is_accepted, reply_in}
 use Rattle.iv_gate.specs.Replies.{ActsAs}
 use Rattle.iv_gate.specs.Restoring.{all_replayed, passed, replayed}
 use Rattle.iv_gate.proofs.Asking.{accepted_by}
-use Rattle.iv_gate.proofs.Machine.{first_none, later_none, some_is_none}
-use Rattle.iv_gate.proofs.Touching.{one_some}
+use Rattle.iv_gate.proofs.Machine.{first_none, later_none}
 
 -- ---- states
 
@@ -63,7 +63,7 @@ quiet_parts s t same quiet =
 
 -- ---- what is accepted
 
-replies_well : (f : Frame) (act : Act) → is_accepted (reply_to f act) ≡ true
+pub replies_well : (f : Frame) (act : Act) → is_accepted (reply_to f act) ≡ true
 replies_well f (begin name) = refl
 replies_well f finish = refl
 replies_well f (create_role name) = refl

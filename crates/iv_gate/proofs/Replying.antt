@@ -14,6 +14,7 @@ use Rattle.iv_clients.specs.Bounds.{most_subs}
 use Rattle.iv_clients.specs.Clients.{Client, Slots, Sub, answered, at_all, at_client, client_at, closing, followed_by, following, is_followed, moved, saying, settling, staying, telling, told, told_one}
 use Rattle.iv_clients.specs.Feeds.{Feed, feed_for, feed_of, is_reading, room_for, seat_of, without_feed}
 use Rattle.iv_clients.specs.Journal.{Entry, line_said, said_by, shape_for}
+use Rattle.iv_clients.proofs.Slots.{at_every, at_same, one_some}
 use Rattle.iv_gate.specs.Gate.{Gate, acts, begun_for, closes, columns_in, done_for, entered, feed_begun, hears, in_session, is_accepted, joined, joined_by, joins, next_own, ran, reads, reads_first, reply_to, requests, seated, settles, shut, subscribes, swept, tells, told_of, informs, entries_of, has_shape_room}
 use Rattle.iv_gate.specs.Replies.{is_opened, reading_told, replies, is_reply}
 use Rattle.iv_gate.specs.Seen.{is_end_of}
@@ -23,7 +24,6 @@ use Rattle.iv_gate.proofs.Places.{any_before, any_behind, any_of_both, none_repl
 use Rattle.iv_gate.proofs.Serving.{told_answered}
 use Rattle.iv_gate.proofs.Sound.{Seer, any_left, seer_one}
 use Rattle.iv_gate.proofs.Summing.{neither, same_self}
-use Rattle.iv_gate.proofs.Touching.{at_every, at_same, one_some}
 use Rattle.iv_gate.proofs.Walking.{Later, to_done, to_settles, to_then}
 use Rattle.iv_gate.proofs.Shaping.{all_made}
 

@@ -15,10 +15,9 @@ use Rattle.iv_message.specs.Message.{Message, no_json, too_long, no_object, no_r
 use Rattle.iv_clients.specs.Bounds.{most_said}
 use Rattle.iv_clients.specs.Journal.{Entry, IsEntry, Parts, begins_object, has_newline, is_blank, is_shared, line_said, not_request, parts_of, said_by, said_in, unindented, with_brace, with_front}
 use Rattle.iv_clients.specs.Tokens.{cut_at}
+use Rattle.iv_clients.proofs.Slots.{one_some, some_is_none}
 use Rattle.iv_gate.proofs.Growing.{assoc}
-use Rattle.iv_gate.proofs.Machine.{some_is_none}
 use Rattle.iv_gate.proofs.Summing.{neither}
-use Rattle.iv_gate.proofs.Touching.{one_some}
 
 -- ---- no newline
 

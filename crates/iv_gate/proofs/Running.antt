@@ -17,15 +17,15 @@ use Rattle.iv_clients.specs.Clients.{Client, Shown, Slots, Sub, at_all, at_clien
 use Rattle.iv_clients.specs.Feeds.{Feed, feed_of, without_feed}
 use Rattle.iv_clients.specs.Journal.{Entry, shape_for}
 use Rattle.iv_clients.specs.Tokens.{Token}
+use Rattle.iv_clients.proofs.Slots.{at_every, at_other, at_same, from, one_some, some_is_none}
 use Rattle.iv_gate.specs.Events.{hands, knowing, on_disk, ticking}
 use Rattle.iv_gate.specs.Gate.{Gate, all_swept, in_session, ran, settles, shut, swept, tells, informs}
 use Rattle.iv_gate.specs.Replies.{ActsAs}
 use Rattle.iv_gate.specs.Seen.{is_end_of}
 use Rattle.iv_gate.proofs.Growing.{assoc}
-use Rattle.iv_gate.proofs.Machine.{find_passes, is_kept, some_is_none, not_finish}
-use Rattle.iv_gate.proofs.Sound.{Adds, IsFeed, IsFollowing, IsSoundClient, IsSoundGate, Seer, Sounds, Spares, any_more, asked_said, asked_told, feed_step, filter_all, from, left_of, or_none, own_left, ran_ready, seer, seer_one, taken, seer_telling, telling_dropped, acts_on}
+use Rattle.iv_gate.proofs.Machine.{find_passes, is_kept, not_finish}
+use Rattle.iv_gate.proofs.Sound.{Adds, IsFeed, IsFollowing, IsSoundClient, IsSoundGate, Seer, Sounds, Spares, any_more, asked_said, asked_told, feed_step, filter_all, left_of, or_none, own_left, ran_ready, seer, seer_one, taken, seer_telling, telling_dropped, acts_on}
 use Rattle.iv_gate.proofs.Summing.{both, differs_back, neither, nothing_more, sum-append, sum_for}
-use Rattle.iv_gate.proofs.Touching.{at_every, at_other, at_same, one_some}
 use Rattle.iv_gate.proofs.Shaping.{all_made, all_greeting}
 
 pub all_so : {X : Type 0} {P Q : X → Type 0} → ((x : X) → P x → Q x) → (xs : List X) → AllByRecursion P xs → AllByRecursion Q xs

@@ -11,12 +11,12 @@ use Rattle.iv_clients.specs.Bounds.{most_feeds, most_subs}
 use Rattle.iv_clients.specs.Clients.{Client, at_client, client_at, closing, followed_by, is_followed, may_say, moved, saying}
 use Rattle.iv_clients.specs.Feeds.{Feed, Seat, feed_for, feed_of, has_room, is_of_role, is_reading, load, room_for, seat_of, without_seat}
 use Rattle.iv_clients.specs.Journal.{line_said, said_by}
+use Rattle.iv_clients.proofs.Slots.{some_is_none}
 use Rattle.iv_gate.specs.Events.{Event, presented, message, gone, known, ticked, synced, handed, failed, happens, next}
 use Rattle.iv_gate.specs.Gate.{Gate, acts, all_rested, all_swept, begun_for, closes, done_for, feed_begun, hears, in_session, is_needed, joined, joined_by, joins, ran, reads, reads_first, reply_to, requests, rested, role_for, said, seated, settles, shut, subscribes, swept, tells, went, with_session, has_shape_room}
 use Rattle.iv_gate.specs.Needed.{AreSeatsBehind, left, begun}
 use Rattle.iv_gate.specs.Replies.{AreFull}
 use Rattle.iv_gate.proofs.Few.{none_full}
-use Rattle.iv_gate.proofs.Machine.{some_is_none}
 use Rattle.iv_gate.proofs.Touching.{came_as}
 use Rattle.iv_gate.proofs.Shaping.{test_of}
 
@@ -24,8 +24,16 @@ all_stay : {X : Type 0} (xs : List X) → filter (λ x. true) xs ≡ xs
 all_stay [] = refl
 all_stay (x ∷ xs) = ap (λ z. x ∷ z) (all_stay xs)
 
-same : (g : Gate) → AreSeatsBehind g g.seats
-same g = subst (AreSeatsBehind g) (all_stay g.seats) (left (λ s. true))
+-- some of the sessions, or one more, of a role that has none with a place
+pub data IsBehind (R : Name → Type 0) (g : Gate) : List Seat → Type 0 where
+  stayed : (stays : Seat → Bool) → IsBehind R g (filter stays g.seats)
+  further : (s : Seat) → AreFull g.seats g.feeds s.role → R s.role → IsBehind R g (g.seats ++ s ∷ [])
+
+-- whom a session may be begun for by the event: who comes, and who says something
+abbrev pub AreFor : (Name → Type 0) → Gate → Event → Type 0
+AreFor R g (presented m token) = (role : Name) → role_for g m token ≡ Some role → R role
+AreFor R g (message m text) = (c : Client) → client_at g.clients m ≡ Some c → R c.role
+AreFor R g _ = Unit {0}
 
 some_same : {X : Type 0} (o : Option X) (g h : Gate) (f : X → Gate) → h.seats ≡ g.seats → ((x : X) → (f x).seats ≡ g.seats) → (if_some o h f).seats ≡ g.seats
 some_same None g h f a b = a
@@ -62,7 +70,7 @@ joins_same g m id f =
 swept_same : (g : Gate) (k : ℕ) → (swept g k).seats ≡ g.seats
 swept_same g k = test_same (is_followed k g.clients) g g (if_some (feed_of g.feeds k) g (shut g)) refl (some_same (feed_of g.feeds k) g g (shut g) refl (λ f. refl))
 
-all_swept_same : (g : Gate) (ks : List ℕ) → (all_swept g ks).seats ≡ g.seats
+pub all_swept_same : (g : Gate) (ks : List ℕ) → (all_swept g ks).seats ≡ g.seats
 all_swept_same g [] = refl
 all_swept_same g (k ∷ ks) = all_swept_same (swept g k) ks ∙ swept_same g k
 
@@ -75,78 +83,6 @@ other_same : (g : Gate) (m : ℕ) (c : Client) (id : Option Data) (text : List �
     → (if_some o (tells g m (replied id (refused no_session))) (requests g m id (record { role = c.role; line = line_said text; act = act }))).seats ≡ g.seats
 other_same g m c id text act o = some_same o g (tells g m (replied id (refused no_session))) (requests g m id (record { role = c.role; line = line_said text; act = act })) refl (λ n. refl)
 
--- ---- steps that begin one
-
-by_same : (g : Gate) (xs : List Seat) → xs ≡ g.seats → AreSeatsBehind g xs
-by_same g xs e = subst (AreSeatsBehind g) (sym e) (same g)
-
-by_one : (g h : Gate) (n : ℕ) (role : Name) → room_for g.seats g.feeds role ≡ None → h.seats ≡ g.seats ++ record { session = n; role = role } ∷ [] → AreSeatsBehind g h.seats
-by_one g h n role r e = subst (AreSeatsBehind g) (sym e) (begun (record { session = n; role = role }) (none_full g.seats g.feeds role r))
-
-first_behind : (g : Gate) (m : ℕ) (id : Option Data) (role rel : Name) → AreSeatsBehind g (reads_first g m id role rel).seats
-first_behind g m id role rel = by (room_for g.seats g.feeds role) refl
-  where
-    further : room_for g.seats g.feeds role ≡ None → (o : Option ℕ) → AreSeatsBehind g (if_some o (tells g m (replied id (refused too_many))) (λ n. subscribes (seated g n role) m id n role rel)).seats
-    further r None = same g
-    further r (Some n) = by_one g (subscribes (seated g n role) m id n role rel) n role r (subscribes_same (seated g n role) m id n role rel)
-
-    by : (o : Option ℕ) → room_for g.seats g.feeds role ≡ o
-        → AreSeatsBehind g (if_some o (if_some (begun_for g role) (tells g m (replied id (refused too_many))) (λ n. subscribes (seated g n role) m id n role rel)) (λ n. subscribes g m id n role rel)).seats
-    by None r = further r (begun_for g role)
-    by (Some n) r = by_same g (subscribes g m id n role rel).seats (subscribes_same g m id n role rel)
-
-reads_behind : (g : Gate) (m : ℕ) (c : Client) (id : Option Data) (rel : Name) → AreSeatsBehind g (reads g m c id rel).seats
-reads_behind g m c id rel = test (nat_lt (length c.subs) most_subs)
-  where
-    by : (o : Option Feed) → AreSeatsBehind g (if_some o (reads_first g m id c.role rel) (joins g m id)).seats
-    by None = first_behind g m id c.role rel
-    by (Some f) = by_same g (joins g m id f).seats (joins_same g m id f)
-
-    test : (t : Bool) → AreSeatsBehind g (cond t (if_some (feed_for g.feeds c.role rel) (reads_first g m id c.role rel) (joins g m id)) (tells g m (replied id (refused too_many)))).seats
-    test true = by (feed_for g.feeds c.role rel)
-    test false = same g
-
-acts_behind : (g : Gate) (m : ℕ) (c : Client) (id : Option Data) (text : List ℕ) (act : Act) → AreSeatsBehind g (acts g m c id text act).seats
-acts_behind g m c id text (begin role) = same g
-acts_behind g m c id text finish = same g
-acts_behind g m c id text (subscribe rel) = reads_behind g m c id rel
-acts_behind g m c id text (unsubscribe own) = by_same g (closes g m c id own).seats (closes_same g m c id own)
-acts_behind g m c id text (create_role name) = by_same g _ (other_same g m c id text (create_role name) (seat_of g.seats c.role))
-acts_behind g m c id text (create_table name owner columns) = by_same g _ (other_same g m c id text (create_table name owner columns) (seat_of g.seats c.role))
-acts_behind g m c id text (create_view name owner query) = by_same g _ (other_same g m c id text (create_view name owner query) (seat_of g.seats c.role))
-acts_behind g m c id text (grant rel privileges to) = by_same g _ (other_same g m c id text (grant rel privileges to) (seat_of g.seats c.role))
-acts_behind g m c id text (revoke rel privileges to) = by_same g _ (other_same g m c id text (revoke rel privileges to) (seat_of g.seats c.role))
-acts_behind g m c id text (grant_role group to) = by_same g _ (other_same g m c id text (grant_role group to) (seat_of g.seats c.role))
-acts_behind g m c id text (revoke_role group to) = by_same g _ (other_same g m c id text (revoke_role group to) (seat_of g.seats c.role))
-acts_behind g m c id text (row_security rel enable force) = by_same g _ (other_same g m c id text (row_security rel enable force) (seat_of g.seats c.role))
-acts_behind g m c id text (create_policy p) = by_same g _ (other_same g m c id text (create_policy p) (seat_of g.seats c.role))
-acts_behind g m c id text (drop_policy rel name) = by_same g _ (other_same g m c id text (drop_policy rel name) (seat_of g.seats c.role))
-acts_behind g m c id text (write entries) = by_same g _ (other_same g m c id text (write entries) (seat_of g.seats c.role))
-
-done_behind : (g : Gate) (m : ℕ) (c : Client) (text : List ℕ) (x : Message) → AreSeatsBehind g (done_for g m c text x).seats
-done_behind g m c text no_json = same g
-done_behind g m c text too_long = same g
-done_behind g m c text no_object = same g
-done_behind g m c text (no_request id why) = same g
-done_behind g m c text (request id act) =
-    test_of (λ (h : Gate). AreSeatsBehind g h.seats) (has_shape_room g act) (acts g m c id text act) (tells g m (replied id (refused limit))) (acts_behind g m c id text act) (same g)
-
--- of two gateways with the same sessions and feeds
-like : (g h : Gate) (xs : List Seat) → h.seats ≡ g.seats → h.feeds ≡ g.feeds → AreSeatsBehind h xs → AreSeatsBehind g xs
-like g h _ e f (left stays) = subst (AreSeatsBehind g) (ap (filter stays) (sym e)) (left stays)
-like g h _ e f (begun s r) = subst (AreSeatsBehind g) (ap (λ z. z ++ s ∷ []) (sym e)) (begun s (subst (λ z. z) (λ i. AreFull (e i) (f i) s.role) r))
-
-said_behind : (g : Gate) (m : ℕ) (text : List ℕ) → AreSeatsBehind g (said g m text).seats
-said_behind g m text = by (client_at g.clients m)
-  where
-    test : (c : Client) (t : Bool) → AreSeatsBehind g (cond t (hears g m c text) g).seats
-    test c true = let h = record g { clients = at_client m (saying text) g.clients } in like g h (done_for h m c text (said_by text)).seats refl refl (done_behind h m c text (said_by text))
-    test c false = same g
-
-    by : (o : Option Client) → AreSeatsBehind g (if_some o g (λ c. cond (may_say c) (hears g m c text) g)).seats
-    by None = same g
-    by (Some c) = test c (may_say c)
-
 -- ---- who comes, and who goes
 
 none_with_room : (fs : List Feed) (role : Name) (xs : List Seat) → seat_of xs role ≡ None → room_for xs fs role ≡ None
@@ -157,21 +93,6 @@ none_with_room fs role (x ∷ xs) h = by (is_of_role role x) refl h (none_with_r
         → option_map (λ (s : Seat). s.session) (cond (is_of_role role x && nat_lt (load fs x.session) most_feeds) (Some x) (find (has_room fs role) xs)) ≡ None
     by true q w more = absurd (some_is_none x.session w)
     by false q w more = ap (λ b. option_map (λ (s : Seat). s.session) (cond (b && nat_lt (load fs x.session) most_feeds) (Some x) (find (has_room fs role) xs))) q ∙ more w
-
-with_behind : (g : Gate) (role : Name) → AreSeatsBehind g (with_session g role).seats
-with_behind g role = by (seat_of g.seats role) refl
-  where
-    further : seat_of g.seats role ≡ None → (o : Option ℕ) → AreSeatsBehind g (if_some o g (λ n. seated g n role)).seats
-    further e None = same g
-    further e (Some n) = begun (record { session = n; role = role }) (none_full g.seats g.feeds role (none_with_room g.feeds role g.seats e))
-
-    by : (o : Option ℕ) → seat_of g.seats role ≡ o → AreSeatsBehind g (if_some o (if_some (begun_for g role) g (λ n. seated g n role)) (λ n. g)).seats
-    by None e = further e (begun_for g role)
-    by (Some n) e = same g
-
-came_behind : (g : Gate) (m : ℕ) (token : List ℕ) (o : Option Name) → AreSeatsBehind g (if_some o g (came_as g m token)).seats
-came_behind g m token None = same g
-came_behind g m token (Some role) = with_behind g role
 
 filter_twice : {X : Type 0} (p q : X → Bool) (xs : List X) → filter p (filter q xs) ≡ filter (λ x. q x && p x) xs
 filter_twice p q [] = refl
@@ -197,28 +118,140 @@ all_rested_left g (s ∷ ss) =
     let a = rested_left g s in let b = all_rested_left (rested g s) ss in
     ((λ x. a.0 x && b.0 x), b.1 ∙ (ap (filter b.0) a.1 ∙ filter_twice b.0 a.0 g.seats))
 
-went_behind : (g : Gate) (m : ℕ) → AreSeatsBehind g (went g m).seats
-went_behind g m = by (client_at g.clients m)
-  where
-    by : (o : Option Client) → AreSeatsBehind g (if_some o g (λ c. let h = all_swept (record g { clients = set g.clients m None }) (map (λ s. s.feed) c.subs) in settles (all_rested h (filter (is_of_role c.role) h.seats)))).seats
-    by None = same g
-    by (Some c) =
-        let h = all_swept (record g { clients = set g.clients m None }) (map (λ s. s.feed) c.subs) in let a = all_rested_left h (filter (is_of_role c.role) h.seats) in
-        subst (AreSeatsBehind g) (sym (a.1 ∙ ap (filter a.0) (all_swept_same (record g { clients = set g.clients m None }) (map (λ s. s.feed) c.subs)))) (left a.0)
+-- ---- steps that begin one
 
-happens_behind : (g : Gate) (e : Event) → AreSeatsBehind g (happens g e).seats
-happens_behind g (presented m token) = came_behind g m token (role_for g m token)
-happens_behind g (message m text) = said_behind g m text
-happens_behind g (gone m) = went_behind g m
-happens_behind g (known tokens) = same g
-happens_behind g ticked = same g
-happens_behind g synced = same g
-happens_behind g (handed m) = same g
-happens_behind g failed = same g
+module _ (R : Name → Type 0) where
+  same : (g : Gate) → IsBehind R g g.seats
+  same g = subst (IsBehind R g) (all_stay g.seats) (stayed (λ s. true))
+
+  by_same : (g : Gate) (xs : List Seat) → xs ≡ g.seats → IsBehind R g xs
+  by_same g xs e = subst (IsBehind R g) (sym e) (same g)
+
+  by_one : (g h : Gate) (n : ℕ) (role : Name) → R role → room_for g.seats g.feeds role ≡ None → h.seats ≡ g.seats ++ record { session = n; role = role } ∷ [] → IsBehind R g h.seats
+  by_one g h n role w r e = subst (IsBehind R g) (sym e) (further (record { session = n; role = role }) (none_full g.seats g.feeds role r) w)
+
+  first_behind : (g : Gate) (m : ℕ) (id : Option Data) (role rel : Name) → R role → IsBehind R g (reads_first g m id role rel).seats
+  first_behind g m id role rel w = by (room_for g.seats g.feeds role) refl
+    where
+      one_more : room_for g.seats g.feeds role ≡ None → (o : Option ℕ) → IsBehind R g (if_some o (tells g m (replied id (refused too_many))) (λ n. subscribes (seated g n role) m id n role rel)).seats
+      one_more r None = same g
+      one_more r (Some n) = by_one g (subscribes (seated g n role) m id n role rel) n role w r (subscribes_same (seated g n role) m id n role rel)
+
+      by : (o : Option ℕ) → room_for g.seats g.feeds role ≡ o
+          → IsBehind R g (if_some o (if_some (begun_for g role) (tells g m (replied id (refused too_many))) (λ n. subscribes (seated g n role) m id n role rel)) (λ n. subscribes g m id n role rel)).seats
+      by None r = one_more r (begun_for g role)
+      by (Some n) r = by_same g (subscribes g m id n role rel).seats (subscribes_same g m id n role rel)
+
+  reads_behind : (g : Gate) (m : ℕ) (c : Client) (id : Option Data) (rel : Name) → R c.role → IsBehind R g (reads g m c id rel).seats
+  reads_behind g m c id rel w = test (nat_lt (length c.subs) most_subs)
+    where
+      by : (o : Option Feed) → IsBehind R g (if_some o (reads_first g m id c.role rel) (joins g m id)).seats
+      by None = first_behind g m id c.role rel w
+      by (Some f) = by_same g (joins g m id f).seats (joins_same g m id f)
+
+      test : (t : Bool) → IsBehind R g (cond t (if_some (feed_for g.feeds c.role rel) (reads_first g m id c.role rel) (joins g m id)) (tells g m (replied id (refused too_many)))).seats
+      test true = by (feed_for g.feeds c.role rel)
+      test false = same g
+
+  acts_behind : (g : Gate) (m : ℕ) (c : Client) (id : Option Data) (text : List ℕ) (act : Act) → R c.role → IsBehind R g (acts g m c id text act).seats
+  acts_behind g m c id text (begin role) w = same g
+  acts_behind g m c id text finish w = same g
+  acts_behind g m c id text (subscribe rel) w = reads_behind g m c id rel w
+  acts_behind g m c id text (unsubscribe own) w = by_same g (closes g m c id own).seats (closes_same g m c id own)
+  acts_behind g m c id text (create_role name) w = by_same g _ (other_same g m c id text (create_role name) (seat_of g.seats c.role))
+  acts_behind g m c id text (create_table name owner columns) w = by_same g _ (other_same g m c id text (create_table name owner columns) (seat_of g.seats c.role))
+  acts_behind g m c id text (create_view name owner query) w = by_same g _ (other_same g m c id text (create_view name owner query) (seat_of g.seats c.role))
+  acts_behind g m c id text (grant rel privileges to) w = by_same g _ (other_same g m c id text (grant rel privileges to) (seat_of g.seats c.role))
+  acts_behind g m c id text (revoke rel privileges to) w = by_same g _ (other_same g m c id text (revoke rel privileges to) (seat_of g.seats c.role))
+  acts_behind g m c id text (grant_role group to) w = by_same g _ (other_same g m c id text (grant_role group to) (seat_of g.seats c.role))
+  acts_behind g m c id text (revoke_role group to) w = by_same g _ (other_same g m c id text (revoke_role group to) (seat_of g.seats c.role))
+  acts_behind g m c id text (row_security rel enable force) w = by_same g _ (other_same g m c id text (row_security rel enable force) (seat_of g.seats c.role))
+  acts_behind g m c id text (create_policy p) w = by_same g _ (other_same g m c id text (create_policy p) (seat_of g.seats c.role))
+  acts_behind g m c id text (drop_policy rel name) w = by_same g _ (other_same g m c id text (drop_policy rel name) (seat_of g.seats c.role))
+  acts_behind g m c id text (write entries) w = by_same g _ (other_same g m c id text (write entries) (seat_of g.seats c.role))
+
+  done_behind : (g : Gate) (m : ℕ) (c : Client) (text : List ℕ) (x : Message) → R c.role → IsBehind R g (done_for g m c text x).seats
+  done_behind g m c text no_json w = same g
+  done_behind g m c text too_long w = same g
+  done_behind g m c text no_object w = same g
+  done_behind g m c text (no_request id why) w = same g
+  done_behind g m c text (request id act) w =
+      test_of (λ (h : Gate). IsBehind R g h.seats) (has_shape_room g act) (acts g m c id text act) (tells g m (replied id (refused limit))) (acts_behind g m c id text act w) (same g)
+
+  -- of two gateways with the same sessions and feeds
+  like : (g h : Gate) (xs : List Seat) → h.seats ≡ g.seats → h.feeds ≡ g.feeds → IsBehind R h xs → IsBehind R g xs
+  like g h _ e f (stayed stays) = subst (IsBehind R g) (ap (filter stays) (sym e)) (stayed stays)
+  like g h _ e f (further s r w) = subst (IsBehind R g) (ap (λ z. z ++ s ∷ []) (sym e)) (further s (subst (λ z. z) (λ i. AreFull (e i) (f i) s.role) r) w)
+
+  said_behind : (g : Gate) (m : ℕ) (text : List ℕ) → ((c : Client) → client_at g.clients m ≡ Some c → R c.role) → IsBehind R g (said g m text).seats
+  said_behind g m text w = by (client_at g.clients m) w
+    where
+      test : (c : Client) → R c.role → (t : Bool) → IsBehind R g (cond t (hears g m c text) g).seats
+      test c r true = let h = record g { clients = at_client m (saying text) g.clients } in like g h (done_for h m c text (said_by text)).seats refl refl (done_behind h m c text (said_by text) r)
+      test c r false = same g
+
+      by : (o : Option Client) → ((c : Client) → o ≡ Some c → R c.role) → IsBehind R g (if_some o g (λ c. cond (may_say c) (hears g m c text) g)).seats
+      by None f = same g
+      by (Some c) f = test c (f c refl) (may_say c)
+
+  -- who comes, and who goes
+
+  with_behind : (g : Gate) (role : Name) → R role → IsBehind R g (with_session g role).seats
+  with_behind g role w = by (seat_of g.seats role) refl
+    where
+      one_more : seat_of g.seats role ≡ None → (o : Option ℕ) → IsBehind R g (if_some o g (λ n. seated g n role)).seats
+      one_more e None = same g
+      one_more e (Some n) = further (record { session = n; role = role }) (none_full g.seats g.feeds role (none_with_room g.feeds role g.seats e)) w
+
+      by : (o : Option ℕ) → seat_of g.seats role ≡ o → IsBehind R g (if_some o (if_some (begun_for g role) g (λ n. seated g n role)) (λ n. g)).seats
+      by None e = one_more e (begun_for g role)
+      by (Some n) e = same g
+
+  came_behind : (g : Gate) (m : ℕ) (token : List ℕ) (o : Option Name) → ((role : Name) → o ≡ Some role → R role) → IsBehind R g (if_some o g (came_as g m token)).seats
+  came_behind g m token None w = same g
+  came_behind g m token (Some role) w = with_behind g role (w role refl)
+
+  went_behind : (g : Gate) (m : ℕ) → IsBehind R g (went g m).seats
+  went_behind g m = by (client_at g.clients m)
+    where
+      by : (o : Option Client) → IsBehind R g (if_some o g (λ c. let h = all_swept (record g { clients = set g.clients m None }) (map (λ s. s.feed) c.subs) in settles (all_rested h (filter (is_of_role c.role) h.seats)))).seats
+      by None = same g
+      by (Some c) =
+          let h = all_swept (record g { clients = set g.clients m None }) (map (λ s. s.feed) c.subs) in let a = all_rested_left h (filter (is_of_role c.role) h.seats) in
+          subst (IsBehind R g) (sym (a.1 ∙ ap (filter a.0) (all_swept_same (record g { clients = set g.clients m None }) (map (λ s. s.feed) c.subs)))) (stayed a.0)
+
+  happens_behind : (g : Gate) (e : Event) → AreFor R g e → IsBehind R g (happens g e).seats
+  happens_behind g (presented m token) w = came_behind g m token (role_for g m token) w
+  happens_behind g (message m text) w = said_behind g m text w
+  happens_behind g (gone m) w = went_behind g m
+  happens_behind g (known tokens) w = same g
+  happens_behind g ticked w = same g
+  happens_behind g synced w = same g
+  happens_behind g (handed m) w = same g
+  happens_behind g failed w = same g
+
+  pub next_behind : (g : Gate) (e : Event) → AreFor R g e → IsBehind R g (next g e).seats
+  next_behind g e w = by g.dead
+    where
+      by : (t : Bool) → IsBehind R g (cond t g (happens g e)).seats
+      by true = same g
+      by false = happens_behind g e w
+
+-- ---- as the law says it
+
+as_told : (g : Gate) (xs : List Seat) → IsBehind (λ role. Unit {0}) g xs → AreSeatsBehind g xs
+as_told g _ (stayed stays) = left stays
+as_told g _ (further s full r) = begun s full
+
+for_any : (g : Gate) (e : Event) → AreFor (λ role. Unit {0}) g e
+for_any g (presented m token) = λ role e. tt
+for_any g (message m text) = λ c e. tt
+for_any g (gone m) = tt
+for_any g (known tokens) = tt
+for_any g ticked = tt
+for_any g synced = tt
+for_any g (handed m) = tt
+for_any g failed = tt
 
 pub begins_as_needed : (g : Gate) (e : Event) → AreSeatsBehind g (next g e).seats
-begins_as_needed g e = by g.dead
-  where
-    by : (t : Bool) → AreSeatsBehind g (cond t g (happens g e)).seats
-    by true = same g
-    by false = happens_behind g e
+begins_as_needed g e = as_told g (next g e).seats (next_behind (λ role. Unit {0}) g e (for_any g e))

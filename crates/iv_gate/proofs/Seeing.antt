@@ -15,14 +15,14 @@ use Rattle.iv_machine.specs.declared.Cause.{Cause}
 use Rattle.iv_machine.specs.State.{Session, State, Subscription, is_within_for, missing_for, rel_of, shown, subscription_of, view_for}
 use Rattle.iv_clients.specs.Clients.{Client, Sub, followed_by, told}
 use Rattle.iv_clients.specs.Feeds.{Feed, feed_of, rel_read}
+use Rattle.iv_clients.proofs.Slots.{one_some, some_is_none}
 use Rattle.iv_gate.specs.Gate.{Gate}
 use Rattle.iv_gate.specs.Replies.{IsAskedBy, IsClient}
 use Rattle.iv_gate.specs.Seen.{all_rows, has_ended, hindrance, seen}
 use Rattle.iv_gate.proofs.Joining.{shows_view}
-use Rattle.iv_gate.proofs.Machine.{find_passes, some_is_none}
+use Rattle.iv_gate.proofs.Machine.{find_passes}
 use Rattle.iv_gate.proofs.Running.{found_all}
 use Rattle.iv_gate.proofs.Sound.{IsAskedIn, IsFeed, IsFollowing, IsSoundGate, seer}
-use Rattle.iv_gate.proofs.Touching.{one_some}
 
 -- it was told no end, and what it was told adds up to what its role sees of the relation of its feed
 pub record AddsToView (g : Gate) (c : Client) (own k : ℕ) : Type 0 where

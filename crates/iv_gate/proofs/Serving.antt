@@ -9,16 +9,16 @@ use Rattle.iv_clients.specs.Bounds.{most_requests, most_waiting}
 use Rattle.iv_clients.specs.Clients.{Client, Shown, Slots, answered, at_client, client_at, fresh, may_say, saying, told, waiting, greeting}
 use Rattle.iv_clients.specs.Feeds.{is_of_role, seat_of}
 use Rattle.iv_clients.specs.Journal.{said_by, Entry}
+use Rattle.iv_clients.proofs.Slots.{at_same, one_some, set_other, some_is_none}
 use Rattle.iv_gate.specs.Events.{Event, presented, message, gone, known, ticked, synced, handed, failed, happens, next}
 use Rattle.iv_gate.specs.Gate.{Gate, all_rested, all_swept, begun_for, done_for, hears, role_for, said, seated, settles, went, with_session}
 use Rattle.iv_gate.specs.Replies.{IsClient, replies}
 use Rattle.iv_gate.proofs.Asking.{IsHeard, done_sound, seated_sound}
 use Rattle.iv_gate.proofs.Finishing.{all_rested_sound}
 use Rattle.iv_gate.proofs.Growing.{Grown, behind_front, grows}
-use Rattle.iv_gate.proofs.Machine.{some_is_none}
 use Rattle.iv_gate.proofs.Running.{all_swept_sound, client_said, hands_sound, knowing_sound, on_disk_sound, one_sound, settles_sound, ticking_sound, client_told_all, quiet_greeting}
 use Rattle.iv_gate.proofs.Sound.{Adds, IsSoundClient, IsSoundGate, Sounds, seer, Seer}
-use Rattle.iv_gate.proofs.Touching.{at_same, came_as, one_some, set_other}
+use Rattle.iv_gate.proofs.Touching.{came_as}
 use Rattle.iv_gate.proofs.Walking.{to_done, to_settles, to_then}
 use Rattle.iv_gate.proofs.Shaping.{told_fresh}
 
@@ -27,17 +27,26 @@ some_sound None h f a b = a
 some_sound (Some x) h f a b = b x refl
 
 -- who is put where nobody was
-pub put_sound : (g : Gate) (m : ℕ) (o : Option Client) → ((c : Client) → o ≡ Some c → IsSoundClient g.machine g.feeds (seer c)) → IsSoundGate g → IsSoundGate (record g { clients = set g.clients m o })
-put_sound g m o k b = record { state = b.state; seats = b.seats; feeds = b.feeds; clients = λ j c h live. by j c h live (m == j) refl }
+pub put_one : (Q : Client → Type 0) (m : ℕ) (o : Option Client) (slots : Slots) → ((c : Client) → o ≡ Some c → Q c) → ((j : ℕ) (c : Client) → client_at slots j ≡ Some c → Q c)
+    → (j : ℕ) (c : Client) → client_at (set slots m o) j ≡ Some c → Q c
+put_one Q m o slots k others j c h = by (m == j) refl
   where
-    there : (slots : Slots) (i : ℕ) (c : Client) → client_at (set slots i o) i ≡ Some c → o ≡ Some c
-    there [] i c h = absurd (some_is_none c (sym h))
-    there (s ∷ ss) zero c h = h
-    there (s ∷ ss) (suc i) c h = there ss i c h
+    there : (xs : Slots) (i : ℕ) → client_at (set xs i o) i ≡ Some c → o ≡ Some c
+    there [] i t = absurd (some_is_none c (sym t))
+    there (s ∷ ss) zero t = t
+    there (s ∷ ss) (suc i) t = there ss i t
 
-    by : (j : ℕ) (c : Client) → client_at (set g.clients m o) j ≡ Some c → c.dropped ≡ false → (t : Bool) → (m == j) ≡ t → IsSoundClient g.machine g.feeds (seer c)
-    by j c h live true e = k c (there g.clients m c (ap (client_at (set g.clients m o)) (eqb-true m j e) ∙ h))
-    by j c h live false e = b.clients j c (sym (set_other m j o g.clients (eqb-false m j e)) ∙ h) live
+    by : (t : Bool) → (m == j) ≡ t → Q c
+    by true e = k c (there slots m (ap (client_at (set slots m o)) (eqb-true m j e) ∙ h))
+    by false e = others j c (sym (set_other m j o slots (eqb-false m j e)) ∙ h)
+
+pub put_sound : (g : Gate) (m : ℕ) (o : Option Client) → ((c : Client) → o ≡ Some c → IsSoundClient g.machine g.feeds (seer c)) → IsSoundGate g → IsSoundGate (record g { clients = set g.clients m o })
+put_sound g m o k b = record {
+  state = b.state;
+  seats = b.seats;
+  feeds = b.feeds;
+  clients = put_one (λ c. c.dropped ≡ false → IsSoundClient g.machine g.feeds (seer c)) m o g.clients (λ c e live. k c e) b.clients;
+}
 
 fresh_sound : (g : Gate) (es : List Entry) (role : Name) (digest : List ℕ) → IsSoundClient g.machine g.feeds (seer (fresh es role digest))
 fresh_sound g es role digest =

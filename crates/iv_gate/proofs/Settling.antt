@@ -12,6 +12,7 @@ use Rattle.iv_clients.specs.Clients.{Client, Sub, answered, at_client, beating, 
 use Rattle.iv_clients.specs.Feeds.{Feed, rel_read}
 use Rattle.iv_clients.specs.Journal.{Entry, said_by, shape_for}
 use Rattle.iv_clients.specs.Tokens.{Token}
+use Rattle.iv_clients.proofs.Slots.{at_every, at_other, at_same, one_some}
 use Rattle.iv_gate.specs.Events.{Event, presented, message, gone, known, ticked, synced, handed, failed, happens, next}
 use Rattle.iv_gate.specs.Gate.{Gate, columns_in, done_for, entered, feed_begun, granted_by, hears, in_session, is_accepted, next_own, reply_in, reply_to, said, settles, tells, told_of, entries_of}
 use Rattle.iv_gate.specs.Laws.{IsSettledBy, is_word}
@@ -26,7 +27,7 @@ use Rattle.iv_gate.proofs.Places.{any_of_both, or_true}
 use Rattle.iv_gate.proofs.Replying.{asked, grown_by}
 use Rattle.iv_gate.proofs.Serving.{told_answered}
 use Rattle.iv_gate.proofs.Sound.{Adds, IsSoundGate, Seer, Sounds, or_none, seer_telling}
-use Rattle.iv_gate.proofs.Touching.{alive as is_alive, at_every, at_other, at_same, one_some, rests, touched}
+use Rattle.iv_gate.proofs.Touching.{alive as is_alive, rests, touched, test_same}
 use Rattle.iv_gate.proofs.Walking.{Later}
 use Rattle.iv_gate.proofs.Shaping.{all_made, any_none}
 
@@ -273,18 +274,10 @@ owed_dropping true c d h = refl
 owed_dropping false c d h = h
 
 owed_checked : (tokens : List Token) (c : Client) → (checked tokens c).owed ≡ c.owed
-owed_checked tokens c = by (opens tokens c)
-  where
-    by : (b : Bool) → (cond b c (dropping c)).owed ≡ c.owed
-    by true = refl
-    by false = refl
+owed_checked tokens c = test_same (λ (x : Client). x.owed) (opens tokens c) c (dropping c) c.owed refl refl
 
 owed_handing : (c : Client) → (handing c).owed ≡ c.owed
-owed_handing c = by (length c.sendable == 0)
-  where
-    by : (b : Bool) → (cond b c (record c { sendable = []; asked = 0; handed = c.handed ++ c.sendable ∷ [] })).owed ≡ c.owed
-    by true = refl
-    by false = refl
+owed_handing c = test_same (λ (x : Client). x.owed) (length c.sendable == 0) c (record c { sendable = []; asked = 0; handed = c.handed ++ c.sendable ∷ [] }) c.owed refl refl
 
 by_message : (m : ℕ) (text : List ℕ) (c d : Client) → Ends c d → IsTold (message m text) c d
 by_message m text c d x = record { told = λ s. by (subst (λ z. (z ≡ []) ⊎ EndsSettled z) (sym (told_now c d x.more x.text)) x.ends); owed = x.owed }

@@ -2,7 +2,7 @@
 use Rattle.std.proofs.Common.{◌≡◌, ℕ, zero, suc, ◌<◌, ◌+◌, Bool, true, false, not, cond, ◌||◌, List, [], ◌∷◌, ◌++◌, map, length, Option, Some, None, is_some, option_map, refl, ap, ◌∙◌, sym, subst, arith}
 use Rattle.std.specs.Prelude.{◌==◌, ◌&&◌, bytes_eq, filter, find, flat_map, nat_lt}
 use Rattle.std.specs.List.{AllByRecursion, list_any, position, position_or_len}
-use Rattle.std.proofs.lemmas.Bool.{false≢true, eqb-true, ltb-true}
+use Rattle.std.proofs.lemmas.Bool.{false≢true, eqb-true, ltb-true, or_right}
 use Rattle.serde_json.specs.Data.{Data}
 use Rattle.iv_rows.specs.Options.{if_some}
 use Rattle.iv_access.specs.Rights.{Name}
@@ -17,20 +17,20 @@ use Rattle.iv_machine.proofs.Placing.{all_inserted, find_more}
 use Rattle.iv_machine.proofs.Reached.{after_numbers}
 use Rattle.iv_machine.proofs.Readers.{all_found}
 use Rattle.iv_message.specs.Told.{Told, replied, opened}
-use Rattle.iv_clients.specs.Clients.{Client, Slots, at_all, at_client, following, has_role, staying, telling, told_one}
+use Rattle.iv_clients.specs.Clients.{Client, Slots, at_all, at_client, client_at, following, has_role, staying, telling, told_one}
 use Rattle.iv_clients.specs.Feeds.{Feed, Seat, ends_in, feed_of, feeds_left, is_of_role, seat_of, without_feed, without_seat}
+use Rattle.iv_clients.proofs.Slots.{one_some, some_is_none}
 use Rattle.iv_gate.specs.Gate.{Gate, begun_for, columns_in, feed_begun, in_session, next_own, ran, seated, shut, subscribes, tells, told_of}
 use Rattle.iv_gate.specs.Replies.{ActsAs}
 use Rattle.iv_gate.proofs.Asking.{begun_accepted}
 use Rattle.iv_gate.proofs.Ending.{find_ended}
 use Rattle.iv_gate.proofs.Growing.{map_front}
-use Rattle.iv_gate.proofs.Joining.{same_name}
-use Rattle.iv_gate.proofs.Machine.{find_left, find_passes, if_some_there, some_is_none}
+use Rattle.iv_gate.proofs.Joining.{bytes_self, same_name}
+use Rattle.iv_gate.proofs.Machine.{find_left, find_passes, if_some_there}
 use Rattle.iv_gate.proofs.Opening.{above_given, reply_of_none, reply_of_some}
 use Rattle.iv_gate.proofs.Running.{all_so, filter_plain}
 use Rattle.iv_gate.proofs.Sound.{IsFeed, Seer, filter_all, left_of, seer_telling}
 use Rattle.iv_gate.proofs.Summing.{both, same_self}
-use Rattle.iv_gate.proofs.Touching.{one_some}
 
 -- the subscription is a feed, in its session
 pub record IsFed (feeds : List Feed) (e : Subscription) : Type 0 where
@@ -167,6 +167,11 @@ role_kept : (f : Client → Client) → ((c : Client) → (f c).role ≡ c.role)
     → if_some (option_map f o) false (λ (c : Client). bytes_eq c.role role) ≡ if_some o false (λ (c : Client). bytes_eq c.role role)
 role_kept f k role None = refl
 role_kept f k role (Some c) = ap (λ r. bytes_eq r role) (k c)
+
+pub role_there : (slots : Slots) (m : ℕ) (c : Client) → client_at slots m ≡ Some c → has_role c.role slots ≡ true
+role_there [] m c h = absurd (some_is_none c (sym h))
+role_there (o ∷ os) zero c h = ap (λ (x : Option Client). if_some x false (λ (d : Client). bytes_eq d.role c.role) || has_role c.role os) h ∙ ap (λ b. b || has_role c.role os) (bytes_self c.role)
+role_there (o ∷ os) (suc m) c h = or_right (if_some o false (λ (d : Client). bytes_eq d.role c.role)) (has_role c.role os) (role_there os m c h)
 
 pub roles_all : (f : Client → Client) → ((c : Client) → (f c).role ≡ c.role) → (role : Name) (slots : Slots) → has_role role (at_all f slots) ≡ has_role role slots
 roles_all f k role [] = refl
@@ -391,7 +396,7 @@ same_place r q (x ∷ xs) h l = by (bytes_eq r x) (bytes_eq q x) refl refl h l (
     by false true e f i j more = absurd (let no : ⊥ = omega (arith, i) in no)
     by false false e f i j more = more (omega (arith, i)) (omega (arith, j))
 
-same_position : (r q : Name) (xs : List Name) (i : ℕ) → position (bytes_eq r) xs ≡ Some i → position (bytes_eq q) xs ≡ Some i → r ≡ q
+pub same_position : (r q : Name) (xs : List Name) (i : ℕ) → position (bytes_eq r) xs ≡ Some i → position (bytes_eq q) xs ≡ Some i → r ≡ q
 same_position r q xs i h k =
     let a = if_some_there (nat_lt (position_or_len (bytes_eq r) xs) (length xs)) (position_or_len (bytes_eq r) xs) i h in
     let b = if_some_there (nat_lt (position_or_len (bytes_eq q) xs) (length xs)) (position_or_len (bytes_eq q) xs) i k in

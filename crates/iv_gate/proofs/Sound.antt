@@ -1,5 +1,5 @@
 -- A command of the machine keeps what clients were told in step with what their feeds show.
-use Rattle.std.proofs.Common.{◌≡◌, ◌≢◌, ℕ, ◌<◌, ◌≤◌, Bool, true, false, not, cond, ◌||◌, List, [], ◌∷◌, ◌++◌, Option, Some, None, option_map, map, refl, ap, ◌∙◌, sym, subst, arith, pos}
+use Rattle.std.proofs.Common.{◌≡◌, ◌≢◌, ℕ, ◌<◌, ◌≤◌, Bool, true, false, not, cond, ◌||◌, List, [], ◌∷◌, ◌++◌, Option, Some, map, refl, ap, ◌∙◌, sym, subst, arith, pos}
 use Rattle.std.specs.Prelude.{◌==◌, ◌+◌, filter, flat_map, is_some, slice_get, ◌+ℤ◌}
 use Rattle.std.specs.List.{AllByRecursion, list_any}
 use Rattle.std.proofs.lemmas.List.{append-nil}
@@ -23,15 +23,15 @@ use Rattle.iv_message.specs.Told.{Told, changed, opened, over, granted}
 use Rattle.iv_clients.specs.Clients.{Client, Shown, Sub, all_shown, client_at, own_line, own_lines, staying, telling, told, told_one}
 use Rattle.iv_clients.specs.Feeds.{Feed, ends_in, feed_of, feeds_left, is_end, rel_read}
 use Rattle.iv_clients.specs.Journal.{Entry, said_by}
+use Rattle.iv_clients.proofs.Slots.{IsFrom, at_every, from}
 use Rattle.iv_gate.specs.Gate.{Gate, granted_by, is_accepted, ran, reply_in, told_of}
 use Rattle.iv_gate.specs.Replies.{ActsAs, replies}
 use Rattle.iv_gate.specs.Seen.{is_end_of}
 use Rattle.iv_gate.proofs.Ending.{ended_shows_none, not_told}
 use Rattle.iv_gate.proofs.Growing.{assoc, map_front}
-use Rattle.iv_gate.proofs.Machine.{is_kept, not_finish, number_same, some_is_none, there_some}
+use Rattle.iv_gate.proofs.Machine.{is_kept, not_finish, number_same, there_some}
 use Rattle.iv_gate.proofs.Places.{get_more, replies_both}
 use Rattle.iv_gate.proofs.Summing.{AreOwn, all_add_lines, both, differs_back, grants_weigh_nothing, moved_on, neither, none_above, none_told, nothing_more, sum-append, sum_for}
-use Rattle.iv_gate.proofs.Touching.{at_every}
 
 -- ---- ends
 
@@ -414,15 +414,6 @@ told_quiet own q false names = (refl, refl)
 pub telling_dropped : (es : List Entry) (ts : List Told) (c : Client) → (telling es ts c).dropped ≡ c.dropped
 telling_dropped es [] c = refl
 telling_dropped es (t ∷ ts) c = telling_dropped es ts (told_one es t c)
-
-pub record IsFrom (f : Client → Client) (o : Option Client) (new : Client) : Type 0 where
-  pub old : Client
-  pub there : o ≡ Some old
-  pub same : f old ≡ new
-
-pub from : (f : Client → Client) (o : Option Client) (new : Client) → option_map f o ≡ Some new → IsFrom f o new
-from f None new h = absurd (some_is_none new (sym h))
-from f (Some c) new h = record { old = c; there = refl; same = cc }
 
 pub ran_ready : Adds → Sounds → (g : Gate) (k : Command) → IsReady g k → IsSoundGate (ran g k)
 ran_ready adds sounds g k r = record {

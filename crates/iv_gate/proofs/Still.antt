@@ -18,8 +18,9 @@ use Rattle.iv_machine.specs.Reached.{AreGiven, AreUnique}
 use Rattle.iv_machine.specs.Refusing.{refusal}
 use Rattle.iv_machine.specs.Sound.{IsSoundState, MayRead}
 use Rattle.iv_machine.specs.State.{Session, State, Subscription, actor, is_open, is_within_for, missing_for, rel_of, session_of, shown, subscription_of, view_for, view_shown}
+use Rattle.iv_clients.proofs.Slots.{some_is_none}
 use Rattle.iv_gate.specs.Gate.{in_session, reply_in}
-use Rattle.iv_gate.proofs.Machine.{find_filtered, find_inserted, find_left, find_some_kept, first_none, later_none, not_next, passed, some_is_none}
+use Rattle.iv_gate.proofs.Machine.{find_filtered, find_inserted, find_left, find_some_kept, first_none, later_none, not_next, passed}
 use Rattle.iv_gate.proofs.Running.{all_so}
 use Rattle.iv_gate.proofs.Sound.{filter_all}
 use Rattle.iv_gate.proofs.Summing.{both, differs_back, neither, same_self}

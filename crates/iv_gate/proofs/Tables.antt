@@ -7,16 +7,16 @@ use Rattle.std.proofs.lemmas.List.Sums.{length-filter}
 use Rattle.iv_access.specs.Rights.{Name}
 use Rattle.iv_machine.specs.State.{Session, session_of}
 use Rattle.iv_clients.specs.Feeds.{Feed, Seat, is_reading}
+use Rattle.iv_clients.proofs.Slots.{some_is_none}
 use Rattle.iv_gate.specs.Gate.{Gate}
 use Rattle.iv_gate.specs.Needed.{IsOpenFeed, KnowsMachine}
 use Rattle.iv_gate.specs.Runs.{Runs}
-use Rattle.iv_gate.proofs.Entering.{IsServing, runs_serving}
 use Rattle.iv_gate.proofs.Freeing.{reads_for_clients}
 use Rattle.iv_gate.proofs.Keeping.{IsKept}
 use Rattle.iv_gate.proofs.Lasting.{Starts, runs_kept, runs_sound}
-use Rattle.iv_gate.proofs.Machine.{some_is_none}
+use Rattle.iv_gate.proofs.Needing.{runs_needed}
 use Rattle.iv_gate.proofs.Running.{all_so}
-use Rattle.iv_gate.proofs.Sitting.{alike_all}
+use Rattle.iv_gate.proofs.Sharing.{alone_of}
 use Rattle.iv_gate.proofs.Sound.{Adds, IsFeed, IsSoundGate, Sounds}
 
 -- a session that is open is among the numbers of those that are
@@ -40,20 +40,21 @@ seat_there n role (x ∷ xs) h a = by (n == x.session) refl h (λ k. seat_there 
     by true e k more = (0, omega arith, λ i. record { session = sym (eqb-true n x.session e) i; role = a.0 e i })
     by false e k more = let c = more k in let l = c.1 in (suc c.0, omega (arith, l), c.2)
 
-opened_feed : (g : Gate) → IsSoundGate g → IsServing g → IsKept g → (f : Feed) → IsFeed g.machine f → IsOpenFeed g f
-opened_feed g b s k f a = record {
+opened_feed : (g : Gate) → IsSoundGate g → IsKept g → (f : Feed) → IsFeed g.machine f → IsOpenFeed g f
+opened_feed g b k f a = record {
   opened = a.found ∙ ap (λ r. Some (record { session = f.session; number = f.number; rel = r })) a.there;
   seat = seat_there f.session f.role g.seats
-      (ap (list_any (λ i. f.session == i)) (sym s.seated) ∙ session_there f.session g.machine.frame.sessions _ a.acts.session)
-      (alike_all g.machine g.seats (record { session = f.session; role = f.role }) a.acts b.seats);
+      (ap (list_any (λ i. f.session == i)) (sym k.shared.sessions) ∙ session_there f.session g.machine.frame.sessions _ a.acts.session)
+      (alone_of g.machine (record { session = f.session; role = f.role }) g.seats a.acts b.seats);
   only = subst (λ n. n ≤ 1) (length-filter (is_reading f.role f.rel) g.feeds) (k.few.once f.role f.rel);
 }
 
 pub knows_machine : Adds → Starts → Sounds → (cap : ℕ) (g : Gate) → Runs cap g → KnowsMachine g
 knows_machine adds starts sounds cap g r =
-    let b = runs_sound adds starts sounds cap g r in let s = runs_serving adds starts sounds cap g r in let k = runs_kept adds starts sounds cap g r in record {
-      sessions = s.seated;
+    let b = runs_sound adds starts sounds cap g r in let k = runs_kept adds starts sounds cap g r in record {
+      sessions = k.shared.sessions;
       seats = b.seats;
-      feeds = all_so {P = IsFeed g.machine} {Q = IsOpenFeed g} (λ f a. opened_feed g b s k f a) g.feeds b.feeds;
+      needed = runs_needed adds starts sounds cap g r;
+      feeds = all_so {P = IsFeed g.machine} {Q = IsOpenFeed g} (λ f a. opened_feed g b k f a) g.feeds b.feeds;
       read = (reads_for_clients adds starts sounds cap g r).subscriptions;
     }

@@ -23,6 +23,7 @@ use Rattle.iv_machine.specs.declared.Cause.{Cause}
 use Rattle.iv_message.specs.Told.{Told, changed, over, granted}
 use Rattle.iv_clients.specs.Clients.{Client, Sub, all_shown, followed_by, own_line, own_lines, told}
 use Rattle.iv_clients.specs.Feeds.{Feed, ends_in, feed_of, is_end, rel_read}
+use Rattle.iv_clients.proofs.Slots.{one_some, some_is_none}
 use Rattle.iv_gate.specs.Events.{Event, next}
 use Rattle.iv_gate.specs.Gate.{Gate, granted_by, is_accepted, reply_in, told_of}
 use Rattle.iv_gate.specs.Replies.{ByClient, IsClient, told_by}
@@ -33,13 +34,12 @@ use Rattle.iv_gate.proofs.Showing.{are_shown}
 use Rattle.iv_gate.proofs.News.{Hears, quietly, by_command, by_contents, IsToldContents, IsToldOf}
 use Rattle.iv_gate.proofs.Heeding.{IsOwn, followed_any, nothing_shown, own_each, same_subscriptions}
 use Rattle.iv_gate.proofs.Joining.{shows_view}
-use Rattle.iv_gate.proofs.Machine.{absent, any_append, ended_told, find_left, find_passes, some_is_none}
+use Rattle.iv_gate.proofs.Machine.{absent, any_append, ended_told, find_left, find_passes}
 use Rattle.iv_gate.proofs.Noticing.{next_all, told_now}
 use Rattle.iv_gate.proofs.Running.{found_all}
 use Rattle.iv_gate.proofs.Seeing.{adds_to_view}
 use Rattle.iv_gate.proofs.Sound.{Adds, IsFeed, IsFollowing, IsSoundClient, IsSoundGate, Sounds, seer}
 use Rattle.iv_gate.proofs.Summing.{AreOwn, above, differs_back, is_back, neither, same_self, sum-append, sum_for}
-use Rattle.iv_gate.proofs.Touching.{one_some}
 
 -- ---- the texts of one number
 

@@ -10,6 +10,7 @@ use Rattle.iv_machine.specs.Machine.{difference}
 use Rattle.iv_message.specs.Told.{Told, over}
 use Rattle.iv_clients.specs.Clients.{Client, Shown, all_shown, client_at, followed_by, handing, may_say, saying, told}
 use Rattle.iv_clients.specs.Journal.{said_by}
+use Rattle.iv_clients.proofs.Slots.{one_some}
 use Rattle.iv_gate.specs.Events.{Event, presented, message, gone, known, ticked, synced, handed, failed, next}
 use Rattle.iv_gate.specs.Gate.{Gate}
 use Rattle.iv_gate.specs.Implied.{EndsForCause}
@@ -25,7 +26,7 @@ use Rattle.iv_gate.proofs.Showing.{IsShownBy, are_shown}
 use Rattle.iv_gate.proofs.Signs.{card}
 use Rattle.iv_gate.proofs.Summing.{same_self}
 use Rattle.iv_gate.proofs.Telling.{TellsApart}
-use Rattle.iv_gate.proofs.Touching.{IsKept as KeepsCard, card_behind, entered_by_event, is_gone, marked_by_event, marks_behind, one_some, rests, touched}
+use Rattle.iv_gate.proofs.Touching.{IsKept as KeepsCard, card_behind, entered_by_event, is_gone, marked_by_event, marks_behind, rests, touched}
 
 -- ---- marks
 

@@ -1,5 +1,5 @@
 -- Each event leaves its marks, and touches clients as it says.
-use Rattle.std.proofs.Common.{◌≡◌, ℕ, zero, suc, Bool, true, false, cond, ◌||◌, not, List, [], ◌∷◌, ◌++◌, length, map, set, Option, Some, None, option_map, is_some, refl, ap, ◌∙◌, sym, append-nil}
+use Rattle.std.proofs.Common.{◌≡◌, ℕ, zero, suc, Bool, true, false, cond, ◌||◌, not, List, [], ◌∷◌, ◌++◌, length, map, set, Option, Some, None, option_map, refl, ap, ◌∙◌, sym, append-nil}
 use Rattle.std.specs.Prelude.{◌==◌, ◌&&◌, filter, option_and_then}
 use Rattle.std.proofs.lemmas.Bool.{false≢true, eqb-true, eqb-false}
 use Rattle.sha2.specs.Sha256.{sha256}
@@ -10,6 +10,7 @@ use Rattle.iv_clients.specs.Clients.{Client, Slots, at_all, at_client, beating, 
 use Rattle.iv_clients.specs.Feeds.{is_of_role}
 use Rattle.iv_clients.specs.Journal.{Entry, said_by}
 use Rattle.iv_clients.specs.Tokens.{Token, role_opened}
+use Rattle.iv_clients.proofs.Slots.{at_every, at_other, at_same, not_free, one_some, set_gone, set_other, set_there, some_is_none}
 use Rattle.iv_gate.specs.Events.{Event, presented, message, gone, known, ticked, synced, handed, failed, happens, next, ticking}
 use Rattle.iv_gate.specs.Gate.{Gate, all_rested, all_swept, came, has_session, hears, role_for, said, settles, went, with_session}
 use Rattle.iv_gate.specs.Laws.{entries_by, new_entries}
@@ -56,50 +57,6 @@ pub record AreTouched (g : Gate) (e : Event) : Type 0 where
   pub comes : (m : ℕ) (d : Client) → client_at g.clients m ≡ None → client_at (next g e).clients m ≡ Some d → IsNewcomer g e m d
 
 -- ---- slots
-
-pub some_is_none : {X : Type 0} (x : X) → Some x ≡ None → ⊥
-some_is_none x e = false≢true (sym (ap is_some e))
-
-pub at_same : {C : Type 0} (m : ℕ) (f : C → C) (slots : List (Option C)) → client_at (at_client m f slots) m ≡ option_map f (client_at slots m)
-at_same m f [] = refl
-at_same zero f (s ∷ ss) = refl
-at_same (suc m) f (s ∷ ss) = at_same m f ss
-
-pub at_other : {C : Type 0} (m j : ℕ) (f : C → C) (slots : List (Option C)) → (m ≡ j → ⊥) → client_at (at_client m f slots) j ≡ client_at slots j
-at_other m j f [] h = refl
-at_other zero zero f (s ∷ ss) h = absurd (h refl)
-at_other zero (suc j) f (s ∷ ss) h = refl
-at_other (suc m) zero f (s ∷ ss) h = refl
-at_other (suc m) (suc j) f (s ∷ ss) h = at_other m j f ss (λ e. h (ap suc e))
-
-pub at_every : {C : Type 0} (f : C → C) (slots : List (Option C)) (m : ℕ) → client_at (at_all f slots) m ≡ option_map f (client_at slots m)
-at_every f [] m = refl
-at_every f (s ∷ ss) zero = refl
-at_every f (s ∷ ss) (suc m) = at_every f ss m
-
-pub set_other : {C : Type 0} (m j : ℕ) (x : Option C) (slots : List (Option C)) → (m ≡ j → ⊥) → client_at (set slots m x) j ≡ client_at slots j
-set_other m j x [] h = refl
-set_other zero zero x (s ∷ ss) h = absurd (h refl)
-set_other zero (suc j) x (s ∷ ss) h = refl
-set_other (suc m) zero x (s ∷ ss) h = refl
-set_other (suc m) (suc j) x (s ∷ ss) h = set_other m j x ss (λ e. h (ap suc e))
-
-pub set_gone : {C : Type 0} (m : ℕ) (slots : List (Option C)) → client_at (set slots m None) m ≡ None
-set_gone m [] = refl
-set_gone zero (s ∷ ss) = refl
-set_gone (suc m) (s ∷ ss) = set_gone m ss
-
--- a number that is free is there
-pub set_there : {C : Type 0} (m : ℕ) (c : C) (slots : List (Option C)) → is_free m slots ≡ true → client_at (set slots m (Some c)) m ≡ Some c
-set_there m c [] h = absurd (false≢true h)
-set_there zero c (s ∷ ss) h = refl
-set_there (suc m) c (s ∷ ss) h = set_there m c ss h
-
-pub not_free : {C : Type 0} (m : ℕ) (c : C) (slots : List (Option C)) → client_at slots m ≡ Some c → is_free m slots ≡ false
-not_free m c [] h = refl
-not_free zero c (Some d ∷ ss) h = refl
-not_free zero c (None ∷ ss) h = absurd (some_is_none c (sym h))
-not_free (suc m) c (s ∷ ss) h = not_free m c ss h
 
 mark_at : (slots : Slots) (j : ℕ) → client_at (marks_in slots) j ≡ option_map mark_of (client_at slots j)
 mark_at [] j = refl
@@ -167,7 +124,7 @@ said_slots g m text = by (client_at g.clients m)
     by None = refl
     by (Some c) = heard c (may_say c)
 
-test_same : {X Y : Type 0} (f : X → Y) (b : Bool) (x y : X) (z : Y) → f x ≡ z → f y ≡ z → f (cond b x y) ≡ z
+pub test_same : {X Y : Type 0} (f : X → Y) (b : Bool) (x y : X) (z : Y) → f x ≡ z → f y ≡ z → f (cond b x y) ≡ z
 test_same f true x y z h k = h
 test_same f false x y z h k = k
 
@@ -381,9 +338,6 @@ come_of : (g h : Gate) (m : ℕ) (token : List ℕ) (d : Client) (role : Name) �
 come_of g h m token d role o e =
     let same : d.role ≡ role = ap (λ (c : Client). c.role) e in
     record { opened = o ∙ ap Some (sym same); is = e ∙ ap (λ r. fresh h.entries r (sha256 token)) (sym same) }
-
-pub one_some : {X : Type 0} (a b : X) → Some a ≡ Some b → a ≡ b
-one_some a b h = cc
 
 came_new : (g : Gate) (m : ℕ) (token : List ℕ) (d : Client) (o : Option Name) → role_for g m token ≡ o → client_at g.clients m ≡ None
     → client_at (if_some o g (came_as g m token)).clients m ≡ Some d → IsCome g (if_some o g (came_as g m token)) m token d

@@ -12,10 +12,10 @@ use Rattle.iv_message.specs.Told.{Told, made, replied}
 use Rattle.iv_clients.specs.Clients.{Client, Slots, at_all, at_client, client_at, closing, following, moved, settling, staying, telling, told_one}
 use Rattle.iv_clients.specs.Feeds.{Seat}
 use Rattle.iv_clients.specs.Journal.{Entry, line_said, shape_for}
+use Rattle.iv_clients.proofs.Slots.{at_every, at_other, at_same}
 use Rattle.iv_gate.specs.Gate.{Gate, all_rested, all_swept, done_for, entered, entries_of, in_session, is_accepted, ran, reply_to, requests, settles, informs, tells, told_of, with_session}
 use Rattle.iv_gate.proofs.Shaping.{all_made}
 use Rattle.iv_gate.proofs.Stepping.{Steps, step_all_rested, step_all_swept, step_done, step_with}
-use Rattle.iv_gate.proofs.Touching.{at_every, at_other, at_same}
 
 -- what each step keeps of each client; client m alone is told what is its own
 pub record Kit (m : ℕ) (R : ℕ → Client → Client → Type 0) : Type 0 where

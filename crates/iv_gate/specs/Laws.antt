@@ -117,8 +117,7 @@ is_word _ = false
 -- a message, its own or another's, tells a client nothing, or something and then that this is all; a tick tells it one word, that the line
 -- is alive; no other event tells it anything
 abbrev pub IsSettledBy : Event → List Told → Type 0
-IsSettledBy (message m text) ts = (ts ≡ [])
-    ⊎ ((t : Told) × (us : List Told) × (ts ≡ (t ∷ us) ++ settled ∷ []) × (list_any is_word (t ∷ us) ≡ false))
+IsSettledBy (message m text) ts = (ts ≡ []) ⊎ ((t : Told) × (us : List Told) × (ts ≡ (t ∷ us) ++ settled ∷ []) × (list_any is_word (t ∷ us) ≡ false))
 IsSettledBy ticked ts = ts ≡ alive ∷ []
 IsSettledBy e ts = ts ≡ []
 

@@ -23,8 +23,7 @@ passed s k = let o = step s k in if is_accepted (reply_in o.lines) then Some o.s
 
 -- an entry is run in a session that is begun for its role and finished behind it
 abbrev pub replayed : State → Entry → Option State
-replayed s e =
-    option_and_then (λ t. option_and_then (λ u. passed u (in_session entry_session finish)) (passed t (in_session entry_session e.act)))
+replayed s e = option_and_then (λ t. option_and_then (λ u. passed u (in_session entry_session finish)) (passed t (in_session entry_session e.act)))
     (passed s (in_session entry_session (begin e.role)))
 
 abbrev pub all_replayed : State → List Entry → Option State

@@ -59,8 +59,8 @@ pub fn nothing_is_read_for_nobody()
     requests_open_what_they_name();
 }
 
-/// In whatever runs, over restarts: the machine's sessions are those that the gateway has begun, each in its role. Each feed is open in the
-/// machine, in a session of its role, to its relation, and a role reads a relation by one feed.
+/// In whatever runs, over restarts: the machine's sessions are those that the gateway has begun, each in its role, of which some client
+/// is. Each feed is open in the machine, in a session of its role, to its relation, and a role reads a relation by one feed.
 pub fn sessions_and_feeds_are_the_machines()
     ensures { (cap : ℕ) (g : Gate) → Runs cap g → KnowsMachine g }
 {

@@ -11,6 +11,7 @@ use Rattle.std.proofs.lemmas.Map.Keys.{IsDistinct-cons, IsDistinct-from_apart, I
 use Rattle.std.proofs.lemmas.Map.Views.{Contains-from_any}
 use Rattle.iv_rows.specs.Options.{if_some}
 use Rattle.iv_clients.specs.Clients.{client_at}
+use Rattle.iv_clients.proofs.Slots.{any_there, one_there}
 use Rattle.iv_hall.specs.Listing.{AreListed}
 use Rattle.iv_hall.specs.Readers.{HasJoined, HasQuit, Readers, readers_of}
 use Rattle.iv_hall.proofs.Walked.{found}
@@ -146,7 +147,7 @@ joins_at rs feed at n r now e is same = record {
         (subst (λ ns. Contains ns m) (sym after) (has_others n r.numbers m (subst (λ ns. Contains ns m) (ap (readers_of rs) x ∙ of_feed rs feed at r e is) c)))
     kept k m c (inr x) = subst (λ ns. Contains ns m) (sym (of_other_set rs feed at r now k e is (ap (λ (z : Readers). z.feed) same) x)) c
 
-nobody : (m : ℕ) → Contains [] m → ⊥
+pub nobody : (m : ℕ) → Contains [] m → ⊥
 nobody m c = let h = c.1 in omega (arith, h)
 
 -- where the feed has no list yet
@@ -222,37 +223,14 @@ others_left (r ∷ rs) feed k ne = by (cases_Bool (feed == r.feed)) (others_left
 
 -- ---- whether somebody follows
 
-any_of : {C : Type 0} (p : C → Bool) (xs : List (Option C)) (m : ℕ) → if_some (client_at xs m) false p ≡ true → list_any (λ x. if_some x false p) xs ≡ true
-any_of p [] m h = absurd (false≢true h)
-any_of p (x ∷ xs) zero h = or_left (if_some x false p) (list_any (λ y. if_some y false p) xs) h
-any_of p (x ∷ xs) (suc m) h = or_right (if_some x false p) (list_any (λ y. if_some y false p) xs) (any_of p xs m h)
-
 any_numbers : {C : Type 0} (p : C → Bool) (xs : List (Option C)) (ns : List ℕ) → list_any (λ n. if_some (client_at xs n) false p) ns ≡ true → list_any (λ x. if_some x false p) xs ≡ true
 any_numbers p xs [] h = absurd (false≢true h)
 any_numbers p xs (n ∷ ns) h = by (or_cases (if_some (client_at xs n) false p) (list_any (λ m. if_some (client_at xs m) false p) ns) h) (λ e. any_numbers p xs ns e)
   where
     by : (if_some (client_at xs n) false p ≡ true) ⊎ (list_any (λ m. if_some (client_at xs m) false p) ns ≡ true) → (list_any (λ m. if_some (client_at xs m) false p) ns ≡ true → list_any (λ x. if_some x false p) xs ≡ true)
         → list_any (λ x. if_some x false p) xs ≡ true
-    by (inl e) rest = any_of p xs n e
+    by (inl e) rest = any_there p xs n e
     by (inr e) rest = rest e
-
-pub record IsOne {C : Type 0} (p : C → Bool) (xs : List (Option C)) : Type 0 where
-  pub number : ℕ
-  pub client : C
-  pub there : client_at xs number ≡ Some client
-  pub is : p client ≡ true
-
-one_first : {C : Type 0} (p : C → Bool) (o : Option C) (xs : List (Option C)) → if_some o false p ≡ true → IsOne p (o ∷ xs)
-one_first p None xs h = absurd (false≢true h)
-one_first p (Some c) xs h = record { number = zero; client = c; there = refl; is = h }
-
-one_of : {C : Type 0} (p : C → Bool) (xs : List (Option C)) → list_any (λ x. if_some x false p) xs ≡ true → IsOne p xs
-one_of p [] h = absurd (false≢true h)
-one_of p (x ∷ xs) h = by (or_cases (if_some x false p) (list_any (λ y. if_some y false p) xs) h) (λ e. one_of p xs e)
-  where
-    by : (if_some x false p ≡ true) ⊎ (list_any (λ y. if_some y false p) xs ≡ true) → (list_any (λ y. if_some y false p) xs ≡ true → IsOne p xs) → IsOne p (x ∷ xs)
-    by (inl e) rest = one_first p x xs e
-    by (inr e) rest = let w = rest e in record { number = suc w.number; client = w.client; there = w.there; is = w.is }
 
 in_numbers : (q : ℕ → Bool) (ns : List ℕ) (m : ℕ) → list_any (eqb m) ns ≡ true → q m ≡ true → list_any q ns ≡ true
 in_numbers q [] m h k = h
@@ -271,6 +249,6 @@ any_listed p ns xs listed = by (cases_Bool (list_any (λ n. if_some (client_at x
     by (inl e) d = e ∙ sym (any_numbers p xs ns e)
     by (inr e) (inr d) = e ∙ sym d
     by (inr e) (inl d) =
-        let w = one_of p xs d in
-        let c = listed w.number w.client w.there w.is in
-        absurd (false≢true (sym e ∙ in_numbers (λ n. if_some (client_at xs n) false p) ns w.number (found w.number ns c.0 c.1 c.2) (ap (λ o. if_some o false p) w.there ∙ w.is)))
+        let w = one_there p xs d in
+        let c = listed w.number w.client w.there w.so in
+        absurd (false≢true (sym e ∙ in_numbers (λ n. if_some (client_at xs n) false p) ns w.number (found w.number ns c.0 c.1 c.2) (ap (λ o. if_some o false p) w.there ∙ w.so)))

@@ -4,7 +4,6 @@ pub mod Halls
 pub mod Heard
 pub mod Joined
 pub mod Placed
-pub mod Placing
 pub mod Quiet
 pub mod Stayed
 pub mod Walked

@@ -1,11 +1,11 @@
 -- Which numbers are in the list, as one comes into it or leaves it.
-use Rattle.std.proofs.Common.{List, [], ap, arith, eqb, get_or, inl, inr, length, refl, subst, sym, take, ℕ, ◌++◌, ◌+◌, ◌<◌, ◌∙◌, ◌∷◌, ◌≡◌, ◌≤◌, ◌⊎◌}
+use Rattle.std.proofs.Common.{Bool, true, false, List, [], ap, arith, eqb, get_or, inl, inr, length, refl, subst, sym, take, ℕ, ◌++◌, ◌+◌, ◌<◌, ◌∙◌, ◌∷◌, ◌≡◌, ◌≤◌, ◌⊎◌}
 use Rattle.std.specs.List.{Contains, IsDistinct}
-use Rattle.std.proofs.lemmas.Bool.{cases_eq, ne_eqb}
+use Rattle.std.proofs.lemmas.Bool.{cases_eq, cases_lt, false≢true, ne_eqb}
 use Rattle.std.proofs.lemmas.List.{get_or_default, get_or-take, length-take-le, take_more}
 use Rattle.std.proofs.lemmas.List.Elements.{Contains-append_left, Contains-push, Contains-push_cases}
 use Rattle.std.proofs.lemmas.Map.Keys.{IsDistinct-from_apart}
-use Rattle.iv_hall.specs.Numbers.{HasGained, HasGainedAll, HasLost, IsExchanged, IsOrder, Numbers}
+use Rattle.iv_hall.specs.Numbers.{AreSet, HasGained, HasGainedAll, HasLost, IsExchanged, IsOrder, Numbers}
 
 -- ---- which are in the list
 
@@ -93,6 +93,81 @@ lost order places now after count n w lc ln below x = record {
 -- a number that is not in front is not in the list
 pub not_in : (order places : List ℕ) (count n : ℕ) → IsOrder order places → count ≤ length order → (n < length order → count ≤ get_or places n 0) → Contains (take count order) n → ⊥
 not_in order places count n w lc above c = let p = front_place order places count n w lc c in let h = above p.0 in omega (arith, p.1, h)
+
+-- ---- one is set, or each of some
+
+pub set_in : (n : ℕ) (is : Bool) (old new : Numbers) → is ≡ true → HasGained n old new → AreSet (λ m. m ≡ n) (λ m. is) old new
+set_in n is old new e g = record {
+  size = g.size;
+  put = λ m same t l. subst (Contains new.list) (sym same) (g.put (omega (arith, same, l)));
+  only = λ m same c. e;
+  kept = λ m ne c. g.kept m c;
+  others = λ m ne c. by m ne (g.only m c);
+}
+  where
+    by : (m : ℕ) → (m ≡ n → ⊥) → Contains old.list m ⊎ (m ≡ n) → Contains old.list m
+    by m ne (inl c) = c
+    by m ne (inr same) = absurd (ne same)
+
+pub set_out : (n : ℕ) (is : Bool) (old new : Numbers) → is ≡ false → HasLost n old new → AreSet (λ m. m ≡ n) (λ m. is) old new
+set_out n is old new e g = record {
+  size = g.size;
+  put = λ m same t l. absurd (false≢true (sym e ∙ t));
+  only = λ m same c. absurd (g.gone (subst (Contains new.list) same c));
+  kept = g.kept;
+  others = λ m ne c. g.only m c;
+}
+
+-- by a test of the number
+pub set_by : (n : ℕ) (b : Bool) (is : ℕ → Bool) (old new : Numbers) → b ≡ is n → AreSet (λ m. m ≡ n) (λ m. b) old new → AreSet (λ m. m ≡ n) is old new
+set_by n b is old new e s = record {
+  size = s.size;
+  put = λ m same t l. s.put m same (e ∙ (ap is (sym same) ∙ t)) l;
+  only = λ m same c. ap is same ∙ (sym e ∙ s.only m same c);
+  kept = s.kept;
+  others = s.others;
+}
+
+pub set_none : (W : ℕ → Type 0) (is : ℕ → Bool) (old : Numbers) → ((m : ℕ) → W m → ⊥) → AreSet W is old old
+set_none W is old never = record { size = refl; put = λ m w t l. absurd (never m w); only = λ m w c. absurd (never m w); kept = λ m ne c. c; others = λ m ne c. c }
+
+-- some, and one more
+pub set_more : (W X : ℕ → Type 0) (n : ℕ) (is : ℕ → Bool) (old mid new : Numbers) → ((m : ℕ) → X m → W m ⊎ (m ≡ n)) → ((m : ℕ) → W m → X m) → X n → AreSet W is old mid → AreSet (λ m. m ≡ n) is mid new → AreSet X is old new
+set_more W X n is old mid new parts first last a b = record {
+  size = b.size ∙ a.size;
+  put = λ m x t l. put m t l (parts m x) (cases_eq m n);
+  only = λ m x c. only m c (parts m x) (cases_eq m n);
+  kept = λ m nx c. b.kept m (λ e. nx (subst X (sym e) last)) (a.kept m (λ w. nx (first m w)) c);
+  others = λ m nx c. a.others m (λ w. nx (first m w)) (b.others m (λ e. nx (subst X (sym e) last)) c);
+}
+  where
+    put : (m : ℕ) → is m ≡ true → m < old.size → W m ⊎ (m ≡ n) → (m ≡ n) ⊎ (m ≡ n → ⊥) → Contains new.list m
+    put m t l w (inl e) = b.put m e t (omega (arith, l, a.size))
+    put m t l (inl w) (inr ne) = b.kept m ne (a.put m w t l)
+    put m t l (inr e) (inr ne) = absurd (ne e)
+
+    only : (m : ℕ) → Contains new.list m → W m ⊎ (m ≡ n) → (m ≡ n) ⊎ (m ≡ n → ⊥) → is m ≡ true
+    only m c w (inl e) = b.only m e c
+    only m c (inl w) (inr ne) = a.only m w (b.others m ne c)
+    only m c (inr e) (inr ne) = absurd (ne e)
+
+pub set_next : (ns : List ℕ) (i : ℕ) (is : ℕ → Bool) (old before now : Numbers) → i < length ns → AreSet (Contains (take i ns)) is old before → AreSet (λ m. m ≡ get_or ns i 0) is before now → AreSet (Contains (take (i + 1) ns)) is old now
+set_next ns i is old before now lt a b =
+    set_more (Contains (take i ns)) (Contains (take (i + 1) ns)) (get_or ns i 0) is old before now
+    (λ m c. by m (Contains-push_cases (take i ns) (get_or ns i 0) m (subst (λ z. Contains z m) (take_more ns i 0 lt) c)))
+    (λ m c. subst (λ z. Contains z m) (sym (take_more ns i 0 lt)) (Contains-append_left (take i ns) (get_or ns i 0 ∷ []) m c))
+    (subst (λ z. Contains z (get_or ns i 0)) (sym (take_more ns i 0 lt)) (Contains-push (take i ns) (get_or ns i 0))) a b
+  where
+    by : (m : ℕ) → Contains (take i ns) m ⊎ (get_or ns i 0 ≡ m) → Contains (take i ns) m ⊎ (m ≡ get_or ns i 0)
+    by m (inl c) = inl c
+    by m (inr e) = inr (sym e)
+
+pub set_below : (n : ℕ) (is : ℕ → Bool) (old before now : Numbers) → AreSet (λ m. m < n) is old before → AreSet (λ m. m ≡ n) is before now → AreSet (λ m. m < (n + 1)) is old now
+set_below n is old before now a b = set_more (λ m. m < n) (λ m. m < (n + 1)) n is old before now (λ m l. by m l (cases_lt m n)) (λ m l. omega (arith, l)) (omega arith) a b
+  where
+    by : (m : ℕ) → m < (n + 1) → (m < n) ⊎ (n ≤ m) → (m < n) ⊎ (m ≡ n)
+    by m l (inl h) = inl h
+    by m l (inr h) = inr (omega (arith, l, h))
 
 -- ---- a list of them comes in
 

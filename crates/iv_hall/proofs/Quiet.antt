@@ -1,8 +1,8 @@
 -- Clients to whom something is done that leaves them as they were, or of whom less is so than before.
-use Rattle.std.proofs.Common.{◌≡◌, ◌∙◌, ◌⊎◌, inl, inr, ℕ, suc, ◌+◌, Bool, true, false, ◌||◌, cond, not, List, [], ◌∷◌, ◌++◌, length, map, filter, refl, ap, sym, arith, append-nil}
+use Rattle.std.proofs.Common.{◌≡◌, ◌∙◌, ◌⊎◌, inl, inr, ℕ, suc, ◌+◌, Bool, true, false, ◌||◌, cond, not, List, [], ◌∷◌, ◌++◌, length, map, filter, refl, ap, sym, arith, append-nil, length-append}
 use Rattle.std.specs.Prelude.{◌==◌, bytes_eq, flat_map, nat_lt}
 use Rattle.std.specs.List.{list_any}
-use Rattle.std.proofs.lemmas.Bool.{cases_Bool, eqb-true, false≢true, not-false, or_cases, or_left, or_parts, or_right}
+use Rattle.std.proofs.lemmas.Bool.{cases_Bool, eq-eqb, eqb-true, false≢true, not-false, or_cases, or_left, or_parts, or_right}
 use Rattle.std.proofs.lemmas.List.Folds.{list_any-append}
 use Rattle.iv_access.specs.Rights.{Name}
 use Rattle.iv_machine.specs.Act.{Line}
@@ -54,6 +54,46 @@ released_quiet k h =
 
     count : IsQuiet k → k.piled + k.brought ≡ k.piled
     count q = omega (arith, q.brought)
+
+full : {A : Type 0} (xs ys : List A) → (not (length xs == 0) || not (length ys == 0)) ≡ true → not (length (xs ++ ys) == 0) ≡ true
+full xs ys h = by (cases_Bool (length (xs ++ ys) == 0))
+  where
+    by : ((length (xs ++ ys) == 0) ≡ true) ⊎ ((length (xs ++ ys) == 0) ≡ false) → not (length (xs ++ ys) == 0) ≡ true
+    by (inr e) = ap not e
+    by (inl e) =
+        let none = eqb-true (length (xs ++ ys)) 0 e in let both = length-append xs ys in
+        let a : length xs ≡ 0 = omega (arith, none, both) in let b : length ys ≡ 0 = omega (arith, none, both) in
+        absurd (false≢true (sym (λ i. not (eq-eqb (length xs) 0 a i) || not (eq-eqb (length ys) 0 b i)) ∙ h))
+
+more : (a b : ℕ) → (not (b == 0) || not (a == 0)) ≡ true → not ((a + b) == 0) ≡ true
+more a b h = by (cases_Bool ((a + b) == 0))
+  where
+    by : (((a + b) == 0) ≡ true) ⊎ (((a + b) == 0) ≡ false) → not ((a + b) == 0) ≡ true
+    by (inr e) = ap not e
+    by (inl e) =
+        let none = eqb-true (a + b) 0 e in let x : a ≡ 0 = omega (arith, none) in let y : b ≡ 0 = omega (arith, none) in
+        absurd (false≢true (sym (λ i. not (eq-eqb b 0 y i) || not (eq-eqb a 0 x i)) ∙ h))
+
+-- who was told something is told something when it is released
+pub released_told : (k : Kept) → is_told k ≡ true → is_told (releasing k) ≡ true
+released_told k h = by (k.dropped || nat_lt most_piled k.piled) refl
+  where
+    waits : (d s u b p : Bool) → d ≡ false → ((d || s) || (u || (b || p))) ≡ true → ((s || u) ≡ true) ⊎ ((b || p) ≡ true)
+    waits d true u b p e i = inl refl
+    waits d false true b p e i = inl refl
+    waits d false false b p e i = inr (ap (λ z. (z || false) || (false || (b || p))) (sym e) ∙ i)
+
+    kept : k.dropped ≡ false → ((not (length k.sendable == 0) || not (length k.unsynced == 0)) ≡ true) ⊎ ((not (k.brought == 0) || not (k.piled == 0)) ≡ true)
+        → is_told (record k { unsynced = []; sendable = k.sendable ++ k.unsynced; brought = 0; piled = k.piled + k.brought }) ≡ true
+    kept d (inl e) = or_left (k.dropped || not (length (k.sendable ++ k.unsynced) == 0)) _ (or_right k.dropped (not (length (k.sendable ++ k.unsynced) == 0)) (full k.sendable k.unsynced e))
+    kept d (inr e) = or_right (k.dropped || not (length (k.sendable ++ k.unsynced) == 0)) _ (more k.piled k.brought e)
+
+    by : (b : Bool) → (k.dropped || nat_lt most_piled k.piled) ≡ b
+        → is_told (cond b (letting_go k) (record k { unsynced = []; sendable = k.sendable ++ k.unsynced; brought = 0; piled = k.piled + k.brought })) ≡ true
+    by true e = refl
+    by false e =
+        let d = (or_parts k.dropped (nat_lt most_piled k.piled) e).0 in
+        kept d (waits k.dropped (not (length k.sendable == 0)) (not (length k.unsynced == 0)) (not (k.brought == 0)) (not (k.piled == 0)) d h)
 
 -- who is told something was told something before
 pub told_before : (f : Kept → Kept) (k : Kept) → (is_told k ≡ false → f k ≡ k) → is_told (f k) ≡ true → is_told k ≡ true

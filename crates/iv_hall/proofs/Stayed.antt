@@ -15,7 +15,7 @@ use Rattle.iv_hall.specs.Listing.{AreListed, walked}
 use Rattle.iv_hall.specs.Numbers.{Numbers}
 use Rattle.iv_hall.specs.Readers.{Readers, readers_of}
 use Rattle.iv_hall.proofs.Each.{both_all, same_all, still_all}
-use Rattle.iv_hall.proofs.Halls.{hall_all}
+use Rattle.iv_hall.proofs.Halls.{hall_all, told_all}
 use Rattle.iv_hall.proofs.Joined.{others_left}
 use Rattle.iv_hall.proofs.Quiet.{follows_fewer}
 use Rattle.iv_hall.proofs.Walked.{walked_all}
@@ -69,6 +69,7 @@ stays most xs ys owing telling reading left k l h e is gone =
     (λ m c there x. h.owed m c there x)
     (λ m c there x. h.told m c there x)
     (λ feed m c there x. by feed m c there x (cases_eq feed k))
+    (told_all (keeping_on (l ∷ [])) xs telling.list (λ c x. x) h.only)
   where
     by : (feed m : ℕ) (c : Kept) → client_at xs m ≡ Some c → is_following feed (keeping_on (l ∷ []) c) ≡ true → (feed ≡ k) ⊎ (feed ≡ k → ⊥) → Contains (readers_of left feed) m
     by feed m c there x (inl y) = absurd (false≢true (sym (none_follow k l c.subs e) ∙ subst (λ z. list_any (λ (s : Sub). z == s.feed) (filter (λ (s : Sub). not (ends_in (l ∷ []) s.feed)) c.subs) ≡ true) y x))

@@ -1,5 +1,5 @@
 -- Some of the numbers below a size, each once.
-use Rattle.std.specs.Prelude.{◌≡◌, ◌<◌, ◌⊎◌, ℕ, List, length, slice_index}
+use Rattle.std.specs.Prelude.{◌≡◌, ◌<◌, ◌⊎◌, ℕ, Bool, true, List, length, slice_index}
 use Rattle.std.specs.List.{Contains}
 
 pub record Numbers : Type 0 where
@@ -20,17 +20,20 @@ pub record HasGainedAll (ns : List ℕ) (old new : Numbers) : Type 0 where
   pub kept : (m : ℕ) → Contains old.list m → Contains new.list m
   pub only : (m : ℕ) → Contains new.list m → Contains old.list m ⊎ Contains ns m
 
--- all numbers below the size
-pub record IsFull (n : ℕ) (now : Numbers) : Type 0 where
-  pub size : now.size ≡ n
-  pub all : (m : ℕ) → m < n → Contains now.list m
-
 -- one number less
 pub record HasLost (n : ℕ) (old new : Numbers) : Type 0 where
   pub size : new.size ≡ old.size
   pub gone : Contains new.list n → ⊥
   pub kept : (m : ℕ) → (m ≡ n → ⊥) → Contains old.list m → Contains new.list m
   pub only : (m : ℕ) → Contains new.list m → Contains old.list m
+
+-- of some of the numbers those are in of which it is so, if they are below the size, and no others; all the rest are as before
+pub record AreSet (which : ℕ → Type 0) (is : ℕ → Bool) (old new : Numbers) : Type 0 where
+  pub size : new.size ≡ old.size
+  pub put : (m : ℕ) → which m → is m ≡ true → m < old.size → Contains new.list m
+  pub only : (m : ℕ) → which m → Contains new.list m → is m ≡ true
+  pub kept : (m : ℕ) → (which m → ⊥) → Contains old.list m → Contains new.list m
+  pub others : (m : ℕ) → (which m → ⊥) → Contains new.list m → Contains old.list m
 
 -- ---- how they are kept
 

@@ -32,4 +32,5 @@ pub record HasLeft (n : ℕ) (old new : List Readers) : Type 0 where
 
 -- all but n read on, and n what it follows
 pub record HasKept (n : ℕ) (places : Places) (old new : List Readers) : Type 0 where
-  pub kept : (k m : ℕ) → ((m ≡ n) × (if_some (client_at places n) false (is_following k) ≡ false) → ⊥) → Contains (readers_of old k) m → Contains (readers_of new k) m
+  pub kept : (k m : ℕ) → ((m ≡ n) × (if_some (client_at places n) false (is_following k) ≡ false) → ⊥)
+      → Contains (readers_of old k) m → Contains (readers_of new k) m

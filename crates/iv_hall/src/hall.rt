@@ -1,12 +1,13 @@
 //! `Hall`: the clients by their numbers, with lists of those who were told something, and of those who follow each feed.
-ghost use Rattle.std.specs.Prelude.{◌≡◌, ◌≤◌, ◌∷◌, ℕ, [], true, length, map, IfOk, OnOk, None, Some, if◌then◌else◌, replicate, slice_set, string_bytes};
+ghost use Rattle.std.specs.Prelude.{◌≡◌, ◌≤◌, ◌<◌, ◌∷◌, ℕ, [], true, length, map, IfOk, OnOk, None, Some, if◌then◌else◌, replicate, slice_set, string_bytes};
 ghost use Rattle.std.specs.List.{Contains, IsDistinct};
 ghost use Rattle.std.proofs.Common.{eqb};
 ghost use Rattle.iv_rows.specs.Options.{if_some};
 ghost use Rattle.iv_command.specs.Views.{line_of};
 ghost use Rattle.iv_clients.specs.Clients.{at_all, at_client, client_at, is_free};
 ghost use Rattle.iv_clients.specs.Kept.{Kept, answering, asking, checking, coming, emptied, has_role_in, holding, holding_beat, holding_owed, is_due, is_followed_by, keeping_closed, keeping_moved, keeping_new, keeping_on, releasing};
-ghost use Rattle.iv_hall.specs.Hall.{IsUnlisted};
+ghost use Rattle.iv_hall.specs.Hall.{is_told_at};
+ghost use Rattle.iv_hall.specs.Numbers.{AreSet};
 ghost use Rattle.iv_hall.specs.Readers.{HasJoined};
 ghost use Rattle.iv_hall.specs.Hearing.{feed_told, hearing_for, hearing_line, hearing_lines};
 
@@ -24,9 +25,9 @@ use std::alloc::{AllocError, Global};
 use std::marker::Model;
 use std::slice;
 
-/// The clients by their numbers. `owed` has those who are owed that this is all; `told` those who were told something that they have not
-/// taken, or who are to go; `readers` those who follow each feed. A client of whom this is not so may be listed too. After an error nobody
-/// is left.
+/// The clients by their numbers. `told` has those who were told something that they have not taken, or who are to go, and nobody else.
+/// `owed` has those who are owed that this is all, and `readers` those who follow each feed; a client of whom this is not so may be there
+/// too. After an error nobody is left.
 #[derive(Drop)]
 pub struct Hall {
     most: u32,
@@ -81,9 +82,10 @@ impl Hall {
         &self.slots
     }
 
-    /// The numbers of those to whom something may be sent, or who are to go: all of them, each once. Others may be there too.
+    /// The numbers of those who were told something that they have not taken, or who are to go: all of them, each once, and no others.
     pub fn told(&self) -> &[u32]
         ensures listed { (m : ℕ) (k : Kept) → client_at self.now m ≡ Some k → is_due k ≡ true → Contains result.now m }
+        ensures only { (m : ℕ) → Contains result.now m → is_told_at self.now m ≡ true }
         ensures once { IsDistinct eqb result.now }
     {
         self.told.list()
@@ -121,12 +123,12 @@ impl Hall {
     )
         ensures { self.new ≡ slice_set self.old client (Some (coming (string_bytes role) digest.items text.items)) }
     {
-        self.told.insert(client);
         put_at(
             &mut self.slots,
             client,
             Some(Client::new(alloc, role, digest, text)),
         );
+        list_one(&mut self.told, &self.slots, client);
     }
 
     /// A client goes.
@@ -145,7 +147,7 @@ impl Hall {
         ensures hall { self.new ≡ at_client client emptied self.old }
     {
         let text = take_at(alloc, &mut self.slots, client);
-        unlist(&mut self.told, &self.slots, client);
+        list_one(&mut self.told, &self.slots, client);
         text
     }
 
@@ -154,11 +156,13 @@ impl Hall {
         ensures { OnOk result (self.new ≡ at_client client (holding text.now) self.old) }
     {
         self.owed.insert(client);
-        self.told.insert(client);
         match hold_at(&mut self.slots, client, text) {
-            Ok(()) => Ok(()),
+            Ok(()) => {
+                list_one(&mut self.told, &self.slots, client);
+                Ok(())
+            }
             Err(error) => {
-                self.slots.clear();
+                lose(&mut self.slots, &mut self.told);
                 Err(error)
             }
         }
@@ -171,7 +175,7 @@ impl Hall {
         match ask_at(&mut self.slots, client) {
             Ok(()) => Ok(()),
             Err(error) => {
-                self.slots.clear();
+                lose(&mut self.slots, &mut self.told);
                 Err(error)
             }
         }
@@ -181,8 +185,8 @@ impl Hall {
     pub fn answered(&mut self, client: u32, brought: u64)
         ensures { self.new ≡ at_client client (answering brought) self.old }
     {
-        self.told.insert(client);
         answered_at(&mut self.slots, client, brought);
+        list_one(&mut self.told, &self.slots, client);
     }
 
     /// A client follows a feed, under its next number.
@@ -192,7 +196,7 @@ impl Hall {
         match follow_in(alloc, &mut self.slots, &mut self.readers, client, feed) {
             Ok(()) => Ok(()),
             Err(error) => {
-                self.slots.clear();
+                lose(&mut self.slots, &mut self.told);
                 Err(error)
             }
         }
@@ -215,7 +219,7 @@ impl Hall {
                 Ok(())
             }
             Err(error) => {
-                self.slots.clear();
+                lose(&mut self.slots, &mut self.told);
                 Err(error)
             }
         }
@@ -234,14 +238,14 @@ impl Hall {
     pub fn settle(&mut self, text: &[u8]) -> Result<(), AllocError>
         ensures { OnOk result (self.new ≡ at_all (holding_owed text.now) self.old) }
     {
-        self.told.insert_all(self.owed.list());
         match settle_listed(&mut self.slots, self.owed.list(), text) {
             Ok(()) => {
+                list_some(&mut self.told, &self.slots, self.owed.list());
                 self.owed.clear();
                 Ok(())
             }
             Err(error) => {
-                self.slots.clear();
+                lose(&mut self.slots, &mut self.told);
                 Err(error)
             }
         }
@@ -251,11 +255,13 @@ impl Hall {
     pub fn beat(&mut self, text: &[u8]) -> Result<(), AllocError>
         ensures { OnOk result (self.new ≡ at_all (holding_beat text.now) self.old) }
     {
-        self.told.fill();
         match beat_all(&mut self.slots, text) {
-            Ok(()) => Ok(()),
+            Ok(()) => {
+                list_all(&mut self.told, &self.slots, self.most);
+                Ok(())
+            }
             Err(error) => {
-                self.slots.clear();
+                lose(&mut self.slots, &mut self.told);
                 Err(error)
             }
         }
@@ -268,7 +274,7 @@ impl Hall {
         match release_listed(&mut self.slots, self.told.list()) {
             Ok(()) => Ok(()),
             Err(error) => {
-                self.slots.clear();
+                lose(&mut self.slots, &mut self.told);
                 Err(error)
             }
         }
@@ -278,8 +284,8 @@ impl Hall {
     pub fn check(&mut self, tokens: &[Token])
         ensures { self.new ≡ at_all (checking tokens.now) self.old }
     {
-        self.told.fill();
         check_all(&mut self.slots, tokens);
+        list_all(&mut self.told, &self.slots, self.most);
     }
 
     /// Has all who follow a feed told a line of it.
@@ -295,11 +301,13 @@ impl Hall {
     {
         let numbers = readers_of(&self.readers, feed);
         self.owed.insert_all(numbers);
-        self.told.insert_all(numbers);
         match hear_listed(alloc, &mut self.slots, numbers, feed, line, rel) {
-            Ok(()) => Ok(()),
+            Ok(()) => {
+                list_some(&mut self.told, &self.slots, numbers);
+                Ok(())
+            }
             Err(error) => {
-                self.slots.clear();
+                lose(&mut self.slots, &mut self.told);
                 Err(error)
             }
         }
@@ -368,11 +376,36 @@ fn follow_in(
     Ok(())
 }
 
-/// Takes a client out of the list who is told nothing and is not to go.
-fn unlist(told: &mut Numbers, clients: &[Option<Client>], client: u32)
-    ensures { IsUnlisted client clients.now told.old told.new }
+/// Lists a client if it was told something or is to go, and else takes it out.
+fn list_one(told: &mut Numbers, clients: &[Option<Client>], client: u32)
+    ensures { AreSet (λ m. m ≡ client) (is_told_at clients.now) told.old told.new }
 {
-    if !is_told_at(clients, client) {
-        told.remove(client);
+    told.set(client, is_told_at(clients, client));
+}
+
+/// Lists those of some numbers who were told something or are to go, and takes the others of them out.
+fn list_some(told: &mut Numbers, clients: &[Option<Client>], numbers: &[u32])
+    ensures { AreSet (Contains numbers.now) (is_told_at clients.now) told.old told.new }
+{
+    for number in numbers {
+        list_one(told, clients, *number);
     }
+}
+
+/// Lists all who were told something or are to go, and takes all others out.
+fn list_all(told: &mut Numbers, clients: &[Option<Client>], most: u32)
+    ensures { AreSet (λ m. m < most) (is_told_at clients.now) told.old told.new }
+{
+    for number in 0..most {
+        list_one(told, clients, number);
+    }
+}
+
+/// Nobody is left.
+fn lose(clients: &mut Vec<Option<Client>>, told: &mut Numbers)
+    ensures clients { clients.new.items ≡ [] }
+    ensures told { told.new ≡ record { list = []; size = told.old.size } }
+{
+    clients.clear();
+    told.clear();
 }

@@ -2,7 +2,7 @@
 ghost use Rattle.std.specs.Prelude.{◌≡◌, ◌<◌, [], IfOk, length};
 ghost use Rattle.std.specs.List.{IsDistinct};
 ghost use Rattle.std.proofs.Common.{eqb};
-ghost use Rattle.iv_hall.specs.Numbers.{HasGained, HasGainedAll, HasLost, IsExchanged, IsFull, IsOrder};
+ghost use Rattle.iv_hall.specs.Numbers.{AreSet, HasGained, HasGainedAll, HasLost, IsExchanged, IsOrder};
 
 use std::alloc::{AllocError, Global};
 use std::marker::Model;
@@ -93,13 +93,6 @@ impl Numbers {
         }
     }
 
-    /// Puts in all numbers below the size.
-    pub(crate) fn fill(&mut self)
-        ensures { IsFull self.old.size self.new }
-    {
-        self.count = self.order.len();
-    }
-
     /// Takes a number out. The last one stands in its place.
     pub(crate) fn remove(&mut self, number: u32)
         ensures { HasLost number self.old self.new }
@@ -110,6 +103,17 @@ impl Numbers {
                 self.count -= 1;
                 exchange(&mut self.order, &mut self.places, number, self.count);
             }
+        }
+    }
+
+    /// Puts a number in, if it is to be in and is below the size, or takes it out.
+    pub(crate) fn set(&mut self, number: u32, is_in: bool)
+        ensures { AreSet (λ m. m ≡ number) (λ m. is_in) self.old self.new }
+    {
+        if is_in {
+            self.insert(number);
+        } else {
+            self.remove(number);
         }
     }
 

@@ -60,7 +60,10 @@ impl Readers {
 
     /// One number more.
     fn insert(&mut self, number: u32) -> Result<(), AllocError>
-        ensures { OnOk result (self.new ≡ record { feed = self.old.feed; numbers = if list_any (eqb number) self.old.numbers then self.old.numbers else self.old.numbers ++ number ∷ [] }) }
+        ensures { OnOk result (self.new ≡ record {
+          feed = self.old.feed;
+          numbers = if list_any (eqb number) self.old.numbers then self.old.numbers else self.old.numbers ++ number ∷ [];
+        }) }
     {
         if !has_number(&self.numbers, number) {
             self.numbers.push(number)?;

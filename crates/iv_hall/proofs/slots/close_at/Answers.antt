@@ -1,6 +1,6 @@
 use Rattle.std.proofs.Common.{arith}
 use Rattle.std.proofs.lemmas.Grind.{common_steps}
-use Rattle.iv_hall.proofs.Placing.{at_client-past, at_client-set}
+use Rattle.iv_clients.proofs.Slots.{at_client-past, at_client-set}
 use Rattle.iv_hall.proofs.slots.close_at.Goals as goal
 
 pub returns-in_default : goal.returns-in_default

@@ -1,7 +1,7 @@
 use Rattle.std.proofs.Common.{arith}
 use Rattle.std.proofs.lemmas.Grind.{common_steps}
 use Rattle.iv_clients.specs.Kept.{holding_owed}
-use Rattle.iv_hall.proofs.Placing.{at_client-past, at_client-set}
+use Rattle.iv_clients.proofs.Slots.{at_client-past, at_client-set}
 use Rattle.iv_hall.proofs.slots.settle_at.Goals as goal
 
 pub returns-in-None : goal.returns-in-None

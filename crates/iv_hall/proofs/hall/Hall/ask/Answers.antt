@@ -8,7 +8,7 @@ pub invariant_of-self : goal.invariant_of-self
 invariant_of-self c = asks c.self.inside.most c.self.inside.slots.items _ c.self.inside.owed c.self.inside.told c.self.inside.readers.items c.args.client c.self.invariant c.in-Ok.ensures
 
 pub invariant_of-self-in-Err : goal.invariant_of-self-in-Err
-invariant_of-self-in-Err c = fails c.self.inside.most c.self.inside.slots.items _ c.self.inside.owed c.self.inside.owed c.self.inside.told c.self.inside.told c.self.inside.readers.items _ c.self.invariant (refl) (refl) c.clear.ensures.items
+invariant_of-self-in-Err c = fails c.self.inside.most c.self.inside.slots.items _ c.self.inside.owed c.self.inside.owed c.self.inside.told c.lose.new.told c.self.inside.readers.items _ c.self.invariant refl c.lose.ensures.told c.lose.ensures.clients
 
 pub returns-in-Ok : goal.returns-in-Ok
 returns-in-Ok c = c.in-Ok.ensures ∙ ap (at_client c.args.client asking) c.self.view_is

@@ -1,9 +1,11 @@
-use Rattle.std.proofs.Common.{◌∙◌, Some, ap, set, string_bytes}
+use Rattle.std.proofs.Common.{◌∙◌, Some, ap, set, string_bytes, ◌≡◌, subst, refl}
 use Rattle.iv_hall.proofs.Calls.{enters}
+use Rattle.iv_hall.specs.Numbers.{AreSet}
+use Rattle.iv_hall.specs.Hall.{is_told_at}
 use Rattle.iv_hall.proofs.hall.Hall.enter.Goals as goal
 
 pub invariant_of-self : goal.invariant_of-self
-invariant_of-self c = enters c.self.inside.most c.self.inside.slots.items _ c.self.inside.owed c.self.inside.told c.insert.new.self c.self.inside.readers.items c.args.client (string_bytes c.args.role) c.args.digest.items c.args.text.items c.self.invariant c.insert.ensures (c.put_at.ensures ∙ ap (λ k. set c.self.inside.slots.items c.args.client (Some k)) c.new.ensures)
+invariant_of-self c = enters c.self.inside.most c.self.inside.slots.items _ c.self.inside.owed c.self.inside.told c.list_one.new.told c.self.inside.readers.items c.args.client (string_bytes c.args.role) c.args.digest.items c.args.text.items c.self.invariant (subst (λ z. AreSet (λ m. m ≡ c.args.client) (is_told_at z) c.self.inside.told c.list_one.new.told) c.deref.ensures.value c.list_one.ensures) (c.put_at.ensures ∙ ap (λ k. set c.self.inside.slots.items c.args.client (Some k)) c.new.ensures)
 
 pub returns : goal.returns
 returns c = c.put_at.ensures ∙ ((λ i. set (c.self.view_is i) c.args.client (Some (c.new.ensures i))))

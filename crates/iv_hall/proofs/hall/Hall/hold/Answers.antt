@@ -1,14 +1,16 @@
-use Rattle.std.proofs.Common.{◌∙◌, ap}
+use Rattle.std.proofs.Common.{◌∙◌, ap, ◌≡◌, subst, refl}
 use Rattle.iv_clients.specs.Clients.{at_client}
 use Rattle.iv_clients.specs.Kept.{holding}
 use Rattle.iv_hall.proofs.Calls.{fails, holds}
+use Rattle.iv_hall.specs.Numbers.{AreSet}
+use Rattle.iv_hall.specs.Hall.{is_told_at}
 use Rattle.iv_hall.proofs.hall.Hall.hold.Goals as goal
 
 pub invariant_of-self : goal.invariant_of-self
-invariant_of-self c = holds c.self.inside.most c.self.inside.slots.items _ c.self.inside.owed c.insert.new.self c.self.inside.told c.insert-2.new.self c.self.inside.readers.items c.args.client c.args.text.now c.self.invariant c.insert.ensures c.insert-2.ensures c.in-Ok.ensures
+invariant_of-self c = holds c.self.inside.most c.self.inside.slots.items _ c.self.inside.owed c.insert.new.self c.self.inside.told c.list_one.new.told c.self.inside.readers.items c.args.client c.args.text.now c.self.invariant c.insert.ensures (subst (λ z. AreSet (λ m. m ≡ c.args.client) (is_told_at z) c.self.inside.told c.list_one.new.told) c.deref.ensures.value c.list_one.ensures) c.in-Ok.ensures
 
 pub invariant_of-self-in-Err : goal.invariant_of-self-in-Err
-invariant_of-self-in-Err c = fails c.self.inside.most c.self.inside.slots.items _ c.self.inside.owed c.insert.new.self c.self.inside.told c.insert-2.new.self c.self.inside.readers.items _ c.self.invariant (c.insert.ensures.size) (c.insert-2.ensures.size) c.clear.ensures.items
+invariant_of-self-in-Err c = fails c.self.inside.most c.self.inside.slots.items _ c.self.inside.owed c.insert.new.self c.self.inside.told c.lose.new.told c.self.inside.readers.items _ c.self.invariant c.insert.ensures.size c.lose.ensures.told c.lose.ensures.clients
 
 pub returns-in-Ok : goal.returns-in-Ok
 returns-in-Ok c = c.in-Ok.ensures ∙ ap (at_client c.args.client (holding c.args.text.now)) c.self.view_is

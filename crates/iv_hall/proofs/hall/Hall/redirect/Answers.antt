@@ -9,7 +9,7 @@ pub invariant_of-self : goal.invariant_of-self
 invariant_of-self c = redirects c.self.inside.most c.self.inside.slots.items _ c.self.inside.owed c.self.inside.told c.self.inside.readers.items c.join.new.readers.items _ c.args.client c.args.from c.args.to c.self.invariant c.in-Ok.ensures c.redirect_at.ensures (subst (λ z. HasKept c.args.client z c.join.new.readers.items c.quit_unfollowed.new.readers.items) c.deref.ensures.value c.quit_unfollowed.ensures)
 
 pub invariant_of-self-in-Err : goal.invariant_of-self-in-Err
-invariant_of-self-in-Err c = fails c.self.inside.most c.self.inside.slots.items _ c.self.inside.owed c.self.inside.owed c.self.inside.told c.self.inside.told c.self.inside.readers.items _ c.self.invariant (refl) (refl) c.clear.ensures.items
+invariant_of-self-in-Err c = fails c.self.inside.most c.self.inside.slots.items _ c.self.inside.owed c.self.inside.owed c.self.inside.told c.lose.new.told c.self.inside.readers.items _ c.self.invariant refl c.lose.ensures.told c.lose.ensures.clients
 
 pub returns-in-Ok : goal.returns-in-Ok
 returns-in-Ok c = c.redirect_at.ensures ∙ ap (at_client c.args.client (keeping_moved c.args.from c.args.to)) c.self.view_is
