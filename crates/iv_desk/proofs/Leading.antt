@@ -1,6 +1,5 @@
 -- What the contracts of a desk's calls name leads from a run to a run.
 use Rattle.std.proofs.Common.{◌≡◌, ℕ, Bool, true, false, cond, List, [], ◌∷◌, Option, Some, None, refl, ap, ◌∙◌, sym, subst}
-use Rattle.std.specs.Prelude.{codes}
 use Rattle.iv_rows.specs.Options.{if_some}
 use Rattle.iv_clients.specs.Clients.{Shown, client_at}
 use Rattle.iv_clients.specs.Tokens.{Token}
@@ -8,24 +7,27 @@ use Rattle.iv_gate.specs.Gate.{Gate}
 use Rattle.iv_gate.specs.Restoring.{Restores, gate_at_start}
 use Rattle.iv_gate.specs.Runs.{Runs}
 use Rattle.iv_peer.specs.Socket.{Socket}
-use Rattle.iv_desk.specs.Front.{Front, FrontRuns, at_socket, closes, dismissed, front_at_start, goes_on, hears, is_dropped, offered, offered_to, offers, socket_at, starts, turned_away, with_both}
+use Rattle.iv_desk.specs.Front.{Front, FrontRuns, at_socket, dismissed, dismisses, front_at_start, goes_on, hears, is_dropped, offered, offered_to, offers}
+use Rattle.iv_desk.specs.Front.{socket_at, starts, turned_away, with_both}
 use Rattle.iv_desk.specs.Desks.{IsHeardBy, at_each}
 use Rattle.iv_desk.specs.declared.place.Hearing.{Hearing}
 use Rattle.iv_desk.proofs.Slots.{nobody_there}
 use Rattle.iv_desk.proofs.OneNumber.{LeavesMarks, offered_alive}
 
-pub restored_runs : (cap most places : ℕ) (tokens : List Token) (sent : List Shown) (journal : List ℕ) (g : Gate) → Restores (gate_at_start cap tokens most sent) journal g → Runs cap g
+pub restored_runs : (cap most places : ℕ) (tokens : List Token) (sent : List Shown) (journal : List ℕ) (g : Gate)
+    → Restores (gate_at_start cap tokens most sent) journal g → Runs cap g
     → FrontRuns cap (front_at_start g places)
 restored_runs cap most places tokens sent journal g r runs = starts g places runs (λ m. ap (λ (x : Gate). client_at x.clients m) r.gate ∙ nobody_there most m)
 
-pub heard_runs : (cap m : ℕ) (d e : Front) (hearing : Hearing) → FrontRuns cap d → d.gate.dead ≡ false → IsHeardBy d m (socket_at d m) hearing e → FrontRuns cap e
+pub heard_runs : (cap m : ℕ) (d e : Front) (hearing : Hearing) → FrontRuns cap d → d.gate.dead ≡ false → IsHeardBy d m (socket_at d m) hearing e
+    → FrontRuns cap e
 heard_runs cap m d e hearing r a h = by (socket_at d m) refl h
   where
     by : (o : Option Socket) → socket_at d m ≡ o → IsHeardBy d m o hearing e → FrontRuns cap e
     by None k h = subst (FrontRuns cap) (sym h.1) r
     by (Some s) k h = subst (FrontRuns cap) (sym h.4) (goes_on d (with_both m h.0 h.1 d) r a (hears m s h.1 h.0 k h.2))
 
-front_alive : LeavesMarks → (m : ℕ) (d : Front) → d.gate.dead ≡ false → (offered m d).gate.dead ≡ false
+pub front_alive : LeavesMarks → (m : ℕ) (d : Front) → d.gate.dead ≡ false → (offered m d).gate.dead ≡ false
 front_alive k m d a = by (socket_at d m)
   where
     by : (o : Option Socket) → (if_some o d (λ s. with_both m (offered_to m d.gate s).0 (offered_to m d.gate s).1 d)).gate.dead ≡ false
@@ -38,8 +40,8 @@ offered_runs k cap (m ∷ ms) d r a = offered_runs k cap ms (offered m d) (goes_
 
 pub dismissed_runs : (cap : ℕ) (ms : List ℕ) (d : Front) → FrontRuns cap d → d.gate.dead ≡ false → FrontRuns cap (at_each dismissed ms d)
 dismissed_runs cap [] d r a = r
-dismissed_runs cap (m ∷ ms) d r a = let w = by (is_dropped d.gate m) in dismissed_runs cap ms (dismissed m d) w.0 w.1
+dismissed_runs cap (m ∷ ms) d r a = dismissed_runs cap ms (dismissed m d) (goes_on d (dismissed m d) r a (dismisses m)) (by (is_dropped d.gate m))
   where
-    by : (b : Bool) → FrontRuns cap (cond b (at_socket m turned_away d) d) × ((cond b (at_socket m turned_away d) d).gate.dead ≡ false)
-    by true = (goes_on d (at_socket m turned_away d) r a (closes m 4401 (codes "This token opens no role.") refl), a)
-    by false = (r, a)
+    by : (b : Bool) → (cond b (at_socket m turned_away d) d).gate.dead ≡ false
+    by true = a
+    by false = a

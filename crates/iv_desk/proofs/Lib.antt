@@ -1,7 +1,10 @@
 pub mod Slots
+pub mod Calling
 pub mod Presenting
 pub mod Serving
 pub mod OneNumber
 pub mod Standing
 pub mod Desking
 pub mod Leading
+pub mod Freeing
+pub mod Causing

@@ -1,10 +1,14 @@
 -- What is heard and offered at one number, by what the code answers.
-use Rattle.std.proofs.Common.{◌≡◌, ◌<◌, ℕ, String, Global, Bool, true, false, cond, not, ◌&&◌, ◌||◌, List, [], ◌∷◌, ◌++◌, length, Option, Some, None, is_some, refl, ap, ◌∙◌, sym, subst}
+use Rattle.std.proofs.Common.{◌≡◌, ◌<◌, ℕ, String, Global, Bool, true, false, cond, not, ◌&&◌, ◌||◌, List, [], ◌∷◌, ◌++◌, length, Option, Some, None, is_some}
+use Rattle.std.proofs.Common.{refl, ap, ◌∙◌, sym, subst}
 use Rattle.std.specs.Prelude.{◌==◌, codes, nat_lt, string_bytes}
 use Rattle.std.proofs.lemmas.Bool.{false≢true}
+use Rattle.sha2.specs.Sha256.{sha256}
 use Rattle.httparse.specs.Grammar.{HasNoRequest}
 use Rattle.websocket.specs.Content.{Content, text, binary, ping, pong, close}
 use Rattle.websocket.specs.Connection.{Connection, Effect}
+use Rattle.iv_access.specs.Rights.{Name}
+use Rattle.iv_clients.specs.Tokens.{role_opened}
 use Rattle.iv_gate.specs.Events.{Event, handed, message, next, presented}
 use Rattle.iv_gate.specs.Gate.{Gate, is_heard, role_for}
 use Rattle.iv_gate.specs.Laws.{marked}
@@ -12,15 +16,19 @@ use Rattle.iv_gate.specs.Laws as law
 use Rattle.iv_gateway.specs.Views.{IsGate}
 use Rattle.iv_gateway.specs.declared.gateway.Gateway.{Gateway}
 use Rattle.iv_peer.specs.declared.peer.Heard.TheVariants as heard
-use Rattle.iv_peer.specs.Socket.{Socket, IsAccepted, accepted, bad_request, closed, ending, failed, forget, framed, most_head, refused, stepped, upgrade_required, is_open}
+use Rattle.iv_peer.specs.Socket.{Socket, IsAccepted, accepted, bad_request, closed, ending, failed, forget, framed, most_head, refused, stepped}
+use Rattle.iv_peer.specs.Socket.{upgrade_required, is_open}
 use Rattle.iv_peer.specs.Hearing.{AsksOther, Hears, HearsAs, IsBadHead, IsServer, IsWaiting, accepts, refuses_other, refuses_bad, refuses_long, frames, fails}
-use Rattle.iv_peer.specs.Lives.{Lives, listed}
+use Rattle.iv_peer.specs.Lives.{Lives}
 use Rattle.iv_peer.specs.Lives as life
-use Rattle.iv_desk.specs.Front.{HearsAt, first_text, has_presented, is_dropped, is_held, later_text, let_go, let_in, most_pending, no_text, nothing, offered_to, text_for, told_some, turned_away}
+use Rattle.iv_desk.specs.Front.{HearsAt, first_text, has_presented, is_dropped, is_held, later_text, let_go, let_in, most_pending, no_text, nothing, offered_to}
+use Rattle.iv_desk.specs.Front.{put_off, text_for, told_some, turned_away}
 use Rattle.iv_desk.specs.Desks.{IsHeardOut, IsHearing, IsLived, IsTextNext, place_of}
 use Rattle.iv_desk.specs.declared.place.Place.{Place}
 use Rattle.iv_desk.specs.declared.place.Hearing.TheVariants.{All, Held, Over}
-use Rattle.iv_desk.proofs.Presenting.{AlwaysCarries, closed_effects, closed_forgets, effects_present, no_text_presents, text_presents, told_effects, told_forgets}
+use Rattle.iv_desk.proofs.Presenting.{AlwaysCarries, closed_effects, closed_forgets, effects_present, no_text_presents, text_presents, told_effects}
+use Rattle.iv_desk.proofs.Presenting.{told_forgets}
+use Rattle.iv_desk.proofs.Serving.{none_comes}
 
 -- ---- what the code hears is heard
 
@@ -43,33 +51,39 @@ framed_forgets n e s = sym (ending_forgets e.message (stepped n e (forget s))) �
 lifted : (f s : Socket) (t : Option (List ℕ)) (r : Socket) → f ≡ forget s → Hears f t r → Lifted s t (forget r)
 lifted _ s _ _ e (accepts f head rest accept over at is) = record {
   socket = accepted accept rest s;
-  hears = accepts s head rest accept (ap (λ (z : Socket). z.over) (sym e) ∙ over) (ap (λ (z : Socket). z.protocol) (sym e) ∙ at) (subst (λ z. IsAccepted z head rest accept) (ap (λ (z : Socket). z.input) e) is);
+  hears = accepts s head rest accept (ap (λ (z : Socket). z.over) (sym e) ∙ over) (ap (λ (z : Socket). z.protocol) (sym e) ∙ at)
+      (subst (λ z. IsAccepted z head rest accept) (ap (λ (z : Socket). z.input) e) is);
   same = ap (λ z. forget (accepted accept rest z)) e;
 }
 lifted _ s _ _ e (refuses_other f over at asks) = record {
   socket = refused upgrade_required s;
-  hears = refuses_other s (ap (λ (z : Socket). z.over) (sym e) ∙ over) (ap (λ (z : Socket). z.protocol) (sym e) ∙ at) (subst AsksOther (ap (λ (z : Socket). z.input) e) asks);
+  hears = refuses_other s (ap (λ (z : Socket). z.over) (sym e) ∙ over) (ap (λ (z : Socket). z.protocol) (sym e) ∙ at)
+      (subst AsksOther (ap (λ (z : Socket). z.input) e) asks);
   same = ap (λ z. forget (refused upgrade_required z)) e;
 }
 lifted _ s _ _ e (refuses_bad f over at bad) = record {
   socket = refused bad_request s;
-  hears = refuses_bad s (ap (λ (z : Socket). z.over) (sym e) ∙ over) (ap (λ (z : Socket). z.protocol) (sym e) ∙ at) (subst IsBadHead (ap (λ (z : Socket). z.input) e) bad);
+  hears = refuses_bad s (ap (λ (z : Socket). z.over) (sym e) ∙ over) (ap (λ (z : Socket). z.protocol) (sym e) ∙ at)
+      (subst IsBadHead (ap (λ (z : Socket). z.input) e) bad);
   same = ap (λ z. forget (refused bad_request z)) e;
 }
 lifted _ s _ _ e (refuses_long f over at head long) = record {
   socket = refused bad_request s;
-  hears = refuses_long s (ap (λ (z : Socket). z.over) (sym e) ∙ over) (ap (λ (z : Socket). z.protocol) (sym e) ∙ at) (subst HasNoRequest (ap (λ (z : Socket). z.input) e) head)
+  hears = refuses_long s (ap (λ (z : Socket). z.over) (sym e) ∙ over) (ap (λ (z : Socket). z.protocol) (sym e) ∙ at)
+      (subst HasNoRequest (ap (λ (z : Socket). z.input) e) head)
       (subst (λ z. most_head < length z) (ap (λ (z : Socket). z.input) e) long);
   same = ap (λ z. forget (refused bad_request z)) e;
 }
 lifted _ s _ _ e (frames f conn n x over at read) = record {
   socket = framed n x s;
-  hears = frames s conn n x (ap (λ (z : Socket). z.over) (sym e) ∙ over) (ap (λ (z : Socket). z.protocol) (sym e) ∙ at) (ap (λ (z : Socket). Rattle.websocket.specs.Connection.read_step conn z.input) (sym e) ∙ read);
+  hears = frames s conn n x (ap (λ (z : Socket). z.over) (sym e) ∙ over) (ap (λ (z : Socket). z.protocol) (sym e) ∙ at)
+      (ap (λ (z : Socket). Rattle.websocket.specs.Connection.read_step conn z.input) (sym e) ∙ read);
   same = ap (λ z. forget (framed n x z)) e ∙ framed_forgets n x s;
 }
 lifted _ s _ _ e (fails f conn x over at read) = record {
   socket = failed x s;
-  hears = fails s conn x (ap (λ (z : Socket). z.over) (sym e) ∙ over) (ap (λ (z : Socket). z.protocol) (sym e) ∙ at) (ap (λ (z : Socket). Rattle.websocket.specs.Connection.read_step conn z.input) (sym e) ∙ read);
+  hears = fails s conn x (ap (λ (z : Socket). z.over) (sym e) ∙ over) (ap (λ (z : Socket). z.protocol) (sym e) ∙ at)
+      (ap (λ (z : Socket). Rattle.websocket.specs.Connection.read_step conn z.input) (sym e) ∙ read);
   same = ap (λ z. forget (failed x z)) e;
 }
 
@@ -81,16 +95,20 @@ place_parts p a b e h = λ i. record { peer = e i; presented = h i }
 peer_of : (p : Place) (s : Socket) → p ≡ place_of s → p.peer ≡ forget s
 peer_of p s e = ap (λ (q : Place). q.peer) e
 
-pub is_server : ((hs ts : List (List ℕ)) (s : Socket) → Lives hs ts s → IsServer s) → (g : Gate) (m : ℕ) (s : Socket) (x : Gateway) (p : Place) → IsHearing g m s x p → IsServer p.peer
-is_server serves g m s x p w = λ conn at. serves w.lived.0 w.lived.1 w.socket w.lived.2 conn (ap (λ (z : Socket). z.protocol) (sym (peer_of p w.socket w.place)) ∙ at)
+pub is_server : ((hs ts : List (List ℕ)) (s : Socket) → Lives hs ts s → IsServer s) → (g : Gate) (m : ℕ) (s : Socket) (x : Gateway) (p : Place)
+    → IsHearing g m s x p → IsServer p.peer
+is_server serves g m s x p w = λ conn at. serves w.lived.0 w.lived.1 w.socket w.lived.2 conn (ap (λ (z : Socket). z.protocol) (sym (peer_of p w.socket w.place))
+    ∙ at)
 
 pub left_over : (g : Gate) (m : ℕ) (s : Socket) (x : Gateway) (p : Place) → IsHearing g m s x p → p.peer.over ≡ true → IsHeardOut g m s Over x p
 left_over g m s x p w over = record { heard = w; left = ap (λ (z : Socket). z.over) (sym (peer_of p w.socket w.place)) ∙ over }
 
-pub left_held : (g : Gate) (m : ℕ) (s : Socket) (x : Gateway) (p : Place) → (w : IsHearing g m s x p) → p.peer.over ≡ false → is_held w.now m w.socket ≡ true → IsHeardOut g m s Held x p
+pub left_held : (g : Gate) (m : ℕ) (s : Socket) (x : Gateway) (p : Place) → (w : IsHearing g m s x p) → p.peer.over ≡ false → is_held w.now m w.socket ≡ true
+    → IsHeardOut g m s Held x p
 left_held g m s x p w over held = record { heard = w; left = (ap (λ (z : Socket). z.over) (sym (peer_of p w.socket w.place)) ∙ over, held) }
 
-pub left_all : (g : Gate) (m : ℕ) (s : Socket) (x : Gateway) (p : Place) (y : Socket) → IsHearing g m s x p → IsWaiting p.peer × (y ≡ p.peer) → IsHeardOut g m s All x (record p { peer = y })
+pub left_all : (g : Gate) (m : ℕ) (s : Socket) (x : Gateway) (p : Place) (y : Socket) → IsHearing g m s x p → IsWaiting p.peer × (y ≡ p.peer)
+    → IsHeardOut g m s All x (record p { peer = y })
 left_all g m s x p y w is = record {
   heard = record {
     now = w.now;
@@ -104,7 +122,8 @@ left_all g m s x p y w is = record {
   left = subst IsWaiting (peer_of p w.socket w.place) is.0;
 }
 
-pub heard_other : AlwaysCarries → (g : Gate) (m : ℕ) (s : Socket) (x : Gateway) (p : Place) (y : Socket) → IsHearing g m s x p → HearsAs heard.Other p.peer y → IsHearing g m s x (record p { peer = y })
+pub heard_other : AlwaysCarries → (g : Gate) (m : ℕ) (s : Socket) (x : Gateway) (p : Place) (y : Socket) → IsHearing g m s x p → HearsAs heard.Other p.peer y
+    → IsHearing g m s x (record p { peer = y })
 heard_other l g m s x p y w is =
     let r = lifted p.peer w.socket is.0 is.1 (peer_of p w.socket w.place) is.3 in
     let hears : Hears w.socket None r.socket = subst (λ o. Hears w.socket o r.socket) is.2 r.hears in
@@ -127,7 +146,8 @@ heard_if false true true h e = refl
 heard_if false true false h e = absurd (false≢true (sym h))
 heard_if false false c h e = absurd (false≢true e)
 
-pub heard_text : (g : Gate) (m : ℕ) (s : Socket) (x : Gateway) (p : Place) (t : String Global) (y : Socket) → (w : IsHearing g m s x p) → is_held w.now m w.socket ≡ false
+pub heard_text : (g : Gate) (m : ℕ) (s : Socket) (x : Gateway) (p : Place) (t : String Global) (y : Socket) → (w : IsHearing g m s x p)
+    → is_held w.now m w.socket ≡ false
     → HearsAs (heard.Text t) p.peer y → IsTextNext g m s (string_bytes t) x (record p { peer = y })
 heard_text g m s x p t y w held is =
     let r = lifted p.peer w.socket is.0 is.1 (peer_of p w.socket w.place) is.3 in
@@ -156,7 +176,8 @@ dead_by k g e a = ap (λ (x : Gate). x.dead) (k g e a)
 lived_on : (s t : Socket) (bytes : List ℕ) → (l : IsLived s) → Hears s (Some bytes) t → Lives (l.0 ++ bytes ∷ []) l.1 t
 lived_on s t bytes l h = life.hears l.0 l.1 s t (Some bytes) l.2 h
 
-pub message_heard : AlwaysCarries → LeavesMarks → (g : Gate) (m : ℕ) (s : Socket) (bytes : List ℕ) (x : Gateway) (p : Place) (y : Gateway) → (w : IsTextNext g m s bytes x p)
+pub message_heard : AlwaysCarries → LeavesMarks → (g : Gate) (m : ℕ) (s : Socket) (bytes : List ℕ) (x : Gateway) (p : Place) (y : Gateway)
+    → (w : IsTextNext g m s bytes x p)
     → p.presented ≡ true → IsGate (next w.now (message m bytes)) y → IsHearing g m s y p
 message_heard l k g m s bytes x p y w known is =
     let lives = lived_on w.before w.after bytes w.lived w.next in
@@ -166,42 +187,79 @@ message_heard l k g m s bytes x p y w known is =
       heard = later_text w.now w.before w.after bytes w.heard (w.may (ap (λ (q : Place). q.presented) (sym w.place) ∙ known)) w.next;
       alive = dead_by k w.now (message m bytes) w.alive ∙ w.alive;
       gate = is;
-      place = place_parts p (forget w.after) (has_presented w.after) (ap (λ (q : Place). q.peer) w.place) (known ∙ sym (text_presents l w.lived.0 w.lived.1 bytes w.after lives));
+      place = place_parts p (forget w.after) (has_presented w.after) (ap (λ (q : Place). q.peer) w.place)
+          (known ∙ sym (text_presents l w.lived.0 w.lived.1 bytes w.after lives));
       lived = (w.lived.0 ++ bytes ∷ [], w.lived.1, lives);
     }
 
-token_heard : AlwaysCarries → LeavesMarks → (g : Gate) (m : ℕ) (s : Socket) (bytes : List ℕ) (x : Gateway) (p : Place) (y : Gateway) (q : Place) (t : Socket) → (w : IsTextNext g m s bytes x p)
-    → p.presented ≡ false → IsGate (next w.now (presented m bytes)) y → let_in w.now m bytes w.after ≡ t → q.peer ≡ forget t → q.presented ≡ true → has_presented t ≡ true → IsLived t
+-- where nobody comes in by a token that opens a role, or none
+abbrev pub sent_away : Bool → Socket → Socket
+sent_away b s = cond b (put_off s) (turned_away s)
+
+abbrev pub opens : Gate → List ℕ → Bool
+opens g token = is_some (role_opened g.tokens (sha256 token))
+
+token_heard : AlwaysCarries → LeavesMarks → (g : Gate) (m : ℕ) (s : Socket) (bytes : List ℕ) (x : Gateway) (p : Place) (y : Gateway) (q : Place) (t : Socket)
+    → (w : IsTextNext g m s bytes x p)
+    → p.presented ≡ false → IsGate (next w.now (presented m bytes)) y → let_in w.now m bytes w.after ≡ t → q.peer ≡ forget t → q.presented ≡ true
+    → has_presented t ≡ true → IsLived t
     → IsHearing g m s y q
 token_heard l k g m s bytes x p y q t w new is e peer known has lived = record {
   now = next w.now (presented m bytes);
   socket = t;
-  heard = subst (HearsAt m g s (next w.now (presented m bytes))) e (first_text w.now w.before w.after bytes w.heard (ap (λ (r : Place). r.presented) (sym w.place) ∙ new) w.next);
+  heard = subst (HearsAt m g s (next w.now (presented m bytes))) e
+      (first_text w.now w.before w.after bytes w.heard (ap (λ (r : Place). r.presented) (sym w.place) ∙ new) w.next);
   alive = dead_by k w.now (presented m bytes) w.alive ∙ w.alive;
   gate = is;
   place = place_parts q (forget t) (has_presented t) peer (known ∙ sym has);
   lived = lived;
 }
 
-pub token_admitted : AlwaysCarries → LeavesMarks → (g : Gate) (m : ℕ) (s : Socket) (bytes : List ℕ) (x : Gateway) (p : Place) (y : Gateway) → (w : IsTextNext g m s bytes x p)
-    → p.presented ≡ false → IsGate (next w.now (presented m bytes)) y → true ≡ is_some (role_for w.now m bytes) → IsHearing g m s y (record p { presented = true })
+pub token_admitted : AlwaysCarries → LeavesMarks → (g : Gate) (m : ℕ) (s : Socket) (bytes : List ℕ) (x : Gateway) (p : Place) (y : Gateway)
+    → (w : IsTextNext g m s bytes x p)
+    → p.presented ≡ false → IsGate (next w.now (presented m bytes)) y → true ≡ is_some (role_for w.now m bytes)
+    → IsHearing g m s y (record p { presented = true })
 token_admitted l k g m s bytes x p y w new is came =
     let lives = lived_on w.before w.after bytes w.lived w.next in
-    token_heard l k g m s bytes x p y (record p { presented = true }) w.after w new is (ap (λ b. cond b w.after (turned_away w.after)) (sym came))
+    token_heard l k g m s bytes x p y (record p { presented = true }) w.after w new is
+    (ap (λ b. cond b w.after (sent_away (opens w.now bytes) w.after)) (sym came))
     (ap (λ (q : Place). q.peer) w.place) refl (text_presents l w.lived.0 w.lived.1 bytes w.after lives) (w.lived.0 ++ bytes ∷ [], w.lived.1, lives)
 
-away : (s : Socket) → IsLived s → IsLived (turned_away s)
-away s l = (l.0, l.1, life.closes l.0 l.1 s 4401 (codes "This token opens no role.") l.2)
+away_forgets : (b : Bool) (s : Socket) → forget (sent_away b (forget s)) ≡ forget (sent_away b s)
+away_forgets true s = closed_forgets 1013 (codes "No place is free, or the role is not there.") s
+away_forgets false s = closed_forgets 4401 (codes "This token opens no role.") s
 
-pub token_refused : AlwaysCarries → LeavesMarks → (g : Gate) (m : ℕ) (s : Socket) (bytes : List ℕ) (x : Gateway) (p : Place) (y : Gateway) (peer : Socket) → (w : IsTextNext g m s bytes x p)
-    → p.presented ≡ false → IsGate (next w.now (presented m bytes)) y → false ≡ is_some (role_for w.now m bytes) → peer ≡ forget (turned_away p.peer)
+away_presents : (b : Bool) (s : Socket) → has_presented s ≡ has_presented (sent_away b s)
+away_presents true = effects_present put_off (closed_effects 1013 (codes "No place is free, or the role is not there."))
+away_presents false = effects_present turned_away (closed_effects 4401 (codes "This token opens no role."))
+
+away_lived : (b : Bool) (s : Socket) → IsLived s → IsLived (sent_away b s)
+away_lived true s l = (l.0, l.1, life.closes l.0 l.1 s 1013 (codes "No place is free, or the role is not there.") l.2)
+away_lived false s l = (l.0, l.1, life.closes l.0 l.1 s 4401 (codes "This token opens no role.") l.2)
+
+-- by a token that was refused nothing changes, and the code asks then whether it opens a role
+opens_still : (g : Gate) (m : ℕ) (token : List ℕ) (y : Gateway) (b : Bool) → g.dead ≡ false → IsGate (next g (presented m token)) y
+    → false ≡ is_some (role_for g m token)
+    → ((h : Gate) → IsGate h y → h.dead ≡ false → b ≡ opens h token) → b ≡ opens g token
+opens_still g m token y b a is none asked = asked g (subst (λ h. IsGate h y) (none_comes g m token a (by (role_for g m token) none)) is) a
+  where
+    by : (o : Option Name) → false ≡ is_some o → o ≡ None
+    by None e = refl
+    by (Some role) e = absurd (false≢true e)
+
+pub token_refused : AlwaysCarries → LeavesMarks → (g : Gate) (m : ℕ) (s : Socket) (bytes : List ℕ) (x : Gateway) (p : Place) (y : Gateway) (peer : Socket)
+    (b : Bool) → (w : IsTextNext g m s bytes x p)
+    → p.presented ≡ false → IsGate (next w.now (presented m bytes)) y → false ≡ is_some (role_for w.now m bytes)
+    → ((h : Gate) → IsGate h y → h.dead ≡ false → b ≡ opens h bytes) → peer ≡ forget (sent_away b p.peer)
     → IsHearing g m s y (record { peer = peer; presented = true })
-token_refused l k g m s bytes x p y peer w new is came closes =
+token_refused l k g m s bytes x p y peer b w new is came asked closes =
     let lives = lived_on w.before w.after bytes w.lived w.next in
-    token_heard l k g m s bytes x p y (record { peer = peer; presented = true }) (turned_away w.after) w new is (ap (λ b. cond b w.after (turned_away w.after)) (sym came))
-    (closes ∙ (ap (λ (q : Place). forget (turned_away q.peer)) w.place ∙ closed_forgets 4401 (codes "This token opens no role.") w.after)) refl
-    (sym (effects_present (closed 4401 (codes "This token opens no role.")) (closed_effects 4401 (codes "This token opens no role.")) w.after) ∙ text_presents l w.lived.0 w.lived.1 bytes w.after lives)
-    (away w.after (w.lived.0 ++ bytes ∷ [], w.lived.1, lives))
+    let opened : opens w.now bytes ≡ b = sym (opens_still w.now m bytes y b w.alive is came asked) in
+    token_heard l k g m s bytes x p y (record { peer = peer; presented = true }) (sent_away b w.after) w new is
+    (ap (λ z. cond z w.after (sent_away (opens w.now bytes) w.after)) (sym came) ∙ ap (λ z. sent_away z w.after) opened)
+    (closes ∙ (ap (λ (q : Place). forget (sent_away b q.peer)) w.place ∙ away_forgets b w.after)) refl
+    (sym (away_presents b w.after) ∙ text_presents l w.lived.0 w.lived.1 bytes w.after lives)
+    (away_lived b w.after (w.lived.0 ++ bytes ∷ [], w.lived.1, lives))
 
 pub hearing_begins : (g : Gate) (m : ℕ) (s : Socket) (x : Gateway) (p : Place) → IsGate g x → g.dead ≡ false → p ≡ place_of s → IsLived s → IsHearing g m s x p
 hearing_begins g m s x p is a e l = record { now = g; socket = s; heard = nothing; alive = a; gate = is; place = e; lived = l }
@@ -209,39 +267,49 @@ hearing_begins g m s x p is a e l = record { now = g; socket = s; heard = nothin
 -- ---- what is offered
 
 abbrev pub offered_by : Gate → ℕ → Socket → Bool → Bool → Bool → Gate × Socket
-offered_by g m s opened dropped sent = cond {A = Gate × Socket} (not opened) (g, s) (cond {A = Gate × Socket} dropped (g, let_go s) (cond {A = Gate × Socket} sent (next g (handed m), told_some (text_for g m) s) (g, s)))
+offered_by g m s opened dropped sent = cond {A = Gate × Socket} (not opened) (g, s)
+    (cond {A = Gate × Socket} dropped (g, let_go s) (cond {A = Gate × Socket} sent (next g (handed m), told_some (text_for g m) s) (g, s)))
 
-offered_parts : (g : Gate) (m : ℕ) (s : Socket) (a b c : Bool) → is_open s ≡ a → is_dropped g m ≡ b → (length s.output == 0) ≡ c → offered_to m g s ≡ offered_by g m s a b c
+pub offered_parts : (g : Gate) (m : ℕ) (s : Socket) (a b c : Bool) → is_open s ≡ a → is_dropped g m ≡ b → (length s.output == 0) ≡ c
+    → offered_to m g s ≡ offered_by g m s a b c
 offered_parts g m s a b c e h k = λ i. offered_by g m s (e i) (h i) (k i)
 
 -- what an offer leaves
 abbrev pub IsOffered : Gate × Socket → Gateway → Place → Type 0
 IsOffered o x p = IsGate o.0 x × (p ≡ place_of o.1)
 
-pub offers_closed : (g : Gate) (m : ℕ) (s : Socket) (x : Gateway) (p : Place) → IsGate g x → p ≡ place_of s → is_open s ≡ false → IsOffered (offered_to m g s) x p
-offers_closed g m s x p is e opened = subst (λ o. IsOffered o x p) (sym (offered_parts g m s false (is_dropped g m) (length s.output == 0) opened refl refl)) (is, e)
+pub offers_closed : (g : Gate) (m : ℕ) (s : Socket) (x : Gateway) (p : Place) → IsGate g x → p ≡ place_of s → is_open s ≡ false
+    → IsOffered (offered_to m g s) x p
+offers_closed g m s x p is e opened = subst (λ o. IsOffered o x p) (sym (offered_parts g m s false (is_dropped g m) (length s.output == 0) opened refl refl))
+    (is, e)
 
-pub offers_gone : (g : Gate) (m : ℕ) (s : Socket) (x : Gateway) (p : Place) (y : Socket) → IsGate g x → p ≡ place_of s → is_open s ≡ true → is_dropped g m ≡ true → y ≡ forget (let_go p.peer)
+pub offers_gone : (g : Gate) (m : ℕ) (s : Socket) (x : Gateway) (p : Place) (y : Socket) → IsGate g x → p ≡ place_of s → is_open s ≡ true
+    → is_dropped g m ≡ true → y ≡ forget (let_go p.peer)
     → IsOffered (offered_to m g s) x (record p { peer = y })
-offers_gone g m s x p y is e opened dropped closes = subst (λ o. IsOffered o x (record p { peer = y })) (sym (offered_parts g m s true true (length s.output == 0) opened dropped refl)) (
-  is,
-  place_parts (record p { peer = y }) (forget (let_go s)) (has_presented (let_go s))
-      (closes ∙ (ap (λ (q : Place). forget (let_go q.peer)) e ∙ closed_forgets 1013 (codes "What was told was not taken.") s))
-      (ap (λ (q : Place). q.presented) e ∙ effects_present (closed 1013 (codes "What was told was not taken.")) (closed_effects 1013 (codes "What was told was not taken.")) s),
-)
+offers_gone g m s x p y is e opened dropped closes = subst (λ o. IsOffered o x (record p { peer = y }))
+    (sym (offered_parts g m s true true (length s.output == 0) opened dropped refl)) (
+      is,
+      place_parts (record p { peer = y }) (forget (let_go s)) (has_presented (let_go s))
+          (closes ∙ (ap (λ (q : Place). forget (let_go q.peer)) e ∙ closed_forgets 1013 (codes "What was told was not taken.") s))
+          (ap (λ (q : Place). q.presented) e ∙ effects_present (closed 1013 (codes "What was told was not taken."))
+          (closed_effects 1013 (codes "What was told was not taken.")) s),
+    )
 
-pub offers_later : (g : Gate) (m : ℕ) (s : Socket) (x : Gateway) (p : Place) → IsGate g x → p ≡ place_of s → is_open s ≡ true → is_dropped g m ≡ false → (length s.output == 0) ≡ false
+pub offers_later : (g : Gate) (m : ℕ) (s : Socket) (x : Gateway) (p : Place) → IsGate g x → p ≡ place_of s → is_open s ≡ true → is_dropped g m ≡ false
+    → (length s.output == 0) ≡ false
     → IsOffered (offered_to m g s) x p
 offers_later g m s x p is e opened dropped sent = subst (λ o. IsOffered o x p) (sym (offered_parts g m s true false false opened dropped sent)) (is, e)
 
-pub offers_text : (g : Gate) (m : ℕ) (s : Socket) (x : Gateway) (p : Place) (y : Socket) → IsGate (next g (handed m)) x → p ≡ place_of s → is_open s ≡ true → is_dropped g m ≡ false
+pub offers_text : (g : Gate) (m : ℕ) (s : Socket) (x : Gateway) (p : Place) (y : Socket) → IsGate (next g (handed m)) x → p ≡ place_of s → is_open s ≡ true
+    → is_dropped g m ≡ false
     → (length s.output == 0) ≡ true → y ≡ forget (told_some (text_for g m) p.peer) → IsOffered (offered_to m g s) x (record p { peer = y })
-offers_text g m s x p y is e opened dropped sent tells = subst (λ o. IsOffered o x (record p { peer = y })) (sym (offered_parts g m s true false true opened dropped sent)) (
-  is,
-  place_parts (record p { peer = y }) (forget (told_some (text_for g m) s)) (has_presented (told_some (text_for g m) s))
-      (tells ∙ (ap (λ (q : Place). forget (told_some (text_for g m) q.peer)) e ∙ told_forgets (text_for g m) s))
-      (ap (λ (q : Place). q.presented) e ∙ effects_present (told_some (text_for g m)) (told_effects (text_for g m)) s),
-)
+offers_text g m s x p y is e opened dropped sent tells = subst (λ o. IsOffered o x (record p { peer = y }))
+    (sym (offered_parts g m s true false true opened dropped sent)) (
+      is,
+      place_parts (record p { peer = y }) (forget (told_some (text_for g m) s)) (has_presented (told_some (text_for g m) s))
+          (tells ∙ (ap (λ (q : Place). forget (told_some (text_for g m) q.peer)) e ∙ told_forgets (text_for g m) s))
+          (ap (λ (q : Place). q.presented) e ∙ effects_present (told_some (text_for g m)) (told_effects (text_for g m)) s),
+    )
 
 told_lived : (text : List ℕ) (s : Socket) → is_open s ≡ true → IsLived s → IsLived (told_some text s)
 told_lived [] s opened l = l

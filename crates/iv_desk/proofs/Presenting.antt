@@ -1,5 +1,6 @@
 -- Whether a socket has presented its token, and what the code has of a socket behind a step.
-use Rattle.std.proofs.Common.{◌≡◌, ℕ, Bool, true, false, cond, List, [], ◌∷◌, ◌++◌, drop, take, length, Option, Some, None, is_some, refl, ap, ◌∙◌, sym, append-nil}
+use Rattle.std.proofs.Common.{◌≡◌, ℕ, Bool, true, false, cond, List, [], ◌∷◌, ◌++◌, drop, take, length, Option, Some, None, is_some, refl, ap, ◌∙◌, sym}
+use Rattle.std.proofs.Common.{append-nil}
 use Rattle.std.specs.Prelude.{nat_le, slice_get}
 use Rattle.websocket.specs.Connection.{Connection}
 use Rattle.iv_peer.specs.Socket.{Socket, answer, close_of, closed, ended, forget, is_open, passing, telling, told, told_text}
@@ -14,7 +15,7 @@ heard_at : (hs ts : List (List ℕ)) (s : Socket) (k : Option Connection) → Ca
 heard_at hs ts s None u = u.heard ∙ ap texts_of (sym u.effects)
 heard_at hs ts s (Some conn) o = o.heard
 
-texts_heard : AlwaysCarries → (hs ts : List (List ℕ)) (s : Socket) → Lives hs ts s → hs ≡ texts_of s.effects
+pub texts_heard : AlwaysCarries → (hs ts : List (List ℕ)) (s : Socket) → Lives hs ts s → hs ≡ texts_of s.effects
 texts_heard l hs ts s k = heard_at hs ts s s.protocol (l hs ts s k).carries
 
 pub has_heard : AlwaysCarries → (hs ts : List (List ℕ)) (s : Socket) → Lives hs ts s → has_presented s ≡ is_some (slice_get hs 0)
@@ -53,7 +54,8 @@ closed_effects code words s = by (is_open s)
 pub closed_forgets : (code : ℕ) (words : List ℕ) → Forgets (closed code words)
 closed_forgets code words s = by (is_open s)
   where
-    by : (b : Bool) → forget (cond b (telling (answer (close_of code words)) (ended (forget s))) (ended (forget s))) ≡ forget (cond b (telling (answer (close_of code words)) (ended s)) (ended s))
+    by : (b : Bool) → forget (cond b (telling (answer (close_of code words)) (ended (forget s))) (ended (forget s))) ≡ forget
+        (cond b (telling (answer (close_of code words)) (ended s)) (ended s))
     by true = refl
     by false = refl
 

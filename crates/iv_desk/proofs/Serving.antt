@@ -1,14 +1,13 @@
 -- Each number of a front carries what its client says and is told, whatever happens.
-use Rattle.std.proofs.Common.{◌≡◌, ℕ, suc, Bool, true, false, cond, not, ◌&&◌, List, [], ◌∷◌, ◌++◌, drop, take, length, map, replicate, set, Option, Some, None, option_map, is_some, refl, ap, ◌∙◌, sym, subst, append-nil, arith}
+use Rattle.std.proofs.Common.{◌≡◌, ◌⊎◌, inl, inr, ℕ, suc, Bool, true, false, cond, not, ◌&&◌, List, [], ◌∷◌, ◌++◌, drop, take, length, map, replicate, set}
+use Rattle.std.proofs.Common.{Option, Some, None, option_map, is_some, refl, ap, ◌∙◌, sym, subst, append-nil}
 use Rattle.std.specs.Prelude.{◌==◌, codes, option_and_then, nat_le}
-use Rattle.std.proofs.lemmas.Bool.{false≢true, eq-eqb, ne_eqb}
+use Rattle.std.proofs.lemmas.Bool.{eqb-false, eqb-true, false≢true, eq-eqb, ne_eqb}
 use Rattle.std.proofs.lemmas.List.{map-append}
 use Rattle.sha2.specs.Sha256.{sha256}
 use Rattle.iv_rows.specs.Names.{is_name}
 use Rattle.iv_rows.specs.Options.{if_some}
 use Rattle.iv_access.specs.Rights.{Name}
-use Rattle.iv_message.specs.Lines.{IsLine}
-use Rattle.iv_message.specs.Told.{Told, told_text}
 use Rattle.iv_clients.specs.Clients.{Client, Shown, at_client, client_at, fresh, handing, is_free, may_say, saying, text_shown}
 use Rattle.iv_clients.specs.Feeds.{seat_of}
 use Rattle.iv_clients.specs.Tokens.{Token, role_opened}
@@ -21,10 +20,14 @@ use Rattle.iv_gate.specs.Touched.{AreTouched, IsNewcomer, itself_behind}
 use Rattle.iv_peer.specs.Socket.{Socket, closed, ended, is_open, passing, told_text as told_in_frame, took}
 use Rattle.iv_peer.specs.Socket as socket
 use Rattle.iv_peer.specs.Hearing.{Hears, accepts, refuses_other, refuses_bad, refuses_long, frames, fails}
-use Rattle.iv_peer.specs.Lives.{Carries, CarriesAt, Lives, listed, texts_of}
+use Rattle.iv_peer.specs.Lives.{Lives, listed}
 use Rattle.iv_peer.specs.Lives as life
-use Rattle.iv_desk.specs.Front.{Front, FrontRuns, Happens, HearsAt, at_socket, begins, begun, by_event, closes, fails as front_fails, front_at_start, goes_on, has_presented, hears, knows, leaves, left, let_go, let_in, later_text, no_text, first_text, nothing, offered, offered_to, offers, sends, socket_at, starts, syncs, takes, text_for, ticks, told_some, turned_away, with_both, is_dropped}
+use Rattle.iv_desk.specs.Front.{Front, FrontRuns, Happens, HearsAt, at_socket, begins, begun, by_event, closes, dismisses, fails as front_fails, front_at_start}
+use Rattle.iv_desk.specs.Front.{goes_on, has_presented, hears, knows, leaves, left, let_go, let_in, later_text, no_text, first_text, nothing, offered}
+use Rattle.iv_desk.specs.Front.{offered_to, offers, put_off, sends, socket_at, starts, syncs, takes, text_for, ticks, told_some, turned_away, with_both}
+use Rattle.iv_desk.specs.Front.{is_dropped}
 use Rattle.iv_desk.specs.Served.{BrowsersAreTold, CarriesFor}
+use Rattle.iv_desk.proofs.Calling.{AreLines, shown_there, suc_zero}
 use Rattle.iv_desk.proofs.Presenting.{AlwaysCarries, has_heard}
 use Rattle.iv_desk.proofs.Slots.{at_each_number, at_other, at_same, free_every, free_none, nobody_there, none_some, set_gone, set_other, set_there, some_same}
 
@@ -32,7 +35,7 @@ use Rattle.iv_desk.proofs.Slots.{at_each_number, at_other, at_same, free_every, 
 pub record Laws : Type 0 where
   pub always : HoldAlways
   pub carries : AlwaysCarries
-  pub lines : (t : Told) → IsLine (told_text t)
+  pub lines : AreLines
 
 -- ---- clients
 
@@ -87,8 +90,23 @@ does_not_go n e h q = false≢true (sym h ∙ ap takes_leave q)
 gone_at : (m n : ℕ) → gone m ≡ gone n → m ≡ n
 gone_at m n e = cc e
 
+pub goes_or_stays : (n : ℕ) (e : Event) → (e ≡ gone n) ⊎ (e ≡ gone n → ⊥)
+goes_or_stays n (gone m) = by (m == n) refl
+  where
+    by : (b : Bool) → (m == n) ≡ b → (gone m ≡ gone n) ⊎ (gone m ≡ gone n → ⊥)
+    by true h = inl (ap (λ k. gone k) (eqb-true m n h))
+    by false h = inr (λ e. eqb-false m n h (gone_at m n e))
+goes_or_stays n (presented m token) = inr (does_not_go n (presented m token) refl)
+goes_or_stays n (message m text) = inr (does_not_go n (message m text) refl)
+goes_or_stays n (known tokens) = inr (does_not_go n (known tokens) refl)
+goes_or_stays n ticked = inr (does_not_go n ticked refl)
+goes_or_stays n synced = inr (does_not_go n synced refl)
+goes_or_stays n (handed m) = inr (does_not_go n (handed m) refl)
+goes_or_stays n failed = inr (does_not_go n failed refl)
+
 -- an event that leaves what is known of it, and by which nobody comes with its number
-stays_same : (g : Gate) (e : Event) (n : ℕ) → AreTouched g e → (e ≡ gone n → ⊥) → ((c : Client) → known_of (itself_behind n c e) ≡ known_of c) → ((token : List ℕ) → e ≡ presented n token → ⊥)
+stays_same : (g : Gate) (e : Event) (n : ℕ) → AreTouched g e → (e ≡ gone n → ⊥) → ((c : Client) → known_of (itself_behind n c e) ≡ known_of c)
+    → ((token : List ℕ) → e ≡ presented n token → ⊥)
     → IsSame g (next g e) n
 stays_same g e n t stays same nobody = by (client_at g.clients n) refl
   where
@@ -102,13 +120,16 @@ stays_same g e n t stays same nobody = by (client_at g.clients n) refl
 
 beside_message : (g : Gate) (m n : ℕ) (text : List ℕ) → (m ≡ n → ⊥) → AreTouched g (message m text) → IsSame g (next g (message m text)) n
 beside_message g m n text ne t =
-    stays_same g (message m text) n t (does_not_go n (message m text) refl) (λ c. ap (λ b. known_of (if_some (cond (b && may_say c) (Some text) None) c (λ x. saying x c))) (ne_eqb m n ne)) (message_comes m n text)
+    stays_same g (message m text) n t (does_not_go n (message m text) refl)
+    (λ c. ap (λ b. known_of (if_some (cond (b && may_say c) (Some text) None) c (λ x. saying x c))) (ne_eqb m n ne)) (message_comes m n text)
 
 beside_token : (g : Gate) (m n : ℕ) (token : List ℕ) → (m ≡ n → ⊥) → AreTouched g (presented m token) → IsSame g (next g (presented m token)) n
-beside_token g m n token ne t = stays_same g (presented m token) n t (does_not_go n (presented m token) refl) (λ c. refl) (λ b e. ne (presented_at m n token b e))
+beside_token g m n token ne t = stays_same g (presented m token) n t (does_not_go n (presented m token) refl) (λ c. refl)
+    (λ b e. ne (presented_at m n token b e))
 
 beside_handed : (g : Gate) (m n : ℕ) → (m ≡ n → ⊥) → AreTouched g (handed m) → IsSame g (next g (handed m)) n
-beside_handed g m n ne t = stays_same g (handed m) n t (does_not_go n (handed m) refl) (λ c. ap (λ b. known_of (cond b (handing c) c)) (ne_eqb m n ne)) (handed_comes m n)
+beside_handed g m n ne t = stays_same g (handed m) n t (does_not_go n (handed m) refl) (λ c. ap (λ b. known_of (cond b (handing c) c)) (ne_eqb m n ne))
+    (handed_comes m n)
 
 beside_gone : (g : Gate) (m n : ℕ) → (m ≡ n → ⊥) → AreTouched g (gone m) → IsSame g (next g (gone m)) n
 beside_gone g m n ne t = stays_same g (gone m) n t (λ e. ne (gone_at m n e)) (λ c. refl) (gone_comes m n)
@@ -145,26 +166,31 @@ free_by_role g m token role h = by (role_opened g.tokens (sha256 token)) h
     test r true t e = (and_true (is_free m g.clients) (has_session g r) (and_true (is_name r) (is_free m g.clients && has_session g r) t).1).0
     test r false t e = absurd (none_some role e)
 
-    by : (o : Option Name) → option_and_then (λ r. cond (is_name r && (is_free m g.clients && has_session g r)) (Some r) None) o ≡ Some role → is_free m g.clients ≡ true
+    by : (o : Option Name) → option_and_then (λ r. cond (is_name r && (is_free m g.clients && has_session g r)) (Some r) None) o ≡ Some role
+        → is_free m g.clients ≡ true
     by None e = absurd (none_some role e)
     by (Some r) e = test r (is_name r && (is_free m g.clients && has_session g r)) refl e
 
 alive_next : (g : Gate) (m : ℕ) (token : List ℕ) → g.dead ≡ false → next g (presented m token) ≡ came g m token
 alive_next g m token a = ap (λ b. cond b g (came g m token)) a
 
+-- where nobody comes in nothing changes
+pub none_comes : (g : Gate) (m : ℕ) (token : List ℕ) → g.dead ≡ false → role_for g m token ≡ None → next g (presented m token) ≡ g
+none_comes g m token a e = alive_next g m token a ∙ ap (λ o. if_some o g (came_as g m token)) e
+
 -- ---- one number
 
-record LivesClient (c : Client) (s : Socket) : Type 0 where
-  token : List ℕ
-  presented : c.digest ≡ sha256 token
-  life : Lives (token ∷ c.messages) (map text_shown c.handed) s
+pub record LivesClient (c : Client) (s : Socket) : Type 0 where
+  pub token : List ℕ
+  pub presented : c.digest ≡ sha256 token
+  pub life : Lives (token ∷ c.messages) (map text_shown c.handed) s
 
-record LivesNobody (s : Socket) : Type 0 where
-  token : Option (List ℕ)
-  life : Lives (listed token) [] s
-  silent : s.over ≡ false → token ≡ None
+pub record LivesNobody (s : Socket) : Type 0 where
+  pub token : Option (List ℕ)
+  pub life : Lives (listed token) [] s
+  pub silent : s.over ≡ false → token ≡ None
 
-abbrev LivesFor : Option Client → Option Socket → Type 0
+abbrev pub LivesFor : Option Client → Option Socket → Type 0
 LivesFor None None = Unit {0}
 LivesFor None (Some s) = LivesNobody s
 LivesFor (Some c) None = ⊥
@@ -174,7 +200,8 @@ carries_for : Laws → (o : Option Client) (s : Option Socket) → LivesFor o s 
 carries_for l None None k = k
 carries_for l None (Some s) k = record { token = k.token; carries = l.carries (listed k.token) [] s k.life; silent = k.silent }
 carries_for l (Some c) None k = k
-carries_for l (Some c) (Some s) k = record { token = k.token; presented = k.presented; carries = l.carries (k.token ∷ c.messages) (map text_shown c.handed) s k.life }
+carries_for l (Some c) (Some s) k =
+    record { token = k.token; presented = k.presented; carries = l.carries (k.token ∷ c.messages) (map text_shown c.handed) s k.life }
 
 client_lives : (c d : Client) (s : Socket) (token : List ℕ) → d.digest ≡ sha256 token → Lives (token ∷ c.messages) (map text_shown c.handed) s
     → d.messages ≡ c.messages → d.handed ≡ c.handed → LivesClient d s
@@ -194,21 +221,23 @@ same_lives (Some c) (Some d) (Some s) k l =
     client_lives c d s l.token (ap (λ (x : Known). x.digest) e ∙ l.presented) l.life (ap (λ (x : Known). x.messages) e) (ap (λ (x : Known). x.handed) e)
 
 -- a step in the life of a socket by which no text is heard or told, and behind which it is over where it was
-step_lives : (f : Socket → Socket) → ((hs ts : List (List ℕ)) (s : Socket) → Lives hs ts s → Lives hs ts (f s)) → ((s : Socket) → (f s).over ≡ false → s.over ≡ false)
+step_lives : (f : Socket → Socket) → ((hs ts : List (List ℕ)) (s : Socket) → Lives hs ts s → Lives hs ts (f s))
+    → ((s : Socket) → (f s).over ≡ false → s.over ≡ false)
     → (o : Option Client) (s : Option Socket) → LivesFor o s → LivesFor o (option_map f s)
 step_lives f step over None None k = k
 step_lives f step over None (Some s) k = record { token = k.token; life = step (listed k.token) [] s k.life; silent = λ l. k.silent (over s l) }
 step_lives f step over (Some c) None k = k
-step_lives f step over (Some c) (Some s) k = record { token = k.token; presented = k.presented; life = step (k.token ∷ c.messages) (map text_shown c.handed) s k.life }
+step_lives f step over (Some c) (Some s) k =
+    record { token = k.token; presented = k.presented; life = step (k.token ∷ c.messages) (map text_shown c.handed) s k.life }
 
-closed_over : (code : ℕ) (words : List ℕ) (s : Socket) → (closed code words s).over ≡ true
+pub closed_over : (code : ℕ) (words : List ℕ) (s : Socket) → (closed code words s).over ≡ true
 closed_over code words s = by (is_open s)
   where
     by : (b : Bool) → (cond b (socket.telling (socket.answer (socket.close_of code words)) (ended s)) (ended s)).over ≡ true
     by true = refl
     by false = refl
 
-passed_over : (n : ℕ) (s : Socket) → (passing n s).over ≡ s.over
+pub passed_over : (n : ℕ) (s : Socket) → (passing n s).over ≡ s.over
 passed_over n s = by (nat_le n (length s.output))
   where
     by : (b : Bool) → (cond b (record s { output = drop n s.output; sent = s.sent ++ take n s.output }) s).over ≡ s.over
@@ -219,7 +248,8 @@ takes_lives : (bytes : List ℕ) (o : Option Client) (s : Option Socket) → Liv
 takes_lives bytes = step_lives (took bytes) (λ hs ts s l. life.takes hs ts s bytes l) (λ s l. l)
 
 closes_lives : (code : ℕ) (words : List ℕ) (o : Option Client) (s : Option Socket) → LivesFor o s → LivesFor o (option_map (closed code words) s)
-closes_lives code words = step_lives (closed code words) (λ hs ts s l. life.closes hs ts s code words l) (λ s l. absurd (false≢true (sym l ∙ closed_over code words s)))
+closes_lives code words = step_lives (closed code words) (λ hs ts s l. life.closes hs ts s code words l)
+    (λ s l. absurd (false≢true (sym l ∙ closed_over code words s)))
 
 sends_lives : (n : ℕ) (o : Option Client) (s : Option Socket) → LivesFor o s → LivesFor o (option_map (passing n) s)
 sends_lives n = step_lives (passing n) (λ hs ts s l. life.sends hs ts s n l) (λ s l. sym (passed_over n s) ∙ l)
@@ -227,11 +257,11 @@ sends_lives n = step_lives (passing n) (λ hs ts s l. life.sends hs ts s n l) (�
 -- ---- what is heard
 
 -- the gateway and socket m were led on from a gateway
-record Led (cap m : ℕ) (g h : Gate) (t : Socket) : Type 0 where
-  runs : Runs cap h
-  alive : h.dead ≡ false
-  own : LivesFor (client_at h.clients m) (Some t)
-  others : (n : ℕ) → (m ≡ n → ⊥) → IsSame g h n
+pub record Led (cap m : ℕ) (g h : Gate) (t : Socket) : Type 0 where
+  pub runs : Runs cap h
+  pub alive : h.dead ≡ false
+  pub own : LivesFor (client_at h.clients m) (Some t)
+  pub others : (n : ℕ) → (m ≡ n → ⊥) → IsSame g h n
 
 event_touches : Laws → (cap : ℕ) (g : Gate) (e : Event) → Runs cap g → g.dead ≡ false → AreTouched g e
 event_touches l cap g e r a = ((l.always cap g r).1 e).touched a
@@ -257,50 +287,64 @@ other_lives None s t h k = record {
 other_lives (Some c) s t h k = record {
   token = k.token;
   presented = k.presented;
-  life = subst (λ z. Lives z (map text_shown c.handed) t) (append-nil (k.token ∷ c.messages)) (life.hears (k.token ∷ c.messages) (map text_shown c.handed) s t None k.life h);
+  life = subst (λ z. Lives z (map text_shown c.handed) t) (append-nil (k.token ∷ c.messages))
+      (life.hears (k.token ∷ c.messages) (map text_shown c.handed) s t None k.life h);
 }
 
 -- who has heard no text is no client
-token_first : Laws → (t : List ℕ) (hs ts : List (List ℕ)) (s : Socket) → Lives (t ∷ hs) ts s → has_presented s ≡ false → ⊥
+pub token_first : Laws → (t : List ℕ) (hs ts : List (List ℕ)) (s : Socket) → Lives (t ∷ hs) ts s → has_presented s ≡ false → ⊥
 token_first l t hs ts s k h = false≢true (sym h ∙ has_heard l.carries (t ∷ hs) ts s k)
 
 -- a token is heard, which is the first text
-first_lives : (s t : Socket) (token : List ℕ) → Hears s (Some token) t → LivesNobody s → Lives (token ∷ []) [] t
-first_lives s t token h k = subst (λ z. Lives (listed z ++ token ∷ []) [] t) (k.silent (heard_over s t (Some token) h)) (life.hears (listed k.token) [] s t (Some token) k.life h)
+pub first_lives : (s t : Socket) (token : List ℕ) → Hears s (Some token) t → LivesNobody s → Lives (token ∷ []) [] t
+first_lives s t token h k = subst (λ z. Lives (listed z ++ token ∷ []) [] t) (k.silent (heard_over s t (Some token) h))
+    (life.hears (listed k.token) [] s t (Some token) k.life h)
 
--- it opens no role
-refused_lives : (s t : Socket) (token : List ℕ) → Hears s (Some token) t → LivesNobody s → LivesNobody (turned_away t)
-refused_lives s t token h k = record {
+-- nobody comes in by it
+refused_lives : (code : ℕ) (words : List ℕ) (s t : Socket) (token : List ℕ) → Hears s (Some token) t → LivesNobody s → LivesNobody (closed code words t)
+refused_lives code words s t token h k = record {
   token = Some token;
-  life = life.closes (token ∷ []) [] t 4401 (codes "This token opens no role.") (first_lives s t token h k);
-  silent = λ l. absurd (false≢true (sym l ∙ closed_over 4401 (codes "This token opens no role.") t));
+  life = life.closes (token ∷ []) [] t code words (first_lives s t token h k);
+  silent = λ l. absurd (false≢true (sym l ∙ closed_over code words t));
 }
 
+sent_away : (s t : Socket) (token : List ℕ) → Hears s (Some token) t → LivesNobody s → (b : Bool) → LivesNobody (cond b (put_off t) (turned_away t))
+sent_away s t token h k true = refused_lives 1013 (codes "No place is free, or the role is not there.") s t token h k
+sent_away s t token h k false = refused_lives 4401 (codes "This token opens no role.") s t token h k
+
 -- or a client comes by it
-admitted_lives : (s t : Socket) (d : Client) (token : List ℕ) → Hears s (Some token) t → LivesNobody s → d.digest ≡ sha256 token → d.messages ≡ [] → d.handed ≡ [] → LivesClient d t
+admitted_lives : (s t : Socket) (d : Client) (token : List ℕ) → Hears s (Some token) t → LivesNobody s → d.digest ≡ sha256 token → d.messages ≡ []
+    → d.handed ≡ [] → LivesClient d t
 admitted_lives s t d token h k e m n = record {
   token = token;
   presented = e;
-  life = subst (λ z. Lives (token ∷ z) (map text_shown d.handed) t) (sym m) (subst (λ z. Lives (token ∷ []) (map text_shown z) t) (sym n) (first_lives s t token h k));
+  life = subst (λ z. Lives (token ∷ z) (map text_shown d.handed) t) (sym m)
+      (subst (λ z. Lives (token ∷ []) (map text_shown z) t) (sym n) (first_lives s t token h k));
 }
 
-token_lives : Laws → (cap : ℕ) (g : Gate) (m : ℕ) (s t : Socket) (token : List ℕ) → Runs cap g → g.dead ≡ false → Hears s (Some token) t → has_presented s ≡ false
+token_lives : Laws → (cap : ℕ) (g : Gate) (m : ℕ) (s t : Socket) (token : List ℕ) → Runs cap g → g.dead ≡ false → Hears s (Some token) t
+    → has_presented s ≡ false
     → LivesFor (client_at g.clients m) (Some s) → LivesFor (client_at (next g (presented m token)).clients m) (Some (let_in g m token t))
 token_lives l cap g m s t token r a h first k = by (client_at g.clients m) refl k
   where
     after : Gate
     after = next g (presented m token)
 
+    away : Socket → Socket
+    away r = cond (is_some (role_opened g.tokens (sha256 token))) (put_off r) (turned_away r)
+
     is : (d : Client) → IsNewcomer g (presented m token) m d → LivesNobody s → LivesClient d t
     is d c nobody =
         let same = presented_text m m token c.0 c.1 in
-        admitted_lives s t d token h nobody (ap (λ (x : Client). x.digest) c.3 ∙ ap sha256 (sym same)) (ap (λ (x : Client). x.messages) c.3) (ap (λ (x : Client). x.handed) c.3)
+        admitted_lives s t d token h nobody (ap (λ (x : Client). x.digest) c.3 ∙ ap sha256 (sym same)) (ap (λ (x : Client). x.messages) c.3)
+        (ap (λ (x : Client). x.handed) c.3)
 
     none : client_at g.clients m ≡ None → LivesNobody s → (o : Option Name) → role_for g m token ≡ o
-        → LivesFor (client_at after.clients m) (Some (cond (is_some o) t (turned_away t)))
+        → LivesFor (client_at after.clients m) (Some (cond (is_some o) t (away t)))
     none nobody k None e =
-        let unchanged : client_at after.clients m ≡ None = ap (λ (x : Gate). client_at x.clients m) (alive_next g m token a) ∙ (ap (λ o. client_at (if_some o g (came_as g m token)).clients m) e ∙ nobody) in
-        subst (λ z. LivesFor z (Some (turned_away t))) (sym unchanged) (refused_lives s t token h k)
+        let unchanged : client_at after.clients m ≡ None = ap (λ (x : Gate). client_at x.clients m) (alive_next g m token a)
+        ∙ (ap (λ o. client_at (if_some o g (came_as g m token)).clients m) e ∙ nobody) in
+        subst (λ z. LivesFor z (Some (away t))) (sym unchanged) (sent_away s t token h k (is_some (role_opened g.tokens (sha256 token))))
     none nobody k (Some role) e =
         let there = ap (λ (x : Gate). client_at x.clients m) (alive_next g m token a)
         ∙ (ap (λ o. client_at (if_some o g (came_as g m token)).clients m) e ∙ came_there g m token role (free_by_role g m token role e)) in
@@ -329,7 +373,8 @@ message_lives l cap g m s t text r a h may k =
     (ap (λ (x : Known). x.digest) heard ∙ own.presented) (life.hears (own.token ∷ w.0.messages) (map text_shown w.0.handed) s t (Some text) own.life h)
     (ap (λ (x : Known). x.messages) heard) (ap (λ (x : Known). x.handed) heard))
 
-heard_leads : Laws → (cap m : ℕ) (g : Gate) (s : Socket) (h : Gate) (t : Socket) → Runs cap g → g.dead ≡ false → LivesFor (client_at g.clients m) (Some s) → HearsAt m g s h t
+pub heard_leads : Laws → (cap m : ℕ) (g : Gate) (s : Socket) (h : Gate) (t : Socket) → Runs cap g → g.dead ≡ false → LivesFor (client_at g.clients m) (Some s)
+    → HearsAt m g s h t
     → Led cap m g h t
 heard_leads l cap m g s _ _ r a k nothing = record { runs = r; alive = a; own = k; others = λ n ne. refl }
 heard_leads l cap m g s _ _ r a k (no_text h b t x e) =
@@ -354,34 +399,26 @@ heard_leads l cap m g s _ _ r a k (later_text h b t text x may e) =
 
 -- ---- what is offered
 
-text_there : (l : Laws) (t : Told) → told_text t ≡ [] → ⊥
-text_there l t e = let w = l.lines t in ended_by w.0 (sym e ∙ w.1)
-  where
-    ended_by : (front : List ℕ) → [] ≡ front ++ 10 ∷ [] → ⊥
-    ended_by [] e = cc e
-    ended_by (x ∷ front) e = cc e
-
-suc_zero : (k : ℕ) → suc k ≡ 0 → ⊥
-suc_zero k e = let no : ⊥ = omega (arith, e) in no
-
-some_handed : (l : Laws) (c : Client) (s : Socket) (ss : List Shown) (text : List ℕ) → text ≡ text_shown ss → length c.sendable ≡ length ss → c.sendable ≡ ss → is_open s ≡ true → LivesClient c s
+some_handed : (l : Laws) (c : Client) (s : Socket) (ss : List Shown) (text : List ℕ) → text ≡ text_shown ss → length c.sendable ≡ length ss → c.sendable ≡ ss
+    → is_open s ≡ true → LivesClient c s
     → (d : Client) → known_of d ≡ known_of (handing c) → LivesClient d (told_some text s)
 some_handed l c s [] [] e n is opened k d same =
-    let kept : known_of d ≡ known_of c = same ∙ ap (λ b. known_of (cond b c (record c { sendable = []; asked = 0; handed = c.handed ++ c.sendable ∷ [] }))) (ap (λ z. z == 0) n) in
-    client_lives c d s k.token (ap (λ (x : Known). x.digest) kept ∙ k.presented) k.life (ap (λ (x : Known). x.messages) kept) (ap (λ (x : Known). x.handed) kept)
+    let kept : known_of d ≡ known_of c = same ∙ ap (λ b. known_of (cond b c (record c { sendable = []; asked = 0; handed = c.handed ++ c.sendable ∷ [] })))
+    (ap (λ z. z == 0) n) in
+    client_lives c d s k.token (ap (λ (x : Known). x.digest) kept ∙ k.presented) k.life (ap (λ (x : Known). x.messages) kept)
+    (ap (λ (x : Known). x.handed) kept)
 some_handed l c s [] (b ∷ bs) e n is opened k d same = absurd (cc e)
-some_handed l c s (x ∷ ss) [] e n is opened k d same = absurd (text_there l x.told (first_empty (told_text x.told) (text_shown ss) (sym e)))
-  where
-    first_empty : (xs ys : List ℕ) → xs ++ ys ≡ [] → xs ≡ []
-    first_empty [] ys h = refl
-    first_empty (y ∷ xs) ys h = absurd (cc h)
+some_handed l c s (x ∷ ss) [] e n is opened k d same = absurd (shown_there l.lines x ss (sym e))
 some_handed l c s (x ∷ ss) (b ∷ bs) e n is opened k d same =
     let kept : known_of d ≡ known_of (record c { sendable = []; asked = 0; handed = c.handed ++ c.sendable ∷ [] }) =
-    same ∙ ap (λ q. known_of (cond q c (record c { sendable = []; asked = 0; handed = c.handed ++ c.sendable ∷ [] }))) (ap (λ z. z == 0) n ∙ ne_eqb (suc (length ss)) 0 (λ q. suc_zero (length ss) q)) in
+    same ∙ ap (λ q. known_of (cond q c (record c { sendable = []; asked = 0; handed = c.handed ++ c.sendable ∷ [] })))
+    (ap (λ z. z == 0) n ∙ ne_eqb (suc (length ss)) 0 (λ q. suc_zero (length ss) q)) in
     let all : map text_shown c.handed ++ (b ∷ bs) ∷ [] ≡ map text_shown (c.handed ++ c.sendable ∷ []) =
     ap (λ z. map text_shown c.handed ++ z ∷ []) (e ∙ ap text_shown (sym is)) ∙ sym (map-append text_shown c.handed (c.sendable ∷ [])) in
-    client_lives (record c { sendable = []; asked = 0; handed = c.handed ++ c.sendable ∷ [] }) d (told_in_frame (b ∷ bs) s) k.token (ap (λ (x : Known). x.digest) kept ∙ k.presented)
-    (subst (λ z. Lives (k.token ∷ c.messages) z (told_in_frame (b ∷ bs) s)) all (life.tells (k.token ∷ c.messages) (map text_shown c.handed) s (b ∷ bs) k.life opened))
+    client_lives (record c { sendable = []; asked = 0; handed = c.handed ++ c.sendable ∷ [] }) d (told_in_frame (b ∷ bs) s) k.token
+    (ap (λ (x : Known). x.digest) kept ∙ k.presented)
+    (subst (λ z. Lives (k.token ∷ c.messages) z (told_in_frame (b ∷ bs) s)) all
+    (life.tells (k.token ∷ c.messages) (map text_shown c.handed) s (b ∷ bs) k.life opened))
     (ap (λ (x : Known). x.messages) kept) (ap (λ (x : Known). x.handed) kept)
 
 handed_lives : Laws → (cap : ℕ) (g : Gate) (m : ℕ) (s : Socket) → Runs cap g → g.dead ≡ false → is_open s ≡ true → LivesFor (client_at g.clients m) (Some s)
@@ -412,7 +449,13 @@ offered_leads l cap g m s r a k = by (is_open s) refl
     same = record { runs = r; alive = a; own = k; others = λ n ne. refl }
 
     gone_too : Led cap m g g (let_go s)
-    gone_too = record { runs = r; alive = a; own = closes_lives 1013 (codes "What was told was not taken.") (client_at g.clients m) (Some s) k; others = λ n ne. refl }
+    gone_too = record {
+      runs = r;
+      alive = a;
+      own = closes_lives 1013 (codes "What was told was not taken.") (client_at g.clients m) (Some s) k;
+      others =
+          λ n ne. refl;
+    }
 
     told : is_open s ≡ true → Led cap m g (next g (handed m)) (told_some (text_for g m) s)
     told opened = record {
@@ -442,11 +485,12 @@ offered_leads l cap g m s r a k = by (is_open s) refl
 
 -- ---- all numbers
 
-record IsLiving (cap : ℕ) (d : Front) : Type 0 where
-  runs : Runs cap d.gate
-  numbers : (m : ℕ) → LivesFor (client_at d.gate.clients m) (socket_at d m)
+pub record IsLiving (cap : ℕ) (d : Front) : Type 0 where
+  pub runs : Runs cap d.gate
+  pub numbers : (m : ℕ) → LivesFor (client_at d.gate.clients m) (socket_at d m)
 
-both_living : (cap : ℕ) (d : Front) (m : ℕ) (s : Socket) (h : Gate) (t : Socket) → IsLiving cap d → socket_at d m ≡ Some s → Led cap m d.gate h t → IsLiving cap (with_both m h t d)
+both_living : (cap : ℕ) (d : Front) (m : ℕ) (s : Socket) (h : Gate) (t : Socket) → IsLiving cap d → socket_at d m ≡ Some s → Led cap m d.gate h t
+    → IsLiving cap (with_both m h t d)
 both_living cap d m s h t v e w = record {
   runs = w.runs;
   numbers = at_each_number (λ n. LivesFor (client_at h.clients n) (client_at (at_client m (λ _. t) d.sockets) n)) m
@@ -456,7 +500,8 @@ both_living cap d m s h t v e w = record {
 }
 
 -- a step at one socket alone
-socket_living : (cap : ℕ) (d : Front) (m : ℕ) (f : Socket → Socket) → ((o : Option Client) (s : Option Socket) → LivesFor o s → LivesFor o (option_map f s)) → IsLiving cap d
+socket_living : (cap : ℕ) (d : Front) (m : ℕ) (f : Socket → Socket) → ((o : Option Client) (s : Option Socket) → LivesFor o s → LivesFor o (option_map f s))
+    → IsLiving cap d
     → IsLiving cap (at_socket m f d)
 socket_living cap d m f step v = record {
   runs = v.runs;
@@ -514,17 +559,25 @@ happens_living l cap d _ a v (takes m bytes) = socket_living cap d m (took bytes
 happens_living l cap d _ a v (hears m s t h e x) =
     both_living cap d m s h t v e (heard_leads l cap m d.gate s h t v.runs a (subst (LivesFor (client_at d.gate.clients m)) e (v.numbers m)) x)
 happens_living l cap d _ a v (offers m) = offered_living l cap d m a v
-happens_living l cap d _ a v (closes m code words may) = socket_living cap d m (closed code words) (closes_lives code words) v
+happens_living l cap d _ a v (dismisses m) = by (is_dropped d.gate m)
+  where
+    by : (b : Bool) → IsLiving cap (cond b (at_socket m turned_away d) d)
+    by true = socket_living cap d m turned_away (closes_lives 4401 (codes "This token opens no role.")) v
+    by false = v
 happens_living l cap d _ a v (sends m n) = socket_living cap d m (passing n) (sends_lives n) v
 happens_living l cap d _ a v (leaves m) = left_living l cap d m a v
 happens_living l cap d _ a v syncs =
-    event_living cap d synced v (λ n. stays_same d.gate synced n (event_touches l cap d.gate synced v.runs a) (does_not_go n synced refl) (λ c. refl) (synced_comes n))
+    event_living cap d synced v (λ n. stays_same d.gate synced n (event_touches l cap d.gate synced v.runs a) (does_not_go n synced refl) (λ c. refl)
+    (synced_comes n))
 happens_living l cap d _ a v (knows tokens) =
-    event_living cap d (known tokens) v (λ n. stays_same d.gate (known tokens) n (event_touches l cap d.gate (known tokens) v.runs a) (does_not_go n (known tokens) refl) (λ c. refl) (known_comes tokens n))
+    event_living cap d (known tokens) v (λ n. stays_same d.gate (known tokens) n (event_touches l cap d.gate (known tokens) v.runs a)
+    (does_not_go n (known tokens) refl) (λ c. refl) (known_comes tokens n))
 happens_living l cap d _ a v ticks =
-    event_living cap d ticked v (λ n. stays_same d.gate ticked n (event_touches l cap d.gate ticked v.runs a) (does_not_go n ticked refl) (λ c. refl) (ticked_comes n))
+    event_living cap d ticked v (λ n. stays_same d.gate ticked n (event_touches l cap d.gate ticked v.runs a) (does_not_go n ticked refl) (λ c. refl)
+    (ticked_comes n))
 happens_living l cap d _ a v front_fails =
-    event_living cap d failed v (λ n. stays_same d.gate failed n (event_touches l cap d.gate failed v.runs a) (does_not_go n failed refl) (λ c. refl) (failed_comes n))
+    event_living cap d failed v (λ n. stays_same d.gate failed n (event_touches l cap d.gate failed v.runs a) (does_not_go n failed refl) (λ c. refl)
+    (failed_comes n))
 
 starts_living : (cap : ℕ) (g : Gate) (most : ℕ) → Runs cap g → ((m : ℕ) → client_at g.clients m ≡ None) → IsLiving cap (front_at_start g most)
 starts_living cap g most r nobody = record {
@@ -532,9 +585,10 @@ starts_living cap g most r nobody = record {
   numbers = λ m. subst (λ o. LivesFor o (client_at (replicate most None) m)) (sym (nobody m)) (subst (LivesFor None) (sym (nobody_there most m)) tt);
 }
 
-runs_living : Laws → (cap : ℕ) (d : Front) → FrontRuns cap d → IsLiving cap d
+pub runs_living : Laws → (cap : ℕ) (d : Front) → FrontRuns cap d → IsLiving cap d
 runs_living l cap _ (starts g most r nobody) = starts_living cap g most r nobody
 runs_living l cap _ (goes_on d e r a h) = happens_living l cap d e a (runs_living l cap d r) h
+runs_living l cap _ (closes d m code words r a may) = socket_living cap d m (closed code words) (closes_lives code words) (runs_living l cap d r)
 
 pub browsers_told : Laws → BrowsersAreTold
 browsers_told l cap d r =

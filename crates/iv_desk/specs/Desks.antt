@@ -1,5 +1,5 @@
 -- For contracts of the code: what its values are to the definitions.
-use Rattle.std.specs.Prelude.{◌≡◌, ◌⊎◌, ◌<◌, ◌||◌, ℕ, Bool, true, false, if◌then◌else◌, List, [], ◌∷◌, Contains, length, map, Option, Some, None, is_some, option_map}
+use Rattle.std.specs.Prelude.{◌≡◌, ◌⊎◌, ◌<◌, ◌||◌, ℕ, Bool, true, false, if◌then◌else◌, List, [], ◌∷◌, Contains, length, map, Option, Some, None, option_map}
 use Rattle.iv_rows.specs.Options.{if_some}
 use Rattle.iv_clients.specs.Clients.{Client, client_at}
 use Rattle.iv_clients.specs.Journal.{journal_of}
@@ -42,14 +42,10 @@ pub record IsBehind (d : Front) (x : Gateway) (slots : List (Option Place)) : Ty
   pub places : slots ≡ places_of d.sockets
   pub lives : (m : ℕ) (s : Socket) → socket_at d m ≡ Some s → IsLived s
 
-pub record IsAlive (d : Front) (x : Desk) : Type 0 where
-  pub stands : IsBehind d x.gateway x.places.items
-  pub most : x.most ≡ length d.sockets
-
 -- of a dead one nothing is known but that
 pub record IsDesk (d : Front) (x : Desk) : Type 0 where
   pub dead : x.dead ≡ d.gate.dead
-  pub alive : d.gate.dead ≡ false → IsAlive d x
+  pub alive : d.gate.dead ≡ false → IsBehind d x.gateway x.places.items
 
 -- ---- restoring
 
@@ -135,16 +131,15 @@ at_each f (m ∷ ms) d = at_each f ms (f m d)
 abbrev pub IsCalled : Front → ℕ → Type 0
 IsCalled d m = (c : Client) × (client_at d.gate.clients m ≡ Some c) × ((c.dropped ≡ true) ⊎ (0 < length c.sendable))
 
--- the step is made at some numbers, and each with a socket that is called is one of them
+-- the step is made at some numbers, and each that is called is one of them
 pub record IsCalledOut (f : ℕ → Front → Front) (d : Front) (x : Desk) : Type 0 where
   pub numbers : List ℕ
-  pub all : (m : ℕ) → is_some (socket_at d m) ≡ true → IsCalled d m → Contains numbers m
+  pub all : (m : ℕ) → IsCalled d m → Contains numbers m
   pub stands : IsDesk (at_each f numbers d) x
 
--- the step was made at some numbers, and all below n are among them
-pub record IsMadeBelow (f : ℕ → Front → Front) (n : ℕ) (d : Front) (x : Gateway) (places : List (Option Place)) : Type 0 where
+pub record IsCalledBehind (f : ℕ → Front → Front) (d : Front) (x : Gateway) (places : List (Option Place)) : Type 0 where
   pub numbers : List ℕ
-  pub all : (m : ℕ) → m < n → Contains numbers m
+  pub all : (m : ℕ) → IsCalled d m → Contains numbers m
   pub stands : IsBehind (at_each f numbers d) x places
 
 -- ---- what is to be sent

@@ -1,8 +1,10 @@
 -- A gateway and the sockets before it, and whatever happens to them.
-use Rattle.std.specs.Prelude.{◌≡◌, ℕ, ◌==◌, ◌&&◌, ◌||◌, not, Bool, true, false, if◌then◌else◌, List, [], ◌∷◌, codes, length, nat_le, nat_lt, replicate, slice_get, slice_set, Option, Some, None, is_some}
+use Rattle.std.specs.Prelude.{◌≡◌, ℕ, ◌==◌, ◌&&◌, ◌||◌, not, Bool, true, false, if◌then◌else◌, List, [], ◌∷◌, codes, length, nat_le, nat_lt, replicate}
+use Rattle.std.specs.Prelude.{slice_get, slice_set, Option, Some, None, is_some}
+use Rattle.sha2.specs.Sha256.{sha256}
 use Rattle.iv_rows.specs.Options.{if_some}
 use Rattle.iv_clients.specs.Clients.{at_client, client_at, is_free, text_shown}
-use Rattle.iv_clients.specs.Tokens.{Token}
+use Rattle.iv_clients.specs.Tokens.{Token, role_opened}
 use Rattle.iv_gate.specs.Events.{Event, failed, gone, handed, known, message, next, presented, synced, ticked}
 use Rattle.iv_gate.specs.Gate.{Gate, is_heard, role_for}
 use Rattle.iv_gate.specs.Runs.{Runs}
@@ -54,9 +56,14 @@ has_presented s = is_some (slice_get (texts_of s.effects) 0)
 abbrev pub turned_away : Socket → Socket
 turned_away s = closed 4401 (codes "This token opens no role.") s
 
--- whose token opens no role is closed
+-- it is closed, since nobody comes in now by its token, which opens a role: no session or number is free, or the role is not there
+abbrev pub put_off : Socket → Socket
+put_off s = closed 1013 (codes "No place is free, or the role is not there.") s
+
+-- who does not come in by its token is closed
 abbrev pub let_in : Gate → ℕ → List ℕ → Socket → Socket
-let_in g m token s = if is_some (role_for g m token) then s else turned_away s
+let_in g m token s = if is_some (role_for g m token) then s
+    else if is_some (role_opened g.tokens (sha256 token)) then put_off s else turned_away s
 
 -- bytes that may wait at a number that is heard
 abbrev pub most_pending : ℕ
@@ -117,14 +124,14 @@ is_within low high n = nat_le low n && nat_le n high
 abbrev pub may_tell : ℕ → List ℕ → Bool
 may_tell code words = nat_le (length words) 123 && (is_within 1000 1003 code || (is_within 1007 1014 code || is_within 3000 4999 code))
 
--- whatever happens to a front: each is a step in the life of one socket, with the events of the gateway that belong to it, or an event of
--- the gateway alone
+-- whatever happens to a front of its own: each is a step in the life of one socket, with the events of the gateway that belong to it, or an
+-- event of the gateway alone
 pub data Happens (d : Front) : Front → Type 0 where
   begins : (m : ℕ) → Happens d (begun m d)
   takes : (m : ℕ) (bytes : List ℕ) → Happens d (at_socket m (took bytes) d)
   hears : (m : ℕ) (s t : Socket) (h : Gate) → socket_at d m ≡ Some s → HearsAt m d.gate s h t → Happens d (with_both m h t d)
   offers : (m : ℕ) → Happens d (offered m d)
-  closes : (m code : ℕ) (words : List ℕ) → may_tell code words ≡ true → Happens d (at_socket m (closed code words) d)
+  dismisses : (m : ℕ) → Happens d (dismissed m d)
   sends : (m n : ℕ) → Happens d (at_socket m (passing n) d)
   leaves : (m : ℕ) → Happens d (left m d)
   syncs : Happens d (by_event synced d)
@@ -132,7 +139,10 @@ pub data Happens (d : Front) : Front → Type 0 where
   ticks : Happens d (by_event ticked d)
   fails : Happens d (by_event failed d)
 
--- no socket stands before a gateway that began, also again behind a crash, and that has no client; anything happens while it is alive
+-- no socket stands before a gateway that began, also again behind a crash, and that has no client; while it is alive anything happens, and
+-- sockets are closed from outside
 pub data FrontRuns (cap : ℕ) : Front → Type 0 where
   starts : (g : Gate) (most : ℕ) → Runs cap g → ((m : ℕ) → client_at g.clients m ≡ None) → FrontRuns cap (front_at_start g most)
   goes_on : (d e : Front) → FrontRuns cap d → d.gate.dead ≡ false → Happens d e → FrontRuns cap e
+  closes : (d : Front) (m code : ℕ) (words : List ℕ) → FrontRuns cap d → d.gate.dead ≡ false → may_tell code words ≡ true
+      → FrontRuns cap (at_socket m (closed code words) d)

@@ -1,5 +1,5 @@
 //! `Desk`: the peers by their numbers, and the gateway whose clients have the same numbers.
-ghost use Rattle.std.specs.Prelude.{◌≡◌, ℕ, Err, IfOk, OnErr, OnOk, drop, false, option_map, true};
+ghost use Rattle.std.specs.Prelude.{◌≡◌, ℕ, Err, IfOk, OnErr, OnOk, drop, false, option_map, take, true};
 ghost use Rattle.std.specs.Io.KnownBytes.{Appends};
 ghost use Rattle.iv_clients.specs.Clients.{client_at, is_free};
 ghost use Rattle.iv_clients.specs.Journal.{journal_of};
@@ -13,7 +13,7 @@ ghost use Rattle.iv_desk.specs.Desks.{IsCalledOut, IsDesk, IsHeard, IsRestored, 
 
 use crate::place::{Hearing, Place};
 use crate::places::{
-    close_at, dismiss_all, empty_places, hear_at, is_free, offer_all, pass_at, put_at, read_at,
+    close_at, dismiss_told, empty_places, hear_at, is_free, offer_told, pass_at, put_at, read_at,
 };
 use iv_clients::Token;
 use iv_gate::laws::events_leave_their_marks;
@@ -27,7 +27,6 @@ pub struct Desk {
     alloc: Global,
     gateway: Gateway,
     places: Vec<Option<Place>>,
-    most: u32,
     dead: bool,
 }
 
@@ -44,7 +43,6 @@ impl Desk {
             alloc,
             gateway,
             places,
-            most,
             dead: false,
         })
     }
@@ -157,10 +155,14 @@ impl Desk {
     /// it was offered before was sent. One whose client is to go is closed.
     ///
     /// # Errors
-    /// `Journal` where the journal fails; else as of `read`. A front of what was pending for the journal may be on disk then.
+    /// `Journal` where the journal fails; else as of `read`. The journal has a front of what was pending then, behind what it had; a dead
+    /// desk gives it nothing.
     pub fn settle<J: Journal>(&mut self, journal: &mut J) -> Result<(), GatewayFault>
         ensures kept { OnOk result ((d : Front) → IsDesk d self.old → d.gate.dead ≡ false
             → Appends (J.kept journal.old) (J.kept journal.new) (journal_of (drop d.gate.kept d.gate.entries))) }
+        ensures torn { OnErr result ((d : Front) → IsDesk d self.old → d.gate.dead ≡ false
+            → (n : ℕ) × Appends (J.kept journal.old) (J.kept journal.new) (take n (journal_of (drop d.gate.kept d.gate.entries)))) }
+        ensures unwritten { (d : Front) → IsDesk d self.old → d.gate.dead ≡ true → journal.new ≡ journal.old }
         ensures front { OnOk result ((d : Front) → IsDesk d self.old → IsCalledOut offered (by_event synced d) self.new) }
         ensures fails { OnErr result ((d : Front) → IsDesk d self.old → IsDesk (by_event failed d) self.new) }
         ensures dead { (d : Front) → IsDesk d self.old → d.gate.dead ≡ true → result ≡ Err GatewayFault.Dead }
@@ -176,7 +178,7 @@ impl Desk {
                 return Err(fault);
             }
         }
-        match offer_all(&mut self.gateway, self.most, &mut self.places) {
+        match offer_told(self.alloc, &mut self.gateway, &mut self.places) {
             Ok(()) => Ok(()),
             Err(_) => {
                 self.dead = true;
@@ -199,7 +201,7 @@ impl Desk {
         }
         events_leave_their_marks();
         self.gateway.know(tokens);
-        match dismiss_all(&self.gateway, self.most, &mut self.places) {
+        match dismiss_told(&self.gateway, &mut self.places) {
             Ok(()) => Ok(()),
             Err(_) => {
                 self.dead = true;

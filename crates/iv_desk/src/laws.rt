@@ -7,6 +7,8 @@ ghost use Rattle.iv_gate.specs.Restoring.{Restores, gate_at_start};
 ghost use Rattle.iv_gate.specs.Runs.{Runs};
 ghost use Rattle.iv_desk.specs.Front.{Front, FrontRuns, dismissed, front_at_start, offered, socket_at};
 ghost use Rattle.iv_desk.specs.Served.{BrowsersAreTold};
+ghost use Rattle.iv_desk.specs.Progress.{HeldAreFreed};
+ghost use Rattle.iv_desk.specs.Causes.{ClosesForCause};
 ghost use Rattle.iv_desk.specs.Desks.{IsHeardBy, at_each};
 ghost use Rattle.iv_desk.specs.declared.place.Hearing.{Hearing};
 
@@ -26,12 +28,35 @@ pub fn browsers_are_told_their_views()
     told_texts_are_lines();
 }
 
+/// In whatever runs, over restarts: who takes all that it is offered, and then what the next sync of the journal lets it be sent, was
+/// handed all that its client was told, and what it says is heard again; or it is over.
+pub fn held_numbers_are_freed()
+    ensures { HeldAreFreed }
+{
+    gateways_hold_always();
+    sockets_carry_what_is_told();
+    told_texts_are_lines();
+    events_leave_their_marks();
+}
+
+/// In whatever runs, over restarts: nothing that happens to a front of its own ends a socket but for a cause. What was read of it asks for
+/// no WebSocket, ends by a close or a binary message, or is no frame; all that it said is a token by which nobody comes in; or its client
+/// is to go.
+pub fn sockets_are_closed_for_cause()
+    ensures { ClosesForCause }
+{
+    gateways_hold_always();
+    sockets_carry_what_is_told();
+    told_texts_are_lines();
+}
+
 /// What the contracts of a desk's calls name leads from a run to a run: to restore, to hear all that a number says, to offer to each of
 /// some numbers what it may be sent, and to close each of some whose token opens its role no more. The other calls are steps themselves.
 pub fn calls_lead_from_runs_to_runs()
     ensures restores { (cap most places : ℕ) (tokens : List Token) (sent : List Shown) (journal : List ℕ) (g : Gate)
         → Restores (gate_at_start cap tokens most sent) journal g → Runs cap g → FrontRuns cap (front_at_start g places) }
-    ensures hears { (cap m : ℕ) (d e : Front) (hearing : Hearing) → FrontRuns cap d → d.gate.dead ≡ false → IsHeardBy d m (socket_at d m) hearing e → FrontRuns cap e }
+    ensures hears { (cap m : ℕ) (d e : Front) (hearing : Hearing) → FrontRuns cap d → d.gate.dead ≡ false
+        → IsHeardBy d m (socket_at d m) hearing e → FrontRuns cap e }
     ensures offers { (cap : ℕ) (ms : List ℕ) (d : Front) → FrontRuns cap d → d.gate.dead ≡ false → FrontRuns cap (at_each offered ms d) }
     ensures dismisses { (cap : ℕ) (ms : List ℕ) (d : Front) → FrontRuns cap d → d.gate.dead ≡ false → FrontRuns cap (at_each dismissed ms d) }
 {

@@ -1,9 +1,9 @@
 //! `Place`: the peer of a number, before the gateway whose client has the same number.
-ghost use Rattle.std.specs.Prelude.{◌≡◌, IfOk, OnOk, codes, false};
+ghost use Rattle.std.specs.Prelude.{◌≡◌, IfOk, OnOk, codes, false, if◌then◌else◌};
 ghost use Rattle.iv_gate.specs.Gate.{Gate};
 ghost use Rattle.iv_gateway.specs.Views.{IsGate};
 ghost use Rattle.iv_peer.specs.Socket.{Socket, forget, fresh};
-ghost use Rattle.iv_desk.specs.Front.{is_held, let_go, offered_to, turned_away};
+ghost use Rattle.iv_desk.specs.Front.{is_held, let_go, offered_to, put_off, turned_away};
 ghost use Rattle.iv_desk.specs.Desks.{IsHeardNext, IsHeardOut, IsHearing, IsTextNext, place_of};
 
 use iv_gate::laws::events_leave_their_marks;
@@ -55,10 +55,14 @@ pub(crate) fn no_role() -> &'static [u8]
     b"This token opens no role."
 }
 
-/// Closes a peer whose token opens no role.
-fn turn_away(peer: &mut Peer) -> Result<(), AllocError>
-    ensures { OnOk result (peer.new ≡ forget (turned_away peer.old)) }
+/// Closes a peer that does not come in by its token, which opens a role or none.
+fn turn_away(peer: &mut Peer, opens: bool) -> Result<(), AllocError>
+    ensures { OnOk result (peer.new ≡ forget (if opens then put_off peer.old else turned_away peer.old)) }
 {
+    if opens {
+        peer.close(1013, b"No place is free, or the role is not there.")?;
+        return Ok(());
+    }
     peer.close(NO_ROLE, no_role())?;
     Ok(())
 }
@@ -78,7 +82,7 @@ fn is_held(gateway: &Gateway, at: u32, place: &Place) -> bool
     place.peer.pending().len() > MOST_PENDING || place.presented && !gateway.is_heard(at)
 }
 
-/// A token is presented at a number. Where it opens no role, the peer is closed.
+/// A token is presented at a number. Where nobody comes in by it, the peer is closed.
 fn present(
     gateway: &mut Gateway,
     at: u32,
@@ -94,7 +98,7 @@ fn present(
     match gateway.admit(at, token) {
         Err(fault) => Err(fault),
         Ok(true) => Ok(()),
-        Ok(false) => match turn_away(&mut place.peer) {
+        Ok(false) => match turn_away(&mut place.peer, gateway.opens(token)) {
             Err(_) => Err(GatewayFault::Memory),
             Ok(()) => Ok(()),
         },

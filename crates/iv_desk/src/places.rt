@@ -1,15 +1,16 @@
 //! Peers by their numbers: what is done to one of them, and to all.
-ghost use Rattle.std.specs.Prelude.{◌≡◌, ℕ, IfOk, None, OnOk, Option, false, option_map, replicate, slice_set};
+ghost use Rattle.std.specs.Prelude.{◌≡◌, IfOk, None, OnOk, Option, false, option_map, replicate, slice_set};
 ghost use Rattle.iv_clients.specs.Clients.{at_client, is_free};
 ghost use Rattle.iv_gate.specs.Gate.{Gate};
 ghost use Rattle.iv_gateway.specs.Views.{IsGate};
 ghost use Rattle.iv_peer.specs.Socket.{Socket, closed, passing, took};
 ghost use Rattle.iv_desk.specs.Front.{Front, at_socket, dismissed, offered};
-ghost use Rattle.iv_desk.specs.Desks.{AreLived, IsBehind, IsHeardAt, IsHeardBehind, IsMadeBelow, IsOfferedAt, place_of, with_peer};
+ghost use Rattle.iv_desk.specs.Desks.{AreLived, IsBehind, IsCalledBehind, IsHeardAt, IsHeardBehind, IsOfferedAt, at_each, place_of, with_peer};
 
 use crate::place::{Hearing, NO_ROLE, Place, hear, no_role, offer};
 use iv_gate::laws::events_leave_their_marks;
 use iv_gateway::{Gateway, GatewayFault};
+use iv_message::laws::told_texts_are_lines;
 use std::alloc::{AllocError, Global};
 
 /// As many places with nobody.
@@ -196,17 +197,31 @@ fn offer_at(
     }
 }
 
-/// Offers each number what its client may be sent.
-pub(crate) fn offer_all(
+/// Offers each of these numbers what its client may be sent.
+fn offer_each(
     gateway: &mut Gateway,
-    most: u32,
+    numbers: &[u32],
     places: &mut Vec<Option<Place>>,
 ) -> Result<(), AllocError>
-    ensures { OnOk result ((d : Front) → IsBehind d gateway.old places.old.items → IsMadeBelow offered most d gateway.new places.new.items) }
+    ensures { OnOk result ((d : Front) → IsBehind d gateway.old places.old.items → IsBehind (at_each offered numbers.now d) gateway.new places.new.items) }
 {
-    for at in 0..most {
-        offer_at(gateway, at, places)?;
+    for at in numbers {
+        offer_at(gateway, *at, places)?;
     }
+    Ok(())
+}
+
+/// Offers each number that is called what its client may be sent.
+pub(crate) fn offer_told(
+    alloc: Global,
+    gateway: &mut Gateway,
+    places: &mut Vec<Option<Place>>,
+) -> Result<(), AllocError>
+    ensures { OnOk result ((d : Front) → IsBehind d gateway.old places.old.items → IsCalledBehind offered d gateway.new places.new.items) }
+{
+    told_texts_are_lines();
+    let numbers = Vec::from_slice(alloc, gateway.told())?;
+    offer_each(gateway, &numbers, places)?;
     Ok(())
 }
 
@@ -220,16 +235,27 @@ fn dismiss_at(gateway: &Gateway, at: u32, places: &mut Vec<Option<Place>>) -> Re
     Ok(())
 }
 
-/// Closes each number whose client is to go.
-pub(crate) fn dismiss_all(
+fn dismiss_each(
     gateway: &Gateway,
-    most: u32,
+    numbers: &[u32],
     places: &mut Vec<Option<Place>>,
 ) -> Result<(), AllocError>
-    ensures { OnOk result ((d : Front) → IsBehind d gateway.now places.old.items → IsMadeBelow dismissed most d gateway.now places.new.items) }
+    ensures { OnOk result ((d : Front) → IsBehind d gateway.now places.old.items → IsBehind (at_each dismissed numbers.now d) gateway.now places.new.items) }
 {
-    for at in 0..most {
-        dismiss_at(gateway, at, places)?;
+    for at in numbers {
+        dismiss_at(gateway, *at, places)?;
     }
+    Ok(())
+}
+
+/// Closes each number whose client is to go.
+pub(crate) fn dismiss_told(
+    gateway: &Gateway,
+    places: &mut Vec<Option<Place>>,
+) -> Result<(), AllocError>
+    ensures { OnOk result ((d : Front) → IsBehind d gateway.now places.old.items → IsCalledBehind dismissed d gateway.now places.new.items) }
+{
+    told_texts_are_lines();
+    dismiss_each(gateway, gateway.told(), places)?;
     Ok(())
 }

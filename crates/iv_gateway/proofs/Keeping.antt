@@ -10,7 +10,7 @@ use Rattle.iv_message.specs.Lines.{IsLine}
 use Rattle.iv_message.specs.Told.{Told, alive, settled, told_text}
 use Rattle.iv_clients.specs.Clients.{Client, Shown, Slots, answered, at_all, at_client, beating, by_others, checked, client_at, dropping, handing, has_role, is_followed, is_free, is_slow, opens, released, settling, telling, text_shown, told_one}
 use Rattle.iv_clients.specs.Journal.{Entry}
-use Rattle.iv_clients.specs.Kept.{Kept, Places, answering, checking, emptied, has_role_in, holding, holding_all, holding_beat, holding_owed, is_followed_by, is_following, kept, kept_slots, letting_go, releasing}
+use Rattle.iv_clients.specs.Kept.{Kept, Places, answering, checking, emptied, has_role_in, holding, holding_all, holding_beat, holding_owed, is_followed_by, is_following, is_told, kept, kept_slots, letting_go, releasing}
 use Rattle.iv_clients.specs.Tokens.{Token}
 
 one_text : (ss : List Shown) (s : Shown) → text_shown (ss ++ s ∷ []) ≡ text_shown ss ++ told_text s.told
@@ -149,6 +149,10 @@ pub keeps_set : (m : ℕ) (x : Option Client) (slots : Slots) → set (kept_slot
 keeps_set m x [] = refl
 keeps_set zero x (s ∷ ss) = refl
 keeps_set (suc m) x (s ∷ ss) = ap (λ z. option_map kept s ∷ z) (keeps_set m x ss)
+
+pub told_kept : (o : Option Client) → if_some (option_map kept o) false is_told ≡ if_some o false (λ c. is_told (kept c))
+told_kept None = refl
+told_kept (Some c) = refl
 
 pub kept_at : (slots : Slots) (m : ℕ) → client_at (kept_slots slots) m ≡ option_map kept (client_at slots m)
 kept_at [] m = refl

@@ -16,6 +16,7 @@ use Rattle.iv_clients.specs.Bounds.{entry_session}
 use Rattle.iv_clients.specs.Journal.{Entry, IsEntry, entry_text, has_newline, is_shared, journal_of}
 use Rattle.iv_clients.specs.Parsed.{entry_in}
 use Rattle.iv_clients.specs.Tokens.{cut_at}
+use Rattle.iv_clients.proofs.Slots.{one_some, some_is_none}
 use Rattle.iv_gate.specs.Gate.{Gate, in_session, is_accepted, reply_in, shape_text}
 use Rattle.iv_gate.specs.Restoring.{IsDamagedAt, LeadTo, all_replayed, is_torn, passed, replayed}
 use Rattle.iv_gateway.specs.Replays.{HasReplayed, IsPassed, IsReplayed, IsReplayedTo, IsRestored, act_plain}
@@ -25,12 +26,6 @@ use Rattle.iv_gateway.specs.declared.restoring.RestoreFault.{RestoreFault}
 use Rattle.iv_gateway.specs.declared.restoring.RestoreFault.TheVariants.{Damaged}
 use Rattle.iv_gateway.proofs.Shaped.{shape_more}
 use Rattle.iv_gateway.proofs.Reread.{IsRead, cut_is, entry_is, entry_read, read_brace, read_text, read_whole}
-
-some_is_none : {X : Type 0} (x : X) → Some x ≡ None → ⊥
-some_is_none x h = cc h
-
-some_same : {X : Type 0} (a b : X) → Some a ≡ Some b → a ≡ b
-some_same a b h = cc
 
 -- ---- one act
 
@@ -113,11 +108,11 @@ unread g line before after x h = λ e w t. absurd (never (sym h ∙ entry_read e
 -- one whose message is no request without an id
 pub unasked : (g : Gate) (line before after : List ℕ) (role : Name) (text : List ℕ) (x : Gateway) → entry_in line ≡ Some (role, text) → act_plain (message_of text) ≡ None → IsReplayed g line before after false x
 unasked g line before after role text x h plain = λ e w t.
-    let same = some_same (role, text) (e.role, e.line) (sym h ∙ entry_read e line w t) in
+    let same = one_some (role, text) (e.role, e.line) (sym h ∙ entry_read e line w t) in
     absurd (some_is_none e.act (sym (ap act_plain (ap message_of (ap (λ (p : Name × List ℕ). p.1) same) ∙ w.asks)) ∙ plain))
 
 plain_is : (m : Message) (act : Act) → act_plain m ≡ Some act → m ≡ request None act
-plain_is (request None act) a h = ap (request None) (some_same act a h)
+plain_is (request None act) a h = ap (request None) (one_some act a h)
 plain_is (request (Some id) act) a h = cc
 plain_is no_json a h = cc
 plain_is too_long a h = cc
@@ -143,7 +138,7 @@ asked g line before after role text act is x shape h plain n w p = by is p
 
     same : (d : Entry) → IsEntry d → entry_text d ≡ line ++ 10 ∷ [] → d ≡ e
     same d v t =
-        let q = some_same (d.role, d.line) (role, text) (sym (entry_read d line v t) ∙ h) in
+        let q = one_some (d.role, d.line) (role, text) (sym (entry_read d line v t) ∙ h) in
         let line_same : d.line ≡ text = ap (λ (p : Name × List ℕ). p.1) q in
         let role_same : d.role ≡ role = ap (λ (p : Name × List ℕ). p.0) q in
         let act_same : d.act ≡ act = request_same d.act act None None (sym v.asks ∙ (ap message_of line_same ∙ m)) in
@@ -190,7 +185,7 @@ all_more P [] x h k = (k, tt)
 all_more P (y ∷ ys) x h k = (h.0, all_more P ys x h.1 k)
 
 replayed_more : (s t : State) (es : List Entry) (e : Entry) (o : Option State) → all_replayed s es ≡ Some t → replayed t e ≡ o → all_replayed s (es ++ e ∷ []) ≡ o
-replayed_more s t [] e o h k = ap (option_and_then (λ u. Some u)) (ap (λ z. replayed z e) (some_same s t h) ∙ k) ∙ same o
+replayed_more s t [] e o h k = ap (option_and_then (λ u. Some u)) (ap (λ z. replayed z e) (one_some s t h) ∙ k) ∙ same o
   where
     same : (p : Option State) → option_and_then (λ u. Some u) p ≡ p
     same None = refl

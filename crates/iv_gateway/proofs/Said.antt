@@ -16,11 +16,11 @@ use Rattle.iv_clients.specs.Clients.{Client, Slots, answered, at_client, client_
 use Rattle.iv_clients.specs.Feeds.{seat_of}
 use Rattle.iv_clients.specs.Journal.{Entry, entry_text, is_shared, journal_of, line_said, said_by}
 use Rattle.iv_clients.specs.Kept.{Kept, Places, answering, kept, kept_slots}
+use Rattle.iv_clients.proofs.Slots.{at_same, one_some}
 use Rattle.iv_gate.specs.Events.{message}
 use Rattle.iv_gate.specs.Gate.{Gate, acts, done_for, entered, has_shape_room, hears, in_session, is_accepted, is_heard, reply_in, reply_to, requests, said, settles, tells}
 use Rattle.iv_gate.specs.Laws.{LeavesMarks}
 use Rattle.iv_gate.proofs.Growing.{Grown, grows}
-use Rattle.iv_gate.proofs.Touching.{at_same, one_some}
 use Rattle.iv_gate.proofs.Walking.{to_done, to_settles, to_then}
 use Rattle.iv_gateway.specs.Speaking.{Speaking, speaker_in, speaking}
 use Rattle.iv_gateway.specs.Views.{IsAlive, IsPending, IsRun}

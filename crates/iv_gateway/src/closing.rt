@@ -25,7 +25,8 @@ fn followed_at(clients: &[Option<Client>], client: u32, own: u64) -> Option<u64>
 impl Gateway {
     /// A client closes its own number.
     pub(crate) fn close(&mut self, client: u32, id: &Option<Id>, own: u64) -> Result<(), AllocError>
-        ensures { OnOk result ((g : Gate) (c : spec.Client) → IsAlive g self.old → client_at g.clients client ≡ Some c → IsAlive (closes g client c (option_map id_data id.now) own) self.new) }
+        ensures { OnOk result ((g : Gate) (c : spec.Client) → IsAlive g self.old → client_at g.clients client ≡ Some c
+            → IsAlive (closes g client c (option_map id_data id.now) own) self.new) }
     {
         match followed_at(self.clients.places(), client, own) {
             None => {

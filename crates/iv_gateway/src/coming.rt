@@ -22,7 +22,8 @@ fn role_presented(
     client: u32,
     digest: &[u8],
 ) -> Result<Option<String>, AllocError>
-    ensures { IfOk result (λ o. option_map string_bytes o ≡ option_and_then (λ role. if is_name role && is_free client clients.now then Some role else None) (role_opened tokens.now digest.now)) }
+    ensures { IfOk result (λ o. option_map string_bytes o
+        ≡ option_and_then (λ role. if is_name role && is_free client clients.now then Some role else None) (role_opened tokens.now digest.now)) }
 {
     match role_opened(tokens, digest) {
         None => Ok(None),
@@ -54,7 +55,8 @@ impl Gateway {
 
     /// Lets in who presents a token, in the role that it opens. Whether it came in.
     pub(crate) fn come(&mut self, client: u32, token: &[u8]) -> Result<bool, AllocError>
-        ensures { IfOk result (λ is. (g : Gate) → IsAlive g self.old → (is ≡ is_some (role_for g client token.now)) × IsAlive (came g client token.now) self.new) }
+        ensures { IfOk result (λ is. (g : Gate) → IsAlive g self.old
+            → (is ≡ is_some (role_for g client token.now)) × IsAlive (came g client token.now) self.new) }
     {
         let digest = Vec::from_array(self.alloc, Sha256::digest(token))?;
         match role_presented(self.alloc, &self.tokens, &self.clients, client, &digest)? {

@@ -1,5 +1,6 @@
-//! What happens to a gateway: clients come and go, tokens change, all are told that the line is alive, the journal is synced. After a fault the gateway is dead.
-ghost use Rattle.std.specs.Prelude.{◌≡◌, [], IfOk, OnErr, OnOk, false, is_some, true};
+//! What happens to a gateway: clients come and go, tokens change, all are told that the line is alive, the journal is synced. After a
+//! fault the gateway is dead.
+ghost use Rattle.std.specs.Prelude.{◌≡◌, [], ℕ, IfOk, OnErr, OnOk, false, is_some, take, true};
 ghost use Rattle.iv_rows.specs.Options.{if_some};
 ghost use Rattle.iv_clients.specs.Clients.{client_at, text_shown};
 ghost use Rattle.std.specs.Io.KnownBytes.{Appends};
@@ -92,10 +93,13 @@ impl Gateway {
     /// Has the journal keep what is pending, and only then lets be sent what waits for it.
     ///
     /// # Errors
-    /// `Journal` where the journal fails; `Memory` and `Dead` as of `left`. A front of what is pending may be on disk then.
+    /// `Journal` where the journal fails; `Memory` and `Dead` as of `left`. The journal has a front of what was pending then, behind what it
+    /// had; a dead gateway gives it nothing.
     pub fn settle<J: Journal>(&mut self, journal: &mut J) -> Result<(), GatewayFault>
         ensures gate { OnOk result ((g : Gate) → IsGate g self.old → IsGate (next g synced) self.new) }
         ensures kept { OnOk result (Appends (J.kept journal.old) (J.kept journal.new) self.old.pending.items) }
+        ensures torn { OnErr result ((n : ℕ) × Appends (J.kept journal.old) (J.kept journal.new) (take n self.old.pending.items)) }
+        ensures unwritten { self.old.dead ≡ true → journal.new ≡ journal.old }
         ensures fails { OnErr result ((g : Gate) → IsGate g self.old → IsGate (next g failed) self.new) }
     {
         if self.dead {

@@ -7,7 +7,7 @@ ghost use Rattle.iv_machine.specs.State.{start};
 ghost use Rattle.iv_store.specs.Engine.{IsBehind};
 ghost use Rattle.iv_clients.specs.Clients as spec;
 ghost use Rattle.iv_clients.specs.Clients.{client_at, text_shown};
-ghost use Rattle.iv_clients.specs.Kept.{is_due, kept};
+ghost use Rattle.iv_clients.specs.Kept.{is_due, is_told, kept};
 ghost use Rattle.iv_gate.specs.Gate.{Gate, is_heard};
 ghost use Rattle.iv_gate.specs.Restoring.{gate_at_start};
 ghost use Rattle.iv_gateway.specs.Views.{IsGate};
@@ -116,12 +116,14 @@ impl Gateway {
         }
     }
 
-    /// The numbers of those to whom something may be sent, or who are to go: all of them, each once. Others may be there too. A number
-    /// leaves when its text is taken, unless something waits for the journal or its client is to go, and when its client goes. The last
-    /// number takes its place, so who takes as it goes over them begins at the last.
+    /// The numbers of those who were told something that they have not taken, or who are to go: all to whom something may be sent, each
+    /// once, and nobody else. A number leaves when its text is taken, unless something waits for the journal or its client is to go, and
+    /// when its client goes. The last number takes its place, so who takes as it goes over them begins at the last.
     pub fn told(&self) -> &[u32]
         ensures listed { (g : Gate) (m : ℕ) (c : spec.Client) → IsGate g self.now → g.dead ≡ false → client_at g.clients m ≡ Some c → is_due (kept c) ≡ true
             → Contains result.now m }
+        ensures only { (g : Gate) (m : ℕ) → IsGate g self.now → g.dead ≡ false → Contains result.now m
+            → if_some (client_at g.clients m) false (λ c. is_told (kept c)) ≡ true }
         ensures once { IsDistinct eqb result.now }
     {
         self.clients.told()

@@ -14,6 +14,7 @@ mod gateway;
 mod granting;
 mod journal;
 mod messages;
+mod opening;
 mod restoring;
 mod seats;
 mod shaping;

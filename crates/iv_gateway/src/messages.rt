@@ -170,7 +170,8 @@ impl Gateway {
     ) -> Result<(), AllocError>
         requires { is_well_act (act_of act) ≡ true }
         ensures { OnOk result ((g : Gate) (c : spec.Client) (text : List ℕ) → IsAlive g self.old → client_at g.clients client ≡ Some (saying text c)
-            → speaker.now ≡ speaking (kept c) → line_said text ≡ line.now → IsAlive (done_for g client c text (request (option_map id_data id.now) (act_of act))) self.new) }
+            → speaker.now ≡ speaking (kept c) → line_said text ≡ line.now
+            → IsAlive (done_for g client c text (request (option_map id_data id.now) (act_of act))) self.new) }
     {
         if self.has_shape_room(&act) {
             self.act(client, speaker, id, act, line)?;
@@ -283,7 +284,8 @@ impl Gateway {
         requires well { is_well_act (act_of act) ≡ true }
         requires shared { is_shared (act_of act) ≡ true }
         ensures { OnOk result ((g : Gate) → IsAlive g self.old
-            → IsAlive (requests g client (option_map id_data id.now) (record { role = speaker.now.role; line = line.now; act = act_of act }) session) self.new) }
+            → IsAlive (requests g client (option_map id_data id.now)
+            (record { role = speaker.now.role; line = line.now; act = act_of act }) session) self.new) }
     {
         if session == 0 {
             return Err(AllocError);

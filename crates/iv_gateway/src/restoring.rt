@@ -134,7 +134,8 @@ impl Gateway {
 
     /// Runs the entry of a line, and appends what it makes of the shape. Whether it is one that is accepted.
     fn replay_line(&mut self, line: &[u8], shape: &mut Vec<u8>) -> Result<bool, AllocError>
-        ensures { IfOk result (λ is. (g : Gate) → IsAlive g self.old → has_newline line.now ≡ false → IsReplayed g line.now shape.old.items shape.new.items is self.new) }
+        ensures { IfOk result (λ is. (g : Gate) → IsAlive g self.old → has_newline line.now ≡ false
+            → IsReplayed g line.now shape.old.items shape.new.items is self.new) }
     {
         match entry_in(self.alloc, line)? {
             None => Ok(false),
@@ -157,7 +158,8 @@ impl Gateway {
         requires role { is_name (string_bytes role) ≡ true }
         requires act { is_well_act (act_of act) ≡ true }
         ensures { IfOk result (λ is. (g : Gate) (line : List ℕ) → IsAlive g self.old
-            → IsPassed g (if is_shared (act_of act) then replayed g.machine (record { role = string_bytes role; line = line; act = act_of act }) else None) is self.new) }
+            → IsPassed g (if is_shared (act_of act)
+            then replayed g.machine (record { role = string_bytes role; line = line; act = act_of act }) else None) is self.new) }
     {
         if !is_shared(&act) {
             return Ok(false);

@@ -101,7 +101,8 @@ fn leaver(
     clients: &[Option<Client>],
     client: u32,
 ) -> Result<Option<(String, Vec<u64>)>, AllocError>
-    ensures { IfOk result (λ o. option_map {U = Name × List ℕ} (λ p. (string_bytes p.0, p.1.items)) o ≡ option_map {U = Name × List ℕ} (λ k. (k.role, map (λ s. s.feed) k.subs)) (client_at clients.now client)) }
+    ensures { IfOk result (λ o. option_map {U = Name × List ℕ} (λ p. (string_bytes p.0, p.1.items)) o
+        ≡ option_map {U = Name × List ℕ} (λ k. (k.role, map (λ s. s.feed) k.subs)) (client_at clients.now client)) }
 {
     match clients.get(client as usize) {
         Some(Some(it)) => {

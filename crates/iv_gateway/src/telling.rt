@@ -74,8 +74,8 @@ impl Gateway {
 
     /// Has the lines of a command told that grants nothing. What ended is shared no more.
     pub(crate) fn hear_plain(&mut self, lines: &[Line]) -> Result<(), AllocError>
-        ensures { OnOk result ((g : Gate) (k : Command) → IsRun g k (map line_of lines.now) self.old → ((f : Frame) (role : Name) → granted_by f k.act role ≡ [])
-            → IsAlive (ran g k) self.new) }
+        ensures { OnOk result ((g : Gate) (k : Command) → IsRun g k (map line_of lines.now) self.old
+            → ((f : Frame) (role : Name) → granted_by f k.act role ≡ []) → IsAlive (ran g k) self.new) }
     {
         self.clients.hear(self.alloc, &self.feeds, lines)?;
         self.clients.stay(lines);

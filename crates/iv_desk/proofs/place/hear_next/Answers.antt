@@ -15,7 +15,8 @@ returns-then-is_held c = λ g s w. left_held g c.args.at s c.args.gateway.now c.
 pub returns-in-Ok-Nothing : goal.returns-in-Ok-Nothing
 returns-in-Ok-Nothing c = λ g s w.
     let serves = is_server c.sockets_carry_what_is_told.ensures.serves g c.args.at s c.args.gateway.now c.args.place.now w in
-    left_all g c.args.at s c.args.gateway.now c.args.place.now c.hear.new.self w (subst (λ h. IsHeard h c.args.place.now.peer c.hear.new.self) c.in-Ok-Nothing.field-0-is (c.in-Ok-Nothing.ensures serves))
+    left_all g c.args.at s c.args.gateway.now c.args.place.now c.hear.new.self w
+    (subst (λ h. IsHeard h c.args.place.now.peer c.hear.new.self) c.in-Ok-Nothing.field-0-is (c.in-Ok-Nothing.ensures serves))
 
 pub returns-in-Ok-Other : goal.returns-in-Ok-Other
 returns-in-Ok-Other c = λ g s w.
@@ -29,4 +30,5 @@ returns c = λ g s w.
     let heard = subst (λ h. IsHeard h c.args.place.now.peer c.hear.new.self) c.in-Ok-Text.field-0-is (c.in-Ok-Text.ensures serves) in
     let free : is_held w.now c.args.at w.socket ≡ false = sym (c.is_held.ensures w.now w.socket w.gate w.alive w.place) ∙ c.if-is_held.false in
     let next = heard_text g c.args.at s c.args.gateway.now c.args.place.now c.in-Ok-Text.text c.hear.new.self w free heard in
-    c.in-Ok.ensures g s (subst (λ t. IsTextNext g c.args.at s t c.args.gateway.now (record c.args.place.now { peer = c.hear.new.self })) (sym c.as_bytes.ensures.value) next)
+    c.in-Ok.ensures g s (subst (λ t. IsTextNext g c.args.at s t c.args.gateway.now (record c.args.place.now { peer = c.hear.new.self }))
+    (sym c.as_bytes.ensures.value) next)

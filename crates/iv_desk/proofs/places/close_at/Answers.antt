@@ -9,4 +9,5 @@ pub returns-in-None : goal.returns-in-None
 returns-in-None c = at_client-past c.args.at (with_peer (closed c.args.code c.args.words.now)) c.args.places.now.items (grind (arith, common_steps))
 
 pub returns-in_ok-close_slot-in-Some : goal.returns-in_ok-close_slot-in-Some
-returns-in_ok-close_slot-in-Some c = at_client-set c.args.at (with_peer (closed c.args.code c.args.words.now)) c.args.places.now.items c.in-Some.slot.now _ (grind (arith, common_steps)) c.in-Some.ensures.value c.in_ok-close_slot-in-Some.ensures
+returns-in_ok-close_slot-in-Some c = at_client-set c.args.at (with_peer (closed c.args.code c.args.words.now)) c.args.places.now.items c.in-Some.slot.now _
+    (grind (arith, common_steps)) c.in-Some.ensures.value c.in_ok-close_slot-in-Some.ensures

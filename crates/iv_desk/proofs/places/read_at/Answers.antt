@@ -8,4 +8,5 @@ use Rattle.iv_desk.proofs.places.read_at.Goals as goal
 pub returns-in_ok-hearing-in-Ok : goal.returns-in_ok-hearing-in-Ok
 returns-in_ok-hearing-in-Ok c = λ d b.
     c.in_ok-hearing-in-Ok.ensures (at_socket c.args.at (took c.args.bytes.now) d)
-    (subst (IsBehind (at_socket c.args.at (took c.args.bytes.now) d) c.args.gateway.now) (sym c.in-Ok.ensures) (behind_took c.args.bytes.now d c.args.at c.args.gateway.now c.args.places.now.items b))
+    (subst (IsBehind (at_socket c.args.at (took c.args.bytes.now) d) c.args.gateway.now) (sym c.in-Ok.ensures)
+    (behind_took c.args.bytes.now d c.args.at c.args.gateway.now c.args.places.now.items b))

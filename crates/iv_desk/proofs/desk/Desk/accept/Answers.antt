@@ -2,19 +2,20 @@ use Rattle.std.proofs.Common.{◌≡◌, ◌∙◌, ap, sym, subst, true}
 use Rattle.iv_clients.specs.Clients.{is_free}
 use Rattle.iv_desk.specs.Desks.{IsBehind}
 use Rattle.iv_desk.specs.Front.{begun}
-use Rattle.iv_desk.proofs.Desking.{begun_behind, begun_many, desk_alive, free_is, live_desk}
+use Rattle.iv_desk.proofs.Desking.{begun_behind, desk_alive, free_is, live_desk}
 use Rattle.iv_desk.proofs.desk.Desk.accept.Goals as goal
 
 pub returns-clause-begins : goal.returns-clause-begins
 returns-clause-begins c = λ d b.
     let a = desk_alive d c.args.self.now b c.if-self.false in
-    let free : is_free c.args.at c.args.self.now.places.items ≡ true = sym (c.is_free.ensures ∙ ap (is_free c.args.at) c.deref.ensures.value) ∙ c.if-not-is_free.false in
+    let free : is_free c.args.at c.args.self.now.places.items ≡ true = sym (c.is_free.ensures ∙ ap (is_free c.args.at) c.deref.ensures.value)
+    ∙ c.if-not-is_free.false in
     live_desk (begun c.args.at d) _
     (subst (IsBehind (begun c.args.at d) c.args.self.now.gateway) (sym c.put_at.ensures)
-    (begun_behind d c.args.at c.args.self.now.gateway c.args.self.now.places.items c.new-place.result a.stands free c.new-place.ensures))
-    (a.most ∙ sym (begun_many d c.args.at)) c.if-self.false
+    (begun_behind d c.args.at c.args.self.now.gateway c.args.self.now.places.items c.new-place.result a free c.new-place.ensures)) c.if-self.false
 
 pub returns-clause-answer : goal.returns-clause-answer
 returns-clause-answer c = λ d b alive.
     let a = desk_alive d c.args.self.now b c.if-self.false in
-    sym c.if-not-is_free.false ∙ (c.is_free.ensures ∙ (ap (is_free c.args.at) c.deref.ensures.value ∙ free_is d c.args.at c.args.self.now.gateway c.args.self.now.places.items a.stands))
+    sym c.if-not-is_free.false ∙ (c.is_free.ensures
+    ∙ (ap (is_free c.args.at) c.deref.ensures.value ∙ free_is d c.args.at c.args.self.now.gateway c.args.self.now.places.items a))

@@ -1,8 +1,8 @@
-use Rattle.std.proofs.Common.{◌∙◌, sym, subst}
+use Rattle.std.proofs.Common.{sym, subst}
 use Rattle.iv_peer.specs.Socket.{closed}
 use Rattle.iv_desk.specs.Front.{at_socket}
 use Rattle.iv_desk.specs.Desks.{IsBehind}
-use Rattle.iv_desk.proofs.Standing.{behind_closed, length_at}
+use Rattle.iv_desk.proofs.Standing.{behind_closed}
 use Rattle.iv_desk.proofs.Desking.{desk_alive, live_desk}
 use Rattle.iv_desk.proofs.desk.Desk.close.Goals as goal
 
@@ -11,5 +11,4 @@ returns-in-Ok-clause-front c = λ d b.
     let a = desk_alive d c.args.self.now b c.if-self.false in
     live_desk (at_socket c.args.at (closed c.args.code c.args.words.now) d) _
     (subst (IsBehind (at_socket c.args.at (closed c.args.code c.args.words.now) d) c.args.self.now.gateway) (sym c.in-Ok.ensures)
-    (behind_closed c.args.code c.args.words.now d c.args.at c.args.self.now.gateway c.args.self.now.places.items a.stands))
-    (a.most ∙ sym (length_at c.args.at (closed c.args.code c.args.words.now) d.sockets)) c.if-self.false
+    (behind_closed c.args.code c.args.words.now d c.args.at c.args.self.now.gateway c.args.self.now.places.items a)) c.if-self.false

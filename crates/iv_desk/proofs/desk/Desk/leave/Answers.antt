@@ -3,7 +3,7 @@ use Rattle.iv_gate.specs.Events.{gone, next}
 use Rattle.iv_desk.specs.Desks.{IsBehind}
 use Rattle.iv_desk.specs.Front.{left}
 use Rattle.iv_desk.proofs.OneNumber.{dead_by}
-use Rattle.iv_desk.proofs.Standing.{behind_put, length_set}
+use Rattle.iv_desk.proofs.Standing.{behind_put}
 use Rattle.iv_desk.proofs.Desking.{desk_alive, live_desk}
 use Rattle.iv_desk.proofs.desk.Desk.leave.Goals as goal
 
@@ -12,6 +12,6 @@ returns-in-Ok-clause-front c = λ d b.
     let a = desk_alive d c.args.self.now b c.if-self.false in
     live_desk (left c.args.at d) _
     (subst (IsBehind (left c.args.at d) c.left.new.self) (sym c.put_at.ensures)
-    (behind_put None tt d c.args.at (next d.gate (gone c.args.at)) c.args.self.now.gateway c.args.self.now.places.items a.stands c.left.new.self (c.in-Ok.ensures.gate d.gate a.stands.gate)
-    (dead_by c.events_leave_their_marks.ensures.marks d.gate (gone c.args.at) a.stands.alive ∙ a.stands.alive)))
-    (a.most ∙ sym (length_set c.args.at None d.sockets)) c.if-self.false
+    (behind_put None tt d c.args.at (next d.gate (gone c.args.at)) c.args.self.now.gateway c.args.self.now.places.items a c.left.new.self
+    (c.in-Ok.ensures.gate d.gate a.gate)
+    (dead_by c.events_leave_their_marks.ensures.marks d.gate (gone c.args.at) a.alive ∙ a.alive))) c.if-self.false

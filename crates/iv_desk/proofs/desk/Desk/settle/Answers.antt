@@ -1,13 +1,38 @@
-use Rattle.std.proofs.Common.{refl}
+use Rattle.std.proofs.Common.{◌∙◌, length, refl, subst, sym, take}
+use Rattle.std.specs.Io.KnownBytes.{Appends}
+use Rattle.std.proofs.Math.Seq.{take-length}
+use Rattle.std.proofs.lemmas.Bool.{false≢true}
 use Rattle.iv_gate.specs.Events.{synced}
 use Rattle.iv_desk.specs.Front.{by_event, offered}
-use Rattle.iv_desk.proofs.Desking.{called_desk, desk_alive, event_behind, offered_many}
+use Rattle.iv_desk.proofs.Desking.{called_desk, desk_alive, event_behind}
 use Rattle.iv_desk.proofs.desk.Desk.settle.Goals as goal
 
-pub returns-in-Ok-offer_all-clause-front : goal.returns-in-Ok-offer_all-clause-front
-returns-in-Ok-offer_all-clause-front g c = λ d b.
+pub returns-in-Ok-offer_told-clause-front : goal.returns-in-Ok-offer_told-clause-front
+returns-in-Ok-offer_told-clause-front g c = λ d b.
     let a = desk_alive d c.args.self.now b c.if-self.false in
-    called_desk offered offered_many (by_event synced d) _
-    (c.in-Ok-offer_all.ensures (by_event synced d)
-    (event_behind c.events_leave_their_marks.ensures.marks d synced c.args.self.now.gateway c.settle.new.self c.args.self.now.places.items a.stands (c.in-Ok.ensures.gate d.gate a.stands.gate) refl))
-    a.most c.if-self.false
+    called_desk offered (by_event synced d) _
+    (c.in-Ok-offer_told.ensures (by_event synced d)
+    (event_behind c.events_leave_their_marks.ensures.marks d synced c.args.self.now.gateway c.settle.new.self c.args.self.now.places.items a
+    (c.in-Ok.ensures.gate d.gate a.gate) refl))
+    c.if-self.false
+
+pub returns-then-self-clause-torn : goal.returns-then-self-clause-torn
+returns-then-self-clause-torn g c = λ d b alive. absurd (false≢true (sym alive ∙ (sym b.dead ∙ c.if-self.true)))
+
+pub returns-in-Err-clause-torn : goal.returns-in-Err-clause-torn
+returns-in-Err-clause-torn g c = λ d b alive.
+    let t = c.in-Err.ensures.torn in (
+      t.0,
+      subst (λ z. Appends (g.J.Journal.kept c.args.journal.now) (g.J.Journal.kept c.settle.new.journal) (take t.0 z))
+          ((desk_alive d c.args.self.now b c.if-self.false).gate.alive alive).pending.text t.1,
+    )
+
+pub returns-in-Err-offer_told-clause-torn : goal.returns-in-Err-offer_told-clause-torn
+returns-in-Err-offer_told-clause-torn g c = λ d b alive.
+    let n = length c.args.self.now.gateway.pending.items in (
+      n,
+      subst (λ z. Appends (g.J.Journal.kept c.args.journal.now) (g.J.Journal.kept c.settle.new.journal) (take n z))
+          ((desk_alive d c.args.self.now b c.if-self.false).gate.alive alive).pending.text
+          (subst (Appends (g.J.Journal.kept c.args.journal.now) (g.J.Journal.kept c.settle.new.journal))
+          (sym (take-length c.args.self.now.gateway.pending.items)) c.in-Ok.ensures.kept),
+    )

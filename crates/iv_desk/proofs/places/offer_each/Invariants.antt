@@ -1,0 +1,8 @@
+use Rattle.std.proofs.Common.{take}
+use Rattle.iv_desk.specs.Front.{Front, offered}
+use Rattle.iv_desk.specs.Desks.{IsBehind, at_each}
+use Rattle.iv_desk.proofs.places.offer_each.Given as goal
+
+abbrev pub invariant-loop-at : goal.invariant-loop-at
+invariant-loop-at l = (d : Front) → IsBehind d l.fn.gateway l.fn.places.items → IsBehind (at_each offered (take l.at-index l.numbers) d) l.gateway
+    l.places.items
