@@ -35,7 +35,7 @@ impl Hall {
         if !is_told_of_itself {
             return self.page_of_folder(rt, ask);
         }
-        if !self.admins.is_asking(head) {
+        if !self.doors.is_admin(head)? {
             let mut out = Vec::new(self.alloc);
             out.extend_from_slice(UNAUTHORIZED)?;
             return Ok(out);

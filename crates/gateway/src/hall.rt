@@ -1,11 +1,12 @@
 //! `Hall`: the sockets by their numbers, which are the desk's and the poll's, and what a round does with them.
 ghost use Rattle.gateway.specs.Running.{Leads};
 
+use crate::doors::Doors;
 use crate::fault::Fault;
 use crate::socket::{Socket, Stage};
 use crate::steps::settle;
 use iv_desk::Desk;
-use iv_host::{Admins, Counts, FileJournal, Log, Why, raise};
+use iv_host::{Counts, FileJournal, Log, Why, raise};
 use mio::event::Event;
 use mio::net::{TcpListener, TcpStream};
 use mio::{Events, Interest, Poll, Token};
@@ -49,7 +50,7 @@ pub struct Hall {
     pub now: u64,
     pub log: Log,
     pub counts: Counts,
-    pub admins: Admins,
+    pub doors: Doors,
     pub pages: Option<String>,
 }
 
@@ -76,7 +77,7 @@ impl Hall {
     pub fn new(
         alloc: Global,
         most: u32,
-        admins: Admins,
+        doors: Doors,
         pages: Option<String>,
     ) -> Result<Hall, AllocError> {
         let mut sockets = Vec::new(alloc);
@@ -98,7 +99,7 @@ impl Hall {
             now: 0,
             log: Log::new(),
             counts: Counts::new(),
-            admins,
+            doors,
             pages,
         })
     }

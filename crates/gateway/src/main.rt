@@ -2,13 +2,16 @@
 #![tactic(auto)]
 
 mod answering;
+mod doors;
 mod fault;
 mod hall;
 mod reading;
+mod scout;
 mod sending;
 mod serving;
 mod socket;
 mod steps;
+mod telling;
 
 use iv_host::asked_for;
 use serving::work;

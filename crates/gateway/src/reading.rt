@@ -3,7 +3,8 @@ ghost use Rattle.gateway.specs.Running.{Leads};
 
 use crate::fault::Fault;
 use crate::hall::{Hall, Kind};
-use crate::socket::{Got, Stage, read_at};
+use crate::scout::Scout;
+use crate::socket::{Got, Stage, listen_at, read_at};
 use crate::steps::{accept, close, hear, hear_on};
 use iv_desk::{Desk, Hearing};
 use iv_host::{ADMIN, FileJournal, Why, raise, refusal};
@@ -60,6 +61,7 @@ impl Hall {
         ensures { Leads desk.old desk.new }
     {
         let head = self.head_of(at);
+        let only_head = head.starts_with(b"HEAD ");
         match asked(&head) {
             Wish::More => {
                 self.keep_head(at, head);
@@ -68,11 +70,11 @@ impl Hall {
             Wish::Upgrade => self.upgrade(desk, at, &head),
             Wish::Page(ask) => {
                 let answer = self.page(rt, desk, journal, &head, &ask)?;
-                self.answer(rt, at, answer)
+                self.answer(rt, at, answer, only_head)
             }
             Wish::Refused(why) => {
-                let answer = refusal(rt, why, false)?;
-                self.answer(rt, at, answer)
+                let answer = refusal(rt, why, only_head)?;
+                self.answer(rt, at, answer, only_head)
             }
         }
     }
@@ -92,6 +94,17 @@ impl Hall {
         }
     }
 
+    /// What is presented at a number may be a web token, if there is a secret.
+    fn send_scout(&mut self, at: u32) {
+        if !self.doors.judges {
+            return;
+        }
+        let scout = Scout::new(self.alloc);
+        if let Some(socket) = self.socket(at) {
+            socket.scout = Some(scout);
+        }
+    }
+
     /// The desk has the connection of a number from now on, and hears what it has said so far.
     fn upgrade(&mut self, desk: &mut Desk, at: u32, head: &[u8]) -> Result<(), Fault>
         ensures { Leads desk.old desk.new }
@@ -102,6 +115,8 @@ impl Hall {
         if let Some(socket) = self.socket(at) {
             socket.stage = Stage::Desk;
         }
+        self.send_scout(at);
+        listen_at(&mut self.sockets, &mut self.doors, desk, at, head)?;
         let hearing = hear(desk, at, head)?;
         self.heed(at, hearing);
         self.asked.push(at)?;
@@ -121,11 +136,18 @@ impl Hall {
         sum
     }
 
-    /// A request is answered by these bytes, or told that too much waits for others.
-    fn answer(&mut self, rt: &HostRuntime, at: u32, bytes: Vec<u8>) -> Result<(), Fault> {
+    /// A request is answered by these bytes, or told that too much waits for others, without contents if the head of an answer was asked
+    /// for alone.
+    fn answer(
+        &mut self,
+        rt: &HostRuntime,
+        at: u32,
+        bytes: Vec<u8>,
+        only_head: bool,
+    ) -> Result<(), Fault> {
         raise(&mut self.counts.asked, 1);
         let answer = if self.unsent() > MOST_UNSENT {
-            refusal(rt, Refusal::Unavailable, false)?
+            refusal(rt, Refusal::Unavailable, only_head)?
         } else {
             bytes
         };
@@ -164,7 +186,7 @@ impl Hall {
     fn read_once(&mut self, desk: &mut Desk, at: u32) -> Result<bool, Fault>
         ensures { Leads desk.old desk.new }
     {
-        let (got, hearing) = read_at(&mut self.sockets, desk, at)?;
+        let (got, hearing) = read_at(&mut self.sockets, &mut self.doors, desk, at)?;
         match got {
             Got::Nothing => {
                 if let Some(socket) = self.socket(at) {
@@ -229,17 +251,15 @@ impl Hall {
         }
         let address = socket.address;
         let Some(role) = desk.role_of(at) else {
-            if desk.is_over(at) && self.log.may_say(rt, now) {
-                let _ = eprintln!(rt; "gateway: {address} did not come in");
+            if desk.is_over(at) {
+                self.say_refused(rt, at, address);
             }
             return Ok(());
         };
         socket.came = true;
         socket.until = None;
         raise(&mut self.counts.came, 1);
-        if self.log.may_say(rt, now) {
-            let _ = eprintln!(rt; "gateway: {address} came in as {role}");
-        }
+        self.say_came(rt, desk, at, address, role);
         if self.has_room(desk, at, role) {
             return Ok(());
         }

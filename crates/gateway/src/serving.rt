@@ -3,14 +3,18 @@ ghost use Rattle.std.specs.Prelude.{ℕ, OnOk};
 ghost use Rattle.iv_host.specs.Settings.{AreValid};
 ghost use Rattle.gateway.specs.Running.{IsNew, IsRunning, Leads};
 
+use crate::doors::Doors;
 use crate::fault::Fault;
 use crate::hall::{Hall, LISTENER};
-use crate::steps::{know, new_desk, restore, tick};
+use crate::steps::{new_desk, restore, tick};
 use iv_clients::{Token, TokensFault};
 use iv_desk::Desk;
 use iv_engine::Seed;
 use iv_gateway::RestoreFault;
-use iv_host::{Admins, FileJournal, OpenFault, Settings, TokenFault, TokenFile};
+use iv_host::{
+    FileJournal, OpenFault, SecretFault, Settings, TokenFault, TokenFile, read_secret, second_now,
+};
+use iv_tokens::{Entry, KnownTokens};
 use mio::net::TcpListener;
 use mio::{Events, Interest, Poll};
 use std::alloc::{AllocError, Global};
@@ -61,6 +65,15 @@ fn say_tokens(rt: &HostRuntime, fault: &TokenFault) {
     };
 }
 
+/// Says why a secret is not usable.
+fn no_secret(rt: &HostRuntime, path: &str, fault: &SecretFault) -> u8 {
+    let _ = match fault {
+        SecretFault::System(error) => eprintln!(rt; "gateway: {path}: {error}"),
+        SecretFault::Short => eprintln!(rt; "gateway: {path}: a secret has 32 bytes or more"),
+    };
+    UNUSABLE
+}
+
 /// Says why the gateway does no more.
 fn failed(rt: &HostRuntime, journal: &FileJournal, fault: Fault) -> u8 {
     match fault {
@@ -108,29 +121,31 @@ struct Clock {
     alive: u64,
 }
 
-/// Has the desk know the tokens of the file, where it has changed.
+/// Reads the file of tokens again, where it has changed.
+fn read_tokens(rt: &HostRuntime, hall: &mut Hall, file: &mut TokenFile) {
+    match file.changed(rt) {
+        Ok(None) => {}
+        Ok(Some(entries)) => {
+            if entries.is_empty() {
+                say_tokens(rt, &TokenFault::File(TokensFault::Empty));
+            }
+            hall.doors.known.read(entries);
+        }
+        Err(fault) => say_tokens(rt, &fault),
+    }
+}
+
+/// Has the desk know the tokens that are valid now, where these are others than those that it knows.
 fn look_at_tokens(
     rt: &HostRuntime,
     desk: &mut Desk,
     hall: &mut Hall,
-    tokens: &mut TokenFile,
+    file: &mut TokenFile,
 ) -> Result<(), Fault>
     ensures { Leads desk.old desk.new }
 {
-    match tokens.changed(rt) {
-        Ok(None) => Ok(()),
-        Ok(Some(tokens)) => {
-            if tokens.is_empty() {
-                say_tokens(rt, &TokenFault::File(TokensFault::Empty));
-            }
-            hall.admins = Admins::among(rt.alloc(), &tokens)?;
-            know(desk, tokens)
-        }
-        Err(fault) => {
-            say_tokens(rt, &fault);
-            Ok(())
-        }
-    }
+    read_tokens(rt, hall, file);
+    hall.doors.open_at(desk, second_now(rt))
 }
 
 /// Looks at the tokens and at who is late, once a second.
@@ -190,7 +205,7 @@ fn serve(
     };
     let mut clock = Clock {
         start,
-        second: 0,
+        second: u64::MAX,
         alive: 0,
     };
     let mut events = Events::with_capacity(rt.alloc(), 1024)?;
@@ -334,14 +349,13 @@ fn copied(text: &Option<String>) -> Result<Option<String>, AllocError> {
 }
 
 /// The hall that the settings ask for.
-fn new_hall(alloc: Global, settings: &Settings, tokens: &[Token]) -> Result<Hall, AllocError> {
-    let admins = Admins::among(alloc, tokens)?;
+fn new_hall(alloc: Global, settings: &Settings, doors: Doors) -> Result<Hall, AllocError> {
     let pages = copied(&settings.pages)?;
-    Hall::new(alloc, settings.clients, admins, pages)
+    Hall::new(alloc, settings.clients, doors, pages)
 }
 
 /// Opens the file of tokens, or says why it is not taken.
-fn open_tokens(rt: &HostRuntime, path: String) -> Result<(TokenFile, Vec<Token>), u8> {
+fn open_tokens(rt: &HostRuntime, path: String) -> Result<(TokenFile, Vec<Entry>), u8> {
     match TokenFile::open(rt, path) {
         Ok(opened) => Ok(opened),
         Err(fault) => {
@@ -351,12 +365,38 @@ fn open_tokens(rt: &HostRuntime, path: String) -> Result<(TokenFile, Vec<Token>)
     }
 }
 
-/// Serves over a new desk, with these tokens.
+/// The secret that grants web tokens: none, if none is asked for.
+fn secret_of(rt: &HostRuntime, settings: &Settings) -> Result<Vec<u8>, u8> {
+    match &settings.jwt_secret {
+        None => Ok(Vec::new(rt.alloc())),
+        Some(path) => match read_secret(rt, path.as_str()) {
+            Ok(secret) => Ok(secret),
+            Err(fault) => Err(no_secret(rt, path.as_str(), &fault)),
+        },
+    }
+}
+
+/// The doors, and the tokens that a new desk is to know.
+fn new_doors(
+    rt: &HostRuntime,
+    settings: &Settings,
+    entries: Vec<Entry>,
+) -> Result<(Doors, Vec<Token>), u8> {
+    let secret = secret_of(rt, settings)?;
+    let judges = !secret.is_empty();
+    let known = KnownTokens::new(rt.alloc(), secret, entries);
+    match Doors::new(rt.alloc(), known, settings.clients, judges, second_now(rt)) {
+        Ok(doors) => Ok(doors),
+        Err(_) => Err(out_of_memory(rt)),
+    }
+}
+
+/// Serves over a new desk, with the tokens of these entries.
 fn serve_anew(
     rt: &HostRuntime,
     settings: &Settings,
     file: &mut TokenFile,
-    tokens: Vec<Token>,
+    entries: Vec<Entry>,
 ) -> Result<(), u8>
     requires { AreValid settings.now }
 {
@@ -365,7 +405,8 @@ fn serve_anew(
         return Err(SYSTEM);
     };
     let alloc = rt.alloc();
-    let Ok(mut hall) = new_hall(alloc, settings, &tokens) else {
+    let (doors, tokens) = new_doors(rt, settings, entries)?;
+    let Ok(mut hall) = new_hall(alloc, settings, doors) else {
         return Err(out_of_memory(rt));
     };
     match new_desk(alloc, seed, settings.rows, settings.clients, tokens) {
@@ -384,6 +425,6 @@ pub fn work(rt: &HostRuntime, settings: &Settings) -> Result<(), u8>
     let Ok(path) = settings.tokens.clone() else {
         return Err(out_of_memory(rt));
     };
-    let (mut file, tokens) = open_tokens(rt, path)?;
-    serve_anew(rt, settings, &mut file, tokens)
+    let (mut file, entries) = open_tokens(rt, path)?;
+    serve_anew(rt, settings, &mut file, entries)
 }

@@ -1,9 +1,12 @@
 //! `Socket`: a connection at a number, how far it is, and the two functions by which its bytes come to the desk and go from it.
 ghost use Rattle.gateway.specs.Running.{Leads};
 
+use crate::doors::Doors;
 use crate::fault::Fault;
+use crate::scout::{Found, Scout};
 use crate::steps::{hear, pass};
 use iv_desk::{Desk, Hearing};
+use iv_tokens::Judged;
 use mio::net::TcpStream;
 use std::alloc::Global;
 use std::io::{ErrorKind, Read, Write};
@@ -41,6 +44,10 @@ pub struct Socket {
     pub listed: bool,
     /// Bytes of it lie at the desk that are not heard now.
     pub unheard: bool,
+    /// What it presents is heard, if that may be a web token, and nothing was presented yet.
+    pub scout: Option<Scout>,
+    /// What became of the text that it presented, if that was judged.
+    pub judged: Option<Judged>,
     /// It has presented a token that is known.
     pub came: bool,
     /// Since when bytes wait for it and none were taken, in milliseconds.
@@ -72,6 +79,8 @@ impl Socket {
             writable: true,
             listed: false,
             unheard: false,
+            scout: None,
+            judged: None,
             came: false,
             stuck: None,
             until: Some(until),
@@ -100,6 +109,20 @@ impl Socket {
             Stage::Head(head) => mem::replace(head, Vec::new(self.alloc)),
             _ => Vec::new(self.alloc),
         }
+    }
+
+    /// Hears bytes before the desk does. The first text, if it ends in them.
+    pub fn listen(&mut self, bytes: &[u8]) -> Result<Option<String>, Fault> {
+        let Some(scout) = &mut self.scout else {
+            return Ok(None);
+        };
+        let text = match scout.hear(bytes)? {
+            Found::More => return Ok(None),
+            Found::Text(text) => Some(text),
+            Found::Nothing => None,
+        };
+        drop(self.scout.take());
+        Ok(text)
     }
 
     /// Reads bytes and forgets them.
@@ -174,9 +197,31 @@ fn nothing_or_end(kind: ErrorKind) -> Got {
     }
 }
 
+/// Judges what is presented at a number, before the desk hears these bytes.
+pub fn listen_at(
+    sockets: &mut [Option<Socket>],
+    doors: &mut Doors,
+    desk: &mut Desk,
+    at: u32,
+    bytes: &[u8],
+) -> Result<(), Fault>
+    ensures { Leads desk.old desk.new }
+{
+    let Some(Some(socket)) = sockets.get_mut(at as usize) else {
+        return Ok(());
+    };
+    let Some(text) = socket.listen(bytes)? else {
+        return Ok(());
+    };
+    let judged = doors.present(desk, text.as_bytes())?;
+    socket.judged = Some(judged);
+    Ok(())
+}
+
 /// Reads once at a number. What comes is heard there, and nowhere else.
 pub fn read_at(
     sockets: &mut [Option<Socket>],
+    doors: &mut Doors,
     desk: &mut Desk,
     at: u32,
 ) -> Result<(Got, Hearing), Fault>
@@ -189,6 +234,7 @@ pub fn read_at(
     match socket.stream.read(&mut buffer) {
         Ok(0) => Ok((Got::End, Hearing::All)),
         Ok(count) => {
+            listen_at(sockets, doors, desk, at, &buffer[..count])?;
             let hearing = hear(desk, at, &buffer[..count])?;
             Ok((Got::Bytes(count), hearing))
         }

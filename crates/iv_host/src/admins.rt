@@ -1,5 +1,5 @@
 //! `Admins`: the tokens that open the role of administrators, for what the head of a request presents.
-ghost use Rattle.std.specs.Prelude.{◌≡◌, ◌≤◌, ℕ, List, IfOk, codes, length, map, option_map, true};
+ghost use Rattle.std.specs.Prelude.{◌≡◌, ◌≤◌, ℕ, List, IfOk, codes, length, map, option_and_then, option_map, true};
 ghost use Rattle.httparse.specs.Grammar.{ReadsRequest, RequestHead};
 ghost use Rattle.httparse.specs.Spans.{name_and_value};
 ghost use Rattle.iv_clients.specs.Tokens.{has_digest};
@@ -8,6 +8,7 @@ ghost use Rattle.iv_host.specs.Admins.{admins_among, is_admin, is_known, opens_b
 
 use crate::heads::{field_of, same_name};
 use iv_clients::Token;
+use iv_tokens::copied;
 use sha2::{Digest, Sha256};
 use std::alloc::{AllocError, Global};
 
@@ -25,16 +26,6 @@ fn is_admin(token: &Token) -> bool
     ensures { result ≡ is_admin token.now }
 {
     token.role.as_str() == "admin"
-}
-
-/// A copy of a token.
-fn copied(alloc: Global, token: &Token) -> Result<Token, AllocError>
-    ensures { IfOk result (λ t. t ≡ token.now) }
-{
-    let mut digest = Vec::new(alloc);
-    digest.extend_from_slice(&token.digest)?;
-    let role = String::from_str(alloc, token.role.as_str())?;
-    Ok(Token { digest, role })
 }
 
 /// Without the spaces in front.
@@ -107,4 +98,19 @@ impl Admins {
     {
         self.opens_by(field_of(head, b"authorization"))
     }
+}
+
+/// The token that a field `Authorization` presents, if there is one.
+fn presented_by(field: Option<&[u8]>) -> Option<&[u8]>
+    ensures { option_map (λ t. t.now) result ≡ option_and_then presented (option_map (λ v. v.now) field.entry) }
+{
+    presented(field?)
+}
+
+/// The token that the head of a request presents, by its first field `Authorization`. What stands behind the head is not looked at.
+pub fn presented_in(head: &[u8]) -> Option<&[u8]>
+    ensures presents { (h : RequestHead) (rest : List ℕ) → ReadsRequest (window head.now) h rest → length h.fields ≤ most_fields
+        → option_map (λ t. t.now) result ≡ option_and_then presented (field_in (codes "authorization") (map name_and_value h.fields)) }
+{
+    presented_by(field_of(head, b"authorization"))
 }

@@ -30,6 +30,8 @@ pub struct Settings {
     pub pages: Option<String>,
     /// The file that a journal begins with that is missing.
     pub seed: Option<String>,
+    /// The file with the secret that grants web tokens, if there is one.
+    pub jwt_secret: Option<String>,
     /// The number of different rows at most of a table, and of each step of a view that is read.
     pub rows: u32,
     /// The number of sockets at most.
@@ -103,6 +105,12 @@ fn with_files<'a>(alloc: Global, command: Command<'a>) -> Result<Command<'a>, Al
             "seed",
             "FILE",
             "What a journal begins with that is missing",
+        ))?
+        .arg(text(
+            alloc,
+            "jwt-secret-file",
+            "FILE",
+            "The secret of web tokens (HS256), of 32 bytes or more",
         ))
 }
 
@@ -216,6 +224,7 @@ fn found(alloc: Global, matches: &ArgMatches<'_>) -> Result<Option<Settings>, Al
         tokens,
         pages: text_of(alloc, matches, "pages")?,
         seed: text_of(alloc, matches, "seed")?,
+        jwt_secret: text_of(alloc, matches, "jwt-secret-file")?,
         rows: numbers.rows,
         clients: numbers.clients,
     }))

@@ -13,7 +13,7 @@ mod log;
 mod pages;
 mod tokens;
 
-pub use admins::{ADMIN, Admins};
+pub use admins::{ADMIN, Admins, presented_in};
 pub use arguments::{Settings, asked_for};
 pub use counts::{BOUNDS, Counts, Why, raise};
 pub use disk::{Disk, put};
@@ -21,4 +21,4 @@ pub use figures::{Now, figures_now, state_now};
 pub use journal::{DiskJournal, FileJournal, OpenFault, Syncs};
 pub use log::Log;
 pub use pages::{answer, page_in, refusal};
-pub use tokens::{TokenFault, TokenFile};
+pub use tokens::{SecretFault, TokenFault, TokenFile, read_secret, second_now};

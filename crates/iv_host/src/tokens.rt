@@ -1,10 +1,11 @@
-//! `TokenFile`: the file of tokens, which is read again where it changes.
-ghost use Rattle.std.specs.Prelude.{◌≡◌, IfOk, Some, [], unwrap_or};
-ghost use Rattle.iv_clients.specs.Tokens.{tokens_in};
+//! `TokenFile`: the file of tokens, which is read again where it changes; `second_now`: the second at which they have to be valid.
+ghost use Rattle.std.specs.Prelude.{◌≡◌, IfOk, Some};
+ghost use Rattle.iv_tokens.specs.Entries.{entries_in};
 
-use iv_clients::{Token, TokensFault, read_tokens};
+use iv_clients::TokensFault;
+use iv_tokens::{Entry, read_entries};
 use std::alloc::Global;
-use std::time::SystemTime;
+use std::time::{SystemTime, UNIX_EPOCH};
 use std::{fs, io};
 
 /// Why a file of tokens is not taken.
@@ -52,47 +53,77 @@ fn stamp_of(rt: &HostRuntime, path: &str) -> Stamp {
     }
 }
 
-/// The tokens in the bytes of a file.
-fn tokens_in(alloc: Global, bytes: &[u8]) -> Result<Vec<Token>, TokenFault>
-    ensures { IfOk result (λ ts. tokens_in bytes.now ≡ Some ts.items) }
+/// The entries in the bytes of a file.
+fn entries_in(alloc: Global, bytes: &[u8]) -> Result<Vec<Entry>, TokenFault>
+    ensures { IfOk result (λ es. entries_in bytes.now ≡ Some es.items) }
 {
-    Ok(read_tokens(alloc, bytes)?)
-}
-
-/// The tokens in the bytes of a file that was read before: none, where it has none now.
-fn tokens_left(alloc: Global, bytes: &[u8]) -> Result<Vec<Token>, TokenFault>
-    ensures { IfOk result (λ ts. ts.items ≡ unwrap_or (tokens_in bytes.now) []) }
-{
-    match read_tokens(alloc, bytes) {
-        Ok(tokens) => Ok(tokens),
-        Err(TokensFault::Empty) => Ok(Vec::new(alloc)),
-        Err(fault) => Err(TokenFault::File(fault)),
-    }
+    Ok(read_entries(alloc, bytes)?)
 }
 
 impl TokenFile {
-    /// A file of tokens, with its tokens.
+    /// A file of tokens, with its entries.
     ///
     /// # Errors
-    /// `System` where it could not be read, `File` where it is no file of tokens.
-    pub fn open(rt: &HostRuntime, path: String) -> Result<(TokenFile, Vec<Token>), TokenFault> {
+    /// `System` where it could not be read, `File` where it is no file of tokens, or has none.
+    pub fn open(rt: &HostRuntime, path: String) -> Result<(TokenFile, Vec<Entry>), TokenFault> {
         let stamp = stamp_of(rt, path.as_str());
         let bytes = fs::read(rt, path.as_str())?;
-        let tokens = tokens_in(rt.alloc(), &bytes)?;
-        Ok((TokenFile { path, stamp }, tokens))
+        let entries = entries_in(rt.alloc(), &bytes)?;
+        if entries.is_empty() {
+            return Err(TokenFault::File(TokensFault::Empty));
+        }
+        Ok((TokenFile { path, stamp }, entries))
     }
 
-    /// The tokens, where the file is another than when it was last looked at. A file with no token has none, and lets nobody in.
+    /// The entries, where the file is another than when it was last looked at. A file with no token has none, and lets nobody in.
     ///
     /// # Errors
-    /// As of `open`; it is not looked at again until it changes.
-    pub fn changed(&mut self, rt: &HostRuntime) -> Result<Option<Vec<Token>>, TokenFault> {
+    /// `System` where it could not be read, `File` where it is no file of tokens; it is not looked at again until it changes.
+    pub fn changed(&mut self, rt: &HostRuntime) -> Result<Option<Vec<Entry>>, TokenFault> {
         let stamp = stamp_of(rt, self.path.as_str());
         if stamp == self.stamp {
             return Ok(None);
         }
         self.stamp = stamp;
         let bytes = fs::read(rt, self.path.as_str())?;
-        Ok(Some(tokens_left(rt.alloc(), &bytes)?))
+        Ok(Some(entries_in(rt.alloc(), &bytes)?))
+    }
+}
+
+/// Why a file has no secret.
+#[derive(Debug, Drop)]
+pub enum SecretFault {
+    /// It could not be read.
+    System(io::Error),
+    /// It has fewer than 32 bytes.
+    Short,
+}
+
+/// The secret that grants web tokens: the bytes of a file, without a newline at their end.
+///
+/// # Errors
+/// `System` where it could not be read, `Short` where it has fewer than 32 bytes.
+pub fn read_secret(rt: &HostRuntime, path: &str) -> Result<Vec<u8>, SecretFault> {
+    let mut secret = match fs::read(rt, path) {
+        Ok(bytes) => bytes,
+        Err(error) => return Err(SecretFault::System(error)),
+    };
+    if secret.as_slice().last() == Some(&b'\n') {
+        drop(secret.pop());
+    }
+    if secret.len() < 32 {
+        return Err(SecretFault::Short);
+    }
+    Ok(secret)
+}
+
+/// Seconds since 1970. Without a clock it is after the end of whatever has one.
+pub fn second_now(rt: &HostRuntime) -> u64 {
+    match SystemTime::now(rt) {
+        Ok(now) => match now.duration_since(UNIX_EPOCH) {
+            Ok(time) => time.as_secs(),
+            Err(_) => u64::MAX,
+        },
+        Err(_) => u64::MAX,
     }
 }

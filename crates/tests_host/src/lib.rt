@@ -5,3 +5,5 @@
 mod answering;
 #[cfg(test)]
 mod disks;
+#[cfg(test)]
+mod ending;

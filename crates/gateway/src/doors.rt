@@ -1,0 +1,157 @@
+//! `Doors`: the tokens that the desk is to know, as far as a second says, and web tokens that are presented.
+ghost use Rattle.gateway.specs.Running.{Leads};
+
+use crate::fault::Fault;
+use crate::steps::know;
+use iv_clients::Token;
+use iv_desk::Desk;
+use iv_host::{ADMIN, Admins, presented_in};
+use iv_tokens::{Judged, KnownTokens};
+use std::alloc::{AllocError, Global};
+
+/// Seconds between two looks at which web tokens no client has.
+const LOOKS: u64 = 10;
+
+/// Who may come in.
+#[derive(Drop)]
+pub struct Doors {
+    alloc: Global,
+    pub known: KnownTokens,
+    admins: Admins,
+    /// Clients have numbers below this.
+    most: u32,
+    /// Whether texts that are presented may be web tokens.
+    pub judges: bool,
+    /// The second for which tokens are known.
+    second: u64,
+    /// It was looked in this second at which web tokens no client has.
+    looked: bool,
+}
+
+/// Whether a client came by the token of a digest.
+fn is_used(desk: &Desk, most: u32, digest: &[u8]) -> bool {
+    for at in 0..most {
+        if desk.digest_of(at) == Some(digest) {
+            return true;
+        }
+    }
+    false
+}
+
+impl Doors {
+    /// Those of known tokens, and the tokens that are known at a second, in seconds since 1970, for a new desk.
+    ///
+    /// # Errors
+    /// `AllocError` where a growth of memory was refused.
+    pub fn new(
+        alloc: Global,
+        known: KnownTokens,
+        most: u32,
+        judges: bool,
+        second: u64,
+    ) -> Result<(Doors, Vec<Token>), AllocError> {
+        let mut known = known;
+        let tokens = match known.at(alloc, second)? {
+            Some(tokens) => tokens,
+            None => Vec::new(alloc),
+        };
+        let admins = Admins::among(alloc, &tokens)?;
+        let doors = Doors {
+            alloc,
+            known,
+            admins,
+            most,
+            judges,
+            second,
+            looked: false,
+        };
+        Ok((doors, tokens))
+    }
+
+    /// Has the desk know the tokens that are known now, where these are others than those that it knows. Who came by another is closed.
+    fn open(&mut self, desk: &mut Desk) -> Result<(), Fault>
+        ensures { Leads desk.old desk.new }
+    {
+        match self.known.at(self.alloc, self.second)? {
+            None => Ok(()),
+            Some(tokens) => {
+                self.admins = Admins::among(self.alloc, &tokens)?;
+                know(desk, tokens)
+            }
+        }
+    }
+
+    /// It is a further second. Has the desk know the tokens that are known then, where these are others than those that it knows. Who came by
+    /// another is closed.
+    ///
+    /// # Errors
+    /// `Memory` where a growth of memory was refused.
+    pub fn open_at(&mut self, desk: &mut Desk, second: u64) -> Result<(), Fault>
+        ensures { Leads desk.old desk.new }
+    {
+        self.second = second;
+        self.looked = false;
+        if second % LOOKS == 0 {
+            self.forget_unused(desk);
+        }
+        self.open(desk)
+    }
+
+    /// Forgets the web token of a place, if it has ended, or no client has it.
+    fn forget_at(&mut self, desk: &Desk, at: usize) {
+        let is_kept = match self.known.web().get(at) {
+            None => true,
+            Some(one) => { one.until > self.second && is_used(desk, self.most, &one.token.digest) }
+        };
+        if !is_kept && at < self.known.web().len() {
+            self.known.forget(at);
+        }
+    }
+
+    /// Forgets web tokens that have ended, or that no client has.
+    fn forget_unused(&mut self, desk: &Desk) {
+        self.looked = true;
+        let count = self.known.web().len();
+        for back in 0..count {
+            self.forget_at(desk, count - 1 - back);
+        }
+    }
+
+    /// Judges a text; where too many are known, once more without those that no client has.
+    fn judge(&mut self, desk: &Desk, text: &[u8]) -> Result<Judged, Fault> {
+        let judged = self.known.judge(self.alloc, self.second, text)?;
+        if judged != Judged::Full || self.looked {
+            return Ok(judged);
+        }
+        self.forget_unused(desk);
+        Ok(self.known.judge(self.alloc, self.second, text)?)
+    }
+
+    /// A client presents a text. A web token that is granted is known to the desk from now on.
+    ///
+    /// # Errors
+    /// As of `open_at`.
+    pub fn present(&mut self, desk: &mut Desk, text: &[u8]) -> Result<Judged, Fault>
+        ensures { Leads desk.old desk.new }
+    {
+        let judged = self.judge(desk, text)?;
+        if judged == Judged::Granted {
+            self.open(desk)?;
+        }
+        Ok(judged)
+    }
+
+    /// Whether the head of a request presents the token of an administrator.
+    ///
+    /// # Errors
+    /// As of `open_at`.
+    pub fn is_admin(&self, head: &[u8]) -> Result<bool, Fault> {
+        if self.admins.is_asking(head) {
+            return Ok(true);
+        }
+        match presented_in(head) {
+            None => Ok(false),
+            Some(token) => Ok(self.known.grants(self.alloc, self.second, token, ADMIN)?),
+        }
+    }
+}

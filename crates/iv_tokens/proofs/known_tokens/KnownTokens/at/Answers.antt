@@ -1,0 +1,5 @@
+use Rattle.iv_tokens.proofs.Granting.{all_known_in}
+use Rattle.iv_tokens.proofs.known_tokens.KnownTokens.at.Goals as goal
+
+pub returns-clause-known : goal.returns-clause-known
+returns-clause-known c = all_known_in c.args.now c.args.self.now _ c.in_ok-tokens.tokens.items c.self.view_is c.self.invariant (rw (c.deref-2.ensures.value, c.deref-3.ensures.value) at c.in_ok-tokens.ensures)

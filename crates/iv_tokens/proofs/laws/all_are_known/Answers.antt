@@ -1,0 +1,5 @@
+use Rattle.iv_tokens.proofs.Granting.{all_known}
+use Rattle.iv_tokens.proofs.laws.all_are_known.Goals as goal
+
+pub returns : goal.returns
+returns c = all_known

@@ -1,0 +1,5 @@
+pub mod Entries
+pub mod Granted
+pub mod Lines
+pub mod Moments
+pub mod Web
