@@ -6,8 +6,9 @@ import logging
 import struct
 import termios
 from collections.abc import Callable
+from typing import Any
 
-from journal import Entry
+from journal import Entry, Request
 
 BACKLOG = 4 << 20  # bytes that may wait for one browser beyond what it asked for; who lets more wait is dropped
 IN_FLIGHT = 32  # requests of one browser without a reply; its next ones stay in its socket
@@ -43,7 +44,7 @@ class Client:
         self.asked_bytes, self.allowance = 0, BACKLOG
         self.sent, self.heard, self.busy = 0, 0, True  # bytes, messages, and whether it waits for viewd to take one: its entry is the first
         self.flight = asyncio.Semaphore(IN_FLIGHT)
-        self.task = asyncio.current_task()
+        self.task = asyncio.current_task()  # which ends with it
 
     def behind(self) -> int:
         """The bytes that wait for this browser to read."""
@@ -51,7 +52,8 @@ class Client:
 
     def waits(self) -> int:
         """The same, with those that this system has taken and the other end has not."""
-        return self.behind() + struct.unpack("i", fcntl.ioctl(self.transport.get_extra_info("socket"), termios.TIOCOUTQ, bytes(4)))[0]
+        taken: int = struct.unpack("i", fcntl.ioctl(self.transport.get_extra_info("socket"), termios.TIOCOUTQ, bytes(4)))[0]
+        return self.behind() + taken
 
     def send(self, message: bytes) -> bool:
         """Whether the browser could be kept. What it asked for itself may wait beside the backlog."""
@@ -72,7 +74,8 @@ class Client:
         """Without a farewell, which would stand behind the backlog: the page connects and subscribes anew."""
         self.gone = True
         self.transport.abort()
-        self.task.cancel()
+        if self.task:
+            self.task.cancel()
 
 
 @dataclasses.dataclass(eq=False)
@@ -80,7 +83,7 @@ class Ask:
     """A line that viewd was given and has not answered to its end."""
 
     client: Client | None  # whose reply it is; none of the gateway's own lines, which have to be accepted
-    request: dict = dataclasses.field(default_factory=dict)
+    request: Request = dataclasses.field(default_factory=dict)
     body: bytes = b""
     name: bytes | None = None  # the client's `id`
     refusal: int = 0  # what to reply, where the gateway has refused and viewd sees another fence
@@ -109,7 +112,7 @@ def frames_of(clients: set[Client]) -> list[tuple[Client, bytes]]:
     return frames
 
 
-async def ended(tasks: list[asyncio.Task]) -> None:
+async def ended(tasks: list[asyncio.Task[Any]]) -> None:
     """Ends tasks. Some have to be told again: redis-py can take the end of a task for a timeout of its own."""
     while left := [task for task in tasks if not task.done()]:
         for task in left:

@@ -1,15 +1,17 @@
 """The columns of a relation, from the request that made it and the columns of those before it: viewd does not tell them."""
 import re
+from typing import Any
 
 Columns = list[list[str]]  # pairs of a name and a kind
 WORD = re.compile(r"'(?:[^']|'')*'|\w+|[^\w\s]")  # a text in a query is one word
 BEHIND = {"join", "inner", "on", "where", "group"}  # what may stand behind a source that has no alias
 
 
-def columns_of(made: dict, known: dict[str, Columns]) -> Columns:
+def columns_of(made: dict[str, Any], known: dict[str, Columns]) -> Columns:
     """Of a `create_table` or `create_view` that viewd has accepted. A set operation has the names of its left side."""
     if made["do"] == "create_table":
-        return made["columns"]
+        columns: Columns = made["columns"]
+        return columns
     words = re.split(r"\b(?:union|except)\b", " ".join(it for it in WORD.findall(made["query"].lower()) if it[0] != "'"))[0].split()
     begin = words.index("from")
     sources = sources_of(words[begin:], known)
@@ -33,4 +35,4 @@ def column_of(item: list[str], sources: dict[str, Columns], columns: Columns) ->
     if item[1:2] == ["("]:
         return [item[-1], "int"]
     source, column = (sources[item[0]], item[2]) if item[1:2] == ["."] else (columns, item[0])
-    return [item[-1], dict(map(tuple, source))[column]]
+    return [item[-1], {name: kind for name, kind in source}[column]]

@@ -6,22 +6,27 @@
 viewd has no dump, so it is told the journal and the administrator subscribes to each table. What was written is read
 back by another viewd before it takes the journal's place. Where anything differs, the journal stays as it was.
 
-A file is written anew while no gateway writes it. Of a stream, redis://HOST:PORT/NAME, the lines are kept as a snapshot of the
-place to which it was read, gateways that start begin there, and what stands further behind goes; gateways run meanwhile.
+A file, the journal of ./gateway, is written anew while no gateway writes it. Of a stream, redis://HOST:PORT/NAME, the lines are kept
+as a snapshot of the place to which it was read, gateways that start begin there, and what stands further behind goes; gateways run
+meanwhile.
 """
 import argparse
 import asyncio
+import contextlib
+import fcntl
 import json
+import os
 import pathlib
 import subprocess
 import sys
-from collections.abc import Iterable, Iterator
+from collections.abc import Callable, Iterable, Iterator
+from typing import Any
 
-from journal import BODY, Anew, Damaged, Journal, Shape, by_role, entry_of, replace, replay, to_text
+from journal import BODY, Anew, Damaged, Request, Shape, by_role, entry_of, replay, to_text
 
 ENTRIES = 1000  # of a write
 
-Rows = dict[str, list]  # of each table: pairs of copies and row
+Rows = dict[str, list[Any]]  # of each table: pairs of copies and row
 
 
 class Viewd:
@@ -29,23 +34,25 @@ class Viewd:
 
     def __init__(self, words: list[str | pathlib.Path]):
         self.process = subprocess.Popen(words, stdin=subprocess.PIPE, stdout=subprocess.PIPE)
+        assert self.process.stdin and self.process.stdout
+        self.to, self.told = self.process.stdin, self.process.stdout
         self.sessions: dict[str, int] = {}
 
-    def ask(self, role: str, request: dict) -> tuple[dict, list]:
+    def ask(self, role: str, request: Request) -> tuple[Request, list[Any]]:
         """The reply, and the changes that came before it. Raises Damaged where it is no acceptance."""
         if role not in self.sessions and request["do"] != "begin":
             self.ask(role, {"do": "begin", "role": role})
         session = self.sessions.setdefault(role, len(self.sessions) + 1)
-        self.process.stdin.write(to_text(request | {"session": session}) + b"\n")
-        self.process.stdin.flush()
-        changes = []
-        while "changes" in (line := json.loads(self.process.stdout.readline() or "{}")):
+        self.to.write(to_text(request | {"session": session}) + b"\n")
+        self.to.flush()
+        changes: list[Any] = []
+        while "changes" in (line := json.loads(self.told.readline() or "{}")):
             changes += line["changes"]
         if "ok" not in line:
             raise Damaged(f"viewd answers {line} to {request} of {role}")
         return line, changes
 
-    def state(self, entries: Iterable[tuple[str, dict]]) -> tuple[Shape, Rows]:
+    def state(self, entries: Iterable[tuple[str, Request]]) -> tuple[Shape, Rows]:
         """Where the entries lead."""
         shape = Shape()
         for role, request in entries:
@@ -56,7 +63,7 @@ class Viewd:
             sub = self.ask("admin", {"do": "subscribe", "on": table})[0]["sub"]
             # No line follows where the table is empty: the reply to the next request ends the wait.
             rows[table] = self.ask("admin", {"do": "unsubscribe", "sub": sub})[1]
-        self.process.stdin.close()
+        self.to.close()
         self.process.wait()
         return shape, rows
 
@@ -83,31 +90,66 @@ def write(inserts: list[bytes]) -> Iterator[bytes]:
         yield by_role("admin", b'"do":"write","entries":[%s]' % b",".join(inserts))
 
 
+@contextlib.contextmanager
+def locked(path: pathlib.Path) -> Iterator[None]:
+    """Nobody else writes the journal meanwhile. Its lock is a file of its own, as another file comes to its place. Raises BlockingIOError."""
+    with path.with_name(path.name + ".lock").open("w") as lock:
+        fcntl.flock(lock, fcntl.LOCK_EX | fcntl.LOCK_NB)
+        yield
+
+
+def entries(path: pathlib.Path) -> Iterator[tuple[str, Request]]:
+    """Role and request of each whole line: what stands behind the last newline was never acknowledged. Raises Damaged."""
+    with path.open("rb") as file:
+        for number, line in enumerate(file, 1):
+            if line.endswith(b"\n"):
+                yield entry_of(line[:-1], f"{path}: line {number}")
+
+
+def replace(path: pathlib.Path, lines: Iterable[bytes], check: Callable[[pathlib.Path], None]) -> None:
+    """Puts a file of these lines where `path` is, whole or not at all: not where `check` raises."""
+    fresh = path.with_name(path.name + ".new")
+    with fresh.open("wb") as file:
+        os.fchmod(file.fileno(), 0o600)
+        file.writelines(lines)
+        file.flush()
+        os.fsync(file.fileno())
+    check(fresh)
+    fresh.rename(path)
+    folder = os.open(path.parent, os.O_RDONLY)
+    try:
+        os.fsync(folder)
+    finally:
+        os.close(folder)
+
+
+def size_of(path: pathlib.Path) -> str:
+    return f"{path.read_bytes().count(10):,} lines of {path.stat().st_size:,} bytes"
+
+
 def compact(path: pathlib.Path, words: list[str | pathlib.Path]) -> str:
-    journal = Journal(path)
-    before = Viewd(words).state(journal.entries())
-    was, size = journal.lines, journal.end
+    with locked(path):
+        before, was = Viewd(words).state(entries(path)), size_of(path)
 
-    def check(fresh: pathlib.Path) -> None:
-        if Viewd(words).state(Journal(fresh, follow=True).entries()) != before:
-            raise Damaged(f"{fresh} leads to another state, so {path} stays")
+        def check(fresh: pathlib.Path) -> None:
+            if Viewd(words).state(entries(fresh)) != before:
+                raise Damaged(f"{fresh} leads to another state, so {path} stays")
 
-    replace(path, lines(*before), check)
-    now = Journal(path, follow=True)
-    return f"{path}: {sum(1 for _ in now.entries())} lines of {now.end} bytes instead of {was} of {size}"
+        replace(path, lines(*before), check)
+        return f"{path}: {size_of(path)} instead of {was}"
 
 
 async def snapshot(url: str, words: list[str | pathlib.Path]) -> str:
     """Reads to the end that the stream has now."""
-    from stream import Stream
+    from stream import Stream  # (a file needs no Redis)
     stream = Stream(url)
-    entries: list[tuple[str, dict]] = []
+    accepted: list[tuple[str, Request]] = []
     end = await stream.last()
     while stream.lines < end:
-        entries += [(it.role, it.request) for it in await stream.read() if it.request is not None]
-    if not entries:
+        accepted += [(it.role, it.request) for it in await stream.read() if it.request is not None]
+    if not accepted:
         raise Damaged(f"{stream.where} is empty")
-    before = Viewd(words).state(entries)
+    before = Viewd(words).state(accepted)
     made = [line.rstrip(b"\n") for line in lines(*before)]
     if Viewd(words).state([entry_of(line, "a line of the snapshot") for line in made]) != before:
         raise Damaged(f"the snapshot leads to another state, so {stream.where} stays")

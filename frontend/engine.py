@@ -1,16 +1,16 @@
-"""One `viewd replay` over pipes: its sessions, the journal that it is told, and where each of its answers goes.
+"""One `viewd replay` over pipes: its sessions, the stream that it is told, and where each of its answers goes.
 
 A request becomes one line to viewd, whatever it is, and one reply. Behind each line stands a fence, a line that viewd
 refuses by 1: so the answers come in blocks of a reply, the changes that the request brought, and the refusal that ends
-them. What changes shared state is in the journal, on disk, before a line that shows it goes to anyone.
+them. What changes shared state is in the stream, on disk, before a line that shows it goes to anyone.
 
-Behind a journal that gateways share, one engine decides. The others take in what it accepted, in its order, and a request
-of their clients that changes something goes to it by a name: it stands in the journal once, however often it was sent.
+Of the gateways of a stream one decides. The others take in what it accepted, in its order, and a request of their clients
+that changes something goes to it by a name: it stands in the stream once, however often it was sent.
 
 A fence makes two lines of each request, so viewd ends twice as soon: behind 24 days at 1,000 requests a second. Without it the end
 of a request would be the next reply (a quiet server never settles), a timer (a guess), or a request without effect (one of 256
 sessions). Answers are taken and lines are sent in two tasks: one task that waits between two sendings would take in a hundred
-entries a second. An administrator is sent the shape at the entry and after each change, so two see each other's changes.
+entries a second. An administrator is told each accepted request that makes the shape, all so far at the entry.
 """
 import asyncio
 import collections
@@ -22,13 +22,16 @@ import logging
 import pathlib
 import re
 import time
+from collections.abc import Callable
+from typing import Any
 
 from client import BACKLOG, Ask, Client, Subscription, ended, frame, frames_of
 from columns import Columns, columns_of
-from journal import BODY, SHARED, SLOW, Anew, Damaged, Entry, Log, Shape, by_role, by_session, replay, to_text
+from journal import BODY, SHARED, SLOW, Anew, Damaged, Entry, Request, Shape, by_role, by_session, replay, to_text
+from stream import Stream
 
 SESSIONS = 256  # viewd has no more
-SPARE = 16  # by which the journal is told; clients have them, where it is told before they come
+SPARE = 16  # by which the stream is told
 PROBE, LOOK = SESSIONS + SPARE - 1, SESSIONS + SPARE  # two of them, for questions of the gateway's own
 SUBSCRIPTIONS = 16  # of a session
 MESSAGES = 20_000  # a second, at most: 200 browsers are sent one each 10 ms, with all lines that came meanwhile
@@ -41,7 +44,6 @@ MOST = (1 << 63) - 1  # the greatest number of a subscription: viewd never comes
 ALLOWED = SHARED | {"subscribe", "unsubscribe"}  # `begin` and `finish` are the gateway's: by `begin` one chooses a role
 BAD_JSON, BAD_REQUEST, TOO_LONG = 1, 2, 22  # refusals of viewd, which the gateway gives for what viewd must not see
 LIMIT = b'{"error":17'
-READ_ONLY = 100  # and one of its own: this gateway follows the journal of another
 NAME = re.compile("[A-Za-z0-9_-]{1,64}")  # that a client gives to a request which it may send again
 FENCE = b"-\n"
 SETTLED = b'{"settled":true}'
@@ -54,7 +56,7 @@ log = logging.getLogger("engine")
 class Engine:
     """The child: its sessions, the lines that it has to answer, and where each answer goes."""
 
-    def __init__(self, program: pathlib.Path, journal: Log, rows: int | None = None):
+    def __init__(self, program: pathlib.Path, journal: Stream, rows: int | None = None):
         self.program, self.journal, self.rows = program, journal, rows
         self.ready = asyncio.Event()
         self.clients: dict[int, Client] = {}
@@ -62,55 +64,51 @@ class Engine:
         self.dropped = 0
         self.count = itertools.count(1)  # of what this gateway asks others
         self.waiting: dict[str, Ask] = {}  # what another gateway decides for a client of this one, by its name
-        self.looking, self.writing = asyncio.Lock(), asyncio.Lock()
+        self.looking = asyncio.Lock()
 
     async def run(self) -> None:
-        """From the start of a viewd to its end. Raises Damaged, and OSError where the journal cannot be written."""
+        """From the start of a viewd to its end. Raises Damaged, and OSError where the stream cannot be written."""
         self.journal.rewind()
         self.shape = Shape()
+        self.shaping: list[bytes] = []  # the requests that made the shape, as administrators are told them
         self.columns: dict[str, Columns] = {}  # of each relation
-        self.reshaped = False
         self.asked: collections.deque[Ask] = collections.deque()
         self.answered: Ask | None = None  # the one whose changes are coming
         self.touched: set[Client] = set()  # to whom lines of it went
         self.pending: set[Client] = set()  # to whom lines of those before it go
         self.made: dict[tuple[bytes, int, str], bytes] = {}  # lines of changes, for all who are sent the same
-        self.news: list[bytes] = []  # lines for the journal
+        self.news: list[bytes] = []  # lines for the stream
         self.names: list[str] = []  # and their names
-        self.refusals: list[tuple[str, dict, bytes]] = []  # for other gateways
+        self.refusals: list[tuple[str, Request, bytes]] = []  # for other gateways
         self.more, self.room, self.gathered = asyncio.Event(), asyncio.Event(), 0
         self.open = asyncio.Event()  # clear while no client's request is taken: room is made for an entry, or gateways are compared
         self.open.set()
         self.held: asyncio.TimerHandle | None = None  # what opens it, where gateways are compared
         self.taken, self.place, self.digest = 0, 0, ""  # accepted requests that viewd carried out, and those that others may know of
         self.known: dict[str, None] = {}  # names of the last of them, the oldest first
-        self.deciding: set[str] = set()  # names of those that are not in the journal yet
+        self.deciding: set[str] = set()  # names of those that are not in the stream yet
         self.turned: dict[tuple[str, str], int] = {}  # by asker and name, what was refused, with the asker's count
         self.views = 0  # subscriptions to views, asked for or open
         self.roles: dict[str, int] = {}  # sessions by which entries are told, the one that was used last at the end
         self.overheard: list[bytes] = []  # changes of the gateway's own sessions
-        spare = SPARE if self.journal.follow or self.journal.shared else 0
-        self.free = list(range(SESSIONS - spare, 0, -1))
-        self.child = await asyncio.create_subprocess_exec(
+        self.free = list(range(SESSIONS - SPARE, 0, -1))
+        child = self.child = await asyncio.create_subprocess_exec(
             *replay(self.program, self.rows),
             stdin=asyncio.subprocess.PIPE, stdout=asyncio.subprocess.PIPE, limit=1 << 20)
-        work = [self.answers(), self.sends(), self.restore()]
-        if self.journal.shared:
-            work.append(self.hears())
-            if self.journal.may_write:
-                work.append(self.decides())
+        assert child.stdin and child.stdout
+        self.to_viewd, self.from_viewd = child.stdin, child.stdout
+        work = [self.answers(), self.sends(), self.restore(), self.hears()]
+        if self.journal.may_write:
+            work.append(self.decides())
         tasks = [asyncio.create_task(it) for it in work]
         try:
             await asyncio.gather(*tasks)
         except (EOFError, ConnectionError):
-            log.warning("viewd %d ended with status %s", self.child.pid, await self.child.wait())
+            log.warning("viewd %d ended with status %s", child.pid, await child.wait())
         except Anew as why:
-            log.warning("viewd %d gives way to another: %s", self.child.pid, why)
+            log.warning("viewd %d gives way to another: %s", child.pid, why)
         finally:
             self.ready.clear()
-            if not self.journal.shared:
-                await self.writing.acquire()  # so that a write that is under way stands in the file, before it is read again
-                self.writing.release()
             for task in tasks:
                 task.cancel()
             clients, self.clients = self.clients, {}
@@ -119,28 +117,28 @@ class Engine:
             for ask in self.asked:  # somebody may wait for it who is no client
                 if ask.done:
                     ask.done.cancel()
-            if self.child.returncode is None:
-                self.child.kill()
-            self.child.stdin.close()
-            await self.child.wait()
+            if child.returncode is None:
+                child.kill()
+            self.to_viewd.close()
+            await child.wait()
             await ended(tasks)
             await self.journal.release()
 
     def tell(self, line: bytes, ask: Ask) -> None:
         self.asked.append(ask)
-        self.child.stdin.write(line + FENCE)
+        self.to_viewd.write(line + FENCE)
 
-    async def call(self, session: int, request: dict, client: Client | None = None) -> bool:
+    async def call(self, session: int, request: Request, client: Client | None = None) -> bool:
         """Whether viewd accepted a request of the gateway's own."""
-        ask = Ask(client, request, done=asyncio.get_running_loop().create_future())
-        self.tell(by_session(session, to_text(request)[1:-1]), ask)
-        return await ask.done
+        done: asyncio.Future[bool] = asyncio.get_running_loop().create_future()
+        self.tell(by_session(session, to_text(request)[1:-1]), Ask(client, request, done=done))
+        return await done
 
     async def restore(self) -> None:
-        """Brings a fresh viewd to the state of the journal, each request by its role; then follows it, where another writes."""
+        """Brings a fresh viewd to the state of the stream, each request by its role; then follows it, where another writes."""
         await self.tell_journal()
         self.ready.set()
-        log.info("viewd %d is where the %d lines of the journal lead", self.child.pid, self.journal.lines)
+        log.info("viewd is where the %d entries of the stream lead", self.journal.lines)
         while self.journal.follow:
             for entry in await self.journal.wait():
                 await self.take_in(entry)
@@ -152,16 +150,13 @@ class Engine:
         await self.journal.keep()
 
     async def tell_journal(self) -> None:
-        """Returns when viewd has answered all lines of the journal that are there."""
+        """Returns when viewd has answered all entries of the stream that are there."""
         while entries := await self.journal.read():
             for entry in entries:
                 await self.take_in(entry)
-        if not (self.journal.follow or self.journal.shared):  # its clients will have these sessions
-            while self.roles:
-                self.tell(by_session(self.roles.popitem()[1], b'"do":"finish"'), Ask(None, {"do": "finish"}))
-        quiet = Ask(None, heard=lambda ok: None, done=asyncio.get_running_loop().create_future())
-        self.tell(FENCE, quiet)
-        await quiet.done
+        done: asyncio.Future[bool] = asyncio.get_running_loop().create_future()
+        self.tell(FENCE, Ask(None, heard=lambda ok: None, done=done))
+        await done
 
     def session_of(self, role: str) -> int:
         """A session of the gateway's own in a role. The one that was not used for longest gives way to another."""
@@ -178,26 +173,26 @@ class Engine:
 
     async def take_in(self, entry: Entry) -> None:
         """Tells viewd what was accepted, in the session of the client that asked for it, where it is one of this gateway's."""
-        if entry.request is not None:
+        if (request := entry.request) is not None:
             own = self.waiting.pop(entry.name, None) if entry.name else None
-            while not await self.told(entry, own):
+            while not await self.told(entry, request, own):
                 self.open.clear()
                 await self.end_largest(entry)
             self.open.set()
-            await self.child.stdin.drain()
+            await self.to_viewd.drain()
         self.know(entry.name)
 
-    async def told(self, entry: Entry, own: Ask | None) -> bool:
+    async def told(self, entry: Entry, request: Request, own: Ask | None) -> bool:
         """Whether viewd took it in. It is waited for where somebody reads a view, which alone can outgrow the limits."""
-        body = to_text(entry.request)[1:-1]
-        ask = Ask(None, entry.request, body, entry=entry)
-        if own and not own.client.gone:
+        body = to_text(request)[1:-1]
+        ask = Ask(None, request, body, entry=entry)
+        if own and own.client and not own.client.gone:
             ask.client, ask.name = own.client, own.name
         session = ask.client.session if ask.client else self.session_of(entry.role)
-        if self.views and self.journal.shared:
+        if self.views:
             ask.done = asyncio.get_running_loop().create_future()
         self.tell(by_session(session, body), ask)
-        if own and not own.outcome.done():
+        if own and own.outcome and not own.outcome.done():
             own.outcome.set_result(None)
         return ask.done is None or await ask.done
 
@@ -223,7 +218,7 @@ class Engine:
                 self.put(client, b'%s,"ended":"limit","on":"%s","sub":%d}' % (gone, on.encode(), number))
                 self.tell(by_session(client.session, b'"do":"unsubscribe","sub":%d' % sub), Ask(None, {"do": "unsubscribe"}))
 
-    async def shown(self) -> list[tuple[int, str, str, list]]:
+    async def shown(self) -> list[tuple[int, str, str, list[Any]]]:
         """Of each view that is read here, by role: how many rows it shows, and which."""
         shown = []
         for role, on in {(client.role, it.on) for client in self.clients.values() if not client.gone
@@ -244,30 +239,33 @@ class Engine:
 
     def hold(self, seconds: float) -> None:
         """Decides nothing for so long, where this gateway writes a stream: so that all who read it come to one place."""
-        if self.journal.shared and not self.journal.follow:
+        if not self.journal.follow:
             self.open.clear()
             if self.held:
                 self.held.cancel()
             self.held = asyncio.get_running_loop().call_later(seconds, self.open.set)
 
-    async def tables(self) -> dict | None:
+    def overhear(self, mark: bytes) -> Callable[[bool], None]:
+        """At a reply: what is overheard from then on stands behind the mark."""
+        return lambda ok: self.overheard.append(mark)
+
+    async def tables(self) -> Request | None:
         """A digest of tables, roles, grants and policies as they are at a place; the rows as viewd tells them to an
         administrator. All questions are written at once, so nothing comes between. All rows are written for it, so it is made only
         where it is asked for. None where no session is free."""
         async with self.looking:
             child = self.child
             while True:
-                seen: dict = {}
+                seen: Request = {}
 
                 def note(ok: bool) -> None:
                     seen.update(ok=ok, place=self.taken, names=self.shape.tables(), shape=json.dumps(dataclasses.asdict(self.shape), sort_keys=True))
                 names, self.overheard = self.shape.tables(), []
-                done = asyncio.get_running_loop().create_future()
+                done: asyncio.Future[bool] = asyncio.get_running_loop().create_future()
                 for at in range(0, len(names) or 1, SUBSCRIPTIONS):
                     self.tell(by_session(LOOK, b'"do":"begin","role":"admin"'), Ask(None, heard=note if at == 0 else lambda ok: None))
                     for name in names[at:at + SUBSCRIPTIONS]:
-                        mark = b"\n" + name.encode()
-                        self.tell(by_session(LOOK, to_text({"do": "subscribe", "on": name})[1:-1]), Ask(None, heard=lambda ok, mark=mark: self.overheard.append(mark)))
+                        self.tell(by_session(LOOK, to_text({"do": "subscribe", "on": name})[1:-1]), Ask(None, heard=self.overhear(b"\n" + name.encode())))
                     self.tell(by_session(LOOK, b'"do":"finish"'), Ask(None, heard=lambda ok: None))
                 self.tell(FENCE, Ask(None, heard=lambda ok: None, done=done))
                 await done
@@ -275,20 +273,20 @@ class Engine:
                     return None
                 if seen["names"] == names:
                     break
-            while self.journal.shared and self.place < seen["place"]:  # what is not in the stream may yet be given up
+            while self.place < seen["place"]:  # what is not in the stream may yet be given up
                 await asyncio.sleep(0.01)
                 if self.child is not child:
                     return None
             return {"place": seen["place"], "digest": hashlib.sha256(seen["shape"].encode() + b"".join(self.overheard)).hexdigest()}
 
-    def state(self) -> dict:
-        """What administrators are told: of a journal that gateways share, the place that viewd has taken in."""
-        return self.journal.state() | ({"journal": self.place, "digest": self.digest} if self.journal.shared else {})
+    def state(self) -> Request:
+        """What administrators are told of the stream, and of the place that viewd has taken in."""
+        return self.journal.state() | {"journal": self.place, "digest": self.digest}
 
     async def answers(self) -> None:
         """Takes what viewd answers, as long as not too much of it waits to be sent."""
         rest = bytearray()
-        while chunk := await self.child.stdout.read(1 << 20):
+        while chunk := await self.from_viewd.read(1 << 20):
             rest += chunk
             if (end := chunk.rfind(b"\n")) < 0:
                 continue
@@ -312,8 +310,7 @@ class Engine:
             if self.news:
                 news, self.news = self.news, []
                 names, self.names = self.names, []
-                async with self.writing:
-                    await self.journal.commit(news, names)
+                await self.journal.commit(news, names)
                 for name in names:
                     self.know(name)
                 self.place, self.digest = self.journal.lines, self.journal.digest
@@ -328,7 +325,7 @@ class Engine:
         async for message in self.journal.answers():
             head, text = message
             ask = self.waiting.get(head["name"])
-            if ask and ask.asker == (self.journal.me, head["count"]) and not ask.outcome.done():
+            if ask and ask.outcome and ask.asker == (self.journal.me, head["count"]) and not ask.outcome.done():
                 ask.outcome.set_result((head["place"], text))
 
     async def decides(self) -> None:
@@ -344,7 +341,7 @@ class Engine:
             if role in self.shape.roles and len(body) <= BODY and b"\n" not in body:  # as all that gateways send
                 self.deciding.add(name)
                 self.tell(by_session(self.session_of(role), body), Ask(None, json.loads(b"{%s}" % body), body, known_by=name, role=role, asker=asker))
-                await self.child.stdin.drain()
+                await self.to_viewd.drain()
 
     def take(self, line: bytes) -> None:
         if self.answered is None:
@@ -353,8 +350,6 @@ class Engine:
         elif line.startswith(b'{"changes":'):
             self.change(line)
         else:  # the fence is refused, so all lines of the request are there
-            if self.reshaped:
-                self.tell_shape([client for client in self.clients.values() if client.role == "admin"])
             for client in self.touched:
                 client.lines.append(SETTLED)
             self.pending |= self.touched
@@ -403,7 +398,8 @@ class Engine:
             if ok:
                 self.put(client, to_text({"role": client.role}))
                 if client.role == "admin":
-                    self.tell_shape([client])
+                    for text in self.shaping:
+                        self.put(client, text)
             return
         elif do == "finish":
             del self.clients[client.session]  # no line for it can follow, so its number may be taken again
@@ -416,20 +412,16 @@ class Engine:
             self.carried_out(ask)
 
     def refused(self, ask: Ask, line: bytes) -> None:
-        """What another viewd accepted is refused here alone for the limits of a view that is read here alone."""
-        if ask.entry and ask.done and line.startswith(LIMIT):
-            return  # who told it makes room
-        if not (self.journal.follow and self.clients and line.startswith(LIMIT)):
+        """What another viewd accepted is refused here alone for the limits of a view that is read here alone: who told it makes room."""
+        if not (ask.entry and ask.done and line.startswith(LIMIT)):
             raise Damaged(f"{self.journal.where} leads to no state: viewd answers {line.decode()} to {ask.request}")
-        log.warning("line %d of the journal is beyond the limits of what a client reads: all begin anew", self.journal.lines)
-        self.child.kill()
-        raise EOFError
 
     def decided(self, ask: Ask, line: bytes, ok: bool) -> None:
         """Keeps what another gateway's client asked for, which its gateway will read; or has it told that it is refused."""
         if ok:
             return self.accept(ask.role, ask)
         self.deciding.discard(ask.known_by)
+        assert ask.asker
         gateway, count = ask.asker
         self.turned[gateway, ask.known_by] = count
         if len(self.turned) > KNOWN:
@@ -460,21 +452,22 @@ class Engine:
         self.put(client, text if ask.name is None else b'%s,"id":%s}' % (text[:-1], ask.name))
 
     def carried_out(self, ask: Ask) -> None:
-        """Counts what viewd has taken in. What is in the journal already may be told of."""
+        """Counts what viewd has taken in. What is in the stream already may be told of."""
         self.taken += 1
         if ask.entry and ask.entry.place:
             if self.place and ask.entry.place != self.place + 1:
                 raise Damaged(f"{self.journal.where}: entry {ask.entry.place} was told to viewd behind entry {self.place}")
             self.taken = self.place = ask.entry.place
             self.digest = ask.entry.digest
-        self.changed(ask.request)
+        role = ask.entry.role if ask.entry else ask.client.role if ask.client else ask.role
+        if ask.request["do"] != "write":
+            self.changed(ask.request, by_role(role, b'"made":{%s}' % ask.body)[:-1])
 
-    def changed(self, request: dict) -> None:
-        """Takes in what was accepted, and tells a role and its members of a relation that they may try again: viewd tells nobody."""
-        if request["do"] == "write":
-            return
+    def changed(self, request: Request, text: bytes) -> None:
+        """Takes in a request that makes the shape, tells it to administrators, and tells a role and its members of a relation that they
+        may try again: viewd tells nobody."""
         self.shape.apply(request)
-        self.reshaped = True
+        self.shaping.append(text)
         if request["do"] in ("create_table", "create_view"):
             self.columns[request["name"]] = columns_of(request, self.columns)
         match request:
@@ -483,6 +476,9 @@ class Engine:
             case {"do": "grant_role", "role": role, "to": to}:
                 roles = self.shape.reached(role)
                 self.tell_granted(to, [on for on, held in self.shape.grants.items() if roles & held.keys()])
+        for client in self.clients.values():
+            if client.role == "admin":
+                self.put(client, text)
 
     def tell_granted(self, to: str, names: list[str]) -> None:
         roles = {role for role in {client.role for client in self.clients.values()} if to == "public" or to in self.shape.reached(role)}
@@ -490,13 +486,6 @@ class Engine:
             if client.role in roles:
                 for on in names:
                     self.put(client, to_text({"granted": on}))
-
-    def tell_shape(self, clients: list[Client]) -> None:
-        self.reshaped = False
-        if clients:
-            text = to_text({"shape": dataclasses.asdict(self.shape)})
-            for client in clients:
-                self.put(client, text)
 
     def frames(self) -> list[tuple[Client, bytes]]:
         """What is to be sent to each client that has lines."""
@@ -545,17 +534,16 @@ class Engine:
             name = to_text(request.pop("id")) if "id" in request else None
             if not isinstance(do := request.get("do"), str) or do not in ALLOWED:
                 return Ask(client, name=name, refusal=BAD_REQUEST)
-            shared = self.journal.shared and do in SHARED
+            shared = do in SHARED
             once = request.pop("once", None) if shared else None
-            if do == "unsubscribe" and type(own := request.get("sub")) is int and 0 < own <= MOST:
+            own: Any = request.get("sub")
+            if do == "unsubscribe" and type(own) is int and 0 < own <= MOST:
                 request["sub"] = next((sub for sub, it in client.subscriptions.items() if it.number == own), MOST)
             body = to_text(request)[1:-1]
         except (ValueError, RecursionError):
             return Ask(client, refusal=BAD_JSON)
         if len(body) > BODY:
             return Ask(client, name=name, refusal=TOO_LONG)
-        if self.journal.follow and do in SHARED and not shared:
-            return Ask(client, name=name, refusal=READ_ONLY)
         if once is not None and not (isinstance(once, str) and NAME.fullmatch(once)):
             return Ask(client, refusal=BAD_REQUEST, name=name)
         ask = Ask(client, request, body, name)
@@ -573,41 +561,41 @@ class Engine:
         await client.flight.acquire()
         await self.open.wait()
         ask = self.read(client, text)
-        if ask.known_by and not await self.decide(ask):
+        if ask.known_by and not await self.decide(client, ask):
             return
         self.tell(FENCE if ask.refusal or ask.given else by_session(client.session, ask.body), ask)
-        await self.child.stdin.drain()
+        await self.to_viewd.drain()
 
-    async def decide(self, ask: Ask) -> bool:
+    async def decide(self, client: Client, ask: Ask) -> bool:
         """Whether viewd is to be told a request that changes something shared: here, where this gateway writes; and where it
-        was answered without viewd. Not where the journal has brought it."""
+        was answered without viewd. Not where the stream has brought it."""
         while ask.known_by in self.deciding or ask.known_by in self.waiting:  # another client has sent the same
             await asyncio.sleep(0.01)
-        ask.outcome = asyncio.get_running_loop().create_future()
+        outcome = ask.outcome = asyncio.get_running_loop().create_future()
         end = time.monotonic() + GIVE_UP
         try:
-            while self.journal.follow and ask.known_by not in self.known and not ask.outcome.done():
-                if ask.client.gone:  # its session may be another's by now
+            while self.journal.follow and ask.known_by not in self.known and not outcome.done():
+                if client.gone:  # its session may be another's by now
                     return False
                 if time.monotonic() > end:
-                    log.warning("nobody decides for session %d of %s: dropped", ask.client.session, ask.client.role)
-                    ask.client.drop()
+                    log.warning("nobody decides for session %d of %s: dropped", client.session, client.role)
+                    client.drop()
                     return False
                 self.waiting[ask.known_by] = ask
                 ask.asker = self.journal.me, next(self.count)
-                head = {"from": self.journal.me, "count": ask.asker[1], "name": ask.known_by, "role": ask.client.role}
+                head = {"from": self.journal.me, "count": ask.asker[1], "name": ask.known_by, "role": client.role}
                 heard = await self.journal.ask(head, ask.body)
-                await asyncio.wait([ask.outcome], timeout=RETRY if heard else NOBODY)
+                await asyncio.wait([outcome], timeout=RETRY if heard else NOBODY)
         finally:
             if self.waiting.get(ask.known_by) is ask:
                 del self.waiting[ask.known_by]
-        if ask.outcome.done():
-            if (refused := ask.outcome.result()) is None:
+        if outcome.done():
+            if (refused := outcome.result()) is None:
                 return False
             place, ask.given = refused
             while self.taken < place:  # so that the client sees what its request was refused for
                 await asyncio.sleep(0.005)
-        elif ask.client.gone:
+        elif client.gone:
             return False
         elif ask.known_by in self.known:
             ask.given = OK

@@ -1,8 +1,9 @@
 #!/usr/bin/python3
-"""The front end of a viewd: browsers by WebSocket on one side, one `viewd replay` over pipes on the other.
+"""A gateway of a stream: browsers by WebSocket on one side, one `viewd replay` over pipes on the other, and the order of what all gateways
+accepted in a stream of Redis. One gateway alone, with a file, is the program `./gateway`.
 
 A browser sends its token, and then one request a message, without `session`: each client has a session of viewd in the
-role of its token, which the gateway numbers, begins and finishes. viewd begins empty and is told the journal: when
+role of its token, which the gateway numbers, begins and finishes. viewd begins empty and is told the stream: when
 either process dies, nothing that was acknowledged is lost.
 
 A token is 256 random bits, so its plain SHA-256 in a file is enough. A key of that file that is no SHA-256 stops the gateway, since
@@ -20,11 +21,17 @@ import re
 import signal
 import sys
 import tomllib
+from typing import Any
 
-from aiohttp import WSMsgType, web
+try:
+    from aiohttp import WSMsgType, web
 
-from engine import Client, Engine
-from journal import LINE, SLOW, Damaged, Journal, Log
+    from client import Client
+    from engine import Engine
+    from stream import Stream
+except ModuleNotFoundError as why:
+    sys.exit(f"gateway: {why}: apt-get install -y python3-aiohttp python3-redis")
+from journal import LINE, SLOW, Damaged
 
 HELLO = 10.0 * SLOW  # seconds to send a token
 PING, PONG = 20.0, 10.0 * SLOW  # seconds between an answer and the next ping, and for an answer
@@ -42,9 +49,11 @@ class Desk:
 
     def roles(self) -> dict[str, str]:
         """Roles by the SHA-256 of their tokens. The file is read at each entry, so a token can be added or taken away."""
-        roles = tomllib.loads(self.tokens.read_text())["tokens"]
+        roles: dict[str, str] = tomllib.loads(self.tokens.read_text())["tokens"]
         if wrong := [key for key in roles if not re.fullmatch("[0-9a-f]{64}", key)]:
             raise ValueError(f"{len(wrong)} keys are no SHA-256 in hexadecimal digits")
+        if not all(isinstance(role, str) for role in roles.values()):
+            raise ValueError("a token has a holder or an end, of which ./gateway alone takes care")
         return roles
 
     def role(self, token: str) -> str | None:
@@ -61,6 +70,7 @@ class Desk:
         if role is None:
             await ws.close(code=4401, message=b"This token opens no role.")
             return ws
+        assert request.transport
         client = Client(role, request.transport)
         watch = asyncio.create_task(self.watch(client, ws))
         try:
@@ -101,13 +111,13 @@ class Desk:
                     return client.drop()
 
     async def state(self, request: web.Request) -> web.Response:
-        """How it goes, for administrators. Gateways of one journal agree where they tell the same digest of as many lines.
-        With `?tables` there is a digest of what viewd holds, too, and the place at which it was taken. With `?hold=0.5` one that
-        writes a stream pauses for so many seconds, so that all can be asked at one place."""
+        """How it goes, for administrators. Gateways of one stream agree where they tell the same digest of as many entries.
+        With `?tables` there is a digest of what viewd holds, too, and the place at which it was taken. With `?hold=0.5` the one that
+        writes pauses for so many seconds, so that all can be asked at one place."""
         if self.role(request.headers.get("Authorization", "").removeprefix("Bearer ")) != "admin":
             raise web.HTTPForbidden()
         engine = self.engine
-        state = {"ready": engine.ready.is_set(), "viewd": engine.child and engine.child.pid, "sessions": len(engine.clients),
+        state: dict[str, Any] = {"ready": engine.ready.is_set(), "viewd": engine.child and engine.child.pid, "sessions": len(engine.clients),
                  "dropped": engine.dropped}
         if "hold" in request.query:
             try:
@@ -149,17 +159,7 @@ class Desk:
         log.info("http://127.0.0.1:%d", port)
 
 
-def journal(given: argparse.Namespace) -> Log:
-    if "://" not in given.journal:
-        return Journal(pathlib.Path(given.journal), given.follow, given.seed)
-    try:
-        from stream import Stream
-    except ModuleNotFoundError as why:
-        raise OSError(f"{why}: apt-get install -y python3-redis") from None
-    return Stream(given.journal, not given.follow, given.lease, given.seed)
-
-
-def unexpected(loop: asyncio.AbstractEventLoop, context: dict) -> None:
+def unexpected(loop: asyncio.AbstractEventLoop, context: dict[str, Any]) -> None:
     """Says what went wrong beside all that is waited for; not that aiohttp pings a browser which is gone."""
     if not isinstance(context.get("exception"), ConnectionError):
         loop.default_exception_handler(context)
@@ -167,7 +167,7 @@ def unexpected(loop: asyncio.AbstractEventLoop, context: dict) -> None:
 
 async def main(given: argparse.Namespace) -> None:
     os.umask(0o077)
-    engine = Engine(given.viewd, journal(given), given.rows)
+    engine = Engine(given.viewd, Stream(given.journal, not given.follow, given.lease, given.seed), given.rows)
     desk = Desk(engine, given.tokens, given.web)
     try:
         desk.roles()
@@ -175,8 +175,10 @@ async def main(given: argparse.Namespace) -> None:
         sys.exit(f"gateway: {given.tokens}: {why}")
     await desk.listen(given.port)
     asyncio.get_running_loop().set_exception_handler(unexpected)
-    if engine.journal.shared:  # on its way out it gives the lease to another
-        asyncio.get_running_loop().add_signal_handler(signal.SIGTERM, asyncio.current_task().cancel)
+    # on its way out it gives the lease to another
+    task = asyncio.current_task()
+    assert task
+    asyncio.get_running_loop().add_signal_handler(signal.SIGTERM, task.cancel)
     try:
         while True:
             await engine.run()
@@ -187,12 +189,12 @@ async def main(given: argparse.Namespace) -> None:
 
 if __name__ == "__main__":
     here = pathlib.Path(__file__).resolve().parent
-    words = argparse.ArgumentParser(description="The front end of a viewd.")
+    words = argparse.ArgumentParser(description="A gateway of a stream. One gateway alone, with a file, is ./gateway.")
     words.add_argument("--viewd", default=here.parent / "viewd", type=pathlib.Path, help="the program")
-    words.add_argument("--rows", type=int, help="the row limit of viewd, if not its own; for all who read a journal the same")
-    words.add_argument("--journal", required=True, help="a file, made where it is missing; or redis://[:PASSWORD@]HOST:PORT/NAME")
-    words.add_argument("--seed", type=pathlib.Path, help="what a journal begins with that is missing")
-    words.add_argument("--follow", action="store_true", help="only another gateway writes this journal: serve readers alone")
+    words.add_argument("--rows", type=int, help="the row limit of viewd, if not its own; for all who read a stream the same")
+    words.add_argument("--journal", required=True, help="the stream, redis://[:PASSWORD@]HOST:PORT/NAME")
+    words.add_argument("--seed", type=pathlib.Path, help="what a stream begins with that is empty")
+    words.add_argument("--follow", action="store_true", help="only other gateways write this stream: serve readers alone")
     words.add_argument("--lease", type=float, default=5.0, help="seconds without a sign of the writer, after which another gateway of a stream writes")
     words.add_argument("--tokens", required=True, type=pathlib.Path, help="TOML, a table [tokens]: SHA-256 of a token = role")
     words.add_argument("--web", default=here / "web", type=pathlib.Path, help="a folder of pages")
@@ -204,8 +206,6 @@ if __name__ == "__main__":
         pass
     except asyncio.CancelledError:
         sys.exit(143)
-    except BlockingIOError:
-        sys.exit("gateway: another process writes this journal")
     except Damaged as why:
         sys.exit(f"gateway: damaged: {why}")
     except OSError as why:

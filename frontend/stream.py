@@ -21,13 +21,15 @@ import re
 import secrets
 import time
 from collections.abc import AsyncIterator, Awaitable, Callable, Iterable
+from typing import Any
 from urllib.parse import urlsplit, urlunsplit
 
 import redis.asyncio
 from redis.exceptions import AuthenticationError, ConnectionError, ResponseError, TimeoutError
 
-from journal import PIECE, SLOW, Anew, Damaged, Entry, Log, entry_of
+from journal import SLOW, Anew, Damaged, Entry, Request, entry_of
 
+PIECE = 1000  # entries that are read at a time
 KEPT = int(os.environ.get("VIEWD_KEPT", 10_000))  # entries whose names are known, and which stay behind a snapshot
 BLOCK = 250  # milliseconds that a reader waits for an entry, before it looks for the lease
 PATIENCE = 5.0 * SLOW  # seconds for an answer of Redis
@@ -101,8 +103,9 @@ def place_of(identifier: bytes) -> int:
     return int(identifier.partition(b"-")[0])
 
 
-class Stream(Log):
-    shared = True
+class Stream:
+    """The entries in an order that all who read them see. `lines` is a place in it: how many were read or written, of `end` bytes. Who
+    has the `lease` may write; while this one `follow`s, it has not read to the end behind it."""
 
     def __init__(self, url: str, may_write: bool = False, lease: float = 5.0, seed: pathlib.Path | None = None):
         """`redis://[USER:PASSWORD@]HOST:PORT/NAME`, `rediss://` with TLS; options of redis-py behind a question mark."""
@@ -129,7 +132,8 @@ class Stream(Log):
         self.follow, self.fresh = True, True
         self.lines, self.end, self.digest = 0, 0, ""
 
-    def state(self) -> dict:
+    def state(self) -> Request:
+        """What administrators are told."""
         return {"stream": self.where, "writes": not self.follow, "gateway": self.me, "synced": self.synced,
                 "heard": round(time.monotonic() - self.heard, 1)}
 
@@ -140,7 +144,7 @@ class Stream(Log):
         await connection.on_connect()
         self.looked = False
 
-    async def _insist(self, what: Callable[[], Awaitable]):
+    async def _insist(self, what: Callable[[], Awaitable[Any]]) -> Any:
         """The answer to a question, however long Redis is away. Raises OSError where it refuses."""
         while True:
             try:
@@ -163,7 +167,7 @@ class Stream(Log):
     async def _look(self) -> None:
         """Says so where Redis answers before it has synced, or may throw the stream away. Raises Damaged where its end is gone."""
         try:
-            said = {}
+            said: dict[str, str] = {}
             for word in ("appendonly", "appendfsync", "maxmemory-policy"):
                 said |= await self.redis.config_get(word)
             self.synced = said["appendonly"] == "yes" and said["appendfsync"] == "always"
@@ -228,7 +232,7 @@ class Stream(Log):
         self.lines, self.digest, self.end = head["place"], head["digest"], 0
         return entries
 
-    async def _entries(self, found: list) -> list[Entry]:
+    async def _entries(self, found: list[tuple[bytes, dict[bytes, bytes]]]) -> list[Entry]:
         entries = []
         for identifier, fields in found:
             place = place_of(identifier)
@@ -266,11 +270,12 @@ class Stream(Log):
         self.end += sum(map(len, lines))
 
     async def _put(self, lines: list[bytes], names: list[str]) -> str:
-        words, digest = [], self.digest
+        words: list[Any] = [self.lease, self.lines]
+        digest = self.digest
         for line, name in zip(lines, names, strict=True):
             digest = chain(digest, line)
             words += [line, name, digest]
-        last = await self._insist(lambda: self._append(keys=[self.key("lease"), self.name], args=[self.lease, self.lines, *words]))
+        last = await self._insist(lambda: self._append(keys=[self.key("lease"), self.name], args=words))
         if last == -1:
             raise Anew("the lease has passed, so what was decided since is not in the stream")
         if last == -2:
@@ -279,7 +284,8 @@ class Stream(Log):
 
     async def keep(self) -> None:
         """Renews the lease until it has passed. Raises Anew then."""
-        while await self._insist(lambda: self._keep(keys=[self.key("lease")], args=[self.lease, self.milliseconds])):
+        words: list[Any] = [self.lease, self.milliseconds]
+        while await self._insist(lambda: self._keep(keys=[self.key("lease")], args=words)):
             await asyncio.sleep(self.milliseconds / 4000)
         raise Anew("the lease has passed")
 
@@ -295,27 +301,30 @@ class Stream(Log):
 
     # Requests of one gateway to another.
 
-    async def ask(self, head: dict, body: bytes) -> bool:
+    async def ask(self, head: Request, body: bytes) -> bool:
         """Whether somebody hears a request. One who has the lease decides it, or it is lost."""
         try:
-            return await self._ask(keys=[self.key("lease")], args=[self.key("asks"), json.dumps(head).encode() + b"\n" + body]) > 0
+            return bool(await self._ask(keys=[self.key("lease")], args=[self.key("asks"), json.dumps(head).encode() + b"\n" + body]))
         except (*AWAY, ResponseError):
             return False
 
-    async def answer(self, refusals: Iterable[tuple[str, dict, bytes]]) -> None:
+    async def answer(self, refusals: Iterable[tuple[str, Request, bytes]]) -> None:
         """Tells gateways what was refused. Who does not hear it asks again."""
-        words = [word for gateway, head, text in refusals for word in (self.key(f"to:{gateway}"), json.dumps(head).encode() + b"\n" + text)]
+        words: list[Any] = [self.lease]
+        for gateway, head, text in refusals:
+            words += [self.key(f"to:{gateway}"), json.dumps(head).encode() + b"\n" + text]
         with contextlib.suppress(*AWAY):
-            if await self._answer(keys=[self.key("lease")], args=[self.lease, *words]) == -1:
+            if await self._answer(keys=[self.key("lease")], args=words) == -1:
                 raise Anew("the lease has passed, so another may decide otherwise")
 
-    async def asks(self) -> AsyncIterator[tuple[dict, bytes]]:
+    async def asks(self) -> AsyncIterator[tuple[Request, bytes]]:
         """Requests, each with the lease that stood when it was sent."""
         async for message in self._hear(self.key("asks")):
             lease, head, body = message.split(b"\n", 2)
             yield json.loads(head) | {"lease": lease.decode()}, body
 
-    async def answers(self) -> AsyncIterator[tuple[dict, bytes]]:
+    async def answers(self) -> AsyncIterator[tuple[Request, bytes]]:
+        """What was refused of the requests of this gateway's clients."""
         async for message in self._hear(self.key(f"to:{self.me}")):
             head, text = message.split(b"\n", 1)
             yield json.loads(head), text

@@ -13,7 +13,7 @@ import time
 
 sys.path[:0] = [str(pathlib.Path(__file__).resolve().parents[1] / it) for it in ("python", "python/test")]
 
-from conftest import BASE, KIND, PATIENCE, TOP, Gateway, browser  # noqa: E402
+from conftest import BASE, IS_BUILT, PATIENCE, TOP, Gateway, browser  # noqa: E402
 from selenium import webdriver  # noqa: E402
 from selenium.common.exceptions import NoAlertPresentException  # noqa: E402
 from selenium.webdriver.common.alert import Alert  # noqa: E402
@@ -154,7 +154,7 @@ def tried(driver: webdriver.Chrome, gateway: Gateway) -> None:
 
 
 def main() -> int:
-    if not KIND:
+    if not IS_BUILT:
         print("the pages in a browser did not run, since no gateway is built")
         return 0
     with tempfile.TemporaryDirectory(prefix="clients.") as name:

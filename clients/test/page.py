@@ -16,7 +16,7 @@ TOP = pathlib.Path(__file__).resolve().parents[2]
 GATEWAY = TOP / "clients/test/gateway"
 PAGE = TOP / "docs/CLIENTS.md"
 PATIENCE = 600.0  # seconds for anything that has to come: a slow machine fails no test
-START = re.compile(r"(?m)^(?:\./gateway try --pages|frontend/gateway\.py --web) ")
+START = re.compile(r"(?m)^\./gateway --pages ")
 BLOCK = re.compile(r"```(\w+) run\n(.*?)```\n(?:```text\n(.*?)```\n)?", re.DOTALL)
 
 

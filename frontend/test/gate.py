@@ -1,4 +1,4 @@
-"""What the tests share: a gateway of their own on a free port, and clients without a browser."""
+"""What the tests of gateways of a stream share: one on a free port, and clients without a browser."""
 import asyncio
 import collections
 import contextlib
@@ -6,26 +6,23 @@ import hashlib
 import json
 import os
 import pathlib
-import random
-import re
 import signal
-import socket
 import subprocess
 import sys
 import tempfile
 import time
-import traceback
 import urllib.error
 import urllib.request
 from collections.abc import Callable
 
 import aiohttp
 
+from ports import free_port
+
 TOP = pathlib.Path(__file__).resolve().parent.parent
 VIEWD = pathlib.Path(os.environ.get("VIEWD", TOP.parent / "crates/viewd/out/viewd")).resolve()
 ROLES = ("admin", "lena", "mia", "noah", "olga")
 PATIENCE = float(os.environ.get("PATIENCE", 600))  # seconds for anything that has to come: a slow machine fails no test
-PORTS: list[socket.socket] = []  # names of the ports that this process holds
 os.environ.setdefault("VIEWD_SLOW", "20")
 os.environ["no_proxy"] = os.environ["NO_PROXY"] = "*"  # all is on loopback
 
@@ -55,52 +52,19 @@ def tokens(roles: tuple[str, ...] = ROLES) -> str:
     return "[tokens]\n" + "".join(f'{hashlib.sha256(f"{role}-demo".encode()).hexdigest()} = "{role}"\n' for role in roles)
 
 
-def free_port() -> int:
-    """A port on which nobody listens. Tests beside this one take none whose name is held, and the system gives clients none below `low`."""
-    low = int(pathlib.Path("/proc/sys/net/ipv4/ip_local_port_range").read_text().split()[0])
-    while True:
-        port, name = random.randrange(10_000, low if low > 12_000 else 60_000), socket.socket(socket.AF_UNIX)
-        with contextlib.suppress(OSError), socket.socket() as probe:
-            name.bind(f"\0viewd test {port}")
-            probe.bind(("127.0.0.1", port))
-            PORTS.append(name)
-            return port
-        name.close()
-
-
-def explain(why: BaseException) -> str:
-    """What went wrong, in few lines: where in the tests, the values there, and what was said. The end of an output is what is kept."""
-    said = f"{type(why).__name__}: {why}"
-    while isinstance(why, (asyncio.TimeoutError, asyncio.CancelledError)) and (inner := why.__cause__ or why.__context__):
-        why, said = inner, "it waits there, and the test did not end in time"
-    lines = []
-    for frame, number in [it for it in traceback.walk_tb(why.__traceback__) if pathlib.Path(it[0].f_code.co_filename).is_relative_to(TOP)][-3:]:
-        [step] = traceback.StackSummary.extract([(frame, number)])
-        lines.append(f"  {pathlib.Path(step.filename).name}:{number} {step.name}: {step.line}")
-        values = {name: frame.f_locals[name] for name in re.findall(r"[A-Za-z_]\w*", step.line) if name in frame.f_locals}
-        lines += [f"    {name} = {shortened(repr(value), 400)}" for name, value in values.items() if not callable(value)]
-    return "\n".join([*lines, shortened(said, 1500)])
-
-
-def shortened(text: str, size: int) -> str:
-    return text if len(text) <= size else f"{text[:size // 2]} .. {text[-size // 2:]}"
-
-
 class Gate:
-    """A gateway with a journal in a folder of its own. It begins as the support desk, or with `lines`."""
+    """A gateway of a stream, with a folder of its own."""
 
     running: list["Gate"] = []
 
-    def __init__(self, lines: bytes | None = None, journal: pathlib.Path | None = None, words: tuple[str, ...] = (), start: bool = True):
+    def __init__(self, journal: str, words: tuple = (), start: bool = True):
         self.folder = tempfile.TemporaryDirectory(prefix="desk.")
-        here = pathlib.Path(self.folder.name)
-        self.journal, self.tokens = journal or here / "journal.jsonl", here / "tokens.toml"
+        self.here, self.journal = pathlib.Path(self.folder.name), journal
+        self.tokens = self.here / "tokens.toml"
         self.tokens.write_text(tokens())
-        if journal is None:
-            self.journal.write_bytes((TOP / "desk.jsonl").read_bytes() if lines is None else lines)
         self.move(free_port())
-        self.words = ["--viewd", VIEWD, "--journal", self.journal, "--tokens", self.tokens, "--port", str(self.port), *words]
-        self.log = (here / "log").open("ab+")
+        self.words = ["--viewd", VIEWD, "--journal", journal, "--tokens", self.tokens, "--port", str(self.port), *words]
+        self.log = (self.here / "log").open("ab+")
         self.process: subprocess.Popen | None = None
         self.running.append(self)
         if start:

@@ -1,13 +1,10 @@
 #!/usr/bin/python3
-"""How many readers and writes a second the gateway carries, and what of it is viewd's. The figures of docs/OPERATING.md.
+"""How many readers and writes a second gateways of a stream carry, and what of it is viewd's. The figures of docs/OPERATING.md.
 
-    frontend/test/load.py                                        the table of OPERATING: 1, 50 and 200 readers
-    frontend/test/load.py --readers 200 --rate 300 --seconds 10  one line of it; rate 0: as fast as they are answered
-    frontend/test/load.py --stream                               the tables of several gateways behind a stream of Redis
+    frontend/test/load.py [--seconds 10]
 
 Each write adds a ticket and takes an old one away. The time is that from when a write was due to its reply, and to the
-last reader's line of it. Readers stand in processes of their own, on this machine. Then the journal: how long a start
-takes by its length, and what a compaction makes of it; and what viewd takes of memory.
+last reader's line of it. Readers stand in processes of their own, on this machine. Then what viewd takes of memory.
 """
 import argparse
 import asyncio
@@ -17,7 +14,6 @@ import os
 import pathlib
 import re
 import subprocess
-import tempfile
 import time
 
 import aiohttp
@@ -28,7 +24,6 @@ CAME = re.compile(r"\[1,\[(\d+),")
 FIRST, KEPT = 100_000, 500  # the number of the first ticket, and how many are there at a time
 WINDOW = 32  # writes without a reply
 TICK = os.sysconf("SC_CLK_TCK")
-JOURNAL = 100_000  # writes in the journal whose start is timed
 
 
 def readers(seats: list[tuple[str, str]], pipe) -> None:
@@ -109,11 +104,10 @@ class Crew:
 
 
 async def write_all(writers: list[Peer], rate: float, seconds: float) -> tuple[dict[int, float], dict[int, float], float]:
-    """When each ticket was due, when its write was answered, and how long all took. One writer has many writes without a
-    reply, of several each has one."""
+    """When each ticket was due, when its write was answered, and how long all took. Each writer has one write without a reply."""
     due: dict[int, float] = {}
     replied: dict[int, float] = {}
-    idle = (writers * WINDOW)[:WINDOW]
+    idle = [*writers]
     room, tasks, began = asyncio.Semaphore(WINDOW), [], time.monotonic()
 
     async def write(number: int) -> None:
@@ -141,9 +135,9 @@ class Stream:
     def __init__(self, gateways: int):
         from store import Store
         self.store = Store()
-        self.writer = Gate(journal=self.store.url, words=("--seed", TOP / "desk.jsonl"))
+        self.writer = Gate(self.store.url, ("--seed", TOP / "desk.jsonl"))
         eventually(lambda: self.writer.state()["writes"])
-        self.readers = [Gate(journal=self.store.url, words=("--follow",)) for _ in range(gateways)]
+        self.readers = [Gate(self.store.url, ("--follow",)) for _ in range(gateways)]
 
     def end(self) -> None:
         for gate in [self.writer, *self.readers]:
@@ -161,21 +155,19 @@ def parts(times: list[float], *parts: float) -> list[float]:
     return [round(sorted(times)[min(len(times) - 1, int(len(times) * part))], 1) for part in parts]
 
 
-async def measure(size: int, rate: float, seconds: float, gateways: int = 0) -> dict:
-    """Of one gateway with a file; or of so many that serve readers of a stream, beside the one that writes."""
-    stream = Stream(gateways) if gateways else None
-    gates = stream.readers if stream else [Gate()]
-    writer = stream.writer if stream else gates[0]
+async def measure(size: int, rate: float, seconds: float, gateways: int) -> dict:
+    """Of so many that serve readers, beside the one that writes."""
+    stream = Stream(gateways)
+    gates, writer = stream.readers, stream.writer
     try:
         async with aiohttp.ClientSession() as http:
             lena = await Peer.enter(http, writer.url, "lena-demo")
             await fill(lena)
-            writers = [await Peer.enter(http, gates[number % gateways].url, "lena-demo") for number in range(WINDOW)] if stream else [lena]
+            writers = [await Peer.enter(http, gates[number % gateways].url, "lena-demo") for number in range(WINDOW)]
             crew = Crew([gate.url for gate in gates], size)
             await crew.ready()
-            pids = {"gateway": [gate.process.pid for gate in gates], "viewd": [gate.state()["viewd"] for gate in gates]}
-            if stream:
-                pids |= {"writer": [writer.process.pid, writer.state()["viewd"]], "redis": [stream.store.process.pid]}
+            pids = {"gateway": [gate.process.pid for gate in gates], "viewd": [gate.state()["viewd"] for gate in gates],
+                    "writer": [writer.process.pid, writer.state()["viewd"]], "redis": [stream.store.process.pid]}
             before = {name: sum(map(processor, those)) for name, those in pids.items()}
             due, replied, wall = await write_all(writers, rate, seconds)
             used = {name: sum(map(processor, those)) - before[name] for name, those in pids.items()}
@@ -183,13 +175,13 @@ async def measure(size: int, rate: float, seconds: float, gateways: int = 0) -> 
             last, count = await crew.end()
             await lena.leave()
     finally:
-        stream.end() if stream else gates[0].end()
+        stream.end()
     short = [number for number in due if count.get(number, 0) != size]
     assert not short, f"{len(short)} of {len(due)} writes did not reach all"
     to_reply = [(replied[number] - due[number]) * 1000 for number in due]
     to_last = [(last.get(number, replied[number]) - due[number]) * 1000 for number in due]
-    return ({"gateways": gateways} if gateways else {}) | {
-        "readers": size, "rate": rate or "most", "writes/s": round(len(due) / wall), "lines/s": round(len(due) * size / wall),
+    return {
+        "gateways": gateways, "readers": size, "rate": rate or "most", "writes/s": round(len(due) / wall), "lines/s": round(len(due) * size / wall),
         "reply ms p50 p95": parts(to_reply, 0.5, 0.95), "last line ms p50 p95 p99": parts(to_last, 0.5, 0.95, 0.99),
         "processor %": {name: round(value / wall * 100) for name, value in used.items()}, "load": round(os.getloadavg()[0], 1)}
 
@@ -239,37 +231,6 @@ async def delay(size: int, rate: float, seconds: float) -> dict:
             "load": round(os.getloadavg()[0], 1)}
 
 
-async def many(seconds: float) -> None:
-    for size, gateways in ((200, 0), (200, 1), (400, 2), (800, 4)):
-        for rate in (50, 0):
-            print(json.dumps(await measure(size, rate, seconds, gateways)), flush=True)
-    for size, rate in ((2, 20), (100, 20), (100, 100)):
-        print(json.dumps(await delay(size, rate, seconds)), flush=True)
-
-
-def starts() -> None:
-    """Times a start by a long journal, and by the same one after a compaction."""
-    with tempfile.NamedTemporaryFile("w+b") as long:
-        long.write((TOP / "desk.jsonl").read_bytes())
-        for number in range(FIRST, FIRST + JOURNAL):
-            entries = change(number) if number >= FIRST + KEPT else change(number)[:1]
-            long.write(json.dumps({"as": "lena", "do": "write", "entries": entries}, separators=(",", ":")).encode() + b"\n")
-        long.seek(0)
-        gate = Gate(long.read(), start=False)
-    for turn in ("as it grew", "compacted"):
-        began = time.monotonic()
-        gate.start()
-        took = time.monotonic() - began
-        state = gate.state()
-        print(f"journal {turn}: {state['journal']} lines, {state['bytes'] / 1e6:.1f} MB, ready after {took:.1f} s", flush=True)
-        gate.kill_gateway()
-        if turn == "as it grew":
-            began = time.monotonic()
-            subprocess.run([TOP / "compact.py", gate.journal, VIEWD], check=True, stdout=subprocess.DEVNULL)
-            print(f"compaction: {time.monotonic() - began:.1f} s", flush=True)
-    gate.end()
-
-
 def memory() -> None:
     """What viewd takes for sessions and subscriptions of one role, to a table of 500 rows."""
     viewd = subprocess.Popen([VIEWD, "replay"], stdin=subprocess.PIPE, stdout=subprocess.PIPE)
@@ -306,21 +267,16 @@ def memory() -> None:
           f" subscription, {(seen[3] - seen[2]) / 249 / 16:.2f} kB for each further one of its role", flush=True)
 
 
-def main(given: argparse.Namespace) -> None:
-    if given.stream:
-        return asyncio.run(many(given.seconds))
-    rates = {None: [(1, 100), (1, 0), (50, 100), (50, 0), (200, 20), (200, 100), (200, 300), (200, 0)]}.get(given.readers, [(given.readers, given.rate)])
-    for size, rate in rates:
-        print(json.dumps(asyncio.run(measure(size, rate, given.seconds))), flush=True)
-    if given.readers is None:
-        starts()
-        memory()
+async def main(seconds: float) -> None:
+    for size, gateways in ((200, 1), (400, 2), (800, 4)):
+        for rate in (50, 0):
+            print(json.dumps(await measure(size, rate, seconds, gateways)), flush=True)
+    for size, rate in ((2, 20), (100, 20), (100, 100)):
+        print(json.dumps(await delay(size, rate, seconds)), flush=True)
+    memory()
 
 
 if __name__ == "__main__":
     words = argparse.ArgumentParser(description=__doc__.splitlines()[0])
-    words.add_argument("--readers", type=int)
-    words.add_argument("--stream", action="store_true", help="one, two and four gateways behind a stream, beside one with a file")
-    words.add_argument("--rate", type=float, default=100, help="writes a second; 0: as fast as they are answered")
     words.add_argument("--seconds", type=float, default=10)
-    main(words.parse_args())
+    asyncio.run(main(words.parse_args().seconds))

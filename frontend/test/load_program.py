@@ -1,7 +1,7 @@
 #!/usr/bin/python3
-"""How many readers and writes a second the gateway as a program carries, and the same of frontend/gateway.py by the same clients.
+"""How many readers and writes a second the gateway as a program carries.
 
-    frontend/test/load_program.py --readers 1 50 200 1000 --rates 100 0 [--python] [--processes 2] [--seconds 10]
+    frontend/test/load_program.py --readers 1 50 200 1000 --rates 100 0 [--processes 2] [--seconds 10]
 
 Each write adds a ticket to 500 and takes one away; half of the readers see the table as its owner, half by a policy. The readers are raw
 sockets in processes of their own on this machine, the writer one more. Times are from when a write was due, in milliseconds; rate 0 is as
@@ -139,16 +139,6 @@ def parts(times: list[float], *parts: float) -> list[float]:
     return [round(times[min(len(times) - 1, int(len(times) * part))] * 1000, 1) for part in parts]
 
 
-class Python:
-    """frontend/gateway.py, as the tests start it."""
-
-    def __init__(self):
-        from gate import Gate
-        self.gate = Gate()
-        self.port, self.pids = self.gate.port, [self.gate.process.pid, self.gate.state()["viewd"]]
-        self.end, self.seats = self.gate.end, lambda size: [("mia-demo", "lena-demo")[number % 2] for number in range(size)]
-
-
 class Program:
     """The program. Each token opens its role to 64 clients, so there are many."""
 
@@ -164,9 +154,9 @@ class Program:
         return [f"{('mia', 'lena')[number % 2]}-{number // 100}" for number in range(size)]
 
 
-def measure(size: int, rates: list[float], seconds: float, processes: int, is_python: bool):
+def measure(size: int, rates: list[float], seconds: float, processes: int):
     """A gateway of its own; a line of figures for each rate."""
-    gate = Python() if is_python else Program(size)
+    gate = Program(size)
     try:
         writer = enter(gate.port, "lena-demo")
         for at in range(0, KEPT, 100):
@@ -209,7 +199,7 @@ def measure(size: int, rates: list[float], seconds: float, processes: int, is_py
         for rate, due, replied, wall, used in results:
             short = sum(count[number] != size for number in due)
             print(json.dumps({
-                "gateway": "python" if is_python else "program", "readers": size, "rate": rate or "most", "writes/s": round(len(due) / wall),
+                "readers": size, "rate": rate or "most", "writes/s": round(len(due) / wall),
                 "lines/s": round(len(due) * size / wall), "reply ms p50 p95 p99": parts([replied[it] - due[it] for it in due], 0.5, 0.95, 0.99),
                 "last line ms p50 p95 p99": parts([last.get(it, replied[it]) - due[it] for it in due], 0.5, 0.95, 0.99),
                 "writes that did not reach all": short, "processor %: program, kernel": used, "load": round(os.getloadavg()[0], 1)}), flush=True)
@@ -223,8 +213,7 @@ if __name__ == "__main__":
     words.add_argument("--rates", type=float, nargs="+", default=[100, 0], help="writes a second; 0: as fast as they are answered")
     words.add_argument("--seconds", type=float, default=10)
     words.add_argument("--processes", type=int, default=2)
-    words.add_argument("--python", action="store_true", help="frontend/gateway.py in place of the program")
     given = words.parse_args()
     many_files()
     for size in given.readers:
-        measure(size, given.rates, given.seconds, given.processes, given.python)
+        measure(size, given.rates, given.seconds, given.processes)

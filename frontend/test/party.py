@@ -15,8 +15,8 @@ class Party:
 
     def __init__(self, store: Store, candidates: int = 1, readers: int = 1, seed: pathlib.Path = TOP / "desk.jsonl", lease: float = LEASE):
         self.store, words = store, ("--lease", str(lease))
-        self.candidates = [Gate(journal=store.url, words=(*words, "--seed", seed), start=False) for _ in range(candidates)]
-        self.readers = [Gate(journal=store.url, words=(*words, "--follow"), start=False) for _ in range(readers)]
+        self.candidates = [Gate(store.url, (*words, "--seed", seed), start=False) for _ in range(candidates)]
+        self.readers = [Gate(store.url, (*words, "--follow"), start=False) for _ in range(readers)]
         self.candidates[0].start()
         eventually(self.writer)
         for gate in self.all[1:]:

@@ -7,7 +7,8 @@ import time
 
 import redis
 
-from gate import PATIENCE, free_port
+from gate import PATIENCE
+from ports import free_port
 
 WORD = "a-password"
 

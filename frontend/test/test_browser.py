@@ -1,9 +1,9 @@
 #!/usr/bin/python3
-"""The desk in a real browser: an administrator and two agents, each in a window of one Chromium.
+"""The desk in a real browser, over the gateway as a program: an administrator and two agents, each in a window of one Chromium.
 
     frontend/test/test_browser.py [FOLDER FOR PICTURES]
 
-Status 3: Chromium does not start here, so nothing was tried.
+GATEWAY names another program than the one that is built. Status 3: Chromium does not start here, so nothing was tried.
 """
 import contextlib
 import pathlib
@@ -18,8 +18,10 @@ from selenium.webdriver.common.by import By
 from selenium.webdriver.common.keys import Keys
 from urllib3.exceptions import HTTPError
 
-from gate import PATIENCE, ROLES, Gate, eventually, explain, shortened, tokens
+from explain import explain, shortened
+from wire import PATIENCE, TOP, Gateway
 
+ROLES = ("admin", "lena", "mia", "noah", "olga")
 NOT_STARTED = 3
 GREATEST = (1 << 63) - 1
 
@@ -30,15 +32,18 @@ class Gone(Exception):
 
 def until(test):
     """The first true answer. A page that is being made anew lacks what is looked for, for a moment. Raises Gone."""
-    def answer():
+    end = time.monotonic() + PATIENCE
+    while True:
         try:
-            return test()
+            if found := test():
+                return found
         except (InvalidSessionIdException, HTTPError, OSError) as why:
             raise Gone(str(why)) from None
         except (WebDriverException, LookupError) as why:
             if re.search("crashed|disconnected|not reachable", str(why)):
                 raise Gone(str(why)) from None
-    return eventually(answer)
+        assert time.monotonic() < end, "it did not come"
+        time.sleep(0.02)
 
 
 class Desk:
@@ -110,6 +115,10 @@ class Desk:
         self.choose("#rights [name=to]", to)
         self.click(f"#rights [value={what}]")
 
+    def rights_shown(self) -> list[str]:
+        """What the administrator's tables say."""
+        return self.execute_script("return ['grants', 'members', 'security', 'policies'].map((it) => document.getElementById(it).textContent)")
+
     def member(self, to: str, role: str) -> None:
         self.choose("#member [name=to]", to)
         self.choose("#member [name=role]", role)
@@ -134,25 +143,29 @@ class Desk:
 class Test:
     """The steps, in their order: each goes on where the one before it ended."""
 
-    def __init__(self, driver: webdriver.Chrome, gate: Gate, pictures: pathlib.Path):
-        self.driver, self.gate, self.pictures = driver, gate, pictures
+    def __init__(self, driver: webdriver.Chrome, gate: Gateway, pictures: pathlib.Path):
+        self.driver, self.gate, self.pictures, self.url = driver, gate, pictures, f"http://127.0.0.1:{gate.port}/"
 
     def tokens(self) -> None:
-        door = Desk(self.driver, self.gate.url, "guessed", (600, 500))
+        """A token that is guessed opens nothing, and one that is taken away closes the page that it had opened."""
+        door = Desk(self.driver, self.url, "guessed", (600, 500))
         until(lambda: "opens no role" in door.css("#turned").text)
-        self.gate.tokens.write_text(tokens((*ROLES, "eve")))
-        door.type("#door input", "eve-demo" + Keys.ENTER)
-        until(lambda: "the role is not there. Trying again." in door.state())
-        door.press("#out", Keys.ENTER)
-        until(lambda: door.css("#door").is_displayed())
-        door.type("#door input", "mia-demo" + Keys.ENTER)
-        until(lambda: door.state() == "live" and door.css("#role").text == "mia")
+
+        def enters() -> bool:
+            if door.css("#door").is_displayed():
+                door.type("#door input", "mia-demo" + Keys.ENTER)
+            return door.state() == "live" and door.css("#role").text == "mia"
+        until(enters)
+        self.gate.know(*(it for it in ROLES if it != "mia"))
+        until(lambda: door.css("#door").is_displayed() and "opens no role" in door.css("#turned").text)
+        self.gate.know(*ROLES)
+        until(enters)
         door.press("#out", Keys.ENTER)
         until(lambda: door.css("#door").is_displayed())
 
     def three_roles(self) -> None:
-        self.admin = Desk(self.driver, self.gate.url, "admin-demo", (1280, 1420))
-        self.mia, self.noah = Desk(self.driver, self.gate.url, "mia-demo"), Desk(self.driver, self.gate.url, "noah-demo")
+        self.admin = Desk(self.driver, self.url, "admin-demo", (1280, 1420))
+        self.mia, self.noah = Desk(self.driver, self.url, "mia-demo"), Desk(self.driver, self.url, "noah-demo")
         until(lambda: len(self.admin.numbers()) == 12 and self.mia.numbers() == [101, 102, 109])
         until(lambda: self.noah.numbers() == [103, 104, 107, 112] and self.noah.bars() == {"noah": 4})
         until(lambda: self.admin.bars() == {"noah": 4, "mia": 2, "olga": 2, "jun": 1, "ravi": 1} and self.mia.bars() == {"mia": 2})
@@ -206,7 +219,7 @@ class Test:
 
     def members(self) -> None:
         """A member has what its role has, in its window at once, and loses it when the membership ends."""
-        olga = Desk(self.driver, self.gate.url, "olga-demo")
+        olga = Desk(self.driver, self.url, "olga-demo")
         until(lambda: "You may not read tickets" in olga.css("#none").text and olga.numbers() == [])
         self.admin.member("olga", "noah")
         until(lambda: olga.numbers() == [105, 111] and olga.bars() == {"olga": 2} and not olga.css("#none").is_displayed())
@@ -225,8 +238,9 @@ class Test:
     def forged(self) -> None:
         for session in range(1, 8):
             got = self.mia.say({"do": "grant", "on": "tickets", "privileges": ["delete"], "to": "mia", "session": session})
-            assert got == {"error": 12, "on": "tickets"}, got
-        assert self.mia.say({"do": "begin", "role": "admin"}) == self.mia.say({"do": "finish"}) == {"error": 2}
+            assert got == {"error": 2, "key": "session", "why": "unknown"}, got
+        assert self.mia.say({"do": "grant", "on": "tickets", "privileges": ["delete"], "to": "mia"}) == {"error": 12, "on": "tickets"}
+        assert self.mia.say({"do": "begin", "role": "admin"}) == self.mia.say({"do": "finish"}) == {"error": 2, "key": "do", "why": "wrong"}
 
     def odd_rows(self) -> None:
         subject = "<b>bold</b> & \"quotes\" \\ 12345678901234567890"
@@ -246,9 +260,8 @@ class Test:
 
     def kills(self) -> None:
         before = {desk: desk.tickets() for desk in (self.admin, self.mia, self.noah)}
-        self.gate.kill_viewd()
-        until(lambda: all(desk.state() == "live" and desk.tickets() == rows for desk, rows in before.items()))
-        self.gate.kill_gateway()
+        rights = self.admin.rights_shown()
+        self.gate.kill()
         until(lambda: all("not connected" in desk.state() or desk.state() == "connecting" for desk in before))
         until(lambda: "not connected" in self.mia.state())
         until(lambda: "stale" in self.mia.css("main").get_attribute("class"))
@@ -256,6 +269,7 @@ class Test:
         assert "not sent" in self.mia.say({"do": "subscribe", "on": "tickets"})["lost"]
         self.gate.start()
         until(lambda: all(desk.state() == "live" and desk.tickets() == rows for desk, rows in before.items()))
+        until(lambda: self.admin.rights_shown() == rights)
         self.admin.add("mia", "After the crash")
         until(lambda: "After the crash" in [row[1] for row in self.mia.tickets().values()])
 
@@ -315,7 +329,7 @@ def started() -> webdriver.Chrome | None:
     return None
 
 
-def passes(driver: webdriver.Chrome, gate: Gate, pictures: pathlib.Path) -> bool:
+def passes(driver: webdriver.Chrome, gate: Gateway, pictures: pathlib.Path) -> bool:
     """Whether all steps pass. Raises Gone."""
     test = Test(driver, gate, pictures)
     for step in (test.tokens, test.three_roles, test.writes, test.keyboard, test.policies, test.dark_and_narrow, test.revokes,
@@ -325,7 +339,7 @@ def passes(driver: webdriver.Chrome, gate: Gate, pictures: pathlib.Path) -> bool
             step()
         except Exception as why:
             console = until(lambda: driver.get_log("browser") or "no word on the console")
-            print(f"--- {gate.url}\n{gate.said()[-1500:]}\n{console}")
+            print(f"--- {test.url}\n{gate.said()[-1500:]}\n{console}")
             print(f"FAILED  in Chromium: {step.__name__}  {time.monotonic() - began:.1f} s\n{explain(why)}", flush=True)
             return False
         print(f"ok  in Chromium: {step.__name__}  {time.monotonic() - began:.1f} s", flush=True)
@@ -338,7 +352,7 @@ def main(pictures: pathlib.Path) -> int:
         driver = started()
         if not driver:
             return NOT_STARTED
-        gate = Gate()
+        gate = Gateway(ROLES, ("--pages", TOP / "frontend/web"), (TOP / "frontend/desk.jsonl").read_bytes())
         try:
             return 0 if passes(driver, gate, pictures) else 1
         except Gone as why:

@@ -4,79 +4,34 @@
     frontend/test/test_program.py [--kills N] [--steps N] [TEST ..]
 
 GATEWAY names another program than the one that is built."""
-import argparse
+import base64
 import collections
 import contextlib
+import hmac
+import itertools
 import json
 import os
+import pathlib
 import random
-import resource
 import signal
 import socket
 import struct
-import subprocess
 import sys
 import threading
 import time
-import traceback
 
 from model import Model, Player, line, text_of
-from wire import BINARY, CLOSE, PATIENCE, PING, PONG, PROGRAM, TOP, Ended, Gateway, Wire, frame, http, masked, plain, request
+from trial import BASE, comes_in, insert, main, serving, test, total, until
+from wire import BINARY, CLOSE, COMING, PATIENCE, PING, PONG, TOP, Ended, Gateway, Wire, digest, frame, http, in_time, masked, plain, request
 
-TESTS = []
-SOON = PATIENCE / 6  # seconds in which another client is answered, on a slow machine too
-BASE = [{"do": "create_role", "name": name} for name in ("ann", "bob", "mia")] + [
-    {"do": "create_table", "name": "notes", "owner": "ann", "columns": [["id", "int"], ["who", "text"]]},
-    {"do": "grant", "on": "notes", "privileges": ["select", "insert", "delete"], "to": "mia"},
-    {"do": "grant", "on": "notes", "privileges": ["select"], "to": "bob"}]
+LATE = 30  # seconds for which the gateway keeps who takes nothing
 
 
-def test(check):
-    TESTS.append(check)
-    return check
-
-
-@contextlib.contextmanager
-def serving(base=BASE, **how):
-    """A gateway that has carried out these requests, and its administrator."""
-    gate = Gateway(**how)
-    try:
-        admin = gate.enter("admin")
-        for it in base:
-            assert admin.ask(it)[0].startswith('{"ok":true'), it
-        yield gate, admin
-        assert gate.process.poll() is None, gate.said()
-    finally:
-        gate.end()
-
-
-def until(holds, what: str) -> None:
-    """Waits until it holds."""
-    end = time.monotonic() + PATIENCE
-    while not holds():
-        assert time.monotonic() < end, what
-        time.sleep(0.05)
-
-
-def comes_in(gate: Gateway, role: str) -> bool:
-    try:
-        return gate.enter(role) is not None
-    except (Ended, ConnectionError):
-        return False
-
-
-def insert(number: int, who: str, on: str = "notes", **keys) -> dict:
-    return {**keys, "do": "write", "entries": [{"on": on, "insert": [number, who]}]}
-
-
-def total(lines: list[str], sub: int = 1) -> collections.Counter:
-    """What the lines for a number add up to."""
-    rows = collections.Counter()
-    for it in map(json.loads, lines):
-        if it.get("sub") == sub:
-            for copies, row in it.get("changes", []):
-                rows[tuple(row)] += copies
-    return collections.Counter({row: copies for row, copies in rows.items() if copies})
+def spent(gate: Gateway, ask) -> float:
+    """Seconds of processor that the gateway took until it had answered: the load of the host has no part in them."""
+    before = gate.processor()
+    ask()
+    return gate.processor() - before
 
 
 # ---- what clients are told
@@ -118,42 +73,40 @@ def compare(model: Model, wires: dict, told: dict, request: dict, asker) -> None
 def each_line_is_the_models(steps=400):
     for seed in range(3):
         gate, model = Gateway(), Model()
-        try:
-            player, wires = Player(model, seed), {}
-            admin = wires["admin"] = gate.enter("admin")
-            model.come("admin", "admin")
+        player, wires = Player(model, seed), {}
+        wires["admin"] = gate.enter("admin")
+        model.come("admin", "admin")
 
-            def step(key, request, id=None):
-                wires[key].say({**({} if id is None else {"id": id}), **request})
-                compare(model, wires, model.says(key, request, id), request, key)
+        def step(key, request, id=None):
+            wires[key].say({**({} if id is None else {"id": id}), **request})
+            compare(model, wires, model.says(key, request, id), request, key)
 
-            for it in BASE:
-                step("admin", it)
-            for key, role in [("ann1", "ann"), ("ann2", "ann"), ("bob", "bob"), ("mia1", "mia"), ("mia2", "mia")]:
-                model.come(key, role)
+        for it in BASE:
+            step("admin", it)
+        for key, role in [("ann1", "ann"), ("ann2", "ann"), ("bob", "bob"), ("mia1", "mia"), ("mia2", "mia")]:
+            model.come(key, role)
+            wires[key] = gate.enter(role)
+        for at in range(steps):
+            key = player.dice.choice([*wires])
+            if at % 60 == 59:  # it goes, and comes again
+                wires[key].shut()
+                role = model.clients[key].role
+                model.go(key)
                 wires[key] = gate.enter(role)
-            for at in range(steps):
-                key = player.dice.choice([*wires])
-                if at % 60 == 59:  # it goes, and comes again
-                    wires[key].shut()
-                    role = model.clients[key].role
-                    model.go(key)
-                    wires[key] = gate.enter(role)
-                    assert [line(role=role), *wires[key].shape] == model.come(key, role)[key]
-                    continue
-                step(key, player.request(model.clients[key]), at if at % 3 else None)
-            # what the journal has leads to the same state
-            again = Model()
-            again.come("admin", "admin")
-            roles = {}
-            for entry in gate.entries():
-                roles.setdefault(entry["as"], again.come(entry["as"], entry["as"]))
-                answer = again.says(entry["as"], {key: value for key, value in entry.items() if key != "as"})
-                assert answer[entry["as"]][0].startswith('{"ok":true'), (entry, answer)
-            assert {name: it.rows for name, it in again.relations.items()} == {name: it.rows for name, it in model.relations.items()}
-            print(f"  seed {seed}: {steps} steps, {len(gate.entries())} entries", flush=True)
-        finally:
-            gate.end()
+                assert [line(role=role), *wires[key].shape] == model.come(key, role)[key]
+                continue
+            step(key, player.request(model.clients[key]), at if at % 3 else None)
+        # what the journal has leads to the same state
+        again = Model()
+        again.come("admin", "admin")
+        roles = {}
+        for entry in gate.entries():
+            roles.setdefault(entry["as"], again.come(entry["as"], entry["as"]))
+            answer = again.says(entry["as"], {key: value for key, value in entry.items() if key != "as"})
+            assert answer[entry["as"]][0].startswith('{"ok":true'), (entry, answer)
+        assert {name: it.rows for name, it in again.relations.items()} == {name: it.rows for name, it in model.relations.items()}
+        print(f"  seed {seed}: {steps} steps, {len(gate.entries())} entries", flush=True)
+        gate.end()
 
 
 @test
@@ -178,8 +131,10 @@ def all_add_up_where_many_write_at_once():
         threads = [threading.Thread(target=write, args=it) for it in enumerate(writers)]
         for it in threads:
             it.start()
-        for it in threads:
-            it.join()
+        while any(it.is_alive() for it in threads):  # who reads nothing for long would be let go
+            for reader in readers:
+                with contextlib.suppress(TimeoutError):
+                    reader.read(0.01)
         mark = 999_999
         assert admin.ask(insert(mark, "ann")) == ['{"ok":true}']
         wanted = collections.Counter([*made, (mark, "ann")])
@@ -230,14 +185,22 @@ def the_line_is_alive_each_20_seconds():
 @test
 def bytes_may_be_cut_anywhere():
     with serving() as (gate, admin):
-        wire = Wire(gate.port, open_it=False)
         said = [b"mia-demo", text_of({"do": "subscribe", "on": "notes"}).encode(), text_of(insert(1, "ann")).encode()]
-        for byte in request() + b"".join(map(masked, said)):
-            wire.send(bytes([byte]))
-        while b"\r\n\r\n" not in wire.input:
-            wire.more()
-        wire.input = wire.input.split(b"\r\n\r\n", 1)[1]
-        assert wire.enter() == "mia" and wire.event()[0].endswith('"ok":true,"sub":1}')
+
+        def attempt() -> Wire | None:
+            wire = Wire(gate.port, open_it=False)
+            try:
+                for byte in request() + b"".join(map(masked, said)):
+                    wire.send(bytes([byte]))
+                while b"\r\n\r\n" not in wire.input:
+                    wire.more()
+                wire.input = wire.input.split(b"\r\n\r\n", 1)[1]
+                wire.role = wire.enter()
+            except (Ended, ConnectionError):
+                return None
+            return wire
+        wire = in_time(attempt)
+        assert wire.role == "mia" and wire.event()[0].endswith('"ok":true,"sub":1}')
         assert wire.event() == ['{"ok":true}', '{"changes":[[1,[1,"ann"]]],"sub":1}']
         # in fragments, with a ping between them
         text = text_of(insert(2, "ann")).encode()
@@ -269,14 +232,17 @@ HOSTILE = {
 def hostile_frames_end_their_connection_alone():
     with serving() as (gate, admin):
         for name, (data, code) in HOSTILE.items():
-            for token in ("mia-demo", None):
-                wire = Wire(gate.port, token)
-                if token:
-                    wire.enter()
-                wire.send(data + masked(text_of(insert(66, "ann")).encode()))
-                ended = wire.end()
-                assert ended == code or code is None, (name, token, ended, code)
-                wire.shut()
+            for role in ("mia", None):
+                def attempt() -> int | None:
+                    try:
+                        wire = gate.enter(role) if role else Wire(gate.port)
+                        with contextlib.suppress(ConnectionError):  # it may have ended before all was sent
+                            wire.send(data + masked(text_of(insert(66, "ann")).encode()))
+                        return wire.end() or (code is None or None)
+                    except Ended:
+                        return None
+                ended = in_time(attempt)
+                assert ended == code or code is None, (name, role, ended, code)
             assert admin.ask({"do": "unsubscribe", "sub": 9}) == ['{"error":19}'], name
         assert not any("66" in text_of(it) for it in gate.entries())
 
@@ -286,16 +252,18 @@ def random_bytes_end_their_connection_alone():
     with serving() as (gate, admin):
         dice = random.Random(7)
         for at in range(200):
-            wire = Wire(gate.port, "mia-demo" if at % 2 else None, open_it=at % 4 != 0)
             with contextlib.suppress(ConnectionError, Ended):
-                if at % 2 and at % 4:
-                    wire.enter()
+                wire = gate.enter("mia") if at % 2 else Wire(gate.port, open_it=at % 4 != 0)
                 wire.send(dice.randbytes(dice.randrange(1, 3000)))
                 if at % 3 == 0:
                     wire.send(b"\r\n\r\n")
-            wire.shut()
+                wire.shut()
         assert admin.ask({"do": "unsubscribe", "sub": 9}) == ['{"error":19}']
         assert len(gate.entries()) == len(BASE)
+
+
+def answers(admin: Wire) -> None:
+    assert admin.ask({"do": "unsubscribe", "sub": 9}) == ['{"error":19}']
 
 
 @test
@@ -303,62 +271,92 @@ def a_flood_of_empty_frames_takes_no_memory():
     with serving() as (gate, admin):
         wire, before = gate.enter("mia"), gate.memory()
         wire.socket.settimeout(0.05)
-        flood, end, worst, sent, rest = masked(b"") * 20_000, time.monotonic() + 8, 0.0, 0, b""
+        flood, end, worst, sent, rest, asked = masked(b"") * 20_000, time.monotonic() + 8, 0.0, 0, b"", 0
         try:
-            while time.monotonic() < end:
+            while time.monotonic() < end or asked < 4:
                 with contextlib.suppress(TimeoutError):
                     rest = rest or flood
                     count = wire.socket.send(rest)
                     sent, rest = sent + count, rest[count:]
-                start = time.monotonic()
-                assert admin.ask({"do": "unsubscribe", "sub": 9}) == ['{"error":19}']
-                worst = max(worst, time.monotonic() - start)
+                worst, asked = max(worst, spent(gate, lambda: answers(admin))), asked + 1
         except ConnectionError:
             pass
         grown = gate.memory() - before
-        print(f"  {sent:,} bytes taken, {grown:,} bytes of memory more, the longest reply to another took {worst:.3f} s", flush=True)
-        assert grown < 16 << 20 and worst < SOON
+        print(f"  {sent:,} bytes taken, {grown:,} bytes of memory more, {asked} replies to another, the longest {worst:.2f} s of processor", flush=True)
+        assert grown < 16 << 20 and worst < 2
 
 
 @test
 def who_reads_nothing_goes_and_takes_little_memory():
     with serving() as (gate, admin):
-        for at in range(0, 4000, 1000):
-            admin.ask({"do": "write", "entries": [{"on": "notes", "insert": [at + it, "ann" + "x" * 1000]} for it in range(60)]})
+        for at in range(4):
+            admin.ask({"do": "write", "entries": [{"on": "notes", "insert": [at * 60 + it, "ann" + "x" * 1000]} for it in range(60)]})
         before, wires = gate.memory(), [gate.enter("mia", receive=4096) for _ in range(8)]
         for wire in wires:
             wire.socket.settimeout(0.2)
-            with contextlib.suppress(TimeoutError):
+            with contextlib.suppress(TimeoutError, ConnectionError):
                 for _ in range(200):
                     wire.say({"do": "subscribe", "on": "notes"})
                     wire.say({"do": "unsubscribe", "sub": 1})
-        end, at, most = time.monotonic() + 30 + PATIENCE, 0, 0
+        end, asked, most = time.monotonic() + LATE + PATIENCE, 0, 0
         while time.monotonic() < end and "takes nothing" not in gate.said():
-            at += 1
-            start = time.monotonic()
-            admin.ask({"do": "write", "entries": [{"on": "notes", "insert": [10_000 + at, "ann" + "x" * 1000]}]})
-            assert time.monotonic() - start < SOON
-            most = max(most, gate.memory() - before)
-            time.sleep(0.05)
-        print(f"  {most:,} bytes of memory more for 8 clients; {gate.said().count('takes nothing')} are gone", flush=True)
-        assert "takes nothing" in gate.said() and most < 8 * (8 << 20)
+            for turn in ("insert", "delete"):  # others are answered meanwhile
+                assert admin.ask({"do": "write", "entries": [{"on": "notes", turn: [10_000, "ann" + "x" * 1000]}]}) == ['{"ok":true}']
+            asked, most = asked + 2, max(most, gate.memory() - before)
+            time.sleep(0.1)
+        print(f"  {most:,} bytes of memory more for 8 clients; {gate.said().count('takes nothing')} are gone; {asked} writes of another meanwhile", flush=True)
+        assert "takes nothing" in gate.said() and most < 8 * (8 << 20) and asked > 6
 
 
 @test
 def who_is_far_behind_is_told_why():
+    # what the system takes, and more than the gateway keeps, by writes that come to it 16 times each
+    kept = int(pathlib.Path("/proc/sys/net/ipv4/tcp_wmem").read_text().split()[2])
+    writes = 2 * (kept + (4 << 20)) // (16 * 60 * 1000) + 8
     with serving() as (gate, admin):
-        wire = gate.enter("mia", receive=4096)
-        wire.ask({"do": "subscribe", "on": "notes"})
-        row, at = "ann" + "x" * 1000, 0
-        while at < 250:  # 15 MB, of which the system takes a part; in less than the 30 seconds behind which it goes without a word
-            at += 1
-            admin.say({"do": "write", "entries": [{"on": "notes", "insert": [at * 100 + it, row]} for it in range(60)]})
-            if at % 10 == 0:
-                for _ in range(10):
-                    admin.event()
-        code = wire.end()
-        print(f"  after {at} writes: {code} {wire.words.decode()}", flush=True)
-        assert code == 1013, code
+        def attempt() -> int | None:
+            wire = gate.enter("mia", receive=4096)
+            for _ in range(16):
+                wire.ask({"do": "subscribe", "on": "notes"})
+            for at in range(writes):
+                turn = ("insert", "delete")[at % 2]
+                assert admin.ask({"do": "write", "entries": [{"on": "notes", turn: [it, "ann" + "x" * 1000]} for it in range(60)]}) == ['{"ok":true}']
+            code = wire.end()
+            print(f"  after {writes} writes: {code} {wire.words.decode()}", flush=True)
+            return code
+        assert in_time(attempt, LATE) == 1013  # a host that takes so long has it go without a word
+
+
+@test
+def who_takes_slowly_stays():
+    """What a client asked for may be longer than what may wait for it, and it may take that in its time."""
+    with serving() as (gate, admin):
+        rows = [[at, "ann" + "x" * 1000] for at in range(2400)]
+        late = itertools.count(10_000)
+        for at in range(0, len(rows), 60):
+            admin.ask({"do": "write", "entries": [{"on": "notes", "insert": row} for row in rows[at:at + 60]]})
+
+        def attempt() -> list[collections.Counter] | None:
+            wire, gap = gate.enter("mia", receive=16_384), 0.0
+            for _ in range(8):
+                wire.say({"do": "subscribe", "on": "notes"})
+            start = last = time.monotonic()
+            try:
+                while time.monotonic() < start + LATE + 5:
+                    wire.more()
+                    last, gap = time.monotonic(), max(gap, time.monotonic() - last)
+                    time.sleep(0.1)
+                rows.append([next(late), "ann"])
+                admin.ask(insert(*rows[-1]))
+                lines = []
+                while sum(f"[1,[{rows[-1][0]}," in it for it in lines) < 8:
+                    lines.append(wire.line())
+            except Ended:
+                assert wire.code is None and gap > LATE / 3, (wire.code, wire.words, gap)
+                return None
+            return [total(lines, sub) for sub in range(1, 9)]
+        found = in_time(attempt, LATE)
+        assert found == [collections.Counter(map(tuple, rows))] * 8
 
 
 @test
@@ -375,7 +373,7 @@ def silence_has_an_end():
                 while True:
                     wire.more()
             took = time.monotonic() - start
-            assert 8 < took < 10 + PATIENCE, (name, took)
+            assert COMING - 2 < took < COMING + PATIENCE, (name, took)
 
 
 # ---- plain requests
@@ -401,6 +399,10 @@ def plain_requests_are_answered():
                              (b"GET /live HTTP/1.1\r\nHost: x\r\nUpgrade: websocket\r\nContent-Length: 5\r\n\r\nhello", b"400")]:
             got = plain(gate.port, data)
             assert got.startswith(b"HTTP/1.1 " + status), (data[:60], got[:100])
+        for data, status in [(b"HEAD /nothing HTTP/1.1\r\nHost: x\r\n\r\n", b"404"), (b"HEAD / HTTP/1.1\r\n\r\n", b"400"), (b"HEAD /healthz HTTP/1.1\r\nHost: x\r\n\r\n", b"200"),
+                             (b"HEAD /" + b"x" * 9000 + b" HTTP/1.1\r\n\r\n", b"414")]:
+            got = plain(gate.port, data)  # the head of an answer has nothing behind it
+            assert got.startswith(b"HTTP/1.1 " + status) and got.endswith(b"\r\n\r\n") and got.count(b"\r\n\r\n") == 1, (data[:60], got)
 
 
 @test
@@ -416,18 +418,16 @@ def pages_of_a_folder_are_served_and_no_others():
     (pages / "out").symlink_to(gate.folder)
     gate.words = ("--pages", pages)
     gate.start()
-    try:
-        status, head, body = http(gate.port, "/")
-        assert (status, body, head["content-type"]) == (200, b"<p>hello", "text/html; charset=utf-8") and "default-src 'none'" in head["content-security-policy"]
-        assert http(gate.port, "/?x=1")[2] == body and http(gate.port, "/", method="HEAD")[2] == b""
-        assert http(gate.port, "/", head={"If-None-Match": head["etag"]})[0] == 304
-        assert http(gate.port, "/img/a.svg")[1]["content-type"] == "image/svg+xml"
-        for path in ("/.env", "/%2eenv", "/link.txt", "/out/outside.txt", "/../outside.txt", "/%2e%2e/outside.txt", "/img/..%2f..%2foutside.txt",
-                     "/img/%2e%2e/%2e%2e/outside.txt", "/img", "/nothing", "//etc/passwd", "/img//a.svg", "/a%00b"):
-            got = plain(gate.port, f"GET {path} HTTP/1.1\r\nHost: x\r\n\r\n".encode())
-            assert got.startswith(b"HTTP/1.1 404") and b"secret" not in got, (path, got)
-    finally:
-        gate.end()
+    status, head, body = http(gate.port, "/")
+    assert (status, body, head["content-type"]) == (200, b"<p>hello", "text/html; charset=utf-8") and "default-src 'none'" in head["content-security-policy"]
+    assert http(gate.port, "/?x=1")[2] == body and http(gate.port, "/", method="HEAD")[2] == b""
+    assert http(gate.port, "/", head={"If-None-Match": head["etag"]})[0] == 304
+    assert http(gate.port, "/img/a.svg")[1]["content-type"] == "image/svg+xml"
+    for path in ("/.env", "/%2eenv", "/link.txt", "/out/outside.txt", "/../outside.txt", "/%2e%2e/outside.txt", "/img/..%2f..%2foutside.txt",
+                 "/img/%2e%2e/%2e%2e/outside.txt", "/img", "/nothing", "//etc/passwd", "/img//a.svg", "/a%00b"):
+        got = plain(gate.port, f"GET {path} HTTP/1.1\r\nHost: x\r\n\r\n".encode())
+        assert got.startswith(b"HTTP/1.1 404") and b"secret" not in got, (path, got)
+    gate.end()
 
 
 # ---- tokens
@@ -437,36 +437,210 @@ def pages_of_a_folder_are_served_and_no_others():
 def tokens_open_their_role_and_nothing_else():
     with serving() as (gate, admin):
         for token in ("mia", "", "mia-demo ", "MIA-DEMO", "x" * 100_000):
-            wire = Wire(gate.port, token)
-            assert wire.end() == 4401 and not wire.lines, token[:20]
+            assert gate.knock(token).code == 4401, token[:20]
         mia = gate.enter("mia")
         gate.know("admin", "ann", "bob")  # mia's token is taken away
-        assert mia.end() == 4401 and Wire(gate.port, "mia-demo").end() == 4401
+        assert mia.end() == 4401 and gate.knock("mia-demo").code == 4401
         gate.know("admin", "ann", "bob", "mia", "eve")
         until(lambda: comes_in(gate, "mia"), "a token that is there again opens nothing")
-        assert Wire(gate.port, "eve-demo").end() in (4401, 1013)  # her role is not there
+        assert gate.knock("eve-demo").code == 1013  # her role is not there
         admin.ask({"do": "create_role", "name": "eve"})
         assert gate.enter("eve")
-        gate.tokens.write_text("nonsense\n")  # a file that is none changes nothing
+        gate.put_tokens("nonsense\n")  # a file that is none changes nothing
         until(lambda: "line 1 is no token" in gate.said(), "a file that is none is not told of")
         assert gate.enter("mia") and admin.ask({"do": "unsubscribe", "sub": 9}) == ['{"error":19}']
         mia = gate.enter("mia")
         gate.know()  # an empty one lets nobody in
-        assert mia.end() == 4401 and admin.end() == 4401 and Wire(gate.port, "admin-demo").end() == 4401
+        assert mia.end() == 4401 and admin.end() == 4401 and gate.knock("admin-demo").code == 4401
         assert "there are none" in gate.said() and http(gate.port, "/state", "admin-demo")[0] == 401
+
+
+def wide(role: str, **more: str) -> str:
+    """A line of the file of tokens that may say a holder and an end."""
+    return f'"{digest(role + "-demo")}" = {{ role = "{role}"' + "".join(f', {key} = "{value}"' for key, value in more.items()) + " }"
+
+
+def moment(second: float) -> str:
+    return time.strftime("%Y-%m-%dT%H:%M:%SZ", time.gmtime(second))
+
+
+@test
+def a_token_that_ends_closes_who_came_by_it():
+    with serving() as (gate, admin):
+        for left in (8, 60, 300):
+            end = int(time.time()) + left
+            gate.know("admin", "ann", lines=("# Mia leaves", wide("mia", holder="Mia Öz", until=moment(end)), wide("bob", holder="Bob")))
+            with contextlib.suppress(Ended):
+                until(lambda: time.time() > end or comes_in(gate, "mia") and 'as mia, held by "Mia Öz"' in gate.said(), "a token with a holder opens nothing")
+                mia = gate.enter("mia")
+                assert mia.ask({"do": "subscribe", "on": "notes"})
+                break
+            assert time.time() > end  # this host left it no time
+        bob = gate.enter("bob")
+        assert mia.end() == 4401 and time.time() >= end
+        assert gate.knock("mia-demo").code == 4401
+        assert bob.ask({"do": "unsubscribe", "sub": 9}) == ['{"error":19}']
+        until(lambda: comes_in(gate, "bob") and 'as bob, held by "Bob"' in gate.said(), "a holder is not told of")
+        # it may end later after all, or have ended before
+        gate.know("admin", "ann", lines=(wide("mia", until=moment(end + 86_400)), wide("bob", until="1970-01-01T00:00:00Z")))
+        assert bob.end() == 4401
+        until(lambda: comes_in(gate, "mia"), "a token whose end is later opens nothing")
+        gate.kill()
+        gate.know("admin", lines=(wide("mia", until=moment(time.time() - 1)),))
+        gate.start()
+        assert gate.knock("mia-demo").code == 4401 and gate.enter("admin")
+
+
+WRONG = ['until = "2026-02-29T00:00:00Z"', 'until = "2026-12-31"', 'until = "2026-12-31T24:00:00Z"', 'until = "2026-12-31T00:00:00+01:00"', 'until = 7',
+         'until = "tomorrow"', 'holder = ""', f'holder = "{"x" * 65}"', 'holder = "a\\nb"', 'holder = "\x1b[2J"', 'until = "2036-12-31T00:00:00Z", holder = "x"',
+         'holder = "x", holder = "y"', 'sub = "x"']
+
+
+@test
+def a_wrong_line_of_the_tokens_is_named_and_changes_nothing():
+    with serving() as (gate, admin):
+        mia = gate.enter("mia")
+        for more in WRONG:
+            before = gate.said().count("line 4 is no token")
+            gate.know("admin", "ann", lines=(f'"{digest("mia-demo")}" = {{ role = "mia", {more} }}',))
+            until(lambda: gate.said().count("line 4 is no token") > before, f"{more} is not told of")
+        assert mia.ask({"do": "unsubscribe", "sub": 9}) == ['{"error":19}'] and gate.enter("bob")
+        before = gate.said().count("stands twice")
+        gate.know("admin", "mia", lines=(wide("mia"),))
+        until(lambda: gate.said().count("stands twice") > before, "a token that stands twice is not told of")
+        assert gate.enter("bob")
+
+
+SECRET = b"a secret of 32 bytes or more, say"
+
+
+def part(data: bytes | dict) -> bytes:
+    return base64.urlsafe_b64encode(json.dumps(data).encode() if isinstance(data, dict) else data).rstrip(b"=")
+
+
+def web_token(claims: dict | bytes, head: dict | None = None, secret: bytes = SECRET, by: str = "sha256") -> str:
+    """A JSON web token (RFC 7519), signed by HMAC."""
+    signed = part(head or {"alg": "HS256", "typ": "JWT"}) + b"." + part(claims)
+    return (signed + b"." + part(hmac.new(secret, signed, by).digest())).decode()
+
+
+@contextlib.contextmanager
+def serving_web(**how):
+    gate = Gateway(start=False, **how)
+    secret = gate.folder / "secret"
+    secret.write_bytes(SECRET + b"\n")
+    gate.words = (*gate.words, "--jwt-secret-file", secret)
+    gate.start()
+    admin = gate.enter("admin")
+    for it in BASE:
+        assert admin.ask(it)[0].startswith('{"ok":true'), it
+    yield gate, admin
+    assert gate.process.poll() is None, gate.said()
+    gate.end()
+
+
+@test
+def web_tokens_open_their_role_until_they_end():
+    with serving_web() as (gate, admin):
+        now = int(time.time())
+        mia = gate.knock(web_token({"role": "mia", "sub": "Mia Öz", "exp": now + 86_400}))
+        assert mia.role == "mia" and 'as mia, held by "Mia Öz"' in gate.said()
+        assert mia.ask({"do": "subscribe", "on": "notes"})[0].endswith('"ok":true,"sub":1}')
+        for left in (8, 60, 300):
+            end = int(time.time()) + left
+            soon = web_token({"role": "bob", "sub": "bob", "exp": end})
+            bob, again = gate.knock(soon), gate.knock(soon)
+            if bob.role == again.role == "bob":
+                break
+            assert time.time() >= end  # this host left it no time
+        assert bob.end() == 4401 and again.end() == 4401 and time.time() >= end
+        assert gate.knock(soon).code == 4401 and mia.ask({"do": "unsubscribe", "sub": 9}) == ['{"error":19}']
+        # tokens of the file are as they were, and the file may be read again
+        gate.know("admin", "ann")
+        assert gate.enter("ann") and mia.ask({"do": "unsubscribe", "sub": 9}) == ['{"error":19}']
+        boss = web_token({"role": "admin", "sub": "x", "exp": now + 86_400})
+        assert http(gate.port, "/state", boss)[0] == 200 and http(gate.port, "/state", web_token({"role": "mia", "sub": "x", "exp": now + 86_400}))[0] == 401
+        assert http(gate.port, "/state", web_token({"role": "admin", "sub": "x", "exp": now - 1}))[0] == 401
+
+
+@test
+def what_an_attacker_makes_of_a_web_token_opens_nothing():
+    with serving_web() as (gate, admin):
+        now = int(time.time())
+        claims = {"role": "admin", "sub": "eve", "exp": now + 86_400}
+        good = web_token(claims)
+        head, body, mac = good.split(".")
+        hostile = {
+            "no signature": f"{head}.{body}.", "no algorithm": f"{part({'alg': 'none'}).decode()}.{body}.", "no algorithm, signed": web_token(claims, {"alg": "none"}),
+            "another algorithm": web_token(claims, {"alg": "HS512"}, by="sha512"), "its name alone": web_token(claims, {"alg": "HS512"}),
+            "another secret": web_token(claims, secret=SECRET[::-1]), "an empty secret": web_token(claims, secret=b""),
+            "another role": f"{head}.{part({**claims, 'role': 'ann'}).decode()}.{mac}", "a cut signature": good[:-1], "a longer one": good + "A",
+            "padding": good + "=", "four parts": good + "." + mac, "two parts": f"{head}.{body}", "a space": good + " ", "ended": web_token({**claims, "exp": now - 1}),
+            "not begun": web_token({**claims, "nbf": now + 80_000}), "no end": web_token({"role": "admin", "sub": "eve"}), "an end as text": web_token({**claims, "exp": str(now + 9)}),
+            "an endless end": web_token({**claims, "exp": 10**30}), "no subject": web_token({"role": "admin", "exp": now + 86_400}), "an audience": web_token({**claims, "aud": "x"}),
+            "something critical": web_token(claims, {"alg": "HS256", "crit": ["exp"]}), "another type": web_token(claims, {"alg": "HS256", "typ": "JWE"}),
+            "no name of a role": web_token({**claims, "role": "Admin"}), "a long subject": web_token({**claims, "sub": "x" * 256}), "no JSON": web_token(b"{"),
+            "deep JSON": web_token(b"[" * 9000), "a long one": web_token({**claims, "x": "y" * 60_000}), "a role that is not there": web_token({**claims, "role": "eve"})}
+        for name, token in hostile.items():
+            assert gate.knock(token).code in (4401, 1013), name
+            assert admin.ask({"do": "unsubscribe", "sub": 9}) == ['{"error":19}'], name
+            if len(token) < 8000 and not token.endswith(" "):  # a field ends before its spaces
+                assert http(gate.port, "/state", token)[0] == 401, name
+        assert "did not come in: its web token has ended" in gate.said() and "the secret does not sign" in gate.said()
+        # cut anywhere, in parts, behind a ping, and in the same read as the head
+        for cut in (1, 7, len(good) // 2):
+            def in_parts() -> str | None:
+                with contextlib.suppress(Ended, ConnectionError):
+                    wire = Wire(gate.port)
+                    wire.send(masked(b"x", PING) + frame(good[:cut].encode(), final=False) + masked(b"y", PING) + frame(good[cut:].encode(), 0))
+                    return wire.enter()
+            assert in_time(in_parts) == "admin", cut
+
+        def at_once() -> str | None:
+            with contextlib.suppress(Ended, ConnectionError):
+                wire = Wire(gate.port, open_it=False)
+                wire.send(request() + masked(good.encode()))
+                while b"\r\n\r\n" not in wire.input:
+                    wire.more()
+                wire.input = wire.input.split(b"\r\n\r\n", 1)[1]
+                return wire.enter()
+        assert in_time(at_once) == "admin"
+        # the second message is no token
+        assert gate.enter("mia").ask(good) == ['{"error":1}']
+
+
+@test
+def nobody_takes_all_web_tokens():
+    with serving_web() as (gate, admin):
+        now = int(time.time())
+        tokens = [web_token({"role": "mia", "sub": "eve", "exp": now + 86_400 + at}) for at in range(40)]
+        wires = [gate.knock(it) for it in tokens]
+        codes = collections.Counter(it.code for it in wires)
+        assert codes == {None: 16, 4401: 24}, codes
+        assert "too many of its subject" in gate.said()
+        assert gate.knock(web_token({"role": "mia", "sub": "mia", "exp": now + 86_400})).role == "mia"
+        for wire in wires:
+            wire.shut()
+        until(lambda: gate.knock(tokens[30]).role, "the room of web tokens that nobody has is not free")
+
+
+@test
+def a_secret_has_32_bytes():
+    gate = Gateway(start=False)
+    secret = gate.folder / "secret"
+    gate.words = ("--jwt-secret-file", secret)
+    assert gate.launch().wait(PATIENCE) == 1 and "secret: " in gate.said()
+    secret.write_bytes(b"x" * 31 + b"\n")
+    assert gate.launch().wait(PATIENCE) == 1 and "32 bytes" in gate.said()
+    gate.end()
 
 
 @test
 def one_token_takes_not_all_room():
     with serving() as (gate, admin):
-        wires = [Wire(gate.port, "mia-demo") for _ in range(80)]
-        came, codes = 0, collections.Counter()
-        for wire in wires:
-            try:
-                came += wire.enter() == "mia"
-            except Ended:
-                codes[wire.code] += 1
-        assert came == 64 and codes == {1013: 16}, (came, codes)
+        wires = [gate.knock("mia-demo") for _ in range(80)]
+        codes = collections.Counter(it.code for it in wires[64:])
+        assert [it.role for it in wires[:64]] == ["mia"] * 64 and codes == {1013: 16}, codes
         assert gate.enter("bob") and gate.enter("admin")
         wires[0].shut()
         until(lambda: comes_in(gate, "mia"), "the room of one that is gone is not free")
@@ -475,7 +649,7 @@ def one_token_takes_not_all_room():
 @test
 def sockets_have_a_bound():
     with serving(words=("--clients", "20")) as (gate, admin):
-        idle = [socket.create_connection(("127.0.0.1", gate.port)) for _ in range(40)]
+        idle = [socket.create_connection(("127.0.0.1", gate.port), PATIENCE) for _ in range(40)]
         until(lambda: "no room" in gate.said(), "there is room for all")
         assert admin.ask({"do": "unsubscribe", "sub": 9}) == ['{"error":19}']
         for it in idle:
@@ -534,32 +708,23 @@ def one_process_writes_a_journal():
 @test
 def a_seed_begins_a_journal_that_is_missing():
     gate = Gateway(words=("--seed", TOP / "frontend" / "desk.jsonl"), roles=("admin", "mia"))
-    try:
-        seed = (TOP / "frontend" / "desk.jsonl").read_bytes()
-        assert gate.journal.read_bytes() == seed
-        assert len(gate.enter("mia").ask({"do": "subscribe", "on": "tickets"})) == 2
-        gate.enter("admin").ask({"do": "create_role", "name": "x"})
-        gate.kill()
-        gate.start()
-        assert gate.journal.read_bytes() == seed + b'{"as":"admin","do":"create_role","name":"x"}\n'
-    finally:
-        gate.end()
+    seed = (TOP / "frontend" / "desk.jsonl").read_bytes()
+    assert gate.journal.read_bytes() == seed
+    assert len(gate.enter("mia").ask({"do": "subscribe", "on": "tickets"})) == 2
+    gate.enter("admin").ask({"do": "create_role", "name": "x"})
+    gate.kill()
+    gate.start()
+    assert gate.journal.read_bytes() == seed + b'{"as":"admin","do":"create_role","name":"x"}\n'
+    gate.end()
 
 
 @test
 def a_full_disk_ends_it_and_nobody_was_told():
     with serving() as (gate, admin):
         gate.kill()
-        size = gate.journal.stat().st_size
-
-        def small() -> None:
-            signal.signal(signal.SIGXFSZ, signal.SIG_IGN)
-            resource.setrlimit(resource.RLIMIT_FSIZE, (size + 1000, size + 1000))
-        with gate.log.open("ab") as log:
-            gate.process = subprocess.Popen(gate.process.args, stdin=subprocess.DEVNULL, stderr=log, preexec_fn=small)
-        until(lambda: comes_in(gate, "admin"), "it does not listen")
+        gate.start(gate.journal.stat().st_size + 1000)
         told, admin = 0, gate.enter("admin")
-        with contextlib.suppress(Ended):
+        with contextlib.suppress(Ended, ConnectionError):
             for at in range(100):
                 told += admin.ask(insert(at, "ann")) == ['{"ok":true}']
         assert gate.process.wait(PATIENCE) == 1 and "the journal could not be written" in gate.said()
@@ -579,91 +744,65 @@ def sigterm_ends_it_at_once():
 def kills_lose_nothing(kills=20):
     """Killed at random: each acknowledged write is there exactly once behind it, and none that was refused."""
     gate, dice = Gateway(), random.Random(5)
-    acknowledged, refused, sent = set(), set(), set()
+    acknowledged, refused, sent, faults = set(), set(), set(), []
     stop, lock = threading.Event(), threading.Lock()
+    admin = gate.enter("admin")
+    for it in BASE:
+        admin.ask(it)
+
+    def write(number: int) -> None:
+        at = 0
+        while not stop.is_set():
+            try:
+                wire = gate.enter("mia")
+                while not stop.is_set():
+                    asked = []
+                    for _ in range(4):
+                        at += 1
+                        row = (number * 10_000_000 + at, "ann" if at % 5 else "gone")
+                        request = insert(*row)
+                        if at % 5 == 0:  # it is refused whole
+                            request["entries"].append({"on": "notes", "delete": [-1, "nobody"]})
+                        asked.append(row)
+                        with lock:
+                            sent.add(row)
+                        wire.say(request)
+                    for row in asked:
+                        [answer] = wire.event()
+                        with lock:
+                            (acknowledged if answer == '{"ok":true}' else refused).add(row)
+            except (Ended, OSError):
+                time.sleep(0.02)
+            except Exception as why:
+                faults.append(why)
+                raise
+
+    threads = [threading.Thread(target=write, args=(it,), daemon=True) for it in range(4)]
+    for it in threads:
+        it.start()
     try:
-        admin = gate.enter("admin")
-        for it in BASE:
-            admin.ask(it)
-
-        def write(number: int) -> None:
-            at = 0
-            while not stop.is_set():
-                try:
-                    wire = Wire(gate.port, "mia-demo")
-                    wire.enter()
-                    while not stop.is_set():
-                        asked = []
-                        for _ in range(4):
-                            at += 1
-                            row = (number * 10_000_000 + at, "ann" if at % 5 else "gone")
-                            request = insert(*row)
-                            if at % 5 == 0:  # it is refused whole
-                                request["entries"].append({"on": "notes", "delete": [-1, "nobody"]})
-                            asked.append(row)
-                            with lock:
-                                sent.add(row)
-                            wire.say(request)
-                        for row in asked:
-                            [answer] = wire.event()
-                            with lock:
-                                (acknowledged if answer == '{"ok":true}' else refused).add(row)
-                except (Ended, OSError):
-                    time.sleep(0.02)
-
-        threads = [threading.Thread(target=write, args=(it,)) for it in range(4)]
-        for it in threads:
-            it.start()
         for at in range(kills):
             before = len(acknowledged)
-            until(lambda: len(acknowledged) > before, "nothing is acknowledged")
+            until(lambda: faults or len(acknowledged) > before, "nothing is acknowledged")
             time.sleep(dice.uniform(0, 0.4))
             gate.kill()
             if at % 4 == 3:  # half an entry stands behind what is whole
                 with gate.journal.open("ab") as file:
                     file.write(b'{"as":"mia","do":"write","ent'[:dice.randrange(1, 28)])
             gate.start()
-        stop.set()
-        for it in threads:
-            it.join()
-        rows = total(gate.enter("admin").ask({"do": "subscribe", "on": "notes"}))
-        print(f"  {kills} kills: {len(sent)} were sent, {len(acknowledged)} acknowledged, {len(refused)} refused, {len(rows)} are there", flush=True)
-        assert not acknowledged - set(rows), "an acknowledged write is lost"
-        assert set(rows.values()) <= {1}, "a write was carried out twice"
-        assert not refused & set(rows) and set(rows) <= sent and not any(row[1] == "gone" for row in rows)
     finally:
         stop.set()
-        gate.end()
-
-
-def main() -> int:
-    words = argparse.ArgumentParser()
-    words.add_argument("tests", nargs="*")
-    words.add_argument("--kills", type=int, default=20)
-    words.add_argument("--steps", type=int, default=400)
-    given, failed, passed = words.parse_args(), [], 0
-    if not PROGRAM.is_file():
-        print(f"program: {PROGRAM} is not built (./gateway --help)")
-        return 1
-    more = {"kills_lose_nothing": {"kills": given.kills}, "each_line_is_the_models": {"steps": given.steps}}
-    for check in TESTS:
-        name = check.__name__
-        if given.tests and not any(word in name for word in given.tests):
-            continue
-        start = time.monotonic()
-        try:
-            check(**more.get(name, {}))
-            print(f"ok  {name}, {time.monotonic() - start:.1f} s", flush=True)
-            passed += 1
-        except Exception:
-            traceback.print_exc()
-            print(f"FAILED  {name}", flush=True)
-            failed.append(name)
-            if len(failed) == 3:
-                break
-    print(f"program: {passed} tests passed, {len(failed)} failed{''.join(': ' + ', '.join(failed) for _ in failed[:1])}")
-    return bool(failed or not passed)
+    for it in threads:
+        it.join()
+    rows = total(gate.enter("admin").ask({"do": "subscribe", "on": "notes"}))
+    print(f"  {kills} kills: {len(sent)} were sent, {len(acknowledged)} acknowledged, {len(refused)} refused, {len(rows)} are there", flush=True)
+    assert not faults, faults
+    assert not acknowledged - set(rows), "an acknowledged write is lost"
+    assert set(rows.values()) <= {1}, "a write was carried out twice"
+    assert not refused & set(rows) and set(rows) <= sent and not any(row[1] == "gone" for row in rows)
+    gate.end()
 
 
 if __name__ == "__main__":
+    import test_journal  # noqa: F401  (its tests are listed behind these)
     sys.exit(main())

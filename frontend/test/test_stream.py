@@ -22,7 +22,8 @@ import aiohttp
 
 os.environ["VIEWD_KEPT"] = "1000"  # entries behind a snapshot
 
-from gate import PATIENCE, TOP, VIEWD, Gate, enter, eventually, explain, leave, quiet, soon
+from explain import explain
+from gate import PATIENCE, TOP, VIEWD, Gate, enter, eventually, leave, quiet, soon
 from party import LEASE, Party, agree, there
 from store import WORD, Store
 from watchers import FIRST, Book, Reaper, Watcher, bags, never_back, told
@@ -129,7 +130,7 @@ async def a_stream_is_read_in_its_order(store: Store, http: aiohttp.ClientSessio
                 raise AssertionError(what)
             except journal.Damaged:
                 assert reader.lines < 4
-    gate = Gate(journal=store.url, words=("--follow",), start=False)
+    gate = Gate(store.url, ("--follow",), start=False)
     gate.launch()
     status, said = await asyncio.to_thread(gate.ended)
     assert status == 1 and "gateway: damaged: " in said and "stands behind entry 0" in said, said
@@ -412,6 +413,9 @@ async def memberships_go_to_all(store: Store, http: aiohttp.ClientSession):
     for olga in (here, there):
         await soon(lambda: olga.told("granted"))
         assert olga.told("granted") == ["tickets"] and {row[0] for row in await olga.see("tickets")} == {105, 111}
+    assert await lena.ask(do="grant", on="teams", privileges=["insert"], to="staff") == {"ok": True}  # which olga reaches by two steps
+    for olga in (here, there):
+        await soon(lambda: olga.told("granted")[1:] == ["teams"])
     print("   ", await asyncio.to_thread(party.agree))
     done = await asyncio.to_thread(subprocess.run, ["/usr/bin/python3", TOP / "compact.py", store.url, VIEWD], capture_output=True, text=True)
     assert done.returncode == 0, done
@@ -436,7 +440,7 @@ async def agree_sees_a_difference(store: Store, http: aiohttp.ClientSession):
         with tempfile.NamedTemporaryFile() as seed:
             seed.write((TOP / "desk.jsonl").read_bytes() + more)
             seed.flush()
-            gate = Gate(journal=store.url.replace("/desk", f"/{name}"), words=("--seed", seed.name), start=False)
+            gate = Gate(store.url.replace("/desk", f"/{name}"), ("--seed", seed.name), start=False)
             gate.start()
             eventually(lambda: gate.state().get("writes"))
             return gate
@@ -481,7 +485,7 @@ async def redis_is_asked_whether_it_syncs(store: Store, http: aiohttp.ClientSess
     for more in (["everysec"], ["no"]):
         loose = await asyncio.to_thread(Store, False, *more)
         try:
-            other = Gate(journal=loose.url, words=("--follow",), start=False)
+            other = Gate(loose.url, ("--follow",), start=False)
             await asyncio.to_thread(other.start)
             assert other.state()["synced"] is False and f"DOES NOT SYNC each append (appendonly yes, appendfsync {more[0]})" in other.said()
         finally:
@@ -491,13 +495,13 @@ async def redis_is_asked_whether_it_syncs(store: Store, http: aiohttp.ClientSess
 @test
 async def redis_may_ask_for_tls_and_a_password(store: Store, http: aiohttp.ClientSession):
     for url in (store.url.replace(WORD, "wrong"), store.url.replace(f":{WORD}@", "")):
-        gate = Gate(journal=url, start=False)
+        gate = Gate(url, start=False)
         gate.launch()
         status, said = await asyncio.to_thread(gate.ended)
         assert status == 1 and "gateway: redis://127.0.0.1" in said and "Traceback" not in said, said
     os.environ["REDISCLI_AUTH"] = WORD
     try:
-        gate = Gate(journal=store.url.replace(f":{WORD}@", ""), start=False)
+        gate = Gate(store.url.replace(f":{WORD}@", ""), start=False)
         await asyncio.to_thread(gate.start)
     finally:
         del os.environ["REDISCLI_AUTH"]
@@ -507,7 +511,7 @@ async def redis_may_ask_for_tls_and_a_password(store: Store, http: aiohttp.Clien
         mia, = await enter(http, party.readers[0], "mia")
         assert (await mia.insert(1, "mia"))["ok"] and b"insert" in safe.lines()[-1][b"line"]
         await mia.leave()
-        stranger = Gate(journal=safe.url.partition("?")[0], start=False)  # who does not know the authority
+        stranger = Gate(safe.url.partition("?")[0], start=False)  # who does not know the authority
         stranger.launch()
         await asyncio.sleep(1)
         assert not stranger.state()["ready"]

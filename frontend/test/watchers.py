@@ -81,7 +81,7 @@ class Watcher:
                     self.book.came.append((self.before, {row[0] for row in self.tickets if row[0] >= FIRST}))
                 self.ws = ws
             self.book.settled += 1
-        elif not one.keys() & {"granted", "shape", "alive"}:
+        elif not one.keys() & {"granted", "made", "alive"}:
             self.subs += "sub" in one
             self.replied.append((self.asked.popleft(), one))
 

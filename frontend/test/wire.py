@@ -3,11 +3,12 @@
 It can say what no browser would: frames without masks, of reserved kinds, cut anywhere; heads that do not end; and it can leave unread
 what it is told."""
 import base64
+import contextlib
 import hashlib
 import json
 import os
 import pathlib
-import random
+import resource
 import select
 import signal
 import socket
@@ -17,10 +18,14 @@ import tempfile
 import time
 import urllib.error
 import urllib.request
+from collections.abc import Callable
+
+from ports import free_port
 
 TOP = pathlib.Path(__file__).resolve().parent.parent.parent
 PROGRAM = pathlib.Path(os.environ.get("GATEWAY", TOP / "crates/gateway/out/gateway")).resolve()
-PATIENCE = float(os.environ.get("PATIENCE", 60))  # seconds for anything that has to come
+PATIENCE = float(os.environ.get("PATIENCE", 600))  # seconds for anything that has to come: a slow machine fails no test
+COMING = 10  # seconds that the gateway leaves a connection from its first byte to its token
 GUID = b"258EAFA5-E914-47DA-95CA-C5AB0DC85B11"
 TEXT, BINARY, CLOSE, PING, PONG = 1, 2, 8, 9, 10
 
@@ -68,6 +73,7 @@ class Wire:
         self.socket.connect(("127.0.0.1", port))
         self.socket.setsockopt(socket.IPPROTO_TCP, socket.TCP_NODELAY, 1)
         self.input, self.lines, self.code, self.words, self.kinds, self.messages = b"", [], None, b"", [], 0
+        self.role, self.shape = None, []
         if open_it:
             self.open()
         if token is not None:
@@ -186,12 +192,27 @@ class Wire:
         self.socket.close()
 
 
+def in_time(attempt: Callable, seconds: float = COMING):
+    """What an attempt gives. Where it gives None behind so long that this host may have left it no time, it is made again."""
+    end = time.monotonic() + PATIENCE
+    while True:
+        began = time.monotonic()
+        found = attempt()
+        now = time.monotonic()
+        if found is not None or now < began + 0.8 * seconds or now > end:
+            return found
+
+
+# (proxies of the host are for others: all is on loopback)
+DIRECT = urllib.request.build_opener(urllib.request.ProxyHandler({}))
+
+
 def http(port: int, path: str, token: str | None = None, method: str = "GET", head: dict | None = None) -> tuple[int, dict, bytes]:
     """A plain request."""
     ask = urllib.request.Request(f"http://127.0.0.1:{port}{path}", method=method,
                                  headers={**({"Authorization": f"Bearer {token}"} if token else {}), **(head or {})})
     try:
-        with urllib.request.urlopen(ask, timeout=PATIENCE) as answer:
+        with DIRECT.open(ask, timeout=PATIENCE) as answer:
             return answer.status, dict(answer.headers), answer.read()
     except urllib.error.HTTPError as error:
         with error:
@@ -200,30 +221,18 @@ def http(port: int, path: str, token: str | None = None, method: str = "GET", he
 
 def plain(port: int, data: bytes, seconds: float = PATIENCE) -> bytes:
     """All that is answered to these bytes, until the connection ends."""
-    with socket.create_connection(("127.0.0.1", port), seconds) as to:
-        to.sendall(data)
+    def attempt() -> bytes | None:
         got = b""
-        try:
+        with socket.create_connection(("127.0.0.1", port), seconds) as to, contextlib.suppress(ConnectionError):
+            to.sendall(data)
             while more := to.recv(1 << 16):
                 got += more
-        except ConnectionError:
-            pass
-        return got
+        return got or None
+    return in_time(attempt) or b""
 
 
 def digest(token: str) -> str:
     return hashlib.sha256(token.encode()).hexdigest()
-
-
-def free_port() -> int:
-    low = int(pathlib.Path("/proc/sys/net/ipv4/ip_local_port_range").read_text().split()[0])
-    while True:
-        with socket.socket() as probe:
-            try:
-                probe.bind(("127.0.0.1", random.randrange(10_000, low) if low > 12_000 else 0))
-                return probe.getsockname()[1]
-            except OSError:
-                pass
 
 
 class Gateway:
@@ -234,7 +243,7 @@ class Gateway:
     def __init__(self, roles: tuple[str, ...] = ("admin", "ann", "bob", "mia"), words: tuple = (), journal: bytes | None = None, start: bool = True):
         self.place = tempfile.TemporaryDirectory(prefix="gateway.")
         self.folder = pathlib.Path(self.place.name)
-        self.journal, self.tokens, self.log = self.folder / "journal.jsonl", self.folder / "tokens.toml", self.folder / "log"
+        self.journal, self.tokens, self.logs = self.folder / "journal.jsonl", self.folder / "tokens.toml", []
         self.know(*roles)
         if journal is not None:
             self.journal.write_bytes(journal)
@@ -243,21 +252,30 @@ class Gateway:
         if start:
             self.start()
 
-    def know(self, *roles: str) -> None:
-        """These tokens are known from now on."""
+    def know(self, *roles: str, lines: tuple[str, ...] = ()) -> None:
+        """The tokens of these roles are known from now on, and those of these lines."""
+        self.put_tokens("\n".join(["[tokens]", *(f'"{digest(role + "-demo")}" = "{role}"' for role in roles), *lines, ""]))
+
+    def put_tokens(self, text: str) -> None:
+        """A file of this text stands in the place of the tokens, never a part of it."""
         fresh = self.folder / "tokens.new"
-        fresh.write_text("[tokens]\n" + "".join(f'"{digest(role + "-demo")}" = "{role}"\n' for role in roles))
+        fresh.write_text(text)
         fresh.rename(self.tokens)
 
-    def launch(self) -> subprocess.Popen:
-        with self.log.open("ab") as log:
+    def launch(self, most: int | None = None) -> subprocess.Popen:
+        """Starts it. It makes no file longer than so many bytes."""
+        def limit() -> None:
+            signal.signal(signal.SIGXFSZ, signal.SIG_IGN)
+            resource.setrlimit(resource.RLIMIT_FSIZE, (most, most))
+        self.logs.append(self.folder / f"log.{len(self.logs)}")
+        with self.logs[-1].open("wb") as log:
             self.process = subprocess.Popen([PROGRAM, "--journal", self.journal, "--tokens", self.tokens, "--port", str(self.port), *self.words],
-                                            stdin=subprocess.DEVNULL, stderr=log)
+                                            stdin=subprocess.DEVNULL, stderr=log, preexec_fn=None if most is None else limit)
         return self.process
 
-    def start(self) -> None:
+    def start(self, most: int | None = None) -> None:
         """Starts it, and waits until it listens."""
-        self.launch()
+        self.launch(most)
         end = time.monotonic() + PATIENCE
         while True:
             assert self.process.poll() is None, self.said()
@@ -272,20 +290,39 @@ class Gateway:
         self.process.send_signal(by)
         return self.process.wait(PATIENCE)
 
+    def knock(self, token: str, receive: int | None = None) -> Wire:
+        """A connection that has presented a token: its `role` where it was let in, and else the code with which it was turned away."""
+        def attempt() -> Wire | None:
+            wire = None
+            try:
+                wire = Wire(self.port, token, receive)
+                wire.role = wire.enter()
+            except (Ended, ConnectionError):
+                if wire is None or wire.code is None:
+                    return None
+            return wire
+        if (wire := in_time(attempt)) is None:
+            raise Ended(None)
+        return wire
+
     def enter(self, role: str, receive: int | None = None) -> Wire:
-        wire = Wire(self.port, f"{role}-demo", receive)
-        assert wire.enter() == role
+        """A client of the role."""
+        wire = self.knock(f"{role}-demo", receive)
+        if wire.role is None:
+            raise Ended(wire.code)
+        assert wire.role == role
         return wire
 
     def entries(self) -> list[dict]:
         return [json.loads(line) for line in self.journal.read_text().splitlines()]
 
     def said(self) -> str:
-        return self.log.read_text()
+        """All that it has written on standard error, since it was first started."""
+        return "".join(it.read_text() for it in self.logs)
 
     def memory(self) -> int:
         """Bytes of the process."""
-        return int(pathlib.Path(f"/proc/{self.process.pid}/statm").read_text().split()[1]) * 4096
+        return int(pathlib.Path(f"/proc/{self.process.pid}/statm").read_text().split()[1]) * os.sysconf("SC_PAGE_SIZE")
 
     def processor(self) -> float:
         """Seconds of processor that the process has taken."""
@@ -293,6 +330,7 @@ class Gateway:
         return (int(fields[11]) + int(fields[12])) / os.sysconf("SC_CLK_TCK")
 
     def end(self) -> None:
+        self.running.remove(self)
         if self.process and self.process.poll() is None:
             self.kill()
         self.place.cleanup()

@@ -227,7 +227,7 @@ $("new").onsubmit = async (event) => {
 
 let count = 0;
 function showLines(lines) {
-  const told = lines.filter((line) => !line.startsWith('{"settled"') && !line.startsWith('{"shape"') && !line.startsWith('{"alive"'));
+  const told = lines.filter((line) => !line.startsWith('{"settled"') && !line.includes('"made":{') && !line.startsWith('{"alive"'));
   $("lines").textContent = `${count += told.length} lines`;
   for (const line of told.slice(-6)) {
     const words = line.slice(0, 400);

@@ -9,18 +9,19 @@
 //   waiting (no answer yet), live, refused (live.why: the reply), ended (live.why: privilege or limit).
 // Its listener is called when a request is settled, so it never sees half of one; `changes` are pairs of copies and row,
 // null where the rows are all new. Across a lost connection, an end and a grant it subscribes again by itself.
+import {Shape} from "./shape.js";
 
 const NAMES = {1: "bad json", 2: "bad request", 3: "no session", 4: "session in use", 5: "unknown role", 6: "name taken",
   7: "unknown relation", 8: "not a table", 9: "bad row", 10: "bad query", 11: "not administrator", 12: "not owner",
   13: "missing privilege", 14: "no permissive policy", 15: "restrictive policy failed", 16: "no such row", 17: "limit",
   18: "unknown policy", 19: "unknown subscription", 20: "too many", 22: "line too long",
-  23: "membership loop", 100: "read only"};
+  23: "membership loop"};
 const LIMIT = 17;
 const AGAIN = 30_000; // milliseconds after which a relation that was too large is tried again: nobody tells of that
 
 export class Refused extends Error {
   constructor(reply) {
-    const more = ["on", "privilege", "policy", "check", "entry", "why", "place"].filter((key) => key in reply);
+    const more = ["on", "privilege", "policy", "check", "entry", "key", "why", "place"].filter((key) => key in reply);
     super([`${NAMES[reply.error]} (${reply.error})`, ...more.map((key) => `${key} ${reply[key]}`)].join(", "));
     this.reply = reply;
   }
@@ -77,13 +78,14 @@ class Live {
 
 export class Viewd {
   role = null;
-  shape = null; // for an administrator: roles, their members, relations, grants, row security and policies
+  shape = null; // for an administrator
   #url; #token; #ws; #on; #tries = 0;
   #asked = []; // requests without a reply: replies come in their order
   #replied = []; // what to do when the request is settled
   #lives = new Set();
   #bySub = new Map();
   #changed = new Set();
+  #reshaped = false; // since the last event was settled
 
   constructor(url, token, {onState = () => {}, onShape = () => {}, onLines = () => {}} = {}) {
     this.#url = url;
@@ -179,15 +181,22 @@ export class Viewd {
     else if (said.role) this.#entered(said.role);
     else if (said.changes) this.#changes(said);
     else if (said.granted) this.#replied.push(() => this.#again(() => true));
-    else if (said.shape) this.#replied.push(() => this.#on.shape(this.shape = said.shape));
+    else if (said.made) this.#made(said.made);
     else this.#reply(said);
   }
 
   #entered(role) {
     this.role = role;
+    this.shape = role === "admin" ? new Shape() : null;
+    this.#reshaped = role === "admin";
     this.#tries = 0;
     this.#on.state("live");
     for (const live of this.#lives) this.#subscribe(live);
+  }
+
+  #made(request) {
+    this.shape.apply(request);
+    this.#reshaped = true;
   }
 
   #changes({changes, sub, ended}) {
@@ -211,6 +220,8 @@ export class Viewd {
     const changed = [...this.#changed];
     this.#changed.clear();
     for (const live of changed) live.show();
+    if (this.#reshaped) this.#on.shape(this.shape);
+    this.#reshaped = false;
     for (const act of this.#replied.splice(0)) act();
   }
 }

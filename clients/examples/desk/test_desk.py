@@ -9,7 +9,7 @@ HERE = pathlib.Path(__file__).resolve().parent
 TOP = HERE.parents[2]
 sys.path.insert(0, str(TOP / "clients/python/test"))
 
-from conftest import KIND, PATIENCE, Gateway, browser, has_browser  # noqa: E402
+from conftest import IS_BUILT, PATIENCE, Gateway, browser, has_browser  # noqa: E402
 
 import viewd  # noqa: E402
 
@@ -38,7 +38,7 @@ return found.filter(([, is, wanted]) => is < wanted);
 
 @pytest.fixture(scope="module")
 def gateway(tmp_path_factory):
-    if not KIND:
+    if not IS_BUILT:
         pytest.skip("no gateway is built")
     folder = tmp_path_factory.mktemp("desk")
     gateway = Gateway(folder, "--seed", str(HERE / "seed.jsonl"), "--pages", str(TOP / "clients"), roles=ROLES)
@@ -57,8 +57,8 @@ def lena(gateway):
 class Page:
     """The desk as a role sees it."""
 
-    def __init__(self, gateway):
-        self.driver = browser("--window-size=1200,900")
+    def __init__(self, gateway, driver):
+        self.driver = driver
         self.url = f"http://127.0.0.1:{gateway.port}/examples/desk/index.html"
 
     def enter(self, role):
@@ -112,13 +112,27 @@ def until(holds, patience=PATIENCE):
         time.sleep(0.05)
 
 
-@pytest.fixture
-def page(gateway):
-    page = Page(gateway)
+@pytest.fixture(scope="module")
+def driver():
+    """One browser for all tests."""
+    driver = browser("--window-size=1200,900")
     try:
-        yield page
+        yield driver
     finally:
-        page.driver.quit()
+        driver.quit()
+
+
+@pytest.fixture
+def page(gateway, driver):
+    """A window of its own, with nothing of the one before it."""
+    before = driver.current_window_handle
+    driver.switch_to.new_window("window")
+    driver.set_window_size(1200, 900)
+    try:
+        yield Page(gateway, driver)
+    finally:
+        driver.close()
+        driver.switch_to.window(before)
 
 
 def test_a_ticket_comes_and_is_taken_back(page, lena):

@@ -8,8 +8,8 @@ import path from "node:path";
 import {fileURLToPath} from "node:url";
 
 const GATEWAY = fileURLToPath(new URL("../../test/gateway", import.meta.url));
-/** Which one: gateway, gateway.py, or nothing where none can be run. */
-export const KIND = spawnSync(GATEWAY, ["--which"], {encoding: "utf8"}).stdout.trim();
+/** Whether it is built. */
+export const IS_BUILT = spawnSync(GATEWAY, ["--which"], {encoding: "utf8"}).stdout.trim() !== "";
 const PATIENCE = 600_000; // a slow machine fails no test
 
 // A port on which nobody listens, below those that the system gives to clients.

@@ -2,7 +2,7 @@
 import assert from "node:assert/strict";
 import {test} from "node:test";
 import {connect, NotSent, Refused, Undecided} from "../viewd.js";
-import {Gateway, KIND, until} from "./gateway.js";
+import {Gateway, IS_BUILT, until} from "./gateway.js";
 import {Socket} from "./socket.js";
 
 const BASE = [...["ann", "mia"].map((name) => ({do: "create_role", name})),
@@ -13,7 +13,7 @@ const BASE = [...["ann", "mia"].map((name) => ({do: "create_role", name})),
   {do: "row_security", on: "notes", enable: true, force: false},
   {do: "create_policy", on: "notes", name: "own", using: "who = current_user"}];
 
-const skip = KIND ? false : "no gateway is built";
+const skip = IS_BUILT ? false : "no gateway is built";
 
 async function serving(t) {
   const gateway = await Gateway.started(t);
@@ -47,7 +47,7 @@ test("each role has its rows, as they change", {skip}, async (t) => {
   await assert.rejects(mia.insert("notes", {id: 3, who: "ann", done: false}), (why) =>
     why instanceof Refused && why.message === "no permissive policy (14), on notes, check insert, entry 1");
   await assert.rejects(mia.request({do: "create_role", name: "eve"}), (why) => why.code === 11);
-  await assert.rejects(mia.request({do: "subscribe"}), (why) => why.message === (KIND === "gateway" ? "bad request (2), key on, why missing" : "bad request (2)"));
+  await assert.rejects(mia.request({do: "subscribe"}), (why) => why.message === "bad request (2), key on, why missing");
   await assert.rejects(mia.insert("notes", [1, "\ud800", true]), (why) => why instanceof Refused && [1, 2].includes(why.code));
   await assert.rejects(mia.insert("plans", {id: 1}), (why) => why instanceof Refused && why.code === 7);
 });
@@ -117,7 +117,7 @@ test("a gateway that stands still is told of, and left", {skip}, async (t) => {
   await until(() => db.state === "live" && own.state === "live", "live again");
 });
 
-test("who lost its token is out", {skip: KIND === "gateway.py" ? "gateway.py ends nobody whose token is taken away" : skip}, async (t) => {
+test("who lost its token is out", {skip}, async (t) => {
   const {gateway, mia, ann} = await serving(t);
   const own = mia.live("notes");
   await own.ready;

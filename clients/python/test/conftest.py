@@ -18,7 +18,7 @@ import pytest
 TOP = pathlib.Path(__file__).resolve().parents[3]
 sys.path[:0] = [str(TOP / it) for it in ("clients/python", "clients/test")]
 GATEWAY = TOP / "clients/test/gateway"
-KIND = subprocess.run([GATEWAY, "--which"], capture_output=True, text=True, check=True).stdout.strip()  # gateway, gateway.py or nothing
+IS_BUILT = bool(subprocess.run([GATEWAY, "--which"], capture_output=True, text=True, check=True).stdout.strip())
 PATIENCE = float(os.environ.get("PATIENCE", 600))  # seconds for anything that has to come: a slow machine fails no test
 NOTES = [["id", "int"], ["who", "text"]]
 
@@ -150,7 +150,8 @@ class Gateway:
         end = time.monotonic() + 5 * PATIENCE
         while True:
             try:
-                urllib.request.urlopen(f"http://127.0.0.1:{self.port}/readyz", timeout=PATIENCE).close()
+                # (proxies of the host are for others)
+                urllib.request.build_opener(urllib.request.ProxyHandler({})).open(f"http://127.0.0.1:{self.port}/readyz", timeout=PATIENCE).close()
                 return
             except OSError:
                 assert self.process.poll() is None and time.monotonic() < end, (self.folder / "log").read_text()
@@ -203,7 +204,7 @@ BASE = [*({"do": "create_role", "name": name} for name in ("ann", "mia")),
 @pytest.fixture
 def gateway(tmp_path):
     """A gateway with notes of its people, where one can be run."""
-    if not KIND:
+    if not IS_BUILT:
         pytest.skip("no gateway is built")
     gateway = Gateway(tmp_path)
     try:

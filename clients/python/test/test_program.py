@@ -5,7 +5,7 @@ import threading
 import time
 
 import pytest
-from conftest import KIND, PATIENCE
+from conftest import PATIENCE
 
 import viewd
 from viewd import Change, NotSent, Refused, Undecided
@@ -39,7 +39,7 @@ def test_each_role_has_its_rows_as_they_change(gateway):
             await mia.remove("notes", own.rows[0], copies=3)
             assert own.rows == [{**row, "done": True}]
             for work, words in [(mia.insert("notes", {"id": 3, "who": "ann", "done": False}), "no permissive policy (14), on notes, check insert, entry 1"),
-                                (mia.request({"do": "subscribe"}), "bad request (2), key on, why missing" if KIND == "gateway" else "bad request (2)"),
+                                (mia.request({"do": "subscribe"}), "bad request (2), key on, why missing"),
                                 (mia.insert("plans", {"id": 1}), "unknown relation (7)")]:
                 with pytest.raises(Refused) as why:
                     await work
@@ -111,7 +111,6 @@ def test_a_gateway_that_stands_still_is_told_of(gateway):
                 raise
 
 
-@pytest.mark.skipif(KIND == "gateway.py", reason="gateway.py ends nobody whose token is taken away")
 def test_who_lost_its_token_is_out(gateway):
     async def test():
         async with enter(gateway, "mia") as mia:

@@ -21,6 +21,7 @@ BYTES = 65_463  # of a message, at most
 LIMIT, TOO_MANY, TOO_LONG = 17, 20, 22
 WITHOUT_ID = (1, 2, 22)  # refusals of what could not be read, so that its id is not known
 UNKNOWN_TOKEN = 4401
+ADMIN = "admin"
 OPEN: Callable[..., Awaitable[Any]] = getattr(websockets, "connect")  # which versions make of different modules
 Reply = dict[str, Any]
 Token = str | Callable[[], str | Awaitable[str]]
@@ -74,6 +75,8 @@ class _Connection:
     replied: list[Callable[[], None]] = field(default_factory=list)  # what is done when the event is settled
     by_sub: dict[int, Relation] = field(default_factory=dict)
     changed: dict[Relation, None] = field(default_factory=dict)
+    made: list[Reply] = field(default_factory=list)  # lines of what made the shape, which an administrator is told
+    is_in: bool = False  # all that is told of the entry is here
     next_id: int = 1
     since: float = 0
 
@@ -175,6 +178,22 @@ class Db:
             finally:
                 asking.close()
         return self._known[on]
+
+    async def made(self) -> list[Reply]:
+        """What made the roles, relations, rights and policies that are there: accepted requests in their order, as `{"as": role, "made":
+        request}`. Administrators alone are told it. Raises ViewdError, and NotSent."""
+        end = self._loop.time() + self.timing.patience
+        while self.state != "closed" and not (self._connection and self._connection.is_in):
+            self._turned.clear()
+            try:
+                await asyncio.wait_for(self._turned.wait(), end - self._loop.time())
+            except asyncio.TimeoutError:
+                raise NotSent("there was no connection") from None
+        if self._connection is None:
+            raise NotSent(self.why or "the client has ended")
+        if self.role != ADMIN:
+            raise ViewdError(f"an administrator alone is told what made the shape, and this is {self.role}")
+        return [*self._connection.made]
 
     async def request(self, body: Mapping[str, Any]) -> Reply:
         """Any request of docs/PROTOCOL.md, without session and id. Its reply, once all that it changed is here.
@@ -406,6 +425,8 @@ class Db:
             connection.replied.append(lambda: self._retry(lambda it: True))
         elif "role" in said and self.role is None:
             self._entered(connection, said["role"])
+        elif "made" in said:
+            connection.made.append(said)
         # alive, and what this client does not know, says nothing more than that the gateway is there
 
     def _entered(self, connection: _Connection, role: str) -> None:
@@ -447,6 +468,9 @@ class Db:
         replied, connection.replied = connection.replied, []
         for act in replied:
             act()
+        if not connection.is_in:
+            connection.is_in = True
+            self._turned.set()
 
 
 def _tell(users: list[User]) -> None:

@@ -1,4 +1,4 @@
-"""The command line: what changes, as lines; writes, tables from and to files, and types."""
+"""The command line: what changes, as lines; writes, tables from and to files, types, and who may what."""
 from __future__ import annotations
 
 import argparse
@@ -15,6 +15,7 @@ from typing import Any, TextIO
 from .client import BYTES, Db, connect, text
 from .faults import NotSent, Refused, Undecided, ViewdError
 from .rows import Columns, Live, Row, Value, Where
+from .shape import shape_of
 
 REFUSED, WRONG, LOST, INTERRUPTED = 1, 2, 3, 130
 ENTRIES = 500  # of a write that an import makes, at most
@@ -29,7 +30,8 @@ examples:
   echo '{"on":"tickets","insert":{"id":7,"agent":"mia","subject":"Hello","open":true}}' | viewd-client write
   viewd-client import tickets.csv                                # into the relation tickets; --into says another
   viewd-client export tickets --csv > tickets.csv
-  viewd-client types --typescript tickets workload > relations.d.ts"""
+  viewd-client types --typescript tickets workload > relations.d.ts
+  viewd-client grants tickets | jq -c 'select(.to == "public")'  # with an administrator's token; so are roles and policies"""
 
 
 class Wrong(Exception):
@@ -266,6 +268,50 @@ async def types(db: Db, words: argparse.Namespace) -> None:
     print("\n".join([*lines, "}"]))
 
 
+async def roles(db: Db, words: argparse.Namespace) -> None:
+    """Prints each role, and of which it is a member itself."""
+    shape = shape_of(await db.made())
+    for name in shape.roles:
+        put({"role": name, "member_of": [role for role, member in shape.members if member == name]})
+
+
+async def grants(db: Db, words: argparse.Namespace) -> None:
+    """Prints what each role holds of each relation."""
+    shape = shape_of(await db.made())
+    for on in chosen(words, [*shape.owners]):
+        for role, held in shape.grants[on].items():
+            if held:
+                put({"on": on, "to": role, "privileges": held, "owner": role == shape.owners[on]})
+
+
+async def policies(db: Db, words: argparse.Namespace) -> None:
+    """Prints each policy, and of tables with row security and no policy that there is none."""
+    shape = shape_of(await db.made())
+    for on in chosen(words, [*shape.owners]):
+        enable, force = shape.security.get(on, (False, False))
+        own = [it for it in shape.policies if it["on"] == on]
+        for it in own:
+            tests = {key: it[key] for key in ("using", "check") if key in it}
+            put({"on": on, "policy": it["name"], "kind": "restrictive" if it.get("restrictive") else "permissive", "command": it.get("command", "all"),
+                 "to": it.get("to", ["public"]), **tests, "enabled": enable, "forced": force})
+        if enable and not own:
+            put({"on": on, "policy": None, "enabled": enable, "forced": force})
+
+
+def chosen(words: argparse.Namespace, there: list[str]) -> list[str]:
+    """The relation of the words, or all. Raises Wrong."""
+    if words.relation is None:
+        return there
+    if words.relation not in there:
+        raise Wrong(f"there is no relation {words.relation}")
+    return [words.relation]
+
+
+def put(value: object) -> None:
+    """A line."""
+    sys.stdout.write(text(value) + "\n")
+
+
 # ---- words
 
 
@@ -302,6 +348,10 @@ def parser() -> argparse.ArgumentParser:
     one = command("types", types, "print the types of rows for a program")
     one.add_argument("--typescript", action="store_true", required=True, help="as an interface of TypeScript")
     one.add_argument("relations", nargs="+", metavar="relation")
+    command("roles", roles, "print each role, and of which it is a member, as a JSON line; for administrators")
+    for name, act, what in (("grants", grants, "print what each role holds of each relation"), ("policies", policies, "print row security and each policy")):
+        one = command(name, act, f"{what}, as a JSON line; for administrators")
+        one.add_argument("relation", nargs="?", help="by default all")
     return whole
 
 

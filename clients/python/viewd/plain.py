@@ -195,6 +195,10 @@ class PlainDb:
         """The columns of a relation."""
         return self._run(lambda: self._db.columns(on))
 
+    def made(self) -> list[Reply]:
+        """What made the shape, for an administrator, as `Db.made`."""
+        return self._run(lambda: self._db.made())
+
     def request(self, body: Mapping[str, Any]) -> Reply:
         """Any request of docs/PROTOCOL.md, without session and id. Its reply, once all that it changed is here."""
         return self._run(lambda: self._db.request(body))
