@@ -84,5 +84,6 @@ class Live:
     def close(self) -> None:
         assert self.process.stdin and self.process.stdout
         self.process.stdin.close()
+        self.process.stdout.read()  # who waits for it to end before all is read may wait for ever
         self.process.wait()
         self.process.stdout.close()
