@@ -1,0 +1,1 @@
+"""The gate's programs: each module with a `main` is a command of .ci/."""
