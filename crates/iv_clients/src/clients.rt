@@ -322,7 +322,11 @@ impl Client {
         let Some(piled) = self.piled.checked_add(self.brought) else {
             return Err(AllocError);
         };
-        self.sendable.extend_from_slice(&self.unsynced)?;
+        if self.sendable.is_empty() {
+            mem::swap(&mut self.sendable, &mut self.unsynced);
+        } else {
+            self.sendable.extend_from_slice(&self.unsynced)?;
+        }
         self.unsynced.clear();
         self.piled = piled;
         self.brought = 0;

@@ -27,7 +27,8 @@ use Rattle.iv_desk.specs.Causes.{HasFailed, IsOverFor, asked_none, dropped, ende
 use Rattle.iv_desk.proofs.OneNumber.{offered_by}
 use Rattle.iv_desk.proofs.Presenting.{closed_effects, texts_heard}
 use Rattle.iv_desk.proofs.Serving.{Laws, LivesFor, LivesNobody, first_lives, heard_leads, none_comes, passed_over, runs_living, token_first}
-use Rattle.iv_desk.proofs.Slots.{at_other, at_same, free_none, none_some, set_gone, set_other, some_same}
+use Rattle.iv_clients.proofs.Slots.{at_other, at_same, free_none, one_some, set_gone, set_other}
+use Rattle.iv_desk.proofs.Slots.{none_some}
 
 -- ---- what is heard
 
@@ -76,7 +77,7 @@ has_failed l s conn x v over at read = by s.protocol at (l.carries v.0 v.1 s v.2
           rest = u.rest;
           decodes = u.decodes;
           error = x;
-          fails = (λ i. read_step ((w.0 ∙ some_same other conn e) i) (w.1 i)) ∙ read;
+          fails = (λ i. read_step ((w.0 ∙ one_some other conn e) i) (w.1 i)) ∙ read;
         }
 
 -- what is heard ends it
@@ -171,8 +172,8 @@ at_number n m f xs s t here there = by (n == m) refl
     by : (b : Bool) → (n == m) ≡ b → (t ≡ s) ⊎ ((n ≡ m) × (t ≡ f s))
     by true e =
         let same = eqb-true n m e in
-        inr (same, sym (some_same (f s) t (sym (at_same m f xs ∙ ap (option_map f) here) ∙ subst (λ z. client_at (at_client z f xs) m ≡ Some t) same there)))
-    by false e = inl (sym (some_same s t (sym (at_other n m f xs (eqb-false n m e) ∙ here) ∙ there)))
+        inr (same, sym (one_some (f s) t (sym (at_same m f xs ∙ ap (option_map f) here) ∙ subst (λ z. client_at (at_client z f xs) m ≡ Some t) same there)))
+    by false e = inl (sym (one_some s t (sym (at_other n m f xs (eqb-false n m e) ∙ here) ∙ there)))
 
 stays_going : (s t : Socket) → t ≡ s → s.over ≡ false → t.over ≡ true → ⊥
 stays_going s t same live e = false≢true (sym live ∙ (ap (λ (x : Socket). x.over) (sym same) ∙ e))
@@ -193,14 +194,14 @@ pub closed_for_cause : Laws → (cap m : ℕ) (d e : Front) (s t : Socket) → F
 closed_for_cause l cap m d _ s t r a (begins n) here live there over = absurd (by (is_free n d.sockets) refl there)
   where
     other : (n == m) ≡ false → client_at (set d.sockets n (Some fresh)) m ≡ Some t → ⊥
-    other e there = stays_going s t (sym (some_same s t (sym (set_other n m (Some fresh) d.sockets (eqb-false n m e) ∙ here) ∙ there))) live over
+    other e there = stays_going s t (sym (one_some s t (sym (set_other n m (Some fresh) d.sockets (eqb-false n m e) ∙ here) ∙ there))) live over
 
     at : is_free n d.sockets ≡ true → (b : Bool) → (n == m) ≡ b → client_at (set d.sockets n (Some fresh)) m ≡ Some t → ⊥
     at free true e there = none_some s (sym (subst (λ z. client_at d.sockets z ≡ None) (eqb-true n m e) (free_none n d.sockets free)) ∙ here)
     at free false e there = other e there
 
     by : (b : Bool) → is_free n d.sockets ≡ b → socket_at (cond b (record d { sockets = set d.sockets n (Some fresh) }) d) m ≡ Some t → ⊥
-    by false free there = stays_going s t (sym (some_same s t (sym here ∙ there))) live over
+    by false free there = stays_going s t (sym (one_some s t (sym here ∙ there))) live over
     by true free there = at free (n == m) refl there
 closed_for_cause l cap m d _ s t r a (takes n bytes) here live there over = absurd (keeps_going n m (took bytes) d.sockets s t (λ s. refl) here there live over)
 closed_for_cause l cap m d _ s t r a (hears n q u h at x) here live there over = by (at_number n m (λ _. u) d.sockets s t here there)
@@ -208,7 +209,7 @@ closed_for_cause l cap m d _ s t r a (hears n q u h at x) here live there over =
     by : (t ≡ s) ⊎ ((n ≡ m) × (t ≡ u)) → IsOverFor h m t
     by (inl same) = absurd (stays_going s t same live over)
     by (inr w) =
-        let was : q ≡ s = some_same q s (sym (subst (λ z. client_at d.sockets z ≡ Some q) w.0 at) ∙ here) in
+        let was : q ≡ s = one_some q s (sym (subst (λ z. client_at d.sockets z ≡ Some q) w.0 at) ∙ here) in
         let v = runs_living l cap d r in
         hearing_ends l cap m d.gate s h t v.runs a (subst (LivesFor (client_at d.gate.clients m)) here (v.numbers m))
         (subst (λ z. HearsAt z d.gate s h t) w.0 (subst (λ z. HearsAt n d.gate z h t) was (subst (HearsAt n d.gate q h) (sym w.1) x))) live over
@@ -217,13 +218,13 @@ closed_for_cause l cap m d _ s t r a (offers n) here live there over = by (socke
     at : (q : Socket) → socket_at d n ≡ Some q → (t ≡ s) ⊎ ((n ≡ m) × (t ≡ (offered_to n d.gate q).1)) → IsOverFor (offered_to n d.gate q).0 m t
     at q e (inl same) = absurd (stays_going s t same live over)
     at q e (inr w) =
-        let was : q ≡ s = some_same q s (sym (subst (λ z. client_at d.sockets z ≡ Some q) w.0 e) ∙ here) in
+        let was : q ≡ s = one_some q s (sym (subst (λ z. client_at d.sockets z ≡ Some q) w.0 e) ∙ here) in
         dropped (subst (λ z. is_dropped (offered_to n d.gate q).0 z ≡ true) w.0
         (offer_ends d.gate n q (ap (λ (x : Socket). x.over) was ∙ live) (ap (λ (x : Socket). x.over) (sym w.1) ∙ over)))
 
     by : (o : Option Socket) → socket_at d n ≡ o → let e = if_some o d (λ s. with_both n (offered_to n d.gate s).0 (offered_to n d.gate s).1 d)
         in socket_at e m ≡ Some t → IsOverFor e.gate m t
-    by None e there = absurd (stays_going s t (sym (some_same s t (sym here ∙ there))) live over)
+    by None e there = absurd (stays_going s t (sym (one_some s t (sym here ∙ there))) live over)
     by (Some q) e there = at q e (at_number n m (λ _. (offered_to n d.gate q).1) d.sockets s t here there)
 closed_for_cause l cap m d _ s t r a (dismisses n) here live there over = by (is_dropped d.gate n) refl there
   where
@@ -233,14 +234,14 @@ closed_for_cause l cap m d _ s t r a (dismisses n) here live there over = by (is
 
     by : (b : Bool) → is_dropped d.gate n ≡ b → let e = cond b (at_socket n turned_away d) d in socket_at e m ≡ Some t → IsOverFor e.gate m t
     by true f there = at f (at_number n m turned_away d.sockets s t here there)
-    by false f there = absurd (stays_going s t (sym (some_same s t (sym here ∙ there))) live over)
+    by false f there = absurd (stays_going s t (sym (one_some s t (sym here ∙ there))) live over)
 closed_for_cause l cap m d _ s t r a (sends n k) here live there over = absurd (keeps_going n m (passing k) d.sockets s t (passed_over k) here there live over)
 closed_for_cause l cap m d _ s t r a (leaves n) here live there over = absurd (by (n == m) refl)
   where
     by : (b : Bool) → (n == m) ≡ b → ⊥
     by true e = none_some t (sym (set_gone m d.sockets) ∙ subst (λ z. client_at (set d.sockets z None) m ≡ Some t) (eqb-true n m e) there)
-    by false e = stays_going s t (sym (some_same s t (sym (set_other n m None d.sockets (eqb-false n m e) ∙ here) ∙ there))) live over
-closed_for_cause l cap m d _ s t r a syncs here live there over = absurd (stays_going s t (sym (some_same s t (sym here ∙ there))) live over)
-closed_for_cause l cap m d _ s t r a (knows tokens) here live there over = absurd (stays_going s t (sym (some_same s t (sym here ∙ there))) live over)
-closed_for_cause l cap m d _ s t r a ticks here live there over = absurd (stays_going s t (sym (some_same s t (sym here ∙ there))) live over)
-closed_for_cause l cap m d _ s t r a front_fails here live there over = absurd (stays_going s t (sym (some_same s t (sym here ∙ there))) live over)
+    by false e = stays_going s t (sym (one_some s t (sym (set_other n m None d.sockets (eqb-false n m e) ∙ here) ∙ there))) live over
+closed_for_cause l cap m d _ s t r a syncs here live there over = absurd (stays_going s t (sym (one_some s t (sym here ∙ there))) live over)
+closed_for_cause l cap m d _ s t r a (knows tokens) here live there over = absurd (stays_going s t (sym (one_some s t (sym here ∙ there))) live over)
+closed_for_cause l cap m d _ s t r a ticks here live there over = absurd (stays_going s t (sym (one_some s t (sym here ∙ there))) live over)
+closed_for_cause l cap m d _ s t r a front_fails here live there over = absurd (stays_going s t (sym (one_some s t (sym here ∙ there))) live over)

@@ -27,7 +27,8 @@ use Rattle.iv_desk.proofs.Calling.{suc_zero}
 use Rattle.iv_desk.proofs.OneNumber.{LeavesMarks, dead_by, offered_parts}
 use Rattle.iv_desk.proofs.Presenting.{has_heard}
 use Rattle.iv_desk.proofs.Serving.{IsLiving, Laws, LivesClient, LivesFor, LivesNobody, closed_over, goes_or_stays, passed_over, runs_living}
-use Rattle.iv_desk.proofs.Slots.{at_every, at_same, nobody_there, none_some, some_same}
+use Rattle.iv_clients.proofs.Slots.{at_every, at_same, one_some}
+use Rattle.iv_desk.proofs.Slots.{nobody_there, none_some}
 
 -- ---- who has asked was told something since something was handed to it
 
@@ -132,7 +133,7 @@ next_waits l cap g e r k m d there = by g.dead refl
     stays a c here (inl goes) = absurd (none_some d (sym ((((l cap g r).1 e).touched a).leaves m goes) ∙ there))
     stays a c here (inr left) =
         let w = (((l cap g r).1 e).touched a).stays m c here left in
-        let is : d ≡ record (as_told w.now (itself_behind m c e)) { dropped = c.dropped || drops c e } = sym (some_same w.now d (sym w.there ∙ there)) ∙ w.is in
+        let is : d ≡ record (as_told w.now (itself_behind m c e)) { dropped = c.dropped || drops c e } = sym (one_some w.now d (sym w.there ∙ there)) ∙ w.is in
         λ alive none. kept_waits l cap g e r a m c d
         (record { there = here; stays = (or_parts c.dropped (drops c e) (sym (ap (λ (x : Client). x.dropped) is) ∙ alive)).0 })
         (record { there = there; stays = alive }) (ap asked_of is) (k m c here) alive none
@@ -260,7 +261,7 @@ handed_up l cap g h m r a b w c there = by (client_at g.clients m) refl
     by : (o : Option Client) → client_at g.clients m ≡ o → IsUp c
     by None e = absurd (none_some c (sym (now ∙ ap (λ z. option_map handing (option_map released z)) e) ∙ there))
     by (Some d) e =
-        let same : handing (released d) ≡ c = some_same (handing (released d)) c (sym (now ∙ ap (λ z. option_map handing (option_map released z)) e) ∙ there) in
+        let same : handing (released d) ≡ c = one_some (handing (released d)) c (sym (now ∙ ap (λ z. option_map handing (option_map released z)) e) ∙ there) in
         let stays : (released d).dropped ≡ false = ap (λ z. if_some z false (λ (x : Client). x.dropped)) (sym (released_at ∙ ap (option_map released) e))
         ∙ w.stays in
         subst IsUp same (up_again d (all_wait l cap g r m d e) stays)
@@ -316,7 +317,7 @@ held_freed l k cap m d s r a there going = by (socket_at d m) refl
 
     up : (t : Socket) → socket_at d m ≡ Some t → (c : Client) → client_at (caught_up m d).gate.clients m ≡ Some c → IsUp c
     up t e c here =
-        let same : s ≡ passed (offered_to m (next d.gate synced) (passed t)).1 = some_same s _ (sym there ∙ at_end (Some t) e) in
+        let same : s ≡ passed (offered_to m (next d.gate synced) (passed t)).1 = one_some s _ (sym there ∙ at_end (Some t) e) in
         let w = offer_hands l d.gate m (passed t) s (passed_output t) same going (client_open l c s (subst (λ o. LivesFor o (Some s)) here own) going) in
         handed_up l.always cap d.gate (caught_up m d).gate m (runs_living l cap d r).runs a alive
         (record { stays = w.stays; gate = offered_gate m second (passed t) (taken_socket m d (Some t) e) ∙ w.gate }) c here
@@ -329,7 +330,7 @@ held_freed l k cap m d s r a there going = by (socket_at d m) refl
     by : (o : Option Socket) → socket_at d m ≡ o → IsFree (caught_up m d) m s
     by None e = absurd (none_some s (sym (at_end None e) ∙ there))
     by (Some t) e =
-        let same : s ≡ passed (offered_to m (next d.gate synced) (passed t)).1 = some_same s _ (sym there ∙ at_end (Some t) e) in
+        let same : s ≡ passed (offered_to m (next d.gate synced) (passed t)).1 = one_some s _ (sym there ∙ at_end (Some t) e) in
         let empty : s.output ≡ [] = ap (λ (x : Socket). x.output) same ∙ passed_output (offered_to m (next d.gate synced) (passed t)).1 in
         record {
           heard = ap (λ z. nat_lt most_pending (length z) || (has_presented s && not (is_heard (caught_up m d).gate m))) empty

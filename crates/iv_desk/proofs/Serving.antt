@@ -29,7 +29,8 @@ use Rattle.iv_desk.specs.Front.{is_dropped}
 use Rattle.iv_desk.specs.Served.{BrowsersAreTold, CarriesFor}
 use Rattle.iv_desk.proofs.Calling.{AreLines, shown_there, suc_zero}
 use Rattle.iv_desk.proofs.Presenting.{AlwaysCarries, has_heard}
-use Rattle.iv_desk.proofs.Slots.{at_each_number, at_other, at_same, free_every, free_none, nobody_there, none_some, set_gone, set_other, set_there, some_same}
+use Rattle.iv_clients.proofs.Slots.{at_other, at_same, free_none, one_some, set_gone, set_other, set_there}
+use Rattle.iv_desk.proofs.Slots.{at_each_number, free_every, nobody_there, none_some}
 
 -- what holds always of the gateway, and of the life of a socket
 pub record Laws : Type 0 where
@@ -217,7 +218,7 @@ same_lives None (Some d) s k l = absurd (none_some (known_of d) (sym k))
 same_lives (Some c) None s k l = absurd (none_some (known_of c) k)
 same_lives (Some c) (Some d) None k l = l
 same_lives (Some c) (Some d) (Some s) k l =
-    let e = some_same (known_of d) (known_of c) k in
+    let e = one_some (known_of d) (known_of c) k in
     client_lives c d s l.token (ap (λ (x : Known). x.digest) e ∙ l.presented) l.life (ap (λ (x : Known). x.messages) e) (ap (λ (x : Known). x.handed) e)
 
 -- a step in the life of a socket by which no text is heard or told, and behind which it is over where it was

@@ -15,24 +15,12 @@ use Rattle.iv_desk.specs.Desks.{places_of, with_peer}
 use Rattle.iv_desk.specs.declared.place.Place.{Place}
 use Rattle.iv_desk.specs.declared.place.Hearing.{Hearing}
 use Rattle.iv_desk.specs.declared.place.Hearing.TheVariants.{Over}
-use Rattle.iv_desk.proofs.Slots.{at_each_number, at_other, at_same, none_some, set_other, some_same}
+use Rattle.iv_clients.proofs.Slots.{at_other, at_same, one_some, set_other}
+use Rattle.iv_desk.proofs.Slots.{at_each_number, none_some}
 use Rattle.iv_desk.proofs.Presenting.{Forgets, SameEffects, closed_effects, closed_forgets, effects_present, passed_effects, passed_forgets}
 use Rattle.iv_desk.proofs.OneNumber.{LeavesMarks, hearing_begins, offered_alive, offered_lived}
 
 -- ---- lists of places
-
--- to change the slot of a number is to put the changed one there
-pub at_client-set : {C : Type 0} (n : ℕ) (f : C → C) (slots : List (Option C)) (x y : Option C) → n < length slots → x ≡ get_or slots n x → y ≡ option_map f x
-    → set slots n y ≡ at_client n f slots
-at_client-set n f [] x y h e k = absurd (let no : ⊥ = omega (arith, h) in no)
-at_client-set zero f (s ∷ ss) x y h e k = ap (λ z. z ∷ ss) (k ∙ ap (option_map f) e)
-at_client-set (suc n) f (s ∷ ss) x y h e k = ap (λ zs. s ∷ zs) (at_client-set n f ss x y (omega (arith, h)) e k)
-
--- past the last there is nobody
-pub at_client-past : {C : Type 0} (n : ℕ) (f : C → C) (slots : List (Option C)) → length slots ≤ n → slots ≡ at_client n f slots
-at_client-past n f [] h = refl
-at_client-past zero f (s ∷ ss) h = absurd (let no : ⊥ = omega (arith, h) in no)
-at_client-past (suc n) f (s ∷ ss) h = ap (λ zs. s ∷ zs) (at_client-past n f ss (omega (arith, h)))
 
 slot_of : (n : ℕ) (sockets : List (Option Socket)) (x : Option Place) → n < length (places_of sockets) → x ≡ get_or (places_of sockets) n x
     → x ≡ option_map place_of (client_at sockets n)
@@ -99,7 +87,7 @@ lives_at m f sockets this all = at_each_number (λ n. (s : Socket) → client_at
   where
     by : (o : Option Socket) → client_at sockets m ≡ o → (s : Socket) → option_map f o ≡ Some s → IsLived s
     by None e s h = absurd (none_some s h)
-    by (Some r) e s h = subst IsLived (some_same (f r) s h) (this r e)
+    by (Some r) e s h = subst IsLived (one_some (f r) s h) (this r e)
 
 behind_step : (f : Socket → Socket) → Forgets f → SameEffects f → ((s : Socket) → IsLived s → IsLived (f s))
     → (d : Front) (m : ℕ) (x : Gateway) (slots : List (Option Place)) → IsBehind d x slots
@@ -138,7 +126,7 @@ behind_put o l d m g x slots b y is a = record {
     own : (o : Option Socket) → AreLived o → (sockets : List (Option Socket)) (m : ℕ) (s : Socket) → client_at (set sockets m o) m ≡ Some s → IsLived s
     own o l [] m s h = absurd (none_some s h)
     own None l (r ∷ rs) zero s h = absurd (none_some s h)
-    own (Some t) l (r ∷ rs) zero s h = subst IsLived (some_same t s h) l
+    own (Some t) l (r ∷ rs) zero s h = subst IsLived (one_some t s h) l
     own o l (r ∷ rs) (suc m) s h = own o l rs m s h
 
 -- ---- a socket and its client
@@ -173,7 +161,7 @@ pub heard_slot : (g : Gate) (m : ℕ) (o : Option Socket) (hearing : Hearing) (v
     → g.dead ≡ false → AreLived o
     → ((g : Gate) (s : Socket) → IsHearing g m s v p → IsHeardOut g m s hearing x q) → IsHeardAt g m o hearing x (Some q)
 heard_slot g m None hearing v x p q e is a l f = absurd (none_some p (sym e))
-heard_slot g m (Some s) hearing v x p q e is a l f = (q, refl, f g s (hearing_begins g m s v p is a (some_same p (place_of s) e) l))
+heard_slot g m (Some s) hearing v x p q e is a l f = (q, refl, f g s (hearing_begins g m s v p is a (one_some p (place_of s) e) l))
 
 pub heard_past : (d : Front) (m : ℕ) (x : Gateway) (slots : List (Option Place)) → IsBehind d x slots → length slots ≤ m → IsHeardBehind d m Over x slots
 heard_past d m x slots b h =

@@ -1,5 +1,5 @@
 //! `Desk`: the peers by their numbers, and the gateway whose clients have the same numbers.
-ghost use Rattle.std.specs.Prelude.{◌≡◌, ℕ, Err, IfOk, OnErr, OnOk, drop, false, option_map, take, true};
+ghost use Rattle.std.specs.Prelude.{◌≡◌, ℕ, [], Err, IfOk, OnErr, OnOk, drop, false, option_map, take, true};
 ghost use Rattle.std.specs.Io.KnownBytes.{Appends};
 ghost use Rattle.iv_clients.specs.Clients.{client_at, is_free};
 ghost use Rattle.iv_clients.specs.Journal.{journal_of};
@@ -7,6 +7,7 @@ ghost use Rattle.iv_gate.specs.Events.{failed, known, synced, ticked};
 ghost use Rattle.iv_gate.specs.Gate.{Gate};
 ghost use Rattle.iv_gate.specs.Restoring.{IsDamagedAt};
 ghost use Rattle.iv_gateway.specs.Views.{IsGate};
+ghost use Rattle.iv_gateway.specs.Waiting.{WaitsWithin};
 ghost use Rattle.iv_peer.specs.Socket.{closed, passing, took};
 ghost use Rattle.iv_desk.specs.Front.{Front, at_socket, begun, by_event, dismissed, front_at_start, left, may_tell, offered};
 ghost use Rattle.iv_desk.specs.Desks.{IsCalledOut, IsDesk, IsHeard, IsRestored, is_over_at, pending_at};
@@ -269,6 +270,26 @@ impl Desk {
             → option_map (λ b. b.now) result ≡ option_map (λ c. c.digest) (client_at d.gate.clients at) }
     {
         self.gateway.digest_of(at)
+    }
+
+    /// What waits for the journal has no more bytes than that, unless it is the greatest number. What clients are told raises it by its
+    /// bytes, and `settle` makes it 0.
+    pub fn waiting(&self) -> u64
+        ensures { (d : Front) → IsDesk d self.now → d.gate.dead ≡ false → WaitsWithin d.gate result }
+    {
+        self.gateway.waiting()
+    }
+
+    /// The text of the entries that wait for the journal. A dead desk has none.
+    pub fn entered(&self) -> &[u8]
+        ensures text { (d : Front) → IsDesk d self.now → d.gate.dead ≡ false → result.now ≡ journal_of (drop d.gate.kept d.gate.entries) }
+        ensures dead { (d : Front) → IsDesk d self.now → d.gate.dead ≡ true → result.now ≡ [] }
+    {
+        if self.dead {
+            &[]
+        } else {
+            self.gateway.entered()
+        }
     }
 
     /// What is to be sent at a number.

@@ -25,7 +25,8 @@ none_presented (Some r) free session h = by (is_name r) free h
     by true false h = refl
     by false f h = refl
 
-some_presented : (o : Option Name) (free : Bool) (session : Name → Bool) (role : Name) → option_and_then (λ r. cond (is_name r && free) (Some r) None) o ≡ Some role
+some_presented : (o : Option Name) (free : Bool) (session : Name → Bool) (role : Name)
+    → option_and_then (λ r. cond (is_name r && free) (Some r) None) o ≡ Some role
     → option_and_then (λ r. cond (is_name r && (free && session r)) (Some r) None) o ≡ cond (session role) (Some role) None
 some_presented None free session role h = cc
 some_presented (Some r) free session role h = by (is_name r) free h
@@ -54,21 +55,27 @@ came_by : (g : Gate) (m : ℕ) (token : List ℕ) (o : Option Name) (x : Gateway
     → (is_some o ≡ is_some (role_for g m token)) × IsAlive (came g m token) x
 came_by g m token o x e a = (ap is_some (sym e), subst (λ z. IsAlive (if_some z g (entering g m token)) x) (sym e) a)
 
-pub comes_none : (g : Gate) (m : ℕ) (token : List ℕ) (x : Gateway) → presented_by g m token ≡ None → IsAlive g x → (false ≡ is_some (role_for g m token)) × IsAlive (came g m token) x
+pub comes_none : (g : Gate) (m : ℕ) (token : List ℕ) (x : Gateway) → presented_by g m token ≡ None → IsAlive g x
+    → (false ≡ is_some (role_for g m token)) × IsAlive (came g m token) x
 comes_none g m token x h a = came_by g m token None x (none_presented (role_opened g.tokens (sha256 token)) (is_free m g.clients) (has_session g) h) a
 
-pub comes_not : (g : Gate) (m : ℕ) (token : List ℕ) (role : Name) (x : Gateway) → presented_by g m token ≡ Some role → has_session g role ≡ false → IsAlive (with_session g role) x
+pub comes_not : (g : Gate) (m : ℕ) (token : List ℕ) (role : Name) (x : Gateway) → presented_by g m token ≡ Some role → has_session g role ≡ false
+    → IsAlive (with_session g role) x
     → (false ≡ is_some (role_for g m token)) × IsAlive (came g m token) x
 comes_not g m token role x h s a =
-    came_by g m token None x (some_presented (role_opened g.tokens (sha256 token)) (is_free m g.clients) (has_session g) role h ∙ ap (λ b. cond b (Some role) None) s)
+    came_by g m token None x (some_presented (role_opened g.tokens (sha256 token)) (is_free m g.clients) (has_session g) role h
+    ∙ ap (λ b. cond b (Some role) None) s)
     (subst (λ z. IsAlive z x) (no_session g role s) a)
 
-pub comes_in : (g : Gate) (m : ℕ) (token : List ℕ) (role : Name) (x : Gateway) → presented_by g m token ≡ Some role → has_session g role ≡ true → IsAlive (entering g m token role) x
+pub comes_in : (g : Gate) (m : ℕ) (token : List ℕ) (role : Name) (x : Gateway) → presented_by g m token ≡ Some role → has_session g role ≡ true
+    → IsAlive (entering g m token role) x
     → (true ≡ is_some (role_for g m token)) × IsAlive (came g m token) x
 comes_in g m token role x h s a =
-    came_by g m token (Some role) x (some_presented (role_opened g.tokens (sha256 token)) (is_free m g.clients) (has_session g) role h ∙ ap (λ b. cond b (Some role) None) s) a
+    came_by g m token (Some role) x (some_presented (role_opened g.tokens (sha256 token)) (is_free m g.clients) (has_session g) role h
+    ∙ ap (λ b. cond b (Some role) None) s) a
 
-pub presented_is : (g : Gate) (m : ℕ) (token : List ℕ) (tokens : List Token) (places : Places) (digest : List ℕ) (o : Option Name) → tokens ≡ g.tokens → places ≡ kept_slots g.clients → digest ≡ sha256 token
+pub presented_is : (g : Gate) (m : ℕ) (token : List ℕ) (tokens : List Token) (places : Places) (digest : List ℕ) (o : Option Name) → tokens ≡ g.tokens
+    → places ≡ kept_slots g.clients → digest ≡ sha256 token
     → o ≡ option_and_then (λ r. cond (is_name r && is_free m places) (Some r) None) (role_opened tokens digest) → presented_by g m token ≡ o
 presented_is g m token tokens places digest o t b d h =
     let free : is_free m places ≡ is_free m g.clients = ap (is_free m) b ∙ is_free_kept m g.clients in

@@ -16,13 +16,17 @@ pub followed_is : (g : Gate) (c : Client) (m own : ℕ) (places : Places) (o : O
     → o ≡ option_and_then (λ (k : Kept). followed_by k.subs own) (client_at places m) → followed_by c.subs own ≡ o
 followed_is g c m own places o b e h =
     sym (h ∙ (ap (λ z. option_and_then (λ (k : Kept). followed_by k.subs own) (client_at z m)) b
-    ∙ (ap (option_and_then (λ (k : Kept). followed_by k.subs own)) (kept_at g.clients m) ∙ ap (λ z. option_and_then (λ (k : Kept). followed_by k.subs own) (option_map kept z)) e)))
+    ∙ (ap (option_and_then (λ (k : Kept). followed_by k.subs own)) (kept_at g.clients m)
+    ∙ ap (λ z. option_and_then (λ (k : Kept). followed_by k.subs own) (option_map kept z)) e)))
 
-pub closes_none : (g : Gate) (m : ℕ) (c : Client) (id : Option Data) (own : ℕ) (x : Gateway) → followed_by c.subs own ≡ None → IsAlive (tells g m (replied id (refused unknown_subscription))) x → IsAlive (closes g m c id own) x
+pub closes_none : (g : Gate) (m : ℕ) (c : Client) (id : Option Data) (own : ℕ) (x : Gateway) → followed_by c.subs own ≡ None
+    → IsAlive (tells g m (replied id (refused unknown_subscription))) x → IsAlive (closes g m c id own) x
 closes_none g m c id own x e a =
-    subst (λ z. IsAlive (if_some z (tells g m (replied id (refused unknown_subscription))) (λ k. swept (tells (record g { clients = at_client m (closing own) g.clients }) m (replied id done)) k)) x) (sym e) a
+    subst (λ z. IsAlive (if_some z (tells g m (replied id (refused unknown_subscription)))
+    (λ k. swept (tells (record g { clients = at_client m (closing own) g.clients }) m (replied id done)) k)) x) (sym e) a
 
 pub closes_some : (g : Gate) (m : ℕ) (c : Client) (id : Option Data) (own k : ℕ) (x : Gateway) → followed_by c.subs own ≡ Some k
     → IsAlive (swept (tells (record g { clients = at_client m (closing own) g.clients }) m (replied id done)) k) x → IsAlive (closes g m c id own) x
 closes_some g m c id own k x e a =
-    subst (λ z. IsAlive (if_some z (tells g m (replied id (refused unknown_subscription))) (λ j. swept (tells (record g { clients = at_client m (closing own) g.clients }) m (replied id done)) j)) x) (sym e) a
+    subst (λ z. IsAlive (if_some z (tells g m (replied id (refused unknown_subscription)))
+    (λ j. swept (tells (record g { clients = at_client m (closing own) g.clients }) m (replied id done)) j)) x) (sym e) a

@@ -19,23 +19,30 @@ left_by g m role feeds = let h = all_swept (record g { clients = set g.clients m
 abbrev pub leaving : Kept → Name × List ℕ
 leaving k = (k.role, map (λ s. s.feed) k.subs)
 
-went_by : (g : Gate) (m : ℕ) (o : Option Client) (x : Gateway) → o ≡ client_at g.clients m → IsAlive (if_some o g (λ c. left_by g m c.role (map (λ s. s.feed) c.subs))) x → IsAlive (went g m) x
+went_by : (g : Gate) (m : ℕ) (o : Option Client) (x : Gateway) → o ≡ client_at g.clients m
+    → IsAlive (if_some o g (λ c. left_by g m c.role (map (λ s. s.feed) c.subs))) x → IsAlive (went g m) x
 went_by g m o x e b = subst (λ z. IsAlive (if_some z g (λ c. left_by g m c.role (map (λ s. s.feed) c.subs))) x) e b
 
-went_none : (g : Gate) (m : ℕ) (o : Option Client) (x : Gateway) → o ≡ client_at g.clients m → option_map {U = Name × List ℕ} leaving (option_map kept o) ≡ None → IsAlive g x → IsAlive (went g m) x
+went_none : (g : Gate) (m : ℕ) (o : Option Client) (x : Gateway) → o ≡ client_at g.clients m → option_map {U = Name × List ℕ} leaving (option_map kept o) ≡ None
+    → IsAlive g x → IsAlive (went g m) x
 went_none g m None x e h b = went_by g m None x e b
 went_none g m (Some c) x e h b = cc
 
-went_some : (g : Gate) (m : ℕ) (role : Name) (feeds : List ℕ) (o : Option Client) (x : Gateway) → o ≡ client_at g.clients m → option_map {U = Name × List ℕ} leaving (option_map kept o) ≡ Some (role, feeds)
+went_some : (g : Gate) (m : ℕ) (role : Name) (feeds : List ℕ) (o : Option Client) (x : Gateway) → o ≡ client_at g.clients m
+    → option_map {U = Name × List ℕ} leaving (option_map kept o) ≡ Some (role, feeds)
     → IsAlive (left_by g m role feeds) x → IsAlive (went g m) x
 went_some g m role feeds None x e h b = cc
 went_some g m role feeds (Some c) x e h b =
     let q = same_some (leaving (kept c)) (role, feeds) h in
     went_by g m (Some c) x e (subst (λ (z : Name × List ℕ). IsAlive (left_by g m z.0 z.1) x) (sym q) b)
 
-pub goes_none : (g : Gate) (m : ℕ) (places : Places) (x : Gateway) → places ≡ kept_slots g.clients → option_map {U = Name × List ℕ} leaving (client_at places m) ≡ None → IsAlive g x → IsAlive (went g m) x
-goes_none g m places x b e a = went_none g m (client_at g.clients m) x refl (ap (option_map {U = Name × List ℕ} leaving) (sym (ap (λ z. client_at z m) b ∙ kept_at g.clients m)) ∙ e) a
+pub goes_none : (g : Gate) (m : ℕ) (places : Places) (x : Gateway) → places ≡ kept_slots g.clients
+    → option_map {U = Name × List ℕ} leaving (client_at places m) ≡ None → IsAlive g x → IsAlive (went g m) x
+goes_none g m places x b e a = went_none g m (client_at g.clients m) x refl
+    (ap (option_map {U = Name × List ℕ} leaving) (sym (ap (λ z. client_at z m) b ∙ kept_at g.clients m)) ∙ e) a
 
-pub goes_some : (g : Gate) (m : ℕ) (role : Name) (feeds : List ℕ) (places : Places) (x : Gateway) → places ≡ kept_slots g.clients → option_map {U = Name × List ℕ} leaving (client_at places m) ≡ Some (role, feeds)
+pub goes_some : (g : Gate) (m : ℕ) (role : Name) (feeds : List ℕ) (places : Places) (x : Gateway) → places ≡ kept_slots g.clients
+    → option_map {U = Name × List ℕ} leaving (client_at places m) ≡ Some (role, feeds)
     → IsAlive (left_by g m role feeds) x → IsAlive (went g m) x
-goes_some g m role feeds places x b e a = went_some g m role feeds (client_at g.clients m) x refl (ap (option_map {U = Name × List ℕ} leaving) (sym (ap (λ z. client_at z m) b ∙ kept_at g.clients m)) ∙ e) a
+goes_some g m role feeds places x b e a = went_some g m role feeds (client_at g.clients m) x refl
+    (ap (option_map {U = Name × List ℕ} leaving) (sym (ap (λ z. client_at z m) b ∙ kept_at g.clients m)) ∙ e) a

@@ -1,5 +1,6 @@
 -- What a command grants, as the code tells it.
-use Rattle.std.proofs.Common.{◌≡◌, ◌∙◌, ℕ, zero, suc, ◌+◌, ◌<◌, ◌≤◌, Bool, true, false, cond, List, [], ◌∷◌, ◌++◌, length, take, get_or, map, Option, Some, None, option_map, refl, ap, sym, append-nil, append_assoc, add-one, add_assoc, arith, length-append}
+use Rattle.std.proofs.Common.{◌≡◌, ◌∙◌, ℕ, zero, suc, ◌+◌, ◌<◌, ◌≤◌, Bool, true, false, cond, List, [], ◌∷◌, ◌++◌, length, take, get_or, map, Option, Some}
+use Rattle.std.proofs.Common.{None, option_map, refl, ap, sym, append-nil, append_assoc, add-one, add_assoc, arith, length-append}
 use Rattle.std.specs.Prelude.{◌==◌, flat_map}
 use Rattle.std.proofs.lemmas.Bool.{false≢true}
 use Rattle.std.proofs.lemmas.List.{map_more, map-append}
@@ -57,7 +58,8 @@ one_first f zero (o ∷ os) = refl
 one_first f (suc n) [] = refl
 one_first f (suc n) (o ∷ os) = ap (λ z. option_map f o ∷ z) (one_first f n os)
 
-pub first_more : {C : Type 0} (f : C → C) (n : ℕ) (os before now : List (Option C)) → before ≡ first_all f n os → now ≡ at_client n f before → now ≡ first_all f (n + 1) os
+pub first_more : {C : Type 0} (f : C → C) (n : ℕ) (os before now : List (Option C)) → before ≡ first_all f n os → now ≡ at_client n f before
+    → now ≡ first_all f (n + 1) os
 first_more f n os before now e g = g ∙ (ap (at_client n f) e ∙ (one_first f n os ∙ ap (λ k. first_all f k os) (sym (add-one n))))
 
 pub first_whole : {C : Type 0} (f : C → C) (n : ℕ) (os : List (Option C)) → length os ≤ n → first_all f n os ≡ at_all f os
@@ -67,13 +69,15 @@ first_whole f (suc n) [] h = refl
 first_whole f (suc n) (o ∷ os) h = ap (λ z. option_map f o ∷ z) (first_whole f n os (omega (arith, h)))
 
 -- a client of such a role is told, and no other
-pub held_for : (p : Name → Bool) (text : List ℕ) (n : ℕ) (places : Places) → if_some (client_at places n) false (λ (k : Kept). p k.role) ≡ true → at_client n (holding text) places ≡ at_client n (holding_for p text) places
+pub held_for : (p : Name → Bool) (text : List ℕ) (n : ℕ) (places : Places) → if_some (client_at places n) false (λ (k : Kept). p k.role) ≡ true
+    → at_client n (holding text) places ≡ at_client n (holding_for p text) places
 held_for p text n [] h = refl
 held_for p text zero (None ∷ os) h = refl
 held_for p text zero (Some k ∷ os) h = ap (λ b. Some (cond b (holding text k) k) ∷ os) (sym h)
 held_for p text (suc n) (o ∷ os) h = ap (λ z. o ∷ z) (held_for p text n os h)
 
-pub not_held_for : (p : Name → Bool) (text : List ℕ) (n : ℕ) (places : Places) → if_some (client_at places n) false (λ (k : Kept). p k.role) ≡ false → places ≡ at_client n (holding_for p text) places
+pub not_held_for : (p : Name → Bool) (text : List ℕ) (n : ℕ) (places : Places) → if_some (client_at places n) false (λ (k : Kept). p k.role) ≡ false
+    → places ≡ at_client n (holding_for p text) places
 not_held_for p text n [] h = refl
 not_held_for p text zero (None ∷ os) h = refl
 not_held_for p text zero (Some k ∷ os) h = ap (λ b. Some (cond b (holding text k) k) ∷ os) (sym h)
@@ -107,11 +111,13 @@ some_told n ns true k = sym (held_all (map granted ns) (told_text (granted n)) k
 some_told n ns false k = refl
 
 -- where the text is empty nothing is granted
-pub tells_none : ((t : Told) → IsLine (told_text t)) → (p : Name → Bool) (names : List Name) (places : Places) → (length (text_granted names) == 0) ≡ true → places ≡ at_all (told_names p names) places
+pub tells_none : ((t : Told) → IsLine (told_text t)) → (p : Name → Bool) (names : List Name) (places : Places) → (length (text_granted names) == 0) ≡ true
+    → places ≡ at_all (told_names p names) places
 tells_none law p [] places h = still_all places ∙ same_all (λ k. k) (told_names p []) (λ k. none_told (p k.role) k) places
 tells_none law p (n ∷ ns) places h = absurd (false≢true (sym (nonempty (granted n) (text_granted ns) (law (granted n))) ∙ h))
 
-pub tells_some : (p : Name → Bool) (names : List Name) (places : Places) → (length (text_granted names) == 0) ≡ false → at_all (holding_for p (text_granted names)) places ≡ at_all (told_names p names) places
+pub tells_some : (p : Name → Bool) (names : List Name) (places : Places) → (length (text_granted names) == 0) ≡ false
+    → at_all (holding_for p (text_granted names)) places ≡ at_all (told_names p names) places
 tells_some p [] places h = absurd (false≢true (sym h))
 tells_some p (n ∷ ns) places h = same_all (holding_for p (text_granted (n ∷ ns))) (told_names p (n ∷ ns)) (λ k. some_told n ns (p k.role) k) places
 
@@ -121,7 +127,8 @@ more_text ns n =
     ∙ (flat_map-append told_text (map granted ns) (granted n ∷ []) ∙ ap (λ z. text_granted ns ++ z) (append-nil (told_text (granted n))))
 
 -- one name more of a list
-pub name_next : {A : Type 0} (read : A → Name) (xs : List A) (i : ℕ) (d : A) (start before now : List ℕ) → i < length xs → before ≡ start ++ text_granted (map read (take i xs))
+pub name_next : {A : Type 0} (read : A → Name) (xs : List A) (i : ℕ) (d : A) (start before now : List ℕ) → i < length xs
+    → before ≡ start ++ text_granted (map read (take i xs))
     → now ≡ before ++ told_text (granted (read (get_or xs i d))) → now ≡ start ++ text_granted (map read (take (i + 1) xs))
 name_next read xs i d start before now lt e g =
     g ∙ (ap (λ z. z ++ told_text (granted (read (get_or xs i d)))) e
@@ -137,12 +144,14 @@ role_held [] k = refl
 role_held (t ∷ ts) k = role_held ts (holding (told_text t) k)
 
 -- the lines of a command are told, and then to each role what is its own
-pub stands_granted : (es : List Entry) (feeds : List Feed) (ls : List Line) (more : Name → List Told) (slots : Slots) (places : Places) → places ≡ kept_slots slots
+pub stands_granted : (es : List Entry) (feeds : List Feed) (ls : List Line) (more : Name → List Told) (slots : Slots) (places : Places)
+    → places ≡ kept_slots slots
     → at_all (keeping_on ls) (at_all (λ k. holding_all (more k.role) k) (at_all (hearing_lines feeds ls) places))
     ≡ kept_slots (at_all (λ c. staying ls (telling es (own_lines feeds ls c.subs ++ more c.role) c)) slots)
 stands_granted es feeds ls more slots places b =
     ap (λ z. at_all (keeping_on ls) (at_all (λ k. holding_all (more k.role) k) (at_all (hearing_lines feeds ls) z))) b
-    ∙ (ap (at_all (keeping_on ls)) (both_all (λ k. holding_all (more k.role) k) (hearing_lines feeds ls) (kept_slots slots) ∙ keeps_all tells_all hears_all one slots)
+    ∙ (ap (at_all (keeping_on ls)) (both_all (λ k. holding_all (more k.role) k) (hearing_lines feeds ls) (kept_slots slots)
+    ∙ keeps_all tells_all hears_all one slots)
     ∙ (keeps_all (staying ls) (keeping_on ls) (λ c. refl) (at_all tells_all slots) ∙ ap kept_slots (both_all (staying ls) tells_all slots)))
   where
     tells_all : Client → Client
@@ -162,7 +171,8 @@ grants_none b f gs places h = still_all places ∙ ap (λ z. at_all (hearing_gra
 
 -- what is granted in a frame is granted by the act
 pub granted_same : (ls ms : List Line) (e f : Frame) (act : Act) (gs : Grants) (places : Places) → ls ≡ ms → f ≡ e → IsGranting act gs
-    → at_all (hearing_granted (is_accepted (reply_in ls)) e gs) places ≡ at_all (λ k. holding_all (cond (is_accepted (reply_in ms)) (map granted (granted_by f act k.role)) []) k) places
+    → at_all (hearing_granted (is_accepted (reply_in ls)) e gs) places ≡ at_all
+    (λ k. holding_all (cond (is_accepted (reply_in ms)) (map granted (granted_by f act k.role)) []) k) places
 granted_same ls ms e f act gs places p q h = λ i. at_all (λ k. holding_all (cond (is_accepted (reply_in (p i))) (map granted (step k.role i)) []) k) places
   where
     step : (role : Name) → granted_in e gs role ≡ granted_by f act role

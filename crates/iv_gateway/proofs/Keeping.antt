@@ -1,5 +1,6 @@
 -- What the code keeps of a client is changed as the client is.
-use Rattle.std.proofs.Common.{◌≡◌, ℕ, zero, suc, Bool, true, false, cond, ◌+◌, ◌||◌, not, List, [], ◌∷◌, ◌++◌, length, drop, map, set, replicate, Option, Some, None, option_map, refl, ap, ◌∙◌, sym, append-nil, arith, length-append}
+use Rattle.std.proofs.Common.{◌≡◌, ℕ, zero, suc, Bool, true, false, cond, ◌+◌, ◌||◌, not, List, [], ◌∷◌, ◌++◌, length, drop, map, set, replicate, Option, Some}
+use Rattle.std.proofs.Common.{None, option_map, refl, ap, ◌∙◌, sym, append-nil, arith, length-append}
 use Rattle.std.specs.Prelude.{◌==◌, bytes_eq}
 use Rattle.std.specs.List.{list_any}
 use Rattle.std.proofs.lemmas.Bool.{ne_eqb}
@@ -8,9 +9,11 @@ use Rattle.iv_rows.specs.Options.{if_some}
 use Rattle.iv_access.specs.Rights.{Name}
 use Rattle.iv_message.specs.Lines.{IsLine}
 use Rattle.iv_message.specs.Told.{Told, alive, settled, told_text}
-use Rattle.iv_clients.specs.Clients.{Client, Shown, Slots, answered, at_all, at_client, beating, by_others, checked, client_at, dropping, handing, has_role, is_followed, is_free, is_slow, opens, released, settling, telling, text_shown, told_one}
+use Rattle.iv_clients.specs.Clients.{Client, Shown, Slots, answered, at_all, at_client, beating, by_others, checked, client_at, dropping, handing, has_role}
+use Rattle.iv_clients.specs.Clients.{is_followed, is_free, is_slow, opens, released, settling, telling, text_shown, told_one}
 use Rattle.iv_clients.specs.Journal.{Entry}
-use Rattle.iv_clients.specs.Kept.{Kept, Places, answering, checking, emptied, has_role_in, holding, holding_all, holding_beat, holding_owed, is_followed_by, is_following, is_told, kept, kept_slots, letting_go, releasing}
+use Rattle.iv_clients.specs.Kept.{Kept, Places, answering, checking, emptied, has_role_in, holding, holding_all, holding_beat, holding_owed, is_followed_by}
+use Rattle.iv_clients.specs.Kept.{is_following, is_told, kept, kept_slots, letting_go, releasing}
 use Rattle.iv_clients.specs.Tokens.{Token}
 
 one_text : (ss : List Shown) (s : Shown) → text_shown (ss ++ s ∷ []) ≡ text_shown ss ++ told_text s.told
@@ -28,24 +31,32 @@ others_append (s ∷ ss) ts = by s.answers (others_append ss ts)
 
 others_count : (ss ts : List Shown) → length (text_shown (by_others (ss ++ ts))) ≡ length (text_shown (by_others ss)) + length (text_shown (by_others ts))
 others_count ss ts = ap (λ z. length (text_shown z)) (others_append ss ts)
-    ∙ (ap length (flat_map-append (λ (x : Shown). told_text x.told) (by_others ss) (by_others ts)) ∙ length-append (text_shown (by_others ss)) (text_shown (by_others ts)))
+    ∙ (ap length (flat_map-append (λ (x : Shown). told_text x.told) (by_others ss) (by_others ts))
+    ∙ length-append (text_shown (by_others ss)) (text_shown (by_others ts)))
 
 -- ---- a client
 
 -- something that others bring
 brought_one : (es : List Entry) (t : Told) (ss : List Shown)
-    → length (text_shown (by_others (ss ++ record { told = t; entries = es; answers = false } ∷ []))) ≡ length (text_shown (by_others ss)) + length (told_text t)
-brought_one es t ss = others_count ss (record { told = t; entries = es; answers = false } ∷ []) ∙ ap (λ z. length (text_shown (by_others ss)) + length z) (append-nil (told_text t))
+    → length (text_shown (by_others (ss ++ record { told = t; entries = es; answers = false } ∷ []))) ≡ length (text_shown (by_others ss)) + length
+    (told_text t)
+brought_one es t ss = others_count ss (record { told = t; entries = es; answers = false } ∷ [])
+    ∙ ap (λ z. length (text_shown (by_others ss)) + length z) (append-nil (told_text t))
 
 pub kept_one : (es : List Entry) (t : Told) (c : Client) → kept (told_one es t c) ≡ holding (told_text t) (kept c)
-kept_one es t c i = record (holding (told_text t) (kept c)) { unsynced = one_text c.unsynced (record { told = t; entries = es; answers = false }) i; brought = brought_one es t c.unsynced i }
+kept_one es t c i = record (holding (told_text t) (kept c)) {
+  unsynced = one_text c.unsynced (record { told = t; entries = es; answers = false }) i;
+  brought =
+      brought_one es t c.unsynced i;
+}
 
 -- one thing after another
 pub kept_telling : (es : List Entry) (ts : List Told) (c : Client) → kept (telling es ts c) ≡ holding_all ts (kept c)
 kept_telling es [] c = refl
 kept_telling es (t ∷ ts) c = kept_telling es ts (told_one es t c) ∙ ap (holding_all ts) (kept_one es t c)
 
-owed_by : (b : Bool) (es : List Entry) (c : Client) → kept (cond b (record (told_one es settled c) { owed = false }) c) ≡ cond b (record (holding (told_text settled) (kept c)) { owed = false }) (kept c)
+owed_by : (b : Bool) (es : List Entry) (c : Client) → kept (cond b (record (told_one es settled c) { owed = false }) c) ≡ cond b
+    (record (holding (told_text settled) (kept c)) { owed = false }) (kept c)
 owed_by true es c = ap (λ (k : Kept). record k { owed = false }) (kept_one es settled c)
 owed_by false es c = refl
 
@@ -56,9 +67,21 @@ pub kept_beating : (es : List Entry) (c : Client) → kept (beating es c) ≡ ho
 kept_beating es c = ap (λ (k : Kept). record k { owed = c.owed }) (kept_one es alive c)
 
 slow_by : (b : Bool) (c : Client) → kept (cond b (dropping c) (record c { unsynced = []; sendable = c.sendable ++ c.unsynced }))
-    ≡ cond b (letting_go (kept c)) (record (kept c) { unsynced = []; sendable = text_shown c.sendable ++ text_shown c.unsynced; brought = 0; piled = (kept c).piled + (kept c).brought })
+    ≡ cond b (letting_go (kept c)) (record (kept c) {
+      unsynced = [];
+      sendable = text_shown c.sendable ++ text_shown c.unsynced;
+      brought = 0;
+      piled =
+          (kept c).piled + (kept c).brought;
+    })
 slow_by true c = refl
-slow_by false c = λ i. record (kept c) { unsynced = []; sendable = flat_map-append (λ (x : Shown). told_text x.told) c.sendable c.unsynced i; brought = 0; piled = others_count c.sendable c.unsynced i }
+slow_by false c = λ i. record (kept c) {
+  unsynced = [];
+  sendable = flat_map-append (λ (x : Shown). told_text x.told) c.sendable c.unsynced i;
+  brought =
+      0;
+  piled = others_count c.sendable c.unsynced i;
+}
 
 pub kept_released : (c : Client) → kept (released c) ≡ releasing (kept c)
 kept_released c = slow_by (c.dropped || is_slow c) c
@@ -101,7 +124,8 @@ kept_answered b c more e i = record (kept c) { unsynced = text i; brought = coun
 
     count : length (text_shown (by_others (b.unsynced ++ map mark (drop (length b.unsynced) c.unsynced)))) ≡ length (text_shown (by_others b.unsynced))
     count = others_count b.unsynced (map mark (drop (length b.unsynced) c.unsynced))
-        ∙ (ap (λ z. length (text_shown (by_others b.unsynced)) + length (text_shown z)) (of_none (drop (length b.unsynced) c.unsynced)) ∙ (let f : length (text_shown (by_others b.unsynced)) + 0 ≡ length (text_shown (by_others b.unsynced)) = omega arith in f))
+        ∙ (ap (λ z. length (text_shown (by_others b.unsynced)) + length (text_shown z)) (of_none (drop (length b.unsynced) c.unsynced))
+        ∙ (let f : length (text_shown (by_others b.unsynced)) + 0 ≡ length (text_shown (by_others b.unsynced)) = omega arith in f))
 
 suc_not : (n : ℕ) → (suc n == 0) ≡ false
 suc_not n = ne_eqb (suc n) 0 (λ e. let no : ⊥ = omega (arith, e) in no)
@@ -116,11 +140,13 @@ nonempty t rest l = ap (λ z. length (z ++ rest) == 0) l.1 ∙ by l.0
 
 handing_by : ((t : Told) → IsLine (told_text t)) → (c : Client) (ss : List Shown)
     → kept (cond (length ss == 0) (record c { sendable = ss }) (record c { sendable = []; asked = 0; handed = c.handed ++ ss ∷ [] }))
-    ≡ cond (length (text_shown ss) == 0) (record (kept c) { sendable = text_shown ss; piled = length (text_shown (by_others ss)) }) (record (kept c) { sendable = []; asked = 0; piled = 0 })
+    ≡ cond (length (text_shown ss) == 0) (record (kept c) { sendable = text_shown ss; piled = length (text_shown (by_others ss)) })
+    (record (kept c) { sendable = []; asked = 0; piled = 0 })
 handing_by law c [] = refl
 handing_by law c (s ∷ ss) =
     ap (λ b. kept (cond b (record c { sendable = s ∷ ss }) (record c { sendable = []; asked = 0; handed = c.handed ++ (s ∷ ss) ∷ [] }))) (suc_not (length ss))
-    ∙ ap (λ b. cond b (record (kept c) { sendable = text_shown (s ∷ ss); piled = length (text_shown (by_others (s ∷ ss))) }) (record (kept c) { sendable = []; asked = 0; piled = 0 }))
+    ∙ ap (λ b. cond b (record (kept c) { sendable = text_shown (s ∷ ss); piled = length (text_shown (by_others (s ∷ ss))) })
+    (record (kept c) { sendable = []; asked = 0; piled = 0 }))
     (sym (nonempty s.told (text_shown ss) (law s.told)))
 
 pub kept_handing : ((t : Told) → IsLine (told_text t)) → (c : Client) → kept (handing c) ≡ emptied (kept c)
@@ -132,16 +158,19 @@ sent_kept (Some c) = refl
 
 -- ---- slots
 
-kept_map : (f : Client → Client) (h : Kept → Kept) → ((c : Client) → kept (f c) ≡ h (kept c)) → (o : Option Client) → option_map h (option_map kept o) ≡ option_map kept (option_map f o)
+kept_map : (f : Client → Client) (h : Kept → Kept) → ((c : Client) → kept (f c) ≡ h (kept c)) → (o : Option Client)
+    → option_map h (option_map kept o) ≡ option_map kept (option_map f o)
 kept_map f h k None = refl
 kept_map f h k (Some c) = ap Some (sym (k c))
 
-pub keeps_at : (m : ℕ) (f : Client → Client) (h : Kept → Kept) → ((c : Client) → kept (f c) ≡ h (kept c)) → (slots : Slots) → at_client m h (kept_slots slots) ≡ kept_slots (at_client m f slots)
+pub keeps_at : (m : ℕ) (f : Client → Client) (h : Kept → Kept) → ((c : Client) → kept (f c) ≡ h (kept c)) → (slots : Slots)
+    → at_client m h (kept_slots slots) ≡ kept_slots (at_client m f slots)
 keeps_at m f h k [] = refl
 keeps_at zero f h k (s ∷ ss) = ap (λ z. z ∷ kept_slots ss) (kept_map f h k s)
 keeps_at (suc m) f h k (s ∷ ss) = ap (λ z. option_map kept s ∷ z) (keeps_at m f h k ss)
 
-pub keeps_all : (f : Client → Client) (h : Kept → Kept) → ((c : Client) → kept (f c) ≡ h (kept c)) → (slots : Slots) → at_all h (kept_slots slots) ≡ kept_slots (at_all f slots)
+pub keeps_all : (f : Client → Client) (h : Kept → Kept) → ((c : Client) → kept (f c) ≡ h (kept c)) → (slots : Slots)
+    → at_all h (kept_slots slots) ≡ kept_slots (at_all f slots)
 keeps_all f h k [] = refl
 keeps_all f h k (s ∷ ss) = (λ i. kept_map f h k s i ∷ keeps_all f h k ss i)
 
@@ -159,7 +188,8 @@ kept_at [] m = refl
 kept_at (s ∷ ss) zero = refl
 kept_at (s ∷ ss) (suc m) = kept_at ss m
 
-follows_kept : (k : ℕ) (o : Option Client) → if_some (option_map kept o) false (is_following k) ≡ if_some o false (λ (c : Client). list_any (λ s. k == s.feed) c.subs)
+follows_kept : (k : ℕ) (o : Option Client) → if_some (option_map kept o) false (is_following k) ≡ if_some o false
+    (λ (c : Client). list_any (λ s. k == s.feed) c.subs)
 follows_kept k None = refl
 follows_kept k (Some c) = refl
 
@@ -167,7 +197,8 @@ pub followed_kept : (k : ℕ) (slots : Slots) → is_followed_by k (kept_slots s
 followed_kept k [] = refl
 followed_kept k (s ∷ ss) = (λ i. follows_kept k s i || followed_kept k ss i)
 
-role_kept : (role : Name) (o : Option Client) → if_some (option_map kept o) false (λ (x : Kept). bytes_eq x.role role) ≡ if_some o false (λ (c : Client). bytes_eq c.role role)
+role_kept : (role : Name) (o : Option Client) → if_some (option_map kept o) false (λ (x : Kept). bytes_eq x.role role) ≡ if_some o false
+    (λ (c : Client). bytes_eq c.role role)
 role_kept role None = refl
 role_kept role (Some c) = refl
 
@@ -188,5 +219,6 @@ pub nobody_kept : (n : ℕ) → replicate n None ≡ kept_slots (replicate n Non
 nobody_kept zero = refl
 nobody_kept (suc n) = ap (λ z. None ∷ z) (nobody_kept n)
 
-pub sendable_kept : (places : Places) (slots : Slots) (m : ℕ) → places ≡ kept_slots slots → if_some (client_at places m) [] (λ (k : Kept). k.sendable) ≡ if_some (client_at slots m) [] (λ (c : Client). text_shown c.sendable)
+pub sendable_kept : (places : Places) (slots : Slots) (m : ℕ) → places ≡ kept_slots slots
+    → if_some (client_at places m) [] (λ (k : Kept). k.sendable) ≡ if_some (client_at slots m) [] (λ (c : Client). text_shown c.sendable)
 sendable_kept places slots m b = ap (λ z. if_some z [] (λ (k : Kept). k.sendable)) (ap (λ z. client_at z m) b ∙ kept_at slots m) ∙ sent_kept (client_at slots m)

@@ -1,5 +1,6 @@
 -- The lines of a journal are read as entries, and nothing else is.
-use Rattle.std.proofs.Common.{◌≡◌, ◌∙◌, ℕ, ◌+◌, ◌||◌, Bool, true, false, cond, List, [], ◌∷◌, ◌++◌, length, take, drop, Option, Some, None, option_map, refl, ap, sym, subst, arith, append_assoc, length-append}
+use Rattle.std.proofs.Common.{◌≡◌, ◌∙◌, ℕ, ◌+◌, ◌||◌, Bool, true, false, cond, List, [], ◌∷◌, ◌++◌, length, take, drop, Option, Some, None, option_map, refl}
+use Rattle.std.proofs.Common.{ap, sym, subst, arith, append_assoc, length-append}
 use Rattle.std.specs.Prelude.{◌==◌, ◌&&◌, option_and_then, codes, bytes_eq}
 use Rattle.std.specs.List.{list_all, list_any}
 use Rattle.std.proofs.lemmas.Bool.{eqb-true}
@@ -64,7 +65,8 @@ pub whole : (b : ℕ) (xs : List ℕ) (p : List ℕ × List ℕ) → cut_at b xs
 whole b xs p h = (cut_is b xs p h).none
 
 pub cut_length : (b : ℕ) (xs : List ℕ) (p : List ℕ × List ℕ) → cut_at b xs ≡ Some p → length p.0 + (1 + length p.1) ≡ length xs
-cut_length b xs p h = sym (ap length (cut_is b xs p h).text ∙ (length-append p.0 (b ∷ p.1) ∙ ap (λ z. length p.0 + z) (let f : length (b ∷ p.1) ≡ 1 + length p.1 = omega arith in f)))
+cut_length b xs p h = sym (ap length (cut_is b xs p h).text ∙ (length-append p.0 (b ∷ p.1)
+    ∙ ap (λ z. length p.0 + z) (let f : length (b ∷ p.1) ≡ 1 + length p.1 = omega arith in f)))
 
 cut_behind : (b : ℕ) (xs rest : List ℕ) → (b == b) ≡ true → HasNo b xs → cut_at b (xs ++ b ∷ rest) ≡ Some (xs, rest)
 cut_behind b [] rest r h = ap (λ d. cond d (Some ([], rest)) (option_map {U = Pair} (λ q. (b ∷ q.0, q.1)) (cut_at b rest))) r
@@ -110,7 +112,8 @@ map_some (Some x) f y h = (x, refl, same_pair (f x) y h)
 
 parts_are : (line : List ℕ) (p : List ℕ × List ℕ) → entry_parts line ≡ Some p → line ≡ line_of p.0 p.1
 parts_are line p h =
-    let a = then_some (behind (codes "{\"as\":\"") line) (λ rest. option_and_then (λ (q : Pair). option_map {U = Pair} (λ text. (q.0, text)) (behind (codes ",") q.1)) (cut_at 34 rest)) p h in
+    let a = then_some (behind (codes "{\"as\":\"") line) (λ rest. option_and_then
+    (λ (q : Pair). option_map {U = Pair} (λ text. (q.0, text)) (behind (codes ",") q.1)) (cut_at 34 rest)) p h in
     let b = then_some (cut_at 34 a.0) (λ (q : Pair). option_map {U = Pair} (λ text. (q.0, text)) (behind (codes ",") q.1)) p a.2 in
     let d = map_some (behind (codes ",") b.0.1) (λ (text : List ℕ). (b.0.0, text)) p b.2 in
     let front : line ≡ codes "{\"as\":\"" ++ a.0 = behind_is (codes "{\"as\":\"") line a.0 a.1 in
@@ -132,7 +135,8 @@ entry_is line p h =
 -- its message has no newline where the line has none
 pub read_whole : (line : List ℕ) (p : List ℕ × List ℕ) → IsRead line p → has_newline line ≡ false → has_newline p.1 ≡ false
 read_whole line p r h =
-    let rest : HasNo 10 r.text = no_split 10 (codes "\",") r.text (no_split 10 p.0 (codes "\"," ++ r.text) (no_split 10 (codes "{\"as\":\"") (p.0 ++ (codes "\"," ++ r.text)) (subst (HasNo 10) r.whole h))) in
+    let rest : HasNo 10 r.text = no_split 10 (codes "\",") r.text (no_split 10 p.0 (codes "\"," ++ r.text)
+    (no_split 10 (codes "{\"as\":\"") (p.0 ++ (codes "\"," ++ r.text)) (subst (HasNo 10) r.whole h))) in
     subst (HasNo 10) (sym r.is) rest
 
 pub read_brace : (line : List ℕ) (p : List ℕ × List ℕ) → IsRead line p → begins_object p.1 ≡ true
@@ -140,11 +144,13 @@ read_brace line p r = ap begins_object r.is
 
 entry_is_line : (role : Name) (text : List ℕ) → codes "{\"as\":\"" ++ (role ++ (codes "\"," ++ (text ++ 10 ∷ []))) ≡ line_of role text ++ 10 ∷ []
 entry_is_line role text =
-    ap (λ z. codes "{\"as\":\"" ++ z) (ap (λ z. role ++ z) (sym (append_assoc (codes "\",") text (10 ∷ []))) ∙ sym (append_assoc role (codes "\"," ++ text) (10 ∷ [])))
+    ap (λ z. codes "{\"as\":\"" ++ z) (ap (λ z. role ++ z) (sym (append_assoc (codes "\",") text (10 ∷ [])))
+    ∙ sym (append_assoc role (codes "\"," ++ text) (10 ∷ [])))
     ∙ sym (append_assoc (codes "{\"as\":\"") (role ++ (codes "\"," ++ text)) (10 ∷ []))
 
 -- the text of its entry is the line
-pub read_text : (line : List ℕ) (p : List ℕ × List ℕ) → IsRead line p → codes "{\"as\":\"" ++ (p.0 ++ (codes "\"," ++ (drop 1 p.1 ++ 10 ∷ []))) ≡ line ++ 10 ∷ []
+pub read_text : (line : List ℕ) (p : List ℕ × List ℕ) → IsRead line p → codes
+    "{\"as\":\"" ++ (p.0 ++ (codes "\"," ++ (drop 1 p.1 ++ 10 ∷ []))) ≡ line ++ 10 ∷ []
 read_text line p r =
     ap (λ z. codes "{\"as\":\"" ++ (p.0 ++ (codes "\"," ++ (drop 1 z ++ 10 ∷ [])))) r.is ∙ (entry_is_line p.0 r.text ∙ ap (λ z. z ++ 10 ∷ []) (sym r.whole))
 
@@ -183,7 +189,8 @@ last_same (x ∷ xs) (y ∷ ys) b h = λ i. head_same x y (xs ++ b ∷ []) (ys +
 
 parts_of_line : (role : Name) (text : List ℕ) → list_all is_further role ≡ true → entry_parts (line_of role text) ≡ Some (role, text)
 parts_of_line role text n =
-    ap (option_and_then (λ (p : Pair). option_map {U = Pair} (λ z. (p.0, z)) (behind (codes ",") p.1))) (cut_behind 34 role (44 ∷ text) refl (none_in 34 no_quote role n))
+    ap (option_and_then (λ (p : Pair). option_map {U = Pair} (λ z. (p.0, z)) (behind (codes ",") p.1)))
+    (cut_behind 34 role (44 ∷ text) refl (none_in 34 no_quote role n))
 
 -- an entry is read as its role and its message
 pub entry_read : (e : Entry) (line : List ℕ) → IsEntry e → entry_text e ≡ line ++ 10 ∷ [] → entry_in line ≡ Some (e.role, e.line)

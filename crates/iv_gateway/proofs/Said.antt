@@ -1,5 +1,6 @@
 -- A message, as the code has it done.
-use Rattle.std.proofs.Common.{◌≡◌, ◌∙◌, ◌≤◌, ℕ, zero, suc, Bool, true, false, cond, List, [], ◌∷◌, ◌++◌, length, drop, Option, Some, None, option_map, refl, ap, sym, subst, arith, append-nil}
+use Rattle.std.proofs.Common.{◌≡◌, ◌∙◌, ◌≤◌, ℕ, zero, suc, Bool, true, false, cond, List, [], ◌∷◌, ◌++◌, length, drop, Option, Some, None, option_map, refl, ap}
+use Rattle.std.proofs.Common.{sym, subst, arith, append-nil}
 use Rattle.std.specs.Prelude.{◌&&◌}
 use Rattle.std.proofs.lemmas.List.Concat.{flat_map-append}
 use Rattle.serde_json.specs.Data.{Data}
@@ -8,7 +9,8 @@ use Rattle.iv_access.specs.Rights.{Name}
 use Rattle.iv_command.specs.Views.{act_of}
 use Rattle.iv_command.specs.declared.command.Act as code
 use Rattle.iv_command.specs.declared.command.Act.TheVariants as asks
-use Rattle.iv_machine.specs.Act.{Act, begin, finish, create_role, create_table, create_view, grant, revoke, grant_role, revoke_role, row_security, create_policy, drop_policy, subscribe, unsubscribe, write, Line, refused, limit, no_session}
+use Rattle.iv_machine.specs.Act.{Act, begin, finish, create_role, create_table, create_view, grant, revoke, grant_role, revoke_role, row_security}
+use Rattle.iv_machine.specs.Act.{create_policy, drop_policy, subscribe, unsubscribe, write, Line, refused, limit, no_session}
 use Rattle.iv_machine.specs.Machine.{step}
 use Rattle.iv_message.specs.Message.{request}
 use Rattle.iv_message.specs.Told.{fault, replied}
@@ -18,7 +20,8 @@ use Rattle.iv_clients.specs.Journal.{Entry, entry_text, is_shared, journal_of, l
 use Rattle.iv_clients.specs.Kept.{Kept, Places, answering, kept, kept_slots}
 use Rattle.iv_clients.proofs.Slots.{at_same, one_some}
 use Rattle.iv_gate.specs.Events.{message}
-use Rattle.iv_gate.specs.Gate.{Gate, acts, done_for, entered, has_shape_room, hears, in_session, is_accepted, is_heard, reply_in, reply_to, requests, said, settles, tells}
+use Rattle.iv_gate.specs.Gate.{Gate, acts, done_for, entered, has_shape_room, hears, in_session, is_accepted, is_heard, reply_in, reply_to, requests, said}
+use Rattle.iv_gate.specs.Gate.{settles, tells}
 use Rattle.iv_gate.specs.Laws.{LeavesMarks}
 use Rattle.iv_gate.proofs.Growing.{Grown, grows}
 use Rattle.iv_gate.proofs.Walking.{to_done, to_settles, to_then}
@@ -29,12 +32,14 @@ use Rattle.iv_gateway.proofs.Keeping.{kept_answered, kept_at}
 
 -- ---- one client
 
-one_kept : (f : Client → Client) (h : Kept → Kept) (o : Option Client) → ((c : Client) → o ≡ Some c → kept (f c) ≡ h (kept c)) → option_map h (option_map kept o) ≡ option_map kept (option_map f o)
+one_kept : (f : Client → Client) (h : Kept → Kept) (o : Option Client) → ((c : Client) → o ≡ Some c → kept (f c) ≡ h (kept c))
+    → option_map h (option_map kept o) ≡ option_map kept (option_map f o)
 one_kept f h None k = refl
 one_kept f h (Some c) k = ap Some (sym (k c refl))
 
 -- what is done to the client of a number, where it is kept so of that one
-keeps_one : (m : ℕ) (f : Client → Client) (h : Kept → Kept) (slots : Slots) → ((c : Client) → client_at slots m ≡ Some c → kept (f c) ≡ h (kept c)) → at_client m h (kept_slots slots) ≡ kept_slots (at_client m f slots)
+keeps_one : (m : ℕ) (f : Client → Client) (h : Kept → Kept) (slots : Slots) → ((c : Client) → client_at slots m ≡ Some c → kept (f c) ≡ h (kept c))
+    → at_client m h (kept_slots slots) ≡ kept_slots (at_client m f slots)
 keeps_one m f h [] k = refl
 keeps_one zero f h (s ∷ ss) k = ap (λ z. z ∷ kept_slots ss) (one_kept f h s k)
 keeps_one (suc m) f h (s ∷ ss) k = ap (λ z. option_map kept s ∷ z) (keeps_one m f h ss k)
@@ -47,7 +52,8 @@ asked g m text = record g { clients = at_client m (saying text) g.clients }
 abbrev pub did : Gate → ℕ → Client → List ℕ → Gate
 did g m c text = settles (done_for (asked g m text) m c text (said_by text))
 
-pub there_saying : (g : Gate) (m : ℕ) (c : Client) (text : List ℕ) → client_at g.clients m ≡ Some c → client_at (asked g m text).clients m ≡ Some (saying text c)
+pub there_saying : (g : Gate) (m : ℕ) (c : Client) (text : List ℕ) → client_at g.clients m ≡ Some c
+    → client_at (asked g m text).clients m ≡ Some (saying text c)
 there_saying g m c text t = at_same m (saying text) g.clients ∙ ap (option_map (saying text)) t
 
 -- of what its client was told before nothing is missing
@@ -55,16 +61,20 @@ grown : (g : Gate) (m : ℕ) (c d : Client) (text : List ℕ) → client_at g.cl
 grown g m c d text t e =
     let R : ℕ → Client → Client → Type 0 = λ i x y. Grown x y in
     let done = done_for (asked g m text) m c text (said_by text) in
-    let p = to_then m (λ i x y. Grown x y) (grows m) (asked g m text).clients done.clients (settles done).clients (to_done m (λ i x y. Grown x y) (grows m) (asked g m text) c text (said_by text)) (to_settles m (λ i x y. Grown x y) (grows m) done) m (saying text c) (there_saying g m c text t) in
+    let p = to_then m (λ i x y. Grown x y) (grows m) (asked g m text).clients done.clients (settles done).clients
+    (to_done m (λ i x y. Grown x y) (grows m) (asked g m text) c text (said_by text)) (to_settles m (λ i x y. Grown x y) (grows m) done) m (saying text c)
+    (there_saying g m c text t) in
     let x : Grown (saying text c) d = subst (Grown (saying text c)) (one_some p.now d (sym p.there ∙ e)) p.so in
     record { more = x.more; handed = x.handed; sendable = x.sendable; unsynced = x.unsynced }
 
 -- others brought it no more than before
-pub stands_answered : (g : Gate) (m : ℕ) (c : Client) (text : List ℕ) (brought : ℕ) (places : Places) → client_at g.clients m ≡ Some c → brought ≡ (kept c).brought → places ≡ kept_slots (did g m c text).clients
+pub stands_answered : (g : Gate) (m : ℕ) (c : Client) (text : List ℕ) (brought : ℕ) (places : Places) → client_at g.clients m ≡ Some c
+    → brought ≡ (kept c).brought → places ≡ kept_slots (did g m c text).clients
     → at_client m (answering brought) places ≡ kept_slots (at_client m (answered c) (did g m c text).clients)
 stands_answered g m c text brought places t e b =
     (λ i. at_client m (answering (e i)) (b i))
-    ∙ keeps_one m (answered c) (answering (kept c).brought) (did g m c text).clients (λ d h. let x = grown g m c d text t h in kept_answered c d x.more x.unsynced)
+    ∙ keeps_one m (answered c) (answering (kept c).brought) (did g m c text).clients
+    (λ d h. let x = grown g m c d text t h in kept_answered c d x.more x.unsynced)
 
 -- ---- whether it is heard
 
@@ -87,10 +97,12 @@ pub speaks : (g : Gate) (m : ℕ) (s : Speaking) (places : Places) → places �
 speaks g m s places b h = speaks_by g m s (client_at g.clients m) refl (h ∙ ap speaker_in (ap (λ z. client_at z m) b ∙ kept_at g.clients m))
 
 -- what is done is done where it is heard
-pub said_heard : (g : Gate) (m : ℕ) (text : List ℕ) (s : Speaking) (x : Gateway) (w : IsSpeaker g m s) → IsAlive (hears g m w.client text) x → (true ≡ is_heard g m) × IsAlive (said g m text) x
+pub said_heard : (g : Gate) (m : ℕ) (text : List ℕ) (s : Speaking) (x : Gateway) (w : IsSpeaker g m s) → IsAlive (hears g m w.client text) x
+    → (true ≡ is_heard g m) × IsAlive (said g m text) x
 said_heard g m text s x w a = (
   sym (ap (λ o. if_some o false may_say) w.there ∙ w.heard),
-  subst (λ o. IsAlive (if_some o g (λ c. cond (may_say c) (hears g m c text) g)) x) (sym w.there) (subst (λ b. IsAlive (cond b (hears g m w.client text) g) x) (sym w.heard) a),
+  subst (λ o. IsAlive (if_some o g (λ c. cond (may_say c) (hears g m c text) g)) x) (sym w.there)
+      (subst (λ b. IsAlive (cond b (hears g m w.client text) g) x) (sym w.heard) a),
 )
 
 quiet_by : (g : Gate) (m : ℕ) (text : List ℕ) (x : Gateway) (o : Option Client) → None ≡ speaker_in (option_map kept o) → IsAlive g x
@@ -103,7 +115,8 @@ quiet_by g m text x (Some c) h a = by (may_say c) h
     by false h = (refl, a)
 
 -- and nothing else is
-pub said_unheard : (g : Gate) (m : ℕ) (text : List ℕ) (places : Places) (x : Gateway) → places ≡ kept_slots g.clients → None ≡ speaker_in (client_at places m) → IsAlive g x → (false ≡ is_heard g m) × IsAlive (said g m text) x
+pub said_unheard : (g : Gate) (m : ℕ) (text : List ℕ) (places : Places) (x : Gateway) → places ≡ kept_slots g.clients → None ≡ speaker_in (client_at places m)
+    → IsAlive g x → (false ≡ is_heard g m) × IsAlive (said g m text) x
 said_unheard g m text places x b h a = quiet_by g m text x (client_at g.clients m) (h ∙ ap speaker_in (ap (λ z. client_at z m) b ∙ kept_at g.clients m)) a
 
 -- a message kills nothing
@@ -113,11 +126,13 @@ message_lives g m text h law = subst (λ b. (cond b g (said g m text)).dead ≡ 
 -- ---- acts
 
 -- what is asked is done where the shape has room for it
-pub done_with_room : (g : Gate) (m : ℕ) (c : Client) (id : Option Data) (text : List ℕ) (act : Act) (x : Gateway) → has_shape_room g act ≡ true → IsAlive (acts g m c id text act) x
+pub done_with_room : (g : Gate) (m : ℕ) (c : Client) (id : Option Data) (text : List ℕ) (act : Act) (x : Gateway) → has_shape_room g act ≡ true
+    → IsAlive (acts g m c id text act) x
     → IsAlive (done_for g m c text (request id act)) x
 done_with_room g m c id text act x h a = subst (λ b. IsAlive (cond b (acts g m c id text act) (tells g m (replied id (refused limit)))) x) (sym h) a
 
-pub done_without_room : (g : Gate) (m : ℕ) (c : Client) (id : Option Data) (text : List ℕ) (act : Act) (x : Gateway) → has_shape_room g act ≡ false → IsAlive (tells g m (replied id (refused limit))) x
+pub done_without_room : (g : Gate) (m : ℕ) (c : Client) (id : Option Data) (text : List ℕ) (act : Act) (x : Gateway) → has_shape_room g act ≡ false
+    → IsAlive (tells g m (replied id (refused limit))) x
     → IsAlive (done_for g m c text (request id act)) x
 done_without_room g m c id text act x h a = subst (λ b. IsAlive (cond b (acts g m c id text act) (tells g m (replied id (refused limit)))) x) (sym h) a
 
@@ -144,14 +159,16 @@ acts_shared g m c id text (drop_policy rel name) h = refl
 acts_shared g m c id text (write entries) h = refl
 
 -- in the session of the client's role
-pub shares_as : (g : Gate) (m : ℕ) (c : Client) (id : Option Data) (text line : List ℕ) (role : Name) (act : Act) (o : Option ℕ) (x : Gateway) → is_shared act ≡ true → role ≡ c.role → line_said text ≡ line
+pub shares_as : (g : Gate) (m : ℕ) (c : Client) (id : Option Data) (text line : List ℕ) (role : Name) (act : Act) (o : Option ℕ) (x : Gateway)
+    → is_shared act ≡ true → role ≡ c.role → line_said text ≡ line
     → o ≡ seat_of g.seats role → IsAlive (shares g m id (record { role = role; line = line; act = act }) o) x → IsAlive (acts g m c id text act) x
 shares_as g m c id text line role act o x s r l e a =
     subst (λ z. IsAlive z x)
     ((λ i. shares g m id (record { role = r i; line = sym l i; act = act }) ((e ∙ ap (seat_of g.seats) r) i)) ∙ acts_shared g m c id text act s) a
 
 -- sessions are begun and finished by the gateway alone
-pub acts_none : (g : Gate) (m : ℕ) (c : Client) (id : Option Data) (text : List ℕ) (act : code.Act) → is_shared (act_of act) ≡ false → ((rel : _) → act ≡ asks.Subscribe rel → ⊥) → ((own : _) → act ≡ asks.Unsubscribe own → ⊥)
+pub acts_none : (g : Gate) (m : ℕ) (c : Client) (id : Option Data) (text : List ℕ) (act : code.Act) → is_shared (act_of act) ≡ false
+    → ((rel : _) → act ≡ asks.Subscribe rel → ⊥) → ((own : _) → act ≡ asks.Unsubscribe own → ⊥)
     → tells g m (fault 2) ≡ acts g m c id text (act_of act)
 acts_none g m c id text (asks.Begin role) h n k = refl
 acts_none g m c id text asks.Finish h n k = refl
@@ -182,7 +199,8 @@ longer zero (y ∷ ys) x h = omega arith
 longer (suc k) (y ∷ ys) x h = let more = longer k ys x (omega (arith, h)) in omega (arith, more)
 
 -- an entry that is accepted
-pub pends_more : (kept : ℕ) (es : List Entry) (e : Entry) (old new : List ℕ) → IsPending kept es old → new ≡ old ++ entry_text e → IsPending kept (es ++ e ∷ []) new
+pub pends_more : (kept : ℕ) (es : List Entry) (e : Entry) (old new : List ℕ) → IsPending kept es old → new ≡ old ++ entry_text e
+    → IsPending kept (es ++ e ∷ []) new
 pends_more kept es e old new p h = record {
   within = longer kept es e p.within;
   text = h ∙ (ap (λ z. z ++ entry_text e) p.text
@@ -191,7 +209,8 @@ pends_more kept es e old new p h = record {
 }
 
 -- what the reply says of it
-pub entered_by : (g : Gate) (e : Entry) (accepted : Bool) (bytes : List ℕ) → is_shared e.act ≡ true → IsPending g.kept (g.entries ++ cond accepted (e ∷ []) []) bytes
+pub entered_by : (g : Gate) (e : Entry) (accepted : Bool) (bytes : List ℕ) → is_shared e.act ≡ true
+    → IsPending g.kept (g.entries ++ cond accepted (e ∷ []) []) bytes
     → IsPending (entered g e accepted).kept (entered g e accepted).entries bytes
 entered_by g e accepted bytes s p = subst (λ b. IsPending g.kept (g.entries ++ cond (b && accepted) (e ∷ []) []) bytes) (sym s) p
 
@@ -199,11 +218,14 @@ pub pends_none : (kept : ℕ) (es : List Entry) (bytes : List ℕ) → IsPending
 pends_none kept es bytes p = subst (λ z. IsPending kept z bytes) (sym (append-nil es)) p
 
 -- the machine has answered, the entry waits for the journal, and the reply is told
-pub told_first : (g : Gate) (m : ℕ) (id : Option Data) (e : Entry) (n : ℕ) (ls entering replying : List Line) (x : Gateway) → ls ≡ (step g.machine (in_session n e.act)).lines → entering ≡ ls → replying ≡ ls
-    → IsAlive (tells (entered (record g { machine = (step g.machine (in_session n e.act)).state }) e (is_accepted (reply_in entering))) m (replied id (reply_in replying))) x
+pub told_first : (g : Gate) (m : ℕ) (id : Option Data) (e : Entry) (n : ℕ) (ls entering replying : List Line) (x : Gateway)
+    → ls ≡ (step g.machine (in_session n e.act)).lines → entering ≡ ls → replying ≡ ls
+    → IsAlive (tells (entered (record g { machine = (step g.machine (in_session n e.act)).state }) e (is_accepted (reply_in entering))) m
+    (replied id (reply_in replying))) x
     → IsRun (tells (entered g e (is_accepted (reply_to g (in_session n e.act)))) m (replied id (reply_to g (in_session n e.act)))) (in_session n e.act) ls x
 told_first g m id e n ls entering replying x l a b h = record {
   lines = l;
-  gate = subst (λ (p : List Line × List Line). IsAlive (tells (entered (record g { machine = (step g.machine (in_session n e.act)).state }) e (is_accepted (reply_in p.0))) m (replied id (reply_in p.1))) x)
+  gate = subst (λ (p : List Line × List Line). IsAlive (tells (entered (record g { machine = (step g.machine (in_session n e.act)).state }) e
+      (is_accepted (reply_in p.0))) m (replied id (reply_in p.1))) x)
       (λ i. ((a ∙ l) i, (b ∙ l) i)) h;
 }

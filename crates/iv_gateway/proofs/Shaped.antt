@@ -22,7 +22,8 @@ pub shape_more : (es : List Entry) (e : Entry) → shape_text (es ++ e ∷ []) �
 shape_more es e = ap (flat_map told_text) (shape_both es (e ∷ [])) ∙ flat_map-append told_text (shape_of es) (shape_of (e ∷ []))
 
 pub one_shape : (e : Entry) → is_shape e.act ≡ true → told_text (made e.role e.line) ≡ shape_text (e ∷ [])
-one_shape e h = sym (append-nil (told_text (made e.role e.line))) ∙ ap (λ b. flat_map told_text (map (λ (x : Entry). made x.role x.line) (cond b (e ∷ []) []))) (sym h)
+one_shape e h = sym (append-nil (told_text (made e.role e.line))) ∙ ap (λ b. flat_map told_text (map (λ (x : Entry). made x.role x.line) (cond b (e ∷ []) [])))
+    (sym h)
 
 pub no_shape : (e : Entry) → is_shape e.act ≡ false → shape_text (e ∷ []) ≡ []
 no_shape e h = ap (λ b. flat_map told_text (map (λ (x : Entry). made x.role x.line) (cond b (e ∷ []) []))) h
@@ -70,29 +71,35 @@ none_told false k = refl
 abbrev pub told_shape : List Entry → Kept → Kept
 told_shape es k = holding_all (shape_for k.role es) k
 
-some_shape : (ts : List Told) → (length (flat_map told_text ts) == 0) ≡ false → (b : Bool) (k : Kept) → cond b (holding (flat_map told_text ts) k) k ≡ holding_all (cond b ts []) k
+some_shape : (ts : List Told) → (length (flat_map told_text ts) == 0) ≡ false → (b : Bool) (k : Kept)
+    → cond b (holding (flat_map told_text ts) k) k ≡ holding_all (cond b ts []) k
 some_shape [] h b k = absurd (false≢true (sym h))
 some_shape (t ∷ ts) h b k = one_told ts b t k
 
-empty_shape : ((t : Told) → IsLine (told_text t)) → (ts : List Told) → (length (flat_map told_text ts) == 0) ≡ true → (b : Bool) (k : Kept) → k ≡ holding_all (cond b ts []) k
+empty_shape : ((t : Told) → IsLine (told_text t)) → (ts : List Told) → (length (flat_map told_text ts) == 0) ≡ true → (b : Bool) (k : Kept)
+    → k ≡ holding_all (cond b ts []) k
 empty_shape law [] h b k = none_told b k
 empty_shape law (t ∷ ts) h b k = absurd (false≢true (sym (nonempty t (flat_map told_text ts) (law t)) ∙ h))
 
-pub informs_some : (es : List Entry) (places : Places) → (length (shape_text es) == 0) ≡ false → at_all (holding_for is_admin (shape_text es)) places ≡ at_all (told_shape es) places
+pub informs_some : (es : List Entry) (places : Places) → (length (shape_text es) == 0) ≡ false
+    → at_all (holding_for is_admin (shape_text es)) places ≡ at_all (told_shape es) places
 informs_some es places h = same_all (holding_for is_admin (shape_text es)) (told_shape es) (λ k. some_shape (shape_of es) h (is_admin k.role) k) places
 
-pub informs_empty : ((t : Told) → IsLine (told_text t)) → (es : List Entry) (places : Places) → (length (shape_text es) == 0) ≡ true → places ≡ at_all (told_shape es) places
+pub informs_empty : ((t : Told) → IsLine (told_text t)) → (es : List Entry) (places : Places) → (length (shape_text es) == 0) ≡ true
+    → places ≡ at_all (told_shape es) places
 informs_empty law es places h = still_all places ∙ same_all (λ k. k) (told_shape es) (λ k. empty_shape law (shape_of es) h (is_admin k.role) k) places
 
 -- of no entry nothing is told
 pub informs_none : (places : Places) → places ≡ at_all (told_shape []) places
 informs_none places = still_all places ∙ same_all (λ k. k) (told_shape []) (λ k. none_told (is_admin k.role) k) places
 
-pub stands_informed : (all es : List Entry) (slots : Slots) (places : Places) → places ≡ kept_slots slots → at_all (told_shape es) places ≡ kept_slots (at_all (λ c. telling all (shape_for c.role es) c) slots)
+pub stands_informed : (all es : List Entry) (slots : Slots) (places : Places) → places ≡ kept_slots slots
+    → at_all (told_shape es) places ≡ kept_slots (at_all (λ c. telling all (shape_for c.role es) c) slots)
 stands_informed all es slots places b =
     ap (at_all (told_shape es)) b ∙ keeps_all (λ c. telling all (shape_for c.role es) c) (told_shape es) (λ c. kept_telling all (shape_for c.role es) c) slots
 
-pub stands_as : (g : Gate) (es : List Entry) (places now : Places) → places ≡ kept_slots g.clients → now ≡ at_all (told_shape es) places → now ≡ kept_slots (informs g es).clients
+pub stands_as : (g : Gate) (es : List Entry) (places now : Places) → places ≡ kept_slots g.clients → now ≡ at_all (told_shape es) places
+    → now ≡ kept_slots (informs g es).clients
 stands_as g es places now b n = n ∙ stands_informed g.entries es g.clients places b
 
 -- ---- whether it is accepted
@@ -108,7 +115,8 @@ accepted_one : (e : Entry) → is_shared e.act ≡ true → entries_of e true �
 accepted_one e s = ap (λ b. cond (b && true) (e ∷ []) []) s
 
 -- a request that is refused, or makes nothing of the shape, tells nobody anything
-pub informs_nobody : ((t : Told) → IsLine (told_text t)) → (e : Entry) (a : Bool) (text : List ℕ) (places : Places) → is_shared e.act ≡ true → text ≡ shape_text (e ∷ [])
+pub informs_nobody : ((t : Told) → IsLine (told_text t)) → (e : Entry) (a : Bool) (text : List ℕ) (places : Places) → is_shared e.act ≡ true
+    → text ≡ shape_text (e ∷ [])
     → (not a || (length text == 0)) ≡ true → places ≡ at_all (told_shape (entries_of e a)) places
 informs_nobody law e false text places s t h = informs_none places ∙ ap (λ es. at_all (told_shape es) places) (sym (refused_none e))
 informs_nobody law e true text places s t h =
@@ -123,11 +131,13 @@ informs_all e true text places s t h =
 
 -- ---- what the code keeps of it
 
-pub shape_added : (es : List Entry) (e : Entry) (old new text : List ℕ) → old ≡ shape_text es → text ≡ shape_text (e ∷ []) → new ≡ old ++ text → new ≡ shape_text (es ++ e ∷ [])
+pub shape_added : (es : List Entry) (e : Entry) (old new text : List ℕ) → old ≡ shape_text es → text ≡ shape_text (e ∷ []) → new ≡ old ++ text
+    → new ≡ shape_text (es ++ e ∷ [])
 shape_added es e old new text o t n = n ∙ ((λ i. o i ++ t i) ∙ sym (shape_more es e))
 
 pub shape_same : (es : List Entry) (text : List ℕ) → text ≡ shape_text es → text ≡ shape_text (es ++ [])
 shape_same es text t = t ∙ ap shape_text (sym (append-nil es))
 
-pub shape_entered : (g : Gate) (e : Entry) (accepted : Bool) (text : List ℕ) → is_shared e.act ≡ true → text ≡ shape_text (g.entries ++ cond accepted (e ∷ []) []) → text ≡ shape_text (entered g e accepted).entries
+pub shape_entered : (g : Gate) (e : Entry) (accepted : Bool) (text : List ℕ) → is_shared e.act ≡ true
+    → text ≡ shape_text (g.entries ++ cond accepted (e ∷ []) []) → text ≡ shape_text (entered g e accepted).entries
 shape_entered g e accepted text s t = subst (λ b. text ≡ shape_text (g.entries ++ cond (b && accepted) (e ∷ []) [])) (sym s) t

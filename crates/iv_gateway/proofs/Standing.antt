@@ -13,12 +13,14 @@ use Rattle.iv_gateway.proofs.Keeping.{keeps_all, keeps_at, kept_one, kept_settli
 pub stands_told : (es : List Entry) (slots : Slots) (places : Places) (m : ℕ) (t : Told) (text : List ℕ) → told_text t ≡ text → places ≡ kept_slots slots
     → at_client m (holding text) places ≡ kept_slots (at_client m (told_one es t) slots)
 stands_told es slots places m t text e b =
-    ap (λ z. at_client m (holding z) places) (sym e) ∙ (ap (at_client m (holding (told_text t))) b ∙ keeps_at m (told_one es t) (holding (told_text t)) (kept_one es t) slots)
+    ap (λ z. at_client m (holding z) places) (sym e) ∙ (ap (at_client m (holding (told_text t))) b
+    ∙ keeps_at m (told_one es t) (holding (told_text t)) (kept_one es t) slots)
 
 pub stands_settled : (es : List Entry) (slots : Slots) (places : Places) (text : List ℕ) → text ≡ told_text settled → places ≡ kept_slots slots
     → at_all (holding_owed text) places ≡ kept_slots (at_all (settling es) slots)
 stands_settled es slots places text e b =
-    ap (λ z. at_all (holding_owed z) places) e ∙ (ap (at_all (holding_owed (told_text settled))) b ∙ keeps_all (settling es) (holding_owed (told_text settled)) (kept_settling es) slots)
+    ap (λ z. at_all (holding_owed z) places) e ∙ (ap (at_all (holding_owed (told_text settled))) b
+    ∙ keeps_all (settling es) (holding_owed (told_text settled)) (kept_settling es) slots)
 
 -- ---- lines
 
@@ -34,8 +36,10 @@ pub no_grants : (b : Bool) (names : List Name) → names ≡ [] → cond b (map 
 no_grants true names e = ap (map granted) e
 no_grants false names e = refl
 
-pub stands_heard : (es : List Entry) (feeds : List Feed) (ls : List Line) (more : Client → List Told) → ((c : Client) → more c ≡ []) → (slots : Slots) (places : Places) → places ≡ kept_slots slots
-    → at_all (keeping_on ls) (at_all (hearing_lines feeds ls) places) ≡ kept_slots (at_all (λ c. staying ls (telling es (own_lines feeds ls c.subs ++ more c) c)) slots)
+pub stands_heard : (es : List Entry) (feeds : List Feed) (ls : List Line) (more : Client → List Told) → ((c : Client) → more c ≡ [])
+    → (slots : Slots) (places : Places) → places ≡ kept_slots slots
+    → at_all (keeping_on ls) (at_all (hearing_lines feeds ls) places) ≡ kept_slots
+    (at_all (λ c. staying ls (telling es (own_lines feeds ls c.subs ++ more c) c)) slots)
 stands_heard es feeds ls more none slots places b =
     ap (λ z. at_all (keeping_on ls) (at_all (hearing_lines feeds ls) z)) b
     ∙ (ap (at_all (keeping_on ls)) (keeps_all tells_all (hearing_lines feeds ls) one slots)

@@ -1,5 +1,6 @@
 -- Feeds that nobody follows, as the code closes them.
-use Rattle.std.proofs.Common.{◌≡◌, ◌∙◌, ℕ, ◌+◌, ◌<◌, Bool, true, false, cond, List, [], ◌∷◌, length, drop, get_or, drop-cons, add-one, Option, Some, None, option_map, ap, sym, subst}
+use Rattle.std.proofs.Common.{◌≡◌, ◌∙◌, ℕ, ◌+◌, ◌<◌, Bool, true, false, cond, List, [], ◌∷◌, length, drop, get_or, drop-cons, add-one, Option, Some, None}
+use Rattle.std.proofs.Common.{option_map, ap, sym, subst}
 use Rattle.iv_rows.specs.Options.{if_some}
 use Rattle.iv_clients.specs.Clients.{is_followed}
 use Rattle.iv_clients.specs.Feeds.{Feed, feed_of}
@@ -10,8 +11,10 @@ use Rattle.iv_gateway.specs.declared.gateway.Gateway.{Gateway}
 pub swept_followed : (g : Gate) (k : ℕ) (x : Gateway) (b : Bool) → b ≡ is_followed k g.clients → b ≡ true → IsAlive g x → IsAlive (swept g k) x
 swept_followed g k x b e h a = subst (λ z. IsAlive (cond z g (if_some (feed_of g.feeds k) g (shut g))) x) (sym h ∙ e) a
 
-swept_by : (g : Gate) (k : ℕ) (x : Gateway) (b : Bool) → b ≡ is_followed k g.clients → b ≡ false → (o : Option Feed) → o ≡ feed_of g.feeds k → IsAlive (if_some o g (shut g)) x → IsAlive (swept g k) x
-swept_by g k x b e h o d a = subst (λ z. IsAlive (cond z g (if_some (feed_of g.feeds k) g (shut g))) x) (sym h ∙ e) (subst (λ z. IsAlive (if_some z g (shut g)) x) d a)
+swept_by : (g : Gate) (k : ℕ) (x : Gateway) (b : Bool) → b ≡ is_followed k g.clients → b ≡ false → (o : Option Feed) → o ≡ feed_of g.feeds k
+    → IsAlive (if_some o g (shut g)) x → IsAlive (swept g k) x
+swept_by g k x b e h o d a = subst (λ z. IsAlive (cond z g (if_some (feed_of g.feeds k) g (shut g))) x) (sym h ∙ e)
+    (subst (λ z. IsAlive (if_some z g (shut g)) x) d a)
 
 pub swept_none : (g : Gate) (k : ℕ) (x : Gateway) (b : Bool) → b ≡ is_followed k g.clients → b ≡ false → (o : Option Feed) → o ≡ feed_of g.feeds k
     → option_map {U = ℕ × ℕ} (λ f. (f.session, f.number)) o ≡ None → IsAlive g x → IsAlive (swept g k) x
@@ -22,7 +25,8 @@ pub same_some : {X : Type 0} (a b : X) → Some a ≡ Some b → a ≡ b
 same_some a b h = cc
 
 pub swept_shut : (g : Gate) (k : ℕ) (x : Gateway) (b : Bool) (n j : ℕ) → b ≡ is_followed k g.clients → b ≡ false → (o : Option Feed) → o ≡ feed_of g.feeds k
-    → option_map {U = ℕ × ℕ} (λ f. (f.session, f.number)) o ≡ Some (n, j) → ((f : Feed) → f.session ≡ n → f.number ≡ j → IsAlive (shut g f) x) → IsAlive (swept g k) x
+    → option_map {U = ℕ × ℕ} (λ f. (f.session, f.number)) o ≡ Some (n, j) → ((f : Feed) → f.session ≡ n → f.number ≡ j → IsAlive (shut g f) x)
+    → IsAlive (swept g k) x
 swept_shut g k x b n j e h None d p a = cc
 swept_shut g k x b n j e h (Some f) d p a =
     let q = same_some (f.session, f.number) (n, j) p in
@@ -34,7 +38,8 @@ pub record IsSweeping (g : Gate) (ks rest : List ℕ) (x : Gateway) : Type 0 whe
   pub gate : IsAlive now x
   pub leads : all_swept now rest ≡ all_swept g ks
 
-pub sweep_next : (g : Gate) (ks : List ℕ) (i : ℕ) (x y : Gateway) → i < length ks → IsSweeping g ks (drop i ks) x → ((h : Gate) → IsAlive h x → IsAlive (swept h (get_or ks i 0)) y)
+pub sweep_next : (g : Gate) (ks : List ℕ) (i : ℕ) (x y : Gateway) → i < length ks → IsSweeping g ks (drop i ks) x
+    → ((h : Gate) → IsAlive h x → IsAlive (swept h (get_or ks i 0)) y)
     → IsSweeping g ks (drop (i + 1) ks) y
 sweep_next g ks i x y lt w step = record {
   now = swept w.now (get_or ks i 0);

@@ -4,3 +4,4 @@ pub mod Replays
 pub mod Shaping
 pub mod Speaking
 pub mod Views
+pub mod Waiting

@@ -1,5 +1,5 @@
 //! `Gateway`: the engine, sessions by role, feeds that clients share, clients, and the journal that is ahead of what they are told.
-ghost use Rattle.std.specs.Prelude.{◌≡◌, ℕ, IfOk, Some, [], false, option_map, true};
+ghost use Rattle.std.specs.Prelude.{◌≡◌, ℕ, IfOk, Some, [], drop, false, option_map, true};
 ghost use Rattle.std.specs.List.{Contains, IsDistinct};
 ghost use Rattle.std.proofs.Common.{eqb};
 ghost use Rattle.iv_rows.specs.Options.{if_some};
@@ -7,10 +7,12 @@ ghost use Rattle.iv_machine.specs.State.{start};
 ghost use Rattle.iv_store.specs.Engine.{IsBehind};
 ghost use Rattle.iv_clients.specs.Clients as spec;
 ghost use Rattle.iv_clients.specs.Clients.{client_at, text_shown};
+ghost use Rattle.iv_clients.specs.Journal.{journal_of};
 ghost use Rattle.iv_clients.specs.Kept.{is_due, is_told, kept};
 ghost use Rattle.iv_gate.specs.Gate.{Gate, is_heard};
 ghost use Rattle.iv_gate.specs.Restoring.{gate_at_start};
 ghost use Rattle.iv_gateway.specs.Views.{IsGate};
+ghost use Rattle.iv_gateway.specs.Waiting.{WaitsWithin};
 
 use iv_clients::{Feed, Seat, Token};
 use iv_engine::Engine;
@@ -114,6 +116,21 @@ impl Gateway {
             Some(Some(it)) => it.is_dropped(),
             _ => false,
         }
+    }
+
+    /// What waits for the journal has no more bytes than that, unless it is the greatest number. What clients are told raises it by its
+    /// bytes, and `settle` makes it 0.
+    pub fn waiting(&self) -> u64
+        ensures { (g : Gate) → IsGate g self.now → g.dead ≡ false → WaitsWithin g result }
+    {
+        self.clients.waiting()
+    }
+
+    /// The text of the entries that wait for the journal.
+    pub fn entered(&self) -> &[u8]
+        ensures { (g : Gate) → IsGate g self.now → g.dead ≡ false → result.now ≡ journal_of (drop g.kept g.entries) }
+    {
+        &self.pending
     }
 
     /// The numbers of those who were told something that they have not taken, or who are to go: all to whom something may be sent, each

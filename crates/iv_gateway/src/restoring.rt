@@ -1,5 +1,6 @@
 //! `restore`: brings a gateway to where the bytes of a journal lead.
-ghost use Rattle.std.specs.Prelude.{◌≡◌, [], ℕ, List, if◌then◌else◌, Err, None, Ok, IfOk, IfSome, OnErr, bytes_eq, codes, false, length, option_map, string_bytes, take, true};
+ghost use Rattle.std.specs.Prelude.{◌≡◌, [], ℕ, List, if◌then◌else◌, Err, None, Ok, IfOk, IfSome, OnErr, bytes_eq, codes, false, length, option_map};
+ghost use Rattle.std.specs.Prelude.{string_bytes, take, true};
 ghost use Rattle.iv_rows.specs.Names.{is_name};
 ghost use Rattle.iv_command.specs.Views.{act_of};
 ghost use Rattle.iv_machine.specs.Well.{is_well_act};

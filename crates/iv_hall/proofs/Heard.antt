@@ -1,5 +1,6 @@
 -- What is told of lines, one after another.
-use Rattle.std.proofs.Common.{◌≡◌, ◌<◌, ℕ, zero, suc, ◌+◌, true, false, cond, List, [], ◌∷◌, ◌++◌, length, take, Some, None, get_or, map, refl, ap, ◌∙◌, sym, append-nil, add-one, arith}
+use Rattle.std.proofs.Common.{◌≡◌, ◌<◌, ℕ, zero, suc, ◌+◌, true, false, cond, List, [], ◌∷◌, ◌++◌, length, take, Some, None, get_or, map, refl, ap, ◌∙◌, sym}
+use Rattle.std.proofs.Common.{append-nil, add-one, arith}
 use Rattle.std.specs.Prelude.{◌==◌, flat_map, slice_get}
 use Rattle.std.proofs.lemmas.List.{map_more}
 use Rattle.std.proofs.lemmas.List.Concat.{flat_map-append}
@@ -27,7 +28,8 @@ line_held (reply n r) rel own feed k h = cc
 line_held (change n j rows) rel own feed k h = refl
 line_held (ended n j why rows) rel own feed k h = refl
 
-pub told_here : (feed : ℕ) (rel : Name) (l : Line) (s : Sub) (k : Kept) → feed_told l ≡ Some feed → (feed == s.feed) ≡ true → holding (text_as rel l s.own) k ≡ holding_all (told_for feed rel l s) k
+pub told_here : (feed : ℕ) (rel : Name) (l : Line) (s : Sub) (k : Kept) → feed_told l ≡ Some feed → (feed == s.feed) ≡ true
+    → holding (text_as rel l s.own) k ≡ holding_all (told_for feed rel l s) k
 told_here feed rel l s k h e = line_held l rel s.own feed k h ∙ ap (λ b. holding_all (cond b (told_as rel l s.own) []) k) (sym e)
 
 pub told_not : (feed : ℕ) (rel : Name) (l : Line) (s : Sub) (k : Kept) → (feed == s.feed) ≡ false → k ≡ holding_all (told_for feed rel l s) k
@@ -68,8 +70,10 @@ told_same feeds (reply n r) feed s h = cc
 told_same feeds (change n j rows) feed s h = let same : j ≡ feed = cc in sym (ap (λ z. told_for z (rel_read feeds z) (change n j rows) s) same)
 told_same feeds (ended n j why rows) feed s h = let same : j ≡ feed = cc in sym (ap (λ z. told_for z (rel_read feeds z) (ended n j why rows) s) same)
 
-pub hear_feed : (feeds : List Feed) (l : Line) (feed : ℕ) (places : Places) → feed_told l ≡ Some feed → at_all (hearing_for feed (rel_read feeds feed) l) places ≡ at_all (hearing_line feeds l) places
-hear_feed feeds l feed places h = same_all (hearing_for feed (rel_read feeds feed) l) (hearing_line feeds l) (λ k i. holding_all (flat_map (λ s. told_same feeds l feed s h i) k.subs) k) places
+pub hear_feed : (feeds : List Feed) (l : Line) (feed : ℕ) (places : Places) → feed_told l ≡ Some feed
+    → at_all (hearing_for feed (rel_read feeds feed) l) places ≡ at_all (hearing_line feeds l) places
+hear_feed feeds l feed places h = same_all (hearing_for feed (rel_read feeds feed) l) (hearing_line feeds l)
+    (λ k i. holding_all (flat_map (λ s. told_same feeds l feed s h i) k.subs) k) places
 
 untold : (feeds : List Feed) (l : Line) (subs : List Sub) → feed_told l ≡ None → flat_map (own_line feeds l) subs ≡ []
 untold feeds (reply n r) [] h = refl
@@ -91,13 +95,15 @@ line_more feeds ls l k =
     ∙ (sym (all_append (flat_map own ls) (own l) k)
     ∙ ap (λ ts. holding_all ts k) (sym (flat_map-append own ls (l ∷ []) ∙ ap (λ z. flat_map own ls ++ z) (append-nil (own l)))))
 
-hear_more : (feeds : List Feed) (ls : List Line) (l : Line) (places : Places) → at_all (hearing_line feeds l) (at_all (hearing_lines feeds ls) places) ≡ at_all (hearing_lines feeds (ls ++ l ∷ [])) places
+hear_more : (feeds : List Feed) (ls : List Line) (l : Line) (places : Places)
+    → at_all (hearing_line feeds l) (at_all (hearing_lines feeds ls) places) ≡ at_all (hearing_lines feeds (ls ++ l ∷ [])) places
 hear_more feeds ls l places =
     both_all (hearing_line feeds l) (hearing_lines feeds ls) places
     ∙ same_all (λ k. hearing_line feeds l (hearing_lines feeds ls k)) (hearing_lines feeds (ls ++ l ∷ [])) (line_more feeds ls l) places
 
 -- one line more of a list
-pub hear_next : {A : Type 0} (read : A → Line) (feeds : List Feed) (xs : List A) (i : ℕ) (x : A) (places before now : Places) → i < length xs → x ≡ get_or xs i x
+pub hear_next : {A : Type 0} (read : A → Line) (feeds : List Feed) (xs : List A) (i : ℕ) (x : A) (places before now : Places) → i < length xs
+    → x ≡ get_or xs i x
     → before ≡ at_all (hearing_lines feeds (map read (take i xs))) places → now ≡ at_all (hearing_line feeds (read x)) before
     → now ≡ at_all (hearing_lines feeds (map read (take (i + 1) xs))) places
 hear_next read feeds xs i x places before now lt is e g =

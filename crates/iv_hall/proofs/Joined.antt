@@ -1,5 +1,6 @@
 -- Who reads a feed, as one comes or goes; and whether somebody does.
-use Rattle.std.proofs.Common.{◌≡◌, ◌∙◌, ◌⊎◌, inl, inr, ℕ, zero, suc, ◌<◌, ◌≤◌, Bool, true, false, ◌||◌, cond, not, eqb, List, [], ◌∷◌, ◌++◌, length, get_or, set, filter, find, Option, Some, None, refl, ap, sym, subst, arith}
+use Rattle.std.proofs.Common.{◌≡◌, ◌∙◌, ◌⊎◌, inl, inr, ℕ, zero, suc, ◌<◌, ◌≤◌, Bool, true, false, ◌||◌, cond, not, eqb, List, [], ◌∷◌, ◌++◌, length, get_or}
+use Rattle.std.proofs.Common.{set, filter, find, Option, Some, None, refl, ap, sym, subst, arith}
 use Rattle.std.specs.Prelude.{◌==◌, if◌then◌else◌, nat_lt, slice_get}
 use Rattle.std.specs.Cmp.{IsEquivalence}
 use Rattle.std.specs.List.{AllByRecursion, Contains, IsDistinct, list_any, position, position_or_len, remove}
@@ -40,9 +41,12 @@ found_kept : (q : ℕ → Bool) (ns : List ℕ) (m : ℕ) → list_any (eqb m) n
 found_kept q [] m h k = h
 found_kept q (n ∷ ns) m h k = by (cases_Bool (q n)) (or_cases (eqb m n) (list_any (eqb m) ns) h) (λ x. found_kept q ns m x k)
   where
-    by : (q n ≡ true) ⊎ (q n ≡ false) → (eqb m n ≡ true) ⊎ (list_any (eqb m) ns ≡ true) → (list_any (eqb m) ns ≡ true → list_any (eqb m) (filter q ns) ≡ true) → list_any (eqb m) (cond (q n) (n ∷ filter q ns) (filter q ns)) ≡ true
-    by (inl e) (inl x) rest = subst (λ b. list_any (eqb m) (cond b (n ∷ filter q ns) (filter q ns)) ≡ true) (sym e) (or_left (eqb m n) (list_any (eqb m) (filter q ns)) x)
-    by (inl e) (inr x) rest = subst (λ b. list_any (eqb m) (cond b (n ∷ filter q ns) (filter q ns)) ≡ true) (sym e) (or_right (eqb m n) (list_any (eqb m) (filter q ns)) (rest x))
+    by : (q n ≡ true) ⊎ (q n ≡ false) → (eqb m n ≡ true) ⊎ (list_any (eqb m) ns ≡ true) → (list_any (eqb m) ns ≡ true → list_any (eqb m) (filter q ns) ≡ true)
+        → list_any (eqb m) (cond (q n) (n ∷ filter q ns) (filter q ns)) ≡ true
+    by (inl e) (inl x) rest = subst (λ b. list_any (eqb m) (cond b (n ∷ filter q ns) (filter q ns)) ≡ true) (sym e)
+        (or_left (eqb m n) (list_any (eqb m) (filter q ns)) x)
+    by (inl e) (inr x) rest = subst (λ b. list_any (eqb m) (cond b (n ∷ filter q ns) (filter q ns)) ≡ true) (sym e)
+        (or_right (eqb m n) (list_any (eqb m) (filter q ns)) (rest x))
     by (inr e) (inl x) rest = absurd (false≢true (sym e ∙ (ap q (sym (eqb-true m n x)) ∙ k)))
     by (inr e) (inr x) rest = subst (λ b. list_any (eqb m) (cond b (n ∷ filter q ns) (filter q ns)) ≡ true) (sym e) (rest x)
 
@@ -110,23 +114,28 @@ numbers_in : Option Readers → List ℕ
 numbers_in o = if_some o [] (λ r. r.numbers)
 
 -- the numbers at the place of a feed are the feed's
-pub of_feed : (rs : List Readers) (feed at : ℕ) (r : Readers) → position (λ x. feed == x.feed) rs ≡ Some at → r ≡ get_or rs at r → readers_of rs feed ≡ r.numbers
+pub of_feed : (rs : List Readers) (feed at : ℕ) (r : Readers) → position (λ x. feed == x.feed) rs ≡ Some at → r ≡ get_or rs at r
+    → readers_of rs feed ≡ r.numbers
 of_feed rs feed at r e is =
     let p = λ (x : Readers). feed == x.feed in
     let h = position-Some p rs at r e in
-    ap (λ o. if_some o [] (λ (x : Readers). x.numbers)) (find_at p rs ∙ (ap (slice_get rs) (sym (of_place (nat_lt (position_or_len p rs) (length rs)) (position_or_len p rs) at e)) ∙ (got rs at r h.0 ∙ ap Some (sym is))))
+    ap (λ o. if_some o [] (λ (x : Readers). x.numbers)) (find_at p rs ∙ (ap (slice_get rs)
+    (sym (of_place (nat_lt (position_or_len p rs) (length rs)) (position_or_len p rs) at e)) ∙ (got rs at r h.0 ∙ ap Some (sym is))))
 
 is_feed : (rs : List Readers) (feed at : ℕ) (r : Readers) → position (λ x. feed == x.feed) rs ≡ Some at → r ≡ get_or rs at r → feed ≡ r.feed
 is_feed rs feed at r e is = eqb-true feed r.feed (ap (λ (x : Readers). feed == x.feed) is ∙ (position-Some (λ (x : Readers). feed == x.feed) rs at r e).1)
 
 -- other numbers at that place are the feed's then
-pub of_feed_set : (rs : List Readers) (feed at : ℕ) (r now : Readers) → position (λ x. feed == x.feed) rs ≡ Some at → r ≡ get_or rs at r → now.feed ≡ r.feed → readers_of (set rs at now) feed ≡ now.numbers
+pub of_feed_set : (rs : List Readers) (feed at : ℕ) (r now : Readers) → position (λ x. feed == x.feed) rs ≡ Some at → r ≡ get_or rs at r → now.feed ≡ r.feed
+    → readers_of (set rs at now) feed ≡ now.numbers
 of_feed_set rs feed at r now e is same =
     let p = λ (x : Readers). feed == x.feed in
-    ap (λ o. if_some o [] (λ (x : Readers). x.numbers)) (find-set p rs at now (of_place (nat_lt (position_or_len p rs) (length rs)) (position_or_len p rs) at e) (position-Some p rs at r e).0 (eq-eqb feed now.feed (is_feed rs feed at r e is ∙ sym same)))
+    ap (λ o. if_some o [] (λ (x : Readers). x.numbers)) (find-set p rs at now (of_place (nat_lt (position_or_len p rs) (length rs)) (position_or_len p rs) at e)
+    (position-Some p rs at r e).0 (eq-eqb feed now.feed (is_feed rs feed at r e is ∙ sym same)))
 
 -- and of all other feeds the numbers are as before
-pub of_other_set : (rs : List Readers) (feed at : ℕ) (r now : Readers) (k : ℕ) → position (λ x. feed == x.feed) rs ≡ Some at → r ≡ get_or rs at r → now.feed ≡ r.feed → (k ≡ feed → ⊥) → readers_of (set rs at now) k ≡ readers_of rs k
+pub of_other_set : (rs : List Readers) (feed at : ℕ) (r now : Readers) (k : ℕ) → position (λ x. feed == x.feed) rs ≡ Some at → r ≡ get_or rs at r
+    → now.feed ≡ r.feed → (k ≡ feed → ⊥) → readers_of (set rs at now) k ≡ readers_of rs k
 of_other_set rs feed at r now k e is same ne =
     let f = is_feed rs feed at r e is in
     ap (λ o. if_some o [] (λ (x : Readers). x.numbers)) (find_past (λ (x : Readers). k == x.feed) rs at now r
@@ -151,9 +160,11 @@ pub nobody : (m : ℕ) → Contains [] m → ⊥
 nobody m c = let h = c.1 in omega (arith, h)
 
 -- where the feed has no list yet
-pub joins_new : (rs : List Readers) (feed n : ℕ) (now : Readers) → position (λ x. feed == x.feed) rs ≡ None → now ≡ record { feed = feed; numbers = n ∷ [] } → HasJoined feed n rs (now ∷ rs)
+pub joins_new : (rs : List Readers) (feed n : ℕ) (now : Readers) → position (λ x. feed == x.feed) rs ≡ None → now ≡ record { feed = feed; numbers = n ∷ [] }
+    → HasJoined feed n rs (now ∷ rs)
 joins_new rs feed n now e same = record {
-  joined = subst (λ ns. Contains ns n) (sym (first feed (eq-eqb feed now.feed (sym (ap (λ (x : Readers). x.feed) same))) ∙ ap (λ (x : Readers). x.numbers) same)) (zero, omega arith, refl);
+  joined = subst (λ ns. Contains ns n) (sym (first feed (eq-eqb feed now.feed (sym (ap (λ (x : Readers). x.feed) same)))
+      ∙ ap (λ (x : Readers). x.numbers) same)) (zero, omega arith, refl);
   kept = λ k m c. kept k m c (cases_eq k feed);
 }
   where
@@ -163,7 +174,9 @@ joins_new rs feed n now e same = record {
     none : readers_of rs feed ≡ []
     none =
         let p = λ (x : Readers). feed == x.feed in
-        ap (λ o. if_some o [] (λ (x : Readers). x.numbers)) (find_at p rs ∙ got_none rs (position_or_len p rs) (ltb-false (position_or_len p rs) (length rs) (of_none (nat_lt (position_or_len p rs) (length rs)) (position_or_len p rs) e)))
+        ap (λ o. if_some o [] (λ (x : Readers). x.numbers)) (find_at p rs
+        ∙ got_none rs (position_or_len p rs) (ltb-false (position_or_len p rs) (length rs)
+        (of_none (nat_lt (position_or_len p rs) (length rs)) (position_or_len p rs) e)))
 
     kept : (k m : ℕ) → Contains (readers_of rs k) m → (k ≡ feed) ⊎ (k ≡ feed → ⊥) → Contains (readers_of (now ∷ rs) k) m
     kept k m c (inl x) = absurd (nobody m (subst (λ ns. Contains ns m) (ap (readers_of rs) x ∙ none) c))
@@ -179,7 +192,8 @@ quits_at rs feed at n r now e is same = record { kept = λ k m ne c. kept k m ne
 
     kept : (k m : ℕ) → ((k ≡ feed) × (m ≡ n) → ⊥) → Contains (readers_of rs k) m → (k ≡ feed) ⊎ (k ≡ feed → ⊥) → Contains (readers_of (set rs at now) k) m
     kept k m ne c (inl x) = subst (λ z. Contains (readers_of (set rs at now) z) m) (sym x)
-        (subst (λ ns. Contains ns m) (sym after) (still_there n r.numbers m (λ y. ne (x, y)) (subst (λ ns. Contains ns m) (ap (readers_of rs) x ∙ of_feed rs feed at r e is) c)))
+        (subst (λ ns. Contains ns m) (sym after) (still_there n r.numbers m (λ y. ne (x, y))
+        (subst (λ ns. Contains ns m) (ap (readers_of rs) x ∙ of_feed rs feed at r e is) c)))
     kept k m ne c (inr x) = subst (λ ns. Contains ns m) (sym (of_other_set rs feed at r now k e is (ap (λ (z : Readers). z.feed) same) x)) c
 
 pub none_in : (ns : List ℕ) → (length ns == 0) ≡ true → ns ≡ []
@@ -187,11 +201,13 @@ none_in [] h = refl
 none_in (n ∷ ns) h = absurd (let e : suc (length ns) ≡ 0 = eqb-true (suc (length ns)) 0 h in let none : ⊥ = omega (arith, e) in none)
 
 -- a list with nobody may go
-pub without_empty : (rs : List Readers) (at : ℕ) (r : Readers) (k m : ℕ) → get_or rs at r ≡ r → r.numbers ≡ [] → at < length rs → Contains (readers_of rs k) m → Contains (readers_of (remove rs at) k) m
+pub without_empty : (rs : List Readers) (at : ℕ) (r : Readers) (k m : ℕ) → get_or rs at r ≡ r → r.numbers ≡ [] → at < length rs → Contains (readers_of rs k) m
+    → Contains (readers_of (remove rs at) k) m
 without_empty [] at r k m is e lt c = absurd (nobody m c)
 without_empty (x ∷ rs) zero r k m is e lt c = by (k == x.feed) c
   where
-    by : (b : Bool) → Contains (if_some (cond b (Some x) (find (λ (z : Readers). k == z.feed) rs)) [] (λ (z : Readers). z.numbers)) m → Contains (readers_of rs k) m
+    by : (b : Bool) → Contains (if_some (cond b (Some x) (find (λ (z : Readers). k == z.feed) rs)) [] (λ (z : Readers). z.numbers)) m
+        → Contains (readers_of rs k) m
     by true h = absurd (nobody m (subst (λ ns. Contains ns m) (ap (λ (z : Readers). z.numbers) is ∙ e) h))
     by false h = h
 without_empty (x ∷ rs) (suc at) r k m is e lt c = by (k == x.feed) c (λ h. without_empty rs at r k m is e (omega (arith, lt)) h)
@@ -208,26 +224,32 @@ others_left [] feed k ne = refl
 others_left (r ∷ rs) feed k ne = by (cases_Bool (feed == r.feed)) (others_left rs feed k ne)
   where
     one : (b : Bool) → readers_of (filter (λ x. not (feed == x.feed)) rs) k ≡ readers_of rs k
-        → if_some (cond b (Some r) (find (λ (x : Readers). k == x.feed) (filter (λ x. not (feed == x.feed)) rs))) [] (λ (x : Readers). x.numbers) ≡ if_some (cond b (Some r) (find (λ (x : Readers). k == x.feed) rs)) [] (λ (x : Readers). x.numbers)
+        → if_some (cond b (Some r) (find (λ (x : Readers). k == x.feed) (filter (λ x. not (feed == x.feed)) rs))) [] (λ (x : Readers). x.numbers) ≡ if_some
+        (cond b (Some r) (find (λ (x : Readers). k == x.feed) rs)) [] (λ (x : Readers). x.numbers)
     one true rest = refl
     one false rest = rest
 
-    by : ((feed == r.feed) ≡ true) ⊎ ((feed == r.feed) ≡ false) → readers_of (filter (λ x. not (feed == x.feed)) rs) k ≡ readers_of rs k → readers_of (cond (not (feed == r.feed)) (r ∷ filter (λ x. not (feed == x.feed)) rs) (filter (λ x. not (feed == x.feed)) rs)) k ≡ readers_of (r ∷ rs) k
+    by : ((feed == r.feed) ≡ true) ⊎ ((feed == r.feed) ≡ false) → readers_of (filter (λ x. not (feed == x.feed)) rs) k ≡ readers_of rs k
+        → readers_of (cond (not (feed == r.feed)) (r ∷ filter (λ x. not (feed == x.feed)) rs) (filter (λ x. not (feed == x.feed)) rs)) k ≡ readers_of (r ∷ rs) k
     by (inl e) rest =
         ap (λ b. readers_of (cond (not b) (r ∷ filter (λ x. not (feed == x.feed)) rs) (filter (λ x. not (feed == x.feed)) rs)) k) e
         ∙ (rest
-        ∙ ap (λ b. if_some (cond b (Some r) (find (λ (x : Readers). k == x.feed) rs)) [] (λ (x : Readers). x.numbers)) (sym (ne_eqb k r.feed (λ x. ne (x ∙ sym (eqb-true feed r.feed e))))))
+        ∙ ap (λ b. if_some (cond b (Some r) (find (λ (x : Readers). k == x.feed) rs)) [] (λ (x : Readers). x.numbers))
+        (sym (ne_eqb k r.feed (λ x. ne (x ∙ sym (eqb-true feed r.feed e))))))
     by (inr e) rest =
         ap (λ b. readers_of (cond (not b) (r ∷ filter (λ x. not (feed == x.feed)) rs) (filter (λ x. not (feed == x.feed)) rs)) k) e
         ∙ one (k == r.feed) rest
 
 -- ---- whether somebody follows
 
-any_numbers : {C : Type 0} (p : C → Bool) (xs : List (Option C)) (ns : List ℕ) → list_any (λ n. if_some (client_at xs n) false p) ns ≡ true → list_any (λ x. if_some x false p) xs ≡ true
+any_numbers : {C : Type 0} (p : C → Bool) (xs : List (Option C)) (ns : List ℕ) → list_any (λ n. if_some (client_at xs n) false p) ns ≡ true
+    → list_any (λ x. if_some x false p) xs ≡ true
 any_numbers p xs [] h = absurd (false≢true h)
-any_numbers p xs (n ∷ ns) h = by (or_cases (if_some (client_at xs n) false p) (list_any (λ m. if_some (client_at xs m) false p) ns) h) (λ e. any_numbers p xs ns e)
+any_numbers p xs (n ∷ ns) h = by (or_cases (if_some (client_at xs n) false p) (list_any (λ m. if_some (client_at xs m) false p) ns) h)
+    (λ e. any_numbers p xs ns e)
   where
-    by : (if_some (client_at xs n) false p ≡ true) ⊎ (list_any (λ m. if_some (client_at xs m) false p) ns ≡ true) → (list_any (λ m. if_some (client_at xs m) false p) ns ≡ true → list_any (λ x. if_some x false p) xs ≡ true)
+    by : (if_some (client_at xs n) false p ≡ true) ⊎ (list_any (λ m. if_some (client_at xs m) false p) ns ≡ true)
+        → (list_any (λ m. if_some (client_at xs m) false p) ns ≡ true → list_any (λ x. if_some x false p) xs ≡ true)
         → list_any (λ x. if_some x false p) xs ≡ true
     by (inl e) rest = any_there p xs n e
     by (inr e) rest = rest e
@@ -241,14 +263,17 @@ in_numbers q (n ∷ ns) m h k = by (or_cases (eqb m n) (list_any (eqb m) ns) h) 
     by (inr e) rest = or_right (q n) (list_any q ns) (rest e)
 
 -- where all of whom it is so are listed, it is so of some listed one if it is so of some
-pub any_listed : {C : Type 0} (p : C → Bool) (ns : List ℕ) (xs : List (Option C)) → AreListed p ns xs → list_any (λ n. if_some (client_at xs n) false p) ns ≡ list_any (λ x. if_some x false p) xs
+pub any_listed : {C : Type 0} (p : C → Bool) (ns : List ℕ) (xs : List (Option C)) → AreListed p ns xs
+    → list_any (λ n. if_some (client_at xs n) false p) ns ≡ list_any (λ x. if_some x false p) xs
 any_listed p ns xs listed = by (cases_Bool (list_any (λ n. if_some (client_at xs n) false p) ns)) (cases_Bool (list_any (λ x. if_some x false p) xs))
   where
-    by : (list_any (λ n. if_some (client_at xs n) false p) ns ≡ true) ⊎ (list_any (λ n. if_some (client_at xs n) false p) ns ≡ false) → (list_any (λ x. if_some x false p) xs ≡ true) ⊎ (list_any (λ x. if_some x false p) xs ≡ false)
+    by : (list_any (λ n. if_some (client_at xs n) false p) ns ≡ true) ⊎ (list_any (λ n. if_some (client_at xs n) false p) ns ≡ false)
+        → (list_any (λ x. if_some x false p) xs ≡ true) ⊎ (list_any (λ x. if_some x false p) xs ≡ false)
         → list_any (λ n. if_some (client_at xs n) false p) ns ≡ list_any (λ x. if_some x false p) xs
     by (inl e) d = e ∙ sym (any_numbers p xs ns e)
     by (inr e) (inr d) = e ∙ sym d
     by (inr e) (inl d) =
         let w = one_there p xs d in
         let c = listed w.number w.client w.there w.so in
-        absurd (false≢true (sym e ∙ in_numbers (λ n. if_some (client_at xs n) false p) ns w.number (found w.number ns c.0 c.1 c.2) (ap (λ o. if_some o false p) w.there ∙ w.so)))
+        absurd (false≢true (sym e ∙ in_numbers (λ n. if_some (client_at xs n) false p) ns w.number (found w.number ns c.0 c.1 c.2)
+        (ap (λ o. if_some o false p) w.there ∙ w.so)))

@@ -6,4 +6,5 @@ pub mod Joined
 pub mod Placed
 pub mod Quiet
 pub mod Stayed
+pub mod Waiting
 pub mod Walked

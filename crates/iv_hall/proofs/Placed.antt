@@ -1,5 +1,6 @@
 -- Which numbers are in the list, as one comes into it or leaves it.
-use Rattle.std.proofs.Common.{Bool, true, false, List, [], ap, arith, eqb, get_or, inl, inr, length, refl, subst, sym, take, ℕ, ◌++◌, ◌+◌, ◌<◌, ◌∙◌, ◌∷◌, ◌≡◌, ◌≤◌, ◌⊎◌}
+use Rattle.std.proofs.Common.{Bool, true, false, List, [], ap, arith, eqb, get_or, inl, inr, length, refl, subst, sym, take, ℕ, ◌++◌, ◌+◌, ◌<◌, ◌∙◌, ◌∷◌, ◌≡◌}
+use Rattle.std.proofs.Common.{◌≤◌, ◌⊎◌}
 use Rattle.std.specs.List.{Contains, IsDistinct}
 use Rattle.std.proofs.lemmas.Bool.{cases_eq, cases_lt, false≢true, ne_eqb}
 use Rattle.std.proofs.lemmas.List.{get_or_default, get_or-take, length-take-le, take_more}
@@ -10,7 +11,8 @@ use Rattle.iv_hall.specs.Numbers.{AreSet, HasGained, HasGainedAll, HasLost, IsEx
 -- ---- which are in the list
 
 -- a number is in the list where its place is in front
-pub front_place : (order places : List ℕ) (count m : ℕ) → IsOrder order places → count ≤ length order → Contains (take count order) m → (m < length order) × (get_or places m 0 < count)
+pub front_place : (order places : List ℕ) (count m : ℕ) → IsOrder order places → count ≤ length order → Contains (take count order) m
+    → (m < length order) × (get_or places m 0 < count)
 front_place order places count m w lc c =
     let k = c.0 in
     let lk : k < count = omega (arith, c.1, length-take-le count order lc) in
@@ -19,10 +21,15 @@ front_place order places count m w lc c =
     let h = w.numbered k lo in
     (omega (arith, h.0, is), omega (arith, lk, sym (ap (λ z. get_or places z 0) is) ∙ h.1))
 
-pub place_front : (order places : List ℕ) (count m : ℕ) → IsOrder order places → count ≤ length order → m < length order → get_or places m 0 < count → Contains (take count order) m
+pub place_front : (order places : List ℕ) (count m : ℕ) → IsOrder order places → count ≤ length order → m < length order → get_or places m 0 < count
+    → Contains (take count order) m
 place_front order places count m w lc lm lp =
-    let h = w.placed m lm in
-    (get_or places m 0, omega (arith, lp, length-take-le count order lc), get_or-take count order (get_or places m 0) m lp ∙ (get_or_default order (get_or places m 0) m 0 h.0 ∙ h.1))
+    let h = w.placed m lm in (
+      get_or places m 0,
+      omega (arith, lp, length-take-le count order lc),
+      get_or-take count order (get_or places m 0) m lp
+          ∙ (get_or_default order (get_or places m 0) m 0 h.0 ∙ h.1),
+    )
 
 pub listed_once : (order places : List ℕ) (count : ℕ) → IsOrder order places → count ≤ length order → IsDistinct eqb (take count order)
 listed_once order places count w lc = IsDistinct-from_apart eqb (take count order) (λ i j d lt lj.
@@ -38,24 +45,29 @@ listed_once order places count w lc = IsDistinct-from_apart eqb (take count orde
 
 -- ---- one comes in, or leaves
 
-pub gained : (order places now after : List ℕ) (count n : ℕ) → IsOrder order places → count < length order → n < length order → count ≤ get_or places n 0 → IsExchanged n count order places now after
+pub gained : (order places now after : List ℕ) (count n : ℕ) → IsOrder order places → count < length order → n < length order → count ≤ get_or places n 0
+    → IsExchanged n count order places now after
     → HasGained n (record { list = take count order; size = length order }) (record { list = take (count + 1) now; size = length now })
 gained order places now after count n w lc ln above x = record {
   size = x.size;
   put = λ h. come n ln (omega (arith, x.here));
-  kept = λ m c. let p = front_place order places count m w (omega (arith, lc)) c in come m p.0 (stays m p.0 p.1 (cases_eq m n) (cases_eq m (get_or order count 0)));
-  only = λ m c. let p = front_place now after (count + 1) m x.whole (omega (arith, lc, x.size)) c in from m (omega (arith, p.0, x.size)) p.1 (cases_eq m n) (cases_eq m (get_or order count 0));
+  kept = λ m c. let p = front_place order places count m w (omega (arith, lc)) c in
+      come m p.0 (stays m p.0 p.1 (cases_eq m n) (cases_eq m (get_or order count 0)));
+  only = λ m c. let p = front_place now after (count + 1) m x.whole (omega (arith, lc, x.size)) c in
+      from m (omega (arith, p.0, x.size)) p.1 (cases_eq m n) (cases_eq m (get_or order count 0));
 }
   where
     come : (m : ℕ) → m < length order → get_or after m 0 < count + 1 → Contains (take (count + 1) now) m
     come m l p = place_front now after (count + 1) m x.whole (omega (arith, lc, x.size)) (omega (arith, l, x.size)) p
 
-    stays : (m : ℕ) → m < length order → get_or places m 0 < count → (m ≡ n) ⊎ (m ≡ n → ⊥) → (m ≡ get_or order count 0) ⊎ (m ≡ get_or order count 0 → ⊥) → get_or after m 0 < count + 1
+    stays : (m : ℕ) → m < length order → get_or places m 0 < count → (m ≡ n) ⊎ (m ≡ n → ⊥) → (m ≡ get_or order count 0) ⊎ (m ≡ get_or order count 0 → ⊥)
+        → get_or after m 0 < count + 1
     stays m l p (inl e) c = omega (arith, ap (λ z. get_or after z 0) e ∙ x.here)
     stays m l p (inr ne) (inl e) = absurd (omega (arith, p, ap (λ z. get_or places z 0) e ∙ (w.numbered count lc).1))
     stays m l p (inr ne) (inr nx) = omega (arith, p, x.others m ne nx)
 
-    from : (m : ℕ) → m < length order → get_or after m 0 < count + 1 → (m ≡ n) ⊎ (m ≡ n → ⊥) → (m ≡ get_or order count 0) ⊎ (m ≡ get_or order count 0 → ⊥) → Contains (take count order) m ⊎ (m ≡ n)
+    from : (m : ℕ) → m < length order → get_or after m 0 < count + 1 → (m ≡ n) ⊎ (m ≡ n → ⊥) → (m ≡ get_or order count 0) ⊎ (m ≡ get_or order count 0 → ⊥)
+        → Contains (take count order) m ⊎ (m ≡ n)
     from m l p (inl e) c = inr e
     from m l p (inr ne) (inl e) =
         let same : get_or places n 0 ≡ count = let h = x.there m e ne in omega (arith, h, p, above) in
@@ -65,7 +77,8 @@ gained order places now after count n w lc ln above x = record {
         let not : get_or places m 0 ≡ count → ⊥ = λ s. nx (sym (w.placed m l).1 ∙ ap (λ z. get_or order z 0) s) in
         inl (place_front order places count m w (omega (arith, lc)) l (omega (arith, h, p, not)))
 
-pub lost : (order places now after : List ℕ) (count n : ℕ) → IsOrder order places → count < length order → n < length order → get_or places n 0 < count + 1 → IsExchanged n count order places now after
+pub lost : (order places now after : List ℕ) (count n : ℕ) → IsOrder order places → count < length order → n < length order → get_or places n 0 < count + 1
+    → IsExchanged n count order places now after
     → HasLost n (record { list = take (count + 1) order; size = length order }) (record { list = take count now; size = length now })
 lost order places now after count n w lc ln below x = record {
   size = x.size;
@@ -77,7 +90,8 @@ lost order places now after count n w lc ln below x = record {
       place_front order places (count + 1) m w (omega (arith, lc)) l (was m l p.1 (cases_eq m n) (cases_eq m (get_or order count 0)));
 }
   where
-    stays : (m : ℕ) → m < length order → get_or places m 0 < count + 1 → (m ≡ n → ⊥) → (m ≡ get_or order count 0) ⊎ (m ≡ get_or order count 0 → ⊥) → get_or after m 0 < count
+    stays : (m : ℕ) → m < length order → get_or places m 0 < count + 1 → (m ≡ n → ⊥) → (m ≡ get_or order count 0) ⊎ (m ≡ get_or order count 0 → ⊥)
+        → get_or after m 0 < count
     stays m l p ne (inl e) =
         let not : get_or places n 0 ≡ count → ⊥ = λ s. ne (e ∙ (sym (ap (λ z. get_or order z 0) s) ∙ (w.placed n ln).1)) in
         omega (arith, x.there m e ne, below, not)
@@ -85,13 +99,15 @@ lost order places now after count n w lc ln below x = record {
         let not : get_or places m 0 ≡ count → ⊥ = λ s. nx (sym (w.placed m l).1 ∙ ap (λ z. get_or order z 0) s) in
         omega (arith, x.others m ne nx, p, not)
 
-    was : (m : ℕ) → m < length order → get_or after m 0 < count → (m ≡ n) ⊎ (m ≡ n → ⊥) → (m ≡ get_or order count 0) ⊎ (m ≡ get_or order count 0 → ⊥) → get_or places m 0 < count + 1
+    was : (m : ℕ) → m < length order → get_or after m 0 < count → (m ≡ n) ⊎ (m ≡ n → ⊥) → (m ≡ get_or order count 0) ⊎ (m ≡ get_or order count 0 → ⊥)
+        → get_or places m 0 < count + 1
     was m l p (inl e) c = omega (arith, ap (λ z. get_or places z 0) e, below)
     was m l p (inr ne) (inl e) = omega (arith, ap (λ z. get_or places z 0) e ∙ (w.numbered count lc).1)
     was m l p (inr ne) (inr nx) = omega (arith, x.others m ne nx, p)
 
 -- a number that is not in front is not in the list
-pub not_in : (order places : List ℕ) (count n : ℕ) → IsOrder order places → count ≤ length order → (n < length order → count ≤ get_or places n 0) → Contains (take count order) n → ⊥
+pub not_in : (order places : List ℕ) (count n : ℕ) → IsOrder order places → count ≤ length order → (n < length order → count ≤ get_or places n 0)
+    → Contains (take count order) n → ⊥
 not_in order places count n w lc above c = let p = front_place order places count n w lc c in let h = above p.0 in omega (arith, p.1, h)
 
 -- ---- one is set, or each of some
@@ -129,10 +145,18 @@ set_by n b is old new e s = record {
 }
 
 pub set_none : (W : ℕ → Type 0) (is : ℕ → Bool) (old : Numbers) → ((m : ℕ) → W m → ⊥) → AreSet W is old old
-set_none W is old never = record { size = refl; put = λ m w t l. absurd (never m w); only = λ m w c. absurd (never m w); kept = λ m ne c. c; others = λ m ne c. c }
+set_none W is old never = record {
+  size = refl;
+  put = λ m w t l. absurd (never m w);
+  only = λ m w c. absurd (never m w);
+  kept = λ m ne c. c;
+  others =
+      λ m ne c. c;
+}
 
 -- some, and one more
-pub set_more : (W X : ℕ → Type 0) (n : ℕ) (is : ℕ → Bool) (old mid new : Numbers) → ((m : ℕ) → X m → W m ⊎ (m ≡ n)) → ((m : ℕ) → W m → X m) → X n → AreSet W is old mid → AreSet (λ m. m ≡ n) is mid new → AreSet X is old new
+pub set_more : (W X : ℕ → Type 0) (n : ℕ) (is : ℕ → Bool) (old mid new : Numbers) → ((m : ℕ) → X m → W m ⊎ (m ≡ n)) → ((m : ℕ) → W m → X m) → X n
+    → AreSet W is old mid → AreSet (λ m. m ≡ n) is mid new → AreSet X is old new
 set_more W X n is old mid new parts first last a b = record {
   size = b.size ∙ a.size;
   put = λ m x t l. put m t l (parts m x) (cases_eq m n);
@@ -151,7 +175,8 @@ set_more W X n is old mid new parts first last a b = record {
     only m c (inl w) (inr ne) = a.only m w (b.others m ne c)
     only m c (inr e) (inr ne) = absurd (ne e)
 
-pub set_next : (ns : List ℕ) (i : ℕ) (is : ℕ → Bool) (old before now : Numbers) → i < length ns → AreSet (Contains (take i ns)) is old before → AreSet (λ m. m ≡ get_or ns i 0) is before now → AreSet (Contains (take (i + 1) ns)) is old now
+pub set_next : (ns : List ℕ) (i : ℕ) (is : ℕ → Bool) (old before now : Numbers) → i < length ns → AreSet (Contains (take i ns)) is old before
+    → AreSet (λ m. m ≡ get_or ns i 0) is before now → AreSet (Contains (take (i + 1) ns)) is old now
 set_next ns i is old before now lt a b =
     set_more (Contains (take i ns)) (Contains (take (i + 1) ns)) (get_or ns i 0) is old before now
     (λ m c. by m (Contains-push_cases (take i ns) (get_or ns i 0) m (subst (λ z. Contains z m) (take_more ns i 0 lt) c)))
@@ -162,8 +187,10 @@ set_next ns i is old before now lt a b =
     by m (inl c) = inl c
     by m (inr e) = inr (sym e)
 
-pub set_below : (n : ℕ) (is : ℕ → Bool) (old before now : Numbers) → AreSet (λ m. m < n) is old before → AreSet (λ m. m ≡ n) is before now → AreSet (λ m. m < (n + 1)) is old now
-set_below n is old before now a b = set_more (λ m. m < n) (λ m. m < (n + 1)) n is old before now (λ m l. by m l (cases_lt m n)) (λ m l. omega (arith, l)) (omega arith) a b
+pub set_below : (n : ℕ) (is : ℕ → Bool) (old before now : Numbers) → AreSet (λ m. m < n) is old before → AreSet (λ m. m ≡ n) is before now
+    → AreSet (λ m. m < (n + 1)) is old now
+set_below n is old before now a b = set_more (λ m. m < n) (λ m. m < (n + 1)) n is old before now (λ m l. by m l (cases_lt m n)) (λ m l. omega (arith, l))
+    (omega arith) a b
   where
     by : (m : ℕ) → m < (n + 1) → (m < n) ⊎ (n ≤ m) → (m < n) ⊎ (m ≡ n)
     by m l (inl h) = inl h
@@ -175,7 +202,8 @@ pub gained_none : (old : Numbers) → HasGainedAll [] old old
 gained_none old = record { size = refl; put = λ m h c. absurd (let l = c.1 in let none : ⊥ = omega (arith, l) in none); kept = λ m c. c; only = λ m c. inl c }
 
 -- one number more of a list
-pub gained_next : (ns : List ℕ) (i : ℕ) (old before now : Numbers) → i < length ns → HasGainedAll (take i ns) old before → HasGained (get_or ns i 0) before now → HasGainedAll (take (i + 1) ns) old now
+pub gained_next : (ns : List ℕ) (i : ℕ) (old before now : Numbers) → i < length ns → HasGainedAll (take i ns) old before → HasGained (get_or ns i 0) before now
+    → HasGainedAll (take (i + 1) ns) old now
 gained_next ns i old before now lt g h = record {
   size = h.size ∙ g.size;
   put = λ m l c. put m l (Contains-push_cases (take i ns) (get_or ns i 0) m (subst (λ z. Contains z m) more c));
@@ -196,4 +224,5 @@ gained_next ns i old before now lt g h = record {
 
     only : (m : ℕ) → Contains before.list m ⊎ (m ≡ get_or ns i 0) → Contains old.list m ⊎ Contains (take (i + 1) ns) m
     only m (inl c) = from m (g.only m c)
-    only m (inr e) = inr (subst (λ z. Contains z m) (sym more) (subst (Contains (take i ns ++ get_or ns i 0 ∷ [])) (sym e) (Contains-push (take i ns) (get_or ns i 0))))
+    only m (inr e) = inr (subst (λ z. Contains z m) (sym more) (subst (Contains (take i ns ++ get_or ns i 0 ∷ [])) (sym e)
+        (Contains-push (take i ns) (get_or ns i 0))))

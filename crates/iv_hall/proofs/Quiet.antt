@@ -1,5 +1,6 @@
 -- Clients to whom something is done that leaves them as they were, or of whom less is so than before.
-use Rattle.std.proofs.Common.{◌≡◌, ◌∙◌, ◌⊎◌, inl, inr, ℕ, suc, ◌+◌, Bool, true, false, ◌||◌, cond, not, List, [], ◌∷◌, ◌++◌, length, map, filter, refl, ap, sym, arith, append-nil, length-append}
+use Rattle.std.proofs.Common.{◌≡◌, ◌∙◌, ◌⊎◌, inl, inr, ℕ, suc, ◌+◌, Bool, true, false, ◌||◌, cond, not, List, [], ◌∷◌, ◌++◌, length, map, filter, refl, ap, sym}
+use Rattle.std.proofs.Common.{arith, append-nil, length-append}
 use Rattle.std.specs.Prelude.{◌==◌, bytes_eq, flat_map, nat_lt}
 use Rattle.std.specs.List.{list_any}
 use Rattle.std.proofs.lemmas.Bool.{cases_Bool, eq-eqb, eqb-true, false≢true, not-false, or_cases, or_left, or_parts, or_right}
@@ -26,7 +27,8 @@ pub record IsQuiet (k : Kept) : Type 0 where
 
 no_text : (xs : List ℕ) → not (length xs == 0) ≡ false → xs ≡ []
 no_text [] h = refl
-no_text (x ∷ xs) h = absurd (let e : suc (length xs) ≡ 0 = eqb-true (suc (length xs)) 0 (not-false (suc (length xs) == 0) h) in let none : ⊥ = omega (arith, e) in none)
+no_text (x ∷ xs) h = absurd (let e : suc (length xs) ≡ 0 = eqb-true (suc (length xs)) 0 (not-false (suc (length xs) == 0) h) in let none : ⊥ =
+    omega (arith, e) in none)
 
 pub quiet : (k : Kept) → is_told k ≡ false → IsQuiet k
 quiet k h =
@@ -46,7 +48,8 @@ quiet k h =
 pub released_quiet : (k : Kept) → is_told k ≡ false → releasing k ≡ k
 released_quiet k h =
     let q = quiet k h in
-    (λ i. cond (q.dropped i || nat_lt most_piled (q.piled i)) (letting_go k) (record k { unsynced = []; sendable = k.sendable ++ k.unsynced; brought = 0; piled = k.piled + k.brought }))
+    (λ i. cond (q.dropped i || nat_lt most_piled (q.piled i)) (letting_go k)
+    (record k { unsynced = []; sendable = k.sendable ++ k.unsynced; brought = 0; piled = k.piled + k.brought }))
     ∙ (λ i. record k { unsynced = sym q.unsynced i; sendable = text q i; brought = sym q.brought i; piled = count q i })
   where
     text : IsQuiet k → k.sendable ++ k.unsynced ≡ k.sendable
@@ -85,7 +88,8 @@ released_told k h = by (k.dropped || nat_lt most_piled k.piled) refl
 
     kept : k.dropped ≡ false → ((not (length k.sendable == 0) || not (length k.unsynced == 0)) ≡ true) ⊎ ((not (k.brought == 0) || not (k.piled == 0)) ≡ true)
         → is_told (record k { unsynced = []; sendable = k.sendable ++ k.unsynced; brought = 0; piled = k.piled + k.brought }) ≡ true
-    kept d (inl e) = or_left (k.dropped || not (length (k.sendable ++ k.unsynced) == 0)) _ (or_right k.dropped (not (length (k.sendable ++ k.unsynced) == 0)) (full k.sendable k.unsynced e))
+    kept d (inl e) = or_left (k.dropped || not (length (k.sendable ++ k.unsynced) == 0)) _
+        (or_right k.dropped (not (length (k.sendable ++ k.unsynced) == 0)) (full k.sendable k.unsynced e))
     kept d (inr e) = or_right (k.dropped || not (length (k.sendable ++ k.unsynced) == 0)) _ (more k.piled k.brought e)
 
     by : (b : Bool) → (k.dropped || nat_lt most_piled k.piled) ≡ b
@@ -125,14 +129,16 @@ emptied_with false k = refl
 pub emptied_subs : (k : Kept) → (emptied k).subs ≡ k.subs
 emptied_subs k = emptied_with (length k.sendable == 0) k
 
-released_by : (b : Bool) (k : Kept) → (cond b (letting_go k) (record k { unsynced = []; sendable = k.sendable ++ k.unsynced; brought = 0; piled = k.piled + k.brought })).owed ≡ k.owed
+released_by : (b : Bool) (k : Kept) → (cond b (letting_go k) (record k
+    { unsynced = []; sendable = k.sendable ++ k.unsynced; brought = 0; piled = k.piled + k.brought })).owed ≡ k.owed
 released_by true k = refl
 released_by false k = refl
 
 pub released_owed : (k : Kept) → (releasing k).owed ≡ k.owed
 released_owed k = released_by (k.dropped || nat_lt most_piled k.piled) k
 
-released_with : (b : Bool) (k : Kept) → (cond b (letting_go k) (record k { unsynced = []; sendable = k.sendable ++ k.unsynced; brought = 0; piled = k.piled + k.brought })).subs ≡ k.subs
+released_with : (b : Bool) (k : Kept) → (cond b (letting_go k) (record k
+    { unsynced = []; sendable = k.sendable ++ k.unsynced; brought = 0; piled = k.piled + k.brought })).subs ≡ k.subs
 released_with true k = refl
 released_with false k = refl
 
@@ -186,19 +192,24 @@ any_filter p q (x ∷ xs) h = by (q x) h (λ e. any_filter p q xs e)
     from (inl e) rest = or_left (p x) (list_any p xs) e
     from (inr e) rest = or_right (p x) (list_any p xs) (rest e)
 
-    by : (b : Bool) → list_any p (cond b (x ∷ filter q xs) (filter q xs)) ≡ true → (list_any p (filter q xs) ≡ true → list_any p xs ≡ true) → (p x || list_any p xs) ≡ true
+    by : (b : Bool) → list_any p (cond b (x ∷ filter q xs) (filter q xs)) ≡ true → (list_any p (filter q xs) ≡ true → list_any p xs ≡ true)
+        → (p x || list_any p xs) ≡ true
     by true h rest = from (or_cases (p x) (list_any p (filter q xs)) h) rest
     by false h rest = or_right (p x) (list_any p xs) (rest h)
 
 -- who closed a number, or stayed behind lines, follows no more than before
-pub follows_fewer : (feed : ℕ) (q : Sub → Bool) (subs : List Sub) → list_any (λ (s : Sub). feed == s.feed) (filter q subs) ≡ true → list_any (λ (s : Sub). feed == s.feed) subs ≡ true
+pub follows_fewer : (feed : ℕ) (q : Sub → Bool) (subs : List Sub) → list_any (λ (s : Sub). feed == s.feed) (filter q subs) ≡ true
+    → list_any (λ (s : Sub). feed == s.feed) subs ≡ true
 follows_fewer feed q subs h = any_filter (λ s. feed == s.feed) q subs h
 
 -- who follows one feed more follows that one, or did before
-pub follows_new : (feed new own : ℕ) (subs : List Sub) → list_any (λ (s : Sub). feed == s.feed) (subs ++ record { own = own; feed = new } ∷ []) ≡ true → (feed ≡ new) ⊎ (list_any (λ (s : Sub). feed == s.feed) subs ≡ true)
-follows_new feed new own subs h = from (or_cases (list_any (λ (s : Sub). feed == s.feed) subs) ((feed == new) || false) (sym (list_any-append (λ (s : Sub). feed == s.feed) subs (record { own = own; feed = new } ∷ [])) ∙ h))
+pub follows_new : (feed new own : ℕ) (subs : List Sub) → list_any (λ (s : Sub). feed == s.feed) (subs ++ record { own = own; feed = new } ∷ []) ≡ true
+    → (feed ≡ new) ⊎ (list_any (λ (s : Sub). feed == s.feed) subs ≡ true)
+follows_new feed new own subs h = from (or_cases (list_any (λ (s : Sub). feed == s.feed) subs) ((feed == new) || false)
+    (sym (list_any-append (λ (s : Sub). feed == s.feed) subs (record { own = own; feed = new } ∷ [])) ∙ h))
   where
-    from : (list_any (λ (s : Sub). feed == s.feed) subs ≡ true) ⊎ (((feed == new) || false) ≡ true) → (feed ≡ new) ⊎ (list_any (λ (s : Sub). feed == s.feed) subs ≡ true)
+    from : (list_any (λ (s : Sub). feed == s.feed) subs ≡ true) ⊎ (((feed == new) || false) ≡ true)
+        → (feed ≡ new) ⊎ (list_any (λ (s : Sub). feed == s.feed) subs ≡ true)
     from (inl e) = inr e
     from (inr e) = last (or_cases (feed == new) false e)
       where
@@ -207,7 +218,8 @@ follows_new feed new own subs h = from (or_cases (list_any (λ (s : Sub). feed =
         last (inr x) = absurd (false≢true x)
 
 -- who is led from one feed to another follows that one, or the same as before
-pub follows_moved : (feed from to : ℕ) (subs : List Sub) → list_any (λ (s : Sub). feed == s.feed) (map (moved_sub from to) subs) ≡ true → (feed ≡ to) ⊎ (list_any (λ (s : Sub). feed == s.feed) subs ≡ true)
+pub follows_moved : (feed from to : ℕ) (subs : List Sub) → list_any (λ (s : Sub). feed == s.feed) (map (moved_sub from to) subs) ≡ true
+    → (feed ≡ to) ⊎ (list_any (λ (s : Sub). feed == s.feed) subs ≡ true)
 follows_moved feed from to [] h = inr h
 follows_moved feed from to (s ∷ ss) h = by (from == s.feed) h (λ e. follows_moved feed from to ss e)
   where
@@ -215,11 +227,13 @@ follows_moved feed from to (s ∷ ss) h = by (from == s.feed) h (λ e. follows_m
     one (inl x) = inl x
     one (inr x) = inr (or_left (feed == s.feed) (list_any (λ (x : Sub). feed == x.feed) ss) x)
 
-    many : (feed ≡ to) ⊎ (list_any (λ (x : Sub). feed == x.feed) ss ≡ true) → (feed ≡ to) ⊎ (((feed == s.feed) || list_any (λ (x : Sub). feed == x.feed) ss) ≡ true)
+    many : (feed ≡ to) ⊎ (list_any (λ (x : Sub). feed == x.feed) ss ≡ true)
+        → (feed ≡ to) ⊎ (((feed == s.feed) || list_any (λ (x : Sub). feed == x.feed) ss) ≡ true)
     many (inl x) = inl x
     many (inr x) = inr (or_right (feed == s.feed) (list_any (λ (x : Sub). feed == x.feed) ss) x)
 
-    from_both : (b : Bool) → (b ≡ true → (feed ≡ to) ⊎ ((feed == s.feed) ≡ true)) → (b ≡ true) ⊎ (list_any (λ (x : Sub). feed == x.feed) (map (moved_sub from to) ss) ≡ true)
+    from_both : (b : Bool) → (b ≡ true → (feed ≡ to) ⊎ ((feed == s.feed) ≡ true))
+        → (b ≡ true) ⊎ (list_any (λ (x : Sub). feed == x.feed) (map (moved_sub from to) ss) ≡ true)
         → (list_any (λ (x : Sub). feed == x.feed) (map (moved_sub from to) ss) ≡ true → (feed ≡ to) ⊎ (list_any (λ (x : Sub). feed == x.feed) ss ≡ true))
         → (feed ≡ to) ⊎ (((feed == s.feed) || list_any (λ (x : Sub). feed == x.feed) ss) ≡ true)
     from_both b first (inl e) rest = one (first e)
@@ -228,8 +242,10 @@ follows_moved feed from to (s ∷ ss) h = by (from == s.feed) h (λ e. follows_m
     by : (b : Bool) → ((feed == (cond b (record s { feed = to }) s).feed) || list_any (λ (x : Sub). feed == x.feed) (map (moved_sub from to) ss)) ≡ true
         → (list_any (λ (x : Sub). feed == x.feed) (map (moved_sub from to) ss) ≡ true → (feed ≡ to) ⊎ (list_any (λ (x : Sub). feed == x.feed) ss ≡ true))
         → (feed ≡ to) ⊎ (((feed == s.feed) || list_any (λ (x : Sub). feed == x.feed) ss) ≡ true)
-    by true h rest = from_both (feed == to) (λ e. inl (eqb-true feed to e)) (or_cases (feed == to) (list_any (λ (x : Sub). feed == x.feed) (map (moved_sub from to) ss)) h) rest
-    by false h rest = from_both (feed == s.feed) (λ e. inr e) (or_cases (feed == s.feed) (list_any (λ (x : Sub). feed == x.feed) (map (moved_sub from to) ss)) h) rest
+    by true h rest = from_both (feed == to) (λ e. inl (eqb-true feed to e))
+        (or_cases (feed == to) (list_any (λ (x : Sub). feed == x.feed) (map (moved_sub from to) ss)) h) rest
+    by false h rest = from_both (feed == s.feed) (λ e. inr e) (or_cases (feed == s.feed) (list_any (λ (x : Sub). feed == x.feed) (map (moved_sub from to) ss))
+        h) rest
 
 -- ---- hears
 

@@ -1,5 +1,6 @@
 -- Who follows nothing any more that lines end.
-use Rattle.std.proofs.Common.{◌≡◌, ◌∙◌, ◌⊎◌, inl, inr, ℕ, ◌+◌, ◌<◌, Bool, true, false, ◌||◌, cond, not, eqb, List, [], ◌∷◌, ◌++◌, length, map, take, get_or, filter, Some, None, refl, ap, sym, subst}
+use Rattle.std.proofs.Common.{◌≡◌, ◌∙◌, ◌⊎◌, inl, inr, ℕ, ◌+◌, ◌<◌, Bool, true, false, ◌||◌, cond, not, eqb, List, [], ◌∷◌, ◌++◌, length, map, take, get_or}
+use Rattle.std.proofs.Common.{filter, Some, None, refl, ap, sym, subst}
 use Rattle.std.specs.Prelude.{◌==◌}
 use Rattle.std.specs.List.{Contains, IsDistinct, list_any}
 use Rattle.std.proofs.lemmas.Bool.{cases_eq, eq-eqb, eqb-false, false≢true, ne_eqb, or_parts}
@@ -32,7 +33,8 @@ filter_whole : (q : Sub → Bool) (subs : List Sub) → ((s : Sub) → q s ≡ t
 filter_whole q [] h = refl
 filter_whole q (s ∷ ss) h = ap (λ b. cond b (s ∷ filter q ss) (filter q ss)) (h s) ∙ ap (λ z. s ∷ z) (filter_whole q ss h)
 
-unfollowed : (k : ℕ) (l : Line) (subs : List Sub) → IsEnding k l → list_any (λ (s : Sub). k == s.feed) subs ≡ false → filter (λ (s : Sub). not (ends_in (l ∷ []) s.feed)) subs ≡ subs
+unfollowed : (k : ℕ) (l : Line) (subs : List Sub) → IsEnding k l → list_any (λ (s : Sub). k == s.feed) subs ≡ false
+    → filter (λ (s : Sub). not (ends_in (l ∷ []) s.feed)) subs ≡ subs
 unfollowed k l [] e h = refl
 unfollowed k l (s ∷ ss) e h =
     let p = or_parts (k == s.feed) (list_any (λ (x : Sub). k == x.feed) ss) h in
@@ -45,24 +47,31 @@ pub stays_still : (k : ℕ) (l : Line) (c : Kept) → IsEnding k l → is_follow
 stays_still k l c e h i = record c { subs = unfollowed k l c.subs e h i }
 
 -- nobody follows it then
-none_follow : (k : ℕ) (l : Line) (subs : List Sub) → IsEnding k l → list_any (λ (s : Sub). k == s.feed) (filter (λ (s : Sub). not (ends_in (l ∷ []) s.feed)) subs) ≡ false
+none_follow : (k : ℕ) (l : Line) (subs : List Sub) → IsEnding k l → list_any (λ (s : Sub). k == s.feed)
+    (filter (λ (s : Sub). not (ends_in (l ∷ []) s.feed)) subs) ≡ false
 none_follow k l [] e = refl
 none_follow k l (s ∷ ss) e = by (cases_eq s.feed k) (none_follow k l ss e)
   where
-    by : (s.feed ≡ k) ⊎ (s.feed ≡ k → ⊥) → list_any (λ (y : Sub). k == y.feed) (filter (λ (y : Sub). not (ends_in (l ∷ []) y.feed)) ss) ≡ false → list_any (λ (x : Sub). k == x.feed) (filter (λ (x : Sub). not (ends_in (l ∷ []) x.feed)) (s ∷ ss)) ≡ false
+    by : (s.feed ≡ k) ⊎ (s.feed ≡ k → ⊥) → list_any (λ (y : Sub). k == y.feed) (filter (λ (y : Sub). not (ends_in (l ∷ []) y.feed)) ss) ≡ false
+        → list_any (λ (x : Sub). k == x.feed) (filter (λ (x : Sub). not (ends_in (l ∷ []) x.feed)) (s ∷ ss)) ≡ false
     by (inl x) rest =
-        ap (λ b. list_any (λ (y : Sub). k == y.feed) (cond (not (b || false)) (s ∷ filter (λ (y : Sub). not (ends_in (l ∷ []) y.feed)) ss) (filter (λ (y : Sub). not (ends_in (l ∷ []) y.feed)) ss))) (e s.feed ∙ eq-eqb s.feed k x)
+        ap (λ b. list_any (λ (y : Sub). k == y.feed) (cond (not (b || false)) (s ∷ filter (λ (y : Sub). not (ends_in (l ∷ []) y.feed)) ss)
+        (filter (λ (y : Sub). not (ends_in (l ∷ []) y.feed)) ss))) (e s.feed ∙ eq-eqb s.feed k x)
         ∙ rest
     by (inr x) rest =
-        ap (λ b. list_any (λ (y : Sub). k == y.feed) (cond (not (b || false)) (s ∷ filter (λ (y : Sub). not (ends_in (l ∷ []) y.feed)) ss) (filter (λ (y : Sub). not (ends_in (l ∷ []) y.feed)) ss))) (e s.feed ∙ ne_eqb s.feed k x)
-        ∙ (ap (λ b. b || list_any (λ (y : Sub). k == y.feed) (filter (λ (y : Sub). not (ends_in (l ∷ []) y.feed)) ss)) (ne_eqb k s.feed (λ y. x (sym y))) ∙ rest)
+        ap (λ b. list_any (λ (y : Sub). k == y.feed) (cond (not (b || false)) (s ∷ filter (λ (y : Sub). not (ends_in (l ∷ []) y.feed)) ss)
+        (filter (λ (y : Sub). not (ends_in (l ∷ []) y.feed)) ss))) (e s.feed ∙ ne_eqb s.feed k x)
+        ∙ (ap (λ b. b || list_any (λ (y : Sub). k == y.feed) (filter (λ (y : Sub). not (ends_in (l ∷ []) y.feed)) ss)) (ne_eqb k s.feed (λ y. x (sym y)))
+        ∙ rest)
 
-pub stayed_all : (xs : Places) (most : ℕ) (owing telling : Numbers) (reading : List Readers) (ns : List ℕ) (k : ℕ) (l : Line) → IsHall most xs owing telling reading → IsEnding k l → ns ≡ readers_of reading k → IsDistinct eqb ns
+pub stayed_all : (xs : Places) (most : ℕ) (owing telling : Numbers) (reading : List Readers) (ns : List ℕ) (k : ℕ) (l : Line)
+    → IsHall most xs owing telling reading → IsEnding k l → ns ≡ readers_of reading k → IsDistinct eqb ns
     → walked (keeping_on (l ∷ [])) ns xs ≡ at_all (keeping_on (l ∷ [])) xs
 stayed_all xs most owing telling reading ns k l h e is d =
     walked_all (is_following k) (keeping_on (l ∷ [])) ns xs d (subst (λ z. AreListed (is_following k) z xs) (sym is) (h.readers k)) (λ c. stays_still k l c e)
 
-pub stays : (most : ℕ) (xs ys : Places) (owing telling : Numbers) (reading left : List Readers) (k : ℕ) (l : Line) → IsHall most xs owing telling reading → IsEnding k l → ys ≡ at_all (keeping_on (l ∷ [])) xs
+pub stays : (most : ℕ) (xs ys : Places) (owing telling : Numbers) (reading left : List Readers) (k : ℕ) (l : Line) → IsHall most xs owing telling reading
+    → IsEnding k l → ys ≡ at_all (keeping_on (l ∷ [])) xs
     → left ≡ filter (λ r. not (k == r.feed)) reading → IsHall most ys owing telling left
 stays most xs ys owing telling reading left k l h e is gone =
     hall_all most xs ys owing owing telling telling reading left (keeping_on (l ∷ [])) h is refl refl
@@ -71,8 +80,10 @@ stays most xs ys owing telling reading left k l h e is gone =
     (λ feed m c there x. by feed m c there x (cases_eq feed k))
     (told_all (keeping_on (l ∷ [])) xs telling.list (λ c x. x) h.only)
   where
-    by : (feed m : ℕ) (c : Kept) → client_at xs m ≡ Some c → is_following feed (keeping_on (l ∷ []) c) ≡ true → (feed ≡ k) ⊎ (feed ≡ k → ⊥) → Contains (readers_of left feed) m
-    by feed m c there x (inl y) = absurd (false≢true (sym (none_follow k l c.subs e) ∙ subst (λ z. list_any (λ (s : Sub). z == s.feed) (filter (λ (s : Sub). not (ends_in (l ∷ []) s.feed)) c.subs) ≡ true) y x))
+    by : (feed m : ℕ) (c : Kept) → client_at xs m ≡ Some c → is_following feed (keeping_on (l ∷ []) c) ≡ true → (feed ≡ k) ⊎ (feed ≡ k → ⊥)
+        → Contains (readers_of left feed) m
+    by feed m c there x (inl y) = absurd (false≢true (sym (none_follow k l c.subs e)
+        ∙ subst (λ z. list_any (λ (s : Sub). z == s.feed) (filter (λ (s : Sub). not (ends_in (l ∷ []) s.feed)) c.subs) ≡ true) y x))
     by feed m c there x (inr y) = subst (λ ns. Contains ns m) (sym (ap (λ z. readers_of z feed) gone ∙ others_left reading k feed y))
         (h.readers feed m c there (follows_fewer feed (λ s. not (ends_in (l ∷ []) s.feed)) c.subs x))
 
@@ -90,32 +101,46 @@ not_ending (ended n j why rows) e = cc
 -- ---- lines
 
 pub no_end : (l : Line) (xs : Places) → IsNoEnd l → xs ≡ at_all (keeping_on (l ∷ [])) xs
-no_end l xs e = still_all (keeping_on (l ∷ [])) (λ c i. record c { subs = sym (filter_whole (λ (s : Sub). not (ends_in (l ∷ []) s.feed)) c.subs (λ s. ap (λ b. not (b || false)) (e s.feed))) i }) xs
+no_end l xs e = still_all (keeping_on (l ∷ [])) (λ c i. record c {
+  subs =
+      sym (filter_whole (λ (s : Sub). not (ends_in (l ∷ []) s.feed)) c.subs (λ s. ap (λ b. not (b || false)) (e s.feed))) i;
+}) xs
 
 pub no_lines : (xs : Places) → xs ≡ at_all (keeping_on []) xs
 no_lines xs = still_all (keeping_on []) (λ c i. record c { subs = sym (filter_whole (λ (s : Sub). not (ends_in [] s.feed)) c.subs (λ s. refl)) i }) xs
 
-filter_twice : (p q r : Sub → Bool) → ((s : Sub) → r s ≡ (p s || q s)) → (subs : List Sub) → filter (λ s. not (q s)) (filter (λ s. not (p s)) subs) ≡ filter (λ s. not (r s)) subs
+filter_twice : (p q r : Sub → Bool) → ((s : Sub) → r s ≡ (p s || q s)) → (subs : List Sub)
+    → filter (λ s. not (q s)) (filter (λ s. not (p s)) subs) ≡ filter (λ s. not (r s)) subs
 filter_twice p q r e [] = refl
-filter_twice p q r e (s ∷ ss) = by (p s) (filter_twice p q r e ss) ∙ ap (λ b. cond (not b) (s ∷ filter (λ x. not (r x)) ss) (filter (λ x. not (r x)) ss)) (sym (e s))
+filter_twice p q r e (s ∷ ss) = by (p s) (filter_twice p q r e ss) ∙ ap (λ b. cond (not b) (s ∷ filter (λ x. not (r x)) ss) (filter (λ x. not (r x)) ss))
+    (sym (e s))
   where
-    inner : (b : Bool) → filter (λ x. not (q x)) (filter (λ x. not (p x)) ss) ≡ filter (λ x. not (r x)) ss → cond (not b) (s ∷ filter (λ x. not (q x)) (filter (λ x. not (p x)) ss)) (filter (λ x. not (q x)) (filter (λ x. not (p x)) ss)) ≡ cond (not b) (s ∷ filter (λ x. not (r x)) ss) (filter (λ x. not (r x)) ss)
+    inner : (b : Bool) → filter (λ x. not (q x)) (filter (λ x. not (p x)) ss) ≡ filter (λ x. not (r x)) ss
+        → cond (not b) (s ∷ filter (λ x. not (q x)) (filter (λ x. not (p x)) ss)) (filter (λ x. not (q x)) (filter (λ x. not (p x)) ss)) ≡ cond (not b)
+        (s ∷ filter (λ x. not (r x)) ss) (filter (λ x. not (r x)) ss)
     inner true rest = rest
     inner false rest = ap (λ z. s ∷ z) rest
 
-    by : (b : Bool) → filter (λ x. not (q x)) (filter (λ x. not (p x)) ss) ≡ filter (λ x. not (r x)) ss → filter (λ x. not (q x)) (cond (not b) (s ∷ filter (λ x. not (p x)) ss) (filter (λ x. not (p x)) ss)) ≡ cond (not (b || q s)) (s ∷ filter (λ x. not (r x)) ss) (filter (λ x. not (r x)) ss)
+    by : (b : Bool) → filter (λ x. not (q x)) (filter (λ x. not (p x)) ss) ≡ filter (λ x. not (r x)) ss
+        → filter (λ x. not (q x)) (cond (not b) (s ∷ filter (λ x. not (p x)) ss) (filter (λ x. not (p x)) ss)) ≡ cond (not (b || q s))
+        (s ∷ filter (λ x. not (r x)) ss) (filter (λ x. not (r x)) ss)
     by true rest = rest
     by false rest = inner (q s) rest
 
 line_more : (ls : List Line) (l : Line) (c : Kept) → keeping_on (l ∷ []) (keeping_on ls c) ≡ keeping_on (ls ++ l ∷ []) c
-line_more ls l c i = record c { subs = filter_twice (λ s. ends_in ls s.feed) (λ s. ends_in (l ∷ []) s.feed) (λ s. ends_in (ls ++ l ∷ []) s.feed) (λ s. list_any-append (is_end s.feed) ls (l ∷ [])) c.subs i }
+line_more ls l c i = record c {
+  subs = filter_twice (λ s. ends_in ls s.feed) (λ s. ends_in (l ∷ []) s.feed) (λ s. ends_in (ls ++ l ∷ []) s.feed)
+      (λ s. list_any-append (is_end s.feed) ls (l ∷ [])) c.subs i;
+}
 
 all_more : (ls : List Line) (l : Line) (xs : Places) → at_all (keeping_on (l ∷ [])) (at_all (keeping_on ls) xs) ≡ at_all (keeping_on (ls ++ l ∷ [])) xs
-all_more ls l xs = both_all (keeping_on (l ∷ [])) (keeping_on ls) xs ∙ same_all (λ c. keeping_on (l ∷ []) (keeping_on ls c)) (keeping_on (ls ++ l ∷ [])) (line_more ls l) xs
+all_more ls l xs = both_all (keeping_on (l ∷ [])) (keeping_on ls) xs ∙ same_all (λ c. keeping_on (l ∷ []) (keeping_on ls c)) (keeping_on (ls ++ l ∷ []))
+    (line_more ls l) xs
 
 -- one line more of a list
 pub stay_next : {A : Type 0} (read : A → Line) (xs : List A) (i : ℕ) (x : A) (places before now : Places) → i < length xs → x ≡ get_or xs i x
-    → before ≡ at_all (keeping_on (map read (take i xs))) places → now ≡ at_all (keeping_on (read x ∷ [])) before → now ≡ at_all (keeping_on (map read (take (i + 1) xs))) places
+    → before ≡ at_all (keeping_on (map read (take i xs))) places → now ≡ at_all (keeping_on (read x ∷ [])) before
+    → now ≡ at_all (keeping_on (map read (take (i + 1) xs))) places
 stay_next read xs i x places before now lt is e g =
     g ∙ (ap (at_all (keeping_on (read x ∷ []))) e ∙ (all_more (map read (take i xs)) (read x) places
     ∙ ap (λ ls. at_all (keeping_on ls) places) (ap (λ y. map read (take i xs) ++ read y ∷ []) is ∙ sym (map_more read xs i x lt))))

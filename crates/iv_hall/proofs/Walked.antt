@@ -1,5 +1,6 @@
 -- Something is done to the clients of numbers, one after another.
-use Rattle.std.proofs.Common.{◌≡◌, ◌∙◌, ◌⊎◌, inl, inr, ℕ, zero, suc, ◌+◌, ◌<◌, Bool, true, false, ◌||◌, cond, eqb, List, [], ◌∷◌, ◌++◌, length, get_or, take, Option, Some, None, option_map, refl, ap, sym, arith}
+use Rattle.std.proofs.Common.{◌≡◌, ◌∙◌, ◌⊎◌, inl, inr, ℕ, zero, suc, ◌+◌, ◌<◌, Bool, true, false, ◌||◌, cond, eqb, List, [], ◌∷◌, ◌++◌, length, get_or, take}
+use Rattle.std.proofs.Common.{Option, Some, None, option_map, refl, ap, sym, arith}
 use Rattle.std.specs.List.{AllByRecursion, IsDistinct, list_any}
 use Rattle.std.proofs.lemmas.Bool.{cases_eq, eq-eqb, false≢true, ne_eqb, or_right}
 use Rattle.std.proofs.lemmas.List.{take_more}
@@ -12,7 +13,8 @@ walked-push f [] n xs = refl
 walked-push f (m ∷ ns) n xs = walked-push f ns n (at_client m f xs)
 
 -- one number more of a list
-pub walked_more : {C : Type 0} (f : C → C) (ns : List ℕ) (i : ℕ) (xs before now : List (Option C)) → i < length ns → before ≡ walked f (take i ns) xs → now ≡ at_client (get_or ns i 0) f before
+pub walked_more : {C : Type 0} (f : C → C) (ns : List ℕ) (i : ℕ) (xs before now : List (Option C)) → i < length ns → before ≡ walked f (take i ns) xs
+    → now ≡ at_client (get_or ns i 0) f before
     → now ≡ walked f (take (i + 1) ns) xs
 walked_more f ns i xs before now lt e g =
     g ∙ (ap (at_client (get_or ns i 0) f) e ∙ (sym (walked-push f (take i ns) (get_or ns i 0) xs) ∙ ap (λ z. walked f z xs) (sym (take_more ns i 0 lt))))
@@ -40,10 +42,12 @@ same_suc m n = by (cases_eq m n)
     by (inl e) = eq-eqb (suc m) (suc n) (ap suc e) ∙ sym (eq-eqb m n e)
     by (inr ne) = ne_eqb (suc m) (suc n) (λ e. ne (let h : m ≡ n = omega (arith, e) in h)) ∙ sym (ne_eqb m n ne)
 
-one_first : {C : Type 0} (f : C → C) (x : Option C) (b : Bool) → b ≡ false → cond b (option_map f (option_map f x)) (option_map f x) ≡ cond (eqb 0 0 || b) (option_map f x) x
+one_first : {C : Type 0} (f : C → C) (x : Option C) (b : Bool) → b ≡ false
+    → cond b (option_map f (option_map f x)) (option_map f x) ≡ cond (eqb 0 0 || b) (option_map f x) x
 one_first f x b e = ap (λ z. cond z (option_map f (option_map f x)) (option_map f x)) e
 
-one_more : {C : Type 0} (p : ℕ → Bool) (f : C → C) (n : ℕ) (xs : List (Option C)) → p n ≡ false → at_some p f (at_client n f xs) ≡ at_some (λ m. eqb m n || p m) f xs
+one_more : {C : Type 0} (p : ℕ → Bool) (f : C → C) (n : ℕ) (xs : List (Option C)) → p n ≡ false
+    → at_some p f (at_client n f xs) ≡ at_some (λ m. eqb m n || p m) f xs
 one_more p f n [] e = refl
 one_more p f zero (x ∷ xs) e = λ i. cases (p 0) e i ∷ at_some (λ m. (sym (not_zero m) i) || p (suc m)) f xs
   where
@@ -65,7 +69,8 @@ walked_some f (n ∷ ns) xs d =
     walked_some f ns (at_client n f xs) (IsDistinct-tail eqb n ns d)
     ∙ one_more (λ m. list_any (eqb m) ns) f n xs (apart n ns (IsDistinct-head eqb n ns d))
 
-some_all : {C : Type 0} (p : ℕ → Bool) (f : C → C) (xs : List (Option C)) → ((m : ℕ) (c : C) → client_at xs m ≡ Some c → p m ≡ false → f c ≡ c) → at_some p f xs ≡ at_all f xs
+some_all : {C : Type 0} (p : ℕ → Bool) (f : C → C) (xs : List (Option C)) → ((m : ℕ) (c : C) → client_at xs m ≡ Some c → p m ≡ false → f c ≡ c)
+    → at_some p f xs ≡ at_all f xs
 some_all p f [] h = refl
 some_all p f (x ∷ xs) h = λ i. by (p 0) x (h 0) i ∷ some_all (λ m. p (suc m)) f xs (λ m. h (suc m)) i
   where
@@ -80,7 +85,8 @@ found m (n ∷ ns) zero h e = ap (λ b. b || list_any (eqb m) ns) (eq-eqb m n (s
 found m (n ∷ ns) (suc k) h e = or_right (eqb m n) (list_any (eqb m) ns) (found m ns k (omega (arith, h)) e)
 
 -- where all are listed to whom it does something, it is done to all
-pub walked_all : {C : Type 0} (p : C → Bool) (f : C → C) (ns : List ℕ) (xs : List (Option C)) → IsDistinct eqb ns → AreListed p ns xs → ((c : C) → p c ≡ false → f c ≡ c) → walked f ns xs ≡ at_all f xs
+pub walked_all : {C : Type 0} (p : C → Bool) (f : C → C) (ns : List ℕ) (xs : List (Option C)) → IsDistinct eqb ns → AreListed p ns xs
+    → ((c : C) → p c ≡ false → f c ≡ c) → walked f ns xs ≡ at_all f xs
 walked_all p f ns xs d listed still = walked_some f ns xs d ∙ some_all (λ m. list_any (eqb m) ns) f xs (λ m c there e. still c (unlisted m c there e))
   where
     unlisted : (m : ℕ) (c : _) → client_at xs m ≡ Some c → list_any (eqb m) ns ≡ false → p c ≡ false

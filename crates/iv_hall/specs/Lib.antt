@@ -4,3 +4,4 @@ pub mod Listing
 pub mod Numbers
 pub mod Readers
 pub mod Saying
+pub mod Waiting

@@ -5,13 +5,15 @@ ghost use Rattle.std.proofs.Common.{eqb};
 ghost use Rattle.iv_rows.specs.Options.{if_some};
 ghost use Rattle.iv_command.specs.Views.{line_of};
 ghost use Rattle.iv_clients.specs.Clients.{at_all, at_client, client_at, is_free};
-ghost use Rattle.iv_clients.specs.Kept.{Kept, answering, asking, checking, coming, emptied, has_role_in, holding, holding_beat, holding_owed, is_due, is_followed_by, keeping_closed, keeping_moved, keeping_new, keeping_on, releasing};
+ghost use Rattle.iv_clients.specs.Kept.{Kept, answering, asking, checking, coming, emptied, has_role_in, holding, holding_beat, holding_owed, is_due};
+ghost use Rattle.iv_clients.specs.Kept.{is_followed_by, keeping_closed, keeping_moved, keeping_new, keeping_on, releasing};
 ghost use Rattle.iv_hall.specs.Hall.{is_told_at};
 ghost use Rattle.iv_hall.specs.Numbers.{AreSet};
 ghost use Rattle.iv_hall.specs.Readers.{HasJoined};
 ghost use Rattle.iv_hall.specs.Hearing.{feed_told, hearing_for, hearing_line, hearing_lines};
+ghost use Rattle.iv_hall.specs.Waiting.{AreCounted, bytes_waiting};
 
-use crate::hearing::{feed_ended, feed_told, hear_listed};
+use crate::hearing::{feed_ended, feed_told, hear_listed, raised};
 use crate::numbers::Numbers;
 use crate::readers::{Readers, disband, join, quit_client, quit_unfollowed, readers_of};
 use crate::slots::{
@@ -27,7 +29,8 @@ use std::slice;
 
 /// The clients by their numbers. `told` has those who were told something that they have not taken, or who are to go, and nobody else.
 /// `owed` has those who are owed that this is all, and `readers` those who follow each feed; a client of whom this is not so may be there
-/// too. After an error nobody is left.
+/// too. `waiting` counts the bytes that wait for the journal, with those of clients who have gone since it was synced. After an error nobody
+/// is left.
 #[derive(Drop)]
 pub struct Hall {
     most: u32,
@@ -35,17 +38,19 @@ pub struct Hall {
     owed: Numbers,
     told: Numbers,
     readers: Vec<Readers>,
+    waiting: u64,
 }
 
 impl Model for Hall {
     ghost use Rattle.iv_clients.specs.Kept.{Places};
     ghost use Rattle.iv_hall.specs.Hall.{IsHall};
+    ghost use Rattle.iv_hall.specs.Waiting.{AreCounted, bytes_waiting};
 
     ghost Value = { Places };
 
     ghost view = { λ h. h.slots.items };
 
-    ghost invariant = { λ h. IsHall h.most h.slots.items h.owed h.told h.readers.items };
+    ghost invariant = { λ h. IsHall h.most h.slots.items h.owed h.told h.readers.items × AreCounted (bytes_waiting h.slots.items) h.waiting };
 }
 
 impl Hall {
@@ -65,6 +70,7 @@ impl Hall {
             owed,
             told,
             readers: Vec::new(alloc),
+            waiting: 0,
         })
     }
 
@@ -89,6 +95,14 @@ impl Hall {
         ensures once { IsDistinct eqb result.now }
     {
         self.told.list()
+    }
+
+    /// The bytes that wait for the journal are no more than that, unless it is the greatest number. `release` makes it 0, and what is told
+    /// raises it by its bytes.
+    pub fn waiting(&self) -> u64
+        ensures { AreCounted (bytes_waiting self.now) result }
+    {
+        self.waiting
     }
 
     /// Whether the number is there, and nobody has it.
@@ -123,6 +137,7 @@ impl Hall {
     )
         ensures { self.new ≡ slice_set self.old client (Some (coming (string_bytes role) digest.items text.items)) }
     {
+        self.waiting = raised(self.waiting, 1, text.len());
         put_at(
             &mut self.slots,
             client,
@@ -156,6 +171,7 @@ impl Hall {
         ensures { OnOk result (self.new ≡ at_client client (holding text.now) self.old) }
     {
         self.owed.insert(client);
+        self.waiting = raised(self.waiting, 1, text.len());
         match hold_at(&mut self.slots, client, text) {
             Ok(()) => {
                 list_one(&mut self.told, &self.slots, client);
@@ -240,7 +256,9 @@ impl Hall {
     {
         match settle_listed(&mut self.slots, self.owed.list(), text) {
             Ok(()) => {
-                list_some(&mut self.told, &self.slots, self.owed.list());
+                let owed = self.owed.list();
+                list_some(&mut self.told, &self.slots, owed);
+                self.waiting = raised(self.waiting, owed.len(), text.len());
                 self.owed.clear();
                 Ok(())
             }
@@ -255,6 +273,7 @@ impl Hall {
     pub fn beat(&mut self, text: &[u8]) -> Result<(), AllocError>
         ensures { OnOk result (self.new ≡ at_all (holding_beat text.now) self.old) }
     {
+        self.waiting = raised(self.waiting, self.slots.len(), text.len());
         match beat_all(&mut self.slots, text) {
             Ok(()) => {
                 list_all(&mut self.told, &self.slots, self.most);
@@ -272,7 +291,10 @@ impl Hall {
         ensures { OnOk result (self.new ≡ at_all releasing self.old) }
     {
         match release_listed(&mut self.slots, self.told.list()) {
-            Ok(()) => Ok(()),
+            Ok(()) => {
+                self.waiting = 0;
+                Ok(())
+            }
             Err(error) => {
                 lose(&mut self.slots, &mut self.told);
                 Err(error)
@@ -301,8 +323,17 @@ impl Hall {
     {
         let numbers = readers_of(&self.readers, feed);
         self.owed.insert_all(numbers);
-        match hear_listed(alloc, &mut self.slots, numbers, feed, line, rel) {
-            Ok(()) => {
+        match hear_listed(
+            alloc,
+            &mut self.slots,
+            numbers,
+            feed,
+            line,
+            rel,
+            self.waiting,
+        ) {
+            Ok(waiting) => {
+                self.waiting = waiting;
                 list_some(&mut self.told, &self.slots, numbers);
                 Ok(())
             }

@@ -5,7 +5,8 @@ ghost use Rattle.iv_rows.specs.Options.{if_some};
 ghost use Rattle.iv_command.specs.Views.{line_of};
 ghost use Rattle.iv_clients.specs.Clients.{at_all, at_client, client_at, followed_by, is_free};
 ghost use Rattle.iv_hall.specs.Listing.{walked};
-ghost use Rattle.iv_clients.specs.Kept.{Kept, asking, checking, emptied, has_role_in, holding, holding_beat, holding_owed, is_following, is_told, keeping_closed, keeping_moved, keeping_new, keeping_on, releasing, answering};
+ghost use Rattle.iv_clients.specs.Kept.{Kept, answering, asking, checking, emptied, has_role_in, holding, holding_beat, holding_owed, is_following, is_told};
+ghost use Rattle.iv_clients.specs.Kept.{keeping_closed, keeping_moved, keeping_new, keeping_on, releasing};
 
 use iv_clients::{Client, Token};
 use iv_command::Line;

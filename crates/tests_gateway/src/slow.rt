@@ -1,4 +1,4 @@
-//! Tests of clients that do not read: they are heard no more, and are to go where others bring them more than they take.
+//! Tests of clients that do not read: they are heard no more, and are to go where others bring them more than they take; and of what waits.
 use crate::playing::{Kept, new_gateway};
 use iv_gateway::Gateway;
 use std::alloc::{AllocError, Global};
@@ -10,6 +10,8 @@ const FIRST: &str = r#"{"do":"create_role","name":"mia"}
 {"do":"grant","on":"notes","privileges":["select"],"to":"mia"}"#;
 
 const SUBSCRIBE: &[u8] = br#"{"do":"subscribe","on":"notes"}"#;
+
+const INSERT: &[u8] = br#"{"do":"write","entries":[{"on":"notes","insert":[1,"ann"]}]}"#;
 
 /// Lets in client 0, the administrator, and client 1, who subscribes to `notes`, and takes all. Whether all is done.
 fn begin(gateway: &mut Gateway, journal: &mut Kept) -> bool {
@@ -119,6 +121,35 @@ fn heard_anew(alloc: Global) -> Result<(u32, bool), AllocError> {
     }
 }
 
+/// The bytes that are counted as waiting before client 0 says two things, behind these, and behind a sync.
+fn counted(gateway: &mut Gateway, journal: &mut Kept) -> (u64, u64, u64) {
+    let before = gateway.waiting();
+    let is_told = matches!(gateway.said(0, b"{}"), Ok(true));
+    let is_written = matches!(gateway.said(0, INSERT), Ok(true));
+    let told = gateway.waiting();
+    let is_synced = gateway.settle(journal).is_ok();
+    if is_told && is_written && is_synced {
+        (before, told, gateway.waiting())
+    } else {
+        (1, 0, 1)
+    }
+}
+
+fn counted_anew(alloc: Global) -> Result<(u64, u64, u64), AllocError> {
+    let mut journal = Kept {
+        bytes: Vec::new(alloc),
+    };
+    let mut gateway = new_gateway(alloc)?;
+    let is_begun = begin(&mut gateway, &mut journal);
+    let counts = counted(&mut gateway, &mut journal);
+    drop(gateway);
+    if is_begun {
+        Ok(counts)
+    } else {
+        Err(AllocError)
+    }
+}
+
 /// Of a row that is inserted client 1 is told 1,011 bytes, so of a write 12 + 50 x 1,011 + 49 + 11 and the 17 that this is all: 50,639. Of
 /// a row that is deleted it is told one more. The 83 first texts have 42 x 50,639 + 41 x 50,689 bytes, 4,205,087, which are more than
 /// 4,194,304, and the 82 first have fewer. So the sync behind the 83rd finds that the client does not take them.
@@ -131,5 +162,13 @@ fn who_does_not_read_is_to_go(rt: HostRuntime) -> Result<(), Fail> {
 #[test]
 fn who_asks_much_is_not_heard(rt: HostRuntime) -> Result<(), Fail> {
     assert_eq!(rt; heard_anew(rt.alloc())?, (32, true));
+    Ok(())
+}
+
+/// Client 0 is told `{"error":2,"key":"do","why":"missing"}` and `{"ok":true}`, which have 38 and 11 bytes, and client 1
+/// `{"changes":[[1,[1,"ann"]]],"sub":1}`, which has 35. Behind each of the three comes a newline, and the 17 bytes of a line that this is all.
+#[test]
+fn what_waits_is_counted(rt: HostRuntime) -> Result<(), Fail> {
+    assert_eq!(rt; counted_anew(rt.alloc())?, (0, 138, 0));
     Ok(())
 }

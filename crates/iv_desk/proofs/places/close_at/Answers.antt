@@ -2,7 +2,7 @@ use Rattle.std.proofs.Common.{arith}
 use Rattle.std.proofs.lemmas.Grind.{common_steps}
 use Rattle.iv_peer.specs.Socket.{closed}
 use Rattle.iv_desk.specs.Desks.{with_peer}
-use Rattle.iv_desk.proofs.Standing.{at_client-past, at_client-set}
+use Rattle.iv_clients.proofs.Slots.{at_client-past, at_client-set}
 use Rattle.iv_desk.proofs.places.close_at.Goals as goal
 
 pub returns-in-None : goal.returns-in-None

@@ -10,10 +10,12 @@ pub returns-then-not-is_granted_at : goal.returns-then-not-is_granted_at
 returns-then-not-is_granted_at c =
     let p = is_granted c.args.engine.now.frame c.args.grants.now in
     not_held_for p c.args.text.now c.args.client c.args.clients.now
-    (ap (λ z. if_some (client_at z c.args.client) false (λ (k : Kept). p k.role)) (sym c.places.ensures) ∙ (sym c.is_granted_at.ensures ∙ c.if-not-is_granted_at.true))
+    (ap (λ z. if_some (client_at z c.args.client) false (λ (k : Kept). p k.role)) (sym c.places.ensures)
+    ∙ (sym c.is_granted_at.ensures ∙ c.if-not-is_granted_at.true))
 
 pub returns : goal.returns
 returns c =
     let p = is_granted c.args.engine.now.frame c.args.grants.now in
     c.in_ok-hold.ensures ∙ held_for p c.args.text.now c.args.client c.args.clients.now
-    (ap (λ z. if_some (client_at z c.args.client) false (λ (k : Kept). p k.role)) (sym c.places.ensures) ∙ (sym c.is_granted_at.ensures ∙ c.if-not-is_granted_at.false))
+    (ap (λ z. if_some (client_at z c.args.client) false (λ (k : Kept). p k.role)) (sym c.places.ensures)
+    ∙ (sym c.is_granted_at.ensures ∙ c.if-not-is_granted_at.false))

@@ -5,7 +5,9 @@ use Rattle.iv_gateway.proofs.granting.grant_all.Goals as goal
 
 pub loop-client-preserved : goal.loop-client-preserved
 loop-client-preserved c =
-    first_more (holding_for (is_granted c.args.engine.now.frame c.args.grants.now) c.args.text.now) c.loop-client.client c.args.clients.now c.loop-client.clients c.grant.new.clients c.loop-client.invariant c.in_ok-grant.ensures
+    first_more (holding_for (is_granted c.args.engine.now.frame c.args.grants.now) c.args.text.now) c.loop-client.client c.args.clients.now
+    c.loop-client.clients c.grant.new.clients c.loop-client.invariant c.in_ok-grant.ensures
 
 pub returns : goal.returns
-returns c = c.loop-client.invariant ∙ first_whole (holding_for (is_granted c.args.engine.now.frame c.args.grants.now) c.args.text.now) c.loop-client.client c.args.clients.now (omega arith)
+returns c = c.loop-client.invariant ∙ first_whole (holding_for (is_granted c.args.engine.now.frame c.args.grants.now) c.args.text.now) c.loop-client.client
+    c.args.clients.now (omega arith)

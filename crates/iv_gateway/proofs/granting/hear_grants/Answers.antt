@@ -6,4 +6,5 @@ use Rattle.iv_gateway.proofs.granting.hear_grants.Goals as goal
 
 pub returns-then-not-is_accepted : goal.returns-then-not-is_accepted
 returns-then-not-is_accepted c =
-    grants_none (is_accepted (reply_in (map line_of c.args.lines.now))) c.args.engine.now.frame c.args.grants.now c.args.clients.now (sym c.is_accepted.ensures ∙ c.if-not-is_accepted.true)
+    grants_none (is_accepted (reply_in (map line_of c.args.lines.now))) c.args.engine.now.frame c.args.grants.now c.args.clients.now
+    (sym c.is_accepted.ensures ∙ c.if-not-is_accepted.true)

@@ -9,9 +9,11 @@ use Rattle.iv_gateway.proofs.shaping.inform.Goals as goal
 pub returns-then-not-is_admin_at : goal.returns-then-not-is_admin_at
 returns-then-not-is_admin_at c =
     not_held_for is_admin c.args.text.now c.args.client c.args.clients.now
-    (ap (λ z. if_some (client_at z c.args.client) false (λ (k : Kept). is_admin k.role)) (sym c.places.ensures) ∙ (sym c.is_admin_at.ensures ∙ c.if-not-is_admin_at.true))
+    (ap (λ z. if_some (client_at z c.args.client) false (λ (k : Kept). is_admin k.role)) (sym c.places.ensures)
+    ∙ (sym c.is_admin_at.ensures ∙ c.if-not-is_admin_at.true))
 
 pub returns : goal.returns
 returns c =
     c.in_ok-hold.ensures ∙ held_for is_admin c.args.text.now c.args.client c.args.clients.now
-    (ap (λ z. if_some (client_at z c.args.client) false (λ (k : Kept). is_admin k.role)) (sym c.places.ensures) ∙ (sym c.is_admin_at.ensures ∙ c.if-not-is_admin_at.false))
+    (ap (λ z. if_some (client_at z c.args.client) false (λ (k : Kept). is_admin k.role)) (sym c.places.ensures)
+    ∙ (sym c.is_admin_at.ensures ∙ c.if-not-is_admin_at.false))

@@ -7,4 +7,5 @@ pub loop-number-init : goal.loop-number-init
 loop-number-init c = set_none (λ m. m < 0) (is_told_at c.args.clients.now) c.args.told.now (λ m l. omega (arith, l))
 
 pub loop-number-preserved : goal.loop-number-preserved
-loop-number-preserved c = set_below c.loop-number.number (is_told_at c.args.clients.now) c.args.told.now c.loop-number.told c.list_one.new.told c.loop-number.invariant c.list_one.ensures
+loop-number-preserved c = set_below c.loop-number.number (is_told_at c.args.clients.now) c.args.told.now c.loop-number.told c.list_one.new.told
+    c.loop-number.invariant c.list_one.ensures

@@ -7,5 +7,6 @@ use Rattle.iv_hall.proofs.readers.drop_at.Goals as goal
 pub returns-then-is_empty : goal.returns-then-is_empty
 returns-then-is_empty c = record {
   kept = λ k m h. subst (λ z. Contains (readers_of z k) m) (sym c.remove.ensures.items)
-      (without_empty c.args.readers.now.items c.args.at c.index.result.now k m (sym c.index.ensures) (none_in c.index.result.now.numbers (sym c.is_empty.ensures ∙ c.if-is_empty.true)) (omega arith) h);
+      (without_empty c.args.readers.now.items c.args.at c.index.result.now k m (sym c.index.ensures)
+      (none_in c.index.result.now.numbers (sym c.is_empty.ensures ∙ c.if-is_empty.true)) (omega arith) h);
 }

@@ -12,7 +12,8 @@ pub returns-in_ok-insert-in-Some : goal.returns-in_ok-insert-in-Some
 returns-in_ok-insert-in-Some c =
     let place : position (λ (r : Readers). c.args.feed == r.feed) c.args.readers.now.items ≡ Some c.in-Some.at =
     ap (position (λ (r : Readers). c.args.feed == r.feed)) (sym c.deref.ensures.value) ∙ (sym c.place_of.ensures ∙ c.in-Some.is) in
-    joins_at c.args.readers.now.items c.args.feed c.in-Some.at c.args.number c.index_mut.result.now c.insert.new.self place c.index_mut.ensures.value c.in_ok-insert-in-Some.ensures
+    joins_at c.args.readers.now.items c.args.feed c.in-Some.at c.args.number c.index_mut.result.now c.insert.new.self place c.index_mut.ensures.value
+    c.in_ok-insert-in-Some.ensures
 
 pub returns-in_ok-insert-in-None-2 : goal.returns-in_ok-insert-in-None-2
 returns-in_ok-insert-in-None-2 c =

@@ -9,5 +9,6 @@ pub returns-in-Some : goal.returns-in-Some
 returns-in-Some c =
     let place : position (λ (r : Readers). c.args.feed == r.feed) c.args.readers.now.items ≡ Some c.in-Some.at =
     ap (position (λ (r : Readers). c.args.feed == r.feed)) (sym c.deref.ensures.value) ∙ (sym c.place_of.ensures ∙ c.in-Some.is) in
-    let left = quits_at c.args.readers.now.items c.args.feed c.in-Some.at c.args.number c.index_mut.result.now c.remove.new.self place c.index_mut.ensures.value c.remove.ensures in
+    let left = quits_at c.args.readers.now.items c.args.feed c.in-Some.at c.args.number c.index_mut.result.now c.remove.new.self place c.index_mut.ensures.value
+    c.remove.ensures in
     record { kept = λ k m ne h. c.drop_at.ensures.kept k m (left.kept k m ne h) }

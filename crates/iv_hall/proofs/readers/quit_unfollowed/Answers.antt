@@ -7,5 +7,9 @@ use Rattle.iv_hall.proofs.readers.quit_unfollowed.Goals as goal
 pub returns-then-not-follows_at : goal.returns-then-not-follows_at
 returns-then-not-follows_at c = record {
   kept = λ k m ne h. c.quit.ensures.kept k m
-      (λ p. ne (p.1, ap (λ f. if_some (client_at c.args.clients.now c.args.client) false (is_following f)) p.0 ∙ (sym c.follows_at.ensures ∙ c.if-not-follows_at.true))) h;
+      (λ p. ne (
+        p.1,
+        ap (λ f. if_some (client_at c.args.clients.now c.args.client) false (is_following f)) p.0
+            ∙ (sym c.follows_at.ensures ∙ c.if-not-follows_at.true),
+      )) h;
 }

@@ -8,4 +8,5 @@ pub loop-slot-preserved : goal.loop-slot-preserved
 loop-slot-preserved c =
     let lt : c.loop-slot.slot-index < length c.args.clients.now.items = grind (arith, common_steps, c.loop-slot.invariant) in
     ap (set c.loop-slot.slot-items c.loop-slot.slot-index) (c.in_ok-beat_slot.ensures ∙ ap (option_map (holding_beat c.args.text.now)) (sym c.slot-item.is))
-    ∙ map_over_more (option_map (holding_beat c.args.text.now)) c.args.clients.now.items c.loop-slot.slot-items c.loop-slot.slot-index c.slot-item.result lt c.loop-slot.invariant c.slot-item.is
+    ∙ map_over_more (option_map (holding_beat c.args.text.now)) c.args.clients.now.items c.loop-slot.slot-items c.loop-slot.slot-index c.slot-item.result lt
+    c.loop-slot.invariant c.slot-item.is

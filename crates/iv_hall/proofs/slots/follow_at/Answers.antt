@@ -8,4 +8,5 @@ pub returns-in-None : goal.returns-in-None
 returns-in-None c = at_client-past c.args.client _ _ (grind (arith, common_steps))
 
 pub returns-in_ok-follow_slot-in-Some : goal.returns-in_ok-follow_slot-in-Some
-returns-in_ok-follow_slot-in-Some c = at_client-set c.args.client (keeping_new c.args.feed) c.args.clients.now.items c.in-Some.slot.now _ (grind (arith, common_steps)) c.in-Some.ensures.value c.in_ok-follow_slot-in-Some.ensures
+returns-in_ok-follow_slot-in-Some c = at_client-set c.args.client (keeping_new c.args.feed) c.args.clients.now.items c.in-Some.slot.now _
+    (grind (arith, common_steps)) c.in-Some.ensures.value c.in_ok-follow_slot-in-Some.ensures

@@ -7,4 +7,5 @@ pub returns-in_default : goal.returns-in_default
 returns-in_default c = at_client-past c.args.client _ _ (grind (arith, common_steps))
 
 pub returns-in-Some : goal.returns-in-Some
-returns-in-Some c = at_client-set c.args.client _ c.args.clients.now.items c.in-Some.slot.now _ (grind (arith, common_steps)) c.in-Some.ensures.value c.redirect_slot.ensures
+returns-in-Some c = at_client-set c.args.client _ c.args.clients.now.items c.in-Some.slot.now _ (grind (arith, common_steps)) c.in-Some.ensures.value
+    c.redirect_slot.ensures

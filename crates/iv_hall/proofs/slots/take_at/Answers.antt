@@ -7,4 +7,5 @@ pub returns-in-None-clause-slots : goal.returns-in-None-clause-slots
 returns-in-None-clause-slots c = at_client-past _ _ _ (grind (arith, common_steps))
 
 pub returns-in-Some-clause-slots : goal.returns-in-Some-clause-slots
-returns-in-Some-clause-slots c = at_client-set c.args.client _ c.args.clients.now.items c.in-Some.slot.now _ (grind (arith, common_steps)) c.in-Some.ensures.value c.take_slot.ensures.slot
+returns-in-Some-clause-slots c = at_client-set c.args.client _ c.args.clients.now.items c.in-Some.slot.now _ (grind (arith, common_steps))
+    c.in-Some.ensures.value c.take_slot.ensures.slot

@@ -8,4 +8,5 @@ use Rattle.iv_gateway.proofs.gateway.Gateway.ask.Goals as goal
 
 pub returns-in_ok-close-in-Unsubscribe : goal.returns-in_ok-close-in-Unsubscribe
 returns-in_ok-close-in-Unsubscribe c = λ g k text b there is.
-    subst (λ a. IsAlive (acts g c.args.client k (option_map id_data c.args.id.now) text (act_of a)) c.close.new.self) (sym c.in-Unsubscribe.is) (c.in_ok-close-in-Unsubscribe.ensures g (saying text k) b there)
+    subst (λ a. IsAlive (acts g c.args.client k (option_map id_data c.args.id.now) text (act_of a)) c.close.new.self) (sym c.in-Unsubscribe.is)
+    (c.in_ok-close-in-Unsubscribe.ensures g (saying text k) b there)

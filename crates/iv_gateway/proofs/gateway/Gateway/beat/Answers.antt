@@ -14,6 +14,8 @@ returns c = λ g b. record {
   pending = b.pending;
   shape = b.shape;
   clients = c.in_ok-beat.ensures
-      ∙ (ap (λ z. at_all (holding_beat z) c.args.self.now.clients) (c.deref.ensures.value ∙ (c.in_ok-push_alive.ensures ∙ ap (λ z. z ++ told_text alive) c.new-text.ensures.items))
-      ∙ (ap (at_all (holding_beat (told_text alive))) b.clients ∙ keeps_all (beating g.entries) (holding_beat (told_text alive)) (kept_beating g.entries) g.clients));
+      ∙ (ap (λ z. at_all (holding_beat z) c.args.self.now.clients) (c.deref.ensures.value
+      ∙ (c.in_ok-push_alive.ensures ∙ ap (λ z. z ++ told_text alive) c.new-text.ensures.items))
+      ∙ (ap (at_all (holding_beat (told_text alive))) b.clients ∙ keeps_all (beating g.entries) (holding_beat (told_text alive)) (kept_beating g.entries)
+      g.clients));
 }

@@ -24,5 +24,6 @@ returns-in_ok-sweep-in-Some c = λ g x b e.
       feeds = b.feeds;
       pending = b.pending;
       shape = b.shape;
-      clients = c.close.ensures ∙ (ap (at_client c.args.client (keeping_closed c.args.own)) b.clients ∙ keeps_at c.args.client (closing c.args.own) (keeping_closed c.args.own) (λ k. refl) g.clients);
+      clients = c.close.ensures ∙ (ap (at_client c.args.client (keeping_closed c.args.own)) b.clients
+          ∙ keeps_at c.args.client (closing c.args.own) (keeping_closed c.args.own) (λ k. refl) g.clients);
     })))

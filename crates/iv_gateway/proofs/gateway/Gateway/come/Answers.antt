@@ -11,7 +11,8 @@ pub returns-in-None : goal.returns-in-None
 returns-in-None c = λ g b.
     let digest : c.in_ok-digest.digest.items ≡ sha256 c.args.token.now = c.in_ok-digest.ensures.items ∙ c.digest.ensures in
     comes_none g c.args.client c.args.token.now _
-    (presented_is g c.args.client c.args.token.now c.deref.result.now c.args.self.now.clients c.deref-2.result.now _ (c.deref.ensures.value ∙ b.tokens) (b.clients) (c.deref-2.ensures.value ∙ digest) c.in_ok-role_presented.ensures
+    (presented_is g c.args.client c.args.token.now c.deref.result.now c.args.self.now.clients c.deref-2.result.now _ (c.deref.ensures.value ∙ b.tokens)
+    (b.clients) (c.deref-2.ensures.value ∙ digest) c.in_ok-role_presented.ensures
     ∙ ap (option_map string_bytes) c.in-None.is) b
 
 pub returns-then-not-branch : goal.returns-then-not-branch
@@ -19,7 +20,8 @@ returns-then-not-branch c = λ g b.
     let digest : c.in_ok-digest.digest.items ≡ sha256 c.args.token.now = c.in_ok-digest.ensures.items ∙ c.digest.ensures in
     let s = c.in_ok-with_session-in-Some.ensures g b in
     comes_not g c.args.client c.args.token.now (string_bytes c.in-Some.role) _
-    (presented_is g c.args.client c.args.token.now c.deref.result.now c.args.self.now.clients c.deref-2.result.now _ (c.deref.ensures.value ∙ b.tokens) (b.clients) (c.deref-2.ensures.value ∙ digest) c.in_ok-role_presented.ensures
+    (presented_is g c.args.client c.args.token.now c.deref.result.now c.args.self.now.clients c.deref-2.result.now _ (c.deref.ensures.value ∙ b.tokens)
+    (b.clients) (c.deref-2.ensures.value ∙ digest) c.in_ok-role_presented.ensures
     ∙ ap (option_map string_bytes) c.in-Some.is)
     (ap (has_session g) (sym c.as_str.ensures.value) ∙ (sym s.0 ∙ c.if-not-branch.true))
     (subst (λ r. IsAlive (with_session g r) c.with_session.new.self) c.as_str.ensures.value s.1)
@@ -28,9 +30,11 @@ pub returns-in_ok-enter-in-Some : goal.returns-in_ok-enter-in-Some
 returns-in_ok-enter-in-Some c = λ g b.
     let digest : c.in_ok-digest.digest.items ≡ sha256 c.args.token.now = c.in_ok-digest.ensures.items ∙ c.digest.ensures in
     let s = c.in_ok-with_session-in-Some.ensures g b in
-    let there : IsAlive (with_session g (string_bytes c.in-Some.role)) c.with_session.new.self = subst (λ r. IsAlive (with_session g r) c.with_session.new.self) c.as_str.ensures.value s.1 in
+    let there : IsAlive (with_session g (string_bytes c.in-Some.role)) c.with_session.new.self =
+    subst (λ r. IsAlive (with_session g r) c.with_session.new.self) c.as_str.ensures.value s.1 in
     comes_in g c.args.client c.args.token.now (string_bytes c.in-Some.role) _
-    (presented_is g c.args.client c.args.token.now c.deref.result.now c.args.self.now.clients c.deref-2.result.now _ (c.deref.ensures.value ∙ b.tokens) (b.clients) (c.deref-2.ensures.value ∙ digest) c.in_ok-role_presented.ensures
+    (presented_is g c.args.client c.args.token.now c.deref.result.now c.args.self.now.clients c.deref-2.result.now _ (c.deref.ensures.value ∙ b.tokens)
+    (b.clients) (c.deref-2.ensures.value ∙ digest) c.in_ok-role_presented.ensures
     ∙ ap (option_map string_bytes) c.in-Some.is)
     (ap (has_session g) (sym c.as_str.ensures.value) ∙ (sym s.0 ∙ c.if-not-branch.false))
     (subst (λ d. IsAlive (record (with_session g (string_bytes c.in-Some.role)) {

@@ -22,6 +22,7 @@ returns c = λ g b.
       pending = b.pending;
       shape = b.shape;
       clients = c.enter.ensures
-          ∙ (ap (λ k. set c.args.self.now.clients c.args.client (Some k)) (ap (coming role c.args.digest.items) text ∙ sym (kept_fresh g.entries role c.args.digest.items))
+          ∙ (ap (λ k. set c.args.self.now.clients c.args.client (Some k))
+          (ap (coming role c.args.digest.items) text ∙ sym (kept_fresh g.entries role c.args.digest.items))
           ∙ (ap (λ z. set z c.args.client (Some (kept who))) b.clients ∙ keeps_set c.args.client (Some who) g.clients));
     }

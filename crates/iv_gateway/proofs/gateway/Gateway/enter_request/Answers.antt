@@ -34,6 +34,8 @@ returns-in_ok-extend_from_slice c = λ g e b s r l t.
       seats = b.seats;
       feeds = b.feeds;
       clients = b.clients;
-      pending = entered_by g e true c.push_entry.new.pending.items s (pends_more g.kept g.entries e c.args.self.now.pending.items c.push_entry.new.pending.items b.pending text);
-      shape = shape_entered g e true _ s (shape_added g.entries e c.args.self.now.shape.items c.extend_from_slice.new.self.items c.args.made.now b.shape t c.in_ok-extend_from_slice.ensures.items);
+      pending = entered_by g e true c.push_entry.new.pending.items s (pends_more g.kept g.entries e c.args.self.now.pending.items c.push_entry.new.pending.items
+          b.pending text);
+      shape = shape_entered g e true _ s (shape_added g.entries e c.args.self.now.shape.items c.extend_from_slice.new.self.items c.args.made.now b.shape t
+          c.in_ok-extend_from_slice.ensures.items);
     })

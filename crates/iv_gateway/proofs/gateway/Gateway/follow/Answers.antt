@@ -15,8 +15,10 @@ returns c = λ g b.
     let id = option_map id_data c.args.id.now in
     let m = c.args.client in
     let rel = c.args.rel.now in
-    let own : own_next c.places.result.now c.args.client ≡ next_own g c.args.client = next_kept g c.args.client c.places.result.now (c.places.ensures ∙ b.clients) in
-    let columns : columns_named c.args.self.now.engine.frame c.args.rel.now ≡ columns_in g.machine c.args.rel.now = ap (λ f. columns_named f c.args.rel.now) (sym b.machine.frame) in
+    let own : own_next c.places.result.now c.args.client ≡ next_own g c.args.client =
+    next_kept g c.args.client c.places.result.now (c.places.ensures ∙ b.clients) in
+    let columns : columns_named c.args.self.now.engine.frame c.args.rel.now ≡ columns_in g.machine c.args.rel.now =
+    ap (λ f. columns_named f c.args.rel.now) (sym b.machine.frame) in
     let text : told_text (opened (option_map id_data c.args.id.now) (next_own g c.args.client) (columns_in g.machine c.args.rel.now)) ≡ c.deref.result.now =
     sym (c.deref.ensures.value ∙ (c.in_ok-text.ensures ∙ (λ i. told_text (opened (option_map id_data c.args.id.now) (own i) (columns i))))) in
     let told = c.in_ok-tell.ensures g (opened id (next_own g m) (columns_in g.machine rel)) b text in
@@ -28,5 +30,6 @@ returns c = λ g b.
       pending = told.pending;
       shape = told.shape;
       clients = c.in_ok-follow.ensures ∙ (ap (at_client c.args.client (keeping_new c.args.number)) told.clients
-          ∙ keeps_at c.args.client (following c.args.number) (keeping_new c.args.number) (λ k. refl) (tells g c.args.client (opened (option_map id_data c.args.id.now) (next_own g c.args.client) (columns_in g.machine c.args.rel.now))).clients);
+          ∙ keeps_at c.args.client (following c.args.number) (keeping_new c.args.number) (λ k. refl)
+          (tells g c.args.client (opened (option_map id_data c.args.id.now) (next_own g c.args.client) (columns_in g.machine c.args.rel.now))).clients);
     }

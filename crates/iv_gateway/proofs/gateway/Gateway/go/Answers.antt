@@ -30,16 +30,21 @@ returns-in_ok-settle_told-in-Some c = λ g b.
     let swept : IsAlive (all_swept (record g { clients = set g.clients c.args.client None }) c.in-Some.feeds.items) c.sweep_all.new.self =
     subst (λ z. IsAlive (all_swept (record g { clients = set g.clients c.args.client None }) z) c.sweep_all.new.self) c.deref.ensures.value
     (c.in_ok-sweep_all-in-Some.ensures (record g { clients = set g.clients c.args.client None }) gone) in
-    let those : c.in_ok-seats-in-Some.seats.items ≡ filter (is_of_role (string_bytes c.in-Some.role)) (all_swept (record g { clients = set g.clients c.args.client None }) c.in-Some.feeds.items).seats =
+    let those : c.in_ok-seats-in-Some.seats.items ≡ filter (is_of_role (string_bytes c.in-Some.role))
+    (all_swept (record g { clients = set g.clients c.args.client None }) c.in-Some.feeds.items).seats =
     c.in_ok-seats-in-Some.ensures
     ∙ (ap (filter (is_of_role c.as_str.result.now)) (c.deref-in-Some.ensures.value ∙ swept.seats)
-    ∙ ap (λ r. filter (is_of_role r) (all_swept (record g { clients = set g.clients c.args.client None }) c.in-Some.feeds.items).seats) c.as_str.ensures.value) in
+    ∙ ap (λ r. filter (is_of_role r) (all_swept (record g { clients = set g.clients c.args.client None }) c.in-Some.feeds.items).seats) c.as_str.ensures.value)
+    in
     let rested : IsAlive (all_rested (all_swept (record g { clients = set g.clients c.args.client None }) c.in-Some.feeds.items)
-    (filter (is_of_role (string_bytes c.in-Some.role)) (all_swept (record g { clients = set g.clients c.args.client None }) c.in-Some.feeds.items).seats)) c.rest_all.new.self =
-    subst (λ z. IsAlive (all_rested (all_swept (record g { clients = set g.clients c.args.client None }) c.in-Some.feeds.items) z) c.rest_all.new.self) (c.deref-in-Some-2.ensures.value ∙ those)
+    (filter (is_of_role (string_bytes c.in-Some.role)) (all_swept (record g { clients = set g.clients c.args.client None }) c.in-Some.feeds.items).seats))
+    c.rest_all.new.self =
+    subst (λ z. IsAlive (all_rested (all_swept (record g { clients = set g.clients c.args.client None }) c.in-Some.feeds.items) z) c.rest_all.new.self)
+    (c.deref-in-Some-2.ensures.value ∙ those)
     (c.in_ok-rest_all-in-Some.ensures (all_swept (record g { clients = set g.clients c.args.client None }) c.in-Some.feeds.items) swept) in
     goes_some g c.args.client (string_bytes c.in-Some.role) c.in-Some.feeds.items c.args.self.now.clients _ b.clients
     (sym (c.in_ok-leaver.ensures ∙ ap (λ z. option_map {U = Name × List ℕ} leaving (client_at z c.args.client)) c.places.ensures)
     ∙ ap (option_map {U = Name × List ℕ} (λ p. (string_bytes p.0, p.1.items))) c.in-Some.is)
     (c.in_ok-settle_told-in-Some.ensures (all_rested (all_swept (record g { clients = set g.clients c.args.client None }) c.in-Some.feeds.items)
-    (filter (is_of_role (string_bytes c.in-Some.role)) (all_swept (record g { clients = set g.clients c.args.client None }) c.in-Some.feeds.items).seats)) rested)
+    (filter (is_of_role (string_bytes c.in-Some.role)) (all_swept (record g { clients = set g.clients c.args.client None }) c.in-Some.feeds.items).seats))
+    rested)

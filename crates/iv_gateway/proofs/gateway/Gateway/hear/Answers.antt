@@ -17,7 +17,8 @@ returns c = λ g k b grants.
     let ls = map line_of c.args.lines.now in
     let o = step g.machine k in
     let places = c.args.self.now.clients in
-    let more = λ (role : Name). cond (is_accepted (reply_in (step g.machine k).lines)) (map granted (granted_by (step g.machine k).state.frame k.act role)) [] in
+    let more = λ (role : Name). cond (is_accepted (reply_in (step g.machine k).lines)) (map granted (granted_by (step g.machine k).state.frame k.act role)) []
+    in
     let frame = c.args.self.now.engine.frame in
     let gives = at_all (hearing_granted (is_accepted (reply_in ls)) frame c.args.grants.now) in
     record {
@@ -30,7 +31,8 @@ returns c = λ g k b grants.
       clients = c.stay.ensures
           ∙ (ap (at_all (keeping_on ls)) (c.in_ok-hear_grants.ensures
           ∙ (ap gives (c.in_ok-hear.ensures ∙ ap (λ fs. at_all (hearing_lines fs ls) places) (c.deref.ensures.value ∙ b.gate.feeds))
-          ∙ granted_same ls (step g.machine k).lines frame (step g.machine k).state.frame k.act c.args.grants.now (at_all (hearing_lines g.feeds ls) places) b.lines b.gate.machine.frame grants))
+          ∙ granted_same ls (step g.machine k).lines frame (step g.machine k).state.frame k.act c.args.grants.now (at_all (hearing_lines g.feeds ls) places)
+          b.lines b.gate.machine.frame grants))
           ∙ (ap (λ z. at_all (keeping_on z) (at_all (λ (x : Kept). holding_all (more x.role) x) (at_all (hearing_lines g.feeds z) places))) b.lines
           ∙ stands_granted g.entries g.feeds (step g.machine k).lines more g.clients places b.gate.clients));
     }

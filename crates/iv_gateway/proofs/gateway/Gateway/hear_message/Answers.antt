@@ -12,19 +12,23 @@ pub returns : goal.returns
 returns c = λ g k b there is.
     let m = c.args.client in
     let text = c.args.text.now in
-    let counted : IsAlive (asked g c.args.client c.args.text.now) (record c.args.self.now { clients = c.ask.new.self; scratch = c.read_said.new.scratch }) = record {
+    let counted : IsAlive (asked g c.args.client c.args.text.now) (record c.args.self.now { clients = c.ask.new.self; scratch = c.read_said.new.scratch }) =
+    record {
       tokens = b.tokens;
       machine = b.machine;
       seats = b.seats;
       feeds = b.feeds;
       pending = b.pending;
       shape = b.shape;
-      clients = c.in_ok-ask.ensures ∙ (ap (at_client c.args.client asking) b.clients ∙ keeps_at c.args.client (saying c.args.text.now) asking (λ d. refl) g.clients);
+      clients = c.in_ok-ask.ensures ∙ (ap (at_client c.args.client asking) b.clients
+          ∙ keeps_at c.args.client (saying c.args.text.now) asking (λ d. refl) g.clients);
     } in
     let done : IsAlive (done_for (asked g c.args.client c.args.text.now) c.args.client k c.args.text.now (said_by c.args.text.now)) c.answer.new.self =
     subst (λ z. IsAlive (done_for (asked g c.args.client c.args.text.now) c.args.client k c.args.text.now z) c.answer.new.self) c.in_ok-message.ensures.message
-    (c.in_ok-answer.ensures (asked g c.args.client c.args.text.now) k c.args.text.now counted (there_saying g c.args.client k c.args.text.now there) is (sym (c.deref.ensures.value ∙ c.in_ok-message.ensures.line))) in
-    let told : IsAlive (did g c.args.client k c.args.text.now) c.settle_told.new.self = c.in_ok-settle_told.ensures (done_for (asked g c.args.client c.args.text.now) c.args.client k c.args.text.now (said_by c.args.text.now)) done in
+    (c.in_ok-answer.ensures (asked g c.args.client c.args.text.now) k c.args.text.now counted (there_saying g c.args.client k c.args.text.now there) is
+    (sym (c.deref.ensures.value ∙ c.in_ok-message.ensures.line))) in
+    let told : IsAlive (did g c.args.client k c.args.text.now) c.settle_told.new.self =
+    c.in_ok-settle_told.ensures (done_for (asked g c.args.client c.args.text.now) c.args.client k c.args.text.now (said_by c.args.text.now)) done in
     let brought : c.speaker.inside.brought ≡ c.args.speaker.now.brought = search rules in
     record {
       tokens = told.tokens;
@@ -33,5 +37,6 @@ returns c = λ g k b there is.
       feeds = told.feeds;
       pending = told.pending;
       shape = told.shape;
-      clients = c.answered.ensures ∙ stands_answered g c.args.client k c.args.text.now c.speaker.inside.brought _ there (brought ∙ ap (λ s. s.brought) is) told.clients;
+      clients = c.answered.ensures ∙ stands_answered g c.args.client k c.args.text.now c.speaker.inside.brought _ there (brought ∙ ap (λ s. s.brought) is)
+          told.clients;
     }

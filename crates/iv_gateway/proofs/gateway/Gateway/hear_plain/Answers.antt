@@ -25,6 +25,8 @@ returns c = λ g k b none.
       clients = c.stay.ensures
           ∙ (ap (at_all (keeping_on ls)) (c.in_ok-hear.ensures ∙ ap (λ fs. at_all (hearing_lines fs ls) places) (c.deref.ensures.value ∙ b.gate.feeds))
           ∙ (ap (λ z. at_all (keeping_on z) (at_all (hearing_lines g.feeds z) places)) b.lines
-          ∙ stands_heard g.entries g.feeds (step g.machine k).lines (λ (x : Client). cond (is_accepted (reply_in (step g.machine k).lines)) (map granted (granted_by (step g.machine k).state.frame k.act x.role)) [])
-          (λ x. no_grants (is_accepted (reply_in (step g.machine k).lines)) (granted_by (step g.machine k).state.frame k.act x.role) (none (step g.machine k).state.frame x.role)) g.clients places b.gate.clients));
+          ∙ stands_heard g.entries g.feeds (step g.machine k).lines (λ (x : Client).
+          cond (is_accepted (reply_in (step g.machine k).lines)) (map granted (granted_by (step g.machine k).state.frame k.act x.role)) [])
+          (λ x. no_grants (is_accepted (reply_in (step g.machine k).lines)) (granted_by (step g.machine k).state.frame k.act x.role)
+          (none (step g.machine k).state.frame x.role)) g.clients places b.gate.clients));
     }

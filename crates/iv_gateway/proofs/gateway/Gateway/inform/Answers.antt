@@ -34,7 +34,8 @@ returns-then-is_empty c = λ g e b s t.
       feeds = b.feeds;
       pending = b.pending;
       shape = b.shape;
-      clients = stands_as g (entries_of e a) places places b.clients (informs_nobody c.told_texts_are_lines.ensures e a c.args.made.now places s t (λ i. not (accepted i) || empty i));
+      clients = stands_as g (entries_of e a) places places b.clients (informs_nobody c.told_texts_are_lines.ensures e a c.args.made.now places s t
+          (λ i. not (accepted i) || empty i));
     }
 
 pub returns : goal.returns

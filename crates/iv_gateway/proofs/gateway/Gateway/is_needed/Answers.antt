@@ -6,4 +6,5 @@ pub returns-then-has_role : goal.returns-then-has_role
 returns-then-has_role c = λ g b. needed_yes g c.args.seat.now c.args.self.now.clients c.has_role.result b.clients (search rules) c.if-has_role.true
 
 pub returns-else-has_role : goal.returns-else-has_role
-returns-else-has_role c = λ g b. needed_no g c.args.seat.now c.args.self.now.clients c.args.self.now.feeds.items c.has_role.result c.has_feed.result b.clients b.feeds (search rules) c.if-has_role.false (search rules)
+returns-else-has_role c = λ g b. needed_no g c.args.seat.now c.args.self.now.clients c.args.self.now.feeds.items c.has_role.result c.has_feed.result b.clients
+    b.feeds (search rules) c.if-has_role.false (search rules)

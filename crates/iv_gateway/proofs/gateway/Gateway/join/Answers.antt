@@ -26,5 +26,6 @@ returns-in_ok-shut-in-Some c = λ g b.
       feeds = b.feeds;
       pending = b.pending;
       shape = b.shape;
-      clients = c.in_ok-redirect-in-Some.ensures ∙ (ap (at_client c.args.client (keeping_moved new older)) b.clients ∙ keeps_at c.args.client (moved new older) (keeping_moved new older) (λ k. refl) g.clients);
+      clients = c.in_ok-redirect-in-Some.ensures ∙ (ap (at_client c.args.client (keeping_moved new older)) b.clients
+          ∙ keeps_at c.args.client (moved new older) (keeping_moved new older) (λ k. refl) g.clients);
     }) s k)

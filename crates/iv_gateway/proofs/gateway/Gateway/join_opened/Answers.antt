@@ -3,7 +3,8 @@ use Rattle.iv_gateway.proofs.Subscribed.{joins_done, joins_opened, joins_refused
 use Rattle.iv_gateway.proofs.gateway.Gateway.join_opened.Goals as goal
 
 pub returns-in_ok-join-in-Subscribed : goal.returns-in_ok-join-in-Subscribed
-returns-in_ok-join-in-Subscribed c = λ g r b e. joins_opened g c.args.client c.args.older c.in-Subscribed.new r _ (sym c.in-Subscribed.is ∙ e) (c.in_ok-join-in-Subscribed.ensures g b)
+returns-in_ok-join-in-Subscribed c = λ g r b e. joins_opened g c.args.client c.args.older c.in-Subscribed.new r _ (sym c.in-Subscribed.is ∙ e)
+    (c.in_ok-join-in-Subscribed.ensures g b)
 
 pub returns-in-Done : goal.returns-in-Done
 returns-in-Done c = λ g r b e. joins_done g c.args.client c.args.older r _ (sym c.in-Done.is ∙ e) b

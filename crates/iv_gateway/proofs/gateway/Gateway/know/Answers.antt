@@ -20,5 +20,6 @@ returns-then-not-self c = λ g b.
       pending = a.pending;
       shape = a.shape;
       clients = c.check.ensures ∙ (ap (λ z. at_all (checking z) c.args.self.now.clients) c.deref.ensures.value
-          ∙ (ap (at_all (checking c.args.tokens.items)) a.clients ∙ keeps_all (checked c.args.tokens.items) (checking c.args.tokens.items) (kept_checked c.args.tokens.items) g.clients));
+          ∙ (ap (at_all (checking c.args.tokens.items)) a.clients ∙ keeps_all (checked c.args.tokens.items) (checking c.args.tokens.items)
+          (kept_checked c.args.tokens.items) g.clients));
     })

@@ -5,5 +5,14 @@ use Rattle.iv_gateway.proofs.gateway.Gateway.new.Goals as goal
 pub returns : goal.returns
 returns c = λ cap b. record {
   dead = refl;
-  alive = λ a. record { tokens = refl; machine = b; seats = search rules; feeds = search rules; clients = c.in_ok-clients.ensures ∙ nobody_kept c.args.most; pending = record { within = omega arith; text = search rules }; shape = search rules };
+  alive = λ a. record {
+    tokens = refl;
+    machine = b;
+    seats = search rules;
+    feeds = search rules;
+    clients =
+        c.in_ok-clients.ensures ∙ nobody_kept c.args.most;
+    pending = record { within = omega arith; text = search rules };
+    shape = search rules;
+  };
 }

@@ -8,4 +8,5 @@ use Rattle.iv_gateway.proofs.gateway.Gateway.pass.Goals as goal
 pub returns : goal.returns
 returns c = λ g b.
     let run = c.in_ok-lines.ensures g b in
-    passes g (in_session entry_session (act_of c.args.act)) _ _ (c.is_accepted.ensures ∙ (ap (λ ls. is_accepted (reply_in (map line_of ls))) c.deref.ensures.value ∙ ap (λ ls. is_accepted (reply_in ls)) run.lines)) run.gate
+    passes g (in_session entry_session (act_of c.args.act)) _ _ (c.is_accepted.ensures
+    ∙ (ap (λ ls. is_accepted (reply_in (map line_of ls))) c.deref.ensures.value ∙ ap (λ ls. is_accepted (reply_in ls)) run.lines)) run.gate

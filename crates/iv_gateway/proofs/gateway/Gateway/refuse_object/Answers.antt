@@ -6,4 +6,6 @@ use Rattle.iv_gateway.proofs.gateway.Gateway.refuse_object.Goals as goal
 pub returns : goal.returns
 returns c = λ g b.
     let told = unasked (option_map id_data c.args.id.now) (why_of c.args.why.now) in
-    c.in_ok-tell.ensures g (unasked (option_map id_data c.args.id.now) (why_of c.args.why.now)) b (sym (c.deref.ensures.value ∙ (c.in_ok-push_unasked.ensures ∙ ap (λ z. z ++ told_text (unasked (option_map id_data c.args.id.now) (why_of c.args.why.now))) c.new-text.ensures.items)))
+    c.in_ok-tell.ensures g (unasked (option_map id_data c.args.id.now) (why_of c.args.why.now)) b
+    (sym (c.deref.ensures.value ∙ (c.in_ok-push_unasked.ensures ∙ ap (λ z. z
+    ++ told_text (unasked (option_map id_data c.args.id.now) (why_of c.args.why.now))) c.new-text.ensures.items)))

@@ -24,6 +24,16 @@ pub returns : goal.returns
 returns c = λ g line b.
     let shared : is_shared (act_of c.args.act) ≡ true = sym c.is_shared.ensures ∙ c.if-not-is_shared.false in
     let begun = passed_to g _ c.in_ok-pass.field-0 _ (c.in_ok-pass.ensures g b) c.if-not-branch.false in
-    let acted = passed_to (record g { machine = begun.state }) _ c.in_ok-pass-2.field-0 _ (c.in_ok-pass-2.ensures (record g { machine = begun.state }) begun.gate) c.if-not-branch-2.false in
+    let acted = passed_to (record g { machine = begun.state }) _ c.in_ok-pass-2.field-0 _
+    (c.in_ok-pass-2.ensures (record g { machine = begun.state }) begun.gate) c.if-not-branch-2.false in
     finishes g (string_bytes c.args.role) line (act_of c.args.act) begun.state acted.state c.in_ok-is_done.is_done _ shared begun.is acted.is
-    (c.in_ok-is_done.ensures (record g { machine = acted.state }) (record { tokens = acted.gate.tokens; machine = acted.gate.machine; seats = acted.gate.seats; feeds = acted.gate.feeds; clients = acted.gate.clients; pending = acted.gate.pending; shape = acted.gate.shape }))
+    (c.in_ok-is_done.ensures (record g { machine = acted.state }) (record {
+      tokens = acted.gate.tokens;
+      machine = acted.gate.machine;
+      seats = acted.gate.seats;
+      feeds = acted.gate.feeds;
+      clients = acted.gate.clients;
+      pending =
+          acted.gate.pending;
+      shape = acted.gate.shape;
+    }))

@@ -3,5 +3,14 @@ use Rattle.iv_gateway.proofs.gateway.Gateway.run.Goals as goal
 pub returns-in-Ok : goal.returns-in-Ok
 returns-in-Ok c = λ g b. record {
   lines = c.in-Ok.ensures.lines g.machine b.machine;
-  gate = record { tokens = b.tokens; machine = c.in-Ok.ensures.state g.machine b.machine; seats = b.seats; feeds = b.feeds; clients = b.clients; pending = b.pending; shape = b.shape };
+  gate = record {
+    tokens = b.tokens;
+    machine = c.in-Ok.ensures.state g.machine b.machine;
+    seats = b.seats;
+    feeds = b.feeds;
+    clients = b.clients;
+    pending =
+        b.pending;
+    shape = b.shape;
+  };
 }

@@ -10,8 +10,18 @@ pub returns : goal.returns
 returns c = λ g f b s k.
     let h : Gate = record g { feeds = without_feed c.args.number g.feeds } in
     let run = c.in_ok-lines.ensures (record g { feeds = without_feed c.args.number g.feeds })
-    (record { tokens = b.tokens; machine = b.machine; seats = b.seats; clients = b.clients; pending = b.pending; shape = b.shape; feeds = c.drop_feed.ensures ∙ ap (without_feed c.args.number) b.feeds }) in
-    let done : IsAlive (ran (record g { feeds = without_feed c.args.number g.feeds }) (in_session c.args.session (unsubscribe c.args.number))) c.hear_plain.new.self =
+    (record {
+      tokens = b.tokens;
+      machine = b.machine;
+      seats = b.seats;
+      clients = b.clients;
+      pending = b.pending;
+      shape = b.shape;
+      feeds =
+          c.drop_feed.ensures ∙ ap (without_feed c.args.number) b.feeds;
+    }) in
+    let done : IsAlive (ran (record g { feeds = without_feed c.args.number g.feeds }) (in_session c.args.session (unsubscribe c.args.number)))
+    c.hear_plain.new.self =
     c.in_ok-hear_plain.ensures (record g { feeds = without_feed c.args.number g.feeds }) (in_session c.args.session (unsubscribe c.args.number))
     (record { lines = ap (map line_of) c.deref.ensures.value ∙ run.lines; gate = run.gate }) (λ x r. refl) in
     subst (λ n. IsAlive (ran (record g { feeds = without_feed f.number g.feeds }) (in_session n (unsubscribe f.number))) c.hear_plain.new.self) (sym s)

@@ -17,10 +17,13 @@ returns c = λ g b.
     let same : string_bytes c.in_ok-name.name ≡ string_bytes c.args.role = search rules in
     let run : IsRun g (in_session c.in-Some.session (begin (string_bytes c.args.role))) (map line_of c.in_ok-lines.lines.items) c.run.new.self =
     subst (λ z. IsRun g (in_session c.in-Some.session (begin z)) (map line_of c.in_ok-lines.lines.items) c.run.new.self) same (c.in_ok-lines.ensures g b) in
-    let passes : is_accepted (reply_in (map line_of c.in_ok-lines.lines.items)) ≡ true = sym (c.is_accepted.ensures ∙ ap (λ ls. is_accepted (reply_in (map line_of ls))) c.deref-2.ensures.value) ∙ c.if-not-is_accepted.false in
+    let passes : is_accepted (reply_in (map line_of c.in_ok-lines.lines.items)) ≡ true =
+    sym (c.is_accepted.ensures ∙ ap (λ ls. is_accepted (reply_in (map line_of ls))) c.deref-2.ensures.value) ∙ c.if-not-is_accepted.false in
     let h : Gate = record g { seats = g.seats ++ record { session = c.in-Some.session; role = string_bytes c.args.role } ∷ [] } in (
-      begun_by g role n true (sym (ap next_seat (c.deref.ensures.value ∙ b.seats)) ∙ (sym c.next_seat.ensures ∙ c.in-Some.is)) (ap (λ ls. is_accepted (reply_in ls)) (sym run.lines) ∙ passes),
-      c.in_ok-hear_plain.ensures (record g { seats = g.seats ++ record { session = c.in-Some.session; role = string_bytes c.args.role } ∷ [] }) (in_session c.in-Some.session (begin (string_bytes c.args.role)))
+      begun_by g role n true (sym (ap next_seat (c.deref.ensures.value ∙ b.seats)) ∙ (sym c.next_seat.ensures ∙ c.in-Some.is))
+          (ap (λ ls. is_accepted (reply_in ls)) (sym run.lines) ∙ passes),
+      c.in_ok-hear_plain.ensures (record g { seats = g.seats ++ record { session = c.in-Some.session; role = string_bytes c.args.role } ∷ [] })
+          (in_session c.in-Some.session (begin (string_bytes c.args.role)))
           (record {
             lines = ap (map line_of) c.deref-3.ensures.value ∙ run.lines;
             gate = record {
@@ -42,8 +45,10 @@ returns-then-not-is_accepted c = λ g b.
     let same : string_bytes c.in_ok-name.name ≡ string_bytes c.args.role = search rules in
     let run : IsRun g (in_session c.in-Some.session (begin (string_bytes c.args.role))) (map line_of c.in_ok-lines.lines.items) c.run.new.self =
     subst (λ z. IsRun g (in_session c.in-Some.session (begin z)) (map line_of c.in_ok-lines.lines.items) c.run.new.self) same (c.in_ok-lines.ensures g b) in
-    let refuses : is_accepted (reply_in (map line_of c.in_ok-lines.lines.items)) ≡ false = sym (c.is_accepted.ensures ∙ ap (λ ls. is_accepted (reply_in (map line_of ls))) c.deref-2.ensures.value) ∙ c.if-not-is_accepted.true in
-    let rejected : is_accepted (reply_to g (in_session c.in-Some.session (begin (string_bytes c.args.role)))) ≡ false = ap (λ ls. is_accepted (reply_in ls)) (sym run.lines) ∙ refuses in (
+    let refuses : is_accepted (reply_in (map line_of c.in_ok-lines.lines.items)) ≡ false =
+    sym (c.is_accepted.ensures ∙ ap (λ ls. is_accepted (reply_in (map line_of ls))) c.deref-2.ensures.value) ∙ c.if-not-is_accepted.true in
+    let rejected : is_accepted (reply_to g (in_session c.in-Some.session (begin (string_bytes c.args.role)))) ≡ false =
+    ap (λ ls. is_accepted (reply_in ls)) (sym run.lines) ∙ refuses in (
       begun_by g role n false (sym (ap next_seat (c.deref.ensures.value ∙ b.seats)) ∙ (sym c.next_seat.ensures ∙ c.in-Some.is)) rejected,
       record {
         tokens = run.gate.tokens;
@@ -52,6 +57,7 @@ returns-then-not-is_accepted c = λ g b.
         clients = run.gate.clients;
         pending = run.gate.pending;
         shape = run.gate.shape;
-        machine = subst (λ z. IsBehind z c.run.new.self.engine) (refused_leaves g.machine (in_session c.in-Some.session (begin (string_bytes c.args.role))) rejected) run.gate.machine;
+        machine = subst (λ z. IsBehind z c.run.new.self.engine) (refused_leaves g.machine (in_session c.in-Some.session (begin (string_bytes c.args.role)))
+            rejected) run.gate.machine;
       },
     )

@@ -7,7 +7,8 @@ use Rattle.iv_gateway.proofs.gateway.Gateway.sweep.Goals as goal
 
 pub returns-then-is_followed : goal.returns-then-is_followed
 returns-then-is_followed c = λ g b.
-    swept_followed g c.args.number _ c.is_followed.result (c.is_followed.ensures ∙ (ap (is_followed_by c.args.number) b.clients ∙ followed_kept c.args.number g.clients)) c.if-is_followed.true b
+    swept_followed g c.args.number _ c.is_followed.result (c.is_followed.ensures
+    ∙ (ap (is_followed_by c.args.number) b.clients ∙ followed_kept c.args.number g.clients)) c.if-is_followed.true b
 
 pub returns-in_ok-shut-in-Some : goal.returns-in_ok-shut-in-Some
 returns-in_ok-shut-in-Some c = λ g b.

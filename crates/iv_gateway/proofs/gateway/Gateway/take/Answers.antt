@@ -21,5 +21,6 @@ returns-clause-gate c = λ g b.
       feeds = a.feeds;
       pending = a.pending;
       shape = a.shape;
-      clients = c.take.ensures.hall ∙ (ap (at_client c.args.client emptied) a.clients ∙ keeps_at c.args.client handing emptied (kept_handing c.told_texts_are_lines.ensures) g.clients);
+      clients = c.take.ensures.hall ∙ (ap (at_client c.args.client emptied) a.clients
+          ∙ keeps_at c.args.client handing emptied (kept_handing c.told_texts_are_lines.ensures) g.clients);
     })

@@ -11,4 +11,5 @@ returns-clause-listed c = λ g m x b lives there due.
 
 pub returns-clause-only : goal.returns-clause-only
 returns-clause-only c = λ g m b lives i.
-    sym (told_kept (client_at g.clients m)) ∙ (ap (λ o. if_some o false is_told) (sym (ap (λ z. client_at z m) (b.alive lives).clients ∙ kept_at g.clients m)) ∙ c.told.ensures.only m i)
+    sym (told_kept (client_at g.clients m)) ∙ (ap (λ o. if_some o false is_told) (sym (ap (λ z. client_at z m) (b.alive lives).clients ∙ kept_at g.clients m))
+    ∙ c.told.ensures.only m i)

@@ -6,4 +6,5 @@ pub loop-line-init : goal.loop-line-init
 loop-line-init c = hear_nothing c.args.feeds.now c.args.self.now
 
 pub loop-line-preserved : goal.loop-line-preserved
-loop-line-preserved c = hear_next line_of c.args.feeds.now c.args.lines.now c.loop-line.line-index c.line-item.result c.args.self.now c.loop-line.self c.hear_line.new.self c.loop-line-test.true c.line-item.is c.loop-line.invariant c.in_ok-hear_line.ensures
+loop-line-preserved c = hear_next line_of c.args.feeds.now c.args.lines.now c.loop-line.line-index c.line-item.result c.args.self.now c.loop-line.self
+    c.hear_line.new.self c.loop-line-test.true c.line-item.is c.loop-line.invariant c.in_ok-hear_line.ensures

@@ -9,4 +9,6 @@ pub returns-in-None : goal.returns-in-None
 returns-in-None c = hear_none c.args.feeds.now (line_of c.args.line.now) c.args.self.now (sym c.feed_told.ensures ∙ c.in-None.is)
 
 pub returns-in_ok-hear_feed-in-Some : goal.returns-in_ok-hear_feed-in-Some
-returns-in_ok-hear_feed-in-Some c = c.in_ok-hear_feed-in-Some.ensures ∙ (ap (λ r. at_all (hearing_for c.in-Some.feed r (line_of c.args.line.now)) c.args.self.now) c.rel_read.ensures ∙ hear_feed c.args.feeds.now (line_of c.args.line.now) c.in-Some.feed c.args.self.now (sym c.feed_told.ensures ∙ c.in-Some.is))
+returns-in_ok-hear_feed-in-Some c = c.in_ok-hear_feed-in-Some.ensures ∙ (ap (λ r.
+    at_all (hearing_for c.in-Some.feed r (line_of c.args.line.now)) c.args.self.now) c.rel_read.ensures
+    ∙ hear_feed c.args.feeds.now (line_of c.args.line.now) c.in-Some.feed c.args.self.now (sym c.feed_told.ensures ∙ c.in-Some.is))

@@ -1,16 +1,28 @@
-use Rattle.std.proofs.Common.{◌∙◌, ap, ◌≡◌, subst, refl}
+use Rattle.std.proofs.Common.{◌∙◌, ap, ◌≡◌, subst, refl, length}
 use Rattle.iv_clients.specs.Clients.{at_client}
 use Rattle.iv_clients.specs.Kept.{holding}
 use Rattle.iv_hall.proofs.Calls.{fails, holds}
 use Rattle.iv_hall.specs.Numbers.{AreSet}
 use Rattle.iv_hall.specs.Hall.{is_told_at}
+use Rattle.iv_hall.proofs.Waiting.{held_at, nobody}
 use Rattle.iv_hall.proofs.hall.Hall.hold.Goals as goal
 
 pub invariant_of-self : goal.invariant_of-self
-invariant_of-self c = holds c.self.inside.most c.self.inside.slots.items _ c.self.inside.owed c.insert.new.self c.self.inside.told c.list_one.new.told c.self.inside.readers.items c.args.client c.args.text.now c.self.invariant c.insert.ensures (subst (λ z. AreSet (λ m. m ≡ c.args.client) (is_told_at z) c.self.inside.told c.list_one.new.told) c.deref.ensures.value c.list_one.ensures) c.in-Ok.ensures
+invariant_of-self c = (
+  holds c.self.inside.most c.self.inside.slots.items _ c.self.inside.owed c.insert.new.self c.self.inside.told c.list_one.new.told c.self.inside.readers.items
+      c.args.client c.args.text.now c.self.invariant.0 c.insert.ensures
+      (subst (λ z. AreSet (λ m. m ≡ c.args.client) (is_told_at z) c.self.inside.told c.list_one.new.told) c.deref.ensures.value c.list_one.ensures)
+      c.in-Ok.ensures,
+  held_at c.args.client c.self.inside.waiting c.raised-self-inside.result (length c.args.text.now) c.args.text.now c.self.inside.slots.items _ c.in-Ok.ensures
+      refl c.raised-self-inside.ensures c.self.invariant.1,
+)
 
 pub invariant_of-self-in-Err : goal.invariant_of-self-in-Err
-invariant_of-self-in-Err c = fails c.self.inside.most c.self.inside.slots.items _ c.self.inside.owed c.insert.new.self c.self.inside.told c.lose.new.told c.self.inside.readers.items _ c.self.invariant c.insert.ensures.size c.lose.ensures.told c.lose.ensures.clients
+invariant_of-self-in-Err c = (
+  fails c.self.inside.most c.self.inside.slots.items _ c.self.inside.owed c.insert.new.self c.self.inside.told c.lose.new.told c.self.inside.readers.items _
+      c.self.invariant.0 c.insert.ensures.size c.lose.ensures.told c.lose.ensures.clients,
+  nobody _ c.raised-self-inside.result c.lose.ensures.clients,
+)
 
 pub returns-in-Ok : goal.returns-in-Ok
 returns-in-Ok c = c.in-Ok.ensures ∙ ap (at_client c.args.client (holding c.args.text.now)) c.self.view_is

@@ -6,4 +6,5 @@ pub loop-line-init : goal.loop-line-init
 loop-line-init c = no_lines c.args.self.now
 
 pub loop-line-preserved : goal.loop-line-preserved
-loop-line-preserved c = stay_next line_of c.args.lines.now c.loop-line.line-index c.line-item.result c.args.self.now c.loop-line.self c.stay_behind.new.self c.loop-line-test.true c.line-item.is c.loop-line.invariant c.stay_behind.ensures
+loop-line-preserved c = stay_next line_of c.args.lines.now c.loop-line.line-index c.line-item.result c.args.self.now c.loop-line.self c.stay_behind.new.self
+    c.loop-line-test.true c.line-item.is c.loop-line.invariant c.stay_behind.ensures

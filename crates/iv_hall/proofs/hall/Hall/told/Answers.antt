@@ -6,7 +6,9 @@ use Rattle.iv_hall.specs.Hall.{is_told_at}
 use Rattle.iv_hall.proofs.hall.Hall.told.Goals as goal
 
 pub returns-clause-only : goal.returns-clause-only
-returns-clause-only c = λ m i. subst (λ z. is_told_at z m ≡ true) c.self.view_is (c.self.invariant.only m (subst (λ z. Contains z m) c.list.ensures.list i))
+returns-clause-only c = λ m i. subst (λ z. is_told_at z m ≡ true) c.self.view_is (c.self.invariant.0.only m (subst (λ z. Contains z m) c.list.ensures.list i))
 
 pub returns-clause-listed : goal.returns-clause-listed
-returns-clause-listed c = λ m k there due. subst (λ z. Contains z m) (sym c.list.ensures.list) (told_due c.self.inside.most c.self.inside.slots.items c.self.inside.owed c.self.inside.told c.self.inside.readers.items c.self.invariant m k (ap (λ z. client_at z m) c.self.view_is ∙ there) due)
+returns-clause-listed c = λ m k there due. subst (λ z. Contains z m) (sym c.list.ensures.list)
+    (told_due c.self.inside.most c.self.inside.slots.items c.self.inside.owed c.self.inside.told c.self.inside.readers.items c.self.invariant.0 m k
+    (ap (λ z. client_at z m) c.self.view_is ∙ there) due)

@@ -5,4 +5,5 @@ pub loop-number-init : goal.loop-number-init
 loop-number-init c = gained_none c.args.self.now
 
 pub loop-number-preserved : goal.loop-number-preserved
-loop-number-preserved c = gained_next c.args.numbers.now c.loop-number.number-index c.args.self.now c.loop-number.self c.insert.new.self c.loop-number-test.true c.loop-number.invariant c.insert.ensures
+loop-number-preserved c = gained_next c.args.numbers.now c.loop-number.number-index c.args.self.now c.loop-number.self c.insert.new.self c.loop-number-test.true
+    c.loop-number.invariant c.insert.ensures

@@ -10,19 +10,24 @@ returns-then-at-self c =
     let w = c.self.invariant.1 in
     let ln : c.args.number < length c.self.inside.order.items = omega arith in
     let lp : c.args.number < length c.self.inside.places.items = omega (arith, ln, w.size) in
-    let at : get_or c.self.inside.places.items c.args.number 0 ≡ c.index-at.result.now = get_or_default c.self.inside.places.items c.args.number 0 _ lp ∙ sym c.index-at.ensures in
+    let at : get_or c.self.inside.places.items c.args.number 0 ≡ c.index-at.result.now =
+    get_or_default c.self.inside.places.items c.args.number 0 _ lp ∙ sym c.index-at.ensures in
     let one : c.self.inside.count - 1 + 1 ≡ c.self.inside.count = omega arith in
     let within = c.self.invariant.0 in
-    subst (λ z. HasLost c.args.number z (record { list = take (c.self.inside.count - 1) c.exchange.new.order.items; size = length c.exchange.new.order.items })) c.self.view_is
-    (subst (λ k. HasLost c.args.number (record { list = take k c.self.inside.order.items; size = length c.self.inside.order.items }) (record { list = take (c.self.inside.count - 1) c.exchange.new.order.items; size = length c.exchange.new.order.items })) one
-    (lost c.self.inside.order.items c.self.inside.places.items _ _ (c.self.inside.count - 1) c.args.number w (omega (arith, within)) ln (omega (arith, at)) c.exchange.ensures))
+    subst (λ z. HasLost c.args.number z (record { list = take (c.self.inside.count - 1) c.exchange.new.order.items; size = length c.exchange.new.order.items }))
+    c.self.view_is
+    (subst (λ k. HasLost c.args.number (record { list = take k c.self.inside.order.items; size = length c.self.inside.order.items })
+    (record { list = take (c.self.inside.count - 1) c.exchange.new.order.items; size = length c.exchange.new.order.items })) one
+    (lost c.self.inside.order.items c.self.inside.places.items _ _ (c.self.inside.count - 1) c.args.number w (omega (arith, within)) ln (omega (arith, at))
+    c.exchange.ensures))
 
 pub returns-else-at-self : goal.returns-else-at-self
 returns-else-at-self c =
     let w = c.self.invariant.1 in
     let ln : c.args.number < length c.self.inside.order.items = omega arith in
     let lp : c.args.number < length c.self.inside.places.items = omega (arith, ln, w.size) in
-    let at : get_or c.self.inside.places.items c.args.number 0 ≡ c.index-at.result.now = get_or_default c.self.inside.places.items c.args.number 0 _ lp ∙ sym c.index-at.ensures in
+    let at : get_or c.self.inside.places.items c.args.number 0 ≡ c.index-at.result.now =
+    get_or_default c.self.inside.places.items c.args.number 0 _ lp ∙ sym c.index-at.ensures in
     record {
       size = refl;
       gone = λ h. not_in c.self.inside.order.items c.self.inside.places.items c.self.inside.count c.args.number w c.self.invariant.0 (λ l. omega (arith, at))

@@ -5,12 +5,14 @@ use Rattle.iv_hall.proofs.readers.Readers.insert.Goals as goal
 
 pub invariant_of-self : goal.invariant_of-self
 invariant_of-self c =
-    let none : list_any (eqb c.args.number) c.self.inside.numbers.items ≡ false = ap (list_any (eqb c.args.number)) (sym c.deref.ensures.value) ∙ (sym c.has_number.ensures ∙ c.if-not-has_number.true) in
+    let none : list_any (eqb c.args.number) c.self.inside.numbers.items ≡ false =
+    ap (list_any (eqb c.args.number)) (sym c.deref.ensures.value) ∙ (sym c.has_number.ensures ∙ c.if-not-has_number.true) in
     rw c.in_ok-push.ensures.items (once_more c.self.inside.numbers.items c.args.number c.self.invariant none)
 
 pub returns-in_ok-push : goal.returns-in_ok-push
 returns-in_ok-push c =
-    let none : list_any (eqb c.args.number) c.self.inside.numbers.items ≡ false = ap (list_any (eqb c.args.number)) (sym c.deref.ensures.value) ∙ (sym c.has_number.ensures ∙ c.if-not-has_number.true) in
+    let none : list_any (eqb c.args.number) c.self.inside.numbers.items ≡ false =
+    ap (list_any (eqb c.args.number)) (sym c.deref.ensures.value) ∙ (sym c.has_number.ensures ∙ c.if-not-has_number.true) in
     ap (λ z. record { feed = c.self.inside.feed; numbers = z }) (c.in_ok-push.ensures.items
     ∙ ap (λ b. cond b c.self.inside.numbers.items (c.self.inside.numbers.items ++ c.args.number ∷ [])) (sym none))
     ∙ ap (λ r. record { feed = r.feed; numbers = with_number c.args.number r.numbers }) c.self.view_is
