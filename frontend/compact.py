@@ -4,11 +4,11 @@
     frontend/compact.py [--rows N] JOURNAL [VIEWD]
 
 viewd has no dump, so it is told the journal and the administrator subscribes to each table. What was written is read
-back by another viewd before it takes the journal's place. Where anything differs, the journal stays as it was.
+back by another viewd before it takes the journal's place. If anything differs, the journal stays as it was.
 
-A file, the journal of ./gateway, is written anew while no gateway writes it. Of a stream, redis://HOST:PORT/NAME, the lines are kept
-as a snapshot of the place to which it was read, gateways that start begin there, and what stands further behind goes; gateways run
-meanwhile.
+A file, the journal of ./gateway, is written anew while no gateway writes it, and has no more who wrote what and when: a copy of the
+old one keeps that. Of a stream, redis://HOST:PORT/NAME, the lines are kept as a snapshot of the place to which it was read, gateways
+that start begin there, and what is older is dropped; gateways run meanwhile.
 """
 import argparse
 import asyncio
@@ -22,6 +22,7 @@ import sys
 from collections.abc import Callable, Iterable, Iterator
 from typing import Any
 
+import audit
 from journal import BODY, Anew, Damaged, Request, Shape, by_role, entry_of, replay, to_text
 
 ENTRIES = 1000  # of a write
@@ -99,11 +100,9 @@ def locked(path: pathlib.Path) -> Iterator[None]:
 
 
 def entries(path: pathlib.Path) -> Iterator[tuple[str, Request]]:
-    """Role and request of each whole line: what stands behind the last newline was never acknowledged. Raises Damaged."""
-    with path.open("rb") as file:
-        for number, line in enumerate(file, 1):
-            if line.endswith(b"\n"):
-                yield entry_of(line[:-1], f"{path}: line {number}")
+    """Role and request of each entry. Raises Damaged."""
+    for number, text in enumerate(audit.read(path.read_bytes(), str(path)), 1):
+        yield entry_of(text.entry, f"{path}: entry {number}")
 
 
 def replace(path: pathlib.Path, lines: Iterable[bytes], check: Callable[[pathlib.Path], None]) -> None:
@@ -135,7 +134,7 @@ def compact(path: pathlib.Path, words: list[str | pathlib.Path]) -> str:
             if Viewd(words).state(entries(fresh)) != before:
                 raise Damaged(f"{fresh} leads to another state, so {path} stays")
 
-        replace(path, lines(*before), check)
+        replace(path, audit.written(lines(*before)), check)
         return f"{path}: {size_of(path)} instead of {was}"
 
 

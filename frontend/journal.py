@@ -1,8 +1,8 @@
-"""What stands in a journal: the accepted requests that changed what is shared, one a line, in viewd's order; and the shape that they make.
+"""What is in a journal: the accepted requests that changed what is shared, one a line, in viewd's order; and the shape that they make.
 
 A line is the request without its session and with the role that made it: `{"as":"mia","do":"write","entries":[..]}`.
-A viewd that begins empty and is told these lines is in the state that they lead to, and refuses none of them. The file of the program
-`./gateway` has them, and so has a stream of Redis (stream.py).
+A viewd that begins empty and is told these lines is in the state that they lead to, and refuses none of them. A stream of Redis has them (stream.py), and
+the file of the program `./gateway`, there behind digests and notes (audit.py).
 
 The key is `as`, which no request has: viewd refuses by 2 what has it. `role`, which it was, is a key of `grant_role` too. A line
 is measured with the longest role and the longest session, so it fits in any other viewd behind the same journal. It has no checksum,
@@ -27,7 +27,7 @@ Request = dict[str, Any]
 
 
 def replay(program: pathlib.Path, rows: int | None) -> list[str | pathlib.Path]:
-    """The words that start a viewd with so many rows at most in a table, or at each step of a view; its own number where none is said."""
+    """The words that start a viewd with so many rows at most in a table, or at each step of a view; its own number if none is said."""
     return [program, "replay", "--lines", "4294967295", *(["--rows", str(rows)] if rows else [])]
 
 
@@ -36,7 +36,7 @@ class Damaged(Exception):
 
 
 def to_text(value: object) -> bytes:
-    """Raises UnicodeEncodeError where half of a surrogate pair stands in a text."""
+    """Raises UnicodeEncodeError if half of a surrogate pair is in a text."""
     return json.dumps(value, ensure_ascii=False, separators=(",", ":")).encode()
 
 
@@ -89,7 +89,7 @@ class Shape:
             del self.grants[on][role]
 
     def reached(self, role: str) -> set[str]:
-        """The role, and each one of which it is a member, through any number of steps."""
+        """The role, and each role that it is a member of, through any number of steps."""
         reached, news = {role}, {role}
         while news:
             news = {above for above, member in self.members if member in news} - reached
@@ -126,7 +126,7 @@ class Entry(NamedTuple):
 
 
 class Anew(Exception):
-    """What viewd has taken in is not what the journal has from here on: another viewd is to be told it from its beginning."""
+    """What viewd has applied is not what the journal has from here on: another viewd is to be told it from its beginning."""
 
 
 def entry_of(line: bytes, where: str) -> tuple[str, Request]:

@@ -22,3 +22,7 @@ pub record IsNew (cap : ℕ) (x : Desk) : Type 0 where
   pub most : ℕ
   pub places : ℕ
   pub stands : IsDesk (front_at_start (gate_at_start cap tokens most []) places) x
+
+-- bytes that wait for the journal, beyond which no further socket is read in a round
+abbrev pub most_told : ℕ
+most_told = 16777216

@@ -5,6 +5,7 @@ use crate::doors::Doors;
 use crate::fault::Fault;
 use crate::socket::{Socket, Stage};
 use crate::steps::settle;
+use iv_audit::Share;
 use iv_desk::Desk;
 use iv_host::{Counts, FileJournal, Log, Why, raise};
 use mio::event::Event;
@@ -12,6 +13,7 @@ use mio::net::{TcpListener, TcpStream};
 use mio::{Events, Interest, Poll, Token};
 use std::alloc::{AllocError, Global};
 use std::io::ErrorKind;
+use std::mem;
 use std::net::SocketAddr;
 
 /// The poll's number of the listener.
@@ -21,7 +23,13 @@ pub const LISTENER: Token = Token(usize::MAX);
 const ACCEPTS: u32 = 256;
 
 /// Milliseconds from the first byte to the token, at most.
-const COMING: u64 = 10_000;
+pub const COMING: u64 = 10_000;
+
+/// Milliseconds from one message to the next of those who asked nothing, at least, where many are there.
+const GATHERING: u64 = 10;
+
+/// So many connections are many.
+const MANY: usize = 64;
 
 /// Milliseconds in which a client takes something, where something waits for it.
 const TAKING: u64 = 30_000;
@@ -42,10 +50,16 @@ pub struct Hall {
     pub asked: Vec<u32>,
     /// Those that are let go at the end of this round.
     pub gone: Vec<(u32, Why)>,
+    /// Who made the entries that wait for the journal.
+    pub shares: Vec<Share>,
     /// Somebody may wait to be accepted.
     pub accepting: bool,
     /// The next round is to come at once.
     pub again: bool,
+    /// When those who asked nothing were sent to, in milliseconds.
+    pub swept: u64,
+    /// Some of those may wait to be sent to.
+    pub gathering: bool,
     /// Milliseconds since the start.
     pub now: u64,
     pub log: Log,
@@ -67,6 +81,21 @@ pub enum Kind {
     Answer,
     /// It is to be closed by the other end.
     Ending,
+}
+
+/// The one of two that has to be further first.
+fn elder(found: Option<(u64, u32)>, until: Option<u64>, at: u32) -> Option<(u64, u32)> {
+    match (found, until) {
+        (_, None) => found,
+        (None, Some(until)) => Some((until, at)),
+        (Some((first, _)), Some(until)) => {
+            if until < first {
+                Some((until, at))
+            } else {
+                found
+            }
+        }
+    }
 }
 
 impl Hall {
@@ -94,8 +123,11 @@ impl Hall {
             to_read: Vec::new(alloc),
             asked: Vec::new(alloc),
             gone: Vec::new(alloc),
+            shares: Vec::new(alloc),
             accepting: false,
             again: false,
+            swept: 0,
+            gathering: false,
             now: 0,
             log: Log::new(),
             counts: Counts::new(),
@@ -104,9 +136,22 @@ impl Hall {
         })
     }
 
-    /// Whether something is to be done before anything comes.
-    pub fn is_busy(&self) -> bool {
-        self.again
+    /// Milliseconds to wait for something to come, at most.
+    pub fn patience(&self) -> u64 {
+        if self.again {
+            0
+        } else if self.gathering {
+            GATHERING.saturating_sub(self.now.saturating_sub(self.swept))
+        } else {
+            1000
+        }
+    }
+
+    /// Whether those who asked nothing are sent to in this round: in each if there are few, and else so often that what they are told meanwhile
+    /// is one message.
+    pub fn may_sweep(&self) -> bool {
+        let there = self.sockets.len().saturating_sub(self.free.len());
+        there < MANY || self.now.saturating_sub(self.swept) >= GATHERING
     }
 
     /// It is so late, in milliseconds since the start.
@@ -218,19 +263,66 @@ impl Hall {
         Ok(())
     }
 
+    /// Whether the connection of a number is let go in this round.
+    fn goes(&self, at: u32) -> bool {
+        for (gone, _) in self.gone.iter() {
+            if *gone == at {
+                return true;
+            }
+        }
+        false
+    }
+
+    /// The number of the connection that has to be further first, if there is one: of those that are no clients the one that came first.
+    fn eldest(&self) -> Option<u32> {
+        let mut found: Option<(u64, u32)> = None;
+        let mut at: u32 = 0;
+        for slot in self.sockets.iter() {
+            if let Some(socket) = slot {
+                if !self.goes(at) {
+                    found = elder(found, socket.until, at);
+                }
+            }
+            at = at.saturating_add(1);
+        }
+        match found {
+            Some((_, at)) => Some(at),
+            None => None,
+        }
+    }
+
+    /// Where no number is free, the connection that has not come in for the longest goes.
+    fn make_room(&mut self, rt: &HostRuntime, desk: &mut Desk) -> Result<(), Fault>
+        ensures { Leads desk.old desk.new }
+    {
+        if !self.free.is_empty() {
+            return Ok(());
+        }
+        match self.eldest() {
+            None => Ok(()),
+            Some(at) => self.drop_at(rt, desk, at, Why::Late),
+        }
+    }
+
     /// Accepts who waits.
     pub fn accept(
         &mut self,
         rt: &HostRuntime,
+        desk: &mut Desk,
         poll: &Poll,
         listener: &TcpListener,
-    ) -> Result<(), Fault> {
+    ) -> Result<(), Fault>
+        ensures { Leads desk.old desk.new }
+    {
         if !self.accepting {
             return Ok(());
         }
-        for _ in 0..ACCEPTS {
+        'accepts: for _ in 0..ACCEPTS {
             match listener.accept() {
-                Ok((stream, address)) => self.place(rt, poll, stream, address)?,
+                Ok((stream, address)) => {
+                    self.make_room(rt, desk)?;
+                    self.place(rt, poll, stream, address)?;
+                }
                 Err(error) => {
                     self.accepting = false;
                     if error.kind() != ErrorKind::WouldBlock && self.log.may_say(rt, self.now) {
@@ -289,8 +381,9 @@ impl Hall {
     {
         self.again = false;
         self.note_all(events)?;
-        self.accept(rt, poll, listener)?;
+        self.accept(rt, desk, poll, listener)?;
         self.read_all(rt, desk, journal)?;
+        journal.note(mem::replace(&mut self.shares, Vec::new(self.alloc)));
         settle(desk, journal)?;
         self.send_all(desk)?;
         self.drop_all(rt, desk)

@@ -1,11 +1,13 @@
-//! What a round reads: heads of requests, and what clients say, at most so much of each.
+//! What a round reads: heads of requests, and what clients say, at most so much of each, until much is told.
+ghost use Rattle.std.specs.Prelude.{◌≡◌, ◌++◌, OnOk};
 ghost use Rattle.gateway.specs.Running.{Leads};
 
 use crate::fault::Fault;
-use crate::hall::{Hall, Kind};
+use crate::hall::{COMING, Hall, Kind};
 use crate::scout::Scout;
 use crate::socket::{Got, Stage, listen_at, read_at};
-use crate::steps::{accept, close, hear, hear_on};
+use crate::steps::{accept, close, hear, hear_on, may_read};
+use iv_audit::Share;
 use iv_desk::{Desk, Hearing};
 use iv_host::{ADMIN, FileJournal, Why, raise, refusal};
 use iv_pages::{Refusal, Wish, asked};
@@ -19,6 +21,12 @@ const ANSWERING: u64 = 60_000;
 
 /// Bytes of answers that wait to be sent, at most, before one more is made.
 const MOST_UNSENT: u64 = 67_108_864;
+
+/// Bytes of an answer that is made whatever waits, as of `/healthz`.
+const SHORT: usize = 4_096;
+
+/// Bytes of who has presented no token that is known, at most, behind the head of its request.
+const MOST_UNKNOWN: usize = 65_536;
 
 /// Clients by one token, at most.
 const MOST_BY_TOKEN: usize = 64;
@@ -118,7 +126,7 @@ impl Hall {
         self.send_scout(at);
         listen_at(&mut self.sockets, &mut self.doors, desk, at, head)?;
         let hearing = hear(desk, at, head)?;
-        self.heed(at, hearing);
+        self.heed(desk, at, hearing)?;
         self.asked.push(at)?;
         Ok(())
     }
@@ -128,8 +136,8 @@ impl Hall {
         let mut sum: u64 = 0;
         for slot in self.sockets.iter() {
             if let Some(socket) = slot {
-                if let Stage::Answer(bytes, _) = &socket.stage {
-                    raise(&mut sum, bytes.len() as u64);
+                if let Stage::Answer(bytes, sent) = &socket.stage {
+                    raise(&mut sum, bytes.len().saturating_sub(*sent) as u64);
                 }
             }
         }
@@ -146,7 +154,7 @@ impl Hall {
         only_head: bool,
     ) -> Result<(), Fault> {
         raise(&mut self.counts.asked, 1);
-        let answer = if self.unsent() > MOST_UNSENT {
+        let answer = if bytes.len() > SHORT && self.unsent() > MOST_UNSENT {
             refusal(rt, Refusal::Unavailable, only_head)?
         } else {
             bytes
@@ -160,11 +168,27 @@ impl Hall {
         Ok(())
     }
 
-    /// What the desk says of bytes that it was given.
-    fn heed(&mut self, at: u32, hearing: Hearing) {
+    /// What the desk says of bytes that it was given at a number. The entries that these made are of who holds its token.
+    fn heed(&mut self, desk: &Desk, at: u32, hearing: Hearing) -> Result<(), Fault> {
         if let Some(socket) = self.socket(at) {
             socket.unheard = hearing == Hearing::Held;
         }
+        self.share(desk, at)
+    }
+
+    /// The entries that were made since this was last called were made at a number, by who holds its token.
+    fn share(&mut self, desk: &Desk, at: u32) -> Result<(), Fault> {
+        let end = desk.entered().len();
+        let before = match self.shares.last() {
+            Some(share) => share.end,
+            None => 0,
+        };
+        if end == before {
+            return Ok(());
+        }
+        let holder = self.doors.holder_at(desk, at)?;
+        self.shares.push(Share { end, holder })?;
+        Ok(())
     }
 
     /// Hears on at a number that was held. Whether it may be read.
@@ -178,7 +202,7 @@ impl Hall {
             return Ok(!desk.is_over(at));
         }
         let hearing = hear_on(desk, at)?;
-        self.heed(at, hearing);
+        self.heed(desk, at, hearing)?;
         Ok(hearing == Hearing::All)
     }
 
@@ -200,9 +224,24 @@ impl Hall {
             }
             Got::Bytes(count) => {
                 raise(&mut self.counts.read, count as u64);
-                self.heed(at, hearing);
+                self.heed(desk, at, hearing)?;
+                if self.says_much(at, count) {
+                    self.go(at, Why::Late)?;
+                    return Ok(false);
+                }
                 Ok(hearing == Hearing::All)
             }
+        }
+    }
+
+    /// So many bytes more were read at a number. Whether it has said too much for who has presented no token that is known.
+    fn says_much(&mut self, at: u32, count: usize) -> bool {
+        match self.socket(at) {
+            Some(socket) if !socket.came => {
+                socket.said = socket.said.saturating_add(count);
+                socket.said > MOST_UNKNOWN
+            }
+            _ => false,
         }
     }
 
@@ -344,7 +383,29 @@ impl Hall {
         Ok(())
     }
 
-    /// Reads all that are listed.
+    /// A number is not read in this round. Who has to be further by a time has no less of it then than one who has just come.
+    fn put_off(&mut self, at: u32) {
+        let until = self.now.saturating_add(COMING);
+        if let Some(socket) = self.socket(at) {
+            socket.until = socket.until.map(|time| time.max(until));
+        }
+    }
+
+    /// These numbers are the first that are read in the next round, which comes at once.
+    fn read_first(&mut self, late: Vec<u32>) -> Result<(), Fault>
+        ensures { OnOk result (self.new.to_read.items ≡ late.items ++ self.old.to_read.items) }
+    {
+        if late.is_empty() {
+            return Ok(());
+        }
+        self.again = true;
+        let listed = mem::replace(&mut self.to_read, late);
+        self.to_read.extend_from_slice(&listed)?;
+        Ok(())
+    }
+
+    /// Reads those that are listed, in their order, until too much waits for the journal. The others come first in the next round, so
+    /// nobody waits for ever.
     pub fn read_all(
         &mut self,
         rt: &HostRuntime,
@@ -354,9 +415,15 @@ impl Hall {
         ensures { Leads desk.old desk.new }
     {
         let listed = mem::replace(&mut self.to_read, Vec::new(self.alloc));
+        let mut late = Vec::new(self.alloc);
         for at in listed.iter() {
-            self.read(rt, desk, journal, *at)?;
+            if may_read(desk) {
+                self.read(rt, desk, journal, *at)?;
+            } else {
+                self.put_off(*at);
+                late.push(*at)?;
+            }
         }
-        Ok(())
+        self.read_first(late)
     }
 }

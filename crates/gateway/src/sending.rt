@@ -1,4 +1,4 @@
-//! What a round sends: first to those who asked in it, then to all others; and whom it lets go.
+//! What a round sends: first to those who asked in it, then to all others, at most so often if they are many; and whom it lets go.
 ghost use Rattle.gateway.specs.Running.{Leads};
 
 use crate::fault::Fault;
@@ -152,15 +152,32 @@ impl Hall {
         Ok(())
     }
 
-    /// Sends first to those who asked in this round, then to all others.
-    pub fn send_all(&mut self, desk: &mut Desk) -> Result<(), Fault>
+    /// Sends to all who may be sent something now.
+    fn sweep(&mut self, desk: &mut Desk) -> Result<(), Fault>
         ensures { Leads desk.old desk.new }
     {
-        self.send_asked(desk)?;
         for at in 0..self.most {
             self.send_owed(desk, at)?;
         }
         Ok(())
+    }
+
+    /// Sends first to those who asked in this round, then to all others, if it is time for these. What they are told before is offered to them
+    /// once they have taken the last message, so it is one message.
+    pub fn send_all(&mut self, desk: &mut Desk) -> Result<(), Fault>
+        ensures { Leads desk.old desk.new }
+    {
+        self.send_asked(desk)?;
+        let is_gathered = self.gathering;
+        self.gathering = !self.may_sweep();
+        if self.gathering {
+            return Ok(());
+        }
+        self.swept = self.now;
+        if is_gathered {
+            self.again = true;
+        }
+        self.sweep(desk)
     }
 
     /// Lets go who is gone.
@@ -199,7 +216,13 @@ impl Hall {
     }
 
     /// Lets go the connection of a number, which is free then.
-    fn drop_at(&mut self, rt: &HostRuntime, desk: &mut Desk, at: u32, why: Why) -> Result<(), Fault>
+    pub fn drop_at(
+        &mut self,
+        rt: &HostRuntime,
+        desk: &mut Desk,
+        at: u32,
+        why: Why,
+    ) -> Result<(), Fault>
         ensures { Leads desk.old desk.new }
     {
         let kind = self.kind(at);

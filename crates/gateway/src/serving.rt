@@ -7,12 +7,15 @@ use crate::doors::Doors;
 use crate::fault::Fault;
 use crate::hall::{Hall, LISTENER};
 use crate::steps::{new_desk, restore, tick};
+use iv_audit::{Audit, AuditFault, read_audit};
 use iv_clients::{Token, TokensFault};
 use iv_desk::Desk;
+use iv_disk::KeepFault;
 use iv_engine::Seed;
 use iv_gateway::RestoreFault;
 use iv_host::{
-    FileJournal, OpenFault, SecretFault, Settings, TokenFault, TokenFile, read_secret, second_now,
+    FileJournal, JournalFile, OpenFault, SecretFault, Settings, TokenFault, TokenFile, read_secret,
+    second_now,
 };
 use iv_tokens::{Entry, KnownTokens};
 use mio::net::TcpListener;
@@ -41,6 +44,9 @@ fn out_of_memory(rt: &HostRuntime) -> u8 {
 fn no_journal(rt: &HostRuntime, path: &str, fault: &OpenFault) -> u8 {
     let _ = match fault {
         OpenFault::Taken => eprintln!(rt; "gateway: another process writes {path}"),
+        OpenFault::NotEntries => eprintln!(rt;
+            "gateway: {path} has an entry that cannot be written"
+        ),
         OpenFault::System(error) => eprintln!(rt; "gateway: {path}: {error}"),
     };
     UNUSABLE
@@ -80,12 +86,12 @@ fn failed(rt: &HostRuntime, journal: &FileJournal, fault: Fault) -> u8 {
         Fault::Memory => out_of_memory(rt),
         Fault::Journal => {
             let _ = match journal.why() {
-                Some(error) => {
+                Some(KeepFault::System(error)) => {
                     eprintln!(rt;
                         "gateway: the journal could not be written: {error}. Nobody was told of what it does not have"
                     )
                 }
-                None => eprintln!(rt; "gateway: the journal could not be written"),
+                _ => eprintln!(rt; "gateway: the journal could not be written"),
             };
             UNUSABLE
         }
@@ -181,8 +187,7 @@ fn each_tick(desk: &mut Desk, hall: &Hall, clock: &mut Clock) -> Result<(), Faul
 
 /// Waits until something comes, a second at most.
 fn wait(hall: &Hall, poll: &mut Poll, events: &mut Events) -> Result<(), Fault> {
-    let wait = if hall.is_busy() { 0 } else { 1000 };
-    match poll.poll(events, Some(Duration::from_millis(wait))) {
+    match poll.poll(events, Some(Duration::from_millis(hall.patience()))) {
         Ok(()) => Ok(()),
         Err(_) => Err(Fault::System),
     }
@@ -244,32 +249,117 @@ fn say_damaged(rt: &HostRuntime, path: &str, bytes: &[u8], place: usize) {
     );
 }
 
-/// Brings a new desk to where the journal leads, and has all of that on disk.
-fn come_back(
+/// The byte at which a line begins, counted from 0.
+fn place_of(bytes: &[u8], line: usize) -> usize {
+    let mut lines: usize = 0;
+    for at in 0..bytes.len() {
+        if lines == line {
+            return at;
+        }
+        if bytes[at] == b'\n' {
+            lines = lines.saturating_add(1);
+        }
+    }
+    bytes.len()
+}
+
+/// Brings a new desk to where a journal of the form before leads, and puts one of this form in its place.
+fn renew(
     rt: &HostRuntime,
     desk: &mut Desk,
     path: &str,
-    journal: &mut FileJournal,
-    bytes: &[u8],
-) -> Result<(), u8>
+    file: JournalFile,
+) -> Result<JournalFile, u8>
     ensures { OnOk result ((cap : ℕ) → IsNew cap desk.old → IsRunning cap desk.new) }
 {
-    match restore(desk, bytes) {
+    match restore(desk, file.bytes()) {
         Ok(kept) => {
-            if kept < bytes.len() {
-                say_cut(rt, path, bytes.len() - kept);
+            if kept < file.bytes().len() {
+                say_cut(rt, path, file.bytes().len() - kept);
             }
-            match journal.begin(kept as u64) {
-                Ok(()) => Ok(()),
-                Err(error) => Err(no_journal(rt, path, &OpenFault::System(error))),
+            match file.renew(path, kept) {
+                Ok(file) => Ok(file),
+                Err(fault) => Err(no_journal(rt, path, &fault)),
             }
         }
         Err(RestoreFault::Damaged(place)) => {
-            say_damaged(rt, path, bytes, place);
+            say_damaged(rt, path, file.bytes(), place);
             Err(UNUSABLE)
         }
         Err(_) => Err(out_of_memory(rt)),
     }
+}
+
+/// Reads a journal, or says why it is not read.
+fn read(rt: &HostRuntime, path: &str, bytes: &[u8]) -> Result<Audit, u8> {
+    match read_audit(rt.alloc(), bytes) {
+        Ok(audit) => Ok(audit),
+        Err(AuditFault::Damaged(place)) => {
+            say_damaged(rt, path, bytes, place);
+            Err(UNUSABLE)
+        }
+        Err(AuditFault::Memory) => Err(out_of_memory(rt)),
+    }
+}
+
+/// Brings a new desk to where the entries of a journal lead.
+fn lead(
+    rt: &HostRuntime,
+    desk: &mut Desk,
+    path: &str,
+    bytes: &[u8],
+    entries: &[u8],
+) -> Result<(), u8>
+    ensures { OnOk result ((cap : ℕ) → IsNew cap desk.old → IsRunning cap desk.new) }
+{
+    match restore(desk, entries) {
+        Ok(kept) if kept == entries.len() => Ok(()),
+        Ok(kept) => {
+            say_damaged(rt, path, bytes, place_of(bytes, line_of(entries, kept)));
+            Err(UNUSABLE)
+        }
+        Err(RestoreFault::Damaged(place)) => {
+            say_damaged(rt, path, bytes, place_of(bytes, line_of(entries, place)));
+            Err(UNUSABLE)
+        }
+        Err(_) => Err(out_of_memory(rt)),
+    }
+}
+
+/// Begins a journal of which this was read.
+fn begin_journal(
+    rt: &HostRuntime,
+    path: &str,
+    file: JournalFile,
+    audit: &Audit,
+) -> Result<FileJournal, u8> {
+    let length = file.bytes().len();
+    if audit.end.length < length {
+        say_cut(rt, path, length - audit.end.length);
+    }
+    match file.begin(audit) {
+        Ok(journal) => Ok(journal),
+        Err(fault) => Err(no_journal(rt, path, &fault)),
+    }
+}
+
+/// Brings a new desk to where the journal of a file leads, and has all of that on disk.
+fn come_back(
+    rt: &HostRuntime,
+    desk: &mut Desk,
+    path: &str,
+    file: JournalFile,
+) -> Result<FileJournal, u8>
+    ensures { OnOk result ((cap : ℕ) → IsNew cap desk.old → IsRunning cap desk.new) }
+{
+    if file.is_old() {
+        let file = renew(rt, desk, path, file)?;
+        let audit = read(rt, path, file.bytes())?;
+        return begin_journal(rt, path, file, &audit);
+    }
+    let audit = read(rt, path, file.bytes())?;
+    lead(rt, desk, path, file.bytes(), &audit.bytes)?;
+    begin_journal(rt, path, file, &audit)
 }
 
 /// Says that the address cannot be listened on.
@@ -330,11 +420,10 @@ fn begin(
         Some(seed) => Some(seed.as_str()),
         None => None,
     };
-    match FileJournal::open(rt, path, seed) {
+    match JournalFile::open(rt, path, seed) {
         Err(fault) => Err(no_journal(rt, path, &fault)),
-        Ok((mut journal, bytes)) => {
-            come_back(rt, desk, path, &mut journal, &bytes)?;
-            drop(bytes);
+        Ok(file) => {
+            let mut journal = come_back(rt, desk, path, file)?;
             open(rt, desk, hall, settings, &mut journal, tokens)
         }
     }

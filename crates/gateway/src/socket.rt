@@ -48,6 +48,8 @@ pub struct Socket {
     pub scout: Option<Scout>,
     /// What became of the text that it presented, if that was judged.
     pub judged: Option<Judged>,
+    /// Bytes that were read behind its head before it presented a token that is known.
+    pub said: usize,
     /// It has presented a token that is known.
     pub came: bool,
     /// Since when bytes wait for it and none were taken, in milliseconds.
@@ -81,6 +83,7 @@ impl Socket {
             unheard: false,
             scout: None,
             judged: None,
+            said: 0,
             came: false,
             stuck: None,
             until: Some(until),

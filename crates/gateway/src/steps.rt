@@ -1,10 +1,12 @@
 //! The desk's calls as the program makes them: each leads from a run to a run.
 //!
 //! So behind each of them all holds that `browsers_are_told_their_views` of iv_desk says of runs.
-ghost use Rattle.std.specs.Prelude.{◌≡◌, ℕ, IfOk, true};
+ghost use Rattle.std.specs.Prelude.{◌≡◌, ℕ, IfOk, false, true};
 ghost use Rattle.iv_rows.specs.RowLimit.{IsRowLimit};
-ghost use Rattle.iv_desk.specs.Front.{may_tell};
-ghost use Rattle.gateway.specs.Running.{IsNew, IsRunning, Leads};
+ghost use Rattle.iv_gateway.specs.Waiting.{WaitsWithin};
+ghost use Rattle.iv_desk.specs.Desks.{IsDesk};
+ghost use Rattle.iv_desk.specs.Front.{Front, may_tell};
+ghost use Rattle.gateway.specs.Running.{IsNew, IsRunning, Leads, most_told};
 
 use crate::fault::Fault;
 use iv_clients::Token;
@@ -14,6 +16,9 @@ use iv_engine::{Engine, Seed};
 use iv_gate::laws::events_leave_their_marks;
 use iv_gateway::{Gateway, Journal, RestoreFault};
 use std::alloc::{AllocError, Global};
+
+/// Bytes that wait for the journal, at most, before one more socket is read in a round: 16 MiB.
+const MOST_TOLD: u64 = 16_777_216;
 
 /// A desk over an engine with nothing, with places for as many clients.
 ///
@@ -56,6 +61,13 @@ pub fn accept(desk: &mut Desk, at: u32) -> bool
     ensures { Leads desk.old desk.new }
 {
     desk.accept(at)
+}
+
+/// Whether one more socket may be read in this round.
+pub fn may_read(desk: &Desk) -> bool
+    ensures { (d : Front) → IsDesk d desk.now → d.gate.dead ≡ false → result ≡ true → WaitsWithin d.gate most_told }
+{
+    desk.waiting() <= MOST_TOLD
 }
 
 /// Takes in bytes that were read at a number, and hears all that may be heard now.

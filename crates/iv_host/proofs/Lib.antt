@@ -1,5 +1,4 @@
 pub mod Adding
 pub mod Answered
 pub mod Fields
-pub mod Known
 pub mod Roles

@@ -1,6 +1,5 @@
 pub mod Admins
 pub mod Counts
-pub mod Disk
 pub mod Figures
 pub mod Pages
 pub mod Roles

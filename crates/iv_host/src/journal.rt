@@ -1,26 +1,31 @@
-//! `DiskJournal`: the journal on a disk, and `FileJournal`, that in a file which one process at a time writes.
-//!
-//! What `append` promises is proved over any disk that tells its bytes. A real file tells none, so of one it is shown by kills and a full disk.
-ghost use Rattle.std.specs.Prelude.{◌≡◌, ◌==◌, ◌<◌, ℕ, List, OnErr, OnOk, Option, count_by, length, take};
-ghost use Rattle.std.specs.Io.KnownBytes.{Appends, Keeps};
+//! `DiskJournal`: the journal on a disk, and `FileJournal`, that in a file which one process at a time writes; `JournalFile`: that file before.
+ghost use Rattle.std.specs.Prelude.{◌≡◌, ◌==◌, ◌<◌, ℕ, IfOk, IfSome, List, OnErr, OnOk, Option, count_by, length, take, true};
+ghost use Rattle.std.specs.Io.KnownBytes.{Appends};
+ghost use Rattle.iv_audit.specs.Reading.{IsAudit, bytes_in};
+ghost use Rattle.iv_disk.specs.Kept.{given_to};
 ghost use Rattle.iv_host.specs.Counts.{raised};
-ghost use Rattle.iv_host.specs.Disk.{first_known};
 
 use crate::counts::{BOUNDS, raise};
-use crate::disk::{Disk, cut_synced, put};
+use crate::tokens::second_now;
+use hex::encode_to_slice;
+use iv_audit::{Audit, Share, WriteFault, anew};
+use iv_disk::{Disk, KeepFault, Keeper};
 use iv_gateway::{Journal, JournalFault};
 use std::fs::{File, OpenOptions, TryLockError};
 use std::io::{ErrorKind, Write};
 use std::os::unix::fs::OpenOptionsExt;
 use std::path::Path;
+use std::random::RandomSource;
 use std::time::Instant;
-use std::{fs, io};
+use std::{fs, io, mem};
 
 /// Why a journal cannot be used.
 #[derive(Debug, Drop)]
 pub enum OpenFault {
     /// Another process writes it.
     Taken,
+    /// It has no entries that can be written.
+    NotEntries,
     /// The system refused.
     System(io::Error),
 }
@@ -74,14 +79,15 @@ impl Syncs {
 
 /// The journal on a disk, and the lock that no other process has meanwhile.
 #[derive(Drop)]
-pub struct DiskJournal<D> {
+pub struct DiskJournal<D: Disk> {
     rt: HostRuntime,
-    disk: D,
+    keeper: Keeper<D>,
     _lock: File,
     end: u64,
     entries: u64,
     syncs: Syncs,
-    why: Option<io::Error>,
+    shares: Vec<Share>,
+    why: Option<KeepFault>,
 }
 
 /// The journal in a file.
@@ -112,6 +118,11 @@ fn lock(rt: &HostRuntime, path: &str) -> Result<File, OpenFault> {
         return Err(OpenFault::System(out_of_memory()));
     };
     let file = own().write(true).create(true).open(rt, name.as_str())?;
+    locked(file)
+}
+
+/// A file that no other process has locked, by whatever name it opened it.
+fn locked(file: File) -> Result<File, OpenFault> {
     match file.try_lock() {
         Ok(()) => Ok(file),
         Err(TryLockError::WouldBlock) => Err(OpenFault::Taken),
@@ -176,8 +187,56 @@ fn micros_since(rt: &HostRuntime, start: &io::Result<Instant>) -> u64 {
     }
 }
 
-impl DiskJournal<File> {
-    /// Opens a journal, and makes it where it is missing, with the bytes of a seed. Answers its bytes, too.
+/// As many of the first bytes.
+fn first(bytes: &[u8], count: usize) -> &[u8]
+    ensures { result.now ≡ take count bytes.now }
+{
+    if count < bytes.len() {
+        &bytes[..count]
+    } else {
+        bytes
+    }
+}
+
+/// 32 digits that no other journal has.
+fn random_digits(rt: &HostRuntime) -> io::Result<[u8; 32]> {
+    let mut bytes = [0; 16];
+    rt.fill_bytes(&mut bytes)?;
+    let mut digits = [0; 32];
+    let _ = encode_to_slice(&bytes, &mut digits);
+    Ok(digits)
+}
+
+impl From<WriteFault> for OpenFault {
+    fn from(fault: WriteFault) -> OpenFault {
+        match fault {
+            WriteFault::Memory => OpenFault::System(out_of_memory()),
+            WriteFault::NotEntries => OpenFault::NotEntries,
+        }
+    }
+}
+
+impl From<KeepFault> for OpenFault {
+    fn from(fault: KeepFault) -> OpenFault {
+        match fault {
+            KeepFault::Memory => OpenFault::System(out_of_memory()),
+            KeepFault::NotEntries | KeepFault::Failed => OpenFault::NotEntries,
+            KeepFault::System(error) => OpenFault::System(error),
+        }
+    }
+}
+
+/// The file of a journal, before anything is known of what it has, and the lock.
+#[derive(Drop)]
+pub struct JournalFile {
+    rt: HostRuntime,
+    file: File,
+    lock: File,
+    bytes: Vec<u8>,
+}
+
+impl JournalFile {
+    /// Opens the file of a journal, and makes it where it is missing, with the bytes of a seed.
     ///
     /// # Errors
     /// `Taken` where another process writes it; `System` where the system refuses a step.
@@ -185,41 +244,97 @@ impl DiskJournal<File> {
         rt: &HostRuntime,
         path: &str,
         seed: Option<&str>,
-    ) -> Result<(DiskJournal<File>, Vec<u8>), OpenFault> {
+    ) -> Result<JournalFile, OpenFault> {
         let lock = lock(rt, path)?;
         sow_seed(rt, path, seed)?;
-        let file = own().append(true).create(true).open(rt, path)?;
+        let file = locked(own().append(true).create(true).open(rt, path)?)?;
         let bytes = fs::read(rt, path)?;
         sync_folder(rt, path)?;
-        Ok((DiskJournal::over(rt, file, lock, &bytes), bytes))
+        Ok(JournalFile {
+            rt: *rt,
+            file,
+            lock,
+            bytes,
+        })
+    }
+
+    /// What it has.
+    pub fn bytes(&self) -> &[u8]
+        ensures { result.now ≡ self.now.bytes.items }
+    {
+        &self.bytes
+    }
+
+    /// Whether it has the form before, in which a line begins with the role.
+    pub fn is_old(&self) -> bool {
+        self.bytes.starts_with(b"{\"a")
+    }
+
+    /// Puts a file of this form in its place, with the entries of as many of its bytes, which have the form before. It is put there whole or
+    /// not at all.
+    ///
+    /// # Errors
+    /// `NotEntries` where these are none; else as of `open`.
+    pub fn renew(self, path: &str, kept: usize) -> Result<JournalFile, OpenFault> {
+        let rt = self.rt;
+        let digits = random_digits(&rt)?;
+        let bytes = anew(rt.alloc(), &digits, first(&self.bytes, kept))?;
+        sow(&rt, path, &bytes)?;
+        let file = locked(own().append(true).open(&rt, path)?)?;
+        sync_folder(&rt, path)?;
+        Ok(JournalFile {
+            rt,
+            file,
+            lock: self.lock,
+            bytes,
+        })
+    }
+
+    /// The journal in it, of which this was read. What stands behind whole records is cut, a head is written if there is none, and all of it is
+    /// synced.
+    ///
+    /// # Errors
+    /// `System` where the system refuses a step.
+    pub fn begin(self, audit: &Audit) -> Result<FileJournal, OpenFault> {
+        let digits = random_digits(&self.rt)?;
+        let journal = DiskJournal::begin(&self.rt, self.file, self.lock, audit, &digits)?;
+        Ok(journal)
     }
 }
 
-impl<D: Disk> DiskJournal<D> {
-    /// The journal on a disk that has these bytes.
-    fn over(rt: &HostRuntime, disk: D, lock: File, bytes: &[u8]) -> DiskJournal<D> {
-        DiskJournal {
+impl<D: Disk + Drop> DiskJournal<D> {
+    /// The journal on a disk of which this was read.
+    fn begin(
+        rt: &HostRuntime,
+        disk: D,
+        lock: File,
+        audit: &Audit,
+        digits: &[u8; 32],
+    ) -> Result<DiskJournal<D>, OpenFault>
+        requires { IfSome (D.held disk) (λ bytes. IsAudit bytes audit.now) }
+        ensures kept { IfOk result (λ j. IfSome (D.held j.keeper.disk) (λ bytes. bytes_in bytes ≡ audit.now.bytes.items)) }
+        ensures synced { IfOk result (λ j. D.synced j.keeper.disk ≡ D.held j.keeper.disk) }
+    {
+        let alloc = rt.alloc();
+        let keeper = Keeper::begin(alloc, disk, audit, digits)?;
+        let end = keeper.length()?;
+        Ok(DiskJournal {
             rt: *rt,
-            disk,
+            keeper,
             _lock: lock,
-            end: bytes.len() as u64,
-            entries: lines_in(bytes),
+            end,
+            entries: lines_in(&audit.bytes),
             syncs: Syncs::new(),
+            shares: Vec::new(alloc),
             why: None,
-        }
+        })
     }
 
-    /// Cuts the disk behind as many bytes, and syncs it.
-    ///
-    /// # Errors
-    /// Where the system refuses.
-    pub fn begin(&mut self, kept: u64) -> io::Result<()>
-        ensures cut { OnOk result (Keeps (first_known kept (D.held self.old.disk)) (D.held self.new.disk)) }
-        ensures synced { OnOk result (D.synced self.new.disk ≡ D.held self.new.disk) }
+    /// What is appended next was made by these holders of tokens, as far as they tell.
+    pub fn note(&mut self, shares: Vec<Share>)
+        ensures { self.new ≡ record self.old { shares = shares } }
     {
-        cut_synced(&mut self.disk, kept)?;
-        self.end = self.end.min(kept);
-        Ok(())
+        self.shares = shares;
     }
 
     /// The length of the disk in bytes.
@@ -244,33 +359,44 @@ impl<D: Disk> DiskJournal<D> {
     }
 
     /// Why it could not be written.
-    pub fn why(&self) -> &Option<io::Error> {
+    pub fn why(&self) -> &Option<KeepFault> {
         &self.why
+    }
+
+    /// Counts what was appended.
+    fn count(&mut self, start: &io::Result<Instant>, length: usize, entries: u64)
+        ensures { self.new.keeper ≡ self.old.keeper }
+    {
+        self.syncs.note(micros_since(&self.rt, start));
+        raise(&mut self.end, length as u64);
+        raise(&mut self.entries, entries);
     }
 }
 
-impl<D: Disk> Journal for DiskJournal<D> {
-    ghost kept = { λ j. D.held j.disk };
+impl<D: Disk + Drop> Journal for DiskJournal<D> {
+    ghost kept = { λ j. given_to (D.held j.keeper.disk) };
 
-    /// Nothing is to stay of what could not be written whole. Where that fails too, the next start cuts what is torn.
+    /// Each entry is written with the second, and with who held the token by which it was made. Nothing is to stay of what could not be written
+    /// whole. Where that fails too, the next start cuts what is torn.
     fn append(&mut self, bytes: &[u8]) -> Result<(), JournalFault>
-        ensures appended { OnOk result (Appends (D.held self.old.disk) (D.held self.new.disk) bytes.now) }
-        ensures torn { OnErr result ((n : ℕ) × Appends (D.held self.old.disk) (D.held self.new.disk) (take n bytes.now)) }
-        ensures synced { OnOk result (0 < length bytes.now → D.synced self.new.disk ≡ D.held self.new.disk) }
+        ensures appended { OnOk result (Appends (given_to (D.held self.old.keeper.disk)) (given_to (D.held self.new.keeper.disk)) bytes.now) }
+        ensures torn { OnErr result ((n : ℕ) × Appends (given_to (D.held self.old.keeper.disk)) (given_to (D.held self.new.keeper.disk)) (take n bytes.now)) }
+        ensures synced { OnOk result (0 < length bytes.now → D.synced self.new.keeper.disk ≡ D.held self.new.keeper.disk) }
+        ensures over { self.old.keeper.failed ≡ true → self.new.keeper ≡ self.old.keeper }
     {
         if bytes.is_empty() {
             return Ok(());
         }
         let start = Instant::now(&self.rt);
-        match put(&mut self.disk, bytes) {
-            Ok(()) => {
-                self.syncs.note(micros_since(&self.rt, &start));
-                raise(&mut self.end, bytes.len() as u64);
-                raise(&mut self.entries, lines_in(bytes));
+        let second = second_now(&self.rt);
+        let shares = mem::replace(&mut self.shares, Vec::new(self.rt.alloc()));
+        match self.keeper.append(self.rt.alloc(), second, &shares, bytes) {
+            Ok(length) => {
+                self.count(&start, length, lines_in(bytes));
                 Ok(())
             }
-            Err(error) => {
-                self.why = Some(error);
+            Err(fault) => {
+                self.why = Some(fault);
                 Err(JournalFault)
             }
         }

@@ -4,7 +4,6 @@
 mod admins;
 mod arguments;
 mod counts;
-mod disk;
 mod figures;
 mod heads;
 mod journal;
@@ -16,9 +15,8 @@ mod tokens;
 pub use admins::{ADMIN, Admins, presented_in};
 pub use arguments::{Settings, asked_for};
 pub use counts::{BOUNDS, Counts, Why, raise};
-pub use disk::{Disk, put};
 pub use figures::{Now, figures_now, state_now};
-pub use journal::{DiskJournal, FileJournal, OpenFault, Syncs};
+pub use journal::{DiskJournal, FileJournal, JournalFile, OpenFault, Syncs};
 pub use log::Log;
 pub use pages::{answer, page_in, refusal};
 pub use tokens::{SecretFault, TokenFault, TokenFile, read_secret, second_now};

@@ -1,8 +1,8 @@
 -- What is so of every journal, and of every bytes.
-use Rattle.std.specs.Prelude.{◌≡◌, ◌⊎◌, ℕ, suc, ◌<◌, ◌≤◌, true, false, List, ◌∷◌, ◌++◌, length, take, None, Some}
-use Rattle.std.specs.List.{AllByRecursion}
+use Rattle.std.specs.Prelude.{◌≡◌, ◌⊎◌, ◌==◌, ℕ, suc, ◌<◌, ◌≤◌, true, false, List, ◌∷◌, ◌++◌, drop, length, take, None, Some}
+use Rattle.std.specs.List.{AllByRecursion, list_any}
 use Rattle.sha2.specs.Sha256.{sha256}
-use Rattle.iv_journal.specs.Journal.{Line, bytes_of, digest_behind, has_head, is_text, journal_of, message_of, no_digest}
+use Rattle.iv_journal.specs.Journal.{Line, body_of, bytes_of, digest_behind, has_head, is_text, journal_of, message_of, no_digest}
 use Rattle.iv_journal.specs.Reading.{BeginsNoLine, IsReading, Reading, is_torn, whole}
 
 -- any bytes have one reading
@@ -25,6 +25,11 @@ pub record IsTold (bytes : List ℕ) (r : Reading) : Type 0 where
   pub unfinished : AllByRecursion (λ l. l.is_last ≡ false) parts
   pub torn : r.fault ≡ None → is_torn rest ≡ true
   pub damaged : (byte : ℕ) → r.fault ≡ Some byte → IsDamage (r.lines ++ parts) rest byte
+
+-- behind as many bytes of a line stands its text, and one newline ends it
+pub record HasItsText (before : List ℕ) (l : Line) : Type 0 where
+  pub text : drop 75 (body_of before l) ≡ l.text
+  pub one : is_text l.text ≡ true → list_any (λ b. b == 10) (body_of before l) ≡ false
 
 -- lines with a head, each with a text
 pub record IsJournal (ls : List Line) : Type 0 where

@@ -3,7 +3,7 @@ ghost use Rattle.std.specs.Prelude.{◌≡◌, List, ℕ};
 ghost use Rattle.iv_journal.specs.Journal.{Line, journal_of};
 ghost use Rattle.iv_journal.specs.Reading.{IsReading, Reading};
 ghost use Rattle.iv_journal.specs.Worked.{two_lines, two_lines_text};
-ghost use Rattle.iv_journal.specs.Laws.{CutsAreFronts, DigestsTell, GoesOn, HasOneReading, IsTold};
+ghost use Rattle.iv_journal.specs.Laws.{CutsAreFronts, DigestsTell, GoesOn, HasItsText, HasOneReading, IsTold};
 
 /// Any bytes have one reading: what is read is decided by them, and all of them are read as something.
 pub fn bytes_have_one_reading()
@@ -34,4 +34,9 @@ pub fn two_lines_are_written()
 /// What is written behind a journal, from its last digest on, makes it the longer journal.
 pub fn journals_go_on()
     ensures { (ls ms : List Line) → GoesOn ls ms }
+{}
+
+/// A line has its text behind its mark, its digest and a comma, and is one line if that is a text.
+pub fn lines_have_their_texts()
+    ensures { (before : List ℕ) (l : Line) → HasItsText before l }
 {}

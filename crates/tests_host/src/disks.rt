@@ -1,7 +1,7 @@
 //! `bytes_are_written_whole_or_taken_back`: what a disk in memory has behind `put`.
 ghost use Rattle.std.specs.Prelude.{Some};
 
-use iv_host::{Disk, put};
+use iv_disk::{Disk, put};
 use std::alloc::{AllocError, Global};
 use std::io;
 use std::io::ErrorKind;

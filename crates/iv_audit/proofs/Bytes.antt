@@ -1,0 +1,47 @@
+-- The gateway's bytes among those of a journal.
+use Rattle.std.proofs.Common.{◌≡◌, ℕ, suc, Bool, true, false, cond, List, [], ◌∷◌, ◌++◌, append_assoc, append-nil, drop, map, refl, ap, ◌∙◌, sym}
+use Rattle.std.specs.Prelude.{◌==◌}
+use Rattle.std.specs.List.{AllByRecursion, list_any}
+use Rattle.iv_journal.specs.Journal.{Line, body_of, bytes_of, digest_behind, digest_of, is_text, journal_of, no_digest}
+use Rattle.iv_journal.specs.Laws.{HasItsText}
+use Rattle.iv_audit.specs.Audit.{line_of, lines_of}
+use Rattle.iv_audit.specs.Reading.{bytes_in, ended_lines, entries_of, entry_in}
+use Rattle.iv_audit.specs.Laws.{BytesHaveEntries}
+use Rattle.iv_audit.proofs.Texts.{neither}
+
+abbrev pub AllText : List Line → Type 0
+AllText ls = AllByRecursion (λ l. is_text l.text ≡ true) ls
+
+abbrev pub HaveTexts : Type 0
+HaveTexts = (before : List ℕ) (l : Line) → HasItsText before l
+
+pub ended_one : (line body rest : List ℕ) → list_any (λ b. b == 10) body ≡ false → ended_lines line (body ++ 10 ∷ rest) ≡ (line ++ body) ∷ ended_lines [] rest
+ended_one line [] rest h = ap (λ z. z ∷ ended_lines [] rest) (sym (append-nil line))
+ended_one line (b ∷ body) rest h =
+    let e = neither (b == 10) (list_any (λ z. z == 10) body) h in
+    ap (λ z. cond z (line ∷ ended_lines [] (body ++ 10 ∷ rest)) (ended_lines (line ++ b ∷ []) (body ++ 10 ∷ rest))) e.0
+    ∙ (ended_one (line ++ b ∷ []) body rest e.1 ∙ ap (λ z. z ∷ ended_lines [] rest) (append_assoc line (b ∷ []) body))
+
+abbrev pub bodies : List ℕ → List Line → List (List ℕ)
+bodies d [] = []
+bodies d (l ∷ ls) = body_of d l ∷ bodies (digest_of d l) ls
+
+pub ended_all : (law : HaveTexts) (d : List ℕ) (ls : List Line) (rest : List ℕ) → AllText ls → ended_lines [] (bytes_of d ls ++ rest) ≡ bodies d ls ++ ended_lines [] rest
+ended_all law d [] rest a = refl
+ended_all law d (l ∷ ls) rest a =
+    ap (ended_lines []) (append_assoc (body_of d l) (10 ∷ bytes_of (digest_of d l) ls) rest)
+    ∙ (ended_one [] (body_of d l) (bytes_of (digest_of d l) ls ++ rest) ((law d l).one a.0)
+    ∙ ap (λ z. body_of d l ∷ z) (ended_all law (digest_of d l) ls rest a.1))
+
+pub entries_all : (law : HaveTexts) (d : List ℕ) (ls : List Line) → map (λ line. entry_in (drop 75 line)) (bodies d ls) ≡ map (λ (l : Line). entry_in l.text) ls
+entries_all law d [] = refl
+entries_all law d (l ∷ ls) = (λ i. entry_in ((law d l).text i) ∷ entries_all law (digest_of d l) ls i)
+
+pub lines_all : (law : HaveTexts) (d : List ℕ) (ls : List Line) → AllText ls → ended_lines [] (bytes_of d ls) ≡ bodies d ls
+lines_all law d ls a = ap (ended_lines []) (sym (append-nil (bytes_of d ls))) ∙ (ended_all law d ls [] a ∙ append-nil (bodies d ls))
+
+pub have : HaveTexts → BytesHaveEntries
+have law [] a = refl
+have law (l ∷ ls) a =
+    ap (λ z. lines_of (map (λ line. entry_in (drop 75 line)) (drop 1 z))) (lines_all law no_digest (l ∷ ls) a)
+    ∙ ap lines_of (entries_all law (digest_of no_digest l) ls)

@@ -1,0 +1,138 @@
+-- What is left of a journal that was cut.
+use Rattle.std.proofs.Common.{◌≡◌, ◌⊎◌, inl, inr, ℕ, zero, suc, ◌+◌, ◌<◌, ◌≤◌, Bool, true, false, cond, ◌&&◌, List, [], ◌∷◌, ◌++◌, append_assoc, codes, drop, take, map, length, length-append, refl, ap, ◌∙◌, sym, subst, arith}
+use Rattle.std.specs.Prelude.{bytes_eq, nat_lt}
+use Rattle.std.specs.List.{AllByRecursion}
+use Rattle.std.proofs.lemmas.Bool.Decides.{nat_tests}
+use Rattle.iv_journal.specs.Journal.{Line, body_of, bytes_of, digest_of, form, has_head, head_of, is_text, journal_of, no_digest}
+use Rattle.iv_journal.specs.Reading.{before_whole, whole}
+use Rattle.iv_journal.specs.Laws.{CutsAreFronts, IsCut, IsJournal}
+use Rattle.iv_audit.specs.Audit.{Written, audit_of, head_line, lines_of, record_of, text_of, version}
+use Rattle.iv_audit.specs.Reading.{entries_of, entry_in}
+use Rattle.iv_audit.specs.Laws as law
+use Rattle.iv_audit.specs.Laws.{IsFront, IsHead, IsWritten, given}
+use Rattle.iv_audit.proofs.Bytes.{AllText}
+use Rattle.iv_audit.proofs.Texts.{keeps}
+
+-- ---- each text is a record
+
+abbrev AllLast : List Line → Type 0
+AllLast ls = AllByRecursion (λ (l : Line). l.is_last ≡ true) ls
+
+whole_all : (ls : List Line) → AllLast ls → whole ls ≡ ls
+whole_all [] a = refl
+whole_all (l ∷ []) a = ap (λ b. cond b (l ∷ []) []) a.0
+whole_all (l ∷ m ∷ ls) a = ap (before_whole l) (whole_all (m ∷ ls) a.1)
+
+last_take : (n : ℕ) (ls : List Line) → AllLast ls → AllLast (take n ls)
+last_take zero ls a = tt
+last_take (suc n) [] a = tt
+last_take (suc n) (l ∷ ls) a = (a.0, last_take n ls a.1)
+
+last_records : (ws : List Written) → AllLast (map record_of ws)
+last_records [] = tt
+last_records (w ∷ ws) = (refl, last_records ws)
+
+pub texts_records : (ws : List Written) → AllByRecursion IsWritten ws → AllText (map record_of ws)
+texts_records [] a = tt
+texts_records (w ∷ ws) a = (a.0.text, texts_records ws a.1)
+
+-- ---- the head
+
+behind_all : (xs ys : List ℕ) → drop (length xs) (xs ++ ys) ≡ ys
+behind_all [] ys = refl
+behind_all (x ∷ xs) ys = behind_all xs ys
+
+pub headed : (epoch more : List ℕ) → length epoch ≡ 32 → (bytes_eq (take 21 (head_of epoch more)) form && bytes_eq (take 2 (drop 53 (head_of epoch more))) (codes "\",")) ≡ true
+headed epoch more h =
+    ap (λ z. bytes_eq (take 2 z) (codes "\",")) (ap (λ n. drop n (epoch ++ (codes "\"," ++ more))) (sym h) ∙ behind_all epoch (codes "\"," ++ more))
+
+-- ---- the entries
+
+entries_take : (n : ℕ) (ws : List Written) → AllByRecursion IsWritten ws → map (λ (l : Line). entry_in l.text) (take n (map record_of ws)) ≡ map (λ (w : Written). w.entry) (take n ws)
+entries_take zero ws a = refl
+entries_take (suc n) [] a = refl
+entries_take (suc n) (w ∷ ws) a = (λ i. keeps w a.0 i ∷ entries_take n ws a.1 i)
+
+before : ℕ → ℕ
+before zero = 0
+before (suc n) = n
+
+entries_left : (epoch : List ℕ) (count : ℕ) (ws : List Written) → AllByRecursion IsWritten ws
+    → lines_of (entries_of (take count (audit_of epoch ws))) ≡ given (take (before count) ws)
+unfolding before
+entries_left epoch zero ws a = refl
+entries_left epoch (suc n) ws a = ap lines_of (entries_take n ws a)
+
+-- ---- lengths
+
+longer : (d : List ℕ) (a b : ℕ) (ls : List Line) → a ≤ b → length (bytes_of d (take a ls)) ≤ length (bytes_of d (take b ls))
+longer d zero b ls h = omega arith
+longer d (suc a) zero ls h = absurd (let no : ⊥ = omega (arith, h) in no)
+longer d (suc a) (suc b) [] h = omega arith
+longer d (suc a) (suc b) (l ∷ ls) h =
+    let k = longer (digest_of d l) a b ls (omega (arith, h)) in
+    let f = length-append (body_of d l) (10 ∷ bytes_of (digest_of d l) (take a ls)) in
+    let g = length-append (body_of d l) (10 ∷ bytes_of (digest_of d l) (take b ls)) in
+    omega (arith, k, f, g)
+
+take_map : (n : ℕ) (ws : List Written) → map record_of (take n ws) ≡ take n (map record_of ws)
+take_map zero ws = refl
+take_map (suc n) [] = refl
+take_map (suc n) (w ∷ ws) = ap (λ z. record_of w ∷ z) (take_map n ws)
+
+length_map : (ws : List Written) → length (map record_of ws) ≡ length ws
+length_map [] = refl
+length_map (w ∷ ws) = ap suc (length_map ws)
+
+cut_audit : (epoch : List ℕ) (n : ℕ) (ws : List Written) → audit_of epoch (take n ws) ≡ take (suc n) (audit_of epoch ws)
+cut_audit epoch n ws = ap (λ z. head_line epoch ∷ z) (take_map n ws)
+
+pub either : (n m : ℕ) → (n ≤ m) ⊎ (suc m ≤ n)
+either n m = by (nat_lt m n) refl
+  where
+    less : (m n : ℕ) → nat_lt m n ≡ true → suc m ≤ n
+    less m n e = grind (arith, nat_tests)
+
+    most : (m n : ℕ) → nat_lt m n ≡ false → n ≤ m
+    most m n e = grind (arith, nat_tests)
+
+    by : (b : Bool) → nat_lt m n ≡ b → (n ≤ m) ⊎ (suc m ≤ n)
+    by true e = inr (less m n e)
+    by false e = inl (most m n e)
+
+-- all entries within what is left are read
+within : (epoch : List ℕ) (ws : List Written) (left count n : ℕ) → n ≤ length ws
+    → (count < length (audit_of epoch ws) → left < length (journal_of (take (suc count) (audit_of epoch ws))))
+    → length (journal_of (audit_of epoch (take n ws))) ≤ left → n ≤ before count
+unfolding before
+within epoch ws left zero n h most k = by (either n 0)
+  where
+    by : (n ≤ 0) ⊎ (1 ≤ n) → n ≤ 0
+    by (inl e) = e
+    by (inr e) =
+        let far = longer no_digest 1 (suc n) (audit_of epoch ws) (omega (arith, e)) in
+        let there : length (journal_of (take (suc n) (audit_of epoch ws))) ≤ left = subst (λ (z : List Line). length (journal_of z) ≤ left) (cut_audit epoch n ws) k in
+        let some : left < length (journal_of (take 1 (audit_of epoch ws))) = most (omega arith) in
+        absurd (let no : ⊥ = omega (arith, far, there, some) in no)
+within epoch ws left (suc c) n h most k = by (either n c)
+  where
+    by : (n ≤ c) ⊎ (suc c ≤ n) → n ≤ c
+    by (inl e) = e
+    by (inr e) =
+        let m = length_map ws in
+        let far = longer no_digest (suc (suc c)) (suc n) (audit_of epoch ws) (omega (arith, e)) in
+        let there : length (journal_of (take (suc n) (audit_of epoch ws))) ≤ left = subst (λ (z : List Line). length (journal_of z) ≤ left) (cut_audit epoch n ws) k in
+        let some : left < length (journal_of (take (suc (suc c)) (audit_of epoch ws))) = most (omega (arith, e, h, m)) in
+        absurd (let no : ⊥ = omega (arith, far, there, some) in no)
+
+pub cuts : CutsAreFronts → law.CutsAreFronts
+cuts fronts = λ epoch ws left r head a is.
+    let ls = audit_of epoch ws in
+    let c : IsCut (audit_of epoch ws) left r = fronts (audit_of epoch ws) left r (record { head = headed epoch version head.digits; texts = (head.text, texts_records ws a) }) is in
+    let lines : r.lines ≡ take c.count (audit_of epoch ws) = c.lines ∙ whole_all (take c.count (audit_of epoch ws)) (last_take c.count (audit_of epoch ws) (refl, last_records ws)) in
+    record {
+      count = before c.count;
+      entries = ap (λ (z : List Line). lines_of (entries_of z)) lines ∙ entries_left epoch c.count ws a;
+      all = λ n h k. within epoch ws left c.count n h c.most k;
+      faultless = c.faultless;
+    }

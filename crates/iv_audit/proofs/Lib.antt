@@ -1,0 +1,6 @@
+pub mod Texts
+pub mod Bytes
+pub mod Cuts
+pub mod Goes
+pub mod Further
+pub mod Read

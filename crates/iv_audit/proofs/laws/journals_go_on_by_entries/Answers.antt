@@ -1,0 +1,5 @@
+use Rattle.iv_audit.proofs.Further.{further}
+use Rattle.iv_audit.proofs.laws.journals_go_on_by_entries.Goals as goal
+
+pub returns : goal.returns
+returns c = further c.lines_have_their_texts.ensures

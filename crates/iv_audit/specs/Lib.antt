@@ -1,0 +1,4 @@
+pub mod Audit
+pub mod Reading
+pub mod Writing
+pub mod Laws
