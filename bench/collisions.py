@@ -1,9 +1,9 @@
 """The processor time of inserting rows that fall together under the kit's hasher without a seed, beside rows of random numbers.
 
-The numbers of a colliding row are chosen so that the hasher's state behind them is the same whatever the first of them is. They
+The numbers of a colliding row are chosen so that the hasher's state after them is the same whatever the first of them is. They
 come as rows of a table that nobody reads, as the groups of a view that is subscribed, and as the keys of both sides of a join that is
 subscribed. Each line has the size, the microseconds of a row of either kind, and their ratio, which has to stay under 1.3; below
-each kind stands the slope of the cost over the size on a log-log scale: near 1 where each row costs the same, near 2 where each
+each kind is the slope of the cost over the size on a log-log scale: near 1 if each row costs the same, near 2 if each
 row is compared with all others. A time is the least of the rounds, in which the two take turns, since other work on the machine
 only adds. VIEWD names another program.
 """
@@ -30,7 +30,7 @@ def fed(state: int, word: int) -> int:
 
 
 def colliding(first: int) -> Row:
-    """The row whose second number is the state that it meets, so that the state behind it is 0."""
+    """The row whose second number is the state that it meets, so that the state after it is 0."""
     state = START
     for word in (LENGTH, INT, first, INT):
         state = fed(state, word)

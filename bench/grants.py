@@ -1,9 +1,9 @@
-"""The processor time of 2,000 writes of one row, beside the same writes where more has to be looked at: by a role that holds
-every privilege on each of 64 tables, where 255 roles hold them all too, beside one that holds the one privilege that it
+"""The processor time of 2,000 writes of one row, beside the same writes when more has to be looked at: by a role that holds
+every privilege on each of 64 tables, while 255 roles hold them all too, beside one that holds the one privilege that it
 needs; and by a member that holds it through 32 roles, each a member of the next, beside one that holds it through one.
 
 A time is the least of five rounds, without the lines before the writes, since other work on the machine only adds. Each pair's
-last line is the ratio of the two: near 1 where a write does not look at the grants one by one, nor follow the members. It says
+last line is the ratio of the two: near 1 if a write does not look at the grants one by one, nor follow the members. It says
 nothing of how fast another machine is. VIEWD names another program to run.
 """
 import sys
@@ -40,7 +40,7 @@ INSERTS = [{**write(TABLES[-1], "insert", [[n]]), "session": 2} for n in range(W
 
 
 def seconds(program: str, begin: list[Request]) -> float:
-    """Processor seconds of a write behind these requests, each of which is answered by ok."""
+    """Processor seconds of a write after these requests, each answered by ok."""
     run = Run(program)
     told = [run.tell(part_of(requests)) for requests in (begin, INSERTS)]
     run.end()

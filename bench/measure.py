@@ -4,6 +4,7 @@ import hashlib
 import math
 import os
 import shutil
+import statistics
 import subprocess
 import sys
 import threading
@@ -20,7 +21,7 @@ LAST_ANSWER = b'{"error":3,"session":4294967295}\n'
 
 
 def own_program() -> str:
-    """The program of this tree, proved and built first where it is not; VIEWD names another."""
+    """The program of this tree, proved and built first if it is not; VIEWD names another."""
     named = os.environ.get("VIEWD")
     subprocess.run([named or os.path.join(TOP, "viewd"), "--help"], check=True, stdout=subprocess.DEVNULL)
     return named or os.path.join(TOP, "crates", "viewd", "out", "viewd")
@@ -133,6 +134,4 @@ def asked(program: str, parts: Iterable[bytes], shim: str, words: Iterable[str] 
 
 def slope(sizes: Sequence[float], costs: Sequence[float]) -> float:
     """Of the line through log cost over log size, by least squares."""
-    xs, ys = [math.log(size) for size in sizes], [math.log(cost) for cost in costs]
-    x, y = sum(xs) / len(xs), sum(ys) / len(ys)
-    return sum((a - x) * (b - y) for a, b in zip(xs, ys)) / sum((a - x) ** 2 for a in xs)
+    return statistics.linear_regression([math.log(it) for it in sizes], [math.log(it) for it in costs]).slope

@@ -2,10 +2,10 @@
 
 Rows are those of bench/workloads.py, of a number, a text of two or three letters and a number. Each figure is of the memory that
 the program has at the end (the resident set), divided by the rows, less that of the line which it names: what the one has and the
-other has not. The least and the greatest of sizes tell how the room of maps, which doubles, makes it differ. VIEWD names another
+other has not. The least and the greatest of sizes tell how the space of maps, which doubles, makes it differ. VIEWD names another
 program to run.
 
-    bench/run memory [ROWS ..]          65,536 and 1,000,000 where none is said
+    bench/run memory [ROWS ..]          65,536 and 1,000,000 if none is said
 """
 from collections.abc import Iterable
 
@@ -17,7 +17,7 @@ NONE = "select id, who, amount from a where amount < 0"
 
 
 def joined(on: str) -> str:
-    """A join of which nothing comes, as the other table is empty."""
+    """A join without rows, as the other table is empty."""
     return f"select a.id, b.amount from a join b on a.{on} = b.{on}"
 
 

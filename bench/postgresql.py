@@ -1,5 +1,5 @@
 """The same workloads in PostgreSQL: a server of its own in a folder of its own, over a socket of files alone, that is asked for the
-views anew behind each batch.
+views anew after each batch.
 
 Of a line the processor time of the server's process is measured: the batch, and then each view that is subscribed to, once for
 each role, by EXPLAIN ANALYZE, which evaluates it and sends no row. Nothing is synced, and no process helps another. Each table has an index
@@ -34,7 +34,7 @@ SETTINGS = [
 
 
 def binaries() -> str | None:
-    """The folder of the server's programs, where they and psql are there."""
+    """The folder of the server's programs, if they and psql are there."""
     places = [os.path.dirname(shutil.which("initdb") or "")] + sorted(glob.glob("/usr/lib/postgresql/*/bin"), reverse=True)
     return next((it for it in places if it and shutil.which("psql")), None)
 
@@ -95,7 +95,7 @@ class Sql:
         return f"create view {it['name']} with (security_invoker = true) as {it['query']};"
 
     def write(self, it: Request) -> str:
-        """Entries of one kind that follow each other are one statement. A row is taken out wherever it stands, so once is enough."""
+        """Entries of one kind that follow each other are one statement. A row is taken out wherever it is, so once is enough."""
         statements = []
         for (name, kind), entries in itertools.groupby(it["entries"], lambda entry: (entry["on"], "insert" if "insert" in entry else "delete")):
             rows = listed("(" + listed(map(literal, entry[kind])) + ")" for entry in entries)
@@ -158,7 +158,7 @@ class Server:
             return (processor_seconds(session.backend) - began) / count, count
 
     def shown(self, requests: list[Request]) -> dict[tuple[str, str], collections.Counter[str]]:
-        """What each reader is shown behind the requests: each row as a list of JSON, with its copies."""
+        """What each reader is shown after the requests: each row as a list of JSON, with its copies."""
         with Session(self) as session:
             session.tell(map(session.sql.of, requests))
             return {it: collections.Counter(map(session.values, session.rows(*it))) for it in session.sql.readers()}

@@ -64,4 +64,3 @@ def main(words: list[str]) -> int | str | None:
     worst.append(compared(program, "self-join", alone, [request("subscribe", on="v")], [request("subscribe", on="w")]))
     print(f"refused: at most {max(worst):.2f} times, {MOST} asked")
     return 0 if max(worst) <= MOST else 1
-

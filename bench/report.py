@@ -53,7 +53,7 @@ def by_workload(results: Iterable[Result]) -> dict[Workload, list[Result]]:
 
 
 def slope_of(name: str, results: list[Result]) -> str:
-    """The slope of log cost over log size, where the program was measured."""
+    """The slope of log cost over log size, if the program was measured."""
     if any(name not in it.micros for it in results):
         return ""
     return f"{slope([it.size for it in results], [it.micros[name] for it in results]):.2f}"

@@ -83,7 +83,7 @@ def subscribed(name: str, readers: Iterable[str] = ("admin",), times: int = 1) -
 
 
 def begun(*parts: Iterable[Request]) -> list[Request]:
-    """The requests of all parts, by the administrator where they name no session."""
+    """The requests of all parts, by the administrator if they name no session."""
     return [request("begin", role="admin")] + [line for part in parts for line in part]
 
 
@@ -112,7 +112,7 @@ def over_join(size: int) -> list[Request]:
 
 
 def over_sets(size: int) -> list[Request]:
-    """Half of the one table's rows stand in the other."""
+    """Half of the one table's rows are in the other."""
     query = "select id from a except select id from b union select distinct amount from b"
     return begun(table("a", size), table("b", size, size // 2), view(query), subscribed("shown"))
 
@@ -147,7 +147,7 @@ def over_one_of_many(subscriptions: int) -> list[Request]:
 
 
 def changes_of_policies(size: int) -> Iterator[Request]:
-    """A policy that hides one row of a thousand comes, and goes again."""
+    """A policy that hides one row of a thousand comes, and is dropped again."""
     for _ in range(max(10, 400_000 // size) // 2):
         yield restricted(using="amount <> 7")
         yield request("drop_policy", on="a", name="few")

@@ -71,7 +71,7 @@ class Client:
         return True
 
     def drop(self) -> None:
-        """Without a farewell, which would stand behind the backlog: the page connects and subscribes anew."""
+        """Without a farewell, which would come after the backlog: the page connects and subscribes anew."""
         self.gone = True
         self.transport.abort()
         if self.task:
@@ -95,7 +95,7 @@ class Ask:
     role: str = ""  # of a client of another gateway
     asker: tuple[str, int] | None = None  # the gateway that asks, and how often it has asked anything
     view: bool = False  # subscribes to what may be a view
-    outcome: asyncio.Future[tuple[int, bytes] | None] | None = None  # a refusal and its place; none where it was accepted
+    outcome: asyncio.Future[tuple[int, bytes] | None] | None = None  # a refusal and its place; none if it was accepted
 
 
 def frames_of(clients: set[Client]) -> list[tuple[Client, bytes]]:

@@ -1,15 +1,15 @@
 """One `viewd replay` over pipes: its sessions, the stream that it is told, and where each of its answers goes.
 
-A request becomes one line to viewd, whatever it is, and one reply. Behind each line stands a fence, a line that viewd
+A request becomes one line to viewd, whatever it is, and one reply. After each line comes a fence, a line that viewd
 refuses by 1: so the answers come in blocks of a reply, the changes that the request brought, and the refusal that ends
-them. What changes shared state is in the stream, on disk, before a line that shows it goes to anyone.
+them. What changes shared state is in the stream, on disk, before a line that shows it is sent to anyone.
 
-Of the gateways of a stream one decides. The others take in what it accepted, in its order, and a request of their clients
-that changes something goes to it by a name: it stands in the stream once, however often it was sent.
+Of the gateways of a stream one decides. The others apply what it accepted, in its order, and a request of their clients
+that changes something goes to it by a name: it is in the stream once, however often it was sent.
 
-A fence makes two lines of each request, so viewd ends twice as soon: behind 24 days at 1,000 requests a second. Without it the end
+A fence makes two lines of each request, so viewd ends twice as soon: after 24 days at 1,000 requests a second. Without it the end
 of a request would be the next reply (a quiet server never settles), a timer (a guess), or a request without effect (one of 256
-sessions). Answers are taken and lines are sent in two tasks: one task that waits between two sendings would take in a hundred
+sessions). Answers are taken and lines are sent in two tasks: one task that waits between two sendings would apply a hundred
 entries a second. An administrator is told each accepted request that makes the shape, all so far at the entry.
 """
 import asyncio
@@ -67,7 +67,7 @@ class Engine:
         self.looking = asyncio.Lock()
 
     async def run(self) -> None:
-        """From the start of a viewd to its end. Raises Damaged, and OSError where the stream cannot be written."""
+        """From the start of a viewd to its end. Raises Damaged, and OSError if the stream cannot be written."""
         self.journal.rewind()
         self.shape = Shape()
         self.shaping: list[bytes] = []  # the requests that made the shape, as administrators are told them
@@ -135,7 +135,7 @@ class Engine:
         return await done
 
     async def restore(self) -> None:
-        """Brings a fresh viewd to the state of the stream, each request by its role; then follows it, where another writes."""
+        """Brings a fresh viewd to the state of the stream, each request by its role; then follows it, if another writes."""
         await self.tell_journal()
         self.ready.set()
         log.info("viewd is where the %d entries of the stream lead", self.journal.lines)
@@ -172,7 +172,7 @@ class Engine:
         return session
 
     async def take_in(self, entry: Entry) -> None:
-        """Tells viewd what was accepted, in the session of the client that asked for it, where it is one of this gateway's."""
+        """Tells viewd what was accepted, in the session of the client that asked for it, if it is one of this gateway's."""
         if (request := entry.request) is not None:
             own = self.waiting.pop(entry.name, None) if entry.name else None
             while not await self.told(entry, request, own):
@@ -183,7 +183,7 @@ class Engine:
         self.know(entry.name)
 
     async def told(self, entry: Entry, request: Request, own: Ask | None) -> bool:
-        """Whether viewd took it in. It is waited for where somebody reads a view, which alone can outgrow the limits."""
+        """Whether viewd applied it. It is waited for if somebody reads a view, which alone can outgrow the limits."""
         body = to_text(request)[1:-1]
         ask = Ask(None, request, body, entry=entry)
         if own and own.client and not own.client.gone:
@@ -238,7 +238,7 @@ class Engine:
         return subscription.number
 
     def hold(self, seconds: float) -> None:
-        """Decides nothing for so long, where this gateway writes a stream: so that all who read it come to one place."""
+        """Decides nothing for so long, if this gateway writes a stream: so that all who read it come to one place."""
         if not self.journal.follow:
             self.open.clear()
             if self.held:
@@ -246,13 +246,13 @@ class Engine:
             self.held = asyncio.get_running_loop().call_later(seconds, self.open.set)
 
     def overhear(self, mark: bytes) -> Callable[[bool], None]:
-        """At a reply: what is overheard from then on stands behind the mark."""
+        """At a reply: what is overheard from then on comes after the mark."""
         return lambda ok: self.overheard.append(mark)
 
     async def tables(self) -> Request | None:
         """A digest of tables, roles, grants and policies as they are at a place; the rows as viewd tells them to an
         administrator. All questions are written at once, so nothing comes between. All rows are written for it, so it is made only
-        where it is asked for. None where no session is free."""
+        where it is asked for. None if no session is free."""
         async with self.looking:
             child = self.child
             while True:
@@ -280,7 +280,7 @@ class Engine:
             return {"place": seen["place"], "digest": hashlib.sha256(seen["shape"].encode() + b"".join(self.overheard)).hexdigest()}
 
     def state(self) -> Request:
-        """What administrators are told of the stream, and of the place that viewd has taken in."""
+        """What administrators are told of the stream, and of the place that viewd has applied."""
         return self.journal.state() | {"journal": self.place, "digest": self.digest}
 
     async def answers(self) -> None:
@@ -412,7 +412,7 @@ class Engine:
             self.carried_out(ask)
 
     def refused(self, ask: Ask, line: bytes) -> None:
-        """What another viewd accepted is refused here alone for the limits of a view that is read here alone: who told it makes room."""
+        """What another viewd accepted is refused here alone for the limits of a view that is read here alone: who told it makes space."""
         if not (ask.entry and ask.done and line.startswith(LIMIT)):
             raise Damaged(f"{self.journal.where} leads to no state: viewd answers {line.decode()} to {ask.request}")
 
@@ -452,7 +452,7 @@ class Engine:
         self.put(client, text if ask.name is None else b'%s,"id":%s}' % (text[:-1], ask.name))
 
     def carried_out(self, ask: Ask) -> None:
-        """Counts what viewd has taken in. What is in the stream already may be told of."""
+        """Counts what viewd has applied. What is in the stream already may be told of."""
         self.taken += 1
         if ask.entry and ask.entry.place:
             if self.place and ask.entry.place != self.place + 1:
@@ -464,7 +464,7 @@ class Engine:
             self.changed(ask.request, by_role(role, b'"made":{%s}' % ask.body)[:-1])
 
     def changed(self, request: Request, text: bytes) -> None:
-        """Takes in a request that makes the shape, tells it to administrators, and tells a role and its members of a relation that they
+        """Applies a request that makes the shape, tells it to administrators, and tells a role and its members of a relation that they
         may try again: viewd tells nobody."""
         self.shape.apply(request)
         self.shaping.append(text)
@@ -507,7 +507,7 @@ class Engine:
         return len(frames)
 
     async def enter(self, client: Client) -> bool:
-        """Begins a session. False where none is free, or the role is not there."""
+        """Begins a session. False if none is free, or the role is not there."""
         while not self.ready.is_set():
             await self.ready.wait()
         if not self.free:
@@ -567,8 +567,8 @@ class Engine:
         await self.to_viewd.drain()
 
     async def decide(self, client: Client, ask: Ask) -> bool:
-        """Whether viewd is to be told a request that changes something shared: here, where this gateway writes; and where it
-        was answered without viewd. Not where the stream has brought it."""
+        """Whether viewd is to be told a request that changes something shared: here, if this gateway writes; and if it
+        was answered without viewd. Not if the stream has brought it."""
         while ask.known_by in self.deciding or ask.known_by in self.waiting:  # another client has sent the same
             await asyncio.sleep(0.01)
         outcome = ask.outcome = asyncio.get_running_loop().create_future()

@@ -97,7 +97,7 @@ class Desk:
 
     async def watch(self, client: Client, ws: web.WebSocketResponse) -> None:
         """Drops a browser that is gone without a word: it answers no ping, and takes nothing of what waits for it. On a slow
-        line a ping stands behind a long answer, and what has been taken of that says as much."""
+        line a ping is behind a long answer, and what has been taken of that says as much."""
         with contextlib.suppress(ConnectionError, OSError, ValueError):  # of a socket that is closed
             while True:
                 await asyncio.sleep(PING)
@@ -111,14 +111,14 @@ class Desk:
                     return client.drop()
 
     async def state(self, request: web.Request) -> web.Response:
-        """How it goes, for administrators. Gateways of one stream agree where they tell the same digest of as many entries.
+        """How it goes, for administrators. Gateways of one stream agree if they tell the same digest of as many entries.
         With `?tables` there is a digest of what viewd holds, too, and the place at which it was taken. With `?hold=0.5` the one that
         writes pauses for so many seconds, so that all can be asked at one place."""
         if self.role(request.headers.get("Authorization", "").removeprefix("Bearer ")) != "admin":
             raise web.HTTPForbidden()
         engine = self.engine
-        state: dict[str, Any] = {"ready": engine.ready.is_set(), "viewd": engine.child and engine.child.pid, "sessions": len(engine.clients),
-                 "dropped": engine.dropped}
+        state: dict[str, Any] = {"ready": engine.ready.is_set(), "viewd": engine.child and engine.child.pid}
+        state |= {"sessions": len(engine.clients), "dropped": engine.dropped}
         if "hold" in request.query:
             try:
                 seconds = float(request.query["hold"])

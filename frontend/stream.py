@@ -1,14 +1,14 @@
 """The journal as a stream of Redis: one order of accepted requests for gateways on several machines.
 
 Entry n has the id `n-0`, the line of the journal, the name of its request, and a digest of all lines up to it: so a reader
-sees at once where one is missing, stands twice or is another. One gateway at a time writes, by a lease: a key with its
-owner, which passes by itself where it is not renewed. Each append asks for the lease within Redis, in one step with itself;
-so what a writer appends after its lease has passed is refused, whatever it believes and however its clock goes.
+sees at once if one is missing, is there twice or is another. One gateway at a time writes, by a lease: a key with its
+owner, which passes by itself if it is not renewed. Each append asks for the lease within Redis, in one step with itself;
+so what a writer appends after its lease has passed is refused, whatever it believes and whatever its clock says.
 
-Where NAME is the stream, these keys stand beside it: NAME:lease, NAME:term (how often it was taken), NAME:snapshot (where
+If NAME is the stream, these keys are beside it: NAME:lease, NAME:term (how often it was taken), NAME:snapshot (where
 the last one is) and NAME:snapshot:PLACE (its lines). Requests go to the writer by the channel NAME:asks, and refusals back by
 NAME:to:GATEWAY. A channel keeps nothing, so it is not synced: what is lost is sent again after a second. A snapshot leaves as
-many entries behind it as there are names that are known, so a fresh gateway knows as many.
+many entries after it as there are names that are known, so a fresh gateway knows as many.
 """
 import asyncio
 import contextlib
@@ -51,7 +51,7 @@ if redis.call('GET', KEYS[1]) ~= ARGV[1] then return 0 end
 return redis.call('PEXPIRE', KEYS[1], ARGV[2])
 """
 # KEYS: lease, stream. ARGV: mine, the last place that I know, and of each entry line, name, digest. Answers the last place:
-# also where these entries are there already, as the answer to an append was lost. -1: not mine. -2: others have written.
+# also if these entries are there already, as the answer to an append was lost. -1: not mine. -2: others have written.
 APPEND = """
 if redis.call('GET', KEYS[1]) ~= ARGV[1] then return -1 end
 local last, digest = 0, ''
@@ -80,7 +80,7 @@ if redis.call('GET', KEYS[1]) ~= ARGV[1] then return -1 end
 for i = 2, #ARGV, 2 do redis.call('PUBLISH', ARGV[i], ARGV[i + 1]) end
 return 0
 """
-# KEYS: snapshot, stream, list of its lines. ARGV: what is known of it, its place, the last id that goes.
+# KEYS: snapshot, stream, list of its lines. ARGV: what is known of it, its place, the last id that is dropped.
 SNAPSHOT = """
 local old = redis.call('GET', KEYS[1])
 if old and cjson.decode(old)['place'] >= tonumber(ARGV[2]) then return 0 end
@@ -105,10 +105,10 @@ def place_of(identifier: bytes) -> int:
 
 class Stream:
     """The entries in an order that all who read them see. `lines` is a place in it: how many were read or written, of `end` bytes. Who
-    has the `lease` may write; while this one `follow`s, it has not read to the end behind it."""
+    has the `lease` may write; while this one `follow`s, it has not read to the end after it."""
 
     def __init__(self, url: str, may_write: bool = False, lease: float = 5.0, seed: pathlib.Path | None = None):
-        """`redis://[USER:PASSWORD@]HOST:PORT/NAME`, `rediss://` with TLS; options of redis-py behind a question mark."""
+        """`redis://[USER:PASSWORD@]HOST:PORT/NAME`, `rediss://` with TLS; options of redis-py after a question mark."""
         parts = urlsplit(url)
         self.name = parts.path.strip("/")
         if parts.scheme not in ("redis", "rediss") or not FORM.fullmatch(self.name):
@@ -145,7 +145,7 @@ class Stream:
         self.looked = False
 
     async def _insist(self, what: Callable[[], Awaitable[Any]]) -> Any:
-        """The answer to a question, however long Redis is away. Raises OSError where it refuses."""
+        """The answer to a question, however long Redis is away. Raises OSError if it refuses."""
         while True:
             try:
                 answer = await what()
@@ -165,7 +165,7 @@ class Stream:
                 raise OSError(f"{self.where} refuses: {why}") from None
 
     async def _look(self) -> None:
-        """Says so where Redis answers before it has synced, or may throw the stream away. Raises Damaged where its end is gone."""
+        """Says so if Redis answers before it has synced, or may throw the stream away. Raises Damaged if its end is gone."""
         try:
             said: dict[str, str] = {}
             for word in ("appendonly", "appendfsync", "maxmemory-policy"):
@@ -212,7 +212,7 @@ class Stream:
         return await self._entries(found[0][1] if found else [])
 
     async def _begin(self) -> list[Entry]:
-        """The lines of the snapshot, where there is one, and the names of the requests that it has taken in last."""
+        """The lines of the snapshot, if there is one, and the names of the requests that it has applied last."""
         self.fresh = False
         head = await self._insist(lambda: self.redis.get(self.key("snapshot")))
         if head is None:
@@ -258,13 +258,14 @@ class Stream:
     async def sow(self) -> None:
         """Appends the seed to a stream that is empty. For who has the lease."""
         if self.seed and not self.lines and not await self._insist(lambda: self.redis.exists(self.name, self.key("snapshot"))):
-            lines = self.seed.read_bytes().splitlines()
+            data = self.seed.read_bytes()
+            lines = data.removesuffix(b"\n").split(b"\n") if data else []
             for number, line in enumerate(lines, 1):
                 entry_of(line, f"{self.seed}: line {number}")
             await self._put(lines, [""] * len(lines))
 
     async def commit(self, lines: list[bytes], names: list[str]) -> None:
-        """Returns when the entries are in the stream, which is synced then, if Redis is told to. Raises Anew where the lease has passed."""
+        """Returns when the entries are in the stream, which is synced then, if Redis is told to. Raises Anew if the lease has passed."""
         self.digest = await self._put([line.rstrip(b"\n") for line in lines], names)
         self.lines += len(lines)
         self.end += sum(map(len, lines))
@@ -290,7 +291,7 @@ class Stream:
         raise Anew("the lease has passed")
 
     async def release(self) -> None:
-        """Gives the lease back, where this gateway has it, so that another may write at once."""
+        """Gives the lease back, if this gateway has it, so that another may write at once."""
         lease, self.lease = self.lease, None
         if lease:
             with contextlib.suppress(*AWAY, ResponseError, asyncio.TimeoutError):
@@ -356,7 +357,7 @@ class Stream:
     # Snapshots.
 
     async def put_snapshot(self, lines: list[bytes]) -> bool:
-        """Puts lines that lead to the state of this place where new readers begin. False where there is a later one."""
+        """Puts lines that lead to the state of this place where new readers begin. False if there is a later one."""
         key = self.key(f"snapshot:{self.lines}:{secrets.token_hex(4)}")
         for at in range(0, len(lines), PIECE):
             await self.redis.rpush(key, *[line.rstrip(b"\n") for line in lines[at:at + PIECE]])

@@ -86,17 +86,18 @@ class Raw:
 @test
 async def tokens_give_the_role(gate: Gate, http: aiohttp.ClientSession):
     assert "demo" not in gate.tokens.read_text()
-    for token in ("nobody", "", "mia", gate.tokens.read_text().split()[1]):
+    forged = {"no token of the file": "nobody", "an empty one": "", "a role's name": "mia", "a hash as the file has it": gate.tokens.read_text().split()[1]}
+    for name, token in forged.items():
         stranger = await Peer.enter(http, gate.url, token)
-        assert (stranger.role, stranger.ws.close_code) == (None, 4401), token
+        assert (stranger.role, stranger.ws.close_code) == (None, 4401), name
     gate.tokens.write_text(tokens((*ROLES, "olga2")).replace('"olga2"', '"olga"'))
     [olga] = await enter(http, gate, "olga2")  # a token that was added is known at once
     assert olga.role == "olga"
     gate.tokens.write_text(tokens((*ROLES, "eve", "Eve")))
-    for name in ("eve", "Eve"):  # no such role, and no name of a role
-        stranger = await Peer.enter(http, gate.url, f"{name}-demo")
+    for name, role in {"a role that is not there": "eve", "no name of a role": "Eve"}.items():
+        stranger = await Peer.enter(http, gate.url, f"{role}-demo")
         assert (stranger.role, stranger.ws.close_code) == (None, 1013), name
-    for token in ("mia-demo", "", "\u00e4"):
+    for token in ("mia-demo", "", "\u00e4"):  # of another role than admin, none, and one that no header can have
         try:
             assert not gate.state(token)
         except (urllib.error.HTTPError, UnicodeEncodeError) as refused:
@@ -172,30 +173,41 @@ async def all_are_told_that_it_is_there(gate: Gate, http: aiohttp.ClientSession)
     assert lines == ['{"role":"mia"}', '{"settled":true}', '{"alive":true}', '{"alive":true}'], lines
 
 
+NO_REQUESTS = {
+    "the end of the session": {"do": "finish"}, "another session": {"do": "begin", "role": "admin"},
+    "another session by its number": {"do": "begin", "role": "admin", "session": 99},
+    "a write as another role": {"do": "write", "role": "admin", "entries": [{"on": "tickets", "insert": [1, "noah", "x", True]}]},
+    "an unknown request": {"do": "serve"}, "null for a request": {"do": None}, "a list for a request": {"do": ["write"]}, "no request": {},
+    "true for a number": {"do": "unsubscribe", "sub": True}, "a fraction for a number": {"do": "unsubscribe", "sub": 1.0},
+    "a number below the first": {"do": "unsubscribe", "sub": 0}, "a number beyond the last": {"do": "unsubscribe", "sub": 1 << 63},
+    "no number": {"do": "unsubscribe"}}
+NO_LINES = {  # each with its refusal
+    "no bytes": ("", 1), "a word": ("nonsense", 1), "a list": ("[1]", 2), "a text": ('"do"', 2), "a long number": ("1" * 5000, 1),
+    "lists without an end": ("[" * 60_000, 1), "null": ("null", 2), "half of a pair": ('{"do":"subscribe","on":"\\ud800"}', 1),
+    "a word for a number": ('{"do":"subscribe","on":NaN}', 1), "a newline": ("-\n-", 1), "two requests": ('{"do":"finish"}\n{"do":"finish"}', 1),
+    "a newline between keys": ('{"do":"subscribe",\n"on":"nothing"}', 7)}
+
+
 @test
 async def nobody_acts_for_another(gate: Gate, http: aiohttp.ClientSession):
     admin, mia, noah = await enter(http, gate, "admin", "mia", "noah")
     for peer in (admin, mia, noah):
         assert await peer.ask(do="subscribe", on="tickets") == {"columns": TICKETS, "ok": True, "sub": 1}  # each counts its own
     ticket = {"on": "tickets", "insert": [1, "noah", "x", True]}
-    for forged in (*range(0, 6), 257, "1", None, [1]):
+    sessions = {f"the session {n}": n for n in (*range(0, 6), 257)} | {"a text": "1", "null": None, "a list": [1]}
+    for name, forged in sessions.items():
         got = await mia.ask(do="grant", on="tickets", privileges=["delete"], to="mia", session=forged)
-        assert got == {"error": 12, "on": "tickets"}, got
+        assert got == {"error": 12, "on": "tickets"}, (name, got)
         got = await mia.ask(do="write", session=forged, entries=[ticket])
-        assert got == {"check": "insert", "entry": 1, "error": 14, "on": "tickets"}, got
+        assert got == {"check": "insert", "entry": 1, "error": 14, "on": "tickets"}, (name, got)
     for key in ("session", "sess\\u0069on"):  # twice, and by its escapes
         got = await mia.raw('{"%s":1,"do":"create_role","name":"x","%s":1}' % (key, key))
         assert got == {"error": 11}, got
     assert await mia.ask(do="unsubscribe", sub=2) == {"error": 19}  # noah's, as viewd counts
-    for request in ({"do": "finish"}, {"do": "begin", "role": "admin"}, {"do": "begin", "role": "admin", "session": 99},
-                    {"do": "write", "role": "admin", "entries": [ticket]}, {"do": "serve"}, {"do": None}, {"do": ["write"]}, {},
-                    {"do": "unsubscribe", "sub": True}, {"do": "unsubscribe", "sub": 1.0}, {"do": "unsubscribe", "sub": 0},
-                    {"do": "unsubscribe", "sub": 1 << 63}, {"do": "unsubscribe"}):
-        assert await mia.ask(**request) == {"error": 2}, request
-    for text, error in (("", 1), ("nonsense", 1), ("[1]", 2), ('"do"', 2), ("1" * 5000, 1), ("[" * 60_000, 1), ("null", 2),
-                        ('{"do":"subscribe","on":"\\ud800"}', 1), ('{"do":"subscribe","on":NaN}', 1), ("-\n-", 1),
-                        ('{"do":"finish"}\n{"do":"finish"}', 1), ('{"do":"subscribe",\n"on":"nothing"}', 7)):
-        assert await mia.raw(text) == {"error": error}, text[:40]
+    for name, request in NO_REQUESTS.items():
+        assert await mia.ask(**request) == {"error": 2}, name
+    for name, (text, error) in NO_LINES.items():
+        assert await mia.raw(text) == {"error": error}, name
     assert (await mia.insert(7, "mia"))["ok"]
     await quiet(admin, noah)
     row = (7, "mia", "x", True)

@@ -7,12 +7,14 @@ GATEWAY names another program than the one that is built."""
 import base64
 import collections
 import contextlib
+import hashlib
 import hmac
 import itertools
 import json
 import os
 import pathlib
 import random
+import select
 import signal
 import socket
 import struct
@@ -162,6 +164,44 @@ def who_comes_late_is_shown_the_same():
         assert total(one.event(), 2) == total(again)
 
 
+def take_all(wires: list[Wire]) -> list[float]:
+    """Reads until each has the end of an event. When each had it, in seconds."""
+    start, took, waiting = time.monotonic(), [], {wire.socket: wire for wire in wires}
+    while waiting:
+        ready = select.select([*waiting], [], [], PATIENCE)[0]
+        assert ready, f"{len(waiting)} are told nothing"
+        for it in ready:
+            waiting[it].more()
+            if waiting[it].input.endswith(b'{"settled":true}\n'):
+                took.append(time.monotonic() - start)
+                del waiting[it]
+    return took
+
+
+@test
+def a_herd_is_told_in_rounds():
+    with serving() as (gate, admin):
+        rows = [[at, f"{at:0250}"] for at in range(2000)]
+        for at in range(0, len(rows), 200):
+            admin.ask({"do": "write", "entries": [{"on": "notes", "insert": row} for row in rows[at:at + 200]]})
+        told = lambda rows: [f'{{"changes":{json.dumps([[1, row] for row in rows], separators=(",", ":"))},"sub":1}}']
+        wires = [gate.enter(("ann", "bob", "mia", "admin")[at % 4]) for at in range(200)]
+        memory, processor = gate.most_memory(), gate.processor()
+        for wire in wires:
+            wire.say({"do": "subscribe", "on": "notes"})
+        took, contents = take_all(wires), told(rows)
+        for wire in wires:
+            assert wire.event()[1:] == contents
+        size, grown = 200 * len(contents[0]), gate.most_memory() - memory
+        print(f"  {size:,} bytes told, {grown:,} bytes of memory more, {gate.processor() - processor:.2f} s of processor; "
+              f"the first had its contents after {took[0]:.2f} s, the last after {took[-1]:.2f}", flush=True)
+        assert grown < size * 3 // 4  # a round's are 16 MiB, and what is being sent stands beside them
+        admin.ask({"do": "write", "entries": [{"on": "notes", "delete": rows[7]}]})
+        assert gate.enter("bob").ask({"do": "subscribe", "on": "notes"})[1:] == told(rows[:7] + rows[8:])
+        for wire in wires:
+            assert wire.event() == [f'{{"changes":[[-1,{json.dumps(rows[7], separators=(",", ":"))}]],"sub":1}}']
+
+
 @test
 def two_messages_in_one_read_have_their_replies_in_order():
     with serving() as (gate, admin):
@@ -169,6 +209,34 @@ def two_messages_in_one_read_have_their_replies_in_order():
         for at in range(500):
             assert admin.event() == [f'{{"id":{at},"ok":true}}']
         assert len(gate.entries()) == len(BASE) + 500
+
+
+@test
+def many_are_sent_one_message_in_10_ms():
+    """Who asked is answered meanwhile; what is told between two messages is in the second."""
+    gate = Gateway(words=("--clients", "200"), start=False)
+    gate.know("admin", lines=tuple(f'"{digest(f"mia {at}")}" = "mia"' for at in range(4)))
+    gate.start()
+    admin = gate.enter("admin")
+    for it in BASE:
+        admin.ask(it)
+    readers = [gate.knock(f"mia {at % 4}") for at in range(80)]
+    for it in readers:
+        it.ask({"do": "subscribe", "on": "notes"})
+    begun, took, had = time.monotonic(), [], [it.messages for it in readers]
+    for at in range(400):
+        before = time.monotonic()
+        assert admin.ask(insert(at, "ann")) == ['{"ok":true}']
+        took.append(time.monotonic() - before)
+    spent = time.monotonic() - begun
+    for it, before in list(zip(readers, had))[::20]:
+        rows = collections.Counter()
+        while len(rows) < 400:
+            rows += total(it.event())
+        messages = it.messages - before
+        assert set(rows.values()) == {1} and messages <= spent * 100 + 5, (messages, spent)
+    print(f"  400 writes in {spent:.2f} s, {sorted(took)[200] * 1000:.1f} ms each; the last reader had {messages} messages", flush=True)
+    gate.end()
 
 
 @test
@@ -231,8 +299,10 @@ HOSTILE = {
 @test
 def hostile_frames_end_their_connection_alone():
     with serving() as (gate, admin):
-        for name, (data, code) in HOSTILE.items():
+        for name, (data, close) in HOSTILE.items():
             for role in ("mia", None):
+                code = close if role or len(data) < 1 << 16 else None  # who has no token and says much goes without a code
+
                 def attempt() -> int | None:
                     try:
                         wire = gate.enter(role) if role else Wire(gate.port)
@@ -436,7 +506,7 @@ def pages_of_a_folder_are_served_and_no_others():
 @test
 def tokens_open_their_role_and_nothing_else():
     with serving() as (gate, admin):
-        for token in ("mia", "", "mia-demo ", "MIA-DEMO", "x" * 100_000):
+        for token in ("mia", "", "mia-demo ", "MIA-DEMO", "x" * 60_000):
             assert gate.knock(token).code == 4401, token[:20]
         mia = gate.enter("mia")
         gate.know("admin", "ann", "bob")  # mia's token is taken away
@@ -648,12 +718,17 @@ def one_token_takes_not_all_room():
 
 @test
 def sockets_have_a_bound():
+    """Where no number is free, who has not come in for the longest goes; who has come in stays."""
     with serving(words=("--clients", "20")) as (gate, admin):
-        idle = [socket.create_connection(("127.0.0.1", gate.port), PATIENCE) for _ in range(40)]
-        until(lambda: "no room" in gate.said(), "there is room for all")
-        assert admin.ask({"do": "unsubscribe", "sub": 9}) == ['{"error":19}']
-        for it in idle:
+        idle = [socket.create_connection(("127.0.0.1", gate.port), PATIENCE) for _ in range(60)]
+        wires = [gate.enter("bob"), *(gate.enter("mia") for _ in range(18))]
+        late = socket.create_connection(("127.0.0.1", gate.port), PATIENCE)
+        assert late.recv(1) == b"", "there is room for all"
+        for it in (*wires, admin):
+            assert it.ask({"do": "unsubscribe", "sub": 9}) == ['{"error":19}']
+        for it in (*idle, late):
             it.close()
+        wires[0].shut()
         until(lambda: comes_in(gate, "bob"), "the room of those that are gone is not free")
 
 
@@ -666,42 +741,147 @@ def the_journal_has_what_was_accepted():
         ann = gate.enter("ann")
         for it in (insert(1, "ann", id=7), insert(2, "x"), {"do": "create_role", "name": "eve"}, {"do": "subscribe", "on": "notes"}, {"id": "q", **insert(3, "ann")}):
             ann.ask(it)
-        assert gate.journal.read_text().splitlines()[len(BASE):] == [
+        assert gate.lines().decode().splitlines()[len(BASE):] == [
             '{"as":"ann","do":"write","entries":[{"on":"notes","insert":[1,"ann"]}]}', '{"as":"ann","do":"write","entries":[{"on":"notes","insert":[2,"x"]}]}',
             '{"as":"ann","do":"write","entries":[{"on":"notes","insert":[3,"ann"]}]}']
         assert gate.journal.stat().st_mode & 0o777 == 0o600
 
 
+def chained(texts: list[bytes], epoch: bytes = b"0123456789abcdef" * 2) -> bytes:
+    """A journal of these texts behind a head, as OPERATING describes it."""
+    before, out = bytes(32), b""
+    for text in (b'"journal":1,"epoch":"%s","audit":1}' % epoch, *texts):
+        before = hashlib.sha256(before + b'{"last":"' + text).digest()
+        out += b'{"last":"%s",%s\n' % (before.hex().encode(), text)
+    return out
+
+
 @test
 def a_torn_entry_is_cut_and_a_damaged_one_is_told():
+    """A journal of the form before, too: it is cut or refused as it was."""
     with serving() as (gate, admin):
         admin.ask(insert(1, "ann"))
-        whole = gate.journal.read_bytes()
+        gate.kill()
+        old = gate.lines()
         for torn in (b"{", b'{"as":"ann","do":"wri', b'{"as":"ann","do":"write","entries":[{"on":"notes","insert":[9,"ann"]}]}'):
+            gate.journal.write_bytes(old + torn)
+            gate.start()
+            assert gate.lines() == old and f"cut {len(torn)} bytes" in gate.said()
+            admin = gate.enter("admin")
+            assert total(admin.ask({"do": "subscribe", "on": "notes"})) == {(1, "ann"): 1}
             gate.kill()
+        whole = gate.journal.read_bytes()
+        for torn in (b"{", b'{"last":"12', b'{"last":"' + b"0" * 64 + b'","as":"ann","do":"write","entries":[{"on":"notes","insert":[9,"ann"]}]}'):
             gate.journal.write_bytes(whole + torn)
             gate.start()
             assert gate.journal.read_bytes() == whole and f"cut {len(torn)} bytes" in gate.said()
-            admin = gate.enter("admin")
-            assert total(admin.ask({"do": "subscribe", "on": "notes"})) == {(1, "ann"): 1}
-        for bad in (b"nonsense\n", b'{"as":"ann","do":"write","entries":[{"on":"notes","delete":[9,"ann"]}]}\n', b'{"as":"nobody","do":"create_role","name":"y"}\n',
-                    b'{"as":"ann","do":"subscribe","on":"notes"}\n', b"\n",
-                    b'{"role":"ann","do":"write","entries":[{"on":"notes","insert":[9,"ann"]}]}\n', b'{"as":"ann", "do":"write","entries":[]}\n'):
             gate.kill()
-            gate.journal.write_bytes(whole + bad)
-            assert gate.launch().wait(PATIENCE) == 1
-            assert f"damaged: {gate.journal}: line {len(BASE) + 2}, at byte {len(whole)}," in gate.said(), gate.said()
-            assert gate.journal.read_bytes() == whole + bad
+        texts = [line[1:] for line in old.splitlines()]
+        for bad in (b'{"as":"ann","do":"write","entries":[{"on":"notes","delete":[9,"ann"]}]}', b'{"as":"nobody","do":"create_role","name":"y"}',
+                    b'{"as":"ann","do":"subscribe","on":"notes"}', b"", b'{"role":"ann","do":"write","entries":[{"on":"notes","insert":[9,"ann"]}]}',
+                    b'{"as":"ann", "do":"write","entries":[]}', b"nonsense", b'{"journal":1,"epoch":"%s","audit":1}' % (b"0" * 32)):
+            for data, line in ((old + bad + b"\n", len(BASE) + 2), (chained([*texts, bad[1:]]), len(BASE) + 3)):
+                gate.journal.write_bytes(data)
+                at = len(b"".join(data.splitlines(keepends=True)[:-1]))
+                assert gate.launch().wait(PATIENCE) == 1
+                assert f"damaged: {gate.journal}: line {line}, at byte {at}," in gate.said(), (bad, gate.said())
+                assert gate.journal.read_bytes() == data
         gate.journal.write_bytes(whole)
         gate.start()
 
 
 @test
+def each_damaged_byte_is_told_with_its_place(every=19):
+    """Bytes of a small journal are changed, lost, doubled or zeroed: told with the line, or cut as a torn last line; never read otherwise."""
+    with serving() as (gate, admin):
+        admin.ask(insert(1, "ann"))
+        gate.kill()
+        whole = gate.journal.read_bytes()
+        ends = [at + 1 for at, byte in enumerate(whole) if byte == 10]
+        for at in [*range(0, len(whole), every), *(end - 1 for end in ends)]:
+            for data in (whole[:at] + bytes([whole[at] ^ 1]) + whole[at + 1:], whole[:at] + whole[at + 1:], whole[:at] + whole[at:at + 1] + whole[at:],
+                         whole[:at] + b"\0" + whole[at + 1:]):
+                gate.journal.write_bytes(data)
+                line = sum(end <= at for end in ends) + (data.count(b"\n") > whole.count(b"\n"))  # behind a newline more is a line more
+                place = ends[line - 1] if line else 0
+                gate.launch()
+                until(lambda: gate.process.poll() is not None or is_ready(gate), "it neither listens nor ends")
+                if gate.process.poll() is None:  # the end of its last line alone may look torn
+                    gate.kill()
+                    assert line == len(ends) - 1 and gate.journal.read_bytes() == whole[:place], (at, gate.said())
+                else:
+                    assert gate.process.returncode == 1 and f": line {line + 1}, at byte {place}," in gate.logs[-1].read_text(), (at, gate.logs[-1].read_text())
+                    assert gate.journal.read_bytes() == data
+        lines = whole.splitlines(keepends=True)
+        for data, line in ((b"".join(lines[:3] + lines[4:]), 4), (b"".join(lines[:3] + lines[2:]), 4), (b"".join(lines[:2] + [lines[3], lines[2]] + lines[4:]), 3),
+                           (whole + b"\0" * 512, len(lines) + 1), (b"".join(lines[1:]), 1)):
+            gate.journal.write_bytes(data)
+            assert gate.launch().wait(PATIENCE) == 1 and f"damaged: {gate.journal}: line {line}, " in gate.logs[-1].read_text(), gate.said()
+        gate.journal.write_bytes(whole)
+        gate.start()
+
+
+def is_ready(gate: Gateway) -> bool:
+    try:
+        return http(gate.port, "/readyz")[0] == 200
+    except OSError:
+        return False
+
+
+@test
+def each_entry_tells_who_wrote_it_and_when():
+    """Beside who wrote what, as clients of one role and several holders know it themselves; whatever their names are."""
+    names = {"one": "Ann Lee", "two": 'x", "as":"admin","by":"', "three": "ö\\ 東京", "none": None}
+    plain = {key: name for key, name in names.items() if name is None or '"' not in name and "\\" not in name}
+    gate = Gateway(words=("--jwt-secret-file", "secret"), start=False)
+    secret = gate.folder / "secret"
+    secret.write_bytes(SECRET)
+    gate.words = ("--jwt-secret-file", secret)
+    gate.know("admin", lines=tuple(f'"{digest(key)}" = {{ role = "mia"{"" if name is None else f", holder = {json.dumps(name, ensure_ascii=False)}"} }}'
+                                   for key, name in plain.items()))
+    gate.start()
+    admin = gate.enter("admin")
+    for it in BASE:
+        admin.ask(it)
+    begun, written = int(time.time()), {}
+    wires = {key: gate.knock(key if key in plain else web_token({"role": "mia", "sub": name, "exp": begun + 900})) for key, name in names.items()}
+
+    def write(number: int, key: str) -> None:
+        dice = random.Random(number)
+        for at in range(60):  # several messages in a read, some of them refused
+            rows = [number * 10_000 + at * 10 + it for it in range(dice.randrange(1, 5))]
+            asked = [insert(row, "ann") if dice.random() < 0.7 else {"do": "write", "entries": [{"on": "notes", "delete": [row, "nobody"]}]} for row in rows]
+            wires[key].send(b"".join(masked(text_of(it).encode()) for it in asked))
+            for it in asked:
+                if wires[key].event() == ['{"ok":true}']:
+                    written[it["entries"][0]["insert"][0]] = names[key] or ""
+
+    threads = [threading.Thread(target=write, args=it) for it in enumerate(names)]
+    for it in threads:
+        it.start()
+    for it in threads:
+        it.join()
+    ended = int(time.time())
+    told = {it["entries"][0]["insert"][0]: it for it in gate.noted() if it["as"] == "mia"}
+    assert {row: it["by"] for row, it in told.items()} == written and len(written) > 200, "an entry is told to be another's"
+    assert all(begun <= it["at"] <= ended for it in told.values())
+    assert {it["by"] for it in gate.noted() if it["as"] == "admin"} == {""}
+    gate.kill()
+    gate.start()
+    assert len(total(gate.knock("one").ask({"do": "subscribe", "on": "notes"}))) == len(written)
+    gate.end()
+
+
+@test
 def one_process_writes_a_journal():
     with serving() as (gate, admin):
-        before = gate.process
+        before, name = gate.process, gate.journal
         assert gate.launch().wait(PATIENCE) == 1 and "another process writes" in gate.said()
-        gate.process = before
+        for word, make in (("link", os.symlink), ("second", os.link)):  # by another name, too
+            gate.journal = gate.folder / f"{word}.jsonl"
+            make(name, gate.journal)
+            assert gate.launch().wait(PATIENCE) == 1 and f"another process writes {gate.journal}" in gate.said()
+        gate.process, gate.journal = before, name
         assert admin.ask(insert(1, "ann")) == ['{"ok":true}']
 
 
@@ -709,12 +889,14 @@ def one_process_writes_a_journal():
 def a_seed_begins_a_journal_that_is_missing():
     gate = Gateway(words=("--seed", TOP / "frontend" / "desk.jsonl"), roles=("admin", "mia"))
     seed = (TOP / "frontend" / "desk.jsonl").read_bytes()
-    assert gate.journal.read_bytes() == seed
+    assert gate.lines() == seed
     assert len(gate.enter("mia").ask({"do": "subscribe", "on": "tickets"})) == 2
     gate.enter("admin").ask({"do": "create_role", "name": "x"})
     gate.kill()
+    kept = gate.journal.read_bytes()
     gate.start()
-    assert gate.journal.read_bytes() == seed + b'{"as":"admin","do":"create_role","name":"x"}\n'
+    assert gate.journal.read_bytes() == kept and gate.lines() == seed + b'{"as":"admin","do":"create_role","name":"x"}\n'
+    assert [it["at"] for it in gate.noted()[-1:]] and not any("at" in it for it in gate.noted()[:-1])
     gate.end()
 
 
@@ -743,7 +925,7 @@ def sigterm_ends_it_at_once():
 @test
 def kills_lose_nothing(kills=20):
     """Killed at random: each acknowledged write is there exactly once behind it, and none that was refused."""
-    gate, dice = Gateway(), random.Random(5)
+    gate, dice = Gateway(words=("--rows", "1048576")), random.Random(5)  # a fast host writes more than 65,536
     acknowledged, refused, sent, faults = set(), set(), set(), []
     stop, lock = threading.Event(), threading.Lock()
     admin = gate.enter("admin")
@@ -788,7 +970,7 @@ def kills_lose_nothing(kills=20):
             gate.kill()
             if at % 4 == 3:  # half an entry stands behind what is whole
                 with gate.journal.open("ab") as file:
-                    file.write(b'{"as":"mia","do":"write","ent'[:dice.randrange(1, 28)])
+                    file.write(b'{"last":"12ab12ab12ab12ab12ab'[:dice.randrange(1, 28)])
             gate.start()
     finally:
         stop.set()
@@ -804,5 +986,8 @@ def kills_lose_nothing(kills=20):
 
 
 if __name__ == "__main__":
-    import test_journal  # noqa: F401  (its tests are listed behind these)
+    import soak  # noqa: F401  (its tests are listed behind these, and those of the others)
+    import test_frames  # noqa: F401
+    import test_journal  # noqa: F401
+    import test_strangers  # noqa: F401
     sys.exit(main())

@@ -20,6 +20,12 @@ BASE = [{"do": "create_role", "name": name} for name in ("ann", "bob", "mia")] +
 FILES = 4096  # that the tests and the program may have open, where the system allows it
 
 
+def many_files(count: int = FILES) -> None:
+    """The process and those that it starts may have so many files open, or as many as the system allows."""
+    most = resource.getrlimit(resource.RLIMIT_NOFILE)[1]
+    resource.setrlimit(resource.RLIMIT_NOFILE, (most if most != resource.RLIM_INFINITY and most < count else count, most))
+
+
 def test(check: Callable) -> Callable:
     TESTS.append(check)
     return check
@@ -95,8 +101,7 @@ def main() -> int:
         return 1
     for number in (signal.SIGTERM, signal.SIGHUP):  # what it has started ends with it
         signal.signal(number, lambda number, _: sys.exit(128 + number))
-    most = resource.getrlimit(resource.RLIMIT_NOFILE)[1]
-    resource.setrlimit(resource.RLIMIT_NOFILE, (most if most != resource.RLIM_INFINITY and most < FILES else FILES, most))
+    many_files()
     more = {"kills_lose_nothing": {"kills": given.kills}, "each_line_is_the_models": {"steps": given.steps}}
     for check in TESTS:
         name = check.__name__

@@ -92,7 +92,9 @@ class Wire:
 
     def more(self, seconds: float = PATIENCE) -> None:
         """Waits for bytes. Raises Ended, and TimeoutError."""
-        if not select.select([self.socket], [], [], seconds)[0]:
+        poll = select.poll()
+        poll.register(self.socket, select.POLLIN)
+        if not poll.poll(seconds * 1000):
             raise TimeoutError(f"nothing came; {self.lines[-3:]}")
         try:
             got = self.socket.recv(1 << 18)
@@ -262,20 +264,22 @@ class Gateway:
         fresh.write_text(text)
         fresh.rename(self.tokens)
 
-    def launch(self, most: int | None = None) -> subprocess.Popen:
-        """Starts it. It makes no file longer than so many bytes."""
+    def launch(self, most: int | None = None, memory: int | None = None, files: int | None = None) -> subprocess.Popen:
+        """Starts it. It makes no file longer than so many bytes, has no more memory than so many, and no more files open than so many."""
         def limit() -> None:
             signal.signal(signal.SIGXFSZ, signal.SIG_IGN)
-            resource.setrlimit(resource.RLIMIT_FSIZE, (most, most))
+            for kind, size in ((resource.RLIMIT_FSIZE, most), (resource.RLIMIT_AS, memory), (resource.RLIMIT_NOFILE, files)):
+                if size is not None:
+                    resource.setrlimit(kind, (size, size))
         self.logs.append(self.folder / f"log.{len(self.logs)}")
         with self.logs[-1].open("wb") as log:
             self.process = subprocess.Popen([PROGRAM, "--journal", self.journal, "--tokens", self.tokens, "--port", str(self.port), *self.words],
-                                            stdin=subprocess.DEVNULL, stderr=log, preexec_fn=None if most is None else limit)
+                                            stdin=subprocess.DEVNULL, stderr=log, preexec_fn=None if most is memory is files is None else limit)
         return self.process
 
-    def start(self, most: int | None = None) -> None:
+    def start(self, most: int | None = None, memory: int | None = None) -> None:
         """Starts it, and waits until it listens."""
-        self.launch(most)
+        self.launch(most, memory)
         end = time.monotonic() + PATIENCE
         while True:
             assert self.process.poll() is None, self.said()
@@ -313,8 +317,16 @@ class Gateway:
         assert wire.role == role
         return wire
 
+    def noted(self) -> list[dict]:
+        """The entries of the journal with their notes: `at`, and `by`, the holder of the token."""
+        return [{key: it for key, it in json.loads(line).items() if key != "last"} for line in self.journal.read_bytes().split(b"\n")[1:-1]]
+
     def entries(self) -> list[dict]:
-        return [json.loads(line) for line in self.journal.read_text().splitlines()]
+        return [{key: it for key, it in entry.items() if key not in ("at", "by")} for entry in self.noted()]
+
+    def lines(self) -> bytes:
+        """The journal's entries as they were before they had digests and notes."""
+        return b"".join(b'{"as":' + line.partition(b'"as":')[2] + b"\n" for line in self.journal.read_bytes().split(b"\n")[1:-1])
 
     def said(self) -> str:
         """All that it has written on standard error, since it was first started."""
@@ -323,6 +335,11 @@ class Gateway:
     def memory(self) -> int:
         """Bytes of the process."""
         return int(pathlib.Path(f"/proc/{self.process.pid}/statm").read_text().split()[1]) * os.sysconf("SC_PAGE_SIZE")
+
+    def most_memory(self) -> int:
+        """Bytes of the process when they were most."""
+        fields = dict(line.split(":") for line in pathlib.Path(f"/proc/{self.process.pid}/status").read_text().splitlines())
+        return int(fields["VmHWM"].split()[0]) * 1024
 
     def processor(self) -> float:
         """Seconds of processor that the process has taken."""

@@ -8,8 +8,8 @@
     viewd:tickets:position    which follower wrote, and how many times
     viewd:tickets:live        is there while the follower and the gateway are, and no longer than 30 seconds behind either
 
-What changed together is written in one transaction, and the position is a part of it. So it tells behind a lost connection whether the last
-transaction was done, and behind a restart of Redis whether what was written has been lost. A follower that finds another position than its own ends
+What changed together is written in one transaction, and the position is a part of it. So it tells after a lost connection whether the last
+transaction was done, and after a restart of Redis whether what was written has been lost. A follower that finds another position than its own ends
 with status 1; one that starts takes over, and writes what is other than it should be. Whoever reads several keys as of one moment reads them in a transaction.
 """
 import argparse
@@ -50,7 +50,7 @@ class Cache:
         self.held: dict[str, dict[Values, int]] = {}  # rows by their key, with their copies
 
     def take(self, changes: list[viewd.Change]) -> dict[str, Hash | None]:
-        """The hashes of all keys that change; None of those that go. Of rows with one key the first one is shown."""
+        """The hashes of all keys that change; None of those that are dropped. Of rows with one key the first one is shown."""
         hashes: dict[str, Hash | None] = {}
         for it in changes:
             rows, values = self.held.setdefault(self.key_of(it.row), {}), tuple(it.row.items())
@@ -88,7 +88,7 @@ class Cache:
         return dict(zip(keys, found))
 
     async def write(self, hashes: dict[str, Hash | None]) -> None:
-        """Writes all of them and the next position, or nothing. Raises Ended where the position is another's."""
+        """Writes all of them and the next position, or nothing. Raises Ended if the position is another's."""
         after = f"{self.count + 1} by {self.own}"
         while not await asked(lambda: self.written(hashes, after)):
             pass

@@ -4,7 +4,7 @@
     VIEWD_TOKEN=.. clients/examples/search/search.py pages --index pages.db --port 8081
 
 Whoever may reach the port sees what the role sees: it is on 127.0.0.1. The texts of the view are indexed, and its other columns are shown. Rows and the
-position, which counts what was taken in, are written in one transaction: so the index is at each moment exactly what the role saw at one moment, and a
+position, which counts what was applied, are written in one transaction: so the index is at each moment exactly what the role saw at one moment, and a
 search that waits for more than a position is answered when there is something new. A start writes what is other than it was left.
 """
 import argparse
@@ -58,7 +58,7 @@ class Index:
             self.news.notify_all()
 
     def begin(self, columns: viewd.Columns) -> None:
-        """Makes the tables, where those that are there are of another form."""
+        """Makes the tables, if those that are there are of another form."""
         if not (texts := [kind for _, kind in columns if kind == "text"]):
             raise viewd.ViewdError("there is no text to be searched")
         form = json.dumps([FORM, columns])
@@ -86,7 +86,7 @@ class Index:
                 change(base, viewd.Change(copies, json.loads(row)))
 
     def take(self, changes: list[viewd.Change]) -> None:
-        """Takes in what changed."""
+        """Applies what changed."""
         with self.writing() as base:
             for it in changes:
                 change(base, it)

@@ -72,7 +72,7 @@ class Search:
         return urllib.request.urlopen(ask, timeout=PATIENCE)
 
     def found(self, words, behind=""):
-        """Of what is found the numbers, with what else is told; nothing where nobody answers."""
+        """Of what is found the numbers, with what else is told; nothing if nobody answers."""
         try:
             with self.get("/search?" + urllib.parse.urlencode({"words": words, "behind": behind})) as answer:
                 told = json.load(answer)

@@ -6,7 +6,7 @@
         async for rows in tickets:
             print(rows)
 
-`viewd.plain` has the same without asyncio. docs/CLIENTS.md goes through both."""
+`viewd.plain` has the same without asyncio. docs/CLIENTS.md shows both."""
 from . import plain
 from .client import Db, connect
 from .faults import NotSent, Refused, Undecided, ViewdError

@@ -1,4 +1,4 @@
-"""A connection to a gateway that is kept: where it goes, another is tried."""
+"""A connection to a gateway that is kept: if it is lost, another is tried."""
 from __future__ import annotations
 
 import asyncio
@@ -68,7 +68,7 @@ class _Lost(Exception):
 
 @dataclass
 class _Connection:
-    """What stands and falls with one connection."""
+    """What lasts as long as one connection."""
 
     out: asyncio.Queue[str] = field(default_factory=asyncio.Queue)
     asked: list[Asked] = field(default_factory=list)  # messages without a reply, in their order
@@ -86,7 +86,7 @@ class Db:
 
     def __init__(self, url: str, token: Token, columns: Mapping[str, Columns] | None, on_error: Report | None, timing: Timing):
         self.url, self.timing = url, timing
-        self.role: str | None = None  # that the token opens, or None where nobody is in
+        self.role: str | None = None  # that the token opens, or None if nobody is in
         self.state = "connecting"  # at first; `live`; `stale`: what is shown may be old, and another connection is tried; `closed`
         self.why: str | None = None  # why the last connection went, where something is known
         self._token, self._tried_token, self._tries = token, "", 0
@@ -474,7 +474,7 @@ class Db:
 
 
 def _tell(users: list[User]) -> None:
-    """Listeners are called when all relations have taken in what is new."""
+    """Listeners are called when all relations have applied what is new."""
     for user in users:
         user.tell()
 
@@ -496,7 +496,7 @@ def connect(url: str, *, token: Token, columns: Mapping[str, Columns] | None = N
     """A client of the gateway at the address, as `ws://127.0.0.1:8080/live`, within a running loop.
 
     `token` is a text, or a function that gives one, or an awaitable of it, for each try. `columns` are known beforehand, for a role that
-    writes to what it may not read. `on_error` is told what a listener or `where` raises; a log where it is left out. Other words are those
+    writes to what it may not read. `on_error` is told what a listener or `where` raises; a log if it is left out. Other words are those
     of `Timing`, in seconds."""
     for scheme in ("http", "https"):
         if url.startswith(f"{scheme}://"):

@@ -108,7 +108,7 @@ async def watch(db: Db, words: argparse.Namespace) -> None:
 
 
 async def table(db: Db, words: argparse.Namespace) -> None:
-    """Shows the rows as a table, again behind each change."""
+    """Shows the rows as a table, again after each change."""
     live = await view(db, words)
     async for rows in live:
         if live.state == "refused":
@@ -214,7 +214,7 @@ def rows_of(file: TextIO, columns: Columns) -> list[tuple[int, list[Value]]]:
 
 
 def batches(on: str, rows: Sequence[tuple[int, list[Value]]]) -> Iterator[list[tuple[int, list[Value]]]]:
-    """The rows in parts, each of which is one message."""
+    """The rows in parts, each of them one message."""
     batch: list[tuple[int, list[Value]]] = []
     size = 0
     for number, values in rows:
@@ -233,7 +233,7 @@ def counted(rows: int) -> str:
 
 
 def progress(done: int, all_rows: int) -> None:
-    """A bar, where a person looks on."""
+    """A bar, if a person looks on."""
     if sys.stderr.isatty():
         bar = "#" * (30 * done // all_rows)
         print(f"\r[{bar:30}] {done:,} of {all_rows:,} rows", end="\n" if done == all_rows else "", file=sys.stderr, flush=True)
@@ -269,7 +269,7 @@ async def types(db: Db, words: argparse.Namespace) -> None:
 
 
 async def roles(db: Db, words: argparse.Namespace) -> None:
-    """Prints each role, and of which it is a member itself."""
+    """Prints each role, and which roles it is a member of itself."""
     shape = shape_of(await db.made())
     for name in shape.roles:
         put({"role": name, "member_of": [role for role, member in shape.members if member == name]})
@@ -382,7 +382,7 @@ async def done(words: argparse.Namespace) -> None:
 
 def main() -> int:
     """The command line. Its status."""
-    # a word behind --order may begin with -, which argparse takes for another option
+    # a word after --order may begin with -, which argparse takes for another option
     given = sys.argv[1:]
     for place in [at for at, word in enumerate(given[:-1]) if word == "--order"][::-1]:
         given[place : place + 2] = [f"--order={given[place + 1]}"]

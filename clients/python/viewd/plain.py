@@ -81,12 +81,12 @@ class PlainLive:
 
     @property
     def why(self) -> Refused | str | None:
-        """Where it is refused: the `Refused`, or `privilege` or `limit` where it was ended."""
+        """Why: the `Refused`, or `privilege` or `limit` if it was ended."""
         return self._live.why
 
     @property
     def columns(self) -> Columns | None:
-        """Pairs of a name and a kind, or None where they are not known yet."""
+        """Pairs of a name and a kind, or None if they are not known yet."""
         return self._live.columns
 
     def copies(self, row: Listed) -> int:
@@ -94,7 +94,7 @@ class PlainLive:
         return self._runner.call(lambda: self._live.copies(row))
 
     def ready(self, timeout: float | None = None) -> list[Row]:
-        """The rows, once the first are there. Raises Refused, NotSent, and TimeoutError behind so many seconds."""
+        """The rows, once the first are there. Raises Refused, NotSent, and TimeoutError after so many seconds."""
         return self._runner.run(self._live.ready(), timeout)
 
     def wait(self, timeout: float | None = None) -> bool:
@@ -141,7 +141,7 @@ class PlainDb:
 
     @property
     def role(self) -> str | None:
-        """The role that the token opens, or None where nobody is in."""
+        """The role that the token opens, or None if nobody is in."""
         return self._db.role
 
     @property
@@ -151,7 +151,7 @@ class PlainDb:
 
     @property
     def why(self) -> str | None:
-        """Why the last connection went, where something is known."""
+        """Why the last connection ended, if something is known."""
         return self._db.why
 
     def rows(self, on: str, *, where: Where | None = None, order: str | Sequence[str] = (), limit: int | None = None) -> list[Row]:

@@ -26,7 +26,7 @@ class Change:
 
 
 def values_of(on: str, columns: Columns | None, row: Mapping[str, Value] | Sequence[Value]) -> list[Value]:
-    """The values of a row in the order of the columns. Raises ViewdError where a column is missing, or is none of the relation's."""
+    """The values of a row in the order of the columns. Raises ViewdError if a column is missing, or is none of the relation's."""
     if not isinstance(row, Mapping):
         return list(row)
     if columns is None:
@@ -89,7 +89,7 @@ class Relation:
                 self._touched.add(key)
 
     def show(self) -> list[User]:
-        """Has the users take in what is new. Those to whom it is something."""
+        """Has the users apply what is new. Those to whom it is something."""
         touched, self._touched, self.is_half = self._touched, set(), False
         return [user for user in self.users if user.take(touched)]
 
@@ -121,7 +121,7 @@ class User:
 
     @property
     def columns(self) -> Columns | None:
-        """Pairs of a name and a kind, or None where they are not known yet."""
+        """Pairs of a name and a kind, or None if they are not known yet."""
         return self._relation.columns
 
     @property
@@ -132,7 +132,7 @@ class User:
 
     @property
     def why(self) -> Refused | str | None:
-        """Where it is refused: the `Refused`, or `privilege` or `limit` where it was ended."""
+        """Why: the `Refused`, or `privilege` or `limit` if it was ended."""
         return self._relation.why
 
     def close(self) -> None:
@@ -142,7 +142,7 @@ class User:
         self._wake()
 
     def take(self, touched: set[Values] | None) -> bool:
-        """Takes in which rows changed, None for all, or that the state is another. Whether that is something to this user."""
+        """Applies which rows changed, None for all, or that the state is another. Whether that is something to this user."""
         raise NotImplementedError
 
     def tell(self) -> None:
@@ -185,7 +185,7 @@ class Live(User):
         return found[1] if found else 0
 
     async def ready(self) -> list[Row]:
-        """The rows, once the first are there. Raises Refused where the relation is, and NotSent where it is closed before."""
+        """The rows, once the first are there. Raises Refused if the relation is, and NotSent if it is closed before."""
         event = asyncio.Event()
         self._sleepers.add(event)
         try:
@@ -199,13 +199,13 @@ class Live(User):
         return self.rows
 
     def subscribe(self, listener: Callable[[Live], None]) -> Callable[[], None]:
-        """Calls the listener behind each change of the rows or the state. What it returns takes the listener back."""
+        """Calls the listener after each change of the rows or the state. What it returns takes the listener back."""
         own: Callable[[Live], None] = lambda live: listener(live)
         self._listeners.append(own)
         return lambda: self._listeners.remove(own) if own in self._listeners else None
 
     async def __aiter__(self) -> AsyncIterator[list[Row]]:
-        """The rows, and again behind each change of them or of the state, until it is closed. Who is slow misses what lies between."""
+        """The rows, and again after each change of them or of the state, until it is closed. Who is slow misses what lies between."""
         event = asyncio.Event()
         self._sleepers.add(event)
         if self._is_told:
@@ -233,7 +233,7 @@ class Live(User):
         self._listeners.clear()
 
     def take(self, touched: set[Values] | None) -> bool:
-        """Takes in what changed. Whether that is something to this user."""
+        """Applies what changed. Whether that is something to this user."""
         if self._relation.is_half and self._relation.state != "closed":
             return False
         is_new = touched is None or not self._is_told
@@ -296,7 +296,7 @@ class Live(User):
 class Changes(User):
     """The changes of a relation: first all rows that are there, then what each settled event changed.
 
-    Added up they are at each moment exactly what the role sees, across lost connections too: behind one comes the difference. Who is slow
+    Added up they are at each moment exactly what the role sees, across lost connections too: after one comes the difference. Who is slow
     is told several events as one."""
 
     def __init__(self, relation: Relation, report: Report):
@@ -306,7 +306,7 @@ class Changes(User):
         self._is_first = True
 
     def take(self, touched: set[Values] | None) -> bool:
-        """Takes in which rows changed."""
+        """Applies which rows changed."""
         if self._relation.is_half and self._relation.state != "closed":
             return False
         self._touched = None if touched is None or self._touched is None else self._touched | touched
@@ -317,7 +317,7 @@ class Changes(User):
         return self
 
     async def __anext__(self) -> list[Change]:
-        """The changes of an event or more; at first the rows that are there, an empty list where there are none.
+        """The changes of an event or more; at first the rows that are there, an empty list if there are none.
 
         Raises why there are no more: what was seen is taken back by the changes before it."""
         event = asyncio.Event()

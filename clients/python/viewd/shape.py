@@ -21,7 +21,7 @@ class Shape:
     policies: list[Request] = field(default_factory=list)  # the requests that made those that are there
 
     def take(self, made: Request) -> None:
-        """Takes in the next one."""
+        """Applies the next one."""
         match made:
             case {"do": "create_role", "name": name}:
                 self.roles.append(name)

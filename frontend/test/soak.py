@@ -1,0 +1,354 @@
+#!/usr/bin/python3
+"""A soak of the gateway as a program: millions of requests, a thousand clients that come and go, and policies that change meanwhile.
+
+    frontend/test/soak.py [--requests 10000000] [--clients 1000] [--each 500000] [--seed 1]
+
+Who writes keeps rows of its own, and knows which are there. Behind each so many requests all stand still: each reader's rows, as what it was
+told adds up, have to be those that its policy shows by a model of ten lines, and those that a client is shown which comes then; the memory
+and the files of the program may not have grown. At last it is killed and started again, and shows the same. GATEWAY names another program
+than the one that is built."""
+import argparse
+import collections
+import hashlib
+import json
+import os
+import random
+import select
+import socket
+import struct
+import sys
+import time
+from collections.abc import Callable
+
+from trial import many_files, test
+from wire import CLOSE, PATIENCE, PING, Gateway, Wire, digest, frame, http, request
+
+READERS = ("r1", "r2", "r3", "r4")  # each has a policy of its own
+PREDICATES: list[tuple[str, Callable[[tuple, str], bool]]] = [
+    ("true", lambda row, role: True), ("who = current_user", lambda row, role: row[1] == role), ("open = true", lambda row, role: row[2]),
+    ("who = 'r2' or open = false", lambda row, role: row[1] == "r2" or not row[2]), ("id < 30000000", lambda row, role: row[0] < 30_000_000)]
+WRITERS, WINDOW, ROWS = 8, 16, 60  # who write, requests of each without a reply, and rows that each keeps at most
+PER_TOKEN = 40
+Row = tuple[int, str, bool]
+
+
+def text(request: dict) -> bytes:
+    return json.dumps(request, separators=(",", ":")).encode()
+
+
+class Client:
+    """A client: requests with what is done about their replies, and what it was told for its numbers adds up."""
+
+    def __init__(self, soak: "Soak", role: str, token: str):
+        self.soak, self.role, self.wire = soak, role, Wire(soak.gate.port, open_it=False)
+        self.wire.send(request() + frame(token.encode()))
+        self.waiting: collections.deque[Callable[[dict], None]] = collections.deque()
+        self.sums: dict[int, collections.Counter] = {}
+        self.is_open = self.is_in = False
+        soak.poll.register(number := self.wire.socket.fileno(), select.EPOLLIN)
+        self.number, soak.clients[number] = number, self
+
+    def ask(self, *requests: dict, then: Callable[[dict], None] = lambda reply: None) -> None:
+        self.wire.send(b"".join(frame(text(it), mask=b"\1\2\3\4") for it in requests))
+        self.waiting.extend([then] * len(requests))
+        self.soak.requests += len(requests)
+
+    def hear(self, line: str) -> None:
+        if line.startswith('{"changes":'):
+            it = json.loads(line)
+            if (rows := self.sums.get(it["sub"])) is not None:
+                for copies, row in it["changes"]:
+                    rows[tuple(row)] += copies
+                    if not rows[tuple(row)]:
+                        del rows[tuple(row)]
+                if "ended" in it:
+                    assert not self.sums.pop(it["sub"]), "what was told of an ended number adds up to rows"
+                    self.subscribe()
+        elif line.startswith('{"granted":'):
+            self.subscribe()
+        elif line.startswith('{"role":'):
+            self.is_in = True
+        elif not line.startswith(('{"settled":', '{"alive":', '{"as":')):
+            self.waiting.popleft()(json.loads(line))
+
+    def read(self) -> None:
+        """Hears what has come."""
+        got = self.wire.socket.recv(1 << 18)
+        assert got, (self.role, self.wire.code, self.wire.words)
+        self.wire.input += got
+        if not self.is_open:
+            head, end, rest = self.wire.input.partition(b"\r\n\r\n")
+            self.is_open = bool(end)
+            if not end:
+                return
+            assert head.startswith(b"HTTP/1.1 101 "), head
+            self.wire.input = rest
+        self.wire.take_in()
+        lines, self.wire.lines = self.wire.lines, []
+        for it in lines:
+            self.hear(it)
+
+    def subscribe(self) -> None:
+        """Reads the table, if it may; one that may not comes again when something is granted."""
+        def answered(reply: dict) -> None:
+            if "sub" in reply:
+                self.sums[reply["sub"]] = collections.Counter()
+        if self.role in READERS and not self.sums:
+            self.ask({"do": "subscribe", "on": "notes"}, then=answered)
+
+    def leave(self, how: int) -> None:
+        """It closes as the standard has it, or is gone without a word, or within a frame, or by a reset."""
+        self.soak.poll.unregister(self.number)
+        del self.soak.clients[self.number]
+        if how == 0:
+            self.wire.send(frame(struct.pack("!H", 1000), CLOSE))
+        elif how == 1:
+            self.wire.send(frame(b'{"do":"unsubscribe","sub":1}')[:9])
+        elif how == 2:
+            self.wire.socket.setsockopt(socket.SOL_SOCKET, socket.SO_LINGER, struct.pack("ii", 1, 0))
+        self.wire.shut()
+
+
+class Guest(Client):
+    """Comes, asks this and that, and goes again."""
+
+    def subscribe(self) -> None:
+        """It does not read the table: what is written comes to few."""
+
+    def __init__(self, soak: "Soak", role: str, token: str):
+        super().__init__(soak, role, token)
+        dice = soak.dice
+        self.until, self.how = time.monotonic() + dice.expovariate(1 / soak.stay), dice.randrange(4)
+        asks = [{"do": "subscribe", "on": "board"}, {"do": "unsubscribe", "sub": 1}, {"do": "subscribe", "on": "nothing"}, {"do": "nothing"},
+                {"id": dice.randrange(1000), "do": "create_role", "name": "x"}, {"do": "subscribe", "on": "board"},
+                {"do": "write", "entries": [{"on": "board", "insert": [1]}]}]
+        self.ask(*asks[:dice.randint(1, len(asks))])
+        if dice.random() < 0.2:
+            self.wire.send(frame(b"x", PING))
+
+
+class Writer(Client):
+    """Keeps rows of its own, and knows which are there."""
+
+    def __init__(self, soak: "Soak", role: str, token: str, at: int):
+        super().__init__(soak, role, token)
+        self.next, self.rows = at * 10_000_000, set[Row]()
+
+    def entries(self) -> tuple[list[dict], list[Row], list[Row]]:
+        """Those of a batch, and which rows it adds and takes away."""
+        dice, more, less = self.soak.dice, [], []
+        for _ in range(dice.choice([1, 1, 1, 3])):
+            self.next += 1
+            more.append((self.next, dice.choice(READERS), dice.random() < 0.5))
+        while len(self.rows) - len(less) + len(more) > ROWS:
+            less.append(dice.choice([*self.rows - {*less}]))
+        return [{"on": "notes", "insert": it} for it in more] + [{"on": "notes", "delete": it} for it in less], more, less
+
+    def write(self) -> None:
+        """Writes until enough wait for their reply. One in eight is refused whole."""
+        while len(self.waiting) < WINDOW:
+            entries, more, less = self.entries()
+            if self.soak.dice.random() < 0.125:
+                self.ask({"do": "write", "entries": [*entries, {"on": "notes", "delete": [0, "nobody", True]}]}, then=self.refused)
+                continue
+            self.rows -= {*less}
+            self.ask({"do": "write", "entries": entries}, then=lambda reply, more=more: self.accepted(reply, more))
+
+    def accepted(self, reply: dict, more: list[Row]) -> None:
+        assert reply == {"ok": True}, reply
+        self.rows |= {*more}
+        self.soak.accepted += 1
+
+    @staticmethod
+    def refused(reply: dict) -> None:
+        assert reply["error"] == 16, reply
+
+
+class Owner(Client):
+    """Changes who sees what."""
+
+    def __init__(self, soak: "Soak", role: str, token: str):
+        super().__init__(soak, role, token)
+        self.policies: dict[str, int] = dict.fromkeys(READERS, 0)
+        self.granted, self.locked, self.mark = {*READERS}, False, 0
+
+    def make(self) -> None:
+        """The policies that there are in the beginning."""
+        self.ask({"do": "row_security", "on": "notes", "enable": True, "force": False}, then=self.is_done)
+        for role in READERS:
+            self.ask(self.policy(role), {"do": "grant", "on": "notes", "privileges": ["select"], "to": role}, then=self.is_done)
+
+    @staticmethod
+    def is_done(reply: dict) -> None:
+        assert reply == {"ok": True}, reply
+
+    def policy(self, role: str) -> dict:
+        return {"do": "create_policy", "on": "notes", "name": role, "to": [role], "using": PREDICATES[self.policies[role]][0]}
+
+    def change(self) -> None:
+        """A policy, a right or a lock over all is another, and the board has another row."""
+        role, kind = self.soak.dice.choice(READERS), self.soak.dice.randrange(4)
+        if kind == 0:
+            verb = "revoke" if role in self.granted else "grant"
+            self.granted ^= {role}
+            self.ask({"do": verb, "on": "notes", "privileges": ["select"], "to": role}, then=self.is_done)
+        elif kind == 1:
+            lock = {"do": "create_policy", "on": "notes", "name": "lock", "restrictive": True, "command": "select", "using": "open = true"}
+            self.ask({"do": "drop_policy", "on": "notes", "name": "lock"} if self.locked else lock, then=self.is_done)
+            self.locked = not self.locked
+        else:
+            self.policies[role] = self.soak.dice.randrange(len(PREDICATES))
+            self.ask({"do": "drop_policy", "on": "notes", "name": role}, self.policy(role), then=self.is_done)
+        self.mark += 1
+        board = [{"on": "board", "insert": [self.mark]}, *([{"on": "board", "delete": [self.mark - 1]}] if self.mark > 1 else [])]
+        self.ask({"do": "write", "entries": board}, then=self.is_done)
+
+    def shows(self, role: str, row: Row) -> bool:
+        """Whether the role is shown a row: the model."""
+        return role in self.granted and PREDICATES[self.policies[role]][1](row, role) and (row[2] or not self.locked)
+
+
+class Soak:
+    def __init__(self, clients: int, stay: float, seed: int):
+        self.dice, self.stay, self.size = random.Random(seed), stay, clients
+        self.requests = self.accepted = self.comings = 0
+        self.poll, self.clients = select.epoll(), dict[int, Client]()
+        tokens = {it: it.split()[0] for it in ["ann", "admin", *(f"{role} {at}" for role in READERS for at in range(clients // PER_TOKEN + 1))]}
+        self.gate = Gateway(start=False)
+        self.gate.put_tokens("[tokens]\n" + "".join(f'"{digest(token)}" = "{role}"\n' for token, role in tokens.items()))
+        self.gate.start()
+        admin = Wire(self.gate.port, "admin")
+        admin.event()
+        for it in ([{"do": "create_role", "name": role} for role in ("ann", *READERS)]
+                   + [{"do": "create_table", "name": "notes", "owner": "ann", "columns": [["id", "int"], ["who", "text"], ["open", "flag"]]},
+                      {"do": "create_table", "name": "board", "owner": "ann", "columns": [["mark", "int"]]},
+                      {"do": "grant", "on": "board", "privileges": ["select"], "to": "public"}]):
+            assert admin.ask(it)[0].startswith('{"ok":true'), it
+        admin.shut()
+        self.owner = Owner(self, "ann", "ann")
+        self.owner.make()
+        self.writers = [Writer(self, "ann", "ann", at + 1) for at in range(WRITERS)]
+        self.readers = [Client(self, role, f"{role} 0") for role in READERS]
+        self.wait(lambda: all(it.is_in for it in self.readers) and not self.owner.waiting)
+        for it in self.readers:
+            it.subscribe()
+        self.guests: list[Guest] = []
+
+    def step(self, seconds: float = 0.05) -> None:
+        """Hears what comes within so many seconds."""
+        for number, _ in self.poll.poll(seconds, 256):
+            if number in self.clients:
+                self.clients[number].read()
+
+    def wait(self, holds: Callable[[], bool]) -> None:
+        end = time.monotonic() + PATIENCE
+        while not holds():
+            assert time.monotonic() < end, "it does not come"
+            self.step()
+
+    def come_and_go(self) -> None:
+        """Guests whose time is over go, and others come."""
+        now = time.monotonic()
+        for it in [it for it in self.guests if it.until < now]:
+            it.leave(it.how)
+        self.guests = [it for it in self.guests if it.until >= now]
+        for _ in range(min(self.size - len(self.guests), 50)):
+            role = self.dice.choice(READERS)
+            self.guests.append(Guest(self, role, f"{role} {self.dice.randrange(self.size // PER_TOKEN + 1)}"))
+            self.comings += 1
+
+    def run(self, requests: int) -> None:
+        """Goes on for so many requests."""
+        until, change = self.requests + requests, time.monotonic()
+        while self.requests < until:
+            for it in self.writers:
+                it.write()
+            self.come_and_go()
+            if time.monotonic() > change:
+                self.owner.change()
+                change = time.monotonic() + 0.2
+            self.step(0.001)
+
+    def stand_still(self) -> str:
+        """All is answered. What readers see is what the model shows, and a client that comes now; the digest of it."""
+        for it in self.guests:
+            it.leave(0)
+        self.guests = []
+        self.wait(lambda: not any(it.waiting for it in self.clients.values()))
+        for it in self.readers:  # what was told before a reply has come
+            it.ask({"do": "unsubscribe", "sub": 1 << 40})
+        self.wait(lambda: not any(it.waiting for it in self.clients.values()))
+        rows = {row for it in self.writers for row in it.rows}
+        found = hashlib.sha256()
+        for reader in self.readers:
+            wanted = {row for row in rows if self.owner.shows(reader.role, row)}
+            shown = [*reader.sums.values()]
+            assert bool(shown) == (reader.role in self.owner.granted), (reader.role, len(shown))
+            assert all(it == collections.Counter(wanted) for it in shown), (reader.role, len(wanted), [len(it) for it in shown])
+            assert self.fresh(reader.role) == (collections.Counter(wanted) if shown else None), reader.role
+            found.update(repr((reader.role, sorted(wanted))).encode())
+        return found.hexdigest()[:16]
+
+    def fresh(self, role: str) -> collections.Counter | None:
+        """What a client is shown that comes now, if it may read."""
+        wire = Wire(self.gate.port, f"{role} 1" if self.size >= PER_TOKEN else f"{role} 0")
+        assert wire.enter() == role
+        reply, *lines = map(json.loads, wire.ask({"do": "subscribe", "on": "notes"}))
+        wire.shut()
+        if "error" in reply:
+            return None
+        return collections.Counter({tuple(row): copies for it in lines for copies, row in it["changes"]})
+
+    def files(self) -> int:
+        """Files that the program has open beside its clients, once connections that are gone are let go."""
+        end = time.monotonic() + PATIENCE
+        while json.loads(http(self.gate.port, "/state", "admin")[2])["sockets"] > len(self.clients) + 1:
+            assert time.monotonic() < end, "connections that are gone are kept"
+            time.sleep(0.05)
+        return len(os.listdir(f"/proc/{self.gate.process.pid}/fd")) - len(self.clients)
+
+    def again(self, before: str) -> None:
+        """The program is killed, and what it shows then is the same."""
+        shown = {role: self.fresh(role) for role in READERS}
+        self.gate.kill()
+        self.gate.start()
+        assert {role: self.fresh(role) for role in READERS} == shown, before
+
+
+def soak(requests: int, clients: int, each: int, stay: float = 5.0, seed: int = 1, more: int = 8 << 20) -> None:
+    """The whole. The memory behind the second part may grow by so many bytes, and by a fiftieth, until the end."""
+    it, began, seen = Soak(clients, stay, seed), time.monotonic(), []
+    while it.requests < requests:
+        it.run(min(each, requests - it.requests))
+        found, files = it.stand_still(), it.files()
+        seen.append((it.gate.memory(), files))
+        print(f"  {it.requests:,} requests, {it.accepted:,} writes, {it.comings:,} guests, {time.monotonic() - began:.0f} s: {seen[-1][0] / 1e6:.1f} MB,"
+              f" {files} files, {it.gate.journal.stat().st_size / 1e6:.1f} MB of journal, digest {found}", flush=True)
+        assert files <= seen[0][1] + 1, [files for _, files in seen]  # a connection that asked for its state may be there still
+        assert it.gate.process.poll() is None, it.gate.said()
+    first = seen[min(1, len(seen) - 1)][0]
+    assert max(memory for memory, _ in seen) <= first + first // 50 + more, [memory for memory, _ in seen]
+    it.again(found)
+    it.gate.end()
+
+
+@test
+def a_soak_leaves_no_trace():
+    soak(12_000, 100, 3_000, stay=0.5)
+
+
+if __name__ == "__main__":
+    words = argparse.ArgumentParser(description=__doc__.splitlines()[0])
+    words.add_argument("--requests", type=int, default=10_000_000)
+    words.add_argument("--clients", type=int, default=1000, help="guests at a time")
+    words.add_argument("--each", type=int, default=500_000, help="requests between two looks")
+    words.add_argument("--stay", type=float, default=5.0, help="seconds for which a guest stays, on average")
+    words.add_argument("--seed", type=int, default=1)
+    given = words.parse_args()
+    many_files()
+    try:
+        soak(given.requests, given.clients, given.each, given.stay, given.seed)
+    finally:
+        for gate in [*Gateway.running]:
+            gate.end()
+    sys.exit(0)
