@@ -1,0 +1,100 @@
+"""Which file of the repository lies where once it is installed, and the pages of the manual."""
+import gzip
+import pathlib
+import re
+import subprocess
+
+from archives import PROGRAM, TEXT, put
+from manual import Page, chapter
+
+TOP = pathlib.Path(__file__).resolve().parent.parent
+# folders and files: what is copied, and to where. A pattern of a folder goes with the folders below it
+COPIED = [
+    ("clients/python/viewd/*.py", "usr/lib/python3/dist-packages/viewd"),
+    ("clients/python/viewd/py.typed", "usr/lib/python3/dist-packages/viewd"),
+    ("clients/js/*.js", "usr/share/viewd/clients/js"),
+    ("clients/js/viewd.d.ts", "usr/share/viewd/clients/js"),
+    ("clients/js/package.json", "usr/share/viewd/clients/js"),
+    ("clients/js/examples/*", "usr/share/viewd/clients/js/examples"),
+    ("clients/examples/*/*", "usr/share/viewd/clients/examples"),
+    ("docs/*", "usr/share/doc/viewd/docs"),
+    ("*.md", "usr/share/doc/viewd"),
+    ("examples/*.jsonl", "usr/share/doc/viewd/examples"),
+    ("examples/README.md", "usr/share/doc/viewd/examples"),
+    ("packaging/viewd-gateway.service", "usr/lib/systemd/system"),
+    ("packaging/Containerfile", "usr/share/doc/viewd/examples"),
+]
+SETTINGS = {"packaging/tokens.toml": ("etc/viewd/tokens.toml", 0o640), "packaging/viewd-gateway.default": ("etc/default/viewd-gateway", TEXT)}
+CLIENT = """#!/usr/bin/python3
+import os
+import sys
+
+sys.path.insert(0, os.path.join(os.path.dirname(os.path.realpath(__file__)), "../lib/python3/dist-packages"))
+from viewd.command import main
+
+sys.exit(main())
+"""
+COMPACT = """#!/bin/sh
+# writes a journal anew while no gateway writes it: viewd-compact [--rows N] JOURNAL
+here=$(dirname "$(readlink -f "$0")")
+exec /usr/bin/python3 "$here/../lib/viewd/compact.py" "$@" "$here/viewd"
+"""
+
+
+def with_modules(path: pathlib.Path) -> list[pathlib.Path]:
+    """A program in Python, and the modules beside it that it imports."""
+    found = [path]
+    for it in found:
+        names = re.findall(r"(?m)^ *(?:from|import) (\w+)", it.read_text())
+        beside = [path.with_name(f"{name}.py") for name in names]
+        found += dict.fromkeys(other for other in beside if other.exists() and other not in found)
+    return found
+
+
+def copied(root: pathlib.Path) -> None:
+    for pattern, place in COPIED:
+        depth = pattern.count("*/")
+        found = sorted(it for it in TOP.glob(pattern) if it.is_file() and not it.name.startswith("test_"))
+        if not found:
+            raise ValueError(f"{pattern} is nothing")
+        for it in found:
+            put(root, "/".join([place, *it.parts[-1 - depth:]]), it.read_bytes())
+    for it in with_modules(TOP / "frontend/compact.py"):
+        put(root, f"usr/lib/viewd/{it.name}", it.read_bytes())
+    for name, (place, mode) in SETTINGS.items():
+        put(root, place, (TOP / name).read_bytes(), mode)
+    put(root, "usr/bin/viewd-client", CLIENT.encode(), PROGRAM)
+    put(root, "usr/bin/viewd-compact", COMPACT.encode(), PROGRAM)
+
+
+def said(program: pathlib.Path | str, *words: str) -> str:
+    """What a program answers, at a width of its own."""
+    env = {"PATH": "/usr/bin:/bin", "COLUMNS": "100", "LC_ALL": "C.UTF-8"}
+    return subprocess.run([program, *words], check=True, capture_output=True, text=True, env=env).stdout
+
+
+def pages(viewd: pathlib.Path, gateway: pathlib.Path) -> list[Page]:
+    document = {it.stem: it.read_text() for it in (TOP / "docs").glob("*.md")}
+    operating = document["OPERATING"]
+    before = operating.split("\n## ")[0].partition("\n\n")[2]
+    also = ["`/usr/share/doc/viewd/docs`"]
+    return [
+        Page("viewd", 1, "views with row security, as lines", [said(viewd, "--help"), said(viewd, "replay", "--help"), said(viewd, "serve", "--help")],
+             [("know first", before), ("how the program ends", chapter(document["PROTOCOL"], "How the program ends"))],
+             ["`viewd-gateway`(8)", "`viewd-client`(1)", *also]),
+        Page("viewd-gateway", 8, "views with row security for clients by WebSocket, with a journal", [said(gateway, "--help")],
+             [("description", chapter(operating, "The gateway as a program")), ("the journal", chapter(operating, "The journal"))],
+             ["`viewd`(1)", "`viewd-client`(1)", *also]),
+        Page("viewd-client", 1, "asks, follows and writes relations of a gateway", [said(TOP / "clients/python/viewd-client", "--help")],
+             [("description", chapter(document["CLIENTS"], "The command line")), ("what may happen", chapter(document["CLIENTS"], "What may happen"))],
+             ["`viewd-gateway`(8)", *also])]
+
+
+def staged(root: pathlib.Path, viewd: pathlib.Path, gateway: pathlib.Path, version: str, date: str) -> None:
+    """All that is installed, but for PROVED and the notices of licences."""
+    copied(root)
+    put(root, "usr/bin/viewd", viewd.read_bytes(), PROGRAM)
+    put(root, "usr/bin/viewd-gateway", gateway.read_bytes(), PROGRAM)
+    for page in pages(viewd, gateway):
+        text = gzip.compress(page.text(date, version).encode(), mtime=0)
+        put(root, f"usr/share/man/man{page.section}/{page.name}.{page.section}.gz", text)
