@@ -98,15 +98,15 @@ is_open_number f k = list_any (λ e. k == e.number) f.subscriptions
 
 -- what a role sees of a relation: the relation's plan over the rows that the role may see (PostgreSQL 16, CREATE VIEW:
 -- security_invoker)
-abbrev pub view_for : State → ℕ → ℕ → List (List Cell)
+abbrev pub view_for : State → (role rel : ℕ) → List (List Cell)
 view_for s role rel = eval (plan_at s.frame.catalog rel) (allowed s.frame.rights role s.rows)
 
 -- the limits hold at each node of it
-abbrev pub is_within_for : State → ℕ → ℕ → Bool
+abbrev pub is_within_for : State → (role rel : ℕ) → Bool
 is_within_for s role rel = plan_within s.frame.cap (plan_at s.frame.catalog rel) (allowed s.frame.rights role s.rows)
 
 -- the first relation that the role may not select from, of those that it needs
-abbrev pub missing_for : Frame → ℕ → ℕ → Option (Privilege × ℕ)
+abbrev pub missing_for : Frame → (role rel : ℕ) → Option (Privilege × ℕ)
 missing_for f role rel = first_missing f.rights role (map (λ r. (Select, r)) (needs_at f.catalog rel))
 
 -- what a subscription shows
