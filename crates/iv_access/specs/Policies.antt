@@ -1,4 +1,6 @@
 -- What policies say of a row (PostgreSQL 16, Row Security Policies, and CREATE POLICY).
+-- Read `verdict`: a role passes that policies do not bind; of another some permissive policy that applies has to pass, and then each restrictive one.
+-- `role` and `table` are numbers, `p` is a policy, `test` what a row is tested for, and `user` the name of the role, which is not that of a role that it reaches.
 use Rattle.std.specs.Prelude.{◌≡◌, ℕ, ◌&&◌, ◌||◌, Bool, true, false, not, if◌then◌else◌, List, [], ◌∷◌, Option, Some, None, option_map, position, bytes_eq, slice_get}
 use Rattle.std.specs.List.{list_any, filter}
 use Rattle.iv_algebra.specs.Rows.{Cells}

@@ -1,4 +1,6 @@
 -- Who has which privilege, and who owns what (PostgreSQL 16, Privileges).
+-- Read `has` and `owns`. A role has what each role has that it reaches by memberships, itself among them (`acts_as`); `admin` has all. `role`, `other` and
+-- `rel` are numbers, `p` is a privilege, or one with its relation, and `g` a grant.
 use Rattle.std.specs.Prelude.{ℕ, ◌==◌, ◌&&◌, ◌||◌, Bool, true, false, if◌then◌else◌, List, [], ◌∷◌, Option, Some, None, unwrap_or}
 use Rattle.std.specs.Prelude.{position, bytes_eq, slice_get}
 use Rattle.std.specs.List.{list_any}

@@ -1,4 +1,7 @@
 -- Refusals: the first test of a command that fails.
+-- Read `refusal` at the end, and from there `tests_by`, which has the tests of each request in their order. A test that passes is `None`. Those that look
+-- at rows come last, since a refusal that tells of rows may come only to who sees them. `role` is the role that acts, `n` its session, and in a test of
+-- an entry the number of the entry; `rel` is the name of a relation.
 use Rattle.std.specs.Prelude.{ℕ, ◌^◌, ◌+◌, ◌==◌, ◌&&◌, Bool, true, not, if◌then◌else◌, List, [], ◌∷◌, map, length, count_by, nat_le, Option, Some, None, option_map, is_some, unwrap_or, slice_get, Result, Ok, Err}
 use Rattle.std.specs.List.{list_all, list_any}
 use Rattle.iv_rows.specs.Cell.{Cell}

@@ -1,4 +1,7 @@
 -- The state of the machine, and what a subscription shows.
+-- Read the records, and then `shown` at the end. Rows are whole lists, with no weights and no kept totals. Roles and relations have numbers, their places
+-- in lists; of what is not there a number is told that nothing has. `n` is a session, `k` a subscription, `e` an element of a list; `rel` is the name or
+-- the number of a relation, by its type.
 use Rattle.std.specs.Prelude.{ℕ, ◌==◌, Bool, List, [], map, length, find, Option, None, option_map, is_some, unwrap_or}
 use Rattle.std.specs.List.{list_any}
 use Rattle.iv_rows.specs.Cell.{Cell}
