@@ -18,10 +18,10 @@ with_role name r = record r { roles = r.roles ++ name ∷ [] }
 -- ---- memberships
 
 -- the member becomes a member of the role
-abbrev pub with_member : ℕ → ℕ → Rights → Rights
+abbrev pub with_member : (role member : ℕ) → Rights → Rights
 with_member role member r = record r { members = with_membership (member_of role member) r.members }
 
-abbrev pub without_member : ℕ → ℕ → Rights → Rights
+abbrev pub without_member : (role member : ℕ) → Rights → Rights
 without_member role member r = record r { members = without_membership (member_of role member) r.members }
 
 -- ---- grants

@@ -60,7 +60,7 @@ add_relation_fault k acting name owner table =
 
 -- ---- grants
 
-abbrev pub grant_fault : Rights → ℕ → ℕ → Option Name → Option AccessFault
+abbrev pub grant_fault : Rights → (acting rel : ℕ) → Option Name → Option AccessFault
 grant_fault r acting rel to = first_fault ((not (owns r acting rel), fault.NotOwner) ∷ (not (is_grantee r to), fault.Role) ∷ [])
 
 -- ---- policies

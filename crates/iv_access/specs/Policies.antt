@@ -1,4 +1,6 @@
 -- What policies say of a row (PostgreSQL 16, Row Security Policies, and CREATE POLICY).
+-- Read `verdict`: a role passes that policies do not bind; of another some permissive policy that applies has to pass, and then each restrictive one.
+-- `role` and `table` are numbers, `p` is a policy, `test` what a row is tested for, and `user` the name of the role, which is not that of a role that it reaches.
 use Rattle.std.specs.Prelude.{◌≡◌, ℕ, ◌&&◌, ◌||◌, Bool, true, false, not, if◌then◌else◌, List, [], ◌∷◌, Option, Some, None, option_map, position, bytes_eq, slice_get}
 use Rattle.std.specs.List.{list_any, filter}
 use Rattle.iv_algebra.specs.Rows.{Cells}
@@ -86,7 +88,7 @@ by_policies r role test row ps =
     if list_any (permits r role test row) ps then failed_at (position (forbids r role test row) ps)
     else NoPermissive
 
-abbrev pub verdict : Rights → ℕ → ℕ → Check → Cells → Verdict
+abbrev pub verdict : Rights → (role table : ℕ) → Check → Cells → Verdict
 verdict r role table test row = let guard = slice_get r.guards table in
     if is_exempt r role guard then Pass else by_policies r role test row (policies_of guard)
 
@@ -98,7 +100,7 @@ abbrev pub policy_of : Rights → ℕ → Name → Option ℕ
 policy_of r table name = position (is_named name) (policies_of (slice_get r.guards table))
 
 -- the name of the table's policy at a place
-abbrev pub policy_name : Rights → ℕ → ℕ → Option Name
+abbrev pub policy_name : Rights → (table place : ℕ) → Option Name
 policy_name r table place = option_map (λ p. p.name) (slice_get (policies_of (slice_get r.guards table)) place)
 
 -- if the policy has the name, it is restrictive, and the condition is that of rows that are there
@@ -113,7 +115,7 @@ is_pass NoPermissive = false
 is_pass (Restrictive place) = false
 
 -- the reader's filter on a table
-abbrev pub may_see : Rights → ℕ → ℕ → Cells → Bool
+abbrev pub may_see : Rights → (role table : ℕ) → Cells → Bool
 may_see r role table row = is_pass (verdict r role table Select row)
 
 -- the rows of each table that the role sees, before any operator

@@ -1,4 +1,6 @@
 -- Who has which privilege, and who owns what (PostgreSQL 16, Privileges).
+-- Read `has` and `owns`. A role has what each role has that it reaches by memberships, itself among them (`acts_as`); `admin` has all. `role`, `other` and
+-- `rel` are numbers, `p` is a privilege, or one with its relation, and `g` a grant.
 use Rattle.std.specs.Prelude.{ℕ, ◌==◌, ◌&&◌, ◌||◌, Bool, true, false, if◌then◌else◌, List, [], ◌∷◌, Option, Some, None, unwrap_or}
 use Rattle.std.specs.Prelude.{position, bytes_eq, slice_get}
 use Rattle.std.specs.List.{list_any}
@@ -18,7 +20,7 @@ abbrev pub role_name : Rights → ℕ → Name
 role_name r role = unwrap_or (slice_get r.roles role) []
 
 -- the role has what the other has: it is the other, or a member of it, directly or through others
-abbrev pub acts_as : Rights → ℕ → ℕ → Bool
+abbrev pub acts_as : Rights → (role other : ℕ) → Bool
 acts_as r role other = reaches r.members role other
 
 -- what goes to the grantee goes to the role
@@ -51,5 +53,5 @@ is_owner r role None = false
 is_owner r role (Some g) = acts_as r role g.owner
 
 -- the right to grant, and to switch row security: the owner, its members and `admin`
-abbrev pub owns : Rights → ℕ → ℕ → Bool
+abbrev pub owns : Rights → (role rel : ℕ) → Bool
 owns r role rel = is_admin role || is_owner r role (slice_get r.guards rel)

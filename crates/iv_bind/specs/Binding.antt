@@ -127,7 +127,7 @@ source_bound catalog scope s = if_some (named catalog (name_text (source_relatio
     (λ e. if is_used scope (name_text (called s)) then Err (FaultAt (place_of_name (called s)) why.DuplicateName) else Ok (source_of e (name_text (called s))))
 
 -- of two columns the one in the earlier sources, which have n, and the other's place in the new source
-abbrev pub sides : ℕ → ℕ → ℕ → Option (ℕ × ℕ)
+abbrev pub sides : (n i j : ℕ) → Option (ℕ × ℕ)
 sides n i j = if nat_lt i n && nat_le n j then Some (i, j - n) else if nat_lt j n && nat_le n i then Some (j, i - n) else None
 
 unfoldable pub pair_bound : ℕ → List Named → PairTree → Result (ℕ × ℕ) Fault

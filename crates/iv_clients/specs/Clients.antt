@@ -101,10 +101,10 @@ abbrev pub following : ℕ → Client → Client
 following k c = record c { given = c.given + 1; subs = c.subs ++ record { own = c.given + 1; feed = k } ∷ [] }
 
 -- what followed feed t follows k
-abbrev pub moved_sub : ℕ → ℕ → Sub → Sub
+abbrev pub moved_sub : (t k : ℕ) → Sub → Sub
 moved_sub t k s = if t == s.feed then record s { feed = k } else s
 
-abbrev pub moved : ℕ → ℕ → Client → Client
+abbrev pub moved : (t k : ℕ) → Client → Client
 moved t k c = record c { subs = map (moved_sub t k) c.subs }
 
 -- its own number follows nothing any more

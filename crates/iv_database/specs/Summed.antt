@@ -23,7 +23,7 @@ AreTables tables [] = Unit {0}
 AreTables tables (c ∷ cs) = HasTable tables c.rel × (list_any (λ d. c.rel == d.rel) cs ≡ false) × AreTables tables cs
 
 -- the first of table t stands at the place
-abbrev pub IsFirst : List Change → ℕ → ℕ → Type 0
+abbrev pub IsFirst : List Change → (place t : ℕ) → Type 0
 IsFirst [] place t = ⊥
 IsFirst (c ∷ cs) zero t = (c.rel == t) ≡ true
 IsFirst (c ∷ cs) (suc place) t = ((c.rel == t) ≡ false) × IsFirst cs place t

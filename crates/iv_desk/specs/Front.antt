@@ -117,7 +117,7 @@ dismissed m d = if is_dropped d.gate m then at_socket m turned_away d else d
 
 -- ---- runs
 
-abbrev pub is_within : ℕ → ℕ → ℕ → Bool
+abbrev pub is_within : (low high n : ℕ) → Bool
 is_within low high n = nat_le low n && nat_le n high
 
 -- a close may tell it: its code may be sent, and its words have room in its frame (RFC 6455, sections 7.4 and 5.5)

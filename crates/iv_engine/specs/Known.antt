@@ -14,7 +14,7 @@ abbrev pub columns_named : Frame → Name → List Column
 columns_named f rel = if_some (named f.catalog rel) [] (λ e. columns_of e.held)
 
 -- the role has some privilege on the relation, both by number
-abbrev pub has_any : Rights → ℕ → ℕ → Bool
+abbrev pub has_any : Rights → (role rel : ℕ) → Bool
 has_any r role rel = list_any (λ p. has r role p rel) (Select ∷ Insert ∷ Update ∷ Delete ∷ [])
 
 -- the role has some privilege on the relation (PostgreSQL 16, Privileges)

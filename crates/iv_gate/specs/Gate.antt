@@ -148,7 +148,7 @@ joined g m (Some t) (Some k) =
     if is_reading t.role t.rel k && not (t.number == k.number) then shut (record g { clients = at_client m (moved t.number k.number) g.clients }) t else g
 joined g m t k = g
 
-abbrev pub joined_by : Gate → ℕ → ℕ → Reply → Gate
+abbrev pub joined_by : Gate → (m k : ℕ) → Reply → Gate
 joined_by g m k (subscribed t) = joined g m (feed_of g.feeds t) (feed_of g.feeds k)
 joined_by g m k r = g
 

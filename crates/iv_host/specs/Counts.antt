@@ -5,7 +5,7 @@ use Rattle.iv_host.specs.declared.counts.Why.{Why}
 use Rattle.iv_host.specs.declared.counts.Why.TheVariants.{Closed, Late, Stuck, Told, Answered}
 
 -- a count stops at the greatest number
-abbrev pub raised : ℕ → ℕ → ℕ
+abbrev pub raised : (count by : ℕ) → ℕ
 raised count by = min (count + by) (2 ^ 64 - 1)
 
 -- an end is counted once, by its cause; that of an answer is none of a client's

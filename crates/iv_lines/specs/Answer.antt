@@ -1,4 +1,6 @@
 -- The bytes that answer bytes: lines are cut and read, and the machine runs the commands among them.
+-- Read `answer` from the end: bytes are cut into at most `n` lines (`heard`), of which each is a command or the number of a fault, and the texts of the
+-- machine's lines follow one another, command after command. `rs` are these readings, and `h` is what was heard.
 use Rattle.std.specs.Prelude.{ℕ, zero, suc, List, [], ◌∷◌, ◌++◌, flat_map, if◌then◌else◌}
 use Rattle.iv_machine.specs.Act.{Command}
 use Rattle.iv_machine.specs.Machine.{run, step}

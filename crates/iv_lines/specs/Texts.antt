@@ -58,7 +58,7 @@ abbrev pub plain_members : ℕ → Members
 plain_members c = member (codes "error") (natural c) no_members
 
 -- with the number of an entry, from 1
-abbrev pub entry_refused : ℕ → ℕ → Members
+abbrev pub entry_refused : (c entry : ℕ) → Members
 entry_refused c entry = member (codes "entry") (natural entry) (plain_members c)
 
 abbrev pub refused_members : Refusal → Members
@@ -111,10 +111,10 @@ reply_data n r = of_session n (reply_members r)
 
 -- ---- changes
 
-abbrev pub change_data : ℕ → ℕ → List (List Cell × ℤ) → Data
+abbrev pub change_data : (n k : ℕ) → List (List Cell × ℤ) → Data
 change_data n k es = object (member (codes "changes") (rows_data es) (member (codes "session") (natural n) (member (codes "sub") (natural k) no_members)))
 
-abbrev pub ended_data : ℕ → ℕ → Cause → List (List Cell × ℤ) → Data
+abbrev pub ended_data : (n k : ℕ) → Cause → List (List Cell × ℤ) → Data
 ended_data n k why es = object (
     member (codes "changes") (rows_data es)
     (member (codes "ended") (string (cause_text why))

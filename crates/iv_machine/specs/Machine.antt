@@ -1,4 +1,7 @@
 -- One step of the machine, and a run of it.
+-- Read it from the end: `run` is one `step` after another; a step is the first test that fails (`refusal`), or else what the command changes (`after`)
+-- without the subscriptions that end by it (`settled`). Changes have no rule by request: a line is what a subscription shows afterwards, minus what it
+-- showed before. `old`, `changed` and `new` are the states before a command, with its change, and without those that ended; `e` is a subscription.
 use Rattle.std.specs.Prelude.{◌+◌, Bool, true, false, not, List, [], ◌∷◌, ◌++◌, map, filter, flat_map, ℤ, pos, ◌-ℤ◌, Option, Some, None, is_some}
 use Rattle.std.specs.Ordering.{int_eq}
 use Rattle.std.specs.declared.cmp.Ordering.{Ordering}

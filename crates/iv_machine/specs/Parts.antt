@@ -5,7 +5,7 @@ use Rattle.iv_access.specs.declared.policy.PolicyCommand.{PolicyCommand}
 use Rattle.iv_access.specs.declared.policy.PolicyCommand.TheVariants.{All, Select, Insert, Update, Delete}
 use Rattle.iv_access.specs.Rights.{Name}
 
-abbrev pub is_between : ℕ → ℕ → ℕ → Bool
+abbrev pub is_between : (low high n : ℕ) → Bool
 is_between low high n = nat_le low n && nat_le n high
 
 -- 1 to 2^63 - 1

@@ -1,4 +1,7 @@
 -- Refusals: the first test of a command that fails.
+-- Read `refusal` at the end, and from there `tests_by`, which has the tests of each request in their order. A test that passes is `None`. Those that look
+-- at rows come last, since a refusal that tells of rows may come only to who sees them. `role` is the role that acts, `n` its session, and in a test of
+-- an entry the number of the entry; `rel` is the name of a relation.
 use Rattle.std.specs.Prelude.{ℕ, ◌^◌, ◌+◌, ◌==◌, ◌&&◌, Bool, true, not, if◌then◌else◌, List, [], ◌∷◌, map, length, count_by, nat_le, Option, Some, None, option_map, is_some, unwrap_or, slice_get, Result, Ok, Err}
 use Rattle.std.specs.List.{list_all, list_any}
 use Rattle.iv_rows.specs.Cell.{Cell}
@@ -73,7 +76,7 @@ abbrev pub missing : Frame → Option (Privilege × ℕ) → Option Refusal
 missing f p = option_map (λ x. missing_privilege x.0 (name_of f.catalog x.1)) p
 
 -- there are as many as there may be
-abbrev pub full : ℕ → ℕ → Option Refusal
+abbrev pub full : (most n : ℕ) → Option Refusal
 full most n = test (nat_le most n) too_many
 
 abbrev pub bad_text : {A : Type 0} → Result A TextFault → Option Refusal
@@ -118,7 +121,7 @@ entry_shape f n e = first (
     ∷ test (not (list_all (accepts (kinds_of (columns_at f.catalog e.rel))) (rows_in e.op))) (bad_row n)
     ∷ [])
 
-abbrev pub entry_privileges : Frame → ℕ → ℕ → Entry → Option Refusal
+abbrev pub entry_privileges : Frame → (role n : ℕ) → Entry → Option Refusal
 entry_privileges f role n e = missing f (first_missing f.rights role (map (λ p. (p, rel_of f.catalog e.rel)) (privileges_for e.op)))
 
 -- the name of the policy at a place of the table of a name
@@ -131,10 +134,10 @@ failed_check f rel n test NoPermissive = Some (no_permissive rel test n)
 failed_check f rel n test (Restrictive place) = Some (restrictive_failed (policy_name_at f rel place) rel test n)
 
 -- one of the tests of entry n
-abbrev pub entry_check : Frame → ℕ → ℕ → Name → Check × List Cell → Option Refusal
+abbrev pub entry_check : Frame → (role n : ℕ) → Name → Check × List Cell → Option Refusal
 entry_check f role n rel c = failed_check f rel n c.0 (verdict f.rights role (rel_of f.catalog rel) c.0 c.1)
 
-abbrev pub entry_policies : Frame → ℕ → ℕ → Entry → Option Refusal
+abbrev pub entry_policies : Frame → (role n : ℕ) → Entry → Option Refusal
 entry_policies f role n e = first (map (entry_check f role n e.rel) (checks_for e.op))
 
 -- ---- the rows of a write
@@ -167,7 +170,7 @@ views f = count_by (λ e. is_some (view_in e.held)) f.catalog
 -- ---- requests
 
 -- subscription k is open in session n
-abbrev pub has_subscription : Frame → ℕ → ℕ → Bool
+abbrev pub has_subscription : Frame → (n k : ℕ) → Bool
 has_subscription f n k = list_any (λ e. (n == e.session) && (k == e.number)) f.subscriptions
 
 -- `begin` takes a session that is not open, each other request one that is

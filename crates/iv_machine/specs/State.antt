@@ -1,4 +1,7 @@
 -- The state of the machine, and what a subscription shows.
+-- Read the records, and then `shown` at the end. Rows are whole lists, with no weights and no kept totals. Roles and relations have numbers, their places
+-- in lists; of what is not there a number is told that nothing has. `n` is a session, `k` a subscription, `e` an element of a list; `rel` is the name or
+-- the number of a relation, by its type.
 use Rattle.std.specs.Prelude.{ℕ, ◌==◌, Bool, List, [], map, length, find, Option, None, option_map, is_some, unwrap_or}
 use Rattle.std.specs.List.{list_any}
 use Rattle.iv_rows.specs.Cell.{Cell}
@@ -98,15 +101,15 @@ is_open_number f k = list_any (λ e. k == e.number) f.subscriptions
 
 -- what a role sees of a relation: the relation's plan over the rows that the role may see (PostgreSQL 16, CREATE VIEW:
 -- security_invoker)
-abbrev pub view_for : State → ℕ → ℕ → List (List Cell)
+abbrev pub view_for : State → (role rel : ℕ) → List (List Cell)
 view_for s role rel = eval (plan_at s.frame.catalog rel) (allowed s.frame.rights role s.rows)
 
 -- the limits hold at each node of it
-abbrev pub is_within_for : State → ℕ → ℕ → Bool
+abbrev pub is_within_for : State → (role rel : ℕ) → Bool
 is_within_for s role rel = plan_within s.frame.cap (plan_at s.frame.catalog rel) (allowed s.frame.rights role s.rows)
 
 -- the first relation that the role may not select from, of those that it needs
-abbrev pub missing_for : Frame → ℕ → ℕ → Option (Privilege × ℕ)
+abbrev pub missing_for : Frame → (role rel : ℕ) → Option (Privilege × ℕ)
 missing_for f role rel = first_missing f.rights role (map (λ r. (Select, r)) (needs_at f.catalog rel))
 
 -- what a subscription shows

@@ -31,7 +31,7 @@ lexed_from place more (Token k rest) = let later = more rest in record later { t
 lexed_from place more Nothing = record { tokens = []; stop = record { place = place; why = why.Token }; ends = false }
 
 -- from the bytes that are left, at most so many, of a text of total bytes
-unfoldable pub lexed : ℕ → ℕ → List ℕ → Lexed
+unfoldable pub lexed : (total most : ℕ) → List ℕ → Lexed
 lexed total _ [] = at_end total
 lexed total zero (b ∷ bs) = at_end total
 lexed total (suc most) (b ∷ bs) = lexed_from (total - length (b ∷ bs)) (lexed total most) (ahead (b ∷ bs))
