@@ -9,8 +9,8 @@ program to run.
 """
 from collections.abc import Iterable
 
-from measure import Run, own_program, part_of
-from workloads import Made, Request, begun, subscribed, table, view
+from viewd_bench.measure import Run, own_program, part_of
+from viewd_bench.workloads import Made, Request, begun, subscribed, table, view
 
 ALL = "select id, who, amount from a"
 NONE = "select id, who, amount from a where amount < 0"
