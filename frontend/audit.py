@@ -1,4 +1,4 @@
-"""The journal of ./gateway as a file: a head, and behind it a line for each entry with the digest of all lines up to it.
+"""The journal of ./gateway as a file: a head, and after it a line for each entry with the digest of all lines up to it.
 
     {"last":"2693bb..","journal":1,"epoch":"0123..","audit":1}
     {"last":"da8393..","at":1764489600,"by":"Mia","as":"mia","do":"write",..}
@@ -49,7 +49,7 @@ def text_of(text: bytes) -> Text:
 
 
 def read(data: bytes, where: str) -> Iterator[Text]:
-    """The entries of a journal, whole lines alone: what stands behind the last newline was never acknowledged. Raises Damaged."""
+    """The entries of a journal, whole lines alone: what follows the last newline was never acknowledged. Raises Damaged."""
     if data.startswith(b'{"a'):
         yield from (Text(line, None, None) for line in data.split(b"\n")[:-1])
         return

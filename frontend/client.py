@@ -86,10 +86,10 @@ class Ask:
     request: Request = dataclasses.field(default_factory=dict)
     body: bytes = b""
     name: bytes | None = None  # the client's `id`
-    refusal: int = 0  # what to reply, where the gateway has refused and viewd sees another fence
-    given: bytes = b""  # the same, where another gateway has answered
+    refusal: int = 0  # what to reply, if the gateway has refused and viewd sees another fence
+    given: bytes = b""  # the same, if another gateway has answered
     done: asyncio.Future[bool] | None = None
-    heard: Callable[[bool], None] | None = None  # called at the reply, before any line behind it is read
+    heard: Callable[[bool], None] | None = None  # called at the reply, before any line after it is read
     entry: Entry | None = None  # which was accepted before
     known_by: str = ""  # its name in the journal
     role: str = ""  # of a client of another gateway

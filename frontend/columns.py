@@ -4,7 +4,7 @@ from typing import Any
 
 Columns = list[list[str]]  # pairs of a name and a kind
 WORD = re.compile(r"'(?:[^']|'')*'|\w+|[^\w\s]")  # a text in a query is one word
-BEHIND = {"join", "inner", "on", "where", "group"}  # what may stand behind a source that has no alias
+BEHIND = {"join", "inner", "on", "where", "group"}  # what may follow a source that has no alias
 
 
 def columns_of(made: dict[str, Any], known: dict[str, Columns]) -> Columns:

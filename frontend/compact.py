@@ -40,7 +40,7 @@ class Viewd:
         self.sessions: dict[str, int] = {}
 
     def ask(self, role: str, request: Request) -> tuple[Request, list[Any]]:
-        """The reply, and the changes that came before it. Raises Damaged where it is no acceptance."""
+        """The reply, and the changes that came before it. Raises Damaged if it is no acceptance."""
         if role not in self.sessions and request["do"] != "begin":
             self.ask(role, {"do": "begin", "role": role})
         session = self.sessions.setdefault(role, len(self.sessions) + 1)
@@ -62,7 +62,7 @@ class Viewd:
         rows = {}
         for table in [name for name, made in shape.relations.items() if made["do"] == "create_table"]:
             sub = self.ask("admin", {"do": "subscribe", "on": table})[0]["sub"]
-            # No line follows where the table is empty: the reply to the next request ends the wait.
+            # No line follows if the table is empty: the reply to the next request ends the wait.
             rows[table] = self.ask("admin", {"do": "unsubscribe", "sub": sub})[1]
         self.to.close()
         self.process.wait()

@@ -37,7 +37,7 @@ SUBSCRIPTIONS = 16  # of a session
 MESSAGES = 20_000  # a second, at most: 200 browsers are sent one each 10 ms, with all lines that came meanwhile
 GATHERED = 4 << 20  # bytes that may wait to be sent, before viewd's next answers are read
 RETRY = 1.0  # seconds after which a request is sent to the writer again
-NOBODY = 0.2  # the same where nobody heard it
+NOBODY = 0.2  # the same if nobody heard it
 GIVE_UP = 30.0 * SLOW  # seconds without an answer of a writer, after which a client is told nothing more, and dropped
 KNOWN = 10_000  # names of requests that are known when they come again, at least; as many as a snapshot leaves in a stream
 MOST = (1 << 63) - 1  # the greatest number of a subscription: viewd never comes to it
@@ -83,7 +83,7 @@ class Engine:
         self.more, self.room, self.gathered = asyncio.Event(), asyncio.Event(), 0
         self.open = asyncio.Event()  # clear while no client's request is taken: room is made for an entry, or gateways are compared
         self.open.set()
-        self.held: asyncio.TimerHandle | None = None  # what opens it, where gateways are compared
+        self.held: asyncio.TimerHandle | None = None  # what opens it, if gateways are compared
         self.taken, self.place, self.digest = 0, 0, ""  # accepted requests that viewd carried out, and those that others may know of
         self.known: dict[str, None] = {}  # names of the last of them, the oldest first
         self.deciding: set[str] = set()  # names of those that are not in the stream yet

@@ -97,7 +97,7 @@ class Desk:
 
     async def watch(self, client: Client, ws: web.WebSocketResponse) -> None:
         """Drops a browser that is gone without a word: it answers no ping, and takes nothing of what waits for it. On a slow
-        line a ping is behind a long answer, and what has been taken of that says as much."""
+        line a ping waits after a long answer, and what has been taken of that says as much."""
         with contextlib.suppress(ConnectionError, OSError, ValueError):  # of a socket that is closed
             while True:
                 await asyncio.sleep(PING)

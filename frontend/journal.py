@@ -2,7 +2,7 @@
 
 A line is the request without its session and with the role that made it: `{"as":"mia","do":"write","entries":[..]}`.
 A viewd that begins empty and is told these lines is in the state that they lead to, and refuses none of them. A stream of Redis has them (stream.py), and
-the file of the program `./gateway`, there behind digests and notes (audit.py).
+the file of the program `./gateway`, there after digests and notes (audit.py).
 
 The key is `as`, which no request has: viewd refuses by 2 what has it. `role`, which it was, is a key of `grant_role` too. A line
 is measured with the longest role and the longest session, so it fits in any other viewd behind the same journal. It has no checksum,
@@ -15,7 +15,7 @@ import pathlib
 from collections.abc import Iterator
 from typing import Any, NamedTuple
 
-LINE = 65_536  # bytes of a line without its newline: viewd ends behind a longer one
+LINE = 65_536  # bytes of a line without its newline: viewd ends after a longer one
 # What is left of a line for a request, whoever tells it: by the longest number of a session, or the longest role.
 BODY = LINE - max(len('{"session":4294967295,}'), len('{"as":"",}') + 63)
 SLOW = float(os.environ.get("VIEWD_SLOW", 1))  # how many times as long as usual who is asked may be silent: tests set it, as no slow host is to fail them

@@ -30,7 +30,7 @@ from redis.exceptions import AuthenticationError, ConnectionError, ResponseError
 from journal import SLOW, Anew, Damaged, Entry, Request, entry_of
 
 PIECE = 1000  # entries that are read at a time
-KEPT = int(os.environ.get("VIEWD_KEPT", 10_000))  # entries whose names are known, and which stay behind a snapshot
+KEPT = int(os.environ.get("VIEWD_KEPT", 10_000))  # entries whose names are known, and which stay after a snapshot
 BLOCK = 250  # milliseconds that a reader waits for an entry, before it looks for the lease
 PATIENCE = 5.0 * SLOW  # seconds for an answer of Redis
 AGAIN = 0.2  # seconds until it is asked again

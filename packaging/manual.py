@@ -33,7 +33,7 @@ def block(lines: list[str]) -> str:
 
 
 def table(lines: list[str]) -> str:
-    """A row is a paragraph: its first cell, and behind it the others, each but the second with the words above it."""
+    """A row is a paragraph: its first cell, and after it the others, each but the second with the words above it."""
     rows = [[cell.strip() for cell in CELL.split(it.strip().strip("|"))] for it in lines]
     text = ""
     for row in rows[2:]:
@@ -88,7 +88,7 @@ def roff(text: str) -> str:
 
 
 def chapter(document: str, heading: str) -> str:
-    """What stands under a heading of a document, up to the next of its rank. Raises ValueError where there is none."""
+    """What stands under a heading of a document, up to the next of its rank. Raises ValueError if there is none."""
     found = re.search(rf"(?ms)^(#+) {re.escape(heading)}\n(.*?)(?=^\1 |^(?!\1)#{{1,2}} |\Z)", document)
     if not found:
         raise ValueError(f"no document has the chapter {heading}")

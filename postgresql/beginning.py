@@ -1,8 +1,8 @@
 """Where following begins: a slot, and all that the snapshot sees from which its stream goes on.
 
-PostgreSQL exports a snapshot with a new slot: what committed before is seen by it, and what commits behind it comes by the stream. Catalog
+PostgreSQL exports a snapshot with a new slot: what committed before is seen by it, and what commits after it comes by the stream. Catalog
 and rows are read in this snapshot. A table that is written anew meanwhile is empty to an older snapshot, and texts of policies are printed
-with the names of now: so files and names have to be the same behind all of that, or it begins again.
+with the names of now: so files and names have to be the same after all of that, or it begins again.
 """
 import contextlib
 import dataclasses
@@ -63,7 +63,7 @@ def begin(settings: Settings, most: int) -> Beginning:
 
 
 def once(connection: Connection, stream: Stream, settings: Settings, most: int) -> Beginning | None:
-    """None where what was read was another one behind it."""
+    """None if what was read was another one after it."""
     connection.rollback()
     names = named(connection, settings)
     oids = list(names)
@@ -106,7 +106,7 @@ def ready(catalog: Catalog, settings: Settings) -> None:
 
 
 def drop(settings: Settings) -> None:
-    """The slot of an earlier beginning. One that is in use is somebody's, but for a moment behind the end of a process."""
+    """The slot of an earlier beginning. One that is in use is somebody's, but for a moment after the end of a process."""
     with contextlib.closing(psycopg2.connect(settings.dsn)) as connection, connection, connection.cursor() as cursor:
         for _ in range(LOOKS):
             cursor.execute("select active, plugin, database = current_database() from pg_replication_slots where slot_name = %s", [settings.slot])

@@ -4,7 +4,7 @@
 twentieth. Both are of the relations whose oids are given, and take no lock on them.
 
 Texts of policies and views are read beside it, since PostgreSQL prints them by the catalogs of that moment, and with a lock on
-their table: `read` takes the mark before and behind, and reads anew where it is another one.
+their table: `read` takes the mark before and after, and reads anew if it is another one.
 
 PostgreSQL 15 is what this was tried on. What 16 and 17 have otherwise stands in FROM_16 and COLLATION.
 """
@@ -180,7 +180,7 @@ class Policy:
     name: str
     restrictive: bool
     roles: list[int]  # 0 is PUBLIC
-    text: str | None = None  # none where its table is locked
+    text: str | None = None  # none if its table is locked
 
 
 @dataclasses.dataclass(frozen=True)
@@ -196,10 +196,10 @@ class Relation:
     force: bool
     policies: list[Policy]
     identity: str
-    key: list[str]  # its columns, where it is a key
+    key: list[str]  # its columns, if it is a key
     persistence: str
     parts: bool
-    published: str  # versions of its place in the publication; empty where it is not there, or not whole
+    published: str  # versions of its place in the publication; empty if it is not there, or not whole
     file: int
     columns: list[Attribute]
     readable: bool  # by the bridge's own role
@@ -317,7 +317,7 @@ def made(connection: Connection, found: dict[str, Any], known: dict[str, str]) -
 
 
 def text(connection: Connection, what: str, oid: int) -> str | None:
-    """What PostgreSQL prints of an object, none where its table is locked for longer than a second."""
+    """What PostgreSQL prints of an object, none if its table is locked for longer than a second."""
     with connection.cursor() as cursor:
         cursor.execute("savepoint printed")
         try:

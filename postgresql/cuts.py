@@ -1,7 +1,7 @@
 """Cuts: moments of PostgreSQL, each with the rows and the rights that one snapshot saw together.
 
 Logical replication has rows in the order of their commits, and no rights. A catalog has rights, and no order. A cut ties them: one
-statement, and so one snapshot, answers which transactions it sees, a place in the log behind all of them, and the mark of the catalog. The
+statement, and so one snapshot, answers which transactions it sees, a place in the log after all of them, and the mark of the catalog. The
 stream is read to that place; exactly the transactions that the snapshot sees are a step, with the catalog of the same snapshot where its mark
 is another one. So a right that came and went between two cuts shows no row that was there meanwhile.
 """
@@ -41,7 +41,7 @@ class Cut(NamedTuple):
 
 
 def cut(connection: Connection, oids: list[int], publication: str) -> Cut:
-    """Of the transaction's snapshot, or of a new one where none is open."""
+    """Of the transaction's snapshot, or of a new one if none is open."""
     snapshot, place, mark = asked(connection, CUT, {"oids": oids, "publication": publication})[0]
     _, most, running = snapshot.split(":")
     return Cut(int(most), frozenset(int(it) for it in running.split(",") if it), lsn_of(place), mark)
@@ -52,7 +52,7 @@ class Step(NamedTuple):
 
     transactions: list[Transaction]
     cut: Cut
-    catalog: Catalog | None  # none where it is what it was
+    catalog: Catalog | None  # none if it is what it was
 
 
 class Steps:
@@ -61,7 +61,7 @@ class Steps:
     def __init__(self, connection: Connection, dsn: str, stream: Stream, oids: list[int], publication: str, mark: str, place: int):
         self.connection, self.stream, self.oids, self.publication = connection, stream, oids, publication
         self.mark = mark  # of the catalog that was told
-        self.place = place  # behind the last transaction that was told
+        self.place = place  # after the last transaction that was told
         self.certain = place  # all commits before it were told
         self.committed = 0  # where the last commit stands that was told
         self.waiting: deque[Transaction] = deque()
@@ -71,7 +71,7 @@ class Steps:
         self.pusher.autocommit = True
 
     def next(self, seconds: float) -> Step | None:
-        """The next step: none where nothing has changed, or what has cannot be told from what is not seen yet. Waits so long for something
+        """The next step: none if nothing has changed, or what has cannot be told from what is not seen yet. Waits so long for something
         to come. Raises Lost, Unreadable, Unsettled, psycopg2.Error."""
         self.take()
         if not self.waiting:
@@ -101,7 +101,7 @@ class Steps:
             self.waiting.extend(it for it in came if it.end > self.place)
 
     def ask(self) -> tuple[Cut, Catalog | None]:
-        """A cut, with its catalog where the mark is another one."""
+        """A cut, with its catalog if the mark is another one."""
         try:
             for _ in range(TRIES):
                 self.connection.rollback()

@@ -1,7 +1,7 @@
 """What viewd is told of a step: the requests that lead from what it was told to the next cut of PostgreSQL.
 
 They are one step: what stands between two of them is no state of PostgreSQL, and is to be shown to nobody. viewd has no request that drops
-or changes a relation, so where one is another one all begins anew.
+or changes a relation, so if one is another one all begins anew.
 """
 from collections.abc import Iterator
 
@@ -37,7 +37,7 @@ class Following:
         return self.state.requests()
 
     def next(self, seconds: float) -> list[Request]:
-        """Those of the next step; none where nothing has changed. Waits so long for something to come. Raises Anew, Lost, Unreadable,
+        """Those of the next step; none if nothing has changed. Waits so long for something to come. Raises Anew, Lost, Unreadable,
         Wrong, Unsayable, Unsettled, psycopg2.Error."""
         step = self.begun.steps.next(seconds)
         if step is None:
@@ -73,7 +73,7 @@ class Following:
 
 
 def reformed(before: State, after: State, transactions: list[Transaction]) -> str:
-    """Why viewd has no request that leads there. Empty where it has."""
+    """Why viewd has no request that leads there. Empty if it has."""
     old, new = ({it.name: it.request for it in state.made.values() if it.request} for state in (before, after))
     for name in sorted({*old, *new}, key=lambda it: ((old.get(it) or new[it])["do"], it)):  # tables stand before views that reach them
         if old.get(name) != new.get(name):

@@ -2,7 +2,7 @@
 
 Equality of the canonical forms is equality in PostgreSQL, for every kind here. Order is so for those that say it (`ordered`); for
 texts it is a matter of their collation. A canonical form is what PostgreSQL prints with DateStyle ISO and TimeZone UTC; a
-numeric is without the zeros behind, since 1.0 = 1.00.
+numeric is without the zeros at its end, since 1.0 = 1.00.
 """
 import re
 from collections.abc import Callable
@@ -48,7 +48,7 @@ SUM = Kind("sum", "int")  # of bigint: a numeric in PostgreSQL and a number in v
 
 
 class Column(NamedTuple):
-    """A column that viewd holds; where it may be NULL, as two: this one and NAME_null."""
+    """A column that viewd holds; if it may be NULL, as two: this one and NAME_null."""
 
     kind: Kind
     nullable: bool = False
@@ -71,7 +71,7 @@ def enum(name: str, labels: list[str]) -> Kind:
 
 
 def decimal(text: str) -> str:
-    """A numeric without the zeros behind."""
+    """A numeric without the zeros at its end."""
     if text in ("NaN", "Infinity", "-Infinity"):
         return text
     try:
@@ -111,7 +111,7 @@ CANONICAL: dict[str, Callable[[str], str]] = {"numeric": decimal, "date": date, 
 
 
 def canonical(kind: Kind, text: str) -> str:
-    """A text that PostgreSQL prints for a value of the kind, in its canonical form. Raises Refused where viewd cannot hold it."""
+    """A text that PostgreSQL prints for a value of the kind, in its canonical form. Raises Refused if viewd cannot hold it."""
     if kind.labels and text not in kind.labels:
         raise Refused(f"{kind.family} has no {text}")
     form = CANONICAL.get(kind.family, str)(text)
@@ -135,7 +135,7 @@ def constant(kind: Kind, text: str) -> str:
 
 
 def value(kind: Kind, text: str) -> int | str | bool:
-    """A value of viewd's, from what PostgreSQL prints. Raises Refused where it cannot hold it."""
+    """A value of viewd's, from what PostgreSQL prints. Raises Refused if it cannot hold it."""
     match kind.viewd:
         case "int":
             return int(text)

@@ -1,7 +1,7 @@
 """The rows of the tables that are followed, as viewd holds them: what tells of a change in PostgreSQL which rows of viewd go and come.
 
 viewd takes a row out by all of its values. PostgreSQL tells of an update or delete no more than the replica identity of the old row, and
-of an update no value that stands out of line and stayed as it was. So the rows are held here too: as a bag, and where changes come by a
+of an update no value that stands out of line and stayed as it was. So the rows are held here too: as a bag, and if changes come by a
 key, by that key. A change that does not fit what is held here is an error, since something was lost before it.
 """
 from collections import Counter
@@ -50,7 +50,7 @@ class Table:
         return self
 
     def fault(self) -> str:
-        """Why viewd cannot hold the rows. Empty where it can."""
+        """Why viewd cannot hold the rows. Empty if it can."""
         if self.beyond:
             return f"viewd cannot hold its rows: there are more than {self.most:,} different ones"
         if self.odd:
@@ -59,7 +59,7 @@ class Table:
         return ""
 
     def settle(self) -> None:
-        """Behind a step: there may be more rows within one."""
+        """After a step: there may be more rows within one."""
         if len(self.rows) > self.most:
             self.beyond = True
             for held in (self.rows, self.odd, self.net):
@@ -67,7 +67,7 @@ class Table:
             self.by_key.clear()
 
     def apply(self, change: Change) -> None:
-        """Raises Lost where the change does not fit the rows."""
+        """Raises Lost if the change does not fit the rows."""
         if self.beyond:
             return
         if change.truncates():

@@ -1,7 +1,7 @@
 """The messages of PostgreSQL's logical replication, as its own plugin `pgoutput` writes them in protocol 1.
 
 Their forms are those of "Logical Replication Message Formats" in PostgreSQL's documentation. A message that has another one is an error:
-whoever reads on behind it would lose rows without a word.
+whoever reads on after it would lose rows without a word.
 """
 import enum
 import struct
@@ -32,7 +32,7 @@ class Begin(NamedTuple):
 
 class Commit(NamedTuple):
     commit: int  # where it stands
-    end: int  # behind it
+    end: int  # the place after it
     time: int
 
 
@@ -58,7 +58,7 @@ class Column(NamedTuple):
 
 
 class Relation(NamedTuple):
-    """Comes before the first change of a relation, and again where it has become another one."""
+    """Comes before the first change of a relation, and again if it has become another one."""
 
     oid: int
     schema: str
@@ -89,7 +89,7 @@ class Insert(NamedTuple):
 
 class Update(NamedTuple):
     oid: int
-    old: Old | None  # none where the replica identity is not all of the row, and stayed as it was
+    old: Old | None  # none if the replica identity is not all of the row, and stayed as it was
     new: Cells
 
 

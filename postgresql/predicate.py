@@ -1,6 +1,6 @@
 """viewd's predicates as values: comparisons, joined by `and` and `or`. They know true and false alone.
 
-There is no `not`: what it is put before is turned round instead (`negated`), which is exact where nothing is unknown.
+There is no `not`: what it is put before is turned round instead (`negated`), which is exact if nothing is unknown.
 """
 import dataclasses
 from collections.abc import Iterable

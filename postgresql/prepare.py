@@ -47,7 +47,7 @@ def text(value: str) -> str:
 
 
 def configuration(state: State, settings: Settings) -> str:
-    """A file for what is in the database, with what viewd cannot have behind a `#`."""
+    """A file for what is in the database, with what viewd cannot have after a `#`."""
     lines = ["# What viewd follows of a PostgreSQL: docs/POSTGRESQL.md", "", "[postgres]", f"dsn = {text(settings.dsn)}",
              f"slot = {text(settings.slot)}", f"publication = {text(settings.publication)}", "", "[relations]  # viewd's name = PostgreSQL's"]
     for oid, it in state.made.items():

@@ -140,7 +140,7 @@ def tables(catalog: Catalog, names: dict[int, str], chosen: dict[str, list[str]]
 
 
 def views(catalog: Catalog, found: dict[int, Made], words: Words) -> dict[int, Made]:
-    """The same with the requests of views, each behind what it reads."""
+    """The same with the requests of views, each after what it reads."""
     roles, order = Names(catalog), list[int]()
     waiting = [oid for oid, it in found.items() if not it.faults and not it.request]
     while waiting:

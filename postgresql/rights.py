@@ -102,7 +102,7 @@ def granted(found: Rights) -> Iterator[Request]:
 
 
 def guarded(catalog: Catalog, rel: Relation, made: Made, words: Words) -> list[Request]:
-    """Row security and policies of a table. Where one cannot be said the table is closed."""
+    """Row security and policies of a table. If one cannot be said, the table is closed."""
     names = Names(catalog)
     if not rel.enable:
         return []

@@ -59,7 +59,7 @@ def row(name: str, columns: Mapping[str, Column], cells: Sequence[str | None]) -
 
 
 def halves(column: Column, text: str | None) -> list[Value]:
-    """What stands for a cell: two values where it may be NULL."""
+    """What stands for a cell: two values if it may be NULL."""
     found: Value = EMPTY[column.kind.viewd]
     try:
         if text is not None:

@@ -50,7 +50,7 @@ class State:
 
 
 def named(connection: Connection, settings: Settings) -> dict[int, str]:
-    """viewd's names of relations, by oid. Raises Wrong where one that is named is not there, two are one, or a call answers no text."""
+    """viewd's names of relations, by oid. Raises Wrong if one that is named is not there, two are one, or a call answers no text."""
     check_calls(connection, settings.users)
     found: list[tuple[int, str]] = []
     if settings.relations is None:
@@ -88,7 +88,7 @@ def state(connection: Connection, settings: Settings, most: int) -> State:
 
 
 def said(catalog: Catalog, names: dict[int, str], settings: Settings, held: Callable[[Made, Relation], Table], follows: bool = False) -> State:
-    """What a catalog says. `held` answers the rows of a table; what cannot be followed is left out where `follows`. Raises Wrong, Unsayable."""
+    """What a catalog says. `held` answers the rows of a table; what cannot be followed is left out if `follows`. Raises Wrong, Unsayable."""
     if catalog.server.encoding != "UTF8":
         raise Unsayable(f"the database's encoding is {catalog.server.encoding}: viewd orders texts by the bytes of UTF8")
     if catalog.tampered:

@@ -43,7 +43,7 @@ class Change(NamedTuple):
 class Transaction:
     xid: int  # the lower 32 bits of its number
     commit: int  # where its commit stands
-    end: int  # behind it
+    end: int  # the place after it
     changes: list[Change]
 
 
@@ -55,7 +55,7 @@ class Transactions:
         self.open: Transaction | None = None
 
     def add(self, data: bytes) -> Transaction | None:
-        """A transaction, where this message ends one. Raises Unreadable."""
+        """A transaction, if this message ends one. Raises Unreadable."""
         message = pgoutput.decoded(data)
         if isinstance(message, pgoutput.Relation):
             self.relations[message.oid] = message
@@ -115,7 +115,7 @@ class Stream:
         return lsn_of(place), str(snapshot)
 
     def begin(self, place: int) -> None:
-        """Raises Lost where the slot has not what stands behind the place, or is in use."""
+        """Raises Lost if the slot has not what follows the place, or is in use."""
         names = '"' + self.publication.replace('"', '""') + '"'
         try:
             self.cursor.start_replication(slot_name=self.slot, decode=False, start_lsn=lsn_text(place), status_interval=STATUS,
@@ -139,7 +139,7 @@ class Stream:
         return done, True
 
     def has(self, place: int) -> bool:
-        """Whether all commits before the place were given. At the beginning of a page it may be told before or behind the page's head."""
+        """Whether all commits before the place were given. At the beginning of a page it may be told before or after the page's head."""
         return self.reached >= place or self.reached % PAGE == 0 and place - self.reached <= HEAD
 
     def wait(self, seconds: float) -> None:

@@ -29,13 +29,13 @@ class Words(NamedTuple):
 
     collation: str = "C"  # the database's
     enums: Mapping[str, Kind] = {}  # by schema.name
-    equality: bool = False  # the database has an operator = of its own, which may be meant where none is printed
+    equality: bool = False  # the database has an operator = of its own, which may be meant if none is printed
     casts: bool = False  # and a cast of its own
     users: Sequence[str] = ()  # calls that tell who the user of a session is, as `call` writes them
 
 
 class Value(NamedTuple):
-    """An operand. `null` is where it is NULL."""
+    """An operand. `null` says if it is NULL."""
 
     text: str
     kind: Kind
@@ -103,7 +103,7 @@ def call(node: Node) -> str | None:
 
 
 def user_call(text: str) -> str:
-    """The form of a call that the configuration names. Raises Refused where it is none."""
+    """The form of a call that the configuration names. Raises Refused if it is none."""
     node = parsed(f"select {text}")
     found = call(node.targetList[0].val) if isinstance(node, ast.SelectStmt) and len(node.targetList or ()) == 1 else None
     if found is None:
@@ -125,7 +125,7 @@ class Reader:
         return fields[0], self.columns[fields[0]]
 
     def says(self, node: Node, value: bool) -> Test:
-        """Where the expression is true, or where it is false."""
+        """What says that the expression is true, or that it is false."""
         self.steps += 1
         if self.steps > STEPS:
             raise Refused("it is too long")
@@ -240,7 +240,7 @@ class Reader:
         return self.operand(node).kind.viewd == "flag"
 
     def compared(self, op: str, left: Node, right: Node, value: bool) -> Test:
-        """Where a comparison is true, or where it is false; it is neither where a side is NULL."""
+        """What says that a comparison is true, or that it is false; it is neither if a side is NULL."""
         if self.is_boolean(left) or self.is_boolean(right):
             return some([every([self.says(left, one), self.says(right, other)])
                          for one in (False, True) for other in (False, True) if OPERATORS[op](one, other) == value])
@@ -253,7 +253,7 @@ class Reader:
         return every([negated(one.null), negated(other.null), Atom(one.text, op if value else OPPOSITE[op], other.text)])
 
     def agreed(self, op: str, sides: Sequence[Node]) -> None:
-        """PostgreSQL answers with an error where columns of two collations, neither of them the database's, are compared."""
+        """PostgreSQL answers with an error if columns of two collations, neither of them the database's, are compared."""
         found = [it for side in sides for it in self.values(side)]
         if len({it.collation for it in found if it.collation}) > 1 and not any(it.explicit for it in found):
             raise Refused(f"{f' {op} '.join(it.text for it in found)}: of two collations, which PostgreSQL does not compare")

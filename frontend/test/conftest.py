@@ -21,7 +21,7 @@ if TYPE_CHECKING:  # the tests of the program run without their packages
     from gate import Gate
     from store import Store
 
-os.environ["VIEWD_KEPT"] = "1000"  # entries behind a snapshot
+os.environ["VIEWD_KEPT"] = "1000"  # entries that stay after a snapshot
 
 
 def pytest_addoption(parser: pytest.Parser) -> None:
@@ -84,7 +84,7 @@ def steps(request: pytest.FixtureRequest) -> int:
 
 @pytest.fixture(autouse=True)
 def none_left() -> Iterator[None]:
-    """Behind a test no program runs that it has started; if it failed, pytest prints what they said."""
+    """After a test no program runs that it has started; if it failed, pytest prints what they said."""
     there = [*Gateway.running]
     yield
     for it in [it for it in Gateway.running if it not in there]:
@@ -94,7 +94,7 @@ def none_left() -> Iterator[None]:
 
 @pytest.fixture
 def store() -> Iterator["Store"]:
-    """A Redis of the test's own. Behind the test no gateway of its streams runs."""
+    """A Redis of the test's own. After the test no gateway of its streams runs."""
     from gate import Gate
     from store import Store
     made = Store()

@@ -38,7 +38,7 @@ def readers(seats: list[tuple[str, str]], pipe: Connection) -> None:
                 last[number] = now
                 count[number] = count.get(number, 0) + 1
             marks += message.data.count('"settled"')
-            if marks > 1:  # behind the role, and behind the subscription's first rows
+            if marks > 1:  # after the role, and after the subscription's first rows
                 ready.set()
 
     async def run() -> None:

@@ -3,7 +3,7 @@
 
     frontend/test/soak.py [--requests 10000000] [--clients 1000] [--each 500000] [--seed 1]
 
-Who writes keeps rows of its own, and knows which are there. Behind each so many requests all stand still: each reader's rows, as what it was
+Who writes keeps rows of its own, and knows which are there. After each so many requests all stand still: each reader's rows, as what it was
 told adds up, have to be those that its policy shows by a model of ten lines, and those that a client is shown which comes then; the memory
 and the files of the program may not have grown. At last it is killed and started again, and shows the same. GATEWAY names another program
 than the one that is built."""
@@ -319,7 +319,7 @@ class Soak:
 
 
 def soak(requests: int, clients: int, each: int, stay: float = 5.0, seed: int = 1, more: int = 8 << 20) -> None:
-    """The whole. The memory behind the second part may grow by so many bytes, and by a fiftieth, until the end."""
+    """The whole. The memory after the second part may grow by so many bytes, and by a fiftieth, until the end."""
     it, began, seen = Soak(clients, stay, seed), time.monotonic(), []
     while it.requests < requests:
         it.run(min(each, requests - it.requests))

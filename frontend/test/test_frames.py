@@ -168,7 +168,7 @@ def fields_of(head: bytes) -> dict[bytes, bytes]:
 
 
 def answer_to(port: int, pieces: list[bytes]) -> tuple[bytes, bytes] | None:
-    """The head of the answer and what is behind it: until the connection ends, or a client has come in by the token of `mia`."""
+    """The head of the answer and what follows: until the connection ends, or a client has come in by the token of `mia`."""
     wire = Wire(port, open_it=False)
     with contextlib.closing(wire.socket):
         with contextlib.suppress(ConnectionError, Ended):

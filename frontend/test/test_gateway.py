@@ -107,7 +107,7 @@ async def test_tokens_give_the_role(gate: Gate, http: aiohttp.ClientSession) -> 
 
 
 async def test_columns_are_told(gate: Gate, http: aiohttp.ClientSession) -> None:
-    """Each query of the protocol gives the columns that stand there, also behind a restart."""
+    """Each query of the protocol gives the columns that are written there, also after a restart."""
     [admin] = await enter(http, gate, "admin")
     for name, columns in [("a", "k int, x int"), ("b", "k int, y int"), ("notes", "id int, who text")]:
         await admin.ask(do="create_table", name=name, owner="admin", columns=[it.split() for it in columns.split(", ")])
@@ -202,7 +202,7 @@ async def test_nobody_acts_for_another(gate: Gate, http: aiohttp.ClientSession) 
 
 
 async def test_no_line_is_too_long(gate: Gate, store: Store, http: aiohttp.ClientSession) -> None:
-    """What passes fits a line in any session and with any role; viewd, which ends behind a longer line, never sees one."""
+    """What passes fits a line in any session and with any role; viewd, which ends after a longer line, never sees one."""
     role = "r" * 63
     gate.tokens.write_text(tokens((*ROLES, role)))
     admin, = await enter(http, gate, "admin")
@@ -233,7 +233,7 @@ async def test_no_line_is_too_long(gate: Gate, store: Store, http: aiohttp.Clien
 
 
 async def test_lines_have_marks(gate: Gate, http: aiohttp.ClientSession) -> None:
-    """`id` is given back, `settled` stands behind the last line of a request, and an end tells its relation."""
+    """`id` is given back, `settled` is after the last line of a request, and an end tells its relation."""
     admin, lena, mia = await enter(http, gate, "admin", "lena", "mia")
     for name in (1, "a\"ä", -5, 1 << 70):
         assert await mia.ask(do="subscribe", on="nothing", id=name) == {"error": 7, "id": name}
@@ -416,7 +416,7 @@ async def test_who_does_not_read_is_dropped(gate: Gate, http: aiohttp.ClientSess
 
 
 async def test_a_long_answer_drops_nobody(gate: Gate, http: aiohttp.ClientSession) -> None:
-    """What a browser asked for may be longer than the backlog: it is sent, and lines behind it are."""
+    """What a browser asked for may be longer than the backlog: it is sent, and lines after it are."""
     lena, = await enter(http, gate, "lena")
     rows = [[i, "noah", "s" * 1000, True] for i in range(60 * 110)]
     for at in range(0, len(rows), 60):
@@ -446,7 +446,7 @@ async def test_a_long_answer_drops_nobody(gate: Gate, http: aiohttp.ClientSessio
 
 
 async def test_a_slow_line_is_no_silence(idle: Gate, http: aiohttp.ClientSession, monkeypatch: pytest.MonkeyPatch) -> None:
-    """Who takes a long answer slowly stays, though pings stand behind it; who takes nothing and answers nothing does not. On a host
+    """Who takes a long answer slowly stays, though pings wait after it; who takes nothing and answers nothing does not. On a host
     so slow that others do not answer in time, the clocks go more slowly."""
     for slow in (1, 4, 16):
         monkeypatch.setattr(gateway, "PING", 0.2 * slow)

@@ -1,5 +1,5 @@
 #!/usr/bin/python3
-"""The desk over the gateway as a program: who acts for whom, and what its journal leads to, behind kills and compactions.
+"""The desk over the gateway as a program: who acts for whom, and what its journal leads to, after kills and compactions.
 
     frontend/test/test_journal.py [TEST ..]
 
@@ -163,7 +163,7 @@ def test_a_client_acts_for_itself_alone() -> None:
 
 
 def test_columns_are_those_of_the_query() -> None:
-    """Each query of the protocol gives the columns that stand there, also behind a restart."""
+    """Each query of the protocol gives the columns that are written there, also after a restart."""
     with serving([]) as (gate, _):
         [admin] = enter(gate, "admin")
         for name, columns in [("a", "k int, x int"), ("b", "k int, y int"), ("notes", "id int, who text")]:

@@ -35,7 +35,7 @@ def line(number: int, agent: str = "mia") -> bytes:
 
 @pytest.fixture
 async def opened() -> AsyncIterator[Opening]:
-    """Opens journals, which are closed behind the test."""
+    """Opens journals, which are closed after the test."""
     made: list[stream.Stream] = []
 
     def open_one(*words: Any) -> stream.Stream:
@@ -79,7 +79,7 @@ async def test_who_lost_the_lease_appends_nothing(store: Store, opened: Opening)
 
 
 async def test_an_append_is_made_once(store: Store, opened: Opening) -> None:
-    """An append whose answer was lost is sent again, and makes nothing more; one behind other entries is refused."""
+    """An append whose answer was lost is sent again, and makes nothing more; one after other entries is refused."""
     one = opened(store.url, True, LEASE)
     async with lease(one):
         for lines in ([line(1)], [line(2), line(3)]):
@@ -323,7 +323,7 @@ async def test_the_largest_view_ends_first(store: Store, http: aiohttp.ClientSes
     await soon(lambda: second.rows[1] == {(1, 258): 1} and lena.rows[1] == {} and len(lena.rows[2]) == 258)
     await quiet(first, second, lena)
     assert first.rows[3] == {(1, 258): 1} == second.rows[1]
-    # `few` has no more than its rows, but its join has as many pairs: it ends too, behind the larger ones
+    # `few` has no more than its rows, but its join has as many pairs: it ends too, after the larger ones
     assert [(it["on"], it["sub"], it["ended"]) for it in first.lines if "ended" in it] == [("pairs", 1, "limit"), ("few", 2, "limit")], first.told("on")
     assert [(it["on"], it["sub"]) for it in second.lines if "ended" in it] == [("pairs", 2), ("pairs", 3)]
     assert first.rows[1] == first.rows[2] == second.rows[2] == second.rows[3] == {} and len(first.rows[4]) == 258
@@ -339,7 +339,7 @@ async def test_the_largest_view_ends_first(store: Store, http: aiohttp.ClientSes
 
 
 async def test_a_snapshot_is_where_readers_begin(store: Store, http: aiohttp.ClientSession) -> None:
-    """It is made while gateways run; what stands further behind goes; who is behind it begins anew; names are still known."""
+    """It is made while gateways run; older entries go; who has read less begins anew; names are still known."""
     with tempfile.NamedTemporaryFile() as seed:
         seed.write((TOP / "desk.jsonl").read_bytes() + b"".join(line(number) + line(number).replace(b"insert", b"delete") for number in range(600)))
         seed.flush()

@@ -14,7 +14,7 @@ BASE: list[Line] = [{"do": "create_role", "name": name} for name in ("ann", "bob
     {"do": "create_table", "name": "notes", "owner": "ann", "columns": [["id", "int"], ["who", "text"]]},
     {"do": "grant", "on": "notes", "privileges": ["select", "insert", "delete"], "to": "mia"},
     {"do": "grant", "on": "notes", "privileges": ["select"], "to": "bob"}]
-FILES = 4096  # that the tests and the program may have open, where the system allows it
+FILES = 4096  # that the tests and the program may have open, if the system allows it
 
 
 def many_files(count: int = FILES) -> None:

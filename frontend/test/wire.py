@@ -202,7 +202,7 @@ class Wire:
 
 
 def in_time(attempt: Callable[[], Any], seconds: float = COMING) -> Any:
-    """What an attempt gives. Where it gives None behind so long that this host may have left it no time, it is made again."""
+    """What an attempt gives. If it gives None after so long that this host may have left it no time, it is made again."""
     end = time.monotonic() + PATIENCE
     while True:
         began = time.monotonic()
@@ -310,7 +310,7 @@ class Gateway:
         return self.process.wait(PATIENCE)
 
     def knock(self, token: str, receive: int | None = None) -> Wire:
-        """A connection that has presented a token: its `role` where it was let in, and else the code with which it was turned away."""
+        """A connection that has presented a token: its `role` if it was let in, and else the code with which it was turned away."""
         def attempt() -> Wire | None:
             wire: Wire | None = None
             try:

@@ -103,7 +103,7 @@ class Desk:
 
 
 def plain(value: object) -> object:
-    """A numeric is the same however many zeros are behind it."""
+    """A numeric is the same however many zeros follow."""
     if isinstance(value, str) and re.fullmatch(r"-?[0-9]+\.[0-9]*0", value):
         value = value.rstrip("0").rstrip(".")
         return "0" if value == "-0" else value

@@ -61,7 +61,7 @@ class Live:
                 raise Refused(f"{answer} to {str(it)[:500]}")
 
     def shown(self, role: str, name: str) -> Rows | None:
-        """What the role holds: none where it is refused."""
+        """What the role holds: none if it is refused."""
         if (role, name) not in self.held:
             answer = self.ask({"do": "subscribe", "on": name, "session": self.session(role)})
             if "ok" not in answer:

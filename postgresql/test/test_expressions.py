@@ -82,7 +82,7 @@ class Expressions(unittest.TestCase):
             self.assertLess(len(why), len(texts) // 2 + 1)
 
     def test_restrictive_policies_for_roles(self) -> None:
-        """Also where a restrictive policy is unknown: then it lets nothing through."""
+        """Also if a restrictive policy is unknown: then it lets nothing through."""
         texts = []
         r = random.Random(options["seed"] + 7)
         for number in range(BATCH):

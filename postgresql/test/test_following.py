@@ -188,7 +188,7 @@ class Follows(Base):
         self.assertEqual(counts["beginnings"], before + 1)
 
     def test_rows_that_come_while_it_begins(self) -> None:
-        """One comes right behind the slot, others while tables are read, and a table is written anew."""
+        """One comes right after the slot, others while tables are read, and a table is written anew."""
         self.desk.do(DESK, "create table zebra (x text); alter table zebra replica identity full; insert into zebra values ('a'); grant select on zebra to public; alter publication viewd add table zebra")
         read, create, statements = rows.read, Stream.create, ["alter table zebra alter x type text using upper(x)", "revoke select on agents from public"]
 

@@ -202,7 +202,7 @@ SCENES = {  # a role, and what is done in turn: a secret row is there only while
     "inherit": ("olga", f"alter role olga noinherit; {NIGHT}; alter role olga inherit"),
     "not seen by triggers": ("eve", f"set local session_replication_role = replica | revoke select on tickets from eve; {EVE}; grant select on tickets to eve"),
     "usage": ("eve", f"revoke usage on schema public from public; {EVE}; grant usage on schema public to public")}
-FORMED = (  # statements, and the words with which all begins anew; none where it goes on
+FORMED = (  # statements, and the words with which all begins anew; none if it goes on
     ("insert into teams values ('more', 'day')", ""), ("create policy p on teams using (team ~ 'm')", "teams is left out: its policy p cannot be said in viewd's words: the operator ~"),
     ("drop policy p on teams", "teams has another form"), ("alter table teams owner to mia", "teams has another form"), ("alter table teams rename to crews", "teams has another name"), ("alter table crews rename to teams", "another name"),
     ("alter table agents alter key type uuid using coalesce(key, 'a0000000-0000-4000-8000-000000000001')", "agents was written anew"), ("alter table teams alter hours set not null", "teams has another form"), ("alter table teams alter hours drop not null", "teams has another form"),

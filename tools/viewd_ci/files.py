@@ -9,7 +9,7 @@ most 160 characters, and each name in its backticks is in the file or is an exam
 dropped or renamed. A crate that a sentence names is there, and one of the two is below the other.
 
 A law is a public function of src/laws.rt, or of a file in src/laws/. Each has its `///`, which PROOFS has word for word. A file of tests of a
-program has a first sentence, too: FILES has it behind the crates.
+program has a first sentence, too: FILES has it after the crates.
 """
 import ast
 import glob

@@ -308,7 +308,7 @@ test("numbers of 64 bits stay exact", async (t) => {
   assert.deepEqual([one.rows.length, five.rows.length], [1, 1]);
 });
 
-test("behind a lost connection rows are stale while another is tried, and then new", async (t) => {
+test("after a lost connection rows are stale while another is tried, and then new", async (t) => {
   const [db, socket] = await entered(t);
   const notes = db.live("notes"), states = [];
   db.onState((state, why) => states.push([state, why]));

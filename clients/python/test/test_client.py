@@ -261,7 +261,7 @@ async def test_what_raises_harms_nobody(fakes):
 
 
 @run
-async def test_behind_a_lost_connection_rows_are_stale_while_another_is_tried(fakes):
+async def test_after_a_lost_connection_rows_are_stale_while_another_is_tried(fakes):
     db, socket = await entered()
     notes, changes, states = db.live("notes"), db.changes("notes"), []
     db.on_state(lambda state, why: states.append((state, why)))
