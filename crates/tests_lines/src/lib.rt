@@ -8,8 +8,6 @@ mod examples;
 #[cfg(test)]
 mod failing;
 #[cfg(test)]
-mod failing_once;
-#[cfg(test)]
 mod known;
 #[cfg(test)]
 mod messages;
