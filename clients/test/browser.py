@@ -13,11 +13,11 @@ import time
 
 sys.path[:0] = [str(pathlib.Path(__file__).resolve().parents[1] / it) for it in ("python", "python/test")]
 
-from conftest import BASE, IS_BUILT, PATIENCE, TOP, Gateway, browser  # noqa: E402
 from selenium import webdriver  # noqa: E402
 from selenium.common.exceptions import NoAlertPresentException  # noqa: E402
 from selenium.webdriver.common.alert import Alert  # noqa: E402
 
+from conftest import BASE, IS_BUILT, PATIENCE, TOP, Gateway, browser  # noqa: E402
 from viewd import plain  # noqa: E402
 
 TABLE = {"do": "create_table", "name": "tickets", "owner": "ann", "columns": [["id", "int"], ["agent", "text"], ["subject", "text"], ["open", "flag"]]}

@@ -1,7 +1,6 @@
 """What the tests of gateways of a stream share: one on a free port, and clients without a browser."""
 import asyncio
 import collections
-import contextlib
 import hashlib
 import json
 import os
@@ -14,11 +13,14 @@ import time
 import urllib.error
 import urllib.request
 from collections.abc import Callable
+from typing import Any
 
 import aiohttp
 
 from ports import free_port
 
+Line = dict[str, Any]  # a line of JSON, or a request
+Row = tuple[Any, ...]
 TOP = pathlib.Path(__file__).resolve().parent.parent
 VIEWD = pathlib.Path(os.environ.get("VIEWD", TOP.parent / "crates/viewd/out/viewd")).resolve()
 ROLES = ("admin", "lena", "mia", "noah", "olga")
@@ -29,7 +31,7 @@ os.environ["no_proxy"] = os.environ["NO_PROXY"] = "*"  # all is on loopback
 sys.path.insert(0, str(TOP))
 
 
-def eventually(test: Callable, seconds: float = PATIENCE):
+def eventually(test: Callable[[], Any], seconds: float = PATIENCE) -> Any:
     """The first true answer of a test that is made again and again."""
     end = time.monotonic() + seconds
     while not (found := test()):
@@ -38,7 +40,7 @@ def eventually(test: Callable, seconds: float = PATIENCE):
     return found
 
 
-async def soon(test: Callable, seconds: float = PATIENCE):
+async def soon(test: Callable[[], Any], seconds: float = PATIENCE) -> Any:
     """The same beside other tasks."""
     end = time.monotonic() + seconds
     while not (found := test()):
@@ -57,15 +59,15 @@ class Gate:
 
     running: list["Gate"] = []
 
-    def __init__(self, journal: str, words: tuple = (), start: bool = True):
+    def __init__(self, journal: str, words: tuple[str | pathlib.Path, ...] = (), start: bool = True):
         self.folder = tempfile.TemporaryDirectory(prefix="desk.")
         self.here, self.journal = pathlib.Path(self.folder.name), journal
         self.tokens = self.here / "tokens.toml"
         self.tokens.write_text(tokens())
         self.move(free_port())
-        self.words = ["--viewd", VIEWD, "--journal", journal, "--tokens", self.tokens, "--port", str(self.port), *words]
+        self.words: list[str | pathlib.Path] = ["--viewd", VIEWD, "--journal", journal, "--tokens", self.tokens, "--port", str(self.port), *words]
         self.log = (self.here / "log").open("ab+")
-        self.process: subprocess.Popen | None = None
+        self.started: subprocess.Popen[bytes] | None = None
         self.running.append(self)
         if start:
             self.start()
@@ -73,17 +75,24 @@ class Gate:
     def move(self, port: int) -> None:
         self.port, self.url = port, f"http://127.0.0.1:{port}/"
 
+    @property
+    def process(self) -> subprocess.Popen[bytes]:
+        """Of one that was started."""
+        assert self.started, "it was not started"
+        return self.started
+
     def launch(self) -> None:
-        self.process = subprocess.Popen(["/usr/bin/python3", TOP / "gateway.py", *self.words], stderr=self.log)
+        self.started = subprocess.Popen(["/usr/bin/python3", TOP / "gateway.py", *self.words], stderr=self.log)
 
     def start(self) -> None:
         self.launch()
         eventually(lambda: self.state()["ready"])
 
-    def state(self, token: str = "admin-demo") -> dict:
+    def state(self, token: str = "admin-demo") -> Line:
         ask = urllib.request.Request(self.url + "state", headers={"Authorization": f"Bearer {token}"})
         try:
-            return json.load(urllib.request.urlopen(ask, timeout=PATIENCE))
+            told: Line = json.load(urllib.request.urlopen(ask, timeout=PATIENCE))
+            return told
         except urllib.error.HTTPError:
             raise
         except OSError:
@@ -100,7 +109,7 @@ class Gate:
 
         def another() -> bool:
             now = self.state()
-            return now["viewd"] != before and now["ready"]
+            return bool(now["viewd"] != before and now["ready"])
         eventually(another)
 
     def kill_gateway(self) -> None:
@@ -113,7 +122,7 @@ class Gate:
 
     def end(self) -> None:
         self.running.remove(self)
-        if self.process and self.process.poll() is None:
+        if self.started and self.started.poll() is None:
             self.kill_gateway()
         self.log.close()
         self.folder.cleanup()
@@ -122,17 +131,20 @@ class Gate:
 class Peer:
     """A client: `ask` gives the reply to a request once all that it brought is here, `rows` adds up what came for each subscription."""
 
-    @classmethod
-    async def enter(cls, http: aiohttp.ClientSession, url: str, token: str) -> "Peer":
-        self = cls()
-        self.ws = await http.ws_connect(url + "live", max_msg_size=0)
-        await self.ws.send_str(token)
-        self.lines: list[dict] = []  # all that came
-        self.asked: collections.deque[asyncio.Future[dict]] = collections.deque()
-        self.replied: list[tuple[asyncio.Future[dict], dict]] = []  # their requests are not settled
-        self.rows: dict[int, dict[tuple, int]] = collections.defaultdict(dict)
+    def __init__(self, ws: aiohttp.ClientWebSocketResponse):
+        self.ws = ws
+        self.lines: list[Line] = []  # all that came
+        self.asked: collections.deque[asyncio.Future[Line]] = collections.deque()
+        self.replied: list[tuple[asyncio.Future[Line], Line]] = []  # their requests are not settled
+        self.rows: dict[int, dict[Row, int]] = collections.defaultdict(dict)
         self.role: str | None = None
         self.task = asyncio.create_task(self.take())
+
+    @classmethod
+    async def enter(cls, http: aiohttp.ClientSession, url: str, token: str) -> "Peer":
+        ws = await http.ws_connect(url + "live", max_msg_size=0)
+        await ws.send_str(token)
+        self = cls(ws)
         await soon(lambda: self.told("settled") or self.task.done())
         return self
 
@@ -153,7 +165,7 @@ class Peer:
                 if not lost.done():
                     lost.set_result({"error": "lost"})
 
-    def line(self, line: dict) -> None:
+    def line(self, line: Line) -> None:
         self.lines.append(line)
         if "changes" in line:
             rows = self.rows[line["sub"]]
@@ -174,14 +186,14 @@ class Peer:
                 reply.set_result(line)
         self.replied.clear()
 
-    def told(self, key: str) -> list:
+    def told(self, key: str) -> list[Any]:
         """The values of a key in all lines that came."""
         return [line[key] for line in self.lines if key in line]
 
-    async def raw(self, text: str) -> dict:
+    async def raw(self, text: str) -> Line:
         if self.task.done():
             return {"error": "lost"}
-        reply = asyncio.get_running_loop().create_future()
+        reply: asyncio.Future[Line] = asyncio.get_running_loop().create_future()
         self.asked.append(reply)
         try:
             await self.ws.send_str(text)
@@ -189,17 +201,17 @@ class Peer:
             return {"error": "lost"}
         return await reply
 
-    async def ask(self, **request) -> dict:
+    async def ask(self, **request: Any) -> Line:
         return await self.raw(json.dumps(request, ensure_ascii=False))
 
     async def quiet(self) -> None:
         """Returns when all lines of requests that this gateway's viewd has answered are here, whoever asked: they come in its order."""
         await self.ask(do="unsubscribe", sub=1 << 60)
 
-    async def insert(self, number: int, agent: str, subject: str = "x") -> dict:
+    async def insert(self, number: int, agent: str, subject: str = "x") -> Line:
         return await self.ask(do="write", entries=[{"on": "tickets", "insert": [number, agent, subject, True]}])
 
-    async def see(self, on: str) -> dict:
+    async def see(self, on: str) -> dict[Any, Any]:
         """The rows of a relation now, or the refusal."""
         reply = await self.ask(do="subscribe", on=on)
         if "error" in reply:

@@ -15,10 +15,12 @@ import pathlib
 import re
 import subprocess
 import time
+from multiprocessing.connection import Connection
+from typing import Any
 
 import aiohttp
 
-from gate import TOP, VIEWD, Gate, Peer, eventually
+from gate import TOP, VIEWD, Gate, Line, Peer, eventually
 
 CAME = re.compile(r"\[1,\[(\d+),")
 FIRST, KEPT = 100_000, 500  # the number of the first ticket, and how many are there at a time
@@ -26,9 +28,9 @@ WINDOW = 32  # writes without a reply
 TICK = os.sysconf("SC_CLK_TCK")
 
 
-def readers(seats: list[tuple[str, str]], pipe) -> None:
+def readers(seats: list[tuple[str, str]], pipe: Connection) -> None:
     """One process: tells when all are subscribed, and at the end when each ticket came last, and to how many."""
-    async def read(ws: aiohttp.ClientWebSocketResponse, last: dict, count: dict, ready: asyncio.Event) -> None:
+    async def read(ws: aiohttp.ClientWebSocketResponse, last: dict[int, float], count: dict[int, int], ready: asyncio.Event) -> None:
         marks = 0
         async for message in ws:
             now = time.monotonic()
@@ -66,11 +68,11 @@ def processor(pid: int) -> float:
     return (int(fields[11]) + int(fields[12])) / TICK
 
 
-def ticket(number: int) -> list:
+def ticket(number: int) -> list[Any]:
     return [number, "mia", "The quick brown fox", True]
 
 
-def change(number: int) -> list[dict]:
+def change(number: int) -> list[Line]:
     return [{"on": "tickets", "insert": ticket(number)}, {"on": "tickets", "delete": ticket(number - KEPT)}]
 
 
@@ -155,7 +157,7 @@ def parts(times: list[float], *parts: float) -> list[float]:
     return [round(sorted(times)[min(len(times) - 1, int(len(times) * part))], 1) for part in parts]
 
 
-async def measure(size: int, rate: float, seconds: float, gateways: int) -> dict:
+async def measure(size: int, rate: float, seconds: float, gateways: int) -> Line:
     """Of so many that serve readers, beside the one that writes."""
     stream = Stream(gateways)
     gates, writer = stream.readers, stream.writer
@@ -186,7 +188,7 @@ async def measure(size: int, rate: float, seconds: float, gateways: int) -> dict
         "processor %": {name: round(value / wall * 100) for name, value in used.items()}, "load": round(os.getloadavg()[0], 1)}
 
 
-async def delay(size: int, rate: float, seconds: float) -> dict:
+async def delay(size: int, rate: float, seconds: float) -> Line:
     """From the acknowledgement of a write, to a client of one reader, to its line at a client of another."""
     stream = Stream(2)
     seen: dict[int, float] = {}
@@ -214,7 +216,7 @@ async def delay(size: int, rate: float, seconds: float) -> dict:
                 asked[number] = time.monotonic()
                 assert (await writers[number % len(writers)].ask(do="write", entries=change(number))).get("ok")
                 acknowledged[number] = time.monotonic()
-            began, tasks = time.monotonic(), []
+            began, tasks = time.monotonic(), list[asyncio.Task[None]]()
             while time.monotonic() < began + seconds:
                 await asyncio.sleep(max(0.0, began + len(tasks) / rate - time.monotonic()))
                 tasks.append(asyncio.create_task(write(FIRST + KEPT + len(tasks))))
@@ -234,15 +236,17 @@ async def delay(size: int, rate: float, seconds: float) -> dict:
 def memory() -> None:
     """What viewd takes for sessions and subscriptions of one role, to a table of 500 rows."""
     viewd = subprocess.Popen([VIEWD, "replay"], stdin=subprocess.PIPE, stdout=subprocess.PIPE)
+    assert viewd.stdin and viewd.stdout
+    told, answers = viewd.stdin, viewd.stdout
 
-    def tell(**request) -> None:
-        viewd.stdin.write(json.dumps(request).encode() + b"\n-\n")
-        viewd.stdin.flush()
-        while viewd.stdout.readline() != b'{"error":1}\n':
+    def tell(**request: Any) -> None:
+        told.write(json.dumps(request).encode() + b"\n-\n")
+        told.flush()
+        while answers.readline() != b'{"error":1}\n':
             pass
 
     def kilobytes() -> int:
-        return int(re.search(r"VmRSS:\s+(\d+)", pathlib.Path(f"/proc/{viewd.pid}/status").read_text())[1])
+        return int(re.findall(r"VmRSS:\s+(\d+)", pathlib.Path(f"/proc/{viewd.pid}/status").read_text())[0])
 
     sessions = {"admin": 1}
     tell(do="begin", role="admin", session=1)

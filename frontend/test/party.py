@@ -3,6 +3,8 @@ import asyncio
 import os
 import pathlib
 import subprocess
+from collections.abc import Callable
+from typing import Any
 
 from gate import PATIENCE, TOP, Gate, eventually
 from store import Store
@@ -27,11 +29,11 @@ class Party:
         return self.candidates + self.readers
 
     def writer(self) -> Gate | None:
-        return next((gate for gate in self.candidates if gate.process and gate.process.poll() is None and gate.state().get("writes")), None)
+        return next((gate for gate in self.candidates if gate.started and gate.started.poll() is None and gate.state().get("writes")), None)
 
     def kill_writer(self) -> None:
         """It is gone, and its lease has passed."""
-        self.writer().kill_gateway()
+        eventually(self.writer).kill_gateway()
         self.store.client.delete("desk:lease")
 
     def agree(self) -> str:
@@ -43,11 +45,11 @@ class Party:
         return done.stdout.strip()
 
 
-def agree(*gates: Gate, seconds: float = PATIENCE / 2) -> subprocess.CompletedProcess:
-    words = [TOP / "agree", "--seconds", str(seconds), *[gate.url for gate in gates]]
+def agree(*gates: Gate, seconds: float = PATIENCE / 2) -> subprocess.CompletedProcess[str]:
+    words: list[str | pathlib.Path] = [TOP / "agree", "--seconds", str(seconds), *[gate.url for gate in gates]]
     return subprocess.run(words, env=os.environ | {"TOKEN": "admin-demo"}, capture_output=True, text=True)
 
 
-async def there(what, *words):
+async def there(what: Callable[[], Any]) -> Any:
     """The first true answer, while other tasks go on."""
-    return await asyncio.to_thread(eventually, lambda: what(*words))
+    return await asyncio.to_thread(eventually, what)

@@ -9,6 +9,7 @@ and the files of the program may not have grown. At last it is killed and starte
 than the one that is built."""
 import argparse
 import collections
+import functools
 import hashlib
 import json
 import os
@@ -19,20 +20,21 @@ import struct
 import sys
 import time
 from collections.abc import Callable
+from typing import Any
 
-from trial import many_files, test
-from wire import CLOSE, PATIENCE, PING, Gateway, Wire, digest, frame, http, request
+from trial import many_files
+from wire import CLOSE, PATIENCE, PING, Gateway, Line, Wire, digest, frame, http, request
 
 READERS = ("r1", "r2", "r3", "r4")  # each has a policy of its own
-PREDICATES: list[tuple[str, Callable[[tuple, str], bool]]] = [
+Row = tuple[int, str, bool]
+PREDICATES: list[tuple[str, Callable[[Row, str], bool]]] = [
     ("true", lambda row, role: True), ("who = current_user", lambda row, role: row[1] == role), ("open = true", lambda row, role: row[2]),
     ("who = 'r2' or open = false", lambda row, role: row[1] == "r2" or not row[2]), ("id < 30000000", lambda row, role: row[0] < 30_000_000)]
 WRITERS, WINDOW, ROWS = 8, 16, 60  # who write, requests of each without a reply, and rows that each keeps at most
 PER_TOKEN = 40
-Row = tuple[int, str, bool]
 
 
-def text(request: dict) -> bytes:
+def text(request: Line) -> bytes:
     return json.dumps(request, separators=(",", ":")).encode()
 
 
@@ -42,13 +44,13 @@ class Client:
     def __init__(self, soak: "Soak", role: str, token: str):
         self.soak, self.role, self.wire = soak, role, Wire(soak.gate.port, open_it=False)
         self.wire.send(request() + frame(token.encode()))
-        self.waiting: collections.deque[Callable[[dict], None]] = collections.deque()
-        self.sums: dict[int, collections.Counter] = {}
+        self.waiting: collections.deque[Callable[[Line], None]] = collections.deque()
+        self.sums: dict[int, collections.Counter[tuple[Any, ...]]] = {}
         self.is_open = self.is_in = False
         soak.poll.register(number := self.wire.socket.fileno(), select.EPOLLIN)
         self.number, soak.clients[number] = number, self
 
-    def ask(self, *requests: dict, then: Callable[[dict], None] = lambda reply: None) -> None:
+    def ask(self, *requests: Line, then: Callable[[Line], None] = lambda reply: None) -> None:
         self.wire.send(b"".join(frame(text(it), mask=b"\1\2\3\4") for it in requests))
         self.waiting.extend([then] * len(requests))
         self.soak.requests += len(requests)
@@ -90,7 +92,7 @@ class Client:
 
     def subscribe(self) -> None:
         """Reads the table, if it may; one that may not comes again when something is granted."""
-        def answered(reply: dict) -> None:
+        def answered(reply: Line) -> None:
             if "sub" in reply:
                 self.sums[reply["sub"]] = collections.Counter()
         if self.role in READERS and not self.sums:
@@ -119,7 +121,7 @@ class Guest(Client):
         super().__init__(soak, role, token)
         dice = soak.dice
         self.until, self.how = time.monotonic() + dice.expovariate(1 / soak.stay), dice.randrange(4)
-        asks = [{"do": "subscribe", "on": "board"}, {"do": "unsubscribe", "sub": 1}, {"do": "subscribe", "on": "nothing"}, {"do": "nothing"},
+        asks: list[Line] = [{"do": "subscribe", "on": "board"}, {"do": "unsubscribe", "sub": 1}, {"do": "subscribe", "on": "nothing"}, {"do": "nothing"},
                 {"id": dice.randrange(1000), "do": "create_role", "name": "x"}, {"do": "subscribe", "on": "board"},
                 {"do": "write", "entries": [{"on": "board", "insert": [1]}]}]
         self.ask(*asks[:dice.randint(1, len(asks))])
@@ -134,9 +136,9 @@ class Writer(Client):
         super().__init__(soak, role, token)
         self.next, self.rows = at * 10_000_000, set[Row]()
 
-    def entries(self) -> tuple[list[dict], list[Row], list[Row]]:
+    def entries(self) -> tuple[list[Line], list[Row], list[Row]]:
         """Those of a batch, and which rows it adds and takes away."""
-        dice, more, less = self.soak.dice, [], []
+        dice, more, less = self.soak.dice, list[Row](), list[Row]()
         for _ in range(dice.choice([1, 1, 1, 3])):
             self.next += 1
             more.append((self.next, dice.choice(READERS), dice.random() < 0.5))
@@ -152,15 +154,15 @@ class Writer(Client):
                 self.ask({"do": "write", "entries": [*entries, {"on": "notes", "delete": [0, "nobody", True]}]}, then=self.refused)
                 continue
             self.rows -= {*less}
-            self.ask({"do": "write", "entries": entries}, then=lambda reply, more=more: self.accepted(reply, more))
+            self.ask({"do": "write", "entries": entries}, then=functools.partial(self.accepted, more))
 
-    def accepted(self, reply: dict, more: list[Row]) -> None:
+    def accepted(self, more: list[Row], reply: Line) -> None:
         assert reply == {"ok": True}, reply
         self.rows |= {*more}
         self.soak.accepted += 1
 
     @staticmethod
-    def refused(reply: dict) -> None:
+    def refused(reply: Line) -> None:
         assert reply["error"] == 16, reply
 
 
@@ -179,10 +181,10 @@ class Owner(Client):
             self.ask(self.policy(role), {"do": "grant", "on": "notes", "privileges": ["select"], "to": role}, then=self.is_done)
 
     @staticmethod
-    def is_done(reply: dict) -> None:
+    def is_done(reply: Line) -> None:
         assert reply == {"ok": True}, reply
 
-    def policy(self, role: str) -> dict:
+    def policy(self, role: str) -> Line:
         return {"do": "create_policy", "on": "notes", "name": role, "to": [role], "using": PREDICATES[self.policies[role]][0]}
 
     def change(self) -> None:
@@ -219,11 +221,12 @@ class Soak:
         self.gate.start()
         admin = Wire(self.gate.port, "admin")
         admin.event()
-        for it in ([{"do": "create_role", "name": role} for role in ("ann", *READERS)]
-                   + [{"do": "create_table", "name": "notes", "owner": "ann", "columns": [["id", "int"], ["who", "text"], ["open", "flag"]]},
-                      {"do": "create_table", "name": "board", "owner": "ann", "columns": [["mark", "int"]]},
-                      {"do": "grant", "on": "board", "privileges": ["select"], "to": "public"}]):
-            assert admin.ask(it)[0].startswith('{"ok":true'), it
+        made: list[Line] = [{"do": "create_role", "name": role} for role in ("ann", *READERS)]
+        made += [{"do": "create_table", "name": "notes", "owner": "ann", "columns": [["id", "int"], ["who", "text"], ["open", "flag"]]},
+                 {"do": "create_table", "name": "board", "owner": "ann", "columns": [["mark", "int"]]},
+                 {"do": "grant", "on": "board", "privileges": ["select"], "to": "public"}]
+        for asked in made:
+            assert admin.ask(asked)[0].startswith('{"ok":true'), asked
         admin.shut()
         self.owner = Owner(self, "ann", "ann")
         self.owner.make()
@@ -275,8 +278,8 @@ class Soak:
             it.leave(0)
         self.guests = []
         self.wait(lambda: not any(it.waiting for it in self.clients.values()))
-        for it in self.readers:  # what was told before a reply has come
-            it.ask({"do": "unsubscribe", "sub": 1 << 40})
+        for reader in self.readers:  # what was told before a reply has come
+            reader.ask({"do": "unsubscribe", "sub": 1 << 40})
         self.wait(lambda: not any(it.waiting for it in self.clients.values()))
         rows = {row for it in self.writers for row in it.rows}
         found = hashlib.sha256()
@@ -289,7 +292,7 @@ class Soak:
             found.update(repr((reader.role, sorted(wanted))).encode())
         return found.hexdigest()[:16]
 
-    def fresh(self, role: str) -> collections.Counter | None:
+    def fresh(self, role: str) -> collections.Counter[tuple[Any, ...]] | None:
         """What a client is shown that comes now, if it may read."""
         wire = Wire(self.gate.port, f"{role} 1" if self.size >= PER_TOKEN else f"{role} 0")
         assert wire.enter() == role
@@ -330,11 +333,6 @@ def soak(requests: int, clients: int, each: int, stay: float = 5.0, seed: int = 
     assert max(memory for memory, _ in seen) <= first + first // 50 + more, [memory for memory, _ in seen]
     it.again(found)
     it.gate.end()
-
-
-@test
-def a_soak_leaves_no_trace():
-    soak(12_000, 100, 3_000, stay=0.5)
 
 
 if __name__ == "__main__":

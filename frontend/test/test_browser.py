@@ -1,47 +1,45 @@
-#!/usr/bin/python3
 """The desk in a real browser, over the gateway as a program: an administrator and two agents, each in a window of one Chromium.
 
-    frontend/test/test_browser.py [FOLDER FOR PICTURES]
-
-GATEWAY names another program than the one that is built. Status 3: Chromium does not start here, so nothing was tried.
+Each test goes on where the one before it ended. Pictures go to the folder that `--pictures` names.
 """
 import contextlib
+import dataclasses
 import pathlib
 import re
-import sys
-import tempfile
 import time
+from collections.abc import Callable, Iterator
+from typing import Any, NoReturn
 
+import pytest
 from selenium import webdriver
 from selenium.common.exceptions import InvalidSessionIdException, WebDriverException
 from selenium.webdriver.common.by import By
 from selenium.webdriver.common.keys import Keys
 from urllib3.exceptions import HTTPError
 
-from explain import explain, shortened
 from wire import PATIENCE, TOP, Gateway
 
 ROLES = ("admin", "lena", "mia", "noah", "olga")
-NOT_STARTED = 3
+NOT_STARTED, GONE = 10, 11  # statuses: Chromium does not start here, and it has ended by itself, for want of memory, say
 GREATEST = (1 << 63) - 1
 
 
-class Gone(Exception):
-    """The browser has ended by itself."""
+def gone(why: Exception) -> NoReturn:
+    pytest.exit(f"Chromium has ended: {str(why)[:300]}", GONE)
 
 
-def until(test):
-    """The first true answer. A page that is being made anew lacks what is looked for, for a moment. Raises Gone."""
+def until(test: Callable[[], Any]) -> Any:
+    """The first true answer. A page that is being made anew lacks what is looked for, for a moment."""
     end = time.monotonic() + PATIENCE
     while True:
         try:
             if found := test():
                 return found
         except (InvalidSessionIdException, HTTPError, OSError) as why:
-            raise Gone(str(why)) from None
+            gone(why)
         except (WebDriverException, LookupError) as why:
             if re.search("crashed|disconnected|not reachable", str(why)):
-                raise Gone(str(why)) from None
+                gone(why)
         assert time.monotonic() < end, "it did not come"
         time.sleep(0.02)
 
@@ -55,12 +53,12 @@ class Desk:
         self.driver, self.handle = driver, driver.current_window_handle
         driver.get(f"{url}#token={token}" if token else url)
 
-    def __getattr__(self, name: str):
+    def __getattr__(self, name: str) -> Any:
         """What the driver can do, in this window."""
         self.driver.switch_to.window(self.handle)
         return getattr(self.driver, name)
 
-    def css(self, selector: str):
+    def css(self, selector: str) -> Any:
         return self.find_element(By.CSS_SELECTOR, selector)
 
     def press(self, selector: str, key: str) -> None:
@@ -72,7 +70,7 @@ class Desk:
         until(lambda: self.css(selector))
         self.execute_script("const it = document.querySelector(arguments[0]); it.focus(); it.click()", selector)
 
-    def tickets(self) -> dict[int, tuple]:
+    def tickets(self) -> dict[int, tuple[str, ...]]:
         """What stands in the table on the page: number to agent, subject and state."""
         rows = self.execute_script("""return [...document.querySelectorAll('#tickets tbody tr:not(.gone)')].map(
             (tr) => [...tr.cells].slice(0, 4).map((td) => td.textContent))""")
@@ -87,10 +85,10 @@ class Desk:
         return {name: int(count) for name, count, width in bars if width > 0}
 
     def state(self) -> str:
-        return self.css("#state").text
+        return str(self.css("#state").text)
 
     def toast(self) -> str:
-        return self.execute_script("return document.getElementById('toast').textContent")
+        return str(self.execute_script("return document.getElementById('toast').textContent"))
 
     def choose(self, selector: str, word: str) -> None:
         """In one step too."""
@@ -115,7 +113,7 @@ class Desk:
         self.choose("#rights [name=to]", to)
         self.click(f"#rights [value={what}]")
 
-    def rights_shown(self) -> list[str]:
+    def rights_shown(self) -> Any:
         """What the administrator's tables say."""
         return self.execute_script("return ['grants', 'members', 'security', 'policies'].map((it) => document.getElementById(it).textContent)")
 
@@ -131,7 +129,7 @@ class Desk:
         self.type("#policy [name=using]", using)
         self.click("#policy button")
 
-    def say(self, request: dict) -> dict:
+    def say(self, request: dict[str, Any]) -> Any:
         """What the connection of the page answers to a request that the page itself would not make."""
         return self.execute_async_script("""const done = arguments[1];
             window.viewd.db.request(arguments[0]).then(done, (why) => done(why.reply ?? {lost: why.message}))""", request)
@@ -140,183 +138,32 @@ class Desk:
         self.save_screenshot(str(file))
 
 
-class Test:
-    """The steps, in their order: each goes on where the one before it ended."""
+@dataclasses.dataclass
+class Windows:
+    """A Chromium, the gateway behind it, and who sits before its windows."""
 
-    def __init__(self, driver: webdriver.Chrome, gate: Gateway, pictures: pathlib.Path):
-        self.driver, self.gate, self.pictures, self.url = driver, gate, pictures, f"http://127.0.0.1:{gate.port}/"
+    driver: webdriver.Chrome
+    gate: Gateway
+    pictures: pathlib.Path
+    url: str
+    console: list[dict[str, str]] = dataclasses.field(default_factory=list)  # all that the pages have said there
 
-    def tokens(self) -> None:
-        """A token that is guessed opens nothing, and one that is taken away closes the page that it had opened."""
-        door = Desk(self.driver, self.url, "guessed", (600, 500))
-        until(lambda: "opens no role" in door.css("#turned").text)
+    def log(self) -> list[dict[str, str]]:
+        """What the pages have said since it was asked last."""
+        browser: Any = self.driver
+        return list(browser.get_log("browser"))
 
-        def enters() -> bool:
-            if door.css("#door").is_displayed():
-                door.type("#door input", "mia-demo" + Keys.ENTER)
-            return door.state() == "live" and door.css("#role").text == "mia"
-        until(enters)
-        self.gate.know(*(it for it in ROLES if it != "mia"))
-        until(lambda: door.css("#door").is_displayed() and "opens no role" in door.css("#turned").text)
-        self.gate.know(*ROLES)
-        until(enters)
-        door.press("#out", Keys.ENTER)
-        until(lambda: door.css("#door").is_displayed())
-
-    def three_roles(self) -> None:
+    def open_three(self) -> None:
         self.admin = Desk(self.driver, self.url, "admin-demo", (1280, 1420))
         self.mia, self.noah = Desk(self.driver, self.url, "mia-demo"), Desk(self.driver, self.url, "noah-demo")
-        until(lambda: len(self.admin.numbers()) == 12 and self.mia.numbers() == [101, 102, 109])
-        until(lambda: self.noah.numbers() == [103, 104, 107, 112] and self.noah.bars() == {"noah": 4})
-        until(lambda: self.admin.bars() == {"noah": 4, "mia": 2, "olga": 2, "jun": 1, "ravi": 1} and self.mia.bars() == {"mia": 2})
-        until(lambda: self.admin.css("#admin").is_displayed())
-        assert "token" not in self.mia.current_url and not self.mia.css("#admin").is_displayed()
-
-    def writes(self) -> None:
-        self.mia.add("mia", "Wrong currency")
-        until(lambda: len(self.mia.numbers()) == 4 and len(self.admin.numbers()) == 13)
-        assert len(self.noah.numbers()) == 4
-        self.admin.add("noah", "Monitor stays black")
-        until(lambda: len(self.noah.numbers()) == 5 and self.noah.bars() == {"noah": 5} and len(self.mia.numbers()) == 4)
-        self.mia.add("noah", "for another")
-        until(lambda: "no permissive policy (14)" in self.mia.toast())
-
-    def keyboard(self) -> None:
-        """A ticket is closed and opened by keys alone: the row is another one, and the keyboard stays on it."""
-        self.mia.press("[aria-label='Close ticket 101']", Keys.ENTER)
-        until(lambda: self.mia.tickets()[101][2] == self.admin.tickets()[101][2] == "closed" and self.admin.bars()["mia"] == 2)
-        focused = lambda: self.mia.execute_script("return document.activeElement.getAttribute('aria-label')")
-        until(lambda: focused() == "Reopen ticket 101")
-        self.mia.switch_to.active_element.send_keys(Keys.SPACE)
-        until(lambda: self.mia.tickets()[101][2] == "open" and focused() == "Close ticket 101")
-
-    def policies(self) -> None:
-        mine = self.mia.numbers()
-        self.admin.policy("tickets", "cover", "select", "mia", "open = true")
-        openly = [number for number, row in self.admin.tickets().items() if row[2] == "open"]
-        until(lambda: self.mia.numbers() == sorted({*mine, *openly}) and self.mia.bars() == self.admin.bars())
-        until(lambda: "cover" in self.admin.css("#policies").text)
-        assert len(self.noah.numbers()) == 5
-        self.calm(self.mia, self.admin)
-        self.mia.picture(self.pictures / "desk_agent.png")
-        self.admin.picture(self.pictures / "desk_admin.png")
-        self.admin.click("[name=drop_cover]")
-        until(lambda: self.mia.numbers() == mine and self.mia.bars() == {"mia": 3})
-        self.admin.policy("tickets", "bad", "select", "mia", "opened = true")
-        until(lambda: "bad query (10), why unknown column, place 0" in self.admin.toast())
-        self.admin.click("[name=tickets_enable]")
-        until(lambda: len(self.mia.numbers()) == len(self.noah.numbers()) == len(self.admin.numbers()) == 14)
-        self.admin.click("[name=tickets_enable]")
-        until(lambda: self.mia.numbers() == mine and len(self.noah.numbers()) == 5)
-
-    def revokes(self) -> None:
-        mine = self.mia.numbers()
-        self.admin.rights("revoke", "tickets", "noah", "select")
-        until(lambda: self.noah.numbers() == [] and self.noah.bars() == {} and "was taken back" in self.noah.css("#none").text)
-        assert self.mia.numbers() == mine
-        self.admin.rights("grant", "tickets", "noah", "select")
-        until(lambda: len(self.noah.numbers()) == 5 and self.noah.bars() == {"noah": 5} and not self.noah.css("#none").is_displayed())
-
-    def members(self) -> None:
-        """A member has what its role has, in its window at once, and loses it when the membership ends."""
-        olga = Desk(self.driver, self.url, "olga-demo")
-        until(lambda: "You may not read tickets" in olga.css("#none").text and olga.numbers() == [])
-        self.admin.member("olga", "noah")
-        until(lambda: olga.numbers() == [105, 111] and olga.bars() == {"olga": 2} and not olga.css("#none").is_displayed())
-        until(lambda: "olga is a member of noah" in self.admin.css("#members").text)
-        self.admin.member("noah", "olga")
-        until(lambda: "membership loop (23)" in self.admin.toast())
-        self.admin.member("noah", "lena")  # who owns the table, so that its policies do not bind them
-        until(lambda: olga.numbers() == self.noah.numbers() == self.admin.numbers() and len(olga.numbers()) == 14)
-        self.admin.click("[name=end_noah_of_lena]")
-        until(lambda: olga.numbers() == [105, 111] and len(self.noah.numbers()) == 5)
-        self.admin.click("[name=end_olga_of_noah]")
-        until(lambda: olga.numbers() == [] and olga.bars() == {} and "was taken back" in olga.css("#none").text)
-        until(lambda: self.admin.css("#members").text == "" and len(self.noah.numbers()) == 5)
-        olga.close()
-
-    def forged(self) -> None:
-        for session in range(1, 8):
-            got = self.mia.say({"do": "grant", "on": "tickets", "privileges": ["delete"], "to": "mia", "session": session})
-            assert got == {"error": 2, "key": "session", "why": "unknown"}, got
-        assert self.mia.say({"do": "grant", "on": "tickets", "privileges": ["delete"], "to": "mia"}) == {"error": 12, "on": "tickets"}
-        assert self.mia.say({"do": "begin", "role": "admin"}) == self.mia.say({"do": "finish"}) == {"error": 2, "key": "do", "why": "wrong"}
-
-    def odd_rows(self) -> None:
-        subject = "<b>bold</b> & \"quotes\" \\ 12345678901234567890"
-        before = set(self.mia.numbers())
-        self.mia.add("mia", subject)
-        until(lambda: len(self.mia.numbers()) == len(before) + 1)
-        [added] = set(self.mia.numbers()) - before
-        until(lambda: self.mia.tickets()[added] == self.admin.tickets()[added] == ("mia", subject, "open"))
-        self.admin.execute_script("""window.viewd.db.request({do: 'write', entries: [9223372036854775807n, -9223372036854775808n].map(
-            (id) => ({on: 'tickets', insert: [id, 'mia', 'a long number', true], copies: 9007199254740993n}))})""")
-        until(lambda: {GREATEST, -GREATEST - 1} <= set(self.mia.numbers()))
-        assert self.mia.tickets()[GREATEST][1] == "a long number (×9007199254740993)"
-        self.admin.say({"do": "write", "entries": [{"on": "tickets", "insert": [77, "mia", "\u00001", True]}]})  # no text of viewd's, and no number
-        self.mia.press(f"[aria-label='Close ticket {GREATEST}']", Keys.ENTER)
-        until(lambda: self.admin.tickets()[GREATEST][2] == "closed")
-        assert 77 not in self.admin.tickets()
-
-    def kills(self) -> None:
-        before = {desk: desk.tickets() for desk in (self.admin, self.mia, self.noah)}
-        rights = self.admin.rights_shown()
-        self.gate.kill()
-        until(lambda: all("not connected" in desk.state() or desk.state() == "connecting" for desk in before))
-        until(lambda: "not connected" in self.mia.state())
-        until(lambda: "stale" in self.mia.css("main").get_attribute("class"))
-        assert self.mia.tickets() == before[self.mia]
-        assert "not sent" in self.mia.say({"do": "subscribe", "on": "tickets"})["lost"]
-        self.gate.start()
-        until(lambda: all(desk.state() == "live" and desk.tickets() == rows for desk, rows in before.items()))
-        until(lambda: self.admin.rights_shown() == rights)
-        self.admin.add("mia", "After the crash")
-        until(lambda: "After the crash" in [row[1] for row in self.mia.tickets().values()])
-
-    def dark_and_narrow(self) -> None:
-        """On a phone at night: no text on its own color, nothing wider than the window."""
-        device = {"width": 390, "height": 844, "deviceScaleFactor": 1, "mobile": True}
-        self.mia.execute_cdp_cmd("Emulation.setDeviceMetricsOverride", device)
-        self.mia.execute_cdp_cmd("Emulation.setEmulatedMedia", {"features": [{"name": "prefers-color-scheme", "value": "dark"}]})
-        until(lambda: self.mia.execute_script("return window.innerWidth === 390 && document.documentElement.scrollWidth <= window.innerWidth"))
-        until(lambda: self.mia.execute_script("return matchMedia('(prefers-color-scheme: dark)').matches"))
-        self.calm(self.mia)
-        colors = self.mia.execute_script("""return ['body', 'section', 'button', 'button.main', 'input.long', 'select', '.pill', '.pill.open', '.state'].map((at) => {
-            const node = document.querySelector('#desk ' + at) ?? document.querySelector(at), style = getComputedStyle(node);
-            let under = node;
-            while (getComputedStyle(under).backgroundColor === 'rgba(0, 0, 0, 0)') under = under.parentElement;
-            return [at, style.color, getComputedStyle(under).backgroundColor]})""")
-        for at, ink, back in colors:
-            assert contrast(ink, back) > 4.5, (at, ink, back)
-        self.mia.picture(self.pictures / "desk_phone.png")
-        self.mia.execute_cdp_cmd("Emulation.clearDeviceMetricsOverride", {})
-
-    def no_errors(self) -> None:
-        wrong = [it for it in self.driver.get_log("browser") if it["level"] == "SEVERE" and "WebSocket" not in it["message"]]
-        assert not wrong, wrong
-
-    def calm(self, *desks: Desk) -> None:
-        """Waits for the ends of the animations, and takes the last words away, for a picture."""
-        for desk in desks:
-            until(lambda: desk.execute_script("return document.getAnimations().every((it) => it.playState === 'finished')"))
-            desk.execute_script("document.getElementById('toast').className = ''; document.activeElement.blur()")
 
 
-def contrast(one: str, two: str) -> float:
-    """As WCAG 2 counts it, of two colors `rgb(r, g, b)`."""
-    def light(color: str) -> float:
-        parts = [int(part) / 255 for part in color[color.index("(") + 1:-1].split(",")[:3]]
-        red, green, blue = (part / 12.92 if part <= 0.04045 else ((part + 0.055) / 1.055) ** 2.4 for part in parts)
-        return 0.2126 * red + 0.7152 * green + 0.0722 * blue
-    high, low = sorted((light(one), light(two)), reverse=True)
-    return (high + 0.05) / (low + 0.05)
-
-
-def started() -> webdriver.Chrome | None:
-    """A Chromium without a window. None if it does not start, which is asked three times: the first start reads it from the disk."""
-    options = webdriver.ChromeOptions()
+def started() -> webdriver.Chrome:
+    """A Chromium without a window. It is asked three times to start: the first start reads it from the disk."""
+    options: Any = webdriver.ChromeOptions()
     for word in ("--headless=new", "--no-sandbox", "--disable-gpu", "--disable-dev-shm-usage"):
         options.add_argument(word)
+    said = ""
     for wait in (1, 10, 0):
         try:
             driver = webdriver.Chrome(options=options)
@@ -324,48 +171,206 @@ def started() -> webdriver.Chrome | None:
             driver.set_page_load_timeout(PATIENCE)
             return driver
         except (WebDriverException, HTTPError, OSError) as why:
-            print(f"Chromium does not start: {shortened(str(why), 300)}", flush=True)
+            said = str(why)
             time.sleep(wait)
-    return None
+    pytest.exit(f"Chromium does not start: {said[:300]}", NOT_STARTED)
 
 
-def passes(driver: webdriver.Chrome, gate: Gateway, pictures: pathlib.Path) -> bool:
-    """Whether all steps pass. Raises Gone."""
-    test = Test(driver, gate, pictures)
-    for step in (test.tokens, test.three_roles, test.writes, test.keyboard, test.policies, test.dark_and_narrow, test.revokes,
-                 test.members, test.forged, test.odd_rows, test.kills, test.no_errors):
-        began = time.monotonic()
-        try:
-            step()
-        except Exception as why:
-            console = until(lambda: driver.get_log("browser") or "no word on the console")
-            print(f"--- {test.url}\n{gate.said()[-1500:]}\n{console}")
-            print(f"FAILED  in Chromium: {step.__name__}  {time.monotonic() - began:.1f} s\n{explain(why)}", flush=True)
-            return False
-        print(f"ok  in Chromium: {step.__name__}  {time.monotonic() - began:.1f} s", flush=True)
-    return True
-
-
-def main(pictures: pathlib.Path) -> int:
-    """A browser that ends by itself, for want of memory, say, is started anew, twice at most."""
-    for left in (2, 1, 0):
-        driver = started()
-        if not driver:
-            return NOT_STARTED
+@pytest.fixture(scope="module")
+def windows(request: pytest.FixtureRequest, tmp_path_factory: pytest.TempPathFactory) -> Iterator[Windows]:
+    driver = started()
+    try:
         gate = Gateway(ROLES, ("--pages", TOP / "frontend/web"), (TOP / "frontend/desk.jsonl").read_bytes())
-        try:
-            return 0 if passes(driver, gate, pictures) else 1
-        except Gone as why:
-            print(f"Chromium has ended: {shortened(str(why), 300)}", flush=True)
-        finally:
-            with contextlib.suppress(WebDriverException, HTTPError, OSError):
-                driver.quit()
-            gate.end()
-    return 1
+        yield Windows(driver, gate, request.config.getoption("--pictures") or tmp_path_factory.mktemp("pictures"), f"http://127.0.0.1:{gate.port}/")
+        gate.end()
+    finally:
+        with contextlib.suppress(WebDriverException, HTTPError, OSError):
+            driver.quit()
 
 
-if __name__ == "__main__":
-    if len(sys.argv) > 1:
-        sys.exit(main(pathlib.Path(sys.argv[1])))
-    with tempfile.TemporaryDirectory() as folder:
-        sys.exit(main(pathlib.Path(folder)))
+@pytest.fixture
+def at(windows: Windows) -> Iterator[Windows]:
+    """The windows, for one test. If it failed, pytest prints what was said."""
+    yield windows
+    with contextlib.suppress(WebDriverException, HTTPError, OSError):
+        windows.console += windows.log()
+    print(windows.gate.said()[-1500:], *windows.console, sep="\n")
+
+
+def calm(*desks: Desk) -> None:
+    """Waits for the ends of the animations, and takes the last words away, for a picture."""
+    for desk in desks:
+        until(lambda: desk.execute_script("return document.getAnimations().every((it) => it.playState === 'finished')"))
+        desk.execute_script("document.getElementById('toast').className = ''; document.activeElement.blur()")
+
+
+def contrast(one: str, two: str) -> float:
+    """As WCAG 2 counts it, of two colors `rgb(r, g, b)`."""
+    def light(color: str) -> float:
+        parts = [int(part) / 255 for part in color[color.index("(") + 1:-1].split(",")[:3]]
+        red, green, blue = (part / 12.92 if part <= 0.04045 else ((part + 0.055) / 1.055) ** 2.4 for part in parts)
+        return float(0.2126 * red + 0.7152 * green + 0.0722 * blue)
+    high, low = sorted((light(one), light(two)), reverse=True)
+    return (high + 0.05) / (low + 0.05)
+
+
+def test_tokens(at: Windows) -> None:
+    """A token that is guessed opens nothing, and one that is taken away closes the page that it had opened."""
+    door = Desk(at.driver, at.url, "guessed", (600, 500))
+    until(lambda: "opens no role" in door.css("#turned").text)
+
+    def enters() -> bool:
+        if door.css("#door").is_displayed():
+            door.type("#door input", "mia-demo" + Keys.ENTER)
+        return door.state() == "live" and door.css("#role").text == "mia"
+    until(enters)
+    at.gate.know(*(it for it in ROLES if it != "mia"))
+    until(lambda: door.css("#door").is_displayed() and "opens no role" in door.css("#turned").text)
+    at.gate.know(*ROLES)
+    until(enters)
+    door.press("#out", Keys.ENTER)
+    until(lambda: door.css("#door").is_displayed())
+
+
+def test_three_roles(at: Windows) -> None:
+    at.open_three()
+    until(lambda: len(at.admin.numbers()) == 12 and at.mia.numbers() == [101, 102, 109])
+    until(lambda: at.noah.numbers() == [103, 104, 107, 112] and at.noah.bars() == {"noah": 4})
+    until(lambda: at.admin.bars() == {"noah": 4, "mia": 2, "olga": 2, "jun": 1, "ravi": 1} and at.mia.bars() == {"mia": 2})
+    until(lambda: at.admin.css("#admin").is_displayed())
+    assert "token" not in at.mia.current_url and not at.mia.css("#admin").is_displayed()
+
+
+def test_writes(at: Windows) -> None:
+    at.mia.add("mia", "Wrong currency")
+    until(lambda: len(at.mia.numbers()) == 4 and len(at.admin.numbers()) == 13)
+    assert len(at.noah.numbers()) == 4
+    at.admin.add("noah", "Monitor stays black")
+    until(lambda: len(at.noah.numbers()) == 5 and at.noah.bars() == {"noah": 5} and len(at.mia.numbers()) == 4)
+    at.mia.add("noah", "for another")
+    until(lambda: "no permissive policy (14)" in at.mia.toast())
+
+
+def test_keyboard(at: Windows) -> None:
+    """A ticket is closed and opened by keys alone: the row is another one, and the keyboard stays on it."""
+    at.mia.press("[aria-label='Close ticket 101']", Keys.ENTER)
+    until(lambda: at.mia.tickets()[101][2] == at.admin.tickets()[101][2] == "closed" and at.admin.bars()["mia"] == 2)
+
+    def focused() -> Any:
+        return at.mia.execute_script("return document.activeElement.getAttribute('aria-label')")
+    until(lambda: focused() == "Reopen ticket 101")
+    at.mia.switch_to.active_element.send_keys(Keys.SPACE)
+    until(lambda: at.mia.tickets()[101][2] == "open" and focused() == "Close ticket 101")
+
+
+def test_policies(at: Windows) -> None:
+    mine = at.mia.numbers()
+    at.admin.policy("tickets", "cover", "select", "mia", "open = true")
+    openly = [number for number, row in at.admin.tickets().items() if row[2] == "open"]
+    until(lambda: at.mia.numbers() == sorted({*mine, *openly}) and at.mia.bars() == at.admin.bars())
+    until(lambda: "cover" in at.admin.css("#policies").text)
+    assert len(at.noah.numbers()) == 5
+    calm(at.mia, at.admin)
+    at.mia.picture(at.pictures / "desk_agent.png")
+    at.admin.picture(at.pictures / "desk_admin.png")
+    at.admin.click("[name=drop_cover]")
+    until(lambda: at.mia.numbers() == mine and at.mia.bars() == {"mia": 3})
+    at.admin.policy("tickets", "bad", "select", "mia", "opened = true")
+    until(lambda: "bad query (10), why unknown column, place 0" in at.admin.toast())
+    at.admin.click("[name=tickets_enable]")
+    until(lambda: len(at.mia.numbers()) == len(at.noah.numbers()) == len(at.admin.numbers()) == 14)
+    at.admin.click("[name=tickets_enable]")
+    until(lambda: at.mia.numbers() == mine and len(at.noah.numbers()) == 5)
+
+
+def test_dark_and_narrow(at: Windows) -> None:
+    """On a phone at night: no text on its own color, nothing wider than the window."""
+    device = {"width": 390, "height": 844, "deviceScaleFactor": 1, "mobile": True}
+    at.mia.execute_cdp_cmd("Emulation.setDeviceMetricsOverride", device)
+    at.mia.execute_cdp_cmd("Emulation.setEmulatedMedia", {"features": [{"name": "prefers-color-scheme", "value": "dark"}]})
+    until(lambda: at.mia.execute_script("return window.innerWidth === 390 && document.documentElement.scrollWidth <= window.innerWidth"))
+    until(lambda: at.mia.execute_script("return matchMedia('(prefers-color-scheme: dark)').matches"))
+    calm(at.mia)
+    colors = at.mia.execute_script("""return ['body', 'section', 'button', 'button.main', 'input.long', 'select', '.pill', '.pill.open', '.state'].map((at) => {
+        const node = document.querySelector('#desk ' + at) ?? document.querySelector(at), style = getComputedStyle(node);
+        let under = node;
+        while (getComputedStyle(under).backgroundColor === 'rgba(0, 0, 0, 0)') under = under.parentElement;
+        return [at, style.color, getComputedStyle(under).backgroundColor]})""")
+    for place, ink, back in colors:
+        assert contrast(ink, back) > 4.5, (place, ink, back)
+    at.mia.picture(at.pictures / "desk_phone.png")
+    at.mia.execute_cdp_cmd("Emulation.clearDeviceMetricsOverride", {})
+
+
+def test_revokes(at: Windows) -> None:
+    mine = at.mia.numbers()
+    at.admin.rights("revoke", "tickets", "noah", "select")
+    until(lambda: at.noah.numbers() == [] and at.noah.bars() == {} and "was taken back" in at.noah.css("#none").text)
+    assert at.mia.numbers() == mine
+    at.admin.rights("grant", "tickets", "noah", "select")
+    until(lambda: len(at.noah.numbers()) == 5 and at.noah.bars() == {"noah": 5} and not at.noah.css("#none").is_displayed())
+
+
+def test_members(at: Windows) -> None:
+    """A member has what its role has, in its window at once, and loses it when the membership ends."""
+    olga = Desk(at.driver, at.url, "olga-demo")
+    until(lambda: "You may not read tickets" in olga.css("#none").text and olga.numbers() == [])
+    at.admin.member("olga", "noah")
+    until(lambda: olga.numbers() == [105, 111] and olga.bars() == {"olga": 2} and not olga.css("#none").is_displayed())
+    until(lambda: "olga is a member of noah" in at.admin.css("#members").text)
+    at.admin.member("noah", "olga")
+    until(lambda: "membership loop (23)" in at.admin.toast())
+    at.admin.member("noah", "lena")  # who owns the table, so that its policies do not bind them
+    until(lambda: olga.numbers() == at.noah.numbers() == at.admin.numbers() and len(olga.numbers()) == 14)
+    at.admin.click("[name=end_noah_of_lena]")
+    until(lambda: olga.numbers() == [105, 111] and len(at.noah.numbers()) == 5)
+    at.admin.click("[name=end_olga_of_noah]")
+    until(lambda: olga.numbers() == [] and olga.bars() == {} and "was taken back" in olga.css("#none").text)
+    until(lambda: at.admin.css("#members").text == "" and len(at.noah.numbers()) == 5)
+    olga.close()
+
+
+def test_forged(at: Windows) -> None:
+    for session in range(1, 8):
+        got = at.mia.say({"do": "grant", "on": "tickets", "privileges": ["delete"], "to": "mia", "session": session})
+        assert got == {"error": 2, "key": "session", "why": "unknown"}, got
+    assert at.mia.say({"do": "grant", "on": "tickets", "privileges": ["delete"], "to": "mia"}) == {"error": 12, "on": "tickets"}
+    assert at.mia.say({"do": "begin", "role": "admin"}) == at.mia.say({"do": "finish"}) == {"error": 2, "key": "do", "why": "wrong"}
+
+
+def test_odd_rows(at: Windows) -> None:
+    subject = "<b>bold</b> & \"quotes\" \\ 12345678901234567890"
+    before = set(at.mia.numbers())
+    at.mia.add("mia", subject)
+    until(lambda: len(at.mia.numbers()) == len(before) + 1)
+    [added] = set(at.mia.numbers()) - before
+    until(lambda: at.mia.tickets()[added] == at.admin.tickets()[added] == ("mia", subject, "open"))
+    at.admin.execute_script("""window.viewd.db.request({do: 'write', entries: [9223372036854775807n, -9223372036854775808n].map(
+        (id) => ({on: 'tickets', insert: [id, 'mia', 'a long number', true], copies: 9007199254740993n}))})""")
+    until(lambda: {GREATEST, -GREATEST - 1} <= set(at.mia.numbers()))
+    assert at.mia.tickets()[GREATEST][1] == "a long number (×9007199254740993)"
+    at.admin.say({"do": "write", "entries": [{"on": "tickets", "insert": [77, "mia", "\u00001", True]}]})  # no text of viewd's, and no number
+    at.mia.press(f"[aria-label='Close ticket {GREATEST}']", Keys.ENTER)
+    until(lambda: at.admin.tickets()[GREATEST][2] == "closed")
+    assert 77 not in at.admin.tickets()
+
+
+def test_kills(at: Windows) -> None:
+    before = {desk: desk.tickets() for desk in (at.admin, at.mia, at.noah)}
+    rights = at.admin.rights_shown()
+    at.gate.kill()
+    until(lambda: all("not connected" in desk.state() or desk.state() == "connecting" for desk in before))
+    until(lambda: "not connected" in at.mia.state())
+    until(lambda: "stale" in at.mia.css("main").get_attribute("class"))
+    assert at.mia.tickets() == before[at.mia]
+    assert "not sent" in at.mia.say({"do": "subscribe", "on": "tickets"})["lost"]
+    at.gate.start()
+    until(lambda: all(desk.state() == "live" and desk.tickets() == rows for desk, rows in before.items()))
+    until(lambda: at.admin.rights_shown() == rights)
+    at.admin.add("mia", "After the crash")
+    until(lambda: "After the crash" in [row[1] for row in at.mia.tickets().values()])
+
+
+def test_no_errors(at: Windows) -> None:
+    wrong = [it for it in [*at.console, *at.log()] if it["level"] == "SEVERE" and "WebSocket" not in it["message"]]
+    assert not wrong, wrong

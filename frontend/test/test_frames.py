@@ -1,7 +1,4 @@
-#!/usr/bin/python3
 """The standard of WebSockets, case by case: each of `frames.toml` is sent whole, byte by byte and cut at random, and every byte that comes is compared.
-
-    frontend/test/test_frames.py [TEST ..]
 
 GATEWAY names another program than the one that is built."""
 import base64
@@ -11,12 +8,11 @@ import pathlib
 import random
 import re
 import socket
-import sys
 import time
 import tomllib
 from collections.abc import Iterator
 
-from trial import main, serving, test
+from trial import serving
 from wire import CLOSE, GUID, PATIENCE, PING, PONG, TEXT, Ended, Gateway, Wire, digest, in_time, masked
 
 TABLE = tomllib.loads(pathlib.Path(__file__).with_name("frames.toml").read_text())
@@ -89,7 +85,8 @@ class Talk:
     """A case at a connection that has come in: `text` and `others` are what came."""
 
     def __init__(self, case: Case, wire: Wire, pieces: Iterator[bytes]):
-        self.case, self.wire, self.pieces, self.text, self.others, self.over = case, wire, pieces, b"", [], False
+        self.case, self.wire, self.pieces, self.text, self.over = case, wire, pieces, b"", False
+        self.others: list[tuple[int, bytes]] = []
         wire.socket.setblocking(True)  # a socket with a time limit would wait for what is read
 
     def step(self) -> None:
@@ -116,12 +113,11 @@ class Talk:
 
     def check(self, cut: str) -> None:
         assert self.text in self.case.texts and (self.others, self.wire.input) == (self.case.others, b""), (
-            f"{self.case.name} ({cut})\n  told {self.text}, {self.others}, {self.wire.input}\n  wanted {self.case.texts}, {self.case.others}")
+            f"{self.case.name} ({cut})\n  told {self.text!r}, {self.others}, {self.wire.input!r}\n  wanted {self.case.texts}, {self.case.others}")
         self.wire.shut()
 
 
-@test
-def each_frame_is_answered_as_the_standard_says():
+def test_each_frame_is_answered_as_the_standard_says() -> None:
     cases = [Case(f"{group}.{name}", *case) for group, some in TABLE["frames"].items() for name, case in some.items()]
     tokens = [f"token {at}" for at in range(len(cases) // BY_TOKEN + 1)]
     gate = Gateway(start=False)
@@ -192,8 +188,7 @@ def answer_to(port: int, pieces: list[bytes]) -> tuple[bytes, bytes] | None:
         return (head, wire.input) if head else None
 
 
-@test
-def each_head_is_answered_as_the_standard_says():
+def test_each_head_is_answered_as_the_standard_says() -> None:
     dice = random.Random(10)
     with serving() as (gate, _):
         for name, (sentence, status, *changes) in TABLE["heads"].items():
@@ -214,7 +209,3 @@ def each_head_is_answered_as_the_standard_says():
                 if status == 426:
                     assert (fields[b"sec-websocket-version"], fields[b"upgrade"]) == (b"13", b"websocket"), told
         print(f"  {len(TABLE['heads'])} heads, each in {len(CUTS)} cuts", flush=True)
-
-
-if __name__ == "__main__":
-    sys.exit(main())

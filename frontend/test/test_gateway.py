@@ -1,8 +1,4 @@
-#!/usr/bin/python3
-"""One gateway of a stream alone: nobody acts for another, what is acknowledged is in the stream, the slow stall nobody.
-
-    frontend/test/test_gateway.py [TEST ..]
-"""
+"""One gateway of a stream alone: nobody acts for another, what is acknowledged is in the stream, the slow stall nobody."""
 import asyncio
 import base64
 import contextlib
@@ -10,34 +6,27 @@ import json
 import os
 import re
 import socket
-import sys
-import threading
 import time
 import urllib.error
+from collections.abc import AsyncIterator
+from typing import Any
 
 import aiohttp
+import pytest
 import yarl
-
-from explain import explain
-from gate import PATIENCE, ROLES, TOP, VIEWD, Gate, Peer, enter, eventually, leave, quiet, soon, tokens
-from party import LEASE
-from ports import free_port
-from store import Store
 
 import client
 import engine
 import gateway
 import journal
 import stream
+from gate import PATIENCE, ROLES, TOP, VIEWD, Gate, Peer, enter, eventually, leave, quiet, soon, tokens
+from party import LEASE
+from ports import free_port
+from store import Store
 
-TESTS = []
 TICKETS = [["id", "int"], ["agent", "text"], ["subject", "text"], ["open", "flag"]]
 WORKLOAD = [["hours", "text"], ["agent", "text"], ["waiting", "int"]]
-
-
-def test(check):
-    TESTS.append(check)
-    return check
 
 
 async def forget(*peers: Peer) -> None:
@@ -48,7 +37,7 @@ async def forget(*peers: Peer) -> None:
 
 
 @contextlib.asynccontextmanager
-async def inside(gate: Gate):
+async def inside(gate: Gate) -> AsyncIterator[engine.Engine]:
     """The gateway in this process, for a test that looks into it."""
     given = stream.Stream(gate.journal, True, LEASE, TOP / "desk.jsonl")
     runs = engine.Engine(VIEWD, given)
@@ -83,8 +72,7 @@ class Raw:
         self.socket.sendall(bytes([kind, 0x80 | len(data)]) + mask + bytes(b ^ mask[i % 4] for i, b in enumerate(data)))
 
 
-@test
-async def tokens_give_the_role(gate: Gate, http: aiohttp.ClientSession):
+async def test_tokens_give_the_role(gate: Gate, http: aiohttp.ClientSession) -> None:
     assert "demo" not in gate.tokens.read_text()
     forged = {"no token of the file": "nobody", "an empty one": "", "a role's name": "mia", "a hash as the file has it": gate.tokens.read_text().split()[1]}
     for name, token in forged.items():
@@ -118,8 +106,7 @@ async def tokens_give_the_role(gate: Gate, http: aiohttp.ClientSession):
     assert status == 1 and "an end" in said, said
 
 
-@test
-async def columns_are_told(gate: Gate, http: aiohttp.ClientSession):
+async def test_columns_are_told(gate: Gate, http: aiohttp.ClientSession) -> None:
     """Each query of the protocol gives the columns that stand there, also behind a restart."""
     [admin] = await enter(http, gate, "admin")
     for name, columns in [("a", "k int, x int"), ("b", "k int, y int"), ("notes", "id int, who text")]:
@@ -142,8 +129,7 @@ async def columns_are_told(gate: Gate, http: aiohttp.ClientSession):
             await admin.ask(do="unsubscribe", sub=reply["sub"])
 
 
-@test
-async def files_of_pages(gate: Gate, http: aiohttp.ClientSession):
+async def test_files_of_pages(gate: Gate, http: aiohttp.ClientSession) -> None:
     """A folder of pages and those below it, but nothing that a link leads to, and nothing hidden."""
     folder = gate.here / "pages"
     (folder / "below").mkdir(parents=True)
@@ -158,22 +144,18 @@ async def files_of_pages(gate: Gate, http: aiohttp.ClientSession):
             assert answer.status == status and (status == 404 or path == "readyz" or await answer.text() == path), path
 
 
-@test
-async def all_are_told_that_it_is_there(gate: Gate, http: aiohttp.ClientSession):
+async def test_all_are_told_that_it_is_there(idle: Gate, http: aiohttp.ClientSession, monkeypatch: pytest.MonkeyPatch) -> None:
     """Each 20 seconds, and here sooner; not before the role."""
-    before, gateway.ALIVE = gateway.ALIVE, 0.01
-    try:
-        async with inside(gate), http.ws_connect(gate.url + "live") as ws:
-            await ws.send_str("mia-demo")
-            lines = []
-            while lines.count('{"alive":true}') < 2:
-                lines += (await ws.receive_str(timeout=PATIENCE)).split("\n")
-    finally:
-        gateway.ALIVE = before
+    monkeypatch.setattr(gateway, "ALIVE", 0.01)
+    lines: list[str] = []
+    async with inside(idle), http.ws_connect(idle.url + "live") as ws:
+        await ws.send_str("mia-demo")
+        while lines.count('{"alive":true}') < 2:
+            lines += (await ws.receive_str(timeout=PATIENCE)).split("\n")
     assert lines == ['{"role":"mia"}', '{"settled":true}', '{"alive":true}', '{"alive":true}'], lines
 
 
-NO_REQUESTS = {
+NO_REQUESTS: dict[str, dict[str, Any]] = {
     "the end of the session": {"do": "finish"}, "another session": {"do": "begin", "role": "admin"},
     "another session by its number": {"do": "begin", "role": "admin", "session": 99},
     "a write as another role": {"do": "write", "role": "admin", "entries": [{"on": "tickets", "insert": [1, "noah", "x", True]}]},
@@ -188,8 +170,7 @@ NO_LINES = {  # each with its refusal
     "a newline between keys": ('{"do":"subscribe",\n"on":"nothing"}', 7)}
 
 
-@test
-async def nobody_acts_for_another(gate: Gate, http: aiohttp.ClientSession):
+async def test_nobody_acts_for_another(gate: Gate, http: aiohttp.ClientSession) -> None:
     admin, mia, noah = await enter(http, gate, "admin", "mia", "noah")
     for peer in (admin, mia, noah):
         assert await peer.ask(do="subscribe", on="tickets") == {"columns": TICKETS, "ok": True, "sub": 1}  # each counts its own
@@ -220,8 +201,7 @@ async def nobody_acts_for_another(gate: Gate, http: aiohttp.ClientSession):
     await leave(admin, mia, noah)
 
 
-@test
-async def no_line_is_too_long(gate: Gate, http: aiohttp.ClientSession):
+async def test_no_line_is_too_long(gate: Gate, store: Store, http: aiohttp.ClientSession) -> None:
     """What passes fits a line in any session and with any role; viewd, which ends behind a longer line, never sees one."""
     role = "r" * 63
     gate.tokens.write_text(tokens((*ROLES, role)))
@@ -231,7 +211,7 @@ async def no_line_is_too_long(gate: Gate, http: aiohttp.ClientSession):
     peer, = await enter(http, gate, role)
     viewd = gate.state()["viewd"]
     for letter in ("a", "ä"):  # one byte, and two
-        entries = [{"on": "wide", "insert": [""]} for _ in range(300)]
+        entries: list[dict[str, Any]] = [{"on": "wide", "insert": [""]} for _ in range(300)]
         room = journal.BODY - len(journal.to_text({"do": "write", "entries": entries}).decode()) + 2
         for entry in entries:
             took = min(room // len(letter.encode()), 500)
@@ -241,7 +221,7 @@ async def no_line_is_too_long(gate: Gate, http: aiohttp.ClientSession):
         assert len(journal.to_text({"do": "write", "entries": entries})) - 2 == journal.BODY
         got = await peer.ask(do="write", entries=entries)
         assert got == {"ok": True}, got
-        line = gate.store.lines()[-1][b"line"]
+        line = store.lines()[-1][b"line"]
         assert line.startswith(b'{"as":"rrr') and len(line) == 65_536, len(line)
         entries[-1]["insert"][0] += "a"
         assert await peer.ask(do="write", entries=entries, id=5) == {"error": 22, "id": 5}
@@ -252,8 +232,7 @@ async def no_line_is_too_long(gate: Gate, http: aiohttp.ClientSession):
     await admin.leave()
 
 
-@test
-async def lines_have_marks(gate: Gate, http: aiohttp.ClientSession):
+async def test_lines_have_marks(gate: Gate, http: aiohttp.ClientSession) -> None:
     """`id` is given back, `settled` stands behind the last line of a request, and an end tells its relation."""
     admin, lena, mia = await enter(http, gate, "admin", "lena", "mia")
     for name in (1, "a\"ä", -5, 1 << 70):
@@ -294,8 +273,7 @@ async def lines_have_marks(gate: Gate, http: aiohttp.ClientSession):
     await leave(admin, lena, mia)
 
 
-@test
-async def administrators_see_the_shape(gate: Gate, http: aiohttp.ClientSession):
+async def test_administrators_see_the_shape(gate: Gate, http: aiohttp.ClientSession) -> None:
     """They are told each request that made it, all so far at the entry, by the role that made it; nobody else is."""
     def shape(peer: Peer) -> journal.Shape:
         shape = journal.Shape()
@@ -308,13 +286,15 @@ async def administrators_see_the_shape(gate: Gate, http: aiohttp.ClientSession):
     assert [line for line in admin.lines if "made" in line] == told and shape(admin).roles == list(ROLES)
     assert shape(admin).grants["tickets"] == {"lena": ["select", "insert", "update", "delete"], "mia": ["select", "insert", "update"],
                                               "noah": ["select", "insert", "update"]}
-    for request in ({"do": "revoke", "on": "tickets", "privileges": ["insert", "delete"], "to": "mia"},
-                    {"do": "revoke", "on": "tickets", "privileges": ["select", "insert", "update"], "to": "noah"},
-                    {"do": "revoke", "on": "tickets", "privileges": ["select", "insert", "update", "delete"], "to": "lena"},
-                    {"do": "grant", "on": "tickets", "privileges": ["update", "insert"], "to": "public"},
-                    {"do": "row_security", "on": "tickets", "enable": False, "force": True},
-                    {"do": "create_policy", "on": "tickets", "name": "second", "using": "true", "to": ["mia"]},
-                    {"do": "drop_policy", "on": "tickets", "name": "own"}):
+    changes: list[dict[str, Any]] = [
+        {"do": "revoke", "on": "tickets", "privileges": ["insert", "delete"], "to": "mia"},
+        {"do": "revoke", "on": "tickets", "privileges": ["select", "insert", "update"], "to": "noah"},
+        {"do": "revoke", "on": "tickets", "privileges": ["select", "insert", "update", "delete"], "to": "lena"},
+        {"do": "grant", "on": "tickets", "privileges": ["update", "insert"], "to": "public"},
+        {"do": "row_security", "on": "tickets", "enable": False, "force": True},
+        {"do": "create_policy", "on": "tickets", "name": "second", "using": "true", "to": ["mia"]},
+        {"do": "drop_policy", "on": "tickets", "name": "own"}]
+    for request in changes:
         assert await lena.ask(**request) == {"ok": True}
         told.append({"as": "lena", "made": request})
         await quiet(other)
@@ -333,8 +313,7 @@ async def administrators_see_the_shape(gate: Gate, http: aiohttp.ClientSession):
     await admin.leave()
 
 
-@test
-async def places_are_given_back(gate: Gate, http: aiohttp.ClientSession):
+async def test_places_are_given_back(gate: Gate, http: aiohttp.ClientSession) -> None:
     """240 at once, the next is turned away, and a place that is left is taken again, with nothing of who had it."""
     peers = []
     for _ in range(8):  # not all at once: who is slow to send a token is turned away
@@ -353,41 +332,37 @@ async def places_are_given_back(gate: Gate, http: aiohttp.ClientSession):
     await asyncio.to_thread(eventually, lambda: gate.state()["sessions"] == 0)
 
 
-@test
-async def in_the_stream_before_it_is_told(gate: Gate, http: aiohttp.ClientSession):
+async def test_in_the_stream_before_it_is_told(idle: Gate, http: aiohttp.ClientSession, monkeypatch: pytest.MonkeyPatch) -> None:
     """In this process, with an append that takes its time: nothing goes out between viewd's answer and the end of the append."""
     order: list[str] = []
-    commit, send = stream.Stream.commit, engine.Client.send
+    commit, send = stream.Stream.commit, client.Client.send
 
-    async def slow_commit(*words):
+    async def slow_commit(*words: Any) -> None:
         order.append("append")
         await asyncio.sleep(0.3)
         await commit(*words)
         order.append("appended")
 
-    def noted_send(client, message):
+    def noted_send(to: client.Client, message: bytes) -> bool:
         order.extend(key for key in ("ok", "changes") if f'"{key}":'.encode() in message)
-        return send(client, message)
-    stream.Stream.commit, engine.Client.send = slow_commit, noted_send
-    try:
-        async with inside(gate):
-            lena, mia = await enter(http, gate, "lena", "mia")
-            await mia.ask(do="subscribe", on="tickets")
-            for number in range(5):
-                order.clear()
-                assert (await lena.insert(number, "mia"))["ok"]
-                await soon(lambda: order.count("changes") == 1)
-                assert order[:2] == ["append", "appended"] and sorted(order[2:]) == ["changes", "ok"], order
-                order.clear()
-                assert "error" in await mia.insert(number, "noah")
-                assert not order, order  # what was refused is not waited for
-            await leave(lena, mia)
-    finally:
-        stream.Stream.commit, engine.Client.send = commit, send
+        return send(to, message)
+    monkeypatch.setattr(stream.Stream, "commit", slow_commit)
+    monkeypatch.setattr(client.Client, "send", noted_send)
+    async with inside(idle):
+        lena, mia = await enter(http, idle, "lena", "mia")
+        await mia.ask(do="subscribe", on="tickets")
+        for number in range(5):
+            order.clear()
+            assert (await lena.insert(number, "mia"))["ok"]
+            await soon(lambda: order.count("changes") == 1)
+            assert order[:2] == ["append", "appended"] and sorted(order[2:]) == ["changes", "ok"], order
+            order.clear()
+            assert "error" in await mia.insert(number, "noah")
+            assert not order, order  # what was refused is not waited for
+        await leave(lena, mia)
 
 
-@test
-async def an_end_is_told_again(gate: Gate, http: aiohttp.ClientSession):
+async def test_an_end_is_told_again() -> None:
     """A task that takes its end for something else is ended all the same: a gateway whose viewd died would wait for it for ever."""
     async def deaf() -> None:
         with contextlib.suppress(asyncio.CancelledError):
@@ -399,11 +374,10 @@ async def an_end_is_told_again(gate: Gate, http: aiohttp.ClientSession):
     assert all(task.cancelled() for task in tasks)
 
 
-@test
-async def rows_are_limited(gate: Gate, http: aiohttp.ClientSession):
+async def test_rows_are_limited(gate: Gate, store: Store, http: aiohttp.ClientSession) -> None:
     """The gateway hands the row limit on to viewd."""
     gate.kill_gateway()
-    gate.store.client.delete("desk:lease")
+    store.client.delete("desk:lease")
     gate.words += ["--rows", "1024"]
     await asyncio.to_thread(gate.start)
     lena, = await enter(http, gate, "lena")
@@ -415,8 +389,7 @@ async def rows_are_limited(gate: Gate, http: aiohttp.ClientSession):
     await lena.leave()
 
 
-@test
-async def who_does_not_read_is_dropped(gate: Gate, http: aiohttp.ClientSession):
+async def test_who_does_not_read_is_dropped(gate: Gate, http: aiohttp.ClientSession) -> None:
     """A browser that does not read is dropped at a stated number of bytes; the others get their lines meanwhile."""
     slow = await asyncio.to_thread(Raw, gate, "admin-demo")
     for _ in range(16):  # so each line comes to it 16 times
@@ -435,15 +408,14 @@ async def who_does_not_read_is_dropped(gate: Gate, http: aiohttp.ClientSession):
             with contextlib.suppress(OSError):
                 slow.message("", 0x8A)  # a pong: it lives, whether or not it reads
             written += 16 * 60 * 1000
-    waited = int(re.search(r"does not read: dropped at (\d+) bytes", gate.said())[1])
-    assert engine.BACKLOG < waited < engine.BACKLOG + 3_000_000 and written > waited, gate.said()
+    [waited] = map(int, re.findall(r"does not read: dropped at (\d+) bytes", gate.said()))
+    assert client.BACKLOG < waited < client.BACKLOG + 3_000_000 and written > waited, gate.said()
     print(f"    dropped after {written / 1e6:.1f} MB, {time.monotonic() - began:.1f} s; the other reader had every line")
     slow.socket.close()
     await leave(admin, lena)
 
 
-@test
-async def a_long_answer_drops_nobody(gate: Gate, http: aiohttp.ClientSession):
+async def test_a_long_answer_drops_nobody(gate: Gate, http: aiohttp.ClientSession) -> None:
     """What a browser asked for may be longer than the backlog: it is sent, and lines behind it are."""
     lena, = await enter(http, gate, "lena")
     rows = [[i, "noah", "s" * 1000, True] for i in range(60 * 110)]
@@ -473,20 +445,17 @@ async def a_long_answer_drops_nobody(gate: Gate, http: aiohttp.ClientSession):
     await lena.leave()
 
 
-@test
-async def a_slow_line_is_no_silence(gate: Gate, http: aiohttp.ClientSession):
+async def test_a_slow_line_is_no_silence(idle: Gate, http: aiohttp.ClientSession, monkeypatch: pytest.MonkeyPatch) -> None:
     """Who takes a long answer slowly stays, though pings stand behind it; who takes nothing and answers nothing does not. On a host
     so slow that others do not answer in time, the clocks go more slowly."""
-    times = gateway.PING, gateway.PONG
     for slow in (1, 4, 16):
-        gateway.PING, gateway.PONG = 0.2 * slow, 1.5 * slow
+        monkeypatch.setattr(gateway, "PING", 0.2 * slow)
+        monkeypatch.setattr(gateway, "PONG", 1.5 * slow)
         try:
-            return await the_silent_alone_are_dropped(gate, http, slow)
+            return await the_silent_alone_are_dropped(idle, http, slow)
         except (AssertionError, OSError, ValueError):
             if slow == 16:
                 raise
-        finally:
-            gateway.PING, gateway.PONG = times
 
 
 async def the_silent_alone_are_dropped(gate: Gate, http: aiohttp.ClientSession, slow: int) -> None:
@@ -516,40 +485,3 @@ async def the_silent_alone_are_dropped(gate: Gate, http: aiohttp.ClientSession, 
         for raw in (silent, late):
             raw.socket.close()
         await leave(lena, mia)
-
-
-INSIDE = {"all_are_told_that_it_is_there", "in_the_stream_before_it_is_told", "an_end_is_told_again", "a_slow_line_is_no_silence"}  # without one that runs
-
-
-async def run(check) -> None:
-    store = await asyncio.to_thread(Store)
-    try:
-        gate = Gate(store.url, ("--seed", TOP / "desk.jsonl", "--lease", str(LEASE)), start=False)
-        gate.store = store
-        if check.__name__ not in INSIDE:
-            gate.start()
-            eventually(lambda: gate.state().get("writes"))
-        async with aiohttp.ClientSession(connector=aiohttp.TCPConnector(limit=0)) as http:
-            await asyncio.wait_for(check(gate, http), 5 * PATIENCE)
-    except BaseException:
-        print(*[f"--- {it.url}\n{it.said()[-1500:]}" for it in Gate.running], sep="\n")
-        raise
-    finally:
-        for gate in list(Gate.running):
-            gate.end()
-        store.end()
-
-
-def main(names: list[str]) -> None:
-    for check in [it for it in TESTS if not names or it.__name__ in names]:
-        began = time.monotonic()
-        try:
-            asyncio.run(run(check))
-        except Exception as why:
-            print(f"FAILED  {check.__name__}  {time.monotonic() - began:.1f} s\n{explain(why)}", flush=True)
-            sys.exit(1)
-        print(f"ok  {check.__name__}  {time.monotonic() - began:.1f} s", flush=True)
-
-
-if __name__ == "__main__":
-    main(sys.argv[1:])

@@ -12,9 +12,14 @@ import pathlib
 import re
 import subprocess
 import sys
+from collections.abc import Iterable
+from typing import Any
 
-from trial import main, serving, test, total, until
-from wire import PATIENCE, PROGRAM, TOP, Gateway, free_port, http
+import pytest
+
+from ports import free_port
+from trial import Rows, serving, total, until
+from wire import PATIENCE, PROGRAM, TOP, Gateway, Line, http
 
 sys.path.insert(0, str(TOP / "frontend"))
 
@@ -31,12 +36,14 @@ class Peer:
     """A client: `ask` gives the reply to a request once all that it brought is here, `rows` adds up what came for each number."""
 
     def __init__(self, gate: Gateway, role: str):
-        self.wire, self.rows, self.heard, self.count = gate.enter(role), collections.defaultdict(collections.Counter), [], 0
+        self.wire, self.count = gate.enter(role), 0
+        self.rows: dict[int, Rows] = collections.defaultdict(collections.Counter)
+        self.heard: list[Line] = []
         self.shape = Shape()
         for it in map(json.loads, self.wire.shape):
             self.hear(it)
 
-    def hear(self, it: dict) -> None:
+    def hear(self, it: Line) -> None:
         """Takes in a line that is no reply."""
         self.heard.append(it)
         if "made" in it:
@@ -47,11 +54,11 @@ class Peer:
             if not rows[tuple(row)]:
                 del rows[tuple(row)]
 
-    def ask(self, **request) -> dict:
+    def ask(self, **request: Any) -> Line:
         self.count += 1
         self.wire.say({"id": self.count, **request})
         while True:
-            first, *lines = map(json.loads, self.wire.event())
+            first, *lines = [self.line(it) for it in self.wire.event()]
             is_reply = first.get("id") == self.count
             for it in lines if is_reply else [first, *lines]:
                 self.hear(it)
@@ -59,12 +66,17 @@ class Peer:
                 del first["id"]
                 return first
 
-    def told(self, key: str) -> list:
+    @staticmethod
+    def line(text: str) -> Line:
+        line: Line = json.loads(text)
+        return line
+
+    def told(self, key: str) -> list[Any]:
         """The values of a key in all lines that came so far, whoever asked: they come in one order."""
         self.ask(do="unsubscribe", sub=1 << 60)
         return [it[key] for it in self.heard if key in it]
 
-    def see(self, on: str) -> collections.Counter | dict:
+    def see(self, on: str) -> dict[Any, Any]:
         """The rows of a relation now, or the refusal."""
         reply = self.ask(do="subscribe", on=on)
         if "error" in reply:
@@ -72,15 +84,15 @@ class Peer:
         self.ask(do="unsubscribe", sub=reply["sub"])
         return self.rows.pop(reply["sub"], collections.Counter())
 
-    def insert(self, number: int, agent: str, subject: str = "x") -> dict:
+    def insert(self, number: int, agent: str, subject: str = "x") -> Line:
         return self.ask(do="write", entries=[{"on": "tickets", "insert": [number, agent, subject, True]}])
 
 
-def numbers(rows) -> set:
+def numbers(rows: Iterable[Any]) -> set[int]:
     return {row[0] for row in rows}
 
 
-def desk(**how) -> Gateway:
+def desk(**how: Any) -> Gateway:
     """A gateway of the support desk."""
     return Gateway(roles=how.pop("roles", ROLES), journal=DESK.read_bytes(), **how)
 
@@ -89,7 +101,7 @@ def enter(gate: Gateway, *roles: str) -> list[Peer]:
     return [Peer(gate, role) for role in roles]
 
 
-def seen(gate: Gateway, *more: str) -> list:
+def seen(gate: Gateway, *more: str) -> list[Any]:
     """What each role sees of each relation, and the shape."""
     peers = enter(gate, *ROLES)
     found = [peer.see(on) for peer in peers for on in ("tickets", "agents", "teams", "workload", *more)]
@@ -99,49 +111,58 @@ def seen(gate: Gateway, *more: str) -> list:
     return [*found, shape]
 
 
-def compacted(gate: Gateway, *words: str) -> subprocess.CompletedProcess:
+def compacted(gate: Gateway, *words: str) -> subprocess.CompletedProcess[str]:
     return subprocess.run([TOP / "frontend/compact.py", *words, gate.journal, VIEWD], stdin=subprocess.DEVNULL, capture_output=True, text=True, timeout=PATIENCE)
+
+
+needs_viewd = pytest.mark.skipif(not VIEWD.is_file(), reason=f"the compactions did not run, since {VIEWD} is not built")
 
 
 def has_viewd() -> bool:
     if VIEWD.is_file():
         return True
-    print(f"program: the compactions did not run, since {VIEWD} is not built")
+    print(f"the compactions did not run, since {VIEWD} is not built")
     return False
 
 
-@test
-def a_client_acts_for_itself_alone():
+SESSIONS: dict[str, Any] = {f"the session {n}": n for n in (*range(0, 6), 257)} | {"a text": "1", "null": None, "a list": [1]}
+KEYS = {"the session": "session", "the session by its escapes": "sess\\u0069on", "who acts": "as", "a role": "role"}
+NO_REQUESTS: dict[str, Any] = {"another session": "begin", "the end of the session": "finish", "an unknown request": "serve", "null": None, "a list": ["write"]}
+FORGED_LINES = {  # texts that end where a line has its session, or begin another
+    "a session": '"session":3}', "a session and a number": '","session":3,"sub":1}', "the same with a backslash": '\\","session":3,"sub":3}',
+    "another reply": '"session":3}\n{"ok":true,"session":3}', "what splits lines elsewhere": "\u2028\u0001{\"changes\":3", "an entry": '{"settled":true}\n{"role":"admin"}'}
+
+
+def test_a_client_acts_for_itself_alone() -> None:
     gate = desk()
     admin, mia, noah = enter(gate, "admin", "mia", "noah")
     for peer in (admin, mia, noah):
         assert peer.ask(do="subscribe", on="tickets") == {"columns": TICKETS, "ok": True, "sub": 1}  # each counts its own
     ticket = {"on": "tickets", "insert": [1, "noah", "x", True]}
-    for forged in (*range(0, 6), 257, "1", None, [1]):
-        for request in ({"do": "grant", "on": "tickets", "privileges": ["delete"], "to": "mia"}, {"do": "write", "entries": [ticket]}):
-            assert mia.ask(**request, session=forged) == {"error": 2, "key": "session", "why": "unknown"}, forged
+    for name, forged in SESSIONS.items():
+        requests: list[Line] = [{"do": "grant", "on": "tickets", "privileges": ["delete"], "to": "mia"}, {"do": "write", "entries": [ticket]}]
+        for request in requests:
+            assert mia.ask(**request, session=forged) == {"error": 2, "key": "session", "why": "unknown"}, name
     assert mia.ask(do="grant", on="tickets", privileges=["delete"], to="mia") == {"error": 12, "on": "tickets"}
     assert mia.ask(do="write", entries=[ticket]) == {"check": "insert", "entry": 1, "error": 14, "on": "tickets"}
     assert mia.ask(do="create_role", name="x") == {"error": 11}
-    for key in ("session", "sess\\u0069on", "as", "role"):  # twice, and by its escapes
+    for name, key in KEYS.items():  # twice
         [answer] = mia.wire.ask('{"do":"create_role","name":"x","%s":"admin","%s":1}' % (key, key))
-        assert answer.startswith('{"error":') and "ok" not in answer, answer
+        assert answer.startswith('{"error":') and "ok" not in answer, (name, answer)
     assert mia.ask(do="unsubscribe", sub=2) == {"error": 19}  # noah's has a number of his own
-    for do in ("begin", "finish", "serve", None, ["write"]):
-        assert mia.ask(do=do, role="admin") == {"error": 2, "key": "do", "why": "wrong"}, do
+    for name, do in NO_REQUESTS.items():
+        assert mia.ask(do=do, role="admin") == {"error": 2, "key": "do", "why": "wrong"}, name
     assert mia.insert(7, "mia") == {"ok": True}
-    for text in ('"session":3}', '","session":3,"sub":1}', '\\","session":3,"sub":3}', '"session":3}\n{"ok":true,"session":3}', "\u2028\u0001{\"changes\":3",
-                 '{"settled":true}\n{"role":"admin"}'):
+    for name, text in FORGED_LINES.items():
         assert mia.insert(8, "mia", text) == {"ok": True}
         for peer in (admin, noah):
             peer.told("changes")
         row = (8, "mia", text, True)
-        assert row in admin.rows[1] and row in mia.rows[1] and len(noah.rows[1]) == 4, row
+        assert row in admin.rows[1] and row in mia.rows[1] and len(noah.rows[1]) == 4, name
     gate.end()
 
 
-@test
-def columns_are_those_of_the_query():
+def test_columns_are_those_of_the_query() -> None:
     """Each query of the protocol gives the columns that stand there, also behind a restart."""
     with serving([]) as (gate, _):
         [admin] = enter(gate, "admin")
@@ -166,18 +187,20 @@ def columns_are_those_of_the_query():
                 admin.ask(do="unsubscribe", sub=reply["sub"])
 
 
-@test
-def the_longest_message_is_an_entry():
+def test_the_longest_message_is_an_entry() -> None:
     """What is as long as a message may be fits a line of the journal with the longest role; one byte more is refused, and its client goes on."""
     role = "r" * 63
     gate = Gateway(roles=("admin", role))
     [admin] = enter(gate, "admin")
-    for request in ({"do": "create_role", "name": role}, {"do": "create_table", "name": "wide", "owner": role, "columns": [["t", "text"]]}):
+    requests: list[Line] = [{"do": "create_role", "name": role}, {"do": "create_table", "name": "wide", "owner": role, "columns": [["t", "text"]]}]
+    for request in requests:
         assert admin.ask(**request) == {"ok": True}
     wire = gate.enter(role)
     for letter in ("a", "ä"):  # one byte, and two
-        entries = [{"on": "wide", "insert": [""]} for _ in range(300)]
-        message = lambda: json.dumps({"do": "write", "entries": entries}, separators=(",", ":"), ensure_ascii=False)
+        entries: list[Line] = [{"on": "wide", "insert": [""]} for _ in range(300)]
+
+        def message() -> str:
+            return json.dumps({"do": "write", "entries": entries}, separators=(",", ":"), ensure_ascii=False)
         room = MOST - len(message())
         for entry in entries:
             took = min(room // len(letter.encode()), 500)
@@ -195,34 +218,33 @@ def the_longest_message_is_an_entry():
     gate.end()
 
 
-@test
-def damage_in_the_middle_is_told():
+def test_damage_in_the_middle_is_told() -> None:
     whole = DESK.read_bytes()
     lines = whole.splitlines(keepends=True)
     at = len(b"".join(lines[:5]))
     rest = b"".join(lines[5:])
 
-    def is_refused(data: bytes, line: int) -> None:
+    def is_refused(what: str, data: bytes, line: int) -> None:
         gate = Gateway(roles=ROLES, journal=data, start=False)
-        assert gate.launch().wait(PATIENCE) == 1
-        assert f"damaged: {gate.journal}: line {line}, at byte {len(b''.join(data.splitlines(keepends=True)[:line - 1]))}," in gate.said(), gate.said()
+        assert gate.launch().wait(PATIENCE) == 1, what
+        assert f"damaged: {gate.journal}: line {line}, at byte {len(b''.join(data.splitlines(keepends=True)[:line - 1]))}," in gate.said(), (what, gate.said())
         assert gate.journal.read_bytes() == data  # left as it is, for whoever mends it
         gate.end()
-    for middle in (b"garbage\n", b"\0" * 100 + b"\n", b"[]\n", b"{}\n", lines[3][:30] + b"\n", b'{"as":1}\n', b'{"as":"admin","do":"create_role","name":"' + b"x" * 70_000 + b'"}\n'):
-        is_refused(whole[:at] + middle + rest, 6)
-    is_refused(b"".join(lines[:5] + lines[6:]), 7)  # one line is gone, on which the next but one rests
-    is_refused(b"".join(lines[4:]), 1)  # the roles are
+    middles = {"a word": b"garbage\n", "zeros": b"\0" * 100 + b"\n", "a list": b"[]\n", "no key": b"{}\n", "half of a line": lines[3][:30] + b"\n",
+               "a number that acts": b'{"as":1}\n', "a line that is too long": b'{"as":"admin","do":"create_role","name":"' + b"x" * 70_000 + b'"}\n'}
+    for what, middle in middles.items():
+        is_refused(what, whole[:at] + middle + rest, 6)
+    is_refused("a line is gone, on which the next but one rests", b"".join(lines[:5] + lines[6:]), 7)
+    is_refused("the roles are gone", b"".join(lines[4:]), 1)
     for cut in (1, len(lines[-1]) - 1):
         gate = Gateway(roles=ROLES, journal=whole[:-cut])
         assert gate.lines() == b"".join(lines[:-1])
         gate.end()
 
 
-@test
-def a_compaction_keeps_the_state():
+@needs_viewd
+def test_a_compaction_keeps_the_state() -> None:
     """A journal that was written anew leads to what each role saw, by fewer lines."""
-    if not has_viewd():
-        return
     gate = desk()
     admin, lena = enter(gate, "admin", "lena")
     admin.ask(do="create_table", name="empty", owner="mia", columns=[["n", "int"]])
@@ -232,12 +254,14 @@ def a_compaction_keeps_the_state():
         assert lena.ask(do="write", entries=[{"on": "tickets", "insert": row, "copies": 1 + number % 5}]) == {"ok": True}
         if number % 3:
             assert lena.ask(do="write", entries=[{"on": "tickets", "delete": row}]) == {"ok": True}
-    for request in ({"do": "revoke", "on": "agents", "privileges": ["select"], "to": "public"},
-                    {"do": "grant", "on": "agents", "privileges": ["select"], "to": "mia"},
-                    {"do": "revoke", "on": "teams", "privileges": ["delete", "select"], "to": "lena"},
-                    {"do": "create_policy", "on": "tickets", "name": "cover", "command": "select", "to": ["mia"], "using": "open = true"},
-                    {"do": "create_policy", "on": "tickets", "name": "gone", "using": "true"},
-                    {"do": "drop_policy", "on": "tickets", "name": "gone"}):
+    requests: list[Line] = [
+        {"do": "revoke", "on": "agents", "privileges": ["select"], "to": "public"},
+        {"do": "grant", "on": "agents", "privileges": ["select"], "to": "mia"},
+        {"do": "revoke", "on": "teams", "privileges": ["delete", "select"], "to": "lena"},
+        {"do": "create_policy", "on": "tickets", "name": "cover", "command": "select", "to": ["mia"], "using": "open = true"},
+        {"do": "create_policy", "on": "tickets", "name": "gone", "using": "true"},
+        {"do": "drop_policy", "on": "tickets", "name": "gone"}]
+    for request in requests:
         assert lena.ask(**request) == {"ok": True}
     before = seen(gate, "empty")
     busy = compacted(gate)
@@ -260,8 +284,7 @@ def a_compaction_keeps_the_state():
     gate.end()
 
 
-@test
-def a_journal_has_a_row_limit():
+def test_a_journal_has_a_row_limit() -> None:
     """`--rows` is the limit, and a compaction takes the same; under less than it was written with, a journal leads nowhere."""
     def fill(lena: Peer, first: int, last: int) -> None:
         for at in range(first, last, 500):
@@ -292,8 +315,7 @@ def a_journal_has_a_row_limit():
     gate.end()
 
 
-@test
-def memberships_are_kept():
+def test_memberships_are_kept() -> None:
     """What a role holds, its members see, and are told that they may; over restarts and a compaction, until it is ended."""
     tickets = {"olga": {105, 111}, "noah": {103, 104, 107, 112}}
     gate = desk()
@@ -352,8 +374,7 @@ def memberships_are_kept():
     gate.end()
 
 
-@test
-def a_file_of_tokens_has_digests():
+def test_a_file_of_tokens_has_digests() -> None:
     """A token in place of its digest keeps the program from starting, and so does a file without one."""
     for text, words in (('[tokens]\n"mia-demo" = "mia"\n', "line 2 is no token"), ("[tokens]\n", "there are none")):
         gate = Gateway(start=False)
@@ -362,17 +383,17 @@ def a_file_of_tokens_has_digests():
         gate.end()
 
 
-@test
-def one_command_opens_the_desk():
+def test_one_command_opens_the_desk() -> None:
     gate = Gateway(start=False)
-    folder, before = gate.folder / "kept", {}
+    folder = gate.folder / "kept"
     for turn in range(2):
         port = free_port()  # it stays where it was, by other links
-        command = [TOP / "frontend/desk", "--folder", folder, "--port", str(port)]
+        command: list[str | pathlib.Path] = [TOP / "frontend/desk", "--folder", folder, "--port", str(port)]
         with (gate.folder / f"desk.{turn}").open("wb") as log:
             shown = subprocess.Popen(command, env={**os.environ, "GATEWAY": str(PROGRAM)}, stdin=subprocess.DEVNULL, stdout=subprocess.PIPE, stderr=log, text=True)
+        assert shown.stdout
         try:
-            links = dict(line.split() for line in [shown.stdout.readline() for _ in range(2 + len(ROLES))][2:])
+            links = {role: link for role, link in (line.split() for line in [shown.stdout.readline() for _ in range(2 + len(ROLES))][2:])}
             assert tuple(links) == ROLES, links
             address, _, token = links["mia"].partition("#token=")
             assert address == f"http://127.0.0.1:{port}/"
@@ -397,7 +418,3 @@ def answers(port: int) -> bool:
         return http(port, "/readyz")[0] == 200
     except OSError:
         return False
-
-
-if __name__ == "__main__":
-    sys.exit(main())

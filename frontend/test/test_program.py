@@ -1,7 +1,4 @@
-#!/usr/bin/python3
 """The gateway as a program, by what docs/PROTOCOL.md says: each line that is told, hostile bytes, kills, and what becomes of the journal.
-
-    frontend/test/test_program.py [--kills N] [--steps N] [TEST ..]
 
 GATEWAY names another program than the one that is built."""
 import base64
@@ -18,18 +15,19 @@ import select
 import signal
 import socket
 import struct
-import sys
 import threading
 import time
+from collections.abc import Callable, Iterator
+from typing import Any
 
 from model import Model, Player, line, text_of
-from trial import BASE, comes_in, insert, main, serving, test, total, until
-from wire import BINARY, CLOSE, COMING, PATIENCE, PING, PONG, TOP, Ended, Gateway, Wire, digest, frame, http, in_time, masked, plain, request
+from trial import BASE, Rows, comes_in, insert, serving, total, until
+from wire import BINARY, CLOSE, COMING, PATIENCE, PING, PONG, TOP, Ended, Gateway, Line, Wire, digest, frame, http, in_time, masked, plain, request
 
 LATE = 30  # seconds for which the gateway keeps who takes nothing
 
 
-def spent(gate: Gateway, ask) -> float:
+def spent(gate: Gateway, ask: Callable[[], object]) -> float:
     """Seconds of processor that the gateway took until it had answered: the load of the host has no part in them."""
     before = gate.processor()
     ask()
@@ -39,49 +37,53 @@ def spent(gate: Gateway, ask) -> float:
 # ---- what clients are told
 
 
-@test
-def what_is_no_request_is_told_so():
+NO_REQUESTS: dict[str, tuple[str, str | None]] = {
+    "half of an object": ("{", '{"error":1}'), "a list": ("[1]", '{"error":2}'), "no bytes": ("", '{"error":1}'),
+    "no request": ('{"id":7,}', '{"error":2,"id":7,"key":"do","why":"missing"}'),
+    "another session": ('{"id":5,"do":"begin","role":"ann"}', '{"error":2,"id":5,"key":"do","why":"wrong"}'),
+    "the end of the session": ('{"do":"finish"}', '{"error":2,"key":"do","why":"wrong"}'),
+    "a name with a comma": ('{"id":"a,b","do":"unsubscribe","sub":1}', '{"error":2,"id":"a,b","key":"id","why":"wrong"}'),
+    "a name in the middle": ('{"do":"unsubscribe","id":3,"sub":1}', '{"error":2,"id":3,"key":"id","why":"wrong"}'),
+    "a session of its own": ('{"do":"unsubscribe","session":1,"sub":1}', '{"error":2,"key":"session","why":"unknown"}'),
+    "a name beyond 64 bits": ('{"id":18446744073709551615,"do":"unsubscribe","sub":1}', None),
+    "a name below zero": ('{"id":-1,"do":"unsubscribe","sub":1}', '{"error":19,"id":-1}'),
+    "no entries, in two lines": ('{"do":"write",\n"entries":[\n]}', '{"error":2,"key":"entries","why":"wrong"}'),
+    "null in a second entry": ('{"id":4,"do":"write","entries":[{"on":"notes","insert":[6,"mia"]},{"on":"notes","insert":[null]}]}',
+                               '{"entry":2,"error":2,"id":4,"key":"entries","why":"wrong"}'),
+    "a line that is too long": ('{"do":"create_role","name":"' + "x" * 65_463 + '"}', '{"error":22}')}
+
+
+def test_what_is_no_request_is_told_so() -> None:
     with serving() as (gate, admin):
-        for said, told in [("{", '{"error":1}'), ("[1]", '{"error":2}'), ("", '{"error":1}'), ('{"id":7,}', '{"error":2,"id":7,"key":"do","why":"missing"}'),
-                           ('{"id":5,"do":"begin","role":"ann"}', '{"error":2,"id":5,"key":"do","why":"wrong"}'),
-                           ('{"do":"finish"}', '{"error":2,"key":"do","why":"wrong"}'),
-                           ('{"id":"a,b","do":"unsubscribe","sub":1}', '{"error":2,"id":"a,b","key":"id","why":"wrong"}'),
-                           ('{"do":"unsubscribe","id":3,"sub":1}', '{"error":2,"id":3,"key":"id","why":"wrong"}'),
-                           ('{"do":"unsubscribe","session":1,"sub":1}', '{"error":2,"key":"session","why":"unknown"}'),
-                           ('{"id":18446744073709551615,"do":"unsubscribe","sub":1}', None), ('{"id":-1,"do":"unsubscribe","sub":1}', '{"error":19,"id":-1}'),
-                           ('{"do":"write",\n"entries":[\n]}', '{"error":2,"key":"entries","why":"wrong"}'),
-                           ('{"id":4,"do":"write","entries":[{"on":"notes","insert":[6,"mia"]},{"on":"notes","insert":[null]}]}',
-                            '{"entry":2,"error":2,"id":4,"key":"entries","why":"wrong"}'),
-                           ('{"do":"create_role","name":"' + "x" * 65_463 + '"}', '{"error":22}')]:
+        for what, (said, told) in NO_REQUESTS.items():
             answer = admin.ask(said)
-            assert len(answer) == 1 and (told is None or answer == [told]), (said[:80], answer)
+            assert len(answer) == 1 and (told is None or answer == [told]), (what, answer)
         assert [it["do"] for it in gate.entries()] == [it["do"] for it in BASE]
 
 
-def compare(model: Model, wires: dict, told: dict, request: dict, asker) -> None:
+def compare(wires: dict[str, Wire], told: dict[str, list[str]], request: Line, asker: str) -> None:
     """Each client is told what the model says, in the order that the protocol gives, and `settled` behind it; the others nothing."""
+    def rank(told: str) -> int:
+        return 1 if told.startswith('{"changes"') else 2 if told.startswith('{"granted"') else 3 if '"made":' in told else 0
     for key, wire in wires.items():
         wanted = told.get(key, [])
         if not wanted:
             wire.take_in()
             continue
         lines = wire.event()
-        rank = lambda it: 1 if it.startswith('{"changes"') else 2 if it.startswith('{"granted"') else 3 if '"made":' in it else 0
         assert [rank(it) for it in lines] == sorted(map(rank, lines)), (request, lines)
         assert sorted(lines) == sorted(wanted), f"{key} of {asker}'s {text_of(request)}:\n  is told {lines}\n  wanted  {wanted}"
 
 
-@test
-def each_line_is_the_models(steps=400):
+def test_each_line_is_the_models(steps: int) -> None:
     for seed in range(3):
         gate, model = Gateway(), Model()
-        player, wires = Player(model, seed), {}
-        wires["admin"] = gate.enter("admin")
+        player, wires = Player(model, seed), {"admin": gate.enter("admin")}
         model.come("admin", "admin")
 
-        def step(key, request, id=None):
-            wires[key].say({**({} if id is None else {"id": id}), **request})
-            compare(model, wires, model.says(key, request, id), request, key)
+        def step(key: str, asked: Line, id: int | None = None) -> None:
+            wires[key].say({**({} if id is None else {"id": id}), **asked})
+            compare(wires, model.says(key, asked, id), asked, key)
 
         for it in BASE:
             step("admin", it)
@@ -101,7 +103,7 @@ def each_line_is_the_models(steps=400):
         # what the journal has leads to the same state
         again = Model()
         again.come("admin", "admin")
-        roles = {}
+        roles: dict[str, dict[str, list[str]]] = {}
         for entry in gate.entries():
             roles.setdefault(entry["as"], again.come(entry["as"], entry["as"]))
             answer = again.says(entry["as"], {key: value for key, value in entry.items() if key != "as"})
@@ -111,17 +113,16 @@ def each_line_is_the_models(steps=400):
         gate.end()
 
 
-@test
-def all_add_up_where_many_write_at_once():
+def test_all_add_up_where_many_write_at_once() -> None:
     with serving() as (gate, admin):
         readers = [gate.enter(role) for role in ("ann", "ann", "bob", "mia", "admin")]
-        seen = [[] for _ in readers]
+        seen: list[list[str]] = [[] for _ in readers]
         for reader, lines in zip(readers, seen):
             lines += reader.ask({"do": "subscribe", "on": "notes"})
-        writers, made = [gate.enter(role) for role in ("ann", "mia", "admin", "mia")], []
+        writers, made = [gate.enter(role) for role in ("ann", "mia", "admin", "mia")], list[tuple[Any, ...]]()
 
         def write(number: int, wire: Wire) -> None:
-            dice, own = random.Random(number), []
+            dice, own = random.Random(number), list[list[Any]]()
             for at in range(200):
                 request = insert(number * 1000 + at, "ann")
                 if own and dice.random() < 0.4:
@@ -146,8 +147,7 @@ def all_add_up_where_many_write_at_once():
             assert total(lines[1:]) == wanted, (total(lines[1:]) - wanted, wanted - total(lines[1:]))
 
 
-@test
-def who_comes_late_is_shown_the_same():
+def test_who_comes_late_is_shown_the_same() -> None:
     with serving() as (gate, admin):
         for at in range(300):
             admin.say(insert(at, "ann"))
@@ -178,13 +178,14 @@ def take_all(wires: list[Wire]) -> list[float]:
     return took
 
 
-@test
-def a_herd_is_told_in_rounds():
+def test_a_herd_is_told_in_rounds() -> None:
     with serving() as (gate, admin):
-        rows = [[at, f"{at:0250}"] for at in range(2000)]
+        rows: list[list[Any]] = [[at, f"{at:0250}"] for at in range(2000)]
         for at in range(0, len(rows), 200):
             admin.ask({"do": "write", "entries": [{"on": "notes", "insert": row} for row in rows[at:at + 200]]})
-        told = lambda rows: [f'{{"changes":{json.dumps([[1, row] for row in rows], separators=(",", ":"))},"sub":1}}']
+
+        def told(rows: list[list[Any]]) -> list[str]:
+            return [f'{{"changes":{json.dumps([[1, row] for row in rows], separators=(",", ":"))},"sub":1}}']
         wires = [gate.enter(("ann", "bob", "mia", "admin")[at % 4]) for at in range(200)]
         memory, processor = gate.most_memory(), gate.processor()
         for wire in wires:
@@ -202,8 +203,7 @@ def a_herd_is_told_in_rounds():
             assert wire.event() == [f'{{"changes":[[-1,{json.dumps(rows[7], separators=(",", ":"))}]],"sub":1}}']
 
 
-@test
-def two_messages_in_one_read_have_their_replies_in_order():
+def test_two_messages_in_one_read_have_their_replies_in_order() -> None:
     with serving() as (gate, admin):
         admin.send(b"".join(masked(text_of(insert(at, "ann", id=at)).encode()) for at in range(500)))
         for at in range(500):
@@ -211,8 +211,7 @@ def two_messages_in_one_read_have_their_replies_in_order():
         assert len(gate.entries()) == len(BASE) + 500
 
 
-@test
-def many_are_sent_one_message_in_10_ms():
+def test_many_are_sent_one_message_in_10_ms() -> None:
     """Who asked is answered meanwhile; what is told between two messages is in the second."""
     gate = Gateway(words=("--clients", "200"), start=False)
     gate.know("admin", lines=tuple(f'"{digest(f"mia {at}")}" = "mia"' for at in range(4)))
@@ -221,26 +220,25 @@ def many_are_sent_one_message_in_10_ms():
     for it in BASE:
         admin.ask(it)
     readers = [gate.knock(f"mia {at % 4}") for at in range(80)]
-    for it in readers:
-        it.ask({"do": "subscribe", "on": "notes"})
-    begun, took, had = time.monotonic(), [], [it.messages for it in readers]
+    for reader in readers:
+        reader.ask({"do": "subscribe", "on": "notes"})
+    begun, took, had = time.monotonic(), list[float](), [it.messages for it in readers]
     for at in range(400):
         before = time.monotonic()
         assert admin.ask(insert(at, "ann")) == ['{"ok":true}']
         took.append(time.monotonic() - before)
     spent = time.monotonic() - begun
-    for it, before in list(zip(readers, had))[::20]:
-        rows = collections.Counter()
+    for reader, count in list(zip(readers, had))[::20]:
+        rows: Rows = collections.Counter()
         while len(rows) < 400:
-            rows += total(it.event())
-        messages = it.messages - before
+            rows += total(reader.event())
+        messages = reader.messages - count
         assert set(rows.values()) == {1} and messages <= spent * 100 + 5, (messages, spent)
     print(f"  400 writes in {spent:.2f} s, {sorted(took)[200] * 1000:.1f} ms each; the last reader had {messages} messages", flush=True)
     gate.end()
 
 
-@test
-def the_line_is_alive_each_20_seconds():
+def test_the_line_is_alive_each_20_seconds() -> None:
     with serving() as (gate, admin):
         end = time.monotonic() + 20 + PATIENCE
         while '{"alive":true}' not in admin.lines:
@@ -250,8 +248,7 @@ def the_line_is_alive_each_20_seconds():
 # ---- bytes
 
 
-@test
-def bytes_may_be_cut_anywhere():
+def test_bytes_may_be_cut_anywhere() -> None:
     with serving() as (gate, admin):
         said = [b"mia-demo", text_of({"do": "subscribe", "on": "notes"}).encode(), text_of(insert(1, "ann")).encode()]
 
@@ -296,8 +293,7 @@ HOSTILE = {
 }
 
 
-@test
-def hostile_frames_end_their_connection_alone():
+def test_hostile_frames_end_their_connection_alone() -> None:
     with serving() as (gate, admin):
         for name, (data, close) in HOSTILE.items():
             for role in ("mia", None):
@@ -317,8 +313,7 @@ def hostile_frames_end_their_connection_alone():
         assert not any("66" in text_of(it) for it in gate.entries())
 
 
-@test
-def random_bytes_end_their_connection_alone():
+def test_random_bytes_end_their_connection_alone() -> None:
     with serving() as (gate, admin):
         dice = random.Random(7)
         for at in range(200):
@@ -336,8 +331,7 @@ def answers(admin: Wire) -> None:
     assert admin.ask({"do": "unsubscribe", "sub": 9}) == ['{"error":19}']
 
 
-@test
-def a_flood_of_empty_frames_takes_no_memory():
+def test_a_flood_of_empty_frames_takes_no_memory() -> None:
     with serving() as (gate, admin):
         wire, before = gate.enter("mia"), gate.memory()
         wire.socket.settimeout(0.05)
@@ -356,8 +350,7 @@ def a_flood_of_empty_frames_takes_no_memory():
         assert grown < 16 << 20 and worst < 2
 
 
-@test
-def who_reads_nothing_goes_and_takes_little_memory():
+def test_who_reads_nothing_goes_and_takes_little_memory() -> None:
     with serving() as (gate, admin):
         for at in range(4):
             admin.ask({"do": "write", "entries": [{"on": "notes", "insert": [at * 60 + it, "ann" + "x" * 1000]} for it in range(60)]})
@@ -378,8 +371,7 @@ def who_reads_nothing_goes_and_takes_little_memory():
         assert "takes nothing" in gate.said() and most < 8 * (8 << 20) and asked > 6
 
 
-@test
-def who_is_far_behind_is_told_why():
+def test_who_is_far_behind_is_told_why() -> None:
     # what the system takes, and more than the gateway keeps, by writes that come to it 16 times each
     kept = int(pathlib.Path("/proc/sys/net/ipv4/tcp_wmem").read_text().split()[2])
     writes = 2 * (kept + (4 << 20)) // (16 * 60 * 1000) + 8
@@ -397,16 +389,15 @@ def who_is_far_behind_is_told_why():
         assert in_time(attempt, LATE) == 1013  # a host that takes so long has it go without a word
 
 
-@test
-def who_takes_slowly_stays():
+def test_who_takes_slowly_stays() -> None:
     """What a client asked for may be longer than what may wait for it, and it may take that in its time."""
     with serving() as (gate, admin):
-        rows = [[at, "ann" + "x" * 1000] for at in range(2400)]
+        rows: list[tuple[int, str]] = [(at, "ann" + "x" * 1000) for at in range(2400)]
         late = itertools.count(10_000)
         for at in range(0, len(rows), 60):
             admin.ask({"do": "write", "entries": [{"on": "notes", "insert": row} for row in rows[at:at + 60]]})
 
-        def attempt() -> list[collections.Counter] | None:
+        def attempt() -> list[Rows] | None:
             wire, gap = gate.enter("mia", receive=16_384), 0.0
             for _ in range(8):
                 wire.say({"do": "subscribe", "on": "notes"})
@@ -416,9 +407,9 @@ def who_takes_slowly_stays():
                     wire.more()
                     last, gap = time.monotonic(), max(gap, time.monotonic() - last)
                     time.sleep(0.1)
-                rows.append([next(late), "ann"])
+                rows.append((next(late), "ann"))
                 admin.ask(insert(*rows[-1]))
-                lines = []
+                lines: list[str] = []
                 while sum(f"[1,[{rows[-1][0]}," in it for it in lines) < 8:
                     lines.append(wire.line())
             except Ended:
@@ -426,11 +417,10 @@ def who_takes_slowly_stays():
                 return None
             return [total(lines, sub) for sub in range(1, 9)]
         found = in_time(attempt, LATE)
-        assert found == [collections.Counter(map(tuple, rows))] * 8
+        assert found == [collections.Counter(rows)] * 8
 
 
-@test
-def silence_has_an_end():
+def test_silence_has_an_end() -> None:
     with serving() as (gate, admin):
         start = time.monotonic()
         waits = {"says nothing": b"", "half a head": b"GET / HTTP/1.1\r\nHost:", "no token": request(), "half a token": request() + masked(b"mia-demo")[:5]}
@@ -449,8 +439,7 @@ def silence_has_an_end():
 # ---- plain requests
 
 
-@test
-def plain_requests_are_answered():
+def test_plain_requests_are_answered() -> None:
     with serving() as (gate, admin):
         assert http(gate.port, "/healthz")[0] == 200 and http(gate.port, "/readyz")[0] == 200
         for path in ("/state", "/metrics"):
@@ -475,8 +464,7 @@ def plain_requests_are_answered():
             assert got.startswith(b"HTTP/1.1 " + status) and got.endswith(b"\r\n\r\n") and got.count(b"\r\n\r\n") == 1, (data[:60], got)
 
 
-@test
-def pages_of_a_folder_are_served_and_no_others():
+def test_pages_of_a_folder_are_served_and_no_others() -> None:
     gate = Gateway(start=False)
     pages = gate.folder / "pages"
     (pages / "img").mkdir(parents=True)
@@ -503,11 +491,11 @@ def pages_of_a_folder_are_served_and_no_others():
 # ---- tokens
 
 
-@test
-def tokens_open_their_role_and_nothing_else():
+def test_tokens_open_their_role_and_nothing_else() -> None:
     with serving() as (gate, admin):
-        for token in ("mia", "", "mia-demo ", "MIA-DEMO", "x" * 60_000):
-            assert gate.knock(token).code == 4401, token[:20]
+        forged = {"a role's name": "mia", "an empty one": "", "a blank at its end": "mia-demo ", "other letters": "MIA-DEMO", "a long one": "x" * 60_000}
+        for what, token in forged.items():
+            assert gate.knock(token).code == 4401, what
         mia = gate.enter("mia")
         gate.know("admin", "ann", "bob")  # mia's token is taken away
         assert mia.end() == 4401 and gate.knock("mia-demo").code == 4401
@@ -534,8 +522,7 @@ def moment(second: float) -> str:
     return time.strftime("%Y-%m-%dT%H:%M:%SZ", time.gmtime(second))
 
 
-@test
-def a_token_that_ends_closes_who_came_by_it():
+def test_a_token_that_ends_closes_who_came_by_it() -> None:
     with serving() as (gate, admin):
         for left in (8, 60, 300):
             end = int(time.time()) + left
@@ -566,8 +553,7 @@ WRONG = ['until = "2026-02-29T00:00:00Z"', 'until = "2026-12-31"', 'until = "202
          'holder = "x", holder = "y"', 'sub = "x"']
 
 
-@test
-def a_wrong_line_of_the_tokens_is_named_and_changes_nothing():
+def test_a_wrong_line_of_the_tokens_is_named_and_changes_nothing() -> None:
     with serving() as (gate, admin):
         mia = gate.enter("mia")
         for more in WRONG:
@@ -584,18 +570,18 @@ def a_wrong_line_of_the_tokens_is_named_and_changes_nothing():
 SECRET = b"a secret of 32 bytes or more, say"
 
 
-def part(data: bytes | dict) -> bytes:
+def part(data: bytes | Line) -> bytes:
     return base64.urlsafe_b64encode(json.dumps(data).encode() if isinstance(data, dict) else data).rstrip(b"=")
 
 
-def web_token(claims: dict | bytes, head: dict | None = None, secret: bytes = SECRET, by: str = "sha256") -> str:
+def web_token(claims: Line | bytes, head: Line | None = None, secret: bytes = SECRET, by: str = "sha256") -> str:
     """A JSON web token (RFC 7519), signed by HMAC."""
     signed = part(head or {"alg": "HS256", "typ": "JWT"}) + b"." + part(claims)
     return (signed + b"." + part(hmac.new(secret, signed, by).digest())).decode()
 
 
 @contextlib.contextmanager
-def serving_web(**how):
+def serving_web(**how: Any) -> Iterator[tuple[Gateway, Wire]]:
     gate = Gateway(start=False, **how)
     secret = gate.folder / "secret"
     secret.write_bytes(SECRET + b"\n")
@@ -609,8 +595,7 @@ def serving_web(**how):
     gate.end()
 
 
-@test
-def web_tokens_open_their_role_until_they_end():
+def test_web_tokens_open_their_role_until_they_end() -> None:
     with serving_web() as (gate, admin):
         now = int(time.time())
         mia = gate.knock(web_token({"role": "mia", "sub": "Mia Öz", "exp": now + 86_400}))
@@ -633,8 +618,7 @@ def web_tokens_open_their_role_until_they_end():
         assert http(gate.port, "/state", web_token({"role": "admin", "sub": "x", "exp": now - 1}))[0] == 401
 
 
-@test
-def what_an_attacker_makes_of_a_web_token_opens_nothing():
+def test_what_an_attacker_makes_of_a_web_token_opens_nothing() -> None:
     with serving_web() as (gate, admin):
         now = int(time.time())
         claims = {"role": "admin", "sub": "eve", "exp": now + 86_400}
@@ -664,6 +648,7 @@ def what_an_attacker_makes_of_a_web_token_opens_nothing():
                     wire = Wire(gate.port)
                     wire.send(masked(b"x", PING) + frame(good[:cut].encode(), final=False) + masked(b"y", PING) + frame(good[cut:].encode(), 0))
                     return wire.enter()
+                return None
             assert in_time(in_parts) == "admin", cut
 
         def at_once() -> str | None:
@@ -674,13 +659,13 @@ def what_an_attacker_makes_of_a_web_token_opens_nothing():
                     wire.more()
                 wire.input = wire.input.split(b"\r\n\r\n", 1)[1]
                 return wire.enter()
+            return None
         assert in_time(at_once) == "admin"
         # the second message is no token
         assert gate.enter("mia").ask(good) == ['{"error":1}']
 
 
-@test
-def nobody_takes_all_web_tokens():
+def test_nobody_takes_all_web_tokens() -> None:
     with serving_web() as (gate, admin):
         now = int(time.time())
         tokens = [web_token({"role": "mia", "sub": "eve", "exp": now + 86_400 + at}) for at in range(40)]
@@ -694,8 +679,7 @@ def nobody_takes_all_web_tokens():
         until(lambda: gate.knock(tokens[30]).role, "the room of web tokens that nobody has is not free")
 
 
-@test
-def a_secret_has_32_bytes():
+def test_a_secret_has_32_bytes() -> None:
     gate = Gateway(start=False)
     secret = gate.folder / "secret"
     gate.words = ("--jwt-secret-file", secret)
@@ -705,8 +689,7 @@ def a_secret_has_32_bytes():
     gate.end()
 
 
-@test
-def one_token_takes_not_all_room():
+def test_one_token_takes_not_all_room() -> None:
     with serving() as (gate, admin):
         wires = [gate.knock("mia-demo") for _ in range(80)]
         codes = collections.Counter(it.code for it in wires[64:])
@@ -716,8 +699,7 @@ def one_token_takes_not_all_room():
         until(lambda: comes_in(gate, "mia"), "the room of one that is gone is not free")
 
 
-@test
-def sockets_have_a_bound():
+def test_sockets_have_a_bound() -> None:
     """Where no number is free, who has not come in for the longest goes; who has come in stays."""
     with serving(words=("--clients", "20")) as (gate, admin):
         idle = [socket.create_connection(("127.0.0.1", gate.port), PATIENCE) for _ in range(60)]
@@ -726,8 +708,8 @@ def sockets_have_a_bound():
         assert late.recv(1) == b"", "there is room for all"
         for it in (*wires, admin):
             assert it.ask({"do": "unsubscribe", "sub": 9}) == ['{"error":19}']
-        for it in (*idle, late):
-            it.close()
+        for stranger in (*idle, late):
+            stranger.close()
         wires[0].shut()
         until(lambda: comes_in(gate, "bob"), "the room of those that are gone is not free")
 
@@ -735,8 +717,7 @@ def sockets_have_a_bound():
 # ---- the journal
 
 
-@test
-def the_journal_has_what_was_accepted():
+def test_the_journal_has_what_was_accepted() -> None:
     with serving() as (gate, admin):
         ann = gate.enter("ann")
         for it in (insert(1, "ann", id=7), insert(2, "x"), {"do": "create_role", "name": "eve"}, {"do": "subscribe", "on": "notes"}, {"id": "q", **insert(3, "ann")}):
@@ -756,8 +737,7 @@ def chained(texts: list[bytes], epoch: bytes = b"0123456789abcdef" * 2) -> bytes
     return out
 
 
-@test
-def a_torn_entry_is_cut_and_a_damaged_one_is_told():
+def test_a_torn_entry_is_cut_and_a_damaged_one_is_told() -> None:
     """A journal of the form before, too: it is cut or refused as it was."""
     with serving() as (gate, admin):
         admin.ask(insert(1, "ann"))
@@ -777,21 +757,22 @@ def a_torn_entry_is_cut_and_a_damaged_one_is_told():
             assert gate.journal.read_bytes() == whole and f"cut {len(torn)} bytes" in gate.said()
             gate.kill()
         texts = [line[1:] for line in old.splitlines()]
-        for bad in (b'{"as":"ann","do":"write","entries":[{"on":"notes","delete":[9,"ann"]}]}', b'{"as":"nobody","do":"create_role","name":"y"}',
-                    b'{"as":"ann","do":"subscribe","on":"notes"}', b"", b'{"role":"ann","do":"write","entries":[{"on":"notes","insert":[9,"ann"]}]}',
-                    b'{"as":"ann", "do":"write","entries":[]}', b"nonsense", b'{"journal":1,"epoch":"%s","audit":1}' % (b"0" * 32)):
-            for data, line in ((old + bad + b"\n", len(BASE) + 2), (chained([*texts, bad[1:]]), len(BASE) + 3)):
+        wrong = {"a row that is not there": b'{"as":"ann","do":"write","entries":[{"on":"notes","delete":[9,"ann"]}]}',
+                 "a role that is not there": b'{"as":"nobody","do":"create_role","name":"y"}', "what is no entry": b'{"as":"ann","do":"subscribe","on":"notes"}',
+                 "no bytes": b"", "an entry of another form": b'{"role":"ann","do":"write","entries":[{"on":"notes","insert":[9,"ann"]}]}',
+                 "a blank": b'{"as":"ann", "do":"write","entries":[]}', "a word": b"nonsense", "a second head": b'{"journal":1,"epoch":"%s","audit":1}' % (b"0" * 32)}
+        for what, bad in wrong.items():
+            for data, number in ((old + bad + b"\n", len(BASE) + 2), (chained([*texts, bad[1:]]), len(BASE) + 3)):
                 gate.journal.write_bytes(data)
                 at = len(b"".join(data.splitlines(keepends=True)[:-1]))
                 assert gate.launch().wait(PATIENCE) == 1
-                assert f"damaged: {gate.journal}: line {line}, at byte {at}," in gate.said(), (bad, gate.said())
+                assert f"damaged: {gate.journal}: line {number}, at byte {at}," in gate.said(), (what, gate.said())
                 assert gate.journal.read_bytes() == data
         gate.journal.write_bytes(whole)
         gate.start()
 
 
-@test
-def each_damaged_byte_is_told_with_its_place(every=19):
+def test_each_damaged_byte_is_told_with_its_place(every: int = 19) -> None:
     """Bytes of a small journal are changed, lost, doubled or zeroed: told with the line, or cut as a torn last line; never read otherwise."""
     with serving() as (gate, admin):
         admin.ask(insert(1, "ann"))
@@ -813,10 +794,10 @@ def each_damaged_byte_is_told_with_its_place(every=19):
                     assert gate.process.returncode == 1 and f": line {line + 1}, at byte {place}," in gate.logs[-1].read_text(), (at, gate.logs[-1].read_text())
                     assert gate.journal.read_bytes() == data
         lines = whole.splitlines(keepends=True)
-        for data, line in ((b"".join(lines[:3] + lines[4:]), 4), (b"".join(lines[:3] + lines[2:]), 4), (b"".join(lines[:2] + [lines[3], lines[2]] + lines[4:]), 3),
+        for data, number in ((b"".join(lines[:3] + lines[4:]), 4), (b"".join(lines[:3] + lines[2:]), 4), (b"".join(lines[:2] + [lines[3], lines[2]] + lines[4:]), 3),
                            (whole + b"\0" * 512, len(lines) + 1), (b"".join(lines[1:]), 1)):
             gate.journal.write_bytes(data)
-            assert gate.launch().wait(PATIENCE) == 1 and f"damaged: {gate.journal}: line {line}, " in gate.logs[-1].read_text(), gate.said()
+            assert gate.launch().wait(PATIENCE) == 1 and f"damaged: {gate.journal}: line {number}, " in gate.logs[-1].read_text(), gate.said()
         gate.journal.write_bytes(whole)
         gate.start()
 
@@ -828,8 +809,7 @@ def is_ready(gate: Gateway) -> bool:
         return False
 
 
-@test
-def each_entry_tells_who_wrote_it_and_when():
+def test_each_entry_tells_who_wrote_it_and_when() -> None:
     """Beside who wrote what, as clients of one role and several holders know it themselves; whatever their names are."""
     names = {"one": "Ann Lee", "two": 'x", "as":"admin","by":"', "three": "ö\\ 東京", "none": None}
     plain = {key: name for key, name in names.items() if name is None or '"' not in name and "\\" not in name}
@@ -857,10 +837,10 @@ def each_entry_tells_who_wrote_it_and_when():
                     written[it["entries"][0]["insert"][0]] = names[key] or ""
 
     threads = [threading.Thread(target=write, args=it) for it in enumerate(names)]
-    for it in threads:
-        it.start()
-    for it in threads:
-        it.join()
+    for thread in threads:
+        thread.start()
+    for thread in threads:
+        thread.join()
     ended = int(time.time())
     told = {it["entries"][0]["insert"][0]: it for it in gate.noted() if it["as"] == "mia"}
     assert {row: it["by"] for row, it in told.items()} == written and len(written) > 200, "an entry is told to be another's"
@@ -872,21 +852,20 @@ def each_entry_tells_who_wrote_it_and_when():
     gate.end()
 
 
-@test
-def one_process_writes_a_journal():
+def test_one_process_writes_a_journal() -> None:
     with serving() as (gate, admin):
         before, name = gate.process, gate.journal
         assert gate.launch().wait(PATIENCE) == 1 and "another process writes" in gate.said()
-        for word, make in (("link", os.symlink), ("second", os.link)):  # by another name, too
+        by_name: tuple[tuple[str, Callable[[pathlib.Path, pathlib.Path], None]], ...] = (("link", os.symlink), ("second", os.link))
+        for word, make in by_name:  # by another name, too
             gate.journal = gate.folder / f"{word}.jsonl"
             make(name, gate.journal)
             assert gate.launch().wait(PATIENCE) == 1 and f"another process writes {gate.journal}" in gate.said()
-        gate.process, gate.journal = before, name
+        gate.started, gate.journal = before, name
         assert admin.ask(insert(1, "ann")) == ['{"ok":true}']
 
 
-@test
-def a_seed_begins_a_journal_that_is_missing():
+def test_a_seed_begins_a_journal_that_is_missing() -> None:
     gate = Gateway(words=("--seed", TOP / "frontend" / "desk.jsonl"), roles=("admin", "mia"))
     seed = (TOP / "frontend" / "desk.jsonl").read_bytes()
     assert gate.lines() == seed
@@ -900,8 +879,7 @@ def a_seed_begins_a_journal_that_is_missing():
     gate.end()
 
 
-@test
-def a_full_disk_ends_it_and_nobody_was_told():
+def test_a_full_disk_ends_it_and_nobody_was_told() -> None:
     with serving() as (gate, admin):
         gate.kill()
         gate.start(gate.journal.stat().st_size + 1000)
@@ -915,18 +893,16 @@ def a_full_disk_ends_it_and_nobody_was_told():
         assert len(total(gate.enter("admin").ask({"do": "subscribe", "on": "notes"}))) == told
 
 
-@test
-def sigterm_ends_it_at_once():
+def test_sigterm_ends_it_at_once() -> None:
     with serving() as (gate, admin):
         assert gate.kill(signal.SIGTERM) == -signal.SIGTERM
         gate.start()
 
 
-@test
-def kills_lose_nothing(kills=20):
+def test_kills_lose_nothing(kills: int) -> None:
     """Killed at random: each acknowledged write is there exactly once behind it, and none that was refused."""
     gate, dice = Gateway(words=("--rows", "1048576")), random.Random(5)  # a fast host writes more than 65,536
-    acknowledged, refused, sent, faults = set(), set(), set(), []
+    acknowledged, refused, sent, faults = set[tuple[Any, ...]](), set[tuple[Any, ...]](), set[tuple[Any, ...]](), list[Exception]()
     stop, lock = threading.Event(), threading.Lock()
     admin = gate.enter("admin")
     for it in BASE:
@@ -960,8 +936,8 @@ def kills_lose_nothing(kills=20):
                 raise
 
     threads = [threading.Thread(target=write, args=(it,), daemon=True) for it in range(4)]
-    for it in threads:
-        it.start()
+    for thread in threads:
+        thread.start()
     try:
         for at in range(kills):
             before = len(acknowledged)
@@ -974,8 +950,8 @@ def kills_lose_nothing(kills=20):
             gate.start()
     finally:
         stop.set()
-    for it in threads:
-        it.join()
+    for thread in threads:
+        thread.join()
     rows = total(gate.enter("admin").ask({"do": "subscribe", "on": "notes"}))
     print(f"  {kills} kills: {len(sent)} were sent, {len(acknowledged)} acknowledged, {len(refused)} refused, {len(rows)} are there", flush=True)
     assert not faults, faults
@@ -983,11 +959,3 @@ def kills_lose_nothing(kills=20):
     assert set(rows.values()) <= {1}, "a write was carried out twice"
     assert not refused & set(rows) and set(rows) <= sent and not any(row[1] == "gone" for row in rows)
     gate.end()
-
-
-if __name__ == "__main__":
-    import soak  # noqa: F401  (its tests are listed behind these, and those of the others)
-    import test_frames  # noqa: F401
-    import test_journal  # noqa: F401
-    import test_strangers  # noqa: F401
-    sys.exit(main())

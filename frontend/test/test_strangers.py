@@ -1,7 +1,4 @@
-#!/usr/bin/python3
 """What strangers do to the gateway as a program, who know what docs/PROTOCOL.md and docs/OPERATING.md say and mean no good.
-
-    frontend/test/test_strangers.py [TEST ..]
 
 GATEWAY names another program than the one that is built."""
 import contextlib
@@ -11,10 +8,9 @@ import random
 import socket
 import struct
 import subprocess
-import sys
 import time
 
-from trial import BASE, main, serving, test, total, until
+from trial import BASE, Rows, serving, total, until
 from wire import COMING, PATIENCE, PROGRAM, Ended, Gateway, Wire, frame, http, in_time, masked, request
 
 PIECES = [*'{}[],:"\\1- \n\t\r\x7f\u2028é😀', "\\u00", "\\ud8", "null", "true", "1e9", '"do"', '"write"', '"entries"', '"on"', '"notes"', '"insert"', '"delete"',
@@ -26,7 +22,7 @@ MESSAGES = ['{"id":3,"do":"write","entries":[{"on":"notes","insert":[1,"x"]}]}',
 TAKEN = 60  # seconds for an answer to be taken
 
 
-def shown(gate: Gateway) -> dict:
+def shown(gate: Gateway) -> Rows:
     """The rows of the table, as an administrator sees them who comes now."""
     wire = gate.enter("admin")
     rows = total(wire.ask({"do": "subscribe", "on": "notes"}))
@@ -34,8 +30,7 @@ def shown(gate: Gateway) -> dict:
     return rows
 
 
-@test
-def damaged_messages_have_one_reply_each():
+def test_damaged_messages_have_one_reply_each() -> None:
     """And the journal has what was accepted of them, whatever blanks and keys it has."""
     with serving() as (gate, admin):
         mia, dice = gate.enter("mia"), random.Random(3)
@@ -53,23 +48,22 @@ def damaged_messages_have_one_reply_each():
         assert shown(gate) == before
 
 
-@test
-def nobody_writes_in_the_name_of_another():
+def test_nobody_writes_in_the_name_of_another() -> None:
     with serving() as (gate, admin):
         mia, before = gate.enter("mia"), len(gate.entries())
-        for key in ('"as":"admin"', '"\\u0061s":"admin"', '"role":"admin"', '"session":1'):
+        forged = {"who acts": '"as":"admin"', "who acts, by its escapes": '"\\u0061s":"admin"', "a role": '"role":"admin"', "a session": '"session":1'}
+        for what, key in forged.items():
             for text in (f'{{{key},"do":"create_role","name":"eve"}}', f'{{"id":1,{key},"do":"create_role","name":"eve"}}',
                          f'{{"do":"create_role","name":"eve",{key}}}', f'{{"do":"write","entries":[{{"on":"notes","insert":[1,"x"]}}],{key}}}'):
                 [reply] = map(json.loads, mia.ask(text))
-                assert (reply["error"], reply["why"]) == (2, "unknown"), (text, reply)
+                assert (reply["error"], reply["why"]) == (2, "unknown"), (what, text, reply)
         assert mia.ask('{"do":"write","do":"create_role","name":"eve"}') == ['{"error":11}'] and len(gate.entries()) == before
 
 
-@test
-def standard_error_may_be_gone():
+def test_standard_error_may_be_gone() -> None:
     for is_pipe in (True, False):  # one that nobody reads from any more, or none at all
         gate, ends = Gateway(start=False), os.pipe()
-        gate.process = subprocess.Popen([PROGRAM, "--journal", gate.journal, "--tokens", gate.tokens, "--port", str(gate.port)], stdin=subprocess.DEVNULL,
+        gate.started = subprocess.Popen([PROGRAM, "--journal", gate.journal, "--tokens", gate.tokens, "--port", str(gate.port)], stdin=subprocess.DEVNULL,
                                         stderr=ends[1] if is_pipe else None, preexec_fn=None if is_pipe else lambda: os.close(2))
         for it in ends:
             os.close(it)
@@ -87,8 +81,7 @@ def listens(gate: Gateway) -> bool:
         return False
 
 
-@test
-def a_process_with_few_files_serves_who_is_there():
+def test_a_process_with_few_files_serves_who_is_there() -> None:
     gate = Gateway(start=False)
     gate.launch(files=40)
     until(lambda: listens(gate), "it does not listen")
@@ -105,8 +98,7 @@ def a_process_with_few_files_serves_who_is_there():
     gate.end()
 
 
-@test
-def without_memory_it_ends_and_loses_nothing():
+def test_without_memory_it_ends_and_loses_nothing() -> None:
     with serving() as (gate, admin):
         gate.kill()
         gate.start(memory=32 << 20)
@@ -123,8 +115,7 @@ def without_memory_it_ends_and_loses_nothing():
         assert 0 < acknowledged and len(shown(gate)) - acknowledged * 60 in (0, 60)  # one may be on disk that nobody was told of
 
 
-@test
-def resets_at_any_byte_leave_nothing():
+def test_resets_at_any_byte_leave_nothing() -> None:
     with serving() as (gate, admin):
         said = [b"mia-demo", b'{"do":"subscribe","on":"notes"}', b'{"do":"write","entries":[{"on":"notes","insert":[1,"x"]}]}']
         data = request() + b"".join(map(masked, said))
@@ -140,8 +131,7 @@ def resets_at_any_byte_leave_nothing():
         assert json.loads(http(gate.port, "/state", "admin-demo")[2])["clients"] == 1
 
 
-@test
-def health_is_told_while_others_take_nothing():
+def test_health_is_told_while_others_take_nothing() -> None:
     gate = Gateway(start=False)
     pages = gate.folder / "pages"
     pages.mkdir()
@@ -158,13 +148,13 @@ def health_is_told_while_others_take_nothing():
                 it.sendall(b"GET /large.js HTTP/1.1\r\nHost: x\r\n\r\n")
             if http(gate.port, "/large.js")[0] != 503:
                 return None  # this host took so long that they were let go
-            return [http(gate.port, path, token)[0] for path, token in (("/healthz", None), ("/readyz", None), ("/nothing", None), ("/state", "admin-demo"))]
+            found = [http(gate.port, path, token)[0] for path, token in (("/healthz", None), ("/readyz", None), ("/nothing", None), ("/state", "admin-demo"))]
+        return found
     assert in_time(attempt, TAKEN) == [200, 200, 404, 200]
     gate.end()
 
 
-@test
-def who_says_nothing_keeps_no_administrator_out():
+def test_who_says_nothing_keeps_no_administrator_out() -> None:
     """All numbers are taken by who has not come in: the one that has waited longest goes."""
     with serving(words=("--clients", "100")) as (gate, admin):
         mia = gate.enter("mia")
@@ -181,8 +171,7 @@ def who_says_nothing_keeps_no_administrator_out():
             assert wire.ask({"do": "unsubscribe", "sub": 9}) == ['{"error":19}']
 
 
-@test
-def who_has_no_token_holds_little_memory():
+def test_who_has_no_token_holds_little_memory() -> None:
     with serving() as (gate, admin):
         before, wires = gate.memory(), []
         for _ in range(200):
@@ -195,7 +184,3 @@ def who_has_no_token_holds_little_memory():
         grown = gate.memory() - before
         print(f"  {grown // 200:,} bytes for each of 200 who have no token", flush=True)
         assert answers == ['{"error":19}'] and grown < 200 * (96 << 10)
-
-
-if __name__ == "__main__":
-    sys.exit(main())

@@ -1,11 +1,7 @@
-#!/usr/bin/python3
 """Gateways behind one stream of a real redis-server, all on loopback: one writes, others stand by or serve readers.
 
-    frontend/test/test_stream.py [--seconds 20] [TEST ..]
-
-The last test kills parts at random moments for so many seconds; the other tests take some seconds each.
+The last test kills parts at random moments for as many seconds as `--seconds` says; the other tests take some seconds each.
 """
-import argparse
 import asyncio
 import contextlib
 import itertools
@@ -14,47 +10,44 @@ import os
 import pathlib
 import signal
 import subprocess
-import sys
 import tempfile
 import time
+from collections.abc import AsyncIterator, Callable
+from typing import Any
 
 import aiohttp
+import pytest
 
-os.environ["VIEWD_KEPT"] = "1000"  # entries behind a snapshot
-
-from explain import explain
-from gate import PATIENCE, TOP, VIEWD, Gate, enter, eventually, leave, quiet, soon
+import journal
+import stream
+import watchers
+from gate import PATIENCE, TOP, VIEWD, Gate, Line, Peer, enter, eventually, leave, quiet, soon
 from party import LEASE, Party, agree, there
 from store import WORD, Store
 from watchers import FIRST, Book, Reaper, Watcher, bags, never_back, told
 
-import watchers
-
-import journal
-import stream
-
-TESTS = []
-
-
-def test(check):
-    TESTS.append(check)
-    return check
+Opening = Callable[..., stream.Stream]
 
 
 def line(number: int, agent: str = "mia") -> bytes:
     return b'{"role":"lena","do":"write","entries":[{"on":"tickets","insert":[%d,"%s","x",true]}]}\n' % (number, agent.encode())
 
 
-OPENED: list[stream.Stream] = []  # by the test that runs
+@pytest.fixture
+async def opened() -> AsyncIterator[Opening]:
+    """Opens journals, which are closed behind the test."""
+    made: list[stream.Stream] = []
 
-
-def opened(*words) -> stream.Stream:
-    OPENED.append(stream.Stream(*words))
-    return OPENED[-1]
+    def open_one(*words: Any) -> stream.Stream:
+        made.append(stream.Stream(*words))
+        return made[-1]
+    yield open_one
+    for it in made:
+        await it.close()
 
 
 @contextlib.asynccontextmanager
-async def lease(given: stream.Stream):
+async def lease(given: stream.Stream) -> AsyncIterator[stream.Stream]:
     """Takes the lease for a journal without a gateway, which has read to the end."""
     while not given.lease:
         while await given.read():
@@ -64,8 +57,7 @@ async def lease(given: stream.Stream):
     await given.release()
 
 
-@test
-async def who_lost_the_lease_appends_nothing(store: Store, http: aiohttp.ClientSession):
+async def test_who_lost_the_lease_appends_nothing(store: Store, opened: Opening) -> None:
     one, two, reader = [opened(store.url, may_write, LEASE) for may_write in (True, True, False)]
     async with lease(one):
         await one.commit([line(1), line(2)], ["a:1", "a:2"])
@@ -86,8 +78,7 @@ async def who_lost_the_lease_appends_nothing(store: Store, http: aiohttp.ClientS
     assert [entry.name for entry in await reader.read()] == ["a:1", "a:2", "b:1", "b:2"] and reader.digest == two.digest
 
 
-@test
-async def an_append_is_made_once(store: Store, http: aiohttp.ClientSession):
+async def test_an_append_is_made_once(store: Store, opened: Opening) -> None:
     """An append whose answer was lost is sent again, and makes nothing more; one behind other entries is refused."""
     one = opened(store.url, True, LEASE)
     async with lease(one):
@@ -107,8 +98,7 @@ async def an_append_is_made_once(store: Store, http: aiohttp.ClientSession):
                 assert "somebody has written" in str(why)
 
 
-@test
-async def a_stream_is_read_in_its_order(store: Store, http: aiohttp.ClientSession):
+async def test_a_stream_is_read_in_its_order(store: Store, opened: Opening) -> None:
     """What is missing, stands twice, is out of order or is another line is seen by each reader, and stops it."""
     one = opened(store.url, True, LEASE)
     async with lease(one):
@@ -140,7 +130,7 @@ async def a_stream_is_read_in_its_order(store: Store, http: aiohttp.ClientSessio
         store.client.xadd("desk", fields, identifier)
     early = opened(store.url)
     assert len(await reader.read()) == 5 == len(await early.read())
-    store.client.xdel("desk", "5-0")
+    store.client.execute_command("XDEL", "desk", "5-0")
     store.client.client_kill_filter(_type="normal", skipme=True)
     for who, pause in ((early, 0), (reader, 0.2)):  # one finds that its connection is gone, for the other the library has made another
         await asyncio.sleep(pause)
@@ -152,8 +142,7 @@ async def a_stream_is_read_in_its_order(store: Store, http: aiohttp.ClientSessio
             assert "ends at 4" in str(why)
 
 
-@test
-async def a_reader_answers_when_it_has_taken_in(store: Store, http: aiohttp.ClientSession):
+async def test_a_reader_answers_when_it_has_taken_in(store: Store, http: aiohttp.ClientSession) -> None:
     """Clients of a reader write as those of the writer do, see what they wrote, and are refused as there."""
     party = await asyncio.to_thread(Party, store)
     (writer,), (reader,) = party.candidates, party.readers
@@ -166,16 +155,19 @@ async def a_reader_answers_when_it_has_taken_in(store: Store, http: aiohttp.Clie
         assert (number, "mia", "ä\"x", True) in mia.rows[1]
     refused = await mia.ask(do="write", entries=[{"on": "tickets", "insert": [1, "noah", "x", True]}], id="no")
     assert refused == {"check": "insert", "entry": 1, "error": 14, "on": "tickets", "id": "no"}, refused
-    for request, error in (({"do": "grant", "on": "tickets", "privileges": ["delete"], "to": "mia"}, 12), ({"do": "write", "entries": [], "x": 1}, 2),
-                           ({"do": "create_role", "name": "x"}, 11), ({"do": "write", "entries": [{"on": "nothing", "insert": [1]}]}, 7)):
+    refusals: list[tuple[Line, int]] = [
+        ({"do": "grant", "on": "tickets", "privileges": ["delete"], "to": "mia"}, 12), ({"do": "write", "entries": [], "x": 1}, 2),
+        ({"do": "create_role", "name": "x"}, 11), ({"do": "write", "entries": [{"on": "nothing", "insert": [1]}]}, 7)]
+    for request, error in refusals:
         here, there = await mia.ask(**request), await boss.ask(**request)
         assert here == there and here["error"] == error, (here, there)
     # one after the other without waiting, in their order
-    row = [5000, "noah", "x", True]
+    row: list[Any] = [5000, "noah", "x", True]
     asked = [asyncio.create_task(lena.ask(do="write", entries=[{"on": "tickets", turn: row}])) for turn in ("insert", "delete") * 10 + ("delete",)]
     asked.append(asyncio.create_task(lena.see("tickets")))
     assert [await it for it in asked[:-2]] == [{"ok": True}] * 20 and (await asked[-2])["error"] == 16
-    assert tuple(row) not in await asked[-1]
+    rows: dict[Any, Any] = await asked[-1]
+    assert tuple(row) not in rows
     await lena.insert(5001, "noah")
     await soon(lambda: (5001, "noah", "x", True) in noah.rows[1])
     # rights that change are told where they matter
@@ -188,8 +180,7 @@ async def a_reader_answers_when_it_has_taken_in(store: Store, http: aiohttp.Clie
     await leave(lena, mia, noah, boss)
 
 
-@test
-async def a_request_stands_once(store: Store, http: aiohttp.ClientSession):
+async def test_a_request_stands_once(store: Store, http: aiohttp.ClientSession, opened: Opening) -> None:
     """However often a request is sent, and to whom: by the name that its gateway gave it, or its client."""
     party = await asyncio.to_thread(Party, store)
     (writer,), (reader,) = party.candidates, party.readers
@@ -235,12 +226,12 @@ async def a_request_stands_once(store: Store, http: aiohttp.ClientSession):
     assert [(it["name"], it["count"]) for it in heard] == [("late", 5)], heard
     # a refusal that comes when its request was sent once more
     os.kill(writer.process.pid, signal.SIGSTOP)
-    asked = asyncio.create_task(mia.ask(**write | {"once": "twice"}))
+    twice = asyncio.create_task(mia.ask(**write | {"once": "twice"}))
     await asyncio.sleep(0.1)
     store.client.publish(f"desk:to:{reader.state()['gateway']}", b'{"name":"mia/twice","count":1,"place":1}\n{"error":3}')
     await asyncio.sleep(0.1)
     os.kill(writer.process.pid, signal.SIGCONT)
-    assert await asked == {"ok": True}
+    assert await twice == {"ok": True}
     task.cancel()
     await asyncio.wait([task])
     await asyncio.to_thread(party.agree)
@@ -253,8 +244,7 @@ async def a_request_stands_once(store: Store, http: aiohttp.ClientSession):
     await leave(lena, mia)
 
 
-@test
-async def a_writer_that_was_stopped_tells_nobody(store: Store, http: aiohttp.ClientSession):
+async def test_a_writer_that_was_stopped_tells_nobody(store: Store, http: aiohttp.ClientSession) -> None:
     """It is continued after its lease has passed to another: what it has decided is not in the stream, and it begins anew."""
     party = await asyncio.to_thread(Party, store, 2, 1)
     first = await there(party.writer)
@@ -283,7 +273,7 @@ async def a_writer_that_was_stopped_tells_nobody(store: Store, http: aiohttp.Cli
     await asyncio.to_thread(party.agree)
     assert b"9001" not in b"".join(fields[b"line"] for fields in store.lines())
     name = second.state()["gateway"].encode()
-    assert store.client.get("desk:lease").startswith(name)
+    assert (store.client.get("desk:lease") or b"").startswith(name)
     second.process.terminate()  # who ends in peace gives the lease back
     assert second.process.wait(PATIENCE) == 143 and not (store.client.get("desk:lease") or b"").startswith(name), second.said()
     await there(lambda: first.state().get("writes"))
@@ -305,18 +295,19 @@ async def a_writer_that_was_stopped_tells_nobody(store: Store, http: aiohttp.Cli
     await mia.leave()
 
 
-@test
-async def the_largest_view_ends_first(store: Store, http: aiohttp.ClientSession):
+async def test_the_largest_view_ends_first(store: Store, http: aiohttp.ClientSession) -> None:
     """What the writer accepted and a view of a reader's client forbids is taken in: such views end, the largest first, and no more of them."""
     party = await asyncio.to_thread(Party, store)
     (writer,), (reader,) = party.candidates, party.readers
     admin, = await enter(http, writer, "admin")
-    for request in ({"do": "create_table", "name": "ones", "owner": "admin", "columns": [["k", "int"], ["x", "int"]]},
-                    {"do": "create_view", "name": "pairs", "owner": "admin", "query": "select a.x, b.x as y from ones a join ones b on a.k = b.k"},
-                    {"do": "create_view", "name": "few", "owner": "admin", "query": "select a.x, b.x as y from ones a join ones b on a.k = b.k where a.x = b.x"},
-                    {"do": "create_view", "name": "sums", "owner": "admin", "query": "select k, count(*) as n from ones group by k"},
-                    {"do": "grant", "on": "pairs", "privileges": ["select"], "to": "lena"}, {"do": "grant", "on": "ones", "privileges": ["select"], "to": "lena"},
-                    {"do": "write", "entries": [{"on": "ones", "insert": [1, x]} for x in range(200)]}):
+    requests: list[Line] = [
+        {"do": "create_table", "name": "ones", "owner": "admin", "columns": [["k", "int"], ["x", "int"]]},
+        {"do": "create_view", "name": "pairs", "owner": "admin", "query": "select a.x, b.x as y from ones a join ones b on a.k = b.k"},
+        {"do": "create_view", "name": "few", "owner": "admin", "query": "select a.x, b.x as y from ones a join ones b on a.k = b.k where a.x = b.x"},
+        {"do": "create_view", "name": "sums", "owner": "admin", "query": "select k, count(*) as n from ones group by k"},
+        {"do": "grant", "on": "pairs", "privileges": ["select"], "to": "lena"}, {"do": "grant", "on": "ones", "privileges": ["select"], "to": "lena"},
+        {"do": "write", "entries": [{"on": "ones", "insert": [1, x]} for x in range(200)]}]
+    for request in requests:
         assert await admin.ask(**request) == {"ok": True}, request
     await asyncio.to_thread(party.agree)
     first, second, lena = await enter(http, reader, "admin", "admin", "lena")
@@ -347,8 +338,7 @@ async def the_largest_view_ends_first(store: Store, http: aiohttp.ClientSession)
     await leave(admin, first, second, lena)
 
 
-@test
-async def a_snapshot_is_where_readers_begin(store: Store, http: aiohttp.ClientSession):
+async def test_a_snapshot_is_where_readers_begin(store: Store, http: aiohttp.ClientSession) -> None:
     """It is made while gateways run; what stands further behind goes; who is behind it begins anew; names are still known."""
     with tempfile.NamedTemporaryFile() as seed:
         seed.write((TOP / "desk.jsonl").read_bytes() + b"".join(line(number) + line(number).replace(b"insert", b"delete") for number in range(600)))
@@ -396,8 +386,7 @@ async def a_snapshot_is_where_readers_begin(store: Store, http: aiohttp.ClientSe
     await leave(mia, boss)
 
 
-@test
-async def memberships_go_to_all(store: Store, http: aiohttp.ClientSession):
+async def test_memberships_go_to_all(store: Store, http: aiohttp.ClientSession) -> None:
     """Given at one gateway, told and shown at all; kept by a snapshot; ended at all."""
     party = await asyncio.to_thread(Party, store)
     (writer,), (reader,) = party.candidates, party.readers
@@ -433,8 +422,7 @@ async def memberships_go_to_all(store: Store, http: aiohttp.ClientSession):
     await leave(admin, here, lena, there)
 
 
-@test
-async def agree_sees_a_difference(store: Store, http: aiohttp.ClientSession):
+async def test_agree_sees_a_difference(store: Store, http: aiohttp.ClientSession) -> None:
     """Two streams of as many entries: other rows, other grants, other memberships. And while many write."""
     def gate(name: str, more: bytes) -> Gate:
         with tempfile.NamedTemporaryFile() as seed:
@@ -461,7 +449,7 @@ async def agree_sees_a_difference(store: Store, http: aiohttp.ClientSession):
     writers = [*await enter(http, party.candidates[0], "lena", "lena"), *await enter(http, party.readers[0], "lena", "lena")]
     stop, count = False, itertools.count(1)
 
-    async def write(peer) -> None:
+    async def write(peer: Peer) -> None:
         while not stop:
             number = next(count)
             for turn in ("insert", "delete"):
@@ -477,8 +465,7 @@ async def agree_sees_a_difference(store: Store, http: aiohttp.ClientSession):
     await leave(*writers)
 
 
-@test
-async def redis_is_asked_whether_it_syncs(store: Store, http: aiohttp.ClientSession):
+async def test_redis_is_asked_whether_it_syncs(store: Store) -> None:
     gate = await asyncio.to_thread(Party, store, 1, 0)
     state = gate.candidates[0].state()
     assert state["synced"] is True and "SYNC" not in gate.candidates[0].said() and WORD not in gate.candidates[0].said() + json.dumps(state)
@@ -492,8 +479,7 @@ async def redis_is_asked_whether_it_syncs(store: Store, http: aiohttp.ClientSess
             loose.end()
 
 
-@test
-async def redis_may_ask_for_tls_and_a_password(store: Store, http: aiohttp.ClientSession):
+async def test_redis_may_ask_for_tls_and_a_password(store: Store, http: aiohttp.ClientSession) -> None:
     for url in (store.url.replace(WORD, "wrong"), store.url.replace(f":{WORD}@", "")):
         gate = Gate(url, start=False)
         gate.launch()
@@ -521,8 +507,7 @@ async def redis_may_ask_for_tls_and_a_password(store: Store, http: aiohttp.Clien
         safe.end()
 
 
-@test
-async def nothing_is_lost_or_twice(store: Store, http: aiohttp.ClientSession, seconds: float, clients: int = 150, writers: int = 30):
+async def test_nothing_is_lost_or_twice(store: Store, http: aiohttp.ClientSession, seconds: float, clients: int = 150, writers: int = 30) -> None:
     """Gateways, viewds and Redis are killed, and writers are stopped, while clients read and write through all gateways."""
     with tempfile.NamedTemporaryFile() as seed:
         seed.write((TOP / "desk.jsonl").read_bytes())
@@ -555,39 +540,3 @@ async def nothing_is_lost_or_twice(store: Store, http: aiohttp.ClientSession, se
     ends = ", ".join(f"{name} {count}" for name, count in sorted(reaper.count.items()))
     print(f"    {counted}\n    {clients} clients at 5 gateways, {took:.0f} s, ended: {ends}; {len(book.came) + sum(1 for it in crowd if it.role != 'lena')} entries,"
           f" {book.settled} settled states looked at, {book.again} writes asked again\n    {said}")
-
-
-async def run(check, seconds: float) -> None:
-    words = {"seconds": seconds} if "seconds" in check.__annotations__ else {}
-    store = await asyncio.to_thread(Store)
-    try:
-        async with aiohttp.ClientSession(connector=aiohttp.TCPConnector(limit=0)) as http:
-            await asyncio.wait_for(check(store, http, **words), 6 * PATIENCE + 2 * seconds)
-            while OPENED:
-                await OPENED.pop().close()
-    except BaseException:
-        print(*[f"--- {it.url}\n{it.said()[-1500:]}" for it in Gate.running], sep="\n")
-        raise
-    finally:
-        for gate in list(Gate.running):
-            gate.end()
-        store.end()
-
-
-def main(given: argparse.Namespace) -> None:
-    for check in [it for it in TESTS if not given.tests or it.__name__ in given.tests]:
-        began = time.monotonic()
-        try:
-            asyncio.run(run(check, given.seconds))
-        except Exception as why:
-            print(f"FAILED  {check.__name__}  {time.monotonic() - began:.1f} s\n{explain(why)}", flush=True)
-            sys.exit(1)
-        print(f"ok  {check.__name__}  {time.monotonic() - began:.1f} s", flush=True)
-
-
-if __name__ == "__main__":
-    words = argparse.ArgumentParser(description=__doc__.splitlines()[0])
-    words.add_argument("--seconds", type=float, default=20, help="of kills")
-    words.add_argument("tests", nargs="*")
-    given = words.parse_args()
-    main(given)

@@ -1,19 +1,16 @@
-"""How tests of the program are listed and run, and what they have in common."""
-import argparse
+"""What tests of the program have in common."""
 import collections
 import contextlib
 import json
 import resource
-import signal
-import sys
 import time
-import traceback
-from collections.abc import Callable
+from collections.abc import Callable, Iterator
+from typing import Any
 
-from wire import PATIENCE, PROGRAM, Ended, Gateway
+from wire import PATIENCE, Ended, Gateway, Line, Wire
 
-TESTS: list[Callable] = []
-BASE = [{"do": "create_role", "name": name} for name in ("ann", "bob", "mia")] + [
+Rows = collections.Counter[tuple[Any, ...]]
+BASE: list[Line] = [{"do": "create_role", "name": name} for name in ("ann", "bob", "mia")] + [
     {"do": "create_table", "name": "notes", "owner": "ann", "columns": [["id", "int"], ["who", "text"]]},
     {"do": "grant", "on": "notes", "privileges": ["select", "insert", "delete"], "to": "mia"},
     {"do": "grant", "on": "notes", "privileges": ["select"], "to": "bob"}]
@@ -26,13 +23,8 @@ def many_files(count: int = FILES) -> None:
     resource.setrlimit(resource.RLIMIT_NOFILE, (most if most != resource.RLIM_INFINITY and most < count else count, most))
 
 
-def test(check: Callable) -> Callable:
-    TESTS.append(check)
-    return check
-
-
 @contextlib.contextmanager
-def serving(base=BASE, **how):
+def serving(base: list[Line] = BASE, **how: Any) -> Iterator[tuple[Gateway, Wire]]:
     """A gateway that has carried out these requests, and its administrator."""
     gate = Gateway(**how)
     admin = gate.enter("admin")
@@ -43,7 +35,7 @@ def serving(base=BASE, **how):
     gate.end()
 
 
-def until(holds: Callable, what: str) -> None:
+def until(holds: Callable[[], Any], what: str) -> None:
     """Waits until it holds."""
     end = time.monotonic() + PATIENCE
     while not holds():
@@ -58,60 +50,15 @@ def comes_in(gate: Gateway, role: str) -> bool:
         return False
 
 
-def insert(number: int, who: str, on: str = "notes", **keys) -> dict:
+def insert(number: int, who: str, on: str = "notes", **keys: Any) -> Line:
     return {**keys, "do": "write", "entries": [{"on": on, "insert": [number, who]}]}
 
 
-def total(lines: list[str], sub: int = 1) -> collections.Counter:
+def total(lines: list[str], sub: int = 1) -> Rows:
     """What the lines for a number add up to."""
-    rows = collections.Counter()
+    rows: Rows = collections.Counter()
     for it in map(json.loads, lines):
         if it.get("sub") == sub:
             for copies, row in it.get("changes", []):
                 rows[tuple(row)] += copies
     return collections.Counter({row: copies for row, copies in rows.items() if copies})
-
-
-def passes(check: Callable, words: dict) -> bool:
-    """Whether a test passes. Behind it no program of it runs."""
-    start = time.monotonic()
-    try:
-        check(**words)
-        print(f"ok  {check.__name__}, {time.monotonic() - start:.1f} s", flush=True)
-        return True
-    except Exception:
-        traceback.print_exc()
-        for gate in Gateway.running:
-            print(f"--- port {gate.port}\n{gate.said()[-1500:]}")
-        print(f"FAILED  {check.__name__}", flush=True)
-        return False
-    finally:
-        for gate in [*Gateway.running]:
-            gate.end()
-
-
-def main() -> int:
-    words = argparse.ArgumentParser()
-    words.add_argument("tests", nargs="*")
-    words.add_argument("--kills", type=int, default=20)
-    words.add_argument("--steps", type=int, default=400)
-    given, failed, passed = words.parse_args(), [], 0
-    if not PROGRAM.is_file():
-        print(f"program: {PROGRAM} is not built (./gateway --help)")
-        return 1
-    for number in (signal.SIGTERM, signal.SIGHUP):  # what it has started ends with it
-        signal.signal(number, lambda number, _: sys.exit(128 + number))
-    many_files()
-    more = {"kills_lose_nothing": {"kills": given.kills}, "each_line_is_the_models": {"steps": given.steps}}
-    for check in TESTS:
-        name = check.__name__
-        if given.tests and not any(word in name for word in given.tests):
-            continue
-        if passes(check, more.get(name, {})):
-            passed += 1
-        else:
-            failed.append(name)
-        if len(failed) == 3:
-            break
-    print(f"program: {passed} tests passed, {len(failed)} failed{''.join(': ' + ', '.join(failed) for _ in failed[:1])}")
-    return bool(failed or not passed)

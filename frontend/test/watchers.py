@@ -8,15 +8,15 @@ import pathlib
 import random
 import signal
 import time
+from typing import Any
 
 import aiohttp
 
-from gate import ROLES, VIEWD, Gate, soon
-from party import Party, there
-from store import Store
-
 import compact
 import journal
+from gate import ROLES, VIEWD, Gate, Line, Row, soon
+from party import Party, there
+from store import Store
 
 FIRST = 10_000  # the number of the first pair of tickets
 LEASE = 5.0  # seconds, as a gateway has it, which pass while parts are ended
@@ -33,10 +33,14 @@ class Watcher:
         self.clear()
 
     def clear(self) -> None:
-        self.ws, self.tickets, self.counts = None, {}, {}
-        self.agents, self.odd, self.subs = collections.Counter(), set(), 0
-        self.asked: collections.deque[asyncio.Future] = collections.deque()
-        self.replied: list[tuple[asyncio.Future, dict]] = []  # whose request is not settled
+        self.ws: aiohttp.ClientWebSocketResponse | None = None
+        self.tickets: dict[Row, int] = {}
+        self.counts: dict[Row, int] = {}
+        self.agents: collections.Counter[str] = collections.Counter()
+        self.odd: set[int] = set()
+        self.subs = 0
+        self.asked: collections.deque[asyncio.Future[Line]] = collections.deque()
+        self.replied: list[tuple[asyncio.Future[Line], Line]] = []  # whose request is not settled
 
     async def live(self) -> None:
         while True:
@@ -47,13 +51,14 @@ class Watcher:
                         for one in map(json.loads, message.data.split("\n")):
                             self.take(one, ws)
             self.answer()
-            lost, _ = self.asked, self.clear()
+            lost = self.asked
+            self.clear()
             for reply in lost:
                 if not reply.done():
                     reply.set_result({"error": "lost"})
             await asyncio.sleep(random.uniform(0.05, 0.3))
 
-    def take(self, one: dict, ws: aiohttp.ClientWebSocketResponse) -> None:
+    def take(self, one: Line, ws: aiohttp.ClientWebSocketResponse) -> None:
         if "role" in one:
             for on in ("tickets", "by_agent"):
                 self.asked.append(asyncio.get_running_loop().create_future())
@@ -95,14 +100,15 @@ class Watcher:
     def ready(self) -> bool:
         return self.ws is not None
 
-    async def send(self, ws: aiohttp.ClientWebSocketResponse, request: dict) -> None:
+    async def send(self, ws: aiohttp.ClientWebSocketResponse, request: Line) -> None:
         with contextlib.suppress(ConnectionError, RuntimeError):
             await ws.send_json(request)
 
-    async def ask(self, request: dict) -> dict:
+    async def ask(self, request: Line) -> Line:
         """Of a watcher that is ready."""
-        reply = asyncio.get_running_loop().create_future()
+        reply: asyncio.Future[Line] = asyncio.get_running_loop().create_future()
         self.asked.append(reply)
+        assert self.ws
         await self.send(self.ws, request)
         return await reply
 
@@ -120,7 +126,7 @@ class Watcher:
                 return
             number = mine.popleft() if turn == "delete" else next(self.book.numbers)
             entries = [{"on": "tickets", turn: [number, agent, part, True]} for agent, part in zip(agents, "ab")]
-            request = {"do": "write", "entries": entries} | ({"once": f"{turn}-{number}"} if insists else {})
+            request: dict[str, Any] = {"do": "write", "entries": entries} | ({"once": f"{turn}-{number}"} if insists else {})
             reply = await self.ask(request)
             while insists and reply["error" if "error" in reply else "ok"] == "lost" and not self.book.stop:
                 await soon(lambda: self.ready or self.book.stop)
@@ -139,7 +145,7 @@ class Watcher:
 class Book:
     """What clients were told, and saw."""
 
-    def __init__(self):
+    def __init__(self) -> None:
         self.numbers = iter(range(FIRST, 10_000_000))
         self.done: dict[str, set[int]] = {"insert": set(), "delete": set()}
         self.came: list[tuple[tuple[int, int], set[int]]] = []
@@ -150,10 +156,11 @@ class Reaper:
     """Ends parts of a party at random moments, and starts them again."""
 
     def __init__(self, store: Store, party: Party):
-        self.store, self.party, self.count = store, party, collections.Counter()
+        self.store, self.party = store, party
+        self.count: collections.Counter[str] = collections.Counter()
 
     async def all(self, seconds: float) -> None:
-        began, acts = time.monotonic(), []
+        began, acts = time.monotonic(), list[Any]()
         while time.monotonic() < began + seconds or acts:
             if not acts:
                 acts = [self.reader, self.viewd, self.redis, self.stopped, self.writer, self.viewd]
@@ -197,7 +204,7 @@ class Reaper:
 def told(store: Store, book: Book) -> tuple[dict[str, dict[int, int]], str]:
     """The place of each pair's insert and delete, once each; and what was acknowledged and lost, or done twice."""
     places: dict[str, dict[int, int]] = {"insert": {}, "delete": {}}
-    names = collections.Counter()
+    names: collections.Counter[bytes] = collections.Counter()
     for place, fields in enumerate(store.lines(), 1):
         names[fields[b"name"]] += fields[b"name"] != b""
         first = json.loads(fields[b"line"]).get("entries", [{"on": ""}])[0]
@@ -221,17 +228,15 @@ def never_back(book: Book, places: dict[str, dict[int, int]]) -> None:
         assert not [it for it, at in came.items() if at <= place and it not in numbers and it not in went], (last_came, last_gone)
 
 
-def bags(store: Store) -> dict[str, tuple[dict, dict]]:
+def bags(store: Store) -> dict[str, tuple[dict[Row, int], dict[Row, int]]]:
     """What each role sees, by a viewd that was told the stream and nothing else."""
     viewd = compact.Viewd(journal.replay(VIEWD, None))
     for fields in store.lines():
         viewd.ask(*journal.entry_of(fields[b"line"], "a line"))
-    seen = {}
-    for role in ROLES:
-        both = []
-        for on in ("tickets", "by_agent"):
-            sub = viewd.ask(role, {"do": "subscribe", "on": on})[0]["sub"]
-            both.append({tuple(row): copies for copies, row in viewd.ask(role, {"do": "unsubscribe", "sub": sub})[1]})
-        seen[role] = tuple(both)
+
+    def shown(role: str, on: str) -> dict[Row, int]:
+        sub = viewd.ask(role, {"do": "subscribe", "on": on})[0]["sub"]
+        return {tuple(row): copies for copies, row in viewd.ask(role, {"do": "unsubscribe", "sub": sub})[1]}
+    seen = {role: (shown(role, "tickets"), shown(role, "by_agent")) for role in ROLES}
     viewd.process.kill()
     return seen

@@ -8,6 +8,7 @@ import hashlib
 import json
 import os
 import pathlib
+import re
 import resource
 import select
 import signal
@@ -19,9 +20,11 @@ import time
 import urllib.error
 import urllib.request
 from collections.abc import Callable
+from typing import Any
 
 from ports import free_port
 
+Line = dict[str, Any]  # a line of JSON, or a request
 TOP = pathlib.Path(__file__).resolve().parent.parent.parent
 PROGRAM = pathlib.Path(os.environ.get("GATEWAY", TOP / "crates/gateway/out/gateway")).resolve()
 PATIENCE = float(os.environ.get("PATIENCE", 600))  # seconds for anything that has to come: a slow machine fails no test
@@ -72,8 +75,12 @@ class Wire:
         self.socket.settimeout(PATIENCE)
         self.socket.connect(("127.0.0.1", port))
         self.socket.setsockopt(socket.IPPROTO_TCP, socket.TCP_NODELAY, 1)
-        self.input, self.lines, self.code, self.words, self.kinds, self.messages = b"", [], None, b"", [], 0
-        self.role, self.shape = None, []
+        self.input, self.words, self.messages = b"", b"", 0
+        self.lines: list[str] = []
+        self.kinds: list[tuple[int, bytes]] = []
+        self.code: int | None = None
+        self.role: str | None = None
+        self.shape: list[str] = []
         if open_it:
             self.open()
         if token is not None:
@@ -107,7 +114,7 @@ class Wire:
     def send(self, data: bytes) -> None:
         self.socket.sendall(data)
 
-    def say(self, message: str | bytes | dict) -> None:
+    def say(self, message: str | bytes | Line) -> None:
         """A message, in one frame."""
         if isinstance(message, dict):
             message = json.dumps(message, separators=(",", ":"))
@@ -160,7 +167,7 @@ class Wire:
         self.take_in()
         while True:
             while self.lines:
-                line = self.lines.pop(0)
+                line: str = self.lines.pop(0)
                 if line != '{"alive":true}':
                     return line
             self.read(max(end - time.monotonic(), 0.001))
@@ -172,14 +179,14 @@ class Wire:
             lines.append(line)
         return lines
 
-    def ask(self, message: str | dict) -> list[str]:
+    def ask(self, message: str | Line) -> list[str]:
         self.say(message)
         return self.event()
 
     def enter(self) -> str:
         """The role that the token opens. An administrator is told the shape, too."""
         role, *self.shape = self.event()
-        return json.loads(role)["role"]
+        return str(json.loads(role)["role"])
 
     def end(self, seconds: float = PATIENCE) -> int | None:
         """Reads until the connection ends. The code of the close."""
@@ -194,7 +201,7 @@ class Wire:
         self.socket.close()
 
 
-def in_time(attempt: Callable, seconds: float = COMING):
+def in_time(attempt: Callable[[], Any], seconds: float = COMING) -> Any:
     """What an attempt gives. Where it gives None behind so long that this host may have left it no time, it is made again."""
     end = time.monotonic() + PATIENCE
     while True:
@@ -209,7 +216,7 @@ def in_time(attempt: Callable, seconds: float = COMING):
 DIRECT = urllib.request.build_opener(urllib.request.ProxyHandler({}))
 
 
-def http(port: int, path: str, token: str | None = None, method: str = "GET", head: dict | None = None) -> tuple[int, dict, bytes]:
+def http(port: int, path: str, token: str | None = None, method: str = "GET", head: dict[str, str] | None = None) -> tuple[int, dict[str, str], bytes]:
     """A plain request."""
     ask = urllib.request.Request(f"http://127.0.0.1:{port}{path}", method=method,
                                  headers={**({"Authorization": f"Bearer {token}"} if token else {}), **(head or {})})
@@ -242,17 +249,25 @@ class Gateway:
 
     running: list["Gateway"] = []
 
-    def __init__(self, roles: tuple[str, ...] = ("admin", "ann", "bob", "mia"), words: tuple = (), journal: bytes | None = None, start: bool = True):
+    def __init__(self, roles: tuple[str, ...] = ("admin", "ann", "bob", "mia"), words: tuple[Any, ...] = (), journal: bytes | None = None, start: bool = True):
         self.place = tempfile.TemporaryDirectory(prefix="gateway.")
         self.folder = pathlib.Path(self.place.name)
-        self.journal, self.tokens, self.logs = self.folder / "journal.jsonl", self.folder / "tokens.toml", []
+        self.journal, self.tokens = self.folder / "journal.jsonl", self.folder / "tokens.toml"
+        self.logs: list[pathlib.Path] = []
         self.know(*roles)
         if journal is not None:
             self.journal.write_bytes(journal)
-        self.port, self.words, self.process = free_port(), words, None
+        self.port, self.words = free_port(), words
+        self.started: subprocess.Popen[bytes] | None = None
         self.running.append(self)
         if start:
             self.start()
+
+    @property
+    def process(self) -> subprocess.Popen[bytes]:
+        """Of one that was started."""
+        assert self.started, "it was not started"
+        return self.started
 
     def know(self, *roles: str, lines: tuple[str, ...] = ()) -> None:
         """The tokens of these roles are known from now on, and those of these lines."""
@@ -264,7 +279,7 @@ class Gateway:
         fresh.write_text(text)
         fresh.rename(self.tokens)
 
-    def launch(self, most: int | None = None, memory: int | None = None, files: int | None = None) -> subprocess.Popen:
+    def launch(self, most: int | None = None, memory: int | None = None, files: int | None = None) -> subprocess.Popen[bytes]:
         """Starts it. It makes no file longer than so many bytes, has no more memory than so many, and no more files open than so many."""
         def limit() -> None:
             signal.signal(signal.SIGXFSZ, signal.SIG_IGN)
@@ -273,7 +288,7 @@ class Gateway:
                     resource.setrlimit(kind, (size, size))
         self.logs.append(self.folder / f"log.{len(self.logs)}")
         with self.logs[-1].open("wb") as log:
-            self.process = subprocess.Popen([PROGRAM, "--journal", self.journal, "--tokens", self.tokens, "--port", str(self.port), *self.words],
+            self.started = subprocess.Popen([PROGRAM, "--journal", self.journal, "--tokens", self.tokens, "--port", str(self.port), *self.words],
                                             stdin=subprocess.DEVNULL, stderr=log, preexec_fn=None if most is memory is files is None else limit)
         return self.process
 
@@ -297,7 +312,7 @@ class Gateway:
     def knock(self, token: str, receive: int | None = None) -> Wire:
         """A connection that has presented a token: its `role` where it was let in, and else the code with which it was turned away."""
         def attempt() -> Wire | None:
-            wire = None
+            wire: Wire | None = None
             try:
                 wire = Wire(self.port, token, receive)
                 wire.role = wire.enter()
@@ -305,7 +320,8 @@ class Gateway:
                 if wire is None or wire.code is None:
                     return None
             return wire
-        if (wire := in_time(attempt)) is None:
+        wire: Wire | None = in_time(attempt)
+        if wire is None:
             raise Ended(None)
         return wire
 
@@ -317,11 +333,11 @@ class Gateway:
         assert wire.role == role
         return wire
 
-    def noted(self) -> list[dict]:
+    def noted(self) -> list[Line]:
         """The entries of the journal with their notes: `at`, and `by`, the holder of the token."""
         return [{key: it for key, it in json.loads(line).items() if key != "last"} for line in self.journal.read_bytes().split(b"\n")[1:-1]]
 
-    def entries(self) -> list[dict]:
+    def entries(self) -> list[Line]:
         return [{key: it for key, it in entry.items() if key not in ("at", "by")} for entry in self.noted()]
 
     def lines(self) -> bytes:
@@ -338,8 +354,8 @@ class Gateway:
 
     def most_memory(self) -> int:
         """Bytes of the process when they were most."""
-        fields = dict(line.split(":") for line in pathlib.Path(f"/proc/{self.process.pid}/status").read_text().splitlines())
-        return int(fields["VmHWM"].split()[0]) * 1024
+        found = re.findall(r"(?m)^VmHWM:\s+(\d+) kB$", pathlib.Path(f"/proc/{self.process.pid}/status").read_text())
+        return int(found[0]) * 1024
 
     def processor(self) -> float:
         """Seconds of processor that the process has taken."""
@@ -348,6 +364,6 @@ class Gateway:
 
     def end(self) -> None:
         self.running.remove(self)
-        if self.process and self.process.poll() is None:
+        if self.started and self.started.poll() is None:
             self.kill()
         self.place.cleanup()

@@ -5,8 +5,9 @@ import unittest
 from cuts import Cut
 from kinds import KINDS, Column
 from mirror import Mirror, Table
-from pgoutput import UNCHANGED, Begin, Cells, Commit, Delete, Insert, Message, Old, Origin, Relation, Truncate, Type, Unreadable, Update, decoded, lsn_of, lsn_text
+from pgoutput import UNCHANGED, Begin, Cells
 from pgoutput import Column as Sent
+from pgoutput import Commit, Delete, Insert, Message, Old, Origin, Relation, Truncate, Type, Unreadable, Update, decoded, lsn_of, lsn_text
 from rows import writes
 from stream import Change, Lost, Transaction, Transactions
 

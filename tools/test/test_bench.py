@@ -1,6 +1,6 @@
 """What bench/run makes of its measures."""
-from measure import slope
-from report import number, table
+from viewd_bench.measure import slope
+from viewd_bench.report import number, table
 
 
 def test_a_slope_is_the_power_of_the_size() -> None:

@@ -22,10 +22,6 @@ def test_a_part_that_did_not_run_says_so_and_passes() -> None:
     assert not Ended("types", ended.said, False).has_passed()
 
 
-def test_of_the_front_end_the_tests_are_counted() -> None:
-    assert Ended("frontend", "ok  one 1 s\nok  two 2 s\nFAILED three\n", True).number() == 2
-
-
 def test_each_part_has_a_command(monkeypatch: pytest.MonkeyPatch) -> None:
     for name in ("VIEWD", "GATEWAY"):
         monkeypatch.delenv(name, raising=False)

@@ -3,7 +3,7 @@ from typing import Any
 
 from viewd_ci.common import below, crates_in, first_sentence
 from viewd_ci.definitions import definitions_in, has_meaning
-from viewd_ci.files import differences, laws_in, wrong_with
+from viewd_ci.files import differences, files_of_tests, first_words, laws_in, wrong_with
 from viewd_ci.protocol import cases, in_forms, tables, written
 
 KNOWN: dict[str, Any] = {
@@ -132,3 +132,10 @@ def test_a_map_is_compared_line_by_line() -> None:
 
 def test_a_sentence_ends_at_its_point() -> None:
     assert first_sentence("One of 1.5 and `a.b`. Two.") == "One of 1.5 and `a.b`."
+
+
+def test_files_of_tests_tell_what_they_test() -> None:
+    assert first_words("test_rows.py", '#!/usr/bin/python3\n"""What rows\nare. More of it."""\n') == "What rows are."
+    assert first_words("rows.test.js", "// What rows are. More of it.\nimport fs;\n") == "What rows are."
+    assert first_words("test_rows.py", "import os\n") == ""
+    assert {"frontend/test/test_program.py", "clients/js/test/viewd.test.js", "tools/test/test_tables.py"} <= {*files_of_tests()}

@@ -193,7 +193,8 @@ def main(words: list[str]) -> int:
     need("viewd: the program is not built")
     hold_to_handles(TOP)
     keep_stamps(rt().Crate)
-    program = next((it for it in rtlib().crates_below(TOP) if it.name == name), None) or sys.exit(f"build: there is no crate {name}: crates.txt has their names")
+    found = next((it for it in rtlib().crates_below(TOP) if it.name == name), None)
+    program = found or sys.exit(f"build: there is no crate {name}: crates.txt has their names")
     for it in program.below():
         it.rlib = f"{started(it)}/{it.name}.rlib"
     rtlib().guarded()

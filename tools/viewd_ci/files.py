@@ -8,8 +8,10 @@ Of each head (`//!` in src/, `--` in specs/ and proofs/) the first sentence is t
 most 160 characters, and each name in its backticks is in the file or is an example's, so that it does not tell of a function that was
 dropped or renamed. A crate that a sentence names is there, and one of the two is below the other.
 
-A law is a public function of src/laws.rt, or of a file in src/laws/. Each has its `///`, which PROOFS has word for word.
+A law is a public function of src/laws.rt, or of a file in src/laws/. Each has its `///`, which PROOFS has word for word. A file of tests of a
+program has a first sentence, too: FILES has it behind the crates.
 """
+import ast
 import glob
 import os
 import re
@@ -38,6 +40,17 @@ PARTS = [
         "([how proofs/ is laid out](../../docs/PROOFS.md#how-proofs-is-laid-out)).",
     ),
 ]
+TESTS = ["frontend/test/test_*.py", "clients/js/test/*.test.js", "clients/python/test/test_*.py", "clients/examples/*/test_*.py"]
+TESTS += ["postgresql/test/test_*.py", "tools/test/test_*.py"]
+OF_TESTS = """
+## Tests of programs
+
+Those of crates are crates themselves. `frontend/test/one --collect-only` lists the tests of its folder by their names, and `frontend/test/one -k WORD`
+runs some; the parts of [the gate](GATE.md) run all.
+
+| file | what is tested |
+|---|---|
+"""
 LAWS = os.path.join("docs", "PROOFS.md")
 BEGIN, END = "<!-- By .ci/files: -->\n", "<!-- The end of what .ci/files wrote. -->"
 LAW = re.compile(r"(?m)^((?:///[^\n]*\n)*)(?:#\[[^\n]*\n)*pub fn (\w+)")
@@ -49,6 +62,16 @@ def head_of(path: str, text: str) -> tuple[str, str]:
     lines, mark = text.split("\n"), "//! " if path.endswith(".rt") else "-- "
     end = next((number for number, line in enumerate(lines) if not re.match(rf"{re.escape(mark)}\S", line)), len(lines))
     return first_sentence(" ".join(line[len(mark) :] for line in lines[:end])), "\n".join(lines[end:])
+
+
+def files_of_tests() -> list[str]:
+    return [it for pattern in TESTS for it in sorted(glob.glob(pattern, root_dir=TOP))]
+
+
+def first_words(path: str, text: str) -> str:
+    """The first sentence of a file of tests: of its docstring, or of the comment in its first line."""
+    said = ast.get_docstring(ast.parse(text)) if path.endswith(".py") else text.split("\n")[0].removeprefix("// ")
+    return first_sentence(" ".join((said or "").split()))
 
 
 def is_example(name: str) -> bool:
@@ -87,13 +110,21 @@ class Maps:
         text = PREFACE
         for crate in known:
             text += f"| [{crate}](../crates/{crate}/README.md) | {self.crate(crate)} |\n"
-        self.pages[os.path.join("docs", "FILES.md")] = text
+        self.pages[os.path.join("docs", "FILES.md")] = text + OF_TESTS + "".join(map(self.tests, files_of_tests()))
         self.pages[LAWS] = self.proofs(contents(LAWS))
 
     def sentence(self, crate: str, path: str) -> str:
         text = contents(path)
         self.failures += wrong_with(crate, path, text, self.known)
         return head_of(path, text)[0]
+
+    def tests(self, path: str) -> str:
+        """The row of a file of tests."""
+        sentence = first_words(path, contents(path))
+        if not sentence.endswith("."):
+            self.failures.append(f"{path} has no sentence at its head")
+        self.files += 1
+        return f"| [{path}](../{path}) | {sentence} |\n"
 
     def crate(self, crate: str) -> str:
         """Makes the README of a crate, and returns the sentence at the crate's head."""

@@ -27,9 +27,9 @@ PROGRAM = "crates/viewd/out/viewd"
 GATEWAY = "crates/gateway/out/gateway"
 # what needs the longest comes first
 PARTS = ["clients", "frontend", "program", "postgresql", "refuse", "try", "limits", "fuzz", "examples", "queries", "socket", "types"]
-PARTS += ["tools", "meters", "seeds", "files", "definitions", "protocol", "words"]
+PARTS += ["tools", "lint", "meters", "seeds", "files", "modules", "definitions", "protocol", "words"]
 # those that do not ask for the program that is built, and those that ask for the kit
-OF_SOURCES = {"tools", "meters", "seeds", "files", "definitions", "protocol", "words", "types", "try"}
+OF_SOURCES = {"tools", "lint", "meters", "seeds", "files", "modules", "definitions", "protocol", "words", "types", "try"}
 OF_KIT = {"refuse", "try"}
 # and what asks for a program of its own
 OF_ITSELF = {"program"}
@@ -58,7 +58,7 @@ def commands(part: str, is_proved: bool) -> list[list[str]]:
         return [[f"{part}/test/run"]]
     if part in ("frontend", "program"):
         if is_proved or "GATEWAY" in os.environ or is_built(GATEWAY):
-            return [["frontend/test/run"] if part == "frontend" else ["frontend/test/test_program.py"]]
+            return [["frontend/test/run", *["--program"] * (part == "program")]]
         why = f"since {GATEWAY} is missing, or older than a source: ./gateway --help proves and builds it"
         if part == "program":
             return [["echo", f"program: did not run, {why}"]]
@@ -82,9 +82,7 @@ class Ended:
     is_well: bool
 
     def number(self) -> int:
-        """How many inputs, runs or lines the part tells of: of the front end the tests that passed."""
-        if self.part == "frontend":
-            return len(re.findall(r"(?m)^ok  ", self.said))
+        """How many inputs, runs, lines or tests the part tells of."""
         found = re.search(rf"(?m)^{self.part}: (\d+) ", self.said)
         return int(found[1]) if found else 0
 

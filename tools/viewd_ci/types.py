@@ -1,5 +1,5 @@
-"""Runs mypy --strict over the programs in Python: those of tools and bench, and those of packaging, postgresql and frontend if their packages
-are installed.
+"""Runs mypy --strict over the programs in Python with their tests: those of tools and bench, and those of packaging, postgresql and frontend if
+their packages are installed.
 
 Another version of mypy may see more or less than the one that they were written with, so it runs with that one alone. What is not installed
 does not run: it says so, and succeeds.
@@ -12,6 +12,8 @@ import tempfile
 from viewd_ci.common import TOP
 
 VERSION = "mypy 1.0."
+# what the programs of a folder import from another
+BESIDE = {"packaging": "../frontend/test"}
 STUBS = "/usr/lib/python3/dist-packages/psycopg2-stubs"
 
 
@@ -40,7 +42,8 @@ def modules(folder: str) -> list[str]:
 def check(cache: str, folder: str, words: list[str]) -> bool:
     """Whether mypy finds nothing, by the folder's own settings if it has some."""
     how = ["mypy", "--strict", "--python-version", "3.11", "--cache-dir", os.path.join(cache, folder), "--no-error-summary"]
-    return subprocess.run([*how, *words], cwd=os.path.join(TOP, folder), env=os.environ | {"MYPYPATH": "."}).returncode == 0
+    path = f".:test:{BESIDE[folder]}" if folder in BESIDE else ".:test"
+    return subprocess.run([*how, *words], cwd=os.path.join(TOP, folder), env=os.environ | {"MYPYPATH": path}).returncode == 0
 
 
 def has(*names: str) -> bool:
@@ -58,10 +61,10 @@ def folders() -> list[str]:
         found.append("postgresql")
     else:
         print("types: postgresql did not run; apt-get install -y python3-psycopg2 python3-pglast python3-typeshed")
-    if has("aiohttp", "redis"):
+    if has("aiohttp", "redis", "pytest", "selenium"):
         found.append("frontend")
     else:
-        print("types: frontend did not run; apt-get install -y python3-aiohttp python3-redis")
+        print("types: frontend did not run; apt-get install -y python3-aiohttp python3-redis python3-pytest python3-selenium")
     return found
 
 
@@ -74,9 +77,8 @@ def main(_: list[str]) -> int:
     with tempfile.TemporaryDirectory() as cache:
         wrong += not check(cache, "tools", ["__main__.py", "viewd_ci", *(["test"] if has("pytest") else [])])
         for folder in folders():
-            plain = [it for it in modules(folder) if "/" not in it]
             # a program without a suffix is a module of the one name, so each is looked at alone
-            for some in [plain, *([it] for it in programs(folder) if it.split("/")[0] != "test")]:
+            for some in [modules(folder), *([it] for it in programs(folder))]:
                 files += len(some)
                 wrong += not check(cache, folder, some)
     print(f"types: {files} files, {wrong} checks failed")

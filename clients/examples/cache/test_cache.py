@@ -15,10 +15,9 @@ import pytest
 HERE = pathlib.Path(__file__).resolve().parent
 sys.path.insert(0, str(HERE.parents[1] / "python/test"))
 
+import viewd  # noqa: E402
 from conftest import PATIENCE, gateway  # noqa: E402, F401
 from ports import free_port  # noqa: E402
-
-import viewd  # noqa: E402
 
 redis = pytest.importorskip("redis")
 if not shutil.which("redis-server"):

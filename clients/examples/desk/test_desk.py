@@ -9,9 +9,8 @@ HERE = pathlib.Path(__file__).resolve().parent
 TOP = HERE.parents[2]
 sys.path.insert(0, str(TOP / "clients/python/test"))
 
-from conftest import IS_BUILT, PATIENCE, Gateway, browser, has_browser  # noqa: E402
-
 import viewd  # noqa: E402
+from conftest import IS_BUILT, PATIENCE, Gateway, browser, has_browser  # noqa: E402
 
 if not has_browser():
     pytest.skip("no Chromium is here", allow_module_level=True)

@@ -17,10 +17,9 @@ import pytest
 HERE = pathlib.Path(__file__).resolve().parent
 sys.path.insert(0, str(HERE.parents[1] / "python/test"))
 
+import viewd  # noqa: E402
 from conftest import PATIENCE, browser, gateway, has_browser  # noqa: E402, F401
 from ports import free_port  # noqa: E402
-
-import viewd  # noqa: E402
 
 COLUMNS = [["id", "int"], ["owner", "text"], ["rank", "text"], ["body", "text"], ["draft", "flag"]]
 MADE = [{"do": "create_table", "name": "documents", "owner": "ann", "columns": COLUMNS},

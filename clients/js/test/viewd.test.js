@@ -1,4 +1,4 @@
-// What the client says and makes of what it is told, over a gateway that a test plays.
+// What the client says and makes of what it is told, over a gateway that a test plays: replies, rows, lost connections, silence, tokens.
 import assert from "node:assert/strict";
 import fs from "node:fs";
 import {test} from "node:test";
@@ -308,7 +308,7 @@ test("numbers of 64 bits stay exact", async (t) => {
   assert.deepEqual([one.rows.length, five.rows.length], [1, 1]);
 });
 
-test("rows are stale while another connection is tried, and then new", async (t) => {
+test("behind a lost connection rows are stale while another is tried, and then new", async (t) => {
   const [db, socket] = await entered(t);
   const notes = db.live("notes"), states = [];
   db.onState((state, why) => states.push([state, why]));

@@ -25,9 +25,8 @@ NOTES = [["id", "int"], ["who", "text"]]
 from websockets.exceptions import ConnectionClosedError  # noqa: E402
 from websockets.frames import Close  # noqa: E402
 
-from ports import free_port  # noqa: E402
-
 import viewd  # noqa: E402
+from ports import free_port  # noqa: E402
 
 
 class Waits(selectors.DefaultSelector):

@@ -1,13 +1,13 @@
-"""What the client says and makes of what it is told, over a gateway that a test plays."""
+"""What the client says and makes of what it is told, over a gateway that a test plays: replies, rows, lost connections, silence, tokens."""
 import asyncio
 import random
 import re
 from collections import Counter
 
 import pytest
-from conftest import NOTES, TOP, Still, entered, turn
 
 import viewd
+from conftest import NOTES, TOP, Still, entered, turn
 from viewd import NotSent, Refused, Undecided, ViewdError
 
 
@@ -261,7 +261,7 @@ async def test_what_raises_harms_nobody(fakes):
 
 
 @run
-async def test_rows_are_stale_while_another_connection_is_tried(fakes):
+async def test_behind_a_lost_connection_rows_are_stale_while_another_is_tried(fakes):
     db, socket = await entered()
     notes, changes, states = db.live("notes"), db.changes("notes"), []
     db.on_state(lambda state, why: states.append((state, why)))

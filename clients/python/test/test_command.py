@@ -3,17 +3,13 @@ import contextlib
 import csv
 import json
 import os
-import pathlib
 import pty
 import signal
 import subprocess
-import threading
 import time
 
-import pytest
-from conftest import PATIENCE, TOP
-
 import viewd
+from conftest import PATIENCE, TOP
 
 CLIENT = TOP / "clients/python/viewd-client"
 

@@ -5,9 +5,9 @@ import threading
 import time
 
 import pytest
-from conftest import PATIENCE
 
 import viewd
+from conftest import PATIENCE
 from viewd import Change, NotSent, Refused, Undecided
 
 

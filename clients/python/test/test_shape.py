@@ -3,9 +3,9 @@ import asyncio
 import json
 
 import pytest
-from conftest import Still, entered, turn
 
 import viewd
+from conftest import Still, entered, turn
 from viewd import NotSent, ViewdError
 from viewd.command import Wrong, parser
 from viewd.shape import shape_of

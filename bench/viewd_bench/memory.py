@@ -1,6 +1,6 @@
 """The bytes of memory that a row takes: in a table, in the circuit of a reader, in the steps of views and in the indexes of a join.
 
-Rows are those of bench/workloads.py, of a number, a text of two or three letters and a number. Each figure is of the memory that
+Rows are those of viewd_bench.workloads, of a number, a text of two or three letters and a number. Each figure is of the memory that
 the program has at the end (the resident set), divided by the rows, less that of the line which it names: what the one has and the
 other has not. The least and the greatest of sizes tell how the space of maps, which doubles, makes it differ. VIEWD names another
 program to run.
@@ -9,8 +9,8 @@ program to run.
 """
 from collections.abc import Iterable
 
-from measure import Run, own_program, part_of
-from workloads import Made, Request, begun, subscribed, table, view
+from viewd_bench.measure import Run, own_program, part_of
+from viewd_bench.workloads import Made, Request, begun, subscribed, table, view
 
 ALL = "select id, who, amount from a"
 NONE = "select id, who, amount from a where amount < 0"
@@ -46,7 +46,9 @@ def resident(program: str, requests: Iterable[Request]) -> int:
     return size
 
 
-def main(words: list[str]) -> int:
+def main(words: list[str]) -> int | str | None:
+    if not all(word.isdigit() for word in words):
+        return __doc__
     program, sizes = own_program(), [int(word) for word in words] or [65_536, 1_000_000]
     print("| bytes a row, of " + " | ".join(f"{rows:,} rows" for rows in sizes) + " |")
     print("| --- " * (len(sizes) + 1) + "|")

@@ -12,9 +12,9 @@ import time
 from collections.abc import Iterable, Iterator, Sequence
 from typing import Any
 
-from workloads import Request, request, text_of
+from viewd_bench.workloads import Request, request, text_of
 
-TOP = os.path.dirname(os.path.dirname(os.path.abspath(__file__)))
+TOP = os.path.dirname(os.path.dirname(os.path.dirname(os.path.abspath(__file__))))
 # no session has this number, so the answer is the last one of what was told, and the program waits
 LAST = request("finish", 4_294_967_295)
 LAST_ANSWER = b'{"error":3,"session":4294967295}\n'

@@ -8,8 +8,8 @@ column, which is accepted. VIEWD names another program to run.
 """
 import sys
 
-from measure import Run, own_program, part_of
-from workloads import WRITE, Request, begun, request, write
+from viewd_bench.measure import Run, own_program, part_of
+from viewd_bench.workloads import WRITE, Request, begun, request, write
 
 BATCHES = {2: 5_000, 20: 1_000, 100: 200, 1_000: 40}
 MOST = 3.0

@@ -8,8 +8,8 @@ nothing of how fast another machine is. VIEWD names another program to run.
 """
 import sys
 
-from measure import Run, own_program, part_of
-from workloads import Request, request, roles, write
+from viewd_bench.measure import Run, own_program, part_of
+from viewd_bench.workloads import Request, request, roles, write
 
 TABLES = [f"t{n}" for n in range(64)]
 ROLES = [f"r{n}" for n in range(255)]

@@ -19,8 +19,8 @@ import time
 from collections.abc import Iterable
 from typing import Any
 
-from measure import processor_seconds
-from workloads import Request
+from viewd_bench.measure import processor_seconds
+from viewd_bench.workloads import Request
 
 KINDS = {"int": "bigint", "text": 'text collate "C"', "flag": "boolean"}
 SETTINGS = [

@@ -11,8 +11,8 @@ import argparse
 import random
 import sys
 
-from measure import Run, own_program, part_of, slope
-from workloads import Request, Row, begun, request, subscribed, view, write
+from viewd_bench.measure import Run, own_program, part_of, slope
+from viewd_bench.workloads import Request, Row, begun, request, subscribed, view, write
 
 SIZES = (1_000, 4_000, 16_000, 60_000)
 MOST = 1.3

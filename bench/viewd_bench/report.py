@@ -3,9 +3,9 @@ import dataclasses
 import os
 from collections.abc import Iterable
 
-from measure import TOP, slope
-from plot import Panel, svg
-from workloads import Workload
+from viewd_bench.measure import TOP, slope
+from viewd_bench.plot import Panel, svg
+from viewd_bench.workloads import Workload
 
 OWN, OTHER, POSTGRESQL = "viewd", "the other", "PostgreSQL"
 BEGIN, END = "<!-- What bench/run printed: -->\n", "<!-- The end of what it printed. -->\n"

@@ -1,0 +1,1 @@
+"""What viewd and ./gateway cost: `bench/run` and `bench/gateway`."""
