@@ -69,6 +69,10 @@ def compare_files() -> None:
     for lines in (1, 2, 3, 5, 6, 7, 8, 65536, 4294967295):
         wanted = b"".join(answers[: lines if lines < 7 else 8])
         expect_answers(f"first_change, {lines} lines", ["replay", "--lines", str(lines)], contents(first + ".jsonl"), wanted)
+    for words in (["--lines", "007"], ["--lines=7"], ["--lines=7", "--rows=1024"], ["--rows", "1048576", "--lines", "7"]):
+        expect_answers(f"first_change, {words}", ["replay", *words], contents(first + ".jsonl"), b"".join(answers))
+    # without --lines a million are answered
+    expect_answers("a million lines and one more", ["replay"], b"x\n" * 1_000_001, b'{"error":1}\n' * 1_000_000)
 
 
 def compare_cut_off() -> None:
@@ -169,6 +173,8 @@ def compare_statuses() -> None:
         status, written, told = run(words, input=first, stdout=subprocess.PIPE)
         bound = b"--rows <N>" in written and b"different rows" in written and b"[default: 65536]" in written
         expect(f"what {words} say of --rows", (0, True, b""), (status, bound, told))
+        counts = 1 if words[0] == "replay" else 2
+        expect(f"what {words} say of --lines and --connections", counts, written.count(b"[default: 1000000]"))
     status, written, told = run(["--version"], input=first, stdout=subprocess.PIPE)
     expect("the words ['--version']", (0, b"viewd 0.1.0\n", b""), (status, written, told))
     folder = os.open(TOP, os.O_RDONLY)

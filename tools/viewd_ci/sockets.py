@@ -1,13 +1,15 @@
 """Talks to `viewd serve` as clients on loopback do, and compares what they are sent byte for byte.
 
 The conversations are two connections, a dialogue, clients that leave in the middle of a line, without a byte, with answers unread or before they
-are served, lines without an end, and so many lines of each connection. Another address of the host, 127.0.0.2, is refused. After them
-come the exit statuses and the words on standard error. VIEWD names another program to run. With the library of .ci/refuse as its word,
-it has each request for memory of a short conversation refused in turn instead, and then each option of a connection.
+are served, lines without an end, so many lines of each connection, a row limit, and a program that may open no file more. Another address of the
+host, 127.0.0.2, is refused. After them come the exit statuses and the words on standard error. VIEWD names another program to run. With the
+library of .ci/refuse as its word, it has each request for memory of a short conversation refused in turn instead, and then each option of a
+connection.
 """
 import contextlib
 import os
 import random
+import resource
 import signal
 import socket
 import struct
@@ -210,6 +212,19 @@ def lines_of_each() -> None:
     serving.ends()
 
 
+def row_limit() -> None:
+    """The rows of a table are as many as `--rows` says."""
+    serving = Serving("a row limit", "--connections=1", "--rows=1024", "--lines=4294967295")
+    expect("a row limit", contents("cap_in_a_table.answers.jsonl"), ask(serving, contents("cap_in_a_table.jsonl")))
+    serving.ends()
+
+
+def no_file_more() -> None:
+    """If no connection can be accepted, since the program may open no file more, the network fails."""
+    serving = Serving("no file more", preexec_fn=lambda: resource.setrlimit(resource.RLIMIT_NOFILE, (4, 4)))
+    serving.ends(2, b"viewd: network failed\n")
+
+
 def other_addresses() -> None:
     """The server listens on 127.0.0.1 alone. Linux answers on all of 127.0.0.0/8, so 127.0.0.2 is another address of the host."""
     serving = Serving("another address", "--connections", "1")
@@ -236,6 +251,10 @@ def statuses() -> None:
     with open("/dev/full", "wb") as full:
         words = ["serve", "--port", str(free_port())]
         expect("full standard output", (2, None, b"viewd: write failed\n"), run(words, stdout=full))
+        # the first port and the last are accepted as words: they are taken, or not allowed, or the line that tells them is not written
+        for words in (["serve", "--port", "1"], ["serve", "--port=65535"]):
+            status, _, told = run(words, stdout=full)
+            expect(f"{words}", (2, True), (status, told in (b"viewd: network failed\n", b"viewd: write failed\n")))
     cases: list[tuple[list[str], bytes]] = [
         ([], b"--port"),
         (["--port"], b"--port"),
@@ -305,7 +324,8 @@ def refused_options(library: str) -> None:
     expect("options refused", b"2\n", os.read(told, 100))
 
 
-CONVERSATIONS = [two_connections, dialogue, clients_that_leave, reset_while_it_waits, endless_lines, lines_of_each, other_addresses, statuses]
+CONVERSATIONS = [two_connections, dialogue, clients_that_leave, reset_while_it_waits, endless_lines, lines_of_each, row_limit, no_file_more]
+CONVERSATIONS += [other_addresses, statuses]
 
 
 def main(words: list[str]) -> int:

@@ -444,51 +444,44 @@ damaged at 47
 
 #[test]
 fn clients_of_one_role_share(rt: HostRuntime) -> Result<(), Fail> {
-    let text = played(rt.alloc(), SHARED)?;
-    assert_eq!(rt; str::from_utf8(&text), Ok(SHARED));
+    assert_eq!(rt; played(rt.alloc(), SHARED)?.text(), SHARED);
     Ok(())
 }
 
 #[test]
 fn refusals_are_told_to_who_asked(rt: HostRuntime) -> Result<(), Fail> {
-    let text = played(rt.alloc(), REFUSED)?;
-    assert_eq!(rt; str::from_utf8(&text), Ok(REFUSED));
+    assert_eq!(rt; played(rt.alloc(), REFUSED)?.text(), REFUSED);
     Ok(())
 }
 
 #[test]
 fn grants_are_told_and_revokes_end(rt: HostRuntime) -> Result<(), Fail> {
-    let text = played(rt.alloc(), GRANTED)?;
-    assert_eq!(rt; str::from_utf8(&text), Ok(GRANTED));
+    assert_eq!(rt; played(rt.alloc(), GRANTED)?.text(), GRANTED);
     Ok(())
 }
 
 #[test]
 fn tokens_that_go_drop_their_clients(rt: HostRuntime) -> Result<(), Fail> {
-    let text = played(rt.alloc(), TOKENS)?;
-    assert_eq!(rt; str::from_utf8(&text), Ok(TOKENS));
+    assert_eq!(rt; played(rt.alloc(), TOKENS)?.text(), TOKENS);
     Ok(())
 }
 
 #[test]
 fn administrators_are_told_the_shape(rt: HostRuntime) -> Result<(), Fail> {
-    let text = played(rt.alloc(), SHAPE)?;
-    assert_eq!(rt; str::from_utf8(&text), Ok(SHAPE));
+    assert_eq!(rt; played(rt.alloc(), SHAPE)?.text(), SHAPE);
     Ok(())
 }
 
 #[test]
 fn journals_lead_back(rt: HostRuntime) -> Result<(), Fail> {
-    let text = played(rt.alloc(), RESTORED)?;
-    assert_eq!(rt; str::from_utf8(&text), Ok(RESTORED));
+    assert_eq!(rt; played(rt.alloc(), RESTORED)?.text(), RESTORED);
     Ok(())
 }
 
 #[test]
 fn damage_is_told_with_its_place(rt: HostRuntime) -> Result<(), Fail> {
     for conversation in &DAMAGED {
-        let text = played(rt.alloc(), conversation)?;
-        assert_eq!(rt; str::from_utf8(&text), Ok(*conversation));
+        assert_eq!(rt; played(rt.alloc(), conversation)?.text(), *conversation);
     }
     Ok(())
 }

@@ -5,6 +5,8 @@
 #[cfg(test)]
 mod conversations;
 #[cfg(test)]
+mod out;
+#[cfg(test)]
 mod playing;
 #[cfg(test)]
 mod slow;

@@ -8,10 +8,11 @@
 //! journal's entries as lines of its own, and then to a subscribe to the relation by the administrator.
 ghost use Rattle.std.specs.Prelude.{None};
 
+use crate::out::Out;
 use crate::viewd::answers;
 use iv_clients::{Token, read_tokens};
 use iv_engine::Engine;
-use iv_gateway::{Gateway, Journal, JournalFault, RestoreFault};
+use iv_gateway::{Gateway, GatewayFault, Journal, JournalFault, RestoreFault};
 use std::alloc::{AllocError, Global};
 use std::mem;
 
@@ -33,27 +34,30 @@ const MOST: u32 = 4;
 /// A journal in memory.
 #[derive(Drop)]
 pub struct Kept {
-    pub bytes: Vec<u8>,
+    bytes: Vec<u8>,
+}
+
+impl Kept {
+    pub fn new(alloc: Global) -> Kept {
+        Kept {
+            bytes: Vec::new(alloc),
+        }
+    }
+
+    fn text(&self) -> &str {
+        str::from_utf8(&self.bytes).unwrap_or("no text")
+    }
 }
 
 impl Journal for Kept {
     ghost kept = { λ _. None };
 
     fn append(&mut self, bytes: &[u8]) -> Result<(), JournalFault> {
-        match self.bytes.extend_from_slice(bytes) {
-            Ok(()) => Ok(()),
-            Err(_) => Err(JournalFault),
+        if self.bytes.extend_from_slice(bytes).is_err() {
+            return Err(JournalFault);
         }
+        Ok(())
     }
-}
-
-/// A gateway with its journal, and the conversation so far.
-#[derive(Drop)]
-pub struct Play {
-    alloc: Global,
-    gateway: Gateway,
-    journal: Kept,
-    text: Vec<u8>,
 }
 
 /// Whether a name is among others.
@@ -61,20 +65,23 @@ fn is_among(name: &str, names: &str) -> bool {
     names.split(' ').any(|other| other == name)
 }
 
-/// The tokens of these roles.
-fn tokens_of(alloc: Global, names: &str) -> Result<Vec<Token>, AllocError> {
-    let mut file = Vec::new(alloc);
-    file.extend_from_slice(b"# who may come in\n[tokens]\n")?;
+/// The tokens' file of these roles.
+fn file_of(alloc: Global, names: &str) -> Result<String, AllocError> {
+    let mut file = String::from_str(alloc, "# who may come in\n[tokens]\n")?;
     for line in TOKENS.lines() {
-        let Some((role, token)) = line.split_once(' ') else {
-            return Err(AllocError);
-        };
+        let (role, token) = line.split_once(' ').unwrap_or((line, ""));
         if is_among(role, names) {
-            file.extend_from_slice(token.as_bytes())?;
-            file.push(b'\n')?;
+            file.push_str(token)?;
+            file.push_str("\n")?;
         }
     }
-    match read_tokens(alloc, &file) {
+    Ok(file)
+}
+
+/// The tokens of these roles.
+fn tokens_of(alloc: Global, names: &str) -> Result<Vec<Token>, AllocError> {
+    let file = file_of(alloc, names)?;
+    match read_tokens(alloc, file.as_bytes()) {
         Ok(tokens) => Ok(tokens),
         Err(_) => Err(AllocError),
     }
@@ -83,191 +90,211 @@ fn tokens_of(alloc: Global, names: &str) -> Result<Vec<Token>, AllocError> {
 /// A gateway over a new engine, with places for a few clients.
 pub fn new_gateway(alloc: Global) -> Result<Gateway, AllocError> {
     let tokens = tokens_of(alloc, ALL)?;
-    let engine = Engine::new(alloc, 1_024)?;
-    Gateway::new(alloc, engine, tokens, MOST)
-}
-
-/// Writes a text.
-fn push(play: &mut Play, text: &str) -> Result<(), AllocError> {
-    play.text.extend_from_slice(text.as_bytes())
-}
-
-/// Writes a number.
-fn push_number(play: &mut Play, number: usize) -> Result<(), AllocError> {
-    match format!(in play.alloc; "{number}") {
-        Ok(digits) => push(play, &digits),
-        Err(_) => Err(AllocError),
-    }
-}
-
-/// Writes each line of a text behind its mark.
-fn push_lines(play: &mut Play, mark: &str, lines: &[u8]) -> Result<(), AllocError> {
-    let mut is_start = true;
-    for byte in lines {
-        if is_start {
-            push(play, mark)?;
+    match Engine::new(alloc, 1_024) {
+        Ok(engine) => Gateway::new(alloc, engine, tokens, MOST),
+        Err(error) => {
+            drop(tokens);
+            Err(error)
         }
-        play.text.push(*byte)?;
-        is_start = *byte == b'\n';
     }
-    if !is_start {
-        push(play, " (torn)\n")?;
+}
+
+/// The mark of the lines of a client.
+fn mark_of(client: u32) -> &'static str {
+    match client {
+        0 => "0 ",
+        1 => "1 ",
+        2 => "2 ",
+        _ => "3 ",
     }
-    Ok(())
 }
 
 /// Takes what a client may be sent.
-fn take(play: &mut Play, client: u32) -> Result<(), AllocError> {
-    let Ok(mark) = format!(in play.alloc; "{client} ") else {
-        return Err(AllocError);
-    };
-    let text = play.gateway.take(client);
-    push_lines(play, &mark, &text)?;
-    if play.gateway.is_dropped(client) {
-        push(play, &mark)?;
-        push(play, "is to go\n")?;
+fn take(gateway: &mut Gateway, client: u32, out: &mut Out) {
+    let text = gateway.take(client);
+    out.put_lines(mark_of(client), str::from_utf8(&text).unwrap_or("no text"));
+    drop(text);
+    if gateway.is_dropped(client) {
+        out.put(mark_of(client));
+        out.put("is to go\n");
     }
-    Ok(())
 }
 
-/// The numbers of those to whom something may be sent, or who are to go, in their order.
-fn told(play: &Play) -> Result<Vec<u32>, AllocError> {
-    let mut numbers = Vec::new(play.alloc);
-    numbers.extend_from_slice(play.gateway.told())?;
-    numbers.sort()?;
-    Ok(numbers)
+/// Which clients are listed as told.
+fn told(gateway: &Gateway) -> [bool; 4] {
+    let told = gateway.told();
+    [
+        told.contains(&0),
+        told.contains(&1),
+        told.contains(&2),
+        told.contains(&3),
+    ]
 }
 
 /// Syncs the journal, and takes what those may be sent who are listed as told.
-fn sync(play: &mut Play) -> Result<(), AllocError> {
-    if play.gateway.settle(&mut play.journal).is_err() {
-        return push(play, "not synced\n");
+fn sync(gateway: &mut Gateway, journal: &mut Kept, out: &mut Out) {
+    if gateway.settle(journal).is_err() {
+        out.put("not synced\n");
+        return;
     }
-    let numbers = told(play)?;
-    for number in &numbers {
-        take(play, *number)?;
+    let told = told(gateway);
+    for client in 0..MOST {
+        if told[client as usize] {
+            take(gateway, client, out);
+        }
     }
-    Ok(())
 }
 
-/// Has another gateway begin from the journal, and cuts the journal where its entries end.
-fn restart(play: &mut Play) -> Result<(), AllocError> {
-    let gateway = new_gateway(play.alloc)?;
-    drop(mem::replace(&mut play.gateway, gateway));
-    match play.gateway.restore(&play.journal.bytes) {
+/// Begins from the journal, and cuts it where its entries end.
+fn restore(gateway: &mut Gateway, journal: &mut Kept, out: &mut Out) {
+    match gateway.restore(&journal.bytes) {
         Ok(kept) => {
-            play.journal.bytes.truncate(kept);
-            push(play, "restored to ")?;
-            push_number(play, kept)?;
-            push(play, "\n")
+            journal.bytes.truncate(kept);
+            out.put_place("restored to ", kept);
         }
-        Err(RestoreFault::Damaged(place)) => {
-            push(play, "damaged at ")?;
-            push_number(play, place)?;
-            push(play, "\n")
+        Err(RestoreFault::Damaged(place)) => out.put_place("damaged at ", place),
+        Err(_) => out.refuse(),
+    }
+}
+
+/// Has another gateway begin from the journal.
+fn restart(gateway: &mut Gateway, journal: &mut Kept, out: &mut Out) {
+    match new_gateway(out.alloc()) {
+        Ok(other) => {
+            drop(mem::replace(gateway, other));
+            restore(gateway, journal, out);
         }
-        Err(_) => Err(AllocError),
+        Err(_) => out.refuse(),
+    }
+}
+
+/// Adds that something is not so of a client, where it is not.
+fn put_unless(is: Result<bool, GatewayFault>, client: u32, text: &str, out: &mut Out) {
+    match is {
+        Ok(true) => {}
+        Ok(false) => {
+            out.put(mark_of(client));
+            out.put(text);
+        }
+        Err(_) => out.refuse(),
+    }
+}
+
+/// Has something happen to a client.
+fn happen_to(gateway: &mut Gateway, word: &str, client: u32, text: &str, out: &mut Out) {
+    match word {
+        "come" => {
+            let is = gateway.admit(client, text.as_bytes());
+            put_unless(is, client, "is not let in\n", out);
+        }
+        "say" => {
+            let is = gateway.said(client, text.as_bytes());
+            put_unless(is, client, "is not heard\n", out);
+        }
+        "go" => {
+            if gateway.left(client).is_err() {
+                out.refuse();
+            }
+        }
+        _ => out.put("no such word\n"),
     }
 }
 
 /// A client's number, and what stands behind it.
-fn numbered(text: &str) -> Result<(u32, &str), AllocError> {
+fn numbered(text: &str) -> Option<(u32, &str)> {
     let (digits, rest) = text.split_once(' ').unwrap_or((text, ""));
     match digits.parse::<u32>() {
-        Ok(client) => Ok((client, rest)),
-        Err(_) => Err(AllocError),
+        Ok(client) => Some((client, rest)),
+        Err(_) => None,
     }
 }
 
-/// Writes that something is not so of a client.
-fn push_not(play: &mut Play, client: u32, text: &str) -> Result<(), AllocError> {
-    push_number(play, client as usize)?;
-    push(play, text)
-}
-
-/// Has something happen to a client.
-fn happen_to(play: &mut Play, word: &str, client: u32, text: &str) -> Result<(), AllocError> {
-    match word {
-        "come" => match play.gateway.admit(client, text.as_bytes()) {
-            Ok(true) => Ok(()),
-            Ok(false) => push_not(play, client, " is not let in\n"),
-            Err(_) => Err(AllocError),
-        },
-        "say" => match play.gateway.said(client, text.as_bytes()) {
-            Ok(true) => Ok(()),
-            Ok(false) => push_not(play, client, " is not heard\n"),
-            Err(_) => Err(AllocError),
-        },
-        "go" => match play.gateway.left(client) {
-            Ok(()) => Ok(()),
-            Err(_) => Err(AllocError),
-        },
-        _ => push(play, "no such word\n"),
+/// Has other tokens be known.
+fn know(gateway: &mut Gateway, names: &str, out: &mut Out) {
+    match tokens_of(out.alloc(), names) {
+        Ok(tokens) => gateway.know(tokens),
+        Err(_) => out.refuse(),
     }
 }
 
-/// Has something happen that is of no client.
-fn happen(play: &mut Play, word: &str, text: &str) -> Result<(), AllocError> {
+/// Has something happen to the gateway: to all clients, or to one.
+fn happen(gateway: &mut Gateway, word: &str, text: &str, out: &mut Out) {
     match word {
-        "sync" => sync(play),
-        "restart" => restart(play),
-        "tick" => match play.gateway.tick() {
-            Ok(()) => Ok(()),
-            Err(_) => Err(AllocError),
+        "tick" => {
+            if gateway.tick().is_err() {
+                out.refuse();
+            }
+        }
+        "tokens" => know(gateway, text, out),
+        _ => match numbered(text) {
+            Some((client, text)) => happen_to(gateway, word, client, text, out),
+            None => out.put("no such word\n"),
         },
-        "tokens" => {
-            let tokens = tokens_of(play.alloc, text)?;
-            play.gateway.know(tokens);
-            Ok(())
-        }
-        "journal" => {
-            let mut bytes = Vec::new(play.alloc);
-            bytes.extend_from_slice(&play.journal.bytes)?;
-            push_lines(play, "| ", &bytes)
-        }
-        "viewd" => {
-            let told = answers(play.alloc, &play.journal.bytes, text)?;
-            push_lines(play, "viewd ", &told)
-        }
-        "tear" => play.journal.bytes.extend_from_slice(text.as_bytes()),
+    }
+}
+
+/// Adds a text to the journal.
+fn append(journal: &mut Kept, text: &str, out: &mut Out) {
+    if journal.bytes.extend_from_slice(text.as_bytes()).is_err() {
+        out.refuse();
+    }
+}
+
+/// Adds what viewd answers to the journal.
+fn put_answers(journal: &Kept, rel: &str, out: &mut Out) {
+    match answers(out.alloc(), journal.text(), rel) {
+        Ok(told) => out.put_lines("viewd ", str::from_utf8(&told).unwrap_or("no text")),
+        Err(_) => out.refuse(),
+    }
+}
+
+/// Has something happen to the journal, or tells of it; whether the word is one of these.
+fn happens_to_journal(journal: &mut Kept, word: &str, text: &str, out: &mut Out) -> bool {
+    match word {
+        "journal" => out.put_lines("| ", journal.text()),
+        "viewd" => put_answers(journal, text, out),
+        "tear" => append(journal, text, out),
         "spoil" => {
-            play.journal.bytes.extend_from_slice(text.as_bytes())?;
-            play.journal.bytes.push(b'\n')?;
-            Ok(())
+            append(journal, text, out);
+            append(journal, "\n", out);
         }
+        _ => return false,
+    }
+    true
+}
+
+/// Plays a line of a conversation.
+fn play(gateway: &mut Gateway, journal: &mut Kept, what: &str, out: &mut Out) {
+    let (word, text) = what.split_once(' ').unwrap_or((what, ""));
+    match word {
+        "sync" => sync(gateway, journal, out),
+        "restart" => restart(gateway, journal, out),
         _ => {
-            let (client, text) = numbered(text)?;
-            happen_to(play, word, client, text)
+            if !happens_to_journal(journal, word, text, out) {
+                happen(gateway, word, text, out);
+            }
         }
     }
 }
 
 /// Plays the lines of a conversation.
-fn play_all(play: &mut Play, conversation: &str) -> Result<(), AllocError> {
+fn play_all(gateway: &mut Gateway, journal: &mut Kept, conversation: &str, out: &mut Out) {
     for line in conversation.lines() {
         if let Some(what) = line.strip_prefix("> ") {
-            push(play, line)?;
-            push(play, "\n")?;
-            let (word, text) = what.split_once(' ').unwrap_or((what, ""));
-            happen(play, word, text)?;
+            out.put(line);
+            out.put("\n");
+            play(gateway, journal, what, out);
         }
     }
-    Ok(())
 }
 
 /// A conversation, played anew with a new gateway.
-pub fn played(alloc: Global, conversation: &str) -> Result<Vec<u8>, AllocError> {
-    let gateway = new_gateway(alloc)?;
-    let mut play = Play {
-        alloc,
-        gateway,
-        journal: Kept {
-            bytes: Vec::new(alloc),
-        },
-        text: Vec::new(alloc),
-    };
-    match play_all(&mut play, conversation) {
-        Ok(()) => Ok(mem::replace(&mut play.text, Vec::new(alloc))),
-        Err(error) => Err(error),
-    }
+pub fn played(alloc: Global, conversation: &str) -> Result<Out, AllocError> {
+    let mut gateway = new_gateway(alloc)?;
+    let mut journal = Kept::new(alloc);
+    let mut out = Out::new(alloc);
+    play_all(&mut gateway, &mut journal, conversation, &mut out);
+    drop(gateway);
+    drop(journal);
+    Ok(out)
 }

@@ -1,4 +1,4 @@
-//! Calls of an engine with commands that keep the rules on shape, and a test of one that is read, answered and written.
+//! Calls of an engine with commands that keep the rules on shape.
 ghost use Rattle.std.specs.Prelude.{◌≡◌, map};
 ghost use Rattle.std.specs.List.{list_all};
 ghost use Rattle.iv_machine.specs.Well.{is_well_command};
@@ -9,7 +9,6 @@ use iv_embedded::{read_line, run_list, well};
 use iv_engine::{Engine, EngineFault};
 use iv_lines::write_line;
 use std::alloc::{AllocError, Global};
-use std::test::Fail;
 
 /// Whether all commands keep the rules on shape.
 pub fn are_well(commands: &[Command]) -> bool
@@ -54,34 +53,10 @@ pub fn told(alloc: Global, engine: &mut Engine, line: &str) -> Option<Vec<Line>>
 }
 
 /// The texts of the lines.
-fn texts(alloc: Global, lines: &[Line]) -> Result<Vec<u8>, AllocError> {
+pub fn texts(alloc: Global, lines: &[Line]) -> Result<Vec<u8>, AllocError> {
     let mut text = Vec::new(alloc);
     for line in lines {
         text.extend_from_slice(&write_line(alloc, line)?)?;
     }
     Ok(text)
-}
-
-/// The texts of the lines, if there are some.
-fn texts_of(alloc: Global, lines: Option<Vec<Line>>) -> Result<Vec<u8>, Fail> {
-    match lines {
-        Some(lines) => Ok(texts(alloc, &lines)?),
-        None => Err(Fail::new("the engine gave no answer")),
-    }
-}
-
-/// What a new engine answers to the command of a line.
-fn told_anew(alloc: Global, line: &str) -> Result<Vec<u8>, Fail> {
-    let mut engine = Engine::new(alloc, 1_024)?;
-    let lines = told(alloc, &mut engine, line);
-    drop(engine);
-    texts_of(alloc, lines)
-}
-
-#[test]
-fn a_command_is_answered(rt: HostRuntime) -> Result<(), Fail> {
-    let line = r#"{"do":"begin","role":"admin","session":1}"#;
-    let text = b"{\"ok\":true,\"session\":1}\n";
-    assert_eq!(rt; told_anew(rt.alloc(), line)?.as_slice(), text.as_slice());
-    Ok(())
 }

@@ -1,4 +1,4 @@
-//! Tests of the public calls of iv_request, iv_lines, iv_message, iv_engine and iv_wire: a command, messages, ends that fail, memory that is refused.
+//! Tests of the public calls of iv_request, iv_lines, iv_message, iv_engine and iv_wire: messages, ends that fail, memory that is refused.
 #![tactic(auto)]
 
 #[cfg(test)]
@@ -7,8 +7,6 @@ mod commands;
 mod examples;
 #[cfg(test)]
 mod failing;
-#[cfg(test)]
-mod failing_once;
 #[cfg(test)]
 mod known;
 #[cfg(test)]

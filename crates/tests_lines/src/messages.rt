@@ -9,81 +9,31 @@ use json::Scratch;
 use std::alloc::{AllocError, Global};
 use std::test::Fail;
 
-/// Messages, and what a client is told of each where its request is done.
-const MESSAGES: [(&str, &str); 21] = [
-    ("{\"do\":\"subscribe\",\"on\":\"notes\"}", "{\"ok\":true}\n"),
-    (
-        "{\"do\":\"subscribe\",\"id\":7,\"on\":\"notes\"}",
-        "{\"id\":7,\"ok\":true}\n",
-    ),
-    (
-        "{\"id\":-1,\n\"do\":\"unsubscribe\",\"sub\":1}",
-        "{\"id\":-1,\"ok\":true}\n",
-    ),
-    (
-        "{\"do\":\"grant_role\",\"id\":\"a\",\"role\":\"team\",\"to\":\"ann\"}",
-        "{\"id\":\"a\",\"ok\":true}\n",
-    ),
-    (
-        "{\"do\":\"write\",\"entries\":[{\"on\":\"a\",\"insert\":[1]}]}",
-        "{\"ok\":true}\n",
-    ),
-    ("subscribe", "{\"error\":1}\n"),
-    ("[7]", "{\"error\":2}\n"),
-    ("{}", "{\"error\":2,\"key\":\"do\",\"why\":\"missing\"}\n"),
-    (
-        "{\"do\":\"finish\",\"id\":7}",
-        "{\"error\":2,\"id\":7,\"key\":\"do\",\"why\":\"wrong\"}\n",
-    ),
-    (
-        "{\"do\":\"subscribe\",\"id\":1.5,\"on\":\"notes\"}",
-        "{\"error\":2,\"key\":\"id\",\"why\":\"wrong\"}\n",
-    ),
-    (
-        "{\"do\":\"create_view\",\"name\":\"v\"}",
-        "{\"error\":2,\"key\":\"owner\",\"why\":\"missing\"}\n",
-    ),
-    (
-        "{\"do\":\"subscribe\",\"on\":\"a\",\"z\":1,\"b\":1}",
-        "{\"error\":2,\"key\":\"b\",\"why\":\"unknown\"}\n",
-    ),
-    (
-        "{\"do\":\"subscribe\",\"id\":7,\"on\":\"notes\",\"session\":1}",
-        "{\"error\":2,\"id\":7,\"key\":\"session\",\"why\":\"unknown\"}\n",
-    ),
-    (
-        "{\"do\":\"create_table\",\"name\":\"t\",\"owner\":\"admin\",\"columns\":[]}",
-        "{\"error\":2,\"key\":\"columns\",\"why\":\"wrong\"}\n",
-    ),
-    (
-        "{\"do\":\"grant\",\"on\":\"a\",\"privileges\":[\"all\"],\"to\":\"ann\"}",
-        "{\"error\":2,\"key\":\"privileges\",\"why\":\"wrong\"}\n",
-    ),
-    (
-        "{\"do\":\"grant_role\",\"role\":\"admin\",\"to\":\"ann\"}",
-        "{\"error\":2,\"key\":\"role\",\"why\":\"wrong\"}\n",
-    ),
-    (
-        "{\"do\":\"row_security\",\"on\":\"a\",\"enable\":1,\"force\":true}",
-        "{\"error\":2,\"key\":\"enable\",\"why\":\"wrong\"}\n",
-    ),
-    (
-        "{\"do\":\"create_policy\",\"on\":\"a\",\"name\":\"p\",\"command\":\"insert\",\"using\":\"true\"}",
-        "{\"error\":2,\"key\":\"using\",\"why\":\"wrong\"}\n",
-    ),
-    (
-        "{\"do\":\"create_policy\",\"on\":\"a\",\"name\":\"p\",\"using\":\"true\",\"to\":[]}",
-        "{\"error\":2,\"key\":\"to\",\"why\":\"wrong\"}\n",
-    ),
-    (
-        "{\"do\":\"write\",\"entries\":[{\"on\":\"a\",\"insert\":[1]},{\"on\":\"a\"}]}",
-        "{\"entry\":2,\"error\":2,\"key\":\"entries\",\"why\":\"wrong\"}\n",
-    ),
-    (
-        "{\"do\":\"unsubscribe\",\"sub\":0}",
-        "{\"error\":2,\"key\":\"sub\",\"why\":\"wrong\"}\n",
-    ),
-];
+/// Messages, each with what a client is told of it where its request is done.
+const MESSAGES: &str = r#"{"do":"subscribe","on":"notes"} => {"ok":true}
+{"do":"subscribe","id":7,"on":"notes"} => {"id":7,"ok":true}
+{"do":"grant_role","id":"a","role":"team","to":"ann"} => {"id":"a","ok":true}
+{"do":"write","entries":[{"on":"a","insert":[1]}]} => {"ok":true}
+subscribe => {"error":1}
+[7] => {"error":2}
+{} => {"error":2,"key":"do","why":"missing"}
+{"do":"finish","id":7} => {"error":2,"id":7,"key":"do","why":"wrong"}
+{"do":"subscribe","id":1.5,"on":"notes"} => {"error":2,"key":"id","why":"wrong"}
+{"do":"create_view","name":"v"} => {"error":2,"key":"owner","why":"missing"}
+{"do":"subscribe","on":"a","z":1,"b":1} => {"error":2,"key":"b","why":"unknown"}
+{"do":"subscribe","id":7,"on":"notes","session":1} => {"error":2,"id":7,"key":"session","why":"unknown"}
+{"do":"create_table","name":"t","owner":"admin","columns":[]} => {"error":2,"key":"columns","why":"wrong"}
+{"do":"grant","on":"a","privileges":["all"],"to":"ann"} => {"error":2,"key":"privileges","why":"wrong"}
+{"do":"grant_role","role":"admin","to":"ann"} => {"error":2,"key":"role","why":"wrong"}
+{"do":"row_security","on":"a","enable":1,"force":true} => {"error":2,"key":"enable","why":"wrong"}
+{"do":"create_policy","on":"a","name":"p","command":"insert","using":"true"} => {"error":2,"key":"using","why":"wrong"}
+{"do":"create_policy","on":"a","name":"p","using":"true","to":[]} => {"error":2,"key":"to","why":"wrong"}
+{"do":"write","entries":[{"on":"a","insert":[1]},{"on":"a"}]} => {"entry":2,"error":2,"key":"entries","why":"wrong"}
+{"do":"unsubscribe","sub":0} => {"error":2,"key":"sub","why":"wrong"}"#;
+
+/// A message of two lines.
+const OF_TWO_LINES: &str =
+    "{\"id\":-1,\n\"do\":\"unsubscribe\",\"sub\":1} => {\"id\":-1,\"ok\":true}";
 
 /// What else a client is told, by hand.
 const LINES: &str = "{\"role\":\"mia\"}
@@ -111,16 +61,24 @@ fn tell(
     }
 }
 
+/// A column of a table.
+fn columns(alloc: Global) -> Result<Vec<Column>, AllocError> {
+    let name = String::from_str(alloc, "id")?;
+    let kind = Kind::Int;
+    Ok(Vec::from_array(alloc, [Column { name, kind }])?)
+}
+
+/// Adds that a subscription is opened.
+fn tell_opened(alloc: Global, text: &mut Vec<u8>) -> Result<(), AllocError> {
+    let columns = columns(alloc)?;
+    let id = Some(Id::Text(String::from_str(alloc, "a\"")?));
+    push_opened(alloc, text, &id, 1, &columns)
+}
+
 /// Adds each of the other lines.
 fn tell_lines(alloc: Global, text: &mut Vec<u8>) -> Result<(), AllocError> {
-    let mut columns = Vec::new(alloc);
-    columns.push(Column {
-        name: String::from_str(alloc, "id")?,
-        kind: Kind::Int,
-    })?;
-    let id = Some(Id::Text(String::from_str(alloc, "a\"")?));
     push_welcome(alloc, text, "mia")?;
-    push_opened(alloc, text, &id, 1, &columns)?;
+    tell_opened(alloc, text)?;
     push_changed(text, 1, b"[[1,[7]]]")?;
     push_settled(text)?;
     push_over(alloc, text, 1, "notes", Cause::Limit, b"[]")?;
@@ -128,46 +86,81 @@ fn tell_lines(alloc: Global, text: &mut Vec<u8>) -> Result<(), AllocError> {
     push_alive(text)
 }
 
-#[test]
-fn messages_are_told(rt: HostRuntime) -> Result<(), Fail> {
-    let alloc = rt.alloc();
-    let mut scratch = Scratch::new(alloc);
-    for (message, told) in &MESSAGES {
-        let mut text = Vec::new(alloc);
-        tell(alloc, message, &mut scratch, &mut text)?;
-        assert_eq!(rt; str::from_utf8(&text), Ok(*told));
+/// Whether that is told of a message, with its end of line.
+fn is_told(
+    alloc: Global,
+    message: &str,
+    scratch: &mut Scratch,
+    told: &str,
+) -> Result<bool, AllocError> {
+    let mut text = Vec::new(alloc);
+    tell(alloc, message, scratch, &mut text)?;
+    Ok(text.strip_suffix(b"\n") == Some(told.as_bytes()))
+}
+
+/// Whether what the line has is told of its message.
+fn is_so(alloc: Global, line: &str, scratch: &mut Scratch) -> Result<bool, AllocError> {
+    match line.split_once(" => ") {
+        Some((message, told)) => is_told(alloc, message, scratch, told),
+        None => Ok(false),
     }
-    Ok(())
+}
+
+/// The first line whose message is told otherwise.
+fn first_other(alloc: Global) -> &'static str {
+    let mut scratch = Scratch::new(alloc);
+    for line in MESSAGES.lines() {
+        if is_so(alloc, line, &mut scratch) != Ok(true) {
+            return line;
+        }
+    }
+    if is_so(alloc, OF_TWO_LINES, &mut scratch) == Ok(true) {
+        "none"
+    } else {
+        OF_TWO_LINES
+    }
+}
+
+#[test]
+fn messages_are_told(rt: HostRuntime) {
+    assert_eq!(rt; first_other(rt.alloc()), "none");
+}
+
+/// The other lines.
+fn lines(alloc: Global) -> Result<Vec<u8>, AllocError> {
+    let mut text = Vec::new(alloc);
+    tell_lines(alloc, &mut text)?;
+    Ok(text)
 }
 
 #[test]
 fn lines_are_told(rt: HostRuntime) -> Result<(), Fail> {
-    let alloc = rt.alloc();
-    let mut text = Vec::new(alloc);
-    tell_lines(alloc, &mut text)?;
-    assert_eq!(rt; str::from_utf8(&text), Ok(LINES));
+    assert_eq!(rt; lines(rt.alloc())?.as_slice(), LINES.as_bytes());
     Ok(())
 }
 
-#[test]
-fn longest_message_is_read(rt: HostRuntime) -> Result<(), Fail> {
-    let alloc = rt.alloc();
-    let mut scratch = Scratch::new(alloc);
+/// `[]`, and blanks behind it, of so many bytes.
+fn blank(alloc: Global, bytes: usize) -> Result<Vec<u8>, AllocError> {
     let mut message = Vec::new(alloc);
     message.extend_from_slice(b"[]")?;
-    message.resize(65_536, b' ')?;
-    assert!(rt;
-        matches!(
-            read_message(alloc, &message, &mut scratch),
-            Ok(Message::NoObject)
-        )
-    );
-    message.push(b' ')?;
-    assert!(rt;
-        matches!(
-            read_message(alloc, &message, &mut scratch),
-            Ok(Message::TooLong)
-        )
-    );
-    Ok(())
+    message.resize(bytes, b' ')?;
+    Ok(message)
+}
+
+/// What such a message is.
+fn blank_read(alloc: Global, bytes: usize) -> Result<&'static str, AllocError> {
+    let message = blank(alloc, bytes)?;
+    let mut scratch = Scratch::new(alloc);
+    match read_message(alloc, &message, &mut scratch) {
+        Ok(Message::NoObject) => Ok("no object"),
+        Ok(Message::TooLong) => Ok("too long"),
+        Ok(_) => Ok("another message"),
+        Err(error) => Err(error),
+    }
+}
+
+#[test]
+fn longest_message_is_read(rt: HostRuntime) {
+    assert!(rt; blank_read(rt.alloc(), 65_536) == Ok("no object"));
+    assert!(rt; blank_read(rt.alloc(), 65_537) == Ok("too long"));
 }

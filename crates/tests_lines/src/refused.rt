@@ -2,7 +2,7 @@
 //! what came of it: `refused` where some request was.
 ghost use Rattle.std.specs.Prelude.{◌≡◌, ◌≤◌, ◌<◌, None, true};
 
-use crate::commands::{fault_of, ran_list};
+use crate::commands::{fault_of, ran_list, texts};
 use crate::examples::{
     EXCEPT_UNDER_POLICY, Example, FIRST_CHANGE, GROUPED_SUMS, REVOKE_TAKES_BACK,
     ROW_SECURITY_THEN_POLICY,
@@ -11,7 +11,7 @@ use crate::replayed::{ANSWERS, Ended, REQUESTS};
 use iv_command::{Act, Command, Line};
 use iv_embedded::read_line;
 use iv_engine::{Engine, EngineFault};
-use iv_lines::{End, EndFault, FromRead, RunFault, Sink, write_line};
+use iv_lines::{End, EndFault, FromRead, RunFault, Sink};
 use iv_request::WireFault;
 use iv_wire::run;
 use std::alloc::{AllocError, Global};
@@ -227,20 +227,16 @@ fn read_commands(alloc: Global, lines: &str, commands: &mut Vec<Command>) -> Res
     Ok(())
 }
 
-/// Adds the texts of the lines.
-fn write_texts(alloc: Global, lines: &[Line], text: &mut Vec<u8>) -> Result<(), AllocError> {
-    for line in lines {
-        text.extend_from_slice(&write_line(alloc, line)?)?;
-    }
-    Ok(())
-}
-
 /// What comes of the lines that a list is answered.
 fn compared(alloc: Global, lines: &[Line], answers: [&str; 2]) -> Word {
-    let mut text = Vec::new(alloc);
-    match write_texts(alloc, lines, &mut text) {
-        Ok(()) if is_whole(&text, answers) => HELD,
-        Ok(()) => "other answers",
+    match texts(alloc, lines) {
+        Ok(text) => {
+            if is_whole(&text, answers) {
+                HELD
+            } else {
+                "other answers"
+            }
+        }
         Err(_) => REFUSED,
     }
 }

@@ -1,4 +1,5 @@
 //! `heads_are_read`, `places_are_named`, `pages_are_answered`, `figures_are_text`: what a port is asked, and what it answers.
+use crate::texts::{bytes_of, cell, is_comment};
 use iv_pages::{
     Ask, Label, Metric, Page, Refusal, Wish, asked, etag_of, kind_of, place_of, push_counter,
     push_gauge, push_histogram, push_page, push_refusal, push_sample,
@@ -6,83 +7,36 @@ use iv_pages::{
 use std::alloc::{AllocError, Global};
 use std::test::Fail;
 
-/// A head, and what it asks: `GET` or `HEAD` with a target and a known tag, or a word.
-const HEADS: [(&[u8], &str, &[u8], &[u8]); 23] = [
-    // RFC 9112, section 3.2.1
-    (
-        b"GET /where?q=now HTTP/1.1\r\nHost: www.example.org\r\n\r\n",
-        "GET",
-        b"/where?q=now",
-        b"",
-    ),
-    (b"HEAD / HTTP/1.0\r\n\r\n", "HEAD", b"/", b""),
-    // RFC 9110, section 13.1.2
-    (
-        b"GET / HTTP/1.1\r\nHost: a\r\nIf-None-Match: \"xyzzy\", \"r2d2xxxx\", \"c3piozzzz\"\r\n\r\n",
-        "GET",
-        b"/",
-        b"\"xyzzy\", \"r2d2xxxx\", \"c3piozzzz\"",
-    ),
-    (
-        b"GET / HTTP/1.1\r\nHOST: a\r\nif-none-match:*\r\n\r\nmore",
-        "GET",
-        b"/",
-        b"*",
-    ),
-    // bare line feeds, and an empty line in front (RFC 9112, section 2.2)
-    (b"\r\nGET /a HTTP/1.1\nhost: a\n\n", "GET", b"/a", b""),
-    (b"", "more", b"", b""),
-    (b"GET /where HTTP/1.1\r\nHost: a\r\n", "more", b"", b""),
-    // RFC 6455, section 1.2; RFC 9110, section 7.8
-    (
-        b"GET /chat HTTP/1.1\r\nHost: server.example.com\r\nUpgrade: websocket\r\nConnection: Upgrade\r\n\r\n",
-        "upgrade",
-        b"",
-        b"",
-    ),
-    (
-        b"GET / HTTP/1.1\r\nhost: a\r\nupGRADE: h2c\r\n\r\n",
-        "upgrade",
-        b"",
-        b"",
-    ),
-    (
-        b"POST / HTTP/1.1\r\nHost: a\r\nContent-Length: 0\r\n\r\n",
-        "405",
-        b"",
-        b"",
-    ),
-    (b"OPTIONS * HTTP/1.1\r\nhost: a\r\n\r\n", "405", b"", b""),
-    (b"get / HTTP/1.1\r\nhost: a\r\n\r\n", "405", b"", b""),
-    (b"nonsense\r\n\r\n", "400", b"", b""),
-    // RFC 9112, section 3.2: no host, two hosts; RFC 9110, section 7.8: nobody asks for another protocol in HTTP/1.0
-    (b"GET / HTTP/1.1\r\n\r\n", "400", b"", b""),
-    (
-        b"GET / HTTP/1.1\r\nHost: a\r\nhost: a\r\n\r\n",
-        "400",
-        b"",
-        b"",
-    ),
-    (
-        b"GET / HTTP/1.1\r\nHost: a\r\nUpgrade: websocket\r\nContent-Length: 5\r\n\r\nhello",
-        "400",
-        b"",
-        b"",
-    ),
-    (
-        b"GET / HTTP/1.0\r\nUpgrade: websocket\r\n\r\n",
-        "GET",
-        b"/",
-        b"",
-    ),
-    (b"\x16\x03\x01\x02\x00", "400", b"", b""),
-    (b"GET / HTTP/1.1\r\nHost : a\r\n\r\n", "400", b"", b""),
-    (b"GET / HTTP/1.1\r\nA: HTTP/2.0\0\r\n\r\n", "400", b"", b""),
-    (b"GET / HTTP/1.2\r\n\r\n", "400", b"", b""),
-    // RFC 9113, section 3.4
-    (b"PRI * HTTP/2.0\r\n\r\nSM\r\n\r\n", "505", b"", b""),
-    (b"GET / HTTP/3.0\r\n\r\n", "505", b"", b""),
-];
+/// Heads, and what they ask: `GET` or `HEAD` with a target and a known tag, or a word.
+const HEADS: &str = r#"# RFC 9112, section 3.2.1
+GET /where?q=now HTTP/1.1\r\nHost: www.example.org\r\n\r\n|GET|/where?q=now|
+HEAD / HTTP/1.0\r\n\r\n|HEAD|/|
+# RFC 9110, section 13.1.2
+GET / HTTP/1.1\r\nHost: a\r\nIf-None-Match: "xyzzy", "r2d2xxxx", "c3piozzzz"\r\n\r\n|GET|/|"xyzzy", "r2d2xxxx", "c3piozzzz"
+GET / HTTP/1.1\r\nHOST: a\r\nif-none-match:*\r\n\r\nmore|GET|/|*
+# bare line feeds, and an empty line in front (RFC 9112, section 2.2)
+\r\nGET /a HTTP/1.1\nhost: a\n\n|GET|/a|
+|more||
+GET /where HTTP/1.1\r\nHost: a\r\n|more||
+# RFC 6455, section 1.2; RFC 9110, section 7.8
+GET /chat HTTP/1.1\r\nHost: server.example.com\r\nUpgrade: websocket\r\nConnection: Upgrade\r\n\r\n|upgrade||
+GET / HTTP/1.1\r\nhost: a\r\nupGRADE: h2c\r\n\r\n|upgrade||
+POST / HTTP/1.1\r\nHost: a\r\nContent-Length: 0\r\n\r\n|405||
+OPTIONS * HTTP/1.1\r\nhost: a\r\n\r\n|405||
+get / HTTP/1.1\r\nhost: a\r\n\r\n|405||
+nonsense\r\n\r\n|400||
+# RFC 9112, section 3.2: no host, two hosts; RFC 9110, section 7.8: nobody asks for another protocol in HTTP/1.0
+GET / HTTP/1.1\r\n\r\n|400||
+GET / HTTP/1.1\r\nHost: a\r\nhost: a\r\n\r\n|400||
+GET / HTTP/1.1\r\nHost: a\r\nUpgrade: websocket\r\nContent-Length: 5\r\n\r\nhello|400||
+GET / HTTP/1.0\r\nUpgrade: websocket\r\n\r\n|GET|/|
+\x16\x03\x01\x02\x00|400||
+GET / HTTP/1.1\r\nHost : a\r\n\r\n|400||
+GET / HTTP/1.1\r\nA: HTTP/2.0\0\r\n\r\n|400||
+GET / HTTP/1.2\r\n\r\n|400||
+# RFC 9113, section 3.4
+PRI * HTTP/2.0\r\n\r\nSM\r\n\r\n|505||
+GET / HTTP/3.0\r\n\r\n|505||"#;
 
 /// Whether the wish is this one.
 fn is_page(ask: Ask<'_>, word: &str, target: &[u8], known: &[u8]) -> bool {
@@ -113,12 +67,26 @@ fn is_wish(wish: Wish<'_>, word: &str, target: &[u8], known: &[u8]) -> bool {
     }
 }
 
-#[test]
-fn heads_are_read(rt: HostRuntime) -> Result<(), Fail> {
-    for (head, word, target, known) in &HEADS {
-        assert!(rt; is_wish(asked(head), word, target, known));
+/// Whether the head of the line asks that.
+fn is_read(alloc: Global, line: &str) -> Result<bool, AllocError> {
+    let head = bytes_of(alloc, cell(line, 0))?;
+    let (target, known) = (cell(line, 2).as_bytes(), cell(line, 3).as_bytes());
+    Ok(is_wish(asked(&head), cell(line, 1), target, known))
+}
+
+/// The first line that is read otherwise.
+fn first_misread(alloc: Global) -> &'static str {
+    for line in HEADS.lines() {
+        if !is_comment(line) && is_read(alloc, line) != Ok(true) {
+            return line;
+        }
     }
-    Ok(())
+    "none"
+}
+
+#[test]
+fn heads_are_read(rt: HostRuntime) {
+    assert_eq!(rt; first_misread(rt.alloc()), "none");
 }
 
 /// A text with so many more bytes behind it, and an end.
@@ -141,110 +109,150 @@ fn many_fields(alloc: Global, count: usize) -> Result<Vec<u8>, AllocError> {
     Ok(head)
 }
 
+/// Fronts of heads, how many bytes stand behind them, ends, and what these heads ask: of 8,192 bytes, whole and not, and one more.
+const LONG: &str = r#"GET / HTTP/1.0\r\nb: |8169|\r\n\r\n|GET
+GET / HTTP/1.0\r\nb: |8173||more
+GET / HTTP/1.0\r\nb: |8170|\r\n\r\n|431
+GET /|8188| HTTP/1.1\r\n\r\n|414
+GET /|8187||more"#;
+
+/// Whether the head of the line asks that.
+fn is_long(alloc: Global, line: &str) -> Result<bool, AllocError> {
+    let front = bytes_of(alloc, cell(line, 0))?;
+    let end = bytes_of(alloc, cell(line, 2))?;
+    let more = cell(line, 1).parse::<usize>().unwrap_or(0);
+    let head = longer(alloc, &front, more, &end)?;
+    Ok(is_wish(asked(&head), cell(line, 3), b"/", b""))
+}
+
+/// Whether a head with so many fields asks that.
+fn is_of_fields(alloc: Global, count: usize, word: &str) -> Result<bool, AllocError> {
+    let head = many_fields(alloc, count)?;
+    Ok(is_wish(asked(&head), word, b"/", b""))
+}
+
+/// The first line of these that is read otherwise.
+fn first_long(alloc: Global) -> &'static str {
+    for line in LONG.lines() {
+        if !is_comment(line) && is_long(alloc, line) != Ok(true) {
+            return line;
+        }
+    }
+    "none"
+}
+
+/// Whether 64 fields are read, and 65 are too many.
+fn are_of_fields(alloc: Global) -> Result<[bool; 2], AllocError> {
+    let most = is_of_fields(alloc, 64, "GET")?;
+    Ok([most, is_of_fields(alloc, 65, "431")?])
+}
+
 #[test]
-fn long_heads_are_refused(rt: HostRuntime) -> Result<(), Fail> {
-    let alloc = rt.alloc();
-    // 8,192 bytes, whole and not, and one more
-    let whole = longer(alloc, b"GET / HTTP/1.0\r\nb: ", 8169, b"\r\n\r\n")?;
-    assert!(rt; is_wish(asked(&whole), "GET", b"/", b""));
-    let open = longer(alloc, b"GET / HTTP/1.0\r\nb: ", 8173, b"")?;
-    assert!(rt; is_wish(asked(&open), "more", b"", b""));
-    let long = longer(alloc, b"GET / HTTP/1.0\r\nb: ", 8170, b"\r\n\r\n")?;
-    assert!(rt; is_wish(asked(&long), "431", b"", b""));
-    let target = longer(alloc, b"GET /", 8188, b" HTTP/1.1\r\n\r\n")?;
-    assert!(rt; is_wish(asked(&target), "414", b"", b""));
-    let front = longer(alloc, b"GET /", 8187, b"")?;
-    assert!(rt; is_wish(asked(&front), "more", b"", b""));
-    assert!(rt; is_wish(asked(&many_fields(alloc, 64)?), "GET", b"/", b""));
-    assert!(rt; is_wish(asked(&many_fields(alloc, 65)?), "431", b"", b""));
-    Ok(())
+fn long_heads_are_refused(rt: HostRuntime) {
+    let seen = (first_long(rt.alloc()), are_of_fields(rt.alloc()));
+    assert_eq!(rt; seen, ("none", Ok([true, true])));
 }
 
 /// Targets, and the files that they name; of none an empty text.
-const TARGETS: [(&[u8], &[u8]); 33] = [
-    (b"/", b"index.html"),
-    (b"/desk/", b"desk/index.html"),
-    (b"/desk.html?token=a/../b", b"desk.html"),
-    (b"/web/viewd.js", b"web/viewd.js"),
-    // RFC 3986, section 6.2.2.2
-    (b"/%7Esmith/home.html", b"~smith/home.html"),
-    (b"/a%20b.txt", b"a b.txt"),
-    (b"/%", b"%"),
-    (b"/a.b.c", b"a.b.c"),
-    (b"/a..b", b"a..b"),
-    // once, and not twice
-    (b"/%252e%252e/x", b"%2e%2e/x"),
-    (b"/%25%32%65", b"%2e"),
-    (b"", b""),
-    (b"x", b""),
-    (b"*", b""),
-    (b"http://a/b", b""),
-    (b"?", b""),
-    (b"/..", b""),
-    (b"/../etc/passwd", b""),
-    (b"/a/../b", b""),
-    (b"/a/./b", b""),
-    (b"/%2e%2e/etc/passwd", b""),
-    (b"/.%2E/x", b""),
-    (b"/%2e", b""),
-    (b"//etc/passwd", b""),
-    (b"/a//b", b""),
-    (b"/.git/config", b""),
-    (b"/a/.hidden", b""),
-    (b"/a%2fb", b""),
-    (b"/..%2f..%2fetc", b""),
-    (b"/a\\..\\b", b""),
-    (b"/a%5Cb", b""),
-    (b"/a%00.html", b""),
-    (b"/a%0d%0ab", b""),
-];
+const TARGETS: &str = r#"/|index.html
+/desk/|desk/index.html
+/desk.html?token=a/../b|desk.html
+/web/viewd.js|web/viewd.js
+# RFC 3986, section 6.2.2.2
+/%7Esmith/home.html|~smith/home.html
+/a%20b.txt|a b.txt
+/%|%
+/a.b.c|a.b.c
+/a..b|a..b
+# once, and not twice
+/%252e%252e/x|%2e%2e/x
+/%25%32%65|%2e
+|
+x|
+*|
+http://a/b|
+?|
+/..|
+/../etc/passwd|
+/a/../b|
+/a/./b|
+/%2e%2e/etc/passwd|
+/.%2E/x|
+/%2e|
+//etc/passwd|
+/a//b|
+/.git/config|
+/a/.hidden|
+/a%2fb|
+/..%2f..%2fetc|
+/a\x5c..\x5cb|
+/a%5Cb|
+/a%00.html|
+/a%0d%0ab|
+# beyond printable ASCII
+/a%7f|
+/a\xc3\xa4|
+/%c3a|"#;
 
-/// Targets beyond printable ASCII.
-const BEYOND: [&[u8]; 3] = [b"/a%7f", b"/a\xc3\xa4", b"/%c3a"];
-
-#[test]
-fn places_are_named(rt: HostRuntime) -> Result<(), Fail> {
-    let alloc = rt.alloc();
-    for (target, wanted) in &TARGETS {
-        let place = place_of(alloc, target)?.unwrap_or(Vec::new(alloc));
-        assert_eq!(rt; place.as_slice(), *wanted);
-    }
-    for beyond in &BEYOND {
-        assert!(rt; place_of(alloc, beyond)?.is_none());
-    }
-    Ok(())
+/// Whether the target of the line names that file.
+fn is_named(alloc: Global, line: &str) -> Result<bool, AllocError> {
+    let target = bytes_of(alloc, cell(line, 0))?;
+    let (place, wanted) = (place_of(alloc, &target)?, cell(line, 1));
+    let is_named = place.is_some() != wanted.is_empty();
+    Ok(is_named && place.unwrap_or(Vec::new(alloc)).as_slice() == wanted.as_bytes())
 }
 
-const KINDS: [(&[u8], &str); 21] = [
-    (b"index.html", "text/html; charset=utf-8"),
-    (b"web/viewd.js", "text/javascript; charset=utf-8"),
-    (b"a.mjs", "text/javascript; charset=utf-8"),
-    (b"a.css", "text/css; charset=utf-8"),
-    (b"a.json", "application/json"),
-    (b"a.js.map", "application/json"),
-    (b"a.webmanifest", "application/manifest+json"),
-    (b"a.svg", "image/svg+xml"),
-    (b"a.png", "image/png"),
-    (b"a.jpg", "image/jpeg"),
-    (b"a.jpeg", "image/jpeg"),
-    (b"favicon.ico", "image/vnd.microsoft.icon"),
-    (b"a.txt", "text/plain; charset=utf-8"),
-    (b"a.woff2", "font/woff2"),
-    (b"a.wasm", "application/wasm"),
-    (b"README", "application/octet-stream"),
-    (b"a.html/b", "application/octet-stream"),
-    (b"a.", "application/octet-stream"),
-    (b"html", "application/octet-stream"),
-    (b"a.b/js", "application/octet-stream"),
-    (b"a.htmlx", "application/octet-stream"),
-];
+/// The first line whose target names another file.
+fn first_misnamed(alloc: Global) -> &'static str {
+    for line in TARGETS.lines() {
+        if !is_comment(line) && is_named(alloc, line) != Ok(true) {
+            return line;
+        }
+    }
+    "none"
+}
 
 #[test]
-fn kinds_are_known(rt: HostRuntime) -> Result<(), Fail> {
-    for (place, kind) in &KINDS {
-        assert_eq!(rt; kind_of(place), *kind);
+fn places_are_named(rt: HostRuntime) {
+    assert_eq!(rt; first_misnamed(rt.alloc()), "none");
+}
+
+/// Names of files, and their kinds.
+const KINDS: &str = "index.html|text/html; charset=utf-8
+web/viewd.js|text/javascript; charset=utf-8
+a.mjs|text/javascript; charset=utf-8
+a.css|text/css; charset=utf-8
+a.json|application/json
+a.js.map|application/json
+a.webmanifest|application/manifest+json
+a.svg|image/svg+xml
+a.png|image/png
+a.jpg|image/jpeg
+a.jpeg|image/jpeg
+favicon.ico|image/vnd.microsoft.icon
+a.txt|text/plain; charset=utf-8
+a.woff2|font/woff2
+a.wasm|application/wasm
+README|application/octet-stream
+a.html/b|application/octet-stream
+a.|application/octet-stream
+html|application/octet-stream
+a.b/js|application/octet-stream
+a.htmlx|application/octet-stream";
+
+/// The first line whose file is of another kind.
+fn first_of_other_kind() -> &'static str {
+    for line in KINDS.lines() {
+        if kind_of(cell(line, 0).as_bytes()) != cell(line, 1) {
+            return line;
+        }
     }
-    Ok(())
+    "none"
+}
+
+#[test]
+fn kinds_are_known(rt: HostRuntime) {
+    assert_eq!(rt; first_of_other_kind(), "none");
 }
 
 /// The tag of `abc` (FIPS 180-4, appendix B.1).
@@ -257,32 +265,15 @@ const NOT_MODIFIED: &[u8] =
     b"HTTP/1.1 304 Not Modified\r\netag: \"ba7816bf8f01cfea414140de5dae2223b00361a396177a9cb410ff61f20015ad\"\r\ncache-control: no-cache\r\nx-content-type-options: nosniff\r\nconnection: close\r\n\r\n";
 
 /// What a client knows, and whether that is the file.
-const KNOWN: [(&[u8], bool); 9] = [
-    (b"*", true),
-    (
-        b"\"ba7816bf8f01cfea414140de5dae2223b00361a396177a9cb410ff61f20015ad\"",
-        true,
-    ),
-    (
-        b"W/\"ba7816bf8f01cfea414140de5dae2223b00361a396177a9cb410ff61f20015ad\"",
-        true,
-    ),
-    (
-        b"\"xyzzy\",\t \"ba7816bf8f01cfea414140de5dae2223b00361a396177a9cb410ff61f20015ad\"",
-        true,
-    ),
-    (
-        b"\"ba7816bf8f01cfea414140de5dae2223b00361a396177a9cb410ff61f20015ad\",\"xyzzy\"",
-        true,
-    ),
-    (b"\"xyzzy\"", false),
-    (b"", false),
-    (b"\"*\"", false),
-    (
-        b"ba7816bf8f01cfea414140de5dae2223b00361a396177a9cb410ff61f20015ad",
-        false,
-    ),
-];
+const KNOWN: &str = r#"*|true
+"ba7816bf8f01cfea414140de5dae2223b00361a396177a9cb410ff61f20015ad"|true
+W/"ba7816bf8f01cfea414140de5dae2223b00361a396177a9cb410ff61f20015ad"|true
+"xyzzy",\x09 "ba7816bf8f01cfea414140de5dae2223b00361a396177a9cb410ff61f20015ad"|true
+"ba7816bf8f01cfea414140de5dae2223b00361a396177a9cb410ff61f20015ad","xyzzy"|true
+"xyzzy"|false
+|false
+"*"|false
+ba7816bf8f01cfea414140de5dae2223b00361a396177a9cb410ff61f20015ad|false"#;
 
 fn page<'a>(tag: Option<&'a [u8]>) -> Page<'a> {
     Page {
@@ -301,24 +292,52 @@ fn ask(only_head: bool, known: Option<&[u8]>) -> Ask<'_> {
     }
 }
 
-#[test]
-fn pages_are_answered(rt: HostRuntime) -> Result<(), Fail> {
-    let alloc = rt.alloc();
-    let tag = etag_of(alloc, b"abc")?;
-    assert_eq!(rt; tag.as_slice(), TAG);
-    for (known, is) in &KNOWN {
-        let mut out = Vec::new(alloc);
-        let follows = push_page(&mut out, &page(Some(&tag)), &ask(false, Some(known)))?;
-        assert_eq!(rt; out.as_slice(), if *is { NOT_MODIFIED } else { OK });
-        assert_eq!(rt; follows, !*is);
+/// Whether the page is answered in full where the client knows another file, and is told to be the same where it knows this one.
+fn is_answered(alloc: Global, tag: &[u8], line: &str) -> Result<bool, AllocError> {
+    let known = bytes_of(alloc, cell(line, 0))?;
+    let is_same = cell(line, 1) == "true";
+    let mut out = Vec::new(alloc);
+    let follows = push_page(&mut out, &page(Some(tag)), &ask(false, Some(&known)))?;
+    let wanted = if is_same { NOT_MODIFIED } else { OK };
+    Ok(out.as_slice() == wanted && follows != is_same)
+}
+
+/// Whether a head alone is answered as the page is, and nothing follows it; and whether a page without a tag is never the same.
+fn are_answered(alloc: Global, tag: &[u8]) -> Result<[bool; 2], AllocError> {
+    let mut head = Vec::new(alloc);
+    let follows = push_page(&mut head, &page(Some(tag)), &ask(true, None))?;
+    let mut untagged = Vec::new(alloc);
+    let is_full = push_page(&mut untagged, &page(None), &ask(false, Some(b"*")))?;
+    Ok([
+        !follows && head.as_slice() == OK,
+        is_full && !untagged.starts_with(b"HTTP/1.1 304"),
+    ])
+}
+
+/// The first line that is answered otherwise.
+fn first_unlike(alloc: Global, tag: &[u8]) -> &'static str {
+    for line in KNOWN.lines() {
+        if is_answered(alloc, tag, line) != Ok(true) {
+            return line;
+        }
     }
-    let mut out = Vec::new(alloc);
-    assert!(rt; !push_page(&mut out, &page(Some(&tag)), &ask(true, None))?);
-    assert_eq!(rt; out.as_slice(), OK);
-    let mut out = Vec::new(alloc);
-    assert!(rt; push_page(&mut out, &page(None), &ask(false, Some(b"*")))?);
-    assert!(rt; !out.starts_with(b"HTTP/1.1 304"));
-    Ok(())
+    "none"
+}
+
+/// Whether the tag is that of `abc`, and what is answered by it.
+fn answered(alloc: Global) -> Result<(bool, &'static str, [bool; 2]), AllocError> {
+    let tag = etag_of(alloc, b"abc")?;
+    let are_answered = are_answered(alloc, &tag)?;
+    Ok((
+        tag.as_slice() == TAG,
+        first_unlike(alloc, &tag),
+        are_answered,
+    ))
+}
+
+#[test]
+fn pages_are_answered(rt: HostRuntime) {
+    assert_eq!(rt; answered(rt.alloc()), Ok((true, "none", [true, true])));
 }
 
 const REFUSED: [(Refusal, &[u8]); 2] = [
@@ -332,19 +351,24 @@ const REFUSED: [(Refusal, &[u8]); 2] = [
     ),
 ];
 
+/// Whether that is answered, and to a `HEAD` its head alone.
+fn is_refused(alloc: Global, why: Refusal, answer: &[u8]) -> Result<[bool; 3], AllocError> {
+    let mut out = Vec::new(alloc);
+    push_refusal(&mut out, why, false)?;
+    let mut head = Vec::new(alloc);
+    push_refusal(&mut head, why, true)?;
+    Ok([
+        out.as_slice() == answer,
+        answer.starts_with(&head),
+        head.ends_with(b"\r\n\r\n"),
+    ])
+}
+
 #[test]
-fn refusals_are_answered(rt: HostRuntime) -> Result<(), Fail> {
-    let alloc = rt.alloc();
+fn refusals_are_answered(rt: HostRuntime) {
     for (why, answer) in &REFUSED {
-        let mut out = Vec::new(alloc);
-        push_refusal(&mut out, *why, false)?;
-        assert_eq!(rt; out.as_slice(), *answer);
-        let mut head = Vec::new(alloc);
-        push_refusal(&mut head, *why, true)?;
-        assert!(rt; answer.starts_with(&head));
-        assert!(rt; head.ends_with(b"\r\n\r\n"));
+        assert!(rt; is_refused(rt.alloc(), *why, answer) == Ok([true; 3]));
     }
-    Ok(())
 }
 
 /// Prometheus: Exposition formats, its example of escapes and its histogram, with whole numbers.
@@ -428,12 +452,16 @@ fn push_waits(out: &mut Vec<u8>) -> Result<(), AllocError> {
     )
 }
 
-#[test]
-fn figures_are_text(rt: HostRuntime) -> Result<(), Fail> {
-    let mut out = Vec::new(rt.alloc());
+fn figures(alloc: Global) -> Result<Vec<u8>, AllocError> {
+    let mut out = Vec::new(alloc);
     push_escapes(&mut out)?;
     push_requests(&mut out)?;
     push_waits(&mut out)?;
-    assert_eq!(rt; out.as_slice(), FIGURES.as_bytes());
+    Ok(out)
+}
+
+#[test]
+fn figures_are_text(rt: HostRuntime) -> Result<(), Fail> {
+    assert_eq!(rt; figures(rt.alloc())?.as_slice(), FIGURES.as_bytes());
     Ok(())
 }
