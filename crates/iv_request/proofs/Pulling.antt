@@ -1,14 +1,21 @@
 -- What is read token by token is what the reading of the whole value gives.
-use Rattle.std.proofs.Common.{◌≡◌, ◌∙◌, ◌∷◌, ◌++◌, ◌+◌, ◌-◌, ◌<◌, ◌≤◌, ℕ, ◌&&◌, List, [], length, Option, Some, None, option_map, option_and_then, refl, sym, ap, arith, append-nil}
+use Rattle.std.proofs.Common.{◌≡◌, ◌∙◌, ◌∷◌, ◌++◌, ◌+◌, ◌-◌, ◌<◌, ◌≤◌, ℕ, Bool, true, cond, ◌&&◌, List, [], length, Option, Some, None, option_map, option_and_then, refl, sym, ap, subst, arith, append-nil}
+use Rattle.std.specs.Prelude.{is_some, IfSome}
 use Rattle.json.specs.Token.{Token}
 use Rattle.json.specs.Json.{Json, Items, no_items, item, Members, no_members, member, parse_map, after_end_array, read_key, items, members, value, value_with}
 use Rattle.json.specs.Json as json
-use Rattle.json.proofs.Grammar.{value_is, value-begin_array, value-begin_object, nested_items, nested_members, after_end_array-shorter, read_key-shorter, items_end, items_more, members_end, members_more}
-use Rattle.serde_json.specs.Data.{Data, put}
+use Rattle.json.proofs.Grammar.{value_is, value-begin_array, value-begin_object, after_end_array-shorter, read_key-shorter, items_end, items_more, members_end, members_more}
+use Rattle.serde_json.specs.Data.{Num, Data, put}
 use Rattle.serde_json.specs.Data as serde_json
-use Rattle.iv_request.specs.Documents.{data_of, items_of, members_of, fits, items_fit, members_fit}
-use Rattle.iv_request.specs.Request.{each, list_of}
-use Rattle.iv_request.specs.Pulled.{IsNext, Pulls, items_after, HasRead, members_after, HasFound}
+use Rattle.serde_json.specs.Find.{as_i64, as_u64}
+use Rattle.iv_rows.specs.Cell.{num, text}
+use Rattle.iv_rows.specs.Texts.{is_well_cell}
+use Rattle.iv_rows.specs.View.{cell_of as view}
+use Rattle.iv_rows.specs.declared.value.Value.{Value}
+use Rattle.serde_json.specs.Read.{number_of}
+use Rattle.iv_request.specs.Documents.{number_or_null, data_of, items_of, members_of, fits, items_fit, members_fit}
+use Rattle.iv_request.specs.Request.{passing, each, list_of, cell_of}
+use Rattle.iv_request.specs.Pulled.{IsNext, Pulls, natural_by, items_after, HasRead, members_after, HasFound}
 use Rattle.iv_request.proofs.Each.{behind_nothing, behind_cons}
 
 -- ---- a value
@@ -19,22 +26,22 @@ deeper a b ts j rest le h = record { read = λ depth d. h.read depth (omega arit
 pub pulls_deeper : {X : Type 0} (a b : ℕ) (f : Data → Option X) (ts : List Token) (x : X) (rest : List Token) → a ≤ b → Pulls a f ts x rest → Pulls b f ts x rest
 pulls_deeper a b f ts x rest le h = (h.0, deeper a b ts h.0 rest le h.1, h.2)
 
--- where an array ends no value begins, and what is left behind a value is shorter
-no_value_at : (depth : ℕ) (ts rest : List Token) (j : Json) → value_with (nested_items depth) (nested_members depth) ts ≡ Some (j, rest) → after_end_array ts ≡ None
-no_value_at depth [] rest j e = refl
-no_value_at depth (Token.begin_object ∷ ts) rest j e = refl
-no_value_at depth (Token.end_object ∷ ts) rest j e = refl
-no_value_at depth (Token.begin_array ∷ ts) rest j e = refl
-no_value_at depth (Token.end_array ∷ ts) rest j e = cc
-no_value_at depth (Token.key s ∷ ts) rest j e = refl
-no_value_at depth (Token.string s ∷ ts) rest j e = refl
-no_value_at depth (Token.number s ∷ ts) rest j e = refl
-no_value_at depth (Token.boolean b ∷ ts) rest j e = refl
-no_value_at depth (Token.null ∷ ts) rest j e = refl
-no_value_at depth (Token.bad ∷ ts) rest j e = refl
+-- where an array ends no value begins
+no_value_at : (A : List Token → Option (Items × List Token)) (O : List Token → Option (Members × List Token)) (ts rest : List Token) (j : Json) → value_with A O ts ≡ Some (j, rest) → after_end_array ts ≡ None
+no_value_at A O [] rest j e = refl
+no_value_at A O (Token.begin_object ∷ ts) rest j e = refl
+no_value_at A O (Token.end_object ∷ ts) rest j e = refl
+no_value_at A O (Token.begin_array ∷ ts) rest j e = refl
+no_value_at A O (Token.end_array ∷ ts) rest j e = cc
+no_value_at A O (Token.key s ∷ ts) rest j e = refl
+no_value_at A O (Token.string s ∷ ts) rest j e = refl
+no_value_at A O (Token.number s ∷ ts) rest j e = refl
+no_value_at A O (Token.boolean b ∷ ts) rest j e = refl
+no_value_at A O (Token.null ∷ ts) rest j e = refl
+no_value_at A O (Token.bad ∷ ts) rest j e = refl
 
 pub no_end : (depth : ℕ) (ts rest : List Token) (j : Json) → value depth ts ≡ Some (j, rest) → after_end_array ts ≡ None
-no_end depth ts rest j h = no_value_at depth ts rest j (sym (value_is depth ts) ∙ h)
+no_end depth ts rest j h = no_value_at _ _ ts rest j (sym (value_is depth ts) ∙ h)
 
 -- ---- the items of an array
 
@@ -147,3 +154,49 @@ all_found levels f x first found ts rest h e made =
       },
       ap (λ ms. f (serde_json.object ms)) (h.made no_members) ∙ made,
     )
+
+-- ---- what is no array and no object
+
+pub pulls_number : {X : Type 0} (f : Data → Option X) (s : List ℕ) (ts : List Token) (n : Num) (x : X) → number_of s ≡ Some n → f (serde_json.number n) ≡ Some x → Pulls 0 f (Token.number s ∷ ts) x ts
+pulls_number f s ts n x e made = (
+  json.number s,
+  record {
+    read = λ depth d. value_is depth (Token.number s ∷ ts);
+    fit = ap is_some e;
+  },
+  ap (λ m. f (number_or_null m)) e ∙ made,
+)
+
+pub pulls_string : {X : Type 0} (f : Data → Option X) (s : List ℕ) (ts : List Token) (x : X) → f (serde_json.string s) ≡ Some x → Pulls 0 f (Token.string s ∷ ts) x ts
+pulls_string f s ts x made = (json.string s, record { read = λ depth d. value_is depth (Token.string s ∷ ts); fit = refl }, made)
+
+pub pulls_boolean : {X : Type 0} (f : Data → Option X) (b : Bool) (ts : List Token) (x : X) → f (serde_json.boolean b) ≡ Some x → Pulls 0 f (Token.boolean b ∷ ts) x ts
+pulls_boolean f b ts x made = (json.boolean b, record { read = λ depth d. value_is depth (Token.boolean b ∷ ts); fit = refl }, made)
+
+-- where tokens begin is known by an equation
+pub pulls_at : {X : Type 0} (levels : ℕ) (f : Data → Option X) (ts us : List Token) (x : X) (rest : List Token) → ts ≡ us → Pulls levels f us x rest → Pulls levels f ts x rest
+pulls_at levels f ts us x rest e p = subst (λ vs. Pulls levels f vs x rest) (sym e) p
+
+-- x passes
+pub pulls_passing : {X : Type 0} (levels : ℕ) (f : Data → Option X) (t : X → Bool) (ts : List Token) (x : X) (rest : List Token) → Pulls levels f ts x rest → t x ≡ true → Pulls levels (λ d. option_and_then (passing t) (f d)) ts x rest
+pulls_passing levels f t ts x rest p e = (p.0, p.1, ap (option_and_then (passing t)) p.2 ∙ ap (λ b. cond b (Some x) None) e)
+
+pub by_natural : (s : List ℕ) (r : Option ℕ) (ts us : List Token) → us ≡ Token.number s ∷ ts → r ≡ option_and_then as_u64 (number_of s) → IfSome r (λ n. Pulls 0 natural_by us n ts)
+by_natural s None ts us e h = tt
+by_natural s (Some n) ts us e h = by_number (number_of s) refl (sym h)
+  where
+    by_number : (o : Option Num) → number_of s ≡ o → option_and_then as_u64 o ≡ Some n → Pulls 0 natural_by us n ts
+    by_number None a b = cc
+    by_number (Some m) a b = pulls_at 0 natural_by us (Token.number s ∷ ts) n ts e (pulls_number natural_by s ts m n a b)
+
+pub by_whole : (s : List ℕ) (r : Option Value) (ts us : List Token) → us ≡ Token.number s ∷ ts → IfSome r (λ v. option_map num (option_and_then as_i64 (number_of s)) ≡ Some (view v)) → IfSome r (λ v. Pulls 0 cell_of us (view v) ts)
+by_whole s None ts us e h = tt
+by_whole s (Some v) ts us e h = by_number (number_of s) refl h
+  where
+    by_number : (o : Option Num) → number_of s ≡ o → option_map num (option_and_then as_i64 o) ≡ Some (view v) → Pulls 0 cell_of us (view v) ts
+    by_number None a b = cc
+    by_number (Some m) a b = pulls_at 0 cell_of us (Token.number s ∷ ts) (view v) ts e (pulls_number cell_of s ts m (view v) a b)
+
+pub by_text : (s : List ℕ) (r : Option Value) (ts us : List Token) → us ≡ Token.string s ∷ ts → option_map view r ≡ passing is_well_cell (text s) → IfSome r (λ v. Pulls 0 cell_of us (view v) ts)
+by_text s None ts us e h = tt
+by_text s (Some v) ts us e h = pulls_at 0 cell_of us (Token.string s ∷ ts) (view v) ts e (pulls_string cell_of s ts (view v) (sym h))

@@ -100,8 +100,11 @@ op_by key d =
 abbrev pub entries_by : Data → Option (List Entry)
 entries_by d = option_and_then (passing (λ es. is_between 1 1000 (length es))) (list_of entry_of d)
 
+abbrev pub natural_by : Data → Option ℕ
+natural_by d = option_and_then as_u64 (as_number d)
+
 abbrev pub session_by : Data → Option ℕ
-session_by d = option_and_then (passing is_session) (option_and_then as_u64 (as_number d))
+session_by d = option_and_then (passing is_session) (natural_by d)
 
 -- ---- what is read of an object
 

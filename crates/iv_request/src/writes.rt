@@ -3,15 +3,16 @@
 //! Nearly all bytes that are read are those of writes. Here each token goes at once to where it belongs: no JSON value is built, no
 //! number is read twice, and no key is looked for. What is read so is what the whole value would give, which the clauses say; where it is
 //! no write, or is written in a way that this does not read, that tells nothing of the line.
-ghost use Rattle.std.specs.Prelude.{◌≡◌, ◌<◌, ◌∷◌, codes, length, true, Some, IfOk, IfSome, option_and_then, string_bytes};
+ghost use Rattle.std.specs.Prelude.{◌≡◌, ◌<◌, ◌∷◌, codes, length, true, Some, IfOk, IfSome, option_and_then, option_map, string_bytes};
 ghost use Rattle.json.specs.Token as token;
 ghost use Rattle.serde_json.specs.Data.{object, Members, no_members};
-ghost use Rattle.serde_json.specs.Find.{as_i64, as_str};
+ghost use Rattle.serde_json.specs.Find.{as_i64, as_str, as_u64};
+ghost use Rattle.iv_rows.specs.Cell.{num};
 ghost use Rattle.serde_json.specs.Read as serde_json;
 ghost use Rattle.iv_rows.specs.View as iv_rows;
 ghost use Rattle.iv_command.specs.Entries as entries;
 ghost use Rattle.iv_command.specs.Views.{command_of};
-ghost use Rattle.iv_request.specs.Pulled.{Pulls, Adds, Closes, IsParts, IsWritten, name_of, op_by, entries_by, session_by};
+ghost use Rattle.iv_request.specs.Pulled.{Pulls, Adds, Closes, IsParts, IsWritten, name_of, op_by, entries_by, natural_by, session_by};
 ghost use Rattle.iv_request.specs.Request as spec;
 
 use crate::documents::number_of;
@@ -27,11 +28,22 @@ const MOST_ENTRIES: usize = 1000;
 /// For how many values a row is given memory before one has been read.
 const FIRST_COLUMNS: usize = 4;
 
-/// The whole number that the text of a JSON number is.
-fn whole_of(text: &str) -> Option<i64>
-    ensures { result ≡ option_and_then as_i64 (serde_json.number_of text.now) }
+/// The greatest number of copies.
+const MOST: u64 = 9_223_372_036_854_775_807;
+
+/// The value in a row that the text of a JSON number is: a whole number of 64 bits.
+fn number_cell(text: &str) -> Option<Value>
+    ensures { IfSome result (λ v. option_map num (option_and_then as_i64 (serde_json.number_of text.now)) ≡ Some (iv_rows.cell_of v)) }
 {
-    number_of(text)?.as_i64()
+    let number = number_of(text)?.as_i64()?;
+    Some(Value::Int(number))
+}
+
+/// The whole number from 0 on that the text of a JSON number is.
+fn natural_of(text: &str) -> Option<u64>
+    ensures { result ≡ option_and_then as_u64 (serde_json.number_of text.now) }
+{
+    number_of(text)?.as_u64()
 }
 
 /// The value in a row that the next token is: a flag, a whole number or a text.
@@ -40,8 +52,11 @@ fn cell_in(alloc: Global, reader: &mut Reader<'_>) -> Result<Option<Value>, Allo
     ensures shorter { IfOk result (λ found. IfSome found (λ v. length reader.new < length reader.old)) }
 {
     match reader.next() {
-        Some(Token::Number(text)) => Ok(whole_of(text).map(Value::Int)),
-        Some(Token::String(text)) => text_cell(alloc, text),
+        Some(Token::Number(text)) => Ok(number_cell(text)),
+        Some(Token::String(text)) => {
+            let cell = text_cell(alloc, text)?;
+            Ok(cell)
+        }
         Some(Token::Bool(flag)) => Ok(Some(Value::Flag(flag))),
         _ => Ok(None),
     }
@@ -136,17 +151,31 @@ fn update_in(
     }
 }
 
+/// The whole number from 0 on that is next.
+fn natural_in(reader: &mut Reader<'_>) -> Option<u64>
+    ensures number { IfSome result (λ n. Pulls 0 natural_by reader.old n reader.new) }
+    ensures shorter { IfSome result (λ n. length reader.new < length reader.old) }
+{
+    match reader.next() {
+        Some(Token::Number(text)) => natural_of(text),
+        _ => None,
+    }
+}
+
 /// The number of copies that is next.
 fn copies_in(reader: &mut Reader<'_>) -> Option<i64>
     ensures copies { IfSome result (λ n. Pulls 0 spec.positive_of reader.old (entries.copies_of n) reader.new) }
     ensures shorter { IfSome result (λ n. length reader.new < length reader.old) }
 {
-    match reader.next() {
-        Some(Token::Number(text)) => match whole_of(text) {
-            Some(number) => { if number >= 1 { Some(number) } else { None } }
-            None => None,
-        },
-        _ => None,
+    match natural_in(reader) {
+        None => None,
+        Some(copies) => {
+            if 1 <= copies && copies <= MOST {
+                Some(copies as i64)
+            } else {
+                None
+            }
+        }
     }
 }
 
@@ -337,18 +366,15 @@ fn session_in(reader: &mut Reader<'_>) -> Option<u32>
     ensures session { IfSome result (λ n. Pulls 0 session_by reader.old n reader.new) }
     ensures shorter { IfSome result (λ n. length reader.new < length reader.old) }
 {
-    match reader.next() {
-        Some(Token::Number(text)) => match whole_of(text) {
-            Some(number) => {
-                if number >= 1 && number < 4_294_967_296 {
-                    Some(number as u32)
-                } else {
-                    None
-                }
+    match natural_in(reader) {
+        None => None,
+        Some(number) => {
+            if 1 <= number && number < 4_294_967_296 {
+                Some(number as u32)
+            } else {
+                None
             }
-            None => None,
-        },
-        _ => None,
+        }
     }
 }
 
