@@ -3,7 +3,9 @@ pub mod Digits
 pub mod Each
 pub mod Keys
 pub mod Looking
+pub mod Members
 pub mod Order
+pub mod Pulling
 pub mod Reading
 pub mod Table
 pub mod Well

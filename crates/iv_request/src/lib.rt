@@ -11,6 +11,7 @@ mod memberships;
 mod parts;
 mod policies;
 mod requests;
+mod writes;
 
 pub use columns::columns_at;
 pub use entries::{entries_at, entry_of};

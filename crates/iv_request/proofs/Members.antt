@@ -1,0 +1,227 @@
+-- What a member more makes of an entry's parts, and of a write's.
+use Rattle.std.proofs.Common.{◌≡◌, ◌∙◌, ◌∷◌, ℕ, Bool, true, false, ◌&&◌, ◌||◌, List, [], length, Option, Some, None, option_map, option_and_then, cond, refl, sym, ap, subst}
+use Rattle.std.specs.Prelude.{bytes_eq, codes, is_some, MatchOption}
+use Rattle.std.proofs.lemmas.Slice.Eq.{bytes_eq-Decides}
+use Rattle.serde_json.specs.Data.{Data, object, Members, no_members, member, put}
+use Rattle.serde_json.specs.Find.{as_array, as_number, as_str, as_u64, get_member}
+use Rattle.iv_rows.specs.Names.{is_name}
+use Rattle.iv_machine.specs.Act.{Op, Entry, insert, delete, update}
+use Rattle.iv_machine.specs.Act as machine
+use Rattle.iv_machine.specs.Parts.{is_between}
+use Rattle.iv_request.specs.Forms.{is_among, keys_pass}
+use Rattle.iv_request.specs.Request.{passing, each, given_or, positive_of, row_of, update_of, op_at, does_at, entry, entry_of, is_session, command, request}
+use Rattle.iv_request.specs.Pulled.{DoesNothing, Does, MakesParts, MakesWrite, name_of, op_by, entries_by, session_by}
+use Rattle.iv_request.proofs.Keys.{left_true, right_true, both_true, put_passes}
+use Rattle.iv_request.proofs.Looking.{put_at}
+
+same : (k : List ℕ) (d : Data) (ms : Members) → bytes_eq k k ≡ true → get_member k (put k d ms) ≡ Some d
+same k d ms e = put_at k k d ms true e
+
+other : (q k : List ℕ) (d : Data) (ms : Members) → bytes_eq k q ≡ false → get_member q (put k d ms) ≡ get_member q ms
+other q k d ms e = put_at q k d ms false e
+
+-- ---- keys
+
+one_passes : (test : List ℕ → Bool) (k : List ℕ) (d : Data) (ms : Members) → test k ≡ true → keys_pass test ms ≡ true → keys_pass test (put k d ms) ≡ true
+one_passes test k d ms e h = put_passes test k d ms ∙ both_true (test k) (keys_pass test ms) e h
+
+wider : (a b c : Bool) → (a || c) ≡ true → (a || (b || c)) ≡ true
+wider true b c h = refl
+wider false true c h = refl
+wider false false c h = h
+
+last_is : (b c : Bool) → c ≡ true → (b || c) ≡ true
+last_is true c h = refl
+last_is false c h = h
+
+abbrev few : List (List ℕ)
+few = codes "on" ∷ codes "copies" ∷ []
+
+abbrev these : List ℕ → List (List ℕ)
+these x = codes "on" ∷ x ∷ codes "copies" ∷ []
+
+more_keys : (x : List ℕ) (ms : Members) → keys_pass (is_among few) ms ≡ true → keys_pass (is_among (these x)) ms ≡ true
+more_keys x no_members h = refl
+more_keys x (member k d ms) h =
+    both_true (is_among (these x) k) (keys_pass (is_among (these x)) ms)
+    (wider (bytes_eq (codes "on") k) (bytes_eq x k) _ (left_true (is_among few k) _ h))
+    (more_keys x ms (right_true (is_among few k) _ h))
+
+-- ---- what an entry does
+
+abbrev op_from : Option Data → Option Data → Option Data → Option Op
+op_from i d u = cond (is_some i) (option_map insert (option_and_then row_of i)) (cond (is_some d) (option_map delete (option_and_then row_of d)) (option_and_then update_of u))
+
+abbrev key_from : Option Data → Option Data → List ℕ
+key_from i d = cond (is_some i) (codes "insert") (cond (is_some d) (codes "delete") (codes "update"))
+
+op_stays : (k : List ℕ) (d : Data) (ms : Members) → bytes_eq k (codes "insert") ≡ false → bytes_eq k (codes "delete") ≡ false → bytes_eq k (codes "update") ≡ false
+    → (op_at (object (put k d ms)) ≡ op_at (object ms)) × (does_at (object (put k d ms)) ≡ does_at (object ms))
+op_stays k d ms i e u = (
+  (λ t. op_from (other (codes "insert") k d ms i t) (other (codes "delete") k d ms e t) (other (codes "update") k d ms u t)),
+  (λ t. key_from (other (codes "insert") k d ms i t) (other (codes "delete") k d ms e t)),
+)
+
+-- a key that is none of what an entry does, and is one of an entry's
+does_still : (k : List ℕ) (d : Data) (ms : Members) (op : Option Op) → bytes_eq k (codes "insert") ≡ false → bytes_eq k (codes "delete") ≡ false → bytes_eq k (codes "update") ≡ false
+    → is_among few k ≡ true → MatchOption op (DoesNothing (object ms)) (Does (object ms)) → MatchOption op (DoesNothing (object (put k d ms))) (Does (object (put k d ms)))
+does_still k d ms None i e u few_one h = record {
+  insert = ap is_some (other (codes "insert") k d ms i) ∙ h.insert;
+  delete = ap is_some (other (codes "delete") k d ms e) ∙ h.delete;
+  update = ap is_some (other (codes "update") k d ms u) ∙ h.update;
+  only = one_passes (is_among few) k d ms few_one h.only;
+}
+does_still k d ms (Some op) i e u few_one h =
+    let stays = op_stays k d ms i e u in
+    let x = does_at (object ms) in
+    record {
+      is = stays.0 ∙ h.is;
+      only =
+          ap (λ y. keys_pass (is_among (these y)) (put k d ms)) stays.1
+          ∙ one_passes (is_among (these x)) k d ms (wider (bytes_eq (codes "on") k) (bytes_eq x k) _ few_one) h.only;
+    }
+
+inserts : (d : Data) (ms : Members) (op : Op) → option_map insert (row_of d) ≡ Some op → DoesNothing (object ms) → Does (object (put (codes "insert") d ms)) op
+inserts d ms op e h =
+    let k = codes "insert" in
+    let here = same k d ms refl in
+    record {
+      is = ap (λ g. op_from g (get_member (codes "delete") (put k d ms)) (get_member (codes "update") (put k d ms))) here ∙ e;
+      only =
+          ap (λ g. keys_pass (is_among (these (key_from g (get_member (codes "delete") (put k d ms))))) (put k d ms)) here
+          ∙ one_passes (is_among (these k)) k d ms refl (more_keys k ms h.only);
+    }
+
+deletes : (d : Data) (ms : Members) (op : Op) → option_map delete (row_of d) ≡ Some op → DoesNothing (object ms) → Does (object (put (codes "delete") d ms)) op
+deletes d ms op e h =
+    let k = codes "delete" in
+    let here = same k d ms refl in
+    let before = ap is_some (other (codes "insert") k d ms refl) ∙ h.insert in
+    record {
+      is =
+          ap (λ b. cond b (option_map insert (option_and_then row_of (get_member (codes "insert") (put k d ms)))) (op_from None (get_member k (put k d ms)) (get_member (codes "update") (put k d ms)))) before
+          ∙ ap (λ g. op_from None g (get_member (codes "update") (put k d ms))) here ∙ e;
+      only =
+          ap (λ b. keys_pass (is_among (these (cond b (codes "insert") (key_from None (get_member k (put k d ms)))))) (put k d ms)) before
+          ∙ ap (λ g. keys_pass (is_among (these (key_from None g))) (put k d ms)) here
+          ∙ one_passes (is_among (these k)) k d ms refl (more_keys k ms h.only);
+    }
+
+updates : (d : Data) (ms : Members) (op : Op) → update_of d ≡ Some op → DoesNothing (object ms) → Does (object (put (codes "update") d ms)) op
+updates d ms op e h =
+    let k = codes "update" in
+    let here = same k d ms refl in
+    let first = ap is_some (other (codes "insert") k d ms refl) ∙ h.insert in
+    let second = ap is_some (other (codes "delete") k d ms refl) ∙ h.delete in
+    record {
+      is =
+          ap (λ b. cond b (option_map insert (option_and_then row_of (get_member (codes "insert") (put k d ms)))) (op_from None (get_member (codes "delete") (put k d ms)) (get_member k (put k d ms)))) first
+          ∙ ap (λ b. cond b (option_map delete (option_and_then row_of (get_member (codes "delete") (put k d ms)))) (option_and_then update_of (get_member k (put k d ms)))) second
+          ∙ ap (option_and_then update_of) here ∙ e;
+      only =
+          ap (λ b. keys_pass (is_among (these (cond b (codes "insert") (key_from None (get_member (codes "delete") (put k d ms)))))) (put k d ms)) first
+          ∙ ap (λ b. keys_pass (is_among (these (cond b (codes "delete") (codes "update")))) (put k d ms)) second
+          ∙ one_passes (is_among (these k)) k d ms refl (more_keys k ms h.only);
+    }
+
+-- the keys of what an entry does are neither its relation's nor its copies'
+does_by : (k : List ℕ) (d : Data) (ms : Members) (rel : Option (List ℕ)) (copies : ℕ) (op : Op) (a b c : Bool) → bytes_eq k (codes "insert") ≡ a → bytes_eq k (codes "delete") ≡ b → bytes_eq k (codes "update") ≡ c
+    → cond a (option_map insert (row_of d)) (cond b (option_map delete (row_of d)) (cond c (update_of d) None)) ≡ Some op → MakesParts (object ms) rel None copies
+    → MakesParts (object (put k d ms)) rel (Some op) copies
+does_by k d ms rel copies op true b c i e u is h =
+    subst (λ x. MakesParts (object (put x d ms)) rel (Some op) copies) (sym ((bytes_eq-Decides k (codes "insert")).0 i)) (record {
+      named = ap (λ g. option_and_then (passing is_name) (option_and_then as_str g)) (other (codes "on") (codes "insert") d ms refl) ∙ h.named;
+      does = inserts d ms op is h.does;
+      copied = ap (given_or 1 positive_of) (other (codes "copies") (codes "insert") d ms refl) ∙ h.copied;
+    })
+does_by k d ms rel copies op false true c i e u is h =
+    subst (λ x. MakesParts (object (put x d ms)) rel (Some op) copies) (sym ((bytes_eq-Decides k (codes "delete")).0 e)) (record {
+      named = ap (λ g. option_and_then (passing is_name) (option_and_then as_str g)) (other (codes "on") (codes "delete") d ms refl) ∙ h.named;
+      does = deletes d ms op is h.does;
+      copied = ap (given_or 1 positive_of) (other (codes "copies") (codes "delete") d ms refl) ∙ h.copied;
+    })
+does_by k d ms rel copies op false false true i e u is h =
+    subst (λ x. MakesParts (object (put x d ms)) rel (Some op) copies) (sym ((bytes_eq-Decides k (codes "update")).0 u)) (record {
+      named = ap (λ g. option_and_then (passing is_name) (option_and_then as_str g)) (other (codes "on") (codes "update") d ms refl) ∙ h.named;
+      does = updates d ms op is h.does;
+      copied = ap (given_or 1 positive_of) (other (codes "copies") (codes "update") d ms refl) ∙ h.copied;
+    })
+does_by k d ms rel copies op false false false i e u is h = cc
+
+pub does_this : (k : List ℕ) (d : Data) (ms : Members) (rel : Option (List ℕ)) (copies : ℕ) (op : Op) → op_by k d ≡ Some op → MakesParts (object ms) rel None copies → MakesParts (object (put k d ms)) rel (Some op) copies
+does_this k d ms rel copies op is h = does_by k d ms rel copies op _ _ _ refl refl refl is h
+
+pub is_on : (k : List ℕ) (d : Data) (ms : Members) (rel : Option (List ℕ)) (op : Option Op) (copies : ℕ) (name : List ℕ) → k ≡ codes "on" → name_of d ≡ Some name → MakesParts (object ms) rel op copies
+    → MakesParts (object (put k d ms)) (Some name) op copies
+is_on k d ms rel op copies name is e h =
+    subst (λ x. MakesParts (object (put x d ms)) (Some name) op copies) (sym is) (record {
+      named = ap (λ g. option_and_then (passing is_name) (option_and_then as_str g)) (same (codes "on") d ms refl) ∙ e;
+      does = does_still (codes "on") d ms op refl refl refl refl h.does;
+      copied = ap (given_or 1 positive_of) (other (codes "copies") (codes "on") d ms refl) ∙ h.copied;
+    })
+
+pub has_copies : (k : List ℕ) (d : Data) (ms : Members) (rel : Option (List ℕ)) (op : Option Op) (before copies : ℕ) → k ≡ codes "copies" → positive_of d ≡ Some copies → MakesParts (object ms) rel op before
+    → MakesParts (object (put k d ms)) rel op copies
+has_copies k d ms rel op before copies is e h =
+    subst (λ x. MakesParts (object (put x d ms)) rel op copies) (sym is) (record {
+      named = ap (λ g. option_and_then (passing is_name) (option_and_then as_str g)) (other (codes "on") (codes "copies") d ms refl) ∙ h.named;
+      does = does_still (codes "copies") d ms op refl refl refl refl h.does;
+      copied = ap (given_or 1 positive_of) (same (codes "copies") d ms refl) ∙ e;
+    })
+
+pub nothing_made : MakesParts (object no_members) None None 1
+nothing_made = record { named = refl; does = record { insert = refl; delete = refl; update = refl; only = refl }; copied = refl }
+
+pub entry_made : (d : Data) (rel : List ℕ) (op : Op) (copies : ℕ) → MakesParts d (Some rel) (Some op) copies → entry_of d ≡ Some (entry rel op copies)
+entry_made d rel op copies h = rw (h.does.only, h.named, h.does.is, h.copied) refl
+
+-- ---- a write
+
+abbrev all_keys : List (List ℕ)
+all_keys = codes "do" ∷ codes "session" ∷ codes "entries" ∷ []
+
+abbrev session_from : Option Data → Option ℕ
+session_from g = option_and_then (passing is_session) (option_and_then as_u64 (option_and_then as_number g))
+
+abbrev entries_from : Option Data → Option (List Entry)
+entries_from g = option_and_then (passing (λ es. is_between 1 1000 (length es))) (option_and_then (each entry_of) (option_and_then as_array g))
+
+pub is_do : (k : List ℕ) (d : Data) (ms : Members) (before now : Bool) (session : Option ℕ) (entries : Option (List Entry)) → k ≡ codes "do" → as_str d ≡ Some (codes "write") → MakesWrite (object ms) before session entries
+    → MakesWrite (object (put k d ms)) now session entries
+is_do k d ms before now session entries is e h =
+    subst (λ x. MakesWrite (object (put x d ms)) now session entries) (sym is) (record {
+      word = λ _. ap (option_and_then as_str) (same (codes "do") d ms refl) ∙ e;
+      asks = ap session_from (other (codes "session") (codes "do") d ms refl) ∙ h.asks;
+      writes = ap entries_from (other (codes "entries") (codes "do") d ms refl) ∙ h.writes;
+      only = one_passes (is_among all_keys) (codes "do") d ms refl h.only;
+    })
+
+pub has_session : (k : List ℕ) (d : Data) (ms : Members) (is_write : Bool) (before : Option ℕ) (n : ℕ) (entries : Option (List Entry)) → k ≡ codes "session" → session_by d ≡ Some n → MakesWrite (object ms) is_write before entries
+    → MakesWrite (object (put k d ms)) is_write (Some n) entries
+has_session k d ms is_write before n entries is e h =
+    subst (λ x. MakesWrite (object (put x d ms)) is_write (Some n) entries) (sym is) (record {
+      word = λ w. ap (option_and_then as_str) (other (codes "do") (codes "session") d ms refl) ∙ h.word w;
+      asks = ap session_from (same (codes "session") d ms refl) ∙ e;
+      writes = ap entries_from (other (codes "entries") (codes "session") d ms refl) ∙ h.writes;
+      only = one_passes (is_among all_keys) (codes "session") d ms refl h.only;
+    })
+
+pub has_entries : (k : List ℕ) (d : Data) (ms : Members) (is_write : Bool) (session : Option ℕ) (before : Option (List Entry)) (es : List Entry) → k ≡ codes "entries" → entries_by d ≡ Some es → MakesWrite (object ms) is_write session before
+    → MakesWrite (object (put k d ms)) is_write session (Some es)
+has_entries k d ms is_write session before es is e h =
+    subst (λ x. MakesWrite (object (put x d ms)) is_write session (Some es)) (sym is) (record {
+      word = λ w. ap (option_and_then as_str) (other (codes "do") (codes "entries") d ms refl) ∙ h.word w;
+      asks = ap session_from (other (codes "session") (codes "entries") d ms refl) ∙ h.asks;
+      writes = ap entries_from (same (codes "entries") d ms refl) ∙ e;
+      only = one_passes (is_among all_keys) (codes "entries") d ms refl h.only;
+    })
+
+pub nothing_written : MakesWrite (object no_members) false None None
+nothing_written = record { word = λ w. cc; asks = refl; writes = refl; only = refl }
+
+are_there : (g : Option Data) (es : List Entry) → entries_from g ≡ Some es → is_some g ≡ true
+are_there None es e = cc
+are_there (Some d) es e = refl
+
+pub write_made : (ms : Members) (n : ℕ) (es : List Entry) → MakesWrite (object ms) true (Some n) (Some es) → request (object ms) ≡ Some (command n (machine.write es))
+write_made ms n es h = rw (h.asks, h.word refl, are_there (get_member (codes "entries") ms) es h.writes, h.only, h.writes) refl
