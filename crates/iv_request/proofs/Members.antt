@@ -1,18 +1,22 @@
 -- What a member more makes of an entry's parts, and of a write's.
-use Rattle.std.proofs.Common.{◌≡◌, ◌∙◌, ◌∷◌, ℕ, Bool, true, false, ◌&&◌, ◌||◌, List, [], length, Option, Some, None, option_map, option_and_then, cond, refl, sym, ap, subst}
-use Rattle.std.specs.Prelude.{bytes_eq, codes, is_some, MatchOption}
+use Rattle.std.proofs.Common.{◌≡◌, ◌∙◌, ◌∷◌, ◌≤◌, ℕ, Bool, true, false, ◌&&◌, ◌||◌, List, [], length, Option, Some, None, option_map, option_and_then, cond, refl, sym, ap, subst, arith}
+use Rattle.std.specs.Prelude.{bytes_eq, codes, is_some, IfSome, MatchOption}
 use Rattle.std.proofs.lemmas.Slice.Eq.{bytes_eq-Decides}
-use Rattle.serde_json.specs.Data.{Data, object, Members, no_members, member, put}
+use Rattle.json.specs.Token.{Token}
+use Rattle.serde_json.specs.Data.{Data, array, item, no_items, object, Members, no_members, member, put}
 use Rattle.serde_json.specs.Find.{as_array, as_number, as_str, as_u64, get_member}
+use Rattle.iv_rows.specs.Cell.{Cell}
 use Rattle.iv_rows.specs.Names.{is_name}
 use Rattle.iv_machine.specs.Act.{Op, Entry, insert, delete, update}
 use Rattle.iv_machine.specs.Act as machine
 use Rattle.iv_machine.specs.Parts.{is_between}
 use Rattle.iv_request.specs.Forms.{is_among, keys_pass}
 use Rattle.iv_request.specs.Request.{passing, each, given_or, positive_of, row_of, update_of, op_at, does_at, entry, entry_of, is_session, command, request}
-use Rattle.iv_request.specs.Pulled.{DoesNothing, Does, MakesParts, MakesWrite, name_of, op_by, entries_by, session_by}
+use Rattle.iv_request.specs.Documents.{data_of}
+use Rattle.iv_request.specs.Pulled.{Pulls, Adds, DoesNothing, Does, MakesParts, MakesWrite, name_of, op_by, entries_by, session_by}
 use Rattle.iv_request.proofs.Keys.{left_true, right_true, both_true, put_passes}
 use Rattle.iv_request.proofs.Looking.{put_at}
+use Rattle.iv_request.proofs.Pulling.{deeper}
 
 same : (k : List ℕ) (d : Data) (ms : Members) → bytes_eq k k ≡ true → get_member k (put k d ms) ≡ Some d
 same k d ms e = put_at k k d ms true e
@@ -175,6 +179,75 @@ nothing_made = record { named = refl; does = record { insert = refl; delete = re
 pub entry_made : (d : Data) (rel : List ℕ) (op : Op) (copies : ℕ) → MakesParts d (Some rel) (Some op) copies → entry_of d ≡ Some (entry rel op copies)
 entry_made d rel op copies h = rw (h.does.only, h.named, h.does.is, h.copied) refl
 
+pub entry_if : {S T : Type 0} (bytes : S → List ℕ) (view : T → Op) (r : Option S) (o : Option T) (rel : S) (op : T) (copies : ℕ) (d : Data) → r ≡ Some rel → o ≡ Some op → MakesParts d (option_map bytes r) (option_map view o) copies
+    → entry_of d ≡ Some (entry (bytes rel) (view op) copies)
+entry_if bytes view r o rel op copies d e u h =
+    entry_made d (bytes rel) (view op) copies
+    (subst (λ x. MakesParts d (Some (bytes rel)) (option_map view x) copies) u (subst (λ x. MakesParts d (option_map bytes x) (option_map view o) copies) e h))
+
+-- ---- what is next, by its key
+
+-- the update of two rows
+pub update_made : (old new : List Cell) (a b : Data) → row_of a ≡ Some old → row_of b ≡ Some new → update_of (array (item a (item b no_items))) ≡ Some (update old new)
+update_made old new a b e u = ap (option_and_then (λ x. option_map (update x) (row_of b))) e ∙ ap (option_map (update old)) u
+
+abbrev op_chosen : Bool → Bool → Bool → Data → Option Op
+op_chosen i e u d = cond i (option_map insert (row_of d)) (cond e (option_map delete (row_of d)) (cond u (update_of d) None))
+
+pub inserts_next : (k : List ℕ) (ts rest : List Token) (r : Option (List Cell)) → bytes_eq k (codes "insert") ≡ true → IfSome r (λ row. Pulls 1 row_of ts row rest)
+    → IfSome r (λ row. Pulls 2 (op_by k) ts (insert row) rest)
+inserts_next k ts rest None i p = tt
+inserts_next k ts rest (Some row) i p = (
+  p.0,
+  deeper 1 2 ts p.0 rest (omega arith) p.1,
+  ap (λ b. op_chosen b (bytes_eq k (codes "delete")) (bytes_eq k (codes "update")) (data_of p.0)) i ∙ ap (option_map insert) p.2,
+)
+
+pub deletes_next : (k : List ℕ) (ts rest : List Token) (r : Option (List Cell)) → bytes_eq k (codes "insert") ≡ false → bytes_eq k (codes "delete") ≡ true → IfSome r (λ row. Pulls 1 row_of ts row rest)
+    → IfSome r (λ row. Pulls 2 (op_by k) ts (delete row) rest)
+deletes_next k ts rest None i e p = tt
+deletes_next k ts rest (Some row) i e p = (
+  p.0,
+  deeper 1 2 ts p.0 rest (omega arith) p.1,
+  (λ t. op_chosen (i t) (e t) (bytes_eq k (codes "update")) (data_of p.0)) ∙ ap (option_map delete) p.2,
+)
+
+pub updates_next : (k : List ℕ) (ts rest : List Token) (r : Option Op) → bytes_eq k (codes "insert") ≡ false → bytes_eq k (codes "delete") ≡ false → bytes_eq k (codes "update") ≡ true
+    → IfSome r (λ op. Pulls 2 update_of ts op rest) → IfSome r (λ op. Pulls 2 (op_by k) ts op rest)
+updates_next k ts rest None i e u p = tt
+updates_next k ts rest (Some op) i e u p = (p.0, p.1, (λ t. op_chosen (i t) (e t) (u t) (data_of p.0)) ∙ p.2)
+
+key_is : (k m : List ℕ) → bytes_eq k m ≡ true → k ≡ m
+key_is k m e = (bytes_eq-Decides k m).0 e
+
+-- a value is next that gives the members this part
+adds : {X : Type 0} (a b : ℕ) (f : Data → Option X) (k : List ℕ) (ms : Members) (P : Members → Type 0) (ts rest : List Token) (x : X) → a ≤ b → Pulls a f ts x rest → ((d : Data) → f d ≡ Some x → P (put k d ms))
+    → Adds b k ms P ts rest
+adds a b f k ms P ts rest x le p makes = (p.0, deeper a b ts p.0 rest le p.1, makes (data_of p.0) p.2)
+
+pub on_next : {S : Type 0} (bytes : S → List ℕ) (r : Option S) (k : List ℕ) (ts rest : List Token) (ms : Members) (rel : Option (List ℕ)) (op : Option Op) (copies : ℕ) → bytes_eq k (codes "on") ≡ true → is_some r ≡ true
+    → IfSome r (λ name. Pulls 0 name_of ts (bytes name) rest) → MakesParts (object ms) rel op copies
+    → Adds 2 k ms (λ ns. MakesParts (object ns) (option_map bytes r) op copies) ts rest
+on_next bytes None k ts rest ms rel op copies e some p h = cc
+on_next bytes (Some name) k ts rest ms rel op copies e some p h =
+    adds 0 2 name_of k ms (λ ns. MakesParts (object ns) (Some (bytes name)) op copies) ts rest (bytes name) (omega arith) p
+    (λ d made. is_on k d ms rel op copies (bytes name) (key_is k (codes "on") e) made h)
+
+pub copies_next : (n : ℕ) (k : List ℕ) (ts rest : List Token) (ms : Members) (rel : Option (List ℕ)) (op : Option Op) (before : ℕ) → bytes_eq k (codes "copies") ≡ true → Pulls 0 positive_of ts n rest
+    → MakesParts (object ms) rel op before → Adds 2 k ms (λ ns. MakesParts (object ns) rel op n) ts rest
+copies_next n k ts rest ms rel op before e p h =
+    adds 0 2 positive_of k ms (λ ns. MakesParts (object ns) rel op n) ts rest n (omega arith) p
+    (λ d made. has_copies k d ms rel op before n (key_is k (codes "copies") e) made h)
+
+pub op_next : {S : Type 0} (view : S → Op) (r was : Option S) (k : List ℕ) (ts rest : List Token) (ms : Members) (rel : Option (List ℕ)) (copies : ℕ) → is_some was ≡ false → is_some r ≡ true
+    → IfSome r (λ op. Pulls 2 (op_by k) ts (view op) rest) → MakesParts (object ms) rel (option_map view was) copies
+    → Adds 2 k ms (λ ns. MakesParts (object ns) rel (option_map view r) copies) ts rest
+op_next view None was k ts rest ms rel copies none some p h = cc
+op_next view (Some op) (Some before) k ts rest ms rel copies none some p h = cc
+op_next view (Some op) None k ts rest ms rel copies none some p h =
+    adds 2 2 (op_by k) k ms (λ ns. MakesParts (object ns) rel (Some (view op)) copies) ts rest (view op) (omega arith) p
+    (λ d made. does_this k d ms rel copies (view op) made h)
+
 -- ---- a write
 
 abbrev all_keys : List (List ℕ)
@@ -225,3 +298,30 @@ are_there (Some d) es e = refl
 
 pub write_made : (ms : Members) (n : ℕ) (es : List Entry) → MakesWrite (object ms) true (Some n) (Some es) → request (object ms) ≡ Some (command n (machine.write es))
 write_made ms n es h = rw (h.asks, h.word refl, are_there (get_member (codes "entries") ms) es h.writes, h.only, h.writes) refl
+
+pub do_next : (k : List ℕ) (ts rest : List Token) (ms : Members) (before now : Bool) (session : Option ℕ) (entries : Option (List Entry)) → bytes_eq k (codes "do") ≡ true → Pulls 0 as_str ts (codes "write") rest
+    → MakesWrite (object ms) before session entries → Adds 4 k ms (λ ns. MakesWrite (object ns) now session entries) ts rest
+do_next k ts rest ms before now session entries e p h =
+    adds 0 4 as_str k ms (λ ns. MakesWrite (object ns) now session entries) ts rest (codes "write") (omega arith) p
+    (λ d made. is_do k d ms before now session entries (key_is k (codes "do") e) made h)
+
+pub session_next : (r : Option ℕ) (k : List ℕ) (ts rest : List Token) (ms : Members) (is_write : Bool) (before : Option ℕ) (entries : Option (List Entry)) → bytes_eq k (codes "session") ≡ true → is_some r ≡ true
+    → IfSome r (λ n. Pulls 0 session_by ts n rest) → MakesWrite (object ms) is_write before entries → Adds 4 k ms (λ ns. MakesWrite (object ns) is_write r entries) ts rest
+session_next None k ts rest ms is_write before entries e some p h = cc
+session_next (Some n) k ts rest ms is_write before entries e some p h =
+    adds 0 4 session_by k ms (λ ns. MakesWrite (object ns) is_write (Some n) entries) ts rest n (omega arith) p
+    (λ d made. has_session k d ms is_write before n entries (key_is k (codes "session") e) made h)
+
+pub entries_next : {S : Type 0} (view : S → List Entry) (r : Option S) (k : List ℕ) (ts rest : List Token) (ms : Members) (is_write : Bool) (session : Option ℕ) (before : Option (List Entry))
+    → bytes_eq k (codes "entries") ≡ true → is_some r ≡ true → IfSome r (λ es. Pulls 4 entries_by ts (view es) rest) → MakesWrite (object ms) is_write session before
+    → Adds 4 k ms (λ ns. MakesWrite (object ns) is_write session (option_map view r)) ts rest
+entries_next view None k ts rest ms is_write session before e some p h = cc
+entries_next view (Some es) k ts rest ms is_write session before e some p h =
+    adds 4 4 entries_by k ms (λ ns. MakesWrite (object ns) is_write session (Some (view es))) ts rest (view es) (omega arith) p
+    (λ d made. has_entries k d ms is_write session before (view es) (key_is k (codes "entries") e) made h)
+
+pub write_if : {S : Type 0} (view : S → List Entry) (b : Bool) (s : Option ℕ) (o : Option S) (n : ℕ) (es : S) (ms : Members) → b ≡ true → s ≡ Some n → o ≡ Some es → MakesWrite (object ms) b s (option_map view o)
+    → request (object ms) ≡ Some (command n (machine.write (view es)))
+write_if view b s o n es ms w e u h =
+    write_made ms n (view es)
+    (subst (λ x. MakesWrite (object ms) true (Some n) (option_map view x)) u (subst (λ x. MakesWrite (object ms) true x (option_map view o)) e (subst (λ x. MakesWrite (object ms) x s (option_map view o)) w h)))

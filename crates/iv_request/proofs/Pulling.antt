@@ -1,6 +1,7 @@
 -- What is read token by token is what the reading of the whole value gives.
 use Rattle.std.proofs.Common.{◌≡◌, ◌∙◌, ◌∷◌, ◌++◌, ◌+◌, ◌-◌, ◌<◌, ◌≤◌, ℕ, Bool, true, cond, ◌&&◌, List, [], length, Option, Some, None, option_map, option_and_then, refl, sym, ap, subst, arith, append-nil}
-use Rattle.std.specs.Prelude.{is_some, IfSome}
+use Rattle.std.specs.Prelude.{is_some, map, IfSome}
+use Rattle.std.proofs.lemmas.List.{map-append}
 use Rattle.json.specs.Token.{Token}
 use Rattle.json.specs.Json.{Json, Items, no_items, item, Members, no_members, member, parse_map, after_end_array, read_key, items, members, value, value_with}
 use Rattle.json.specs.Json as json
@@ -12,11 +13,14 @@ use Rattle.iv_rows.specs.Cell.{num, text}
 use Rattle.iv_rows.specs.Texts.{is_well_cell}
 use Rattle.iv_rows.specs.View.{cell_of as view}
 use Rattle.iv_rows.specs.declared.value.Value.{Value}
-use Rattle.serde_json.specs.Read.{number_of}
+use Rattle.serde_json.specs.Read.{number_of, read}
+use Rattle.json.specs.Lex.{tokens}
 use Rattle.iv_request.specs.Documents.{number_or_null, data_of, items_of, members_of, fits, items_fit, members_fit}
 use Rattle.iv_request.specs.Request.{passing, each, list_of, cell_of}
-use Rattle.iv_request.specs.Pulled.{IsNext, Pulls, natural_by, items_after, HasRead, members_after, HasFound}
+use Rattle.iv_request.specs.Pulled.{IsNext, Pulls, Adds, Closes, natural_by, items_after, HasRead, members_after, HasFound}
 use Rattle.iv_request.proofs.Each.{behind_nothing, behind_cons}
+use Rattle.iv_request.proofs.Keys.{both_true}
+use Rattle.iv_request.proofs.Looking.{read_fits}
 
 -- ---- a value
 
@@ -86,6 +90,17 @@ one_read levels f first xs ts x rest less h p = record {
   made = λ more. ap (λ js. each f (items_of js)) (one_item_after h.done p.0 more) ∙ h.made (item p.0 more) ∙ made_one f xs x (data_of p.0) (each f (items_of more)) p.2;
 }
 
+-- a value more is read into a list
+pub one_kept : {X : Type 0} (levels : ℕ) (f : Data → Option X) (first ts us rest : List Token) (xs ys : List X) (x : X) → us ≡ ts → length rest < length us → ys ≡ xs ++ x ∷ []
+    → HasRead levels f first xs ts → Pulls levels f us x rest → HasRead levels f first ys rest
+one_kept levels f first ts us rest xs ys x e less pushed h p =
+    subst (λ zs. HasRead levels f first zs rest) (sym pushed) (one_read levels f first xs us x rest less (subst (λ vs. HasRead levels f first xs vs) (sym e) h) p)
+
+pub one_more : {S X : Type 0} (levels : ℕ) (f : Data → Option X) (view : S → X) (first ts us rest : List Token) (vs ws : List S) (v : S) → us ≡ ts → length rest < length us → ws ≡ vs ++ v ∷ []
+    → HasRead levels f first (map view vs) ts → Pulls levels f us (view v) rest → HasRead levels f first (map view ws) rest
+one_more levels f view first ts us rest vs ws v e less pushed h p =
+    one_kept levels f first ts us rest (map view vs) (map view ws) (view v) e less (ap (map view) pushed ∙ map-append view vs (v ∷ [])) h p
+
 behind_all : {X : Type 0} (xs : List X) → option_map (λ ys. xs ++ ys) (Some []) ≡ Some xs
 behind_all xs = ap Some (append-nil xs)
 
@@ -102,6 +117,29 @@ all_read levels f first xs ts rest h e =
         fit = h.fit no_items;
       },
       h.made no_items ∙ behind_all xs,
+    )
+
+-- an array of two
+pub pair_read : {X Y : Type 0} (levels : ℕ) (f : Data → Option X) (g : Data → Option Y) (first ts us rest : List Token) (x y : X) (z : Y) → length ts < length first → length us < length ts
+    → Pulls levels f first x ts → Pulls levels f ts y us → after_end_array us ≡ Some rest
+    → ((a b : Data) → f a ≡ Some x → f b ≡ Some y → g (serde_json.array (serde_json.item a (serde_json.item b serde_json.no_items))) ≡ Some z)
+    → Pulls (levels + 1) g (Token.begin_array ∷ first) z rest
+pair_read levels f g first ts us rest x y z less lesser p q e makes =
+    let js = item p.0 (item q.0 no_items) in
+    let inner : (depth : ℕ) → levels ≤ depth → items (value depth) (length first) first ≡ Some (js, rest) =
+    λ depth d.
+    let here = p.1.read depth d in
+    let there = q.1.read depth d in
+    items_more (value depth) (length first) first ts p.0 (omega arith) (no_end depth first ts p.0 here) here
+    ∙ ap (parse_map (item p.0))
+    (items_more (value depth) (length first - 1) ts us q.0 (omega arith) (no_end depth ts us q.0 there) there
+    ∙ ap (parse_map (item q.0)) (items_end (value depth) (length first - 1 - 1) us rest (omega arith) e)) in (
+      json.array js,
+      record {
+        read = λ depth d. value-begin_array depth first (omega arith) ∙ ap (parse_map json.array) (inner (depth - 1) (omega arith));
+        fit = both_true (fits p.0) (fits q.0 && true) p.1.fit (both_true (fits q.0) true q.1.fit refl);
+      },
+      makes (data_of p.0) (data_of q.0) p.2 q.2,
     )
 
 -- ---- the members of an object
@@ -200,3 +238,33 @@ by_whole s (Some v) ts us e h = by_number (number_of s) refl h
 pub by_text : (s : List ℕ) (r : Option Value) (ts us : List Token) → us ≡ Token.string s ∷ ts → option_map view r ≡ passing is_well_cell (text s) → IfSome r (λ v. Pulls 0 cell_of us (view v) ts)
 by_text s None ts us e h = tt
 by_text s (Some v) ts us e h = pulls_at 0 cell_of us (Token.string s ∷ ts) (view v) ts e (pulls_string cell_of s ts (view v) (sym h))
+
+-- from `first` on members were read that are P, and at `ts` more may come
+abbrev pub Reaches : ℕ → (serde_json.Members → Type 0) → List Token → List Token → Type 0
+Reaches levels P first ts = (found : serde_json.Members) × HasFound levels first found ts × P found
+
+pub reach_none : (levels : ℕ) (P : serde_json.Members → Type 0) (ts : List Token) → P serde_json.no_members → Reaches levels P ts ts
+reach_none levels P ts h = (serde_json.no_members, none_found levels ts, h)
+
+pub reach_more : (levels : ℕ) (P Q : serde_json.Members → Type 0) (first ts s rest : List Token) (k : List ℕ) → length rest < length s → read_key ts ≡ Some (Some k, s)
+    → ((found : serde_json.Members) → P found → Adds levels k found Q s rest) → Reaches levels P first ts → Reaches levels Q first rest
+reach_more levels P Q first ts s rest k less e adds h =
+    let a = adds h.0 h.2 in
+    (put k (data_of a.0) h.0, one_found levels first h.0 ts s rest k a.0 less h.1 e a.1, a.2)
+
+pub reach_end : (levels : ℕ) (P : serde_json.Members → Type 0) (first ts rest : List Token) → read_key ts ≡ Some (None, rest) → Reaches levels P first ts → Closes levels P first rest
+reach_end levels P first ts rest e h = (h.0, ts, h.1, e, h.2)
+
+-- ---- what an object makes
+
+pub closed : {X : Type 0} (levels : ℕ) (f : Data → Option X) (P : serde_json.Members → Type 0) (r : Option X) (us ts rest : List Token) → us ≡ Token.begin_object ∷ ts → Closes levels P ts rest
+    → IfSome r (λ x. (found : serde_json.Members) → P found → f (serde_json.object found) ≡ Some x) → IfSome r (λ x. Pulls (levels + 1) f us x rest)
+closed levels f P None us ts rest e c makes = tt
+closed levels f P (Some x) us ts rest e c makes =
+    pulls_at (levels + 1) f us (Token.begin_object ∷ ts) x rest e (all_found levels f x ts c.0 c.1 rest c.2 c.3 (makes c.0 c.4))
+
+-- ---- a whole text
+
+-- its value is next, and nothing is behind it
+pub document_read : {X : Type 0} (levels : ℕ) (f : Data → Option X) (text : List ℕ) (ts : List Token) (x : X) → levels ≤ 127 → ts ≡ tokens text → Pulls levels f ts x [] → option_and_then f (read text) ≡ Some x
+document_read levels f text ts x le e p = ap (option_and_then f) (sym (read_fits text ts p.0 (p.1.read 127 le) e p.1.fit)) ∙ p.2

@@ -5,7 +5,8 @@ ghost use Rattle.iv_machine.specs.Well.{is_well_act, is_well_command};
 ghost use Rattle.iv_command.specs.Views.{act_of, command_of};
 ghost use Rattle.iv_request.specs.Request.{session_of, begin_of, create_role_of, create_table_of, create_view_of, write_of, subscribe_of, unsubscribe_of, act_for, asked_act, request};
 ghost use Rattle.iv_request.specs.Documents.{value_data};
-ghost use Rattle.iv_request.specs.Reading.{bad_json, bad_request, asked, reading_of, value_of};
+ghost use Rattle.iv_request.specs.Reading.{bad_json, bad_request, asked, reading_by, reading_of, value_of};
+ghost use Rattle.serde_json.specs.Read as serde_json;
 
 use crate::columns::columns_at;
 use crate::documents::read;
@@ -15,6 +16,7 @@ use crate::grants::{Granting, granting_of};
 use crate::memberships::{Membership, membership_of};
 use crate::parts::{get, positive_of, string_at, text_at, u64_of};
 use crate::policies::{create_policy_of, drop_policy_of, row_security_of};
+use crate::writes::write_in;
 use iv_command::{Act, Command};
 use json::{Scratch, Value as Json};
 use std::alloc::{AllocError, Global};
@@ -225,6 +227,39 @@ pub fn read_value<'a>(
     }
 }
 
+/// The command that a text asks for, read as a JSON value.
+///
+/// # Errors
+/// As those of `command_in`.
+fn command_by_value(alloc: Global, text: &str, scratch: &mut Scratch) -> Result<Command, WireFault>
+    ensures command { IfOk result (λ command. reading_by (serde_json.read text.now) ≡ asked (command_of command)) }
+    ensures bad_json { IsErrOf result WireFault.BadJson → reading_by (serde_json.read text.now) ≡ bad_json }
+    ensures bad_request { IsErrOf result WireFault.BadRequest → reading_by (serde_json.read text.now) ≡ bad_request }
+{
+    match read(alloc, text, scratch)? {
+        None => Err(WireFault::BadJson),
+        Some(value) => match request_of(alloc, &value)? {
+            None => Err(WireFault::BadRequest),
+            Some(command) => Ok(command),
+        },
+    }
+}
+
+/// The command that a text asks for: a write token by token, and every other text as a JSON value.
+///
+/// # Errors
+/// As those of `command_in`.
+fn command_of_text(alloc: Global, text: &str, scratch: &mut Scratch) -> Result<Command, WireFault>
+    ensures command { IfOk result (λ command. reading_by (serde_json.read text.now) ≡ asked (command_of command)) }
+    ensures bad_json { IsErrOf result WireFault.BadJson → reading_by (serde_json.read text.now) ≡ bad_json }
+    ensures bad_request { IsErrOf result WireFault.BadRequest → reading_by (serde_json.read text.now) ≡ bad_request }
+{
+    match write_in(alloc, text, scratch)? {
+        Some(command) => Ok(command),
+        None => command_by_value(alloc, text, scratch),
+    }
+}
+
 /// The command that a line asks for, without its newline, read by means of room that is kept from line to line.
 ///
 /// # Errors
@@ -239,14 +274,12 @@ pub fn command_in(alloc: Global, line: &[u8], scratch: &mut Scratch) -> Result<C
     ensures bad_json { IsErrOf result WireFault.BadJson → reading_of line.now ≡ bad_json }
     ensures bad_request { IsErrOf result WireFault.BadRequest → reading_of line.now ≡ bad_request }
 {
-    match read_value(alloc, line, scratch)? {
-        None => Err(WireFault::BadJson),
-        Some(value) => match request_of(alloc, &value)? {
-            None => Err(WireFault::BadRequest),
-            Some(command) => {
-                command.texts();
-                Ok(command)
-            }
-        },
+    match str::from_utf8(line) {
+        Err(_) => Err(WireFault::BadJson),
+        Ok(text) => {
+            let command = command_of_text(alloc, text, scratch)?;
+            command.texts();
+            Ok(command)
+        }
     }
 }

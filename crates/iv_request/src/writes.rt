@@ -13,6 +13,7 @@ ghost use Rattle.iv_rows.specs.View as iv_rows;
 ghost use Rattle.iv_command.specs.Entries as entries;
 ghost use Rattle.iv_command.specs.Views.{command_of};
 ghost use Rattle.iv_request.specs.Pulled.{Pulls, Adds, Closes, IsParts, IsWritten, name_of, op_by, entries_by, natural_by, session_by};
+ghost use Rattle.iv_request.specs.Reading.{asked, reading_by};
 ghost use Rattle.iv_request.specs.Request as spec;
 
 use crate::documents::number_of;
@@ -280,7 +281,7 @@ fn parts_in(
         → Closes 2 (IsParts parts.new) reader.old reader.new) }
     ensures shorter { IfOk result (λ is_read. is_read ≡ true → length reader.new < length reader.old) }
 {
-    loop {
+    'members: loop {
         match reader.next_key() {
             Err(_) => return Ok(false),
             Ok(None) => return Ok(true),
@@ -444,7 +445,7 @@ fn members_in(
     ensures parts { IfOk result (λ is_read. is_read ≡ true → IsWritten written.old no_members
         → Closes 4 (IsWritten written.new) reader.old reader.new) }
 {
-    loop {
+    'members: loop {
         match reader.next_key() {
             Err(_) => return Ok(false),
             Ok(None) => return Ok(true),
@@ -490,7 +491,7 @@ pub(crate) fn write_in(
     text: &str,
     scratch: &mut Scratch,
 ) -> Result<Option<Command>, AllocError>
-    ensures { IfOk result (λ found. IfSome found (λ c. option_and_then spec.request (serde_json.read text.now) ≡ Some (command_of c))) }
+    ensures { IfOk result (λ found. IfSome found (λ c. reading_by (serde_json.read text.now) ≡ asked (command_of c))) }
 {
     let mut reader = Reader::new(text, scratch)?;
     if !begins_object(&mut reader) {
