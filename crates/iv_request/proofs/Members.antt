@@ -1,6 +1,9 @@
 -- What a member more makes of an entry's parts, and of a write's.
 use Rattle.std.proofs.Common.{◌≡◌, ◌∙◌, ◌∷◌, ◌≤◌, ℕ, Bool, true, false, ◌&&◌, ◌||◌, List, [], length, Option, Some, None, option_map, option_and_then, cond, refl, sym, ap, subst, arith}
-use Rattle.std.specs.Prelude.{bytes_eq, codes, is_some, IfSome, MatchOption}
+use Rattle.std.specs.Prelude.{bytes_eq, codes, is_some, nat_le, nat_lt, ℤ, pos, negsuc, IfSome, MatchOption}
+use Rattle.std.proofs.Common.{w64, to_z, of_z}
+use Rattle.std.proofs.lemmas.Bool.{ltb-true}
+use Rattle.std.proofs.lemmas.Int.{to_z-of_z}
 use Rattle.std.proofs.lemmas.Slice.Eq.{bytes_eq-Decides}
 use Rattle.json.specs.Token.{Token}
 use Rattle.serde_json.specs.Data.{Data, array, item, no_items, object, Members, no_members, member, put}
@@ -9,7 +12,8 @@ use Rattle.iv_rows.specs.Cell.{Cell}
 use Rattle.iv_rows.specs.Names.{is_name}
 use Rattle.iv_machine.specs.Act.{Op, Entry, insert, delete, update}
 use Rattle.iv_machine.specs.Act as machine
-use Rattle.iv_machine.specs.Parts.{is_between}
+use Rattle.iv_machine.specs.Parts.{is_between, is_positive}
+use Rattle.iv_command.specs.Entries.{copies_of}
 use Rattle.iv_request.specs.Forms.{is_among, keys_pass}
 use Rattle.iv_request.specs.Request.{passing, each, given_or, positive_of, row_of, update_of, op_at, does_at, entry, entry_of, is_session, command, request}
 use Rattle.iv_request.specs.Documents.{data_of}
@@ -17,6 +21,7 @@ use Rattle.iv_request.specs.Pulled.{Pulls, Adds, DoesNothing, Does, MakesParts, 
 use Rattle.iv_request.proofs.Keys.{left_true, right_true, both_true, put_passes}
 use Rattle.iv_request.proofs.Looking.{put_at}
 use Rattle.iv_request.proofs.Pulling.{deeper}
+use Rattle.iv_request.proofs.Well.{positive_well}
 
 same : (k : List ℕ) (d : Data) (ms : Members) → bytes_eq k k ≡ true → get_member k (put k d ms) ≡ Some d
 same k d ms e = put_at k k d ms true e
@@ -233,11 +238,18 @@ on_next bytes (Some name) k ts rest ms rel op copies e some p h =
     adds 0 2 name_of k ms (λ ns. MakesParts (object ns) (Some (bytes name)) op copies) ts rest (bytes name) (omega arith) p
     (λ d made. is_on k d ms rel op copies (bytes name) (key_is k (codes "on") e) made h)
 
-pub copies_next : (n : ℕ) (k : List ℕ) (ts rest : List Token) (ms : Members) (rel : Option (List ℕ)) (op : Option Op) (before : ℕ) → bytes_eq k (codes "copies") ≡ true → Pulls 0 positive_of ts n rest
-    → MakesParts (object ms) rel op before → Adds 2 k ms (λ ns. MakesParts (object ns) rel op n) ts rest
-copies_next n k ts rest ms rel op before e p h =
-    adds 0 2 positive_of k ms (λ ns. MakesParts (object ns) rel op n) ts rest n (omega arith) p
-    (λ d made. has_copies k d ms rel op before n (key_is k (codes "copies") e) made h)
+-- it is of 64 bits
+kept_copies : (z : ℤ) → is_positive (copies_of z) ≡ true → copies_of (to_z w64 (of_z w64 z)) ≡ copies_of z
+kept_copies (pos n) e = ap copies_of (to_z-of_z w64 (pos n) (record { sfits = ltb-true n 9223372036854775808 (right_true (nat_le 1 n) (nat_lt n 9223372036854775808) e) }))
+kept_copies (negsuc n) e = cc
+
+pub copies_next : (z : ℤ) (k : List ℕ) (ts rest : List Token) (ms : Members) (rel : Option (List ℕ)) (op : Option Op) (before : ℕ) → bytes_eq k (codes "copies") ≡ true → Pulls 0 positive_of ts (copies_of z) rest
+    → MakesParts (object ms) rel op before → Adds 2 k ms (λ ns. MakesParts (object ns) rel op (copies_of (to_z w64 (of_z w64 z)))) ts rest
+copies_next z k ts rest ms rel op before e p h =
+    let kept = kept_copies z (subst (λ o. IfSome o (λ n. is_positive n ≡ true)) p.2 (positive_well (data_of p.0))) in
+    subst (λ n. Adds 2 k ms (λ ns. MakesParts (object ns) rel op n) ts rest) (sym kept)
+    (adds 0 2 positive_of k ms (λ ns. MakesParts (object ns) rel op (copies_of z)) ts rest (copies_of z) (omega arith) p
+    (λ d made. has_copies k d ms rel op before (copies_of z) (key_is k (codes "copies") e) made h))
 
 pub op_next : {S : Type 0} (view : S → Op) (r was : Option S) (k : List ℕ) (ts rest : List Token) (ms : Members) (rel : Option (List ℕ)) (copies : ℕ) → is_some was ≡ false → is_some r ≡ true
     → IfSome r (λ op. Pulls 2 (op_by k) ts (view op) rest) → MakesParts (object ms) rel (option_map view was) copies

@@ -1,10 +1,12 @@
 -- What is read token by token is what the reading of the whole value gives.
-use Rattle.std.proofs.Common.{◌≡◌, ◌∙◌, ◌∷◌, ◌++◌, ◌+◌, ◌-◌, ◌<◌, ◌≤◌, ℕ, Bool, true, cond, ◌&&◌, List, [], length, Option, Some, None, option_map, option_and_then, refl, sym, ap, subst, arith, append-nil}
+use Rattle.std.proofs.Common.{◌≡◌, ◌∙◌, ◌∷◌, ◌++◌, ◌+◌, ◌-◌, ◌<◌, ◌≤◌, ℕ, Bool, true, false, cond, ◌&&◌, List, [], length, Option, Some, None, option_map, option_and_then, refl, sym, ap, subst, arith, append-nil}
 use Rattle.std.specs.Prelude.{is_some, map, IfSome}
 use Rattle.std.proofs.lemmas.List.{map-append}
 use Rattle.json.specs.Token.{Token}
 use Rattle.json.specs.Json.{Json, Items, no_items, item, Members, no_members, member, parse_map, after_end_array, read_key, items, members, value, value_with}
 use Rattle.json.specs.Json as json
+use Rattle.json.specs.Reads.{Yields}
+use Rattle.json.specs.declared.token.Token.{Token as ReadToken}
 use Rattle.json.proofs.Grammar.{value_is, value-begin_array, value-begin_object, after_end_array-shorter, read_key-shorter, items_end, items_more, members_end, members_more}
 use Rattle.serde_json.specs.Data.{Num, Data, put}
 use Rattle.serde_json.specs.Data as serde_json
@@ -16,11 +18,14 @@ use Rattle.iv_rows.specs.declared.value.Value.{Value}
 use Rattle.serde_json.specs.Read.{number_of, read}
 use Rattle.json.specs.Lex.{tokens}
 use Rattle.iv_request.specs.Documents.{number_or_null, data_of, items_of, members_of, fits, items_fit, members_fit}
-use Rattle.iv_request.specs.Request.{passing, each, list_of, cell_of}
+use Rattle.iv_machine.specs.Act.{Command}
+use Rattle.iv_request.specs.Request.{passing, each, list_of, cell_of, request}
+use Rattle.iv_request.specs.Reading.{asked, reading_by}
 use Rattle.iv_request.specs.Pulled.{IsNext, Pulls, Adds, Closes, natural_by, items_after, HasRead, members_after, HasFound}
 use Rattle.iv_request.proofs.Each.{behind_nothing, behind_cons}
 use Rattle.iv_request.proofs.Keys.{both_true}
 use Rattle.iv_request.proofs.Looking.{read_fits}
+use Rattle.iv_request.proofs.Reading.{asks}
 
 -- ---- a value
 
@@ -266,5 +271,18 @@ closed levels f P (Some x) us ts rest e c makes =
 -- ---- a whole text
 
 -- its value is next, and nothing is behind it
-pub document_read : {X : Type 0} (levels : ℕ) (f : Data → Option X) (text : List ℕ) (ts : List Token) (x : X) → levels ≤ 127 → ts ≡ tokens text → Pulls levels f ts x [] → option_and_then f (read text) ≡ Some x
-document_read levels f text ts x le e p = ap (option_and_then f) (sym (read_fits text ts p.0 (p.1.read 127 le) e p.1.fit)) ∙ p.2
+pub document_read : {X : Type 0} (levels : ℕ) (f : Data → Option X) (line : List ℕ) (ts : List Token) (x : X) → levels ≤ 127 → ts ≡ tokens line → Pulls levels f ts x [] → option_and_then f (read line) ≡ Some x
+document_read levels f line ts x le e p = ap (option_and_then f) (sym (read_fits line ts p.0 (p.1.read 127 le) e p.1.fit)) ∙ p.2
+
+-- no token was next
+pub none_next : (r : Option ReadToken) (ts us : List Token) → is_some r ≡ false → Yields ts r us → ts ≡ []
+none_next None ts us e h = h.0
+none_next (Some t) ts us e h = cc
+
+-- the command of a line
+pub line_read : {S : Type 0} (view : S → Command) (P : serde_json.Members → Type 0) (r : Option S) (line : List ℕ) (ts us rest : List Token) → ts ≡ tokens line → ts ≡ Token.begin_object ∷ us → Closes 4 P us rest → rest ≡ []
+    → IfSome r (λ c. (found : serde_json.Members) → P found → request (serde_json.object found) ≡ Some (view c)) → IfSome r (λ c. reading_by (read line) ≡ asked (view c))
+line_read view P None line ts us rest e b c none makes = tt
+line_read view P (Some x) line ts us rest e b c none makes =
+    asks (read line) (view x)
+    (document_read 5 request line ts (view x) (omega arith) e (subst (λ vs. Pulls 5 request ts (view x) vs) none (closed 4 request P (Some (view x)) ts us rest b c makes)))

@@ -1,8 +1,8 @@
 //! `write_in`: the command of a line that is a write, read token by token. Each other line is read as a JSON value.
 //!
-//! Nearly all bytes that are read are those of writes. Here each token goes at once to where it belongs: no JSON value is built, no
-//! number is read twice, and no key is looked for. What is read so is what the whole value would give, which the clauses say; where it is
-//! no write, or is written in a way that this does not read, that tells nothing of the line.
+//! Nearly all bytes that are read are those of writes. Here each token is put at once where it belongs: no JSON value is built, no
+//! number is read twice, and no key is looked for. What is read so is what the value of the whole line would give, as the clauses say.
+//! If nothing is read so, that tells nothing of the line: its value decides, and each refusal is told by it.
 ghost use Rattle.std.specs.Prelude.{◌≡◌, ◌<◌, ◌∷◌, codes, length, true, Some, IfOk, IfSome, option_and_then, option_map, string_bytes};
 ghost use Rattle.json.specs.Token as token;
 ghost use Rattle.serde_json.specs.Data.{object, Members, no_members};
