@@ -1,5 +1,5 @@
 -- What a member more makes of an entry's parts, and of a write's.
-use Rattle.std.proofs.Common.{◌≡◌, ◌∙◌, ◌∷◌, ◌≤◌, ℕ, Bool, true, false, ◌&&◌, ◌||◌, List, [], length, Option, Some, None, option_map, option_and_then, cond, refl, sym, ap, subst, arith}
+use Rattle.std.proofs.Common.{◌≡◌, ◌∙◌, ◌∷◌, ◌≤◌, ℕ, Bool, true, false, ◌||◌, List, [], length, Option, Some, None, option_map, option_and_then, cond, refl, sym, ap, subst, arith}
 use Rattle.std.specs.Prelude.{bytes_eq, codes, is_some, nat_le, nat_lt, ℤ, pos, negsuc, IfSome, MatchOption}
 use Rattle.std.proofs.Common.{w64, to_z, of_z}
 use Rattle.std.proofs.lemmas.Bool.{ltb-true}

@@ -7,7 +7,7 @@ use Rattle.json.specs.Json.{Json, Items, no_items, item, Members, no_members, me
 use Rattle.json.specs.Json as json
 use Rattle.json.specs.Reads.{Yields}
 use Rattle.json.specs.declared.token.Token.{Token as ReadToken}
-use Rattle.json.proofs.Grammar.{value_is, value-begin_array, value-begin_object, after_end_array-shorter, read_key-shorter, items_end, items_more, members_end, members_more}
+use Rattle.json.proofs.Grammar.{value_is, value-begin_array, value-begin_object, read_key-shorter, items_end, items_more, members_end, members_more}
 use Rattle.serde_json.specs.Data.{Num, Data, put}
 use Rattle.serde_json.specs.Data as serde_json
 use Rattle.serde_json.specs.Find.{as_i64, as_u64}

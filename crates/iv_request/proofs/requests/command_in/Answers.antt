@@ -1,4 +1,4 @@
-use Rattle.std.proofs.Common.{◌≡◌, ◌∙◌, arith}
+use Rattle.std.proofs.Common.{◌∙◌, arith}
 use Rattle.serde_json.specs.Read.{read}
 use Rattle.iv_command.specs.Views.{command_of}
 use Rattle.iv_request.proofs.Reading.{reading_none, reading_text, asked_is_well}

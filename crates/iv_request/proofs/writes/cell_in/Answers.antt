@@ -1,6 +1,5 @@
-use Rattle.std.proofs.Common.{◌≡◌, ◌∙◌, ◌∷◌, ap, refl}
+use Rattle.std.proofs.Common.{◌∙◌, ◌∷◌, ap, refl}
 use Rattle.json.specs.Reads.{token_of}
-use Rattle.json.specs.Token as token
 use Rattle.iv_request.specs.Request.{cell_of}
 use Rattle.iv_request.proofs.Pulling.{by_whole, by_text, pulls_at, pulls_boolean}
 use Rattle.iv_request.proofs.writes.cell_in.Goals as goal

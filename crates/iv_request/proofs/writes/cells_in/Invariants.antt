@@ -1,4 +1,4 @@
-use Rattle.std.proofs.Common.{◌≡◌, ◌≤◌, length}
+use Rattle.std.proofs.Common.{◌≤◌, length}
 use Rattle.iv_rows.specs.View as iv_rows
 use Rattle.iv_request.specs.Pulled.{HasRead}
 use Rattle.iv_request.specs.Request.{cell_of}

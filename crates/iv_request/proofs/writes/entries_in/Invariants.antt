@@ -1,4 +1,4 @@
-use Rattle.std.proofs.Common.{◌≡◌, ◌≤◌, length}
+use Rattle.std.proofs.Common.{◌≤◌, length}
 use Rattle.iv_request.specs.Pulled.{HasRead}
 use Rattle.iv_request.specs.Request.{entry_of}
 use Rattle.iv_request.proofs.writes.entries_in.Given as goal

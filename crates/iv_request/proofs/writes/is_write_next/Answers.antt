@@ -1,8 +1,7 @@
-use Rattle.std.proofs.Common.{◌≡◌, ◌∙◌, ◌∷◌, true, Some, ap, sym}
+use Rattle.std.proofs.Common.{◌≡◌, ◌∙◌, ◌∷◌, Some, ap, sym}
 use Rattle.std.specs.Prelude.{codes}
 use Rattle.std.proofs.lemmas.Slice.Eq.{bytes_eq-Decides}
 use Rattle.json.specs.Reads.{token_of}
-use Rattle.json.specs.Token as token
 use Rattle.serde_json.specs.Find.{as_str}
 use Rattle.iv_request.proofs.Pulling.{pulls_at, pulls_string}
 use Rattle.iv_request.proofs.writes.is_write_next.Goals as goal

@@ -1,4 +1,4 @@
-use Rattle.std.proofs.Common.{◌≡◌, ◌≤◌, length}
+use Rattle.std.proofs.Common.{length}
 use Rattle.serde_json.specs.Data.{no_members}
 use Rattle.iv_request.specs.Pulled.{IsWritten}
 use Rattle.iv_request.proofs.Pulling.{Reaches}

@@ -1,6 +1,5 @@
-use Rattle.std.proofs.Common.{◌≡◌, ◌∙◌, ◌∷◌, cond, Some, None, ap, sym}
+use Rattle.std.proofs.Common.{◌∙◌, ◌∷◌, cond, Some, None, ap, sym}
 use Rattle.json.specs.Reads.{token_of}
-use Rattle.json.specs.Token as token
 use Rattle.iv_request.specs.Pulled.{name_of}
 use Rattle.iv_request.proofs.Pulling.{pulls_at, pulls_string}
 use Rattle.iv_request.proofs.writes.name_in.Goals as goal

@@ -1,6 +1,5 @@
-use Rattle.std.proofs.Common.{◌≡◌, ◌∙◌, ◌∷◌, true, ap, arith}
+use Rattle.std.proofs.Common.{◌∙◌, ◌∷◌, ap}
 use Rattle.json.specs.Reads.{token_of}
-use Rattle.json.specs.Token as token
 use Rattle.iv_request.proofs.Pulling.{by_natural}
 use Rattle.iv_request.proofs.writes.natural_in.Goals as goal
 
