@@ -3,9 +3,7 @@ pub mod Digits
 pub mod Each
 pub mod Keys
 pub mod Looking
-pub mod Members
 pub mod Order
-pub mod Pulling
 pub mod Reading
 pub mod Table
 pub mod Well

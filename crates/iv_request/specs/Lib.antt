@@ -3,7 +3,6 @@ pub mod Documents
 pub mod Forms
 pub mod Names
 pub mod Order
-pub mod Pulled
 pub mod Reading
 pub mod Request
 pub mod Values
