@@ -8,6 +8,7 @@
 mod changes;
 mod circuits;
 mod flags;
+mod held;
 mod rows;
 mod touching;
 mod turns;
@@ -15,6 +16,6 @@ mod turns;
 pub use changes::{Prepared, add_delta, prepared_of};
 pub use circuits::Circuits;
 pub use flags::differing;
-pub use rows::{in_order, more_rows, shared};
+pub use rows::{in_order, more_rows};
 pub use touching::{places_of, rels_of};
 pub use turns::{Outcome, anew};
