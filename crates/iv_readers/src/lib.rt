@@ -8,8 +8,8 @@
 mod changes;
 mod circuits;
 mod flags;
-mod held;
 mod rows;
+mod shown;
 mod touching;
 mod turns;
 
