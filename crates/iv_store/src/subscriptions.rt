@@ -137,10 +137,10 @@ impl Store {
         ensures lines { IfOk result (λ lines. AreFirstLines subscription (total_at self.old place) (map line_of lines.items)) }
         ensures state { OnOk result (self.new ≡ with_subscription subscription place self.old) }
     {
+        self.found.clear();
         let rows = self.circuits.rows(self.alloc, place)?;
         let mut lines = Vec::new(self.alloc);
         push_rows(&mut lines, &subscription, &rows)?;
-        self.found.clear();
         self.circuits.open(place, subscription.number);
         self.last = subscription.number;
         insert(&mut self.subscriptions, subscription)?;
