@@ -23,7 +23,7 @@ def output(*words: str) -> str:
 
 
 def version_of_source(path: str) -> str:
-    found = re.search(r'(?m)^const VERSION: &str = "(.*)";$', (TOP / path).read_text())
+    found = re.search(r'(?m)^const VERSION: &str = "([^" ]*).*";$', (TOP / path).read_text())
     return found[1] if found else "none"
 
 
@@ -37,7 +37,7 @@ def versions(programs: dict[str, pathlib.Path]) -> dict[str, str]:
         "clients/js/package.json": json.loads((TOP / "clients/js/package.json").read_text())["version"],
         "clients/python/pyproject.toml": project["version"],
         "clients/python/viewd/__init__.py": module[1] if module else "none",
-        **{f"{name} --version": said(it, "--version").split()[-1] for name, it in programs.items()}}
+        **{f"{name} --version": said(it, "--version").split()[1] for name, it in programs.items()}}
 
 
 def sha256(path: pathlib.Path) -> str:

@@ -240,7 +240,9 @@ impl Hall {
         let Some(at) = self.free.pop() else {
             raise(&mut self.counts.no_room, 1);
             if self.log.may_say(rt, self.now) {
-                let _ = eprintln!(rt; "gateway: no room for {address}");
+                let _ = eprintln!(rt;
+                    "gateway: no room for {address}: all sockets are taken by who has come in. --clients N allows more"
+                );
             }
             return Ok(());
         };

@@ -308,9 +308,23 @@ impl Hall {
         close(desk, at, 1013, b"Too many connections.")
     }
 
+    /// How many have come in.
+    fn came(&self) -> usize {
+        let mut count: usize = 0;
+        for slot in self.sockets.iter() {
+            if let Some(socket) = slot {
+                if socket.came {
+                    count = count.saturating_add(1);
+                }
+            }
+        }
+        count
+    }
+
     /// Whether one more client may stay.
     fn has_room(&self, desk: &Desk, at: u32, role: &str) -> bool {
-        if role != ADMIN && self.free.len() < KEPT && self.sockets.len() > 4 * KEPT {
+        let most = self.sockets.len();
+        if role != ADMIN && most > 4 * KEPT && self.came().saturating_add(KEPT) > most {
             return false;
         }
         let Some(digest) = desk.digest_of(at) else {

@@ -43,9 +43,11 @@ fn out_of_memory(rt: &HostRuntime) -> u8 {
 /// Says why a journal cannot be used.
 fn no_journal(rt: &HostRuntime, path: &str, fault: &OpenFault) -> u8 {
     let _ = match fault {
-        OpenFault::Taken => eprintln!(rt; "gateway: another process writes {path}"),
+        OpenFault::Taken => eprintln!(rt;
+            "gateway: another process writes {path}: end it, or name another journal"
+        ),
         OpenFault::NotEntries => eprintln!(rt;
-            "gateway: {path} has an entry that cannot be written"
+            "gateway: {path} has an entry that cannot be written: take the copy from before"
         ),
         OpenFault::System(error) => eprintln!(rt; "gateway: {path}: {error}"),
     };
@@ -63,7 +65,7 @@ fn say_tokens(rt: &HostRuntime, fault: &TokenFault) {
             eprintln!(rt; "gateway: the tokens: line {line} is no token")
         }
         TokenFault::File(TokensFault::Twice) => {
-            eprintln!(rt; "gateway: the tokens: one stands twice")
+            eprintln!(rt; "gateway: the tokens: one stands twice: leave one line for each SHA-256")
         }
         TokenFault::File(TokensFault::Empty) => eprintln!(rt;
             "gateway: the tokens: there are none"
@@ -88,15 +90,19 @@ fn failed(rt: &HostRuntime, journal: &FileJournal, fault: Fault) -> u8 {
             let _ = match journal.why() {
                 Some(KeepFault::System(error)) => {
                     eprintln!(rt;
-                        "gateway: the journal could not be written: {error}. Nobody was told of what it does not have"
+                        "gateway: the journal could not be written: {error}. Nobody was told of what it does not have: mend its disk, and start again"
                     )
                 }
-                _ => eprintln!(rt; "gateway: the journal could not be written"),
+                _ => eprintln!(rt;
+                    "gateway: the journal could not be written. Nobody was told of what it does not have: start again"
+                ),
             };
             UNUSABLE
         }
         Fault::Desk => {
-            let _ = eprintln!(rt; "gateway: a number has two connections");
+            let _ = eprintln!(rt;
+                "gateway: a number has two connections, which is a fault of this program: start again, and report it"
+            );
             SYSTEM
         }
         Fault::System => {

@@ -6,7 +6,8 @@ ghost use Rattle.iv_command.specs.Views.{command_of};
 ghost use Rattle.iv_request.specs.Reading.{bad_json, bad_request, asked, reading_of};
 
 use iv_command::Command;
-use iv_request::{WireFault, command_in};
+use iv_reading::command_in;
+use iv_request::WireFault;
 use json::Scratch;
 use std::alloc::Global;
 

@@ -12,8 +12,8 @@ use std::net::{IpAddr, Ipv4Addr};
 use std::process::ExitCode;
 use std::{env, io};
 
-/// The program's version.
-const VERSION: &str = "0.1.0";
+/// The program's version, and the number of the protocol that it speaks.
+const VERSION: &str = "0.1.0 (protocol 1)";
 
 /// What the program is asked to do.
 #[derive(Debug, Drop)]

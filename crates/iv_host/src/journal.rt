@@ -6,6 +6,7 @@ ghost use Rattle.iv_disk.specs.Kept.{given_to};
 ghost use Rattle.iv_host.specs.Counts.{raised};
 
 use crate::counts::{BOUNDS, raise};
+use crate::files::{check_file, read_file};
 use crate::tokens::second_now;
 use hex::encode_to_slice;
 use iv_audit::{Audit, Share, WriteFault, anew};
@@ -117,6 +118,7 @@ fn lock(rt: &HostRuntime, path: &str) -> Result<File, OpenFault> {
     let Ok(name) = format!(in rt.alloc(); "{path}.lock") else {
         return Err(OpenFault::System(out_of_memory()));
     };
+    check_file(rt, name.as_str())?;
     let file = own().write(true).create(true).open(rt, name.as_str())?;
     locked(file)
 }
@@ -144,6 +146,7 @@ fn sow(rt: &HostRuntime, path: &str, bytes: &[u8]) -> io::Result<()> {
     let Ok(fresh) = format!(in rt.alloc(); "{path}.new") else {
         return Err(out_of_memory());
     };
+    check_file(rt, fresh.as_str())?;
     let mut file = own()
         .write(true)
         .create(true)
@@ -166,7 +169,7 @@ fn is_missing(rt: &HostRuntime, path: &str) -> bool {
 fn sow_seed(rt: &HostRuntime, path: &str, seed: Option<&str>) -> io::Result<()> {
     match seed {
         Some(seed) if is_missing(rt, path) => {
-            let bytes = fs::read(rt, seed)?;
+            let bytes = read_file(rt, seed)?;
             sow(rt, path, &bytes)
         }
         _ => Ok(()),
@@ -247,8 +250,9 @@ impl JournalFile {
     ) -> Result<JournalFile, OpenFault> {
         let lock = lock(rt, path)?;
         sow_seed(rt, path, seed)?;
+        check_file(rt, path)?;
         let file = locked(own().append(true).create(true).open(rt, path)?)?;
-        let bytes = fs::read(rt, path)?;
+        let bytes = read_file(rt, path)?;
         sync_folder(rt, path)?;
         Ok(JournalFile {
             rt: *rt,

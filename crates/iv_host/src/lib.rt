@@ -5,6 +5,7 @@ mod admins;
 mod arguments;
 mod counts;
 mod figures;
+mod files;
 mod heads;
 mod journal;
 pub mod laws;

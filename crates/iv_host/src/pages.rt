@@ -1,12 +1,14 @@
 //! `page_in`: a file of the folder of pages, as the answer to a request.
-ghost use Rattle.std.specs.Prelude.{◌≡◌, ◌++◌, [], IfOk, OnOk, if◌then◌else◌, option_map};
-ghost use Rattle.iv_pages.specs.Answer.{refusal_answer};
+ghost use Rattle.std.specs.Prelude.{◌≡◌, ◌++◌, [], IfOk, OnOk, Some, if◌then◌else◌, length, option_map};
+ghost use Rattle.iv_pages.specs.Answer.{has_body, page_head, refusal_answer};
 ghost use Rattle.iv_pages.specs.Seen.{asked_by};
-ghost use Rattle.iv_host.specs.Pages.{IsPage, answer_of, policy, served};
+ghost use Rattle.iv_host.specs.Pages.{IsFile, IsPage, answer_of, policy, served};
 
+use crate::files::changed_in;
 use iv_pages::{Ask, Page, Refusal, etag_of, kind_of, place_of, push_page, push_refusal};
 use std::alloc::AllocError;
 use std::fs;
+use std::path::PathBuf;
 
 /// What pages may load and do.
 #[tactic(auto, unfolding(crate::specs::Pages::policy))]
@@ -19,8 +21,17 @@ fn policy() -> &'static str
 /// Bytes of a page, at most.
 const MOST: u64 = 16_777_216;
 
-/// The contents of a file of the folder: none where a link leads out of it, or it is no plain file.
-fn contents(rt: &HostRuntime, folder: &str, place: &str) -> Option<Vec<u8>> {
+/// A file of the folder that was looked at, and not read yet.
+#[derive(Drop)]
+struct Found {
+    path: PathBuf,
+    size: usize,
+    /// The nanosecond since 1970 in which it changed last.
+    changed: u64,
+}
+
+/// A file of the folder: none where a link leads out of it, or it is no regular file, or a large one.
+fn look_in(rt: &HostRuntime, folder: &str, place: &str) -> Option<Found> {
     let Ok(path) = format!(in rt.alloc(); "{folder}/{place}") else {
         return None;
     };
@@ -34,7 +45,11 @@ fn contents(rt: &HostRuntime, folder: &str, place: &str) -> Option<Vec<u8>> {
         return None;
     }
     match fs::metadata(rt, path.as_path()) {
-        Ok(is) if is.is_file() && is.len() <= MOST => fs::read(rt, path.as_path()).ok(),
+        Ok(is) if is.is_file() && is.len() <= MOST => Some(Found {
+            path,
+            size: is.len() as usize,
+            changed: changed_in(&is),
+        }),
         _ => None,
     }
 }
@@ -61,7 +76,7 @@ pub fn answer<'a>(
     tag: Option<&'a [u8]>,
     contents: &[u8],
 ) -> Result<Vec<u8>, AllocError>
-    ensures { IfOk result (λ out. out.items ≡ answer_of (served kind.now (option_map (λ t. t.now) tag.entry) contents.now) (asked_by ask.now) contents.now) }
+    ensures { IfOk result (λ out. out.items ≡ answer_of (served kind.now (option_map (λ t. t.now) tag.entry) (length contents.now)) (asked_by ask.now) contents.now) }
 {
     let mut out = Vec::new(rt.alloc());
     let page = Page {
@@ -84,12 +99,57 @@ pub fn refusal(rt: &HostRuntime, why: Refusal, only_head: bool) -> Result<Vec<u8
     Ok(out)
 }
 
-/// The contents of the file of a place, if the folder has it.
-fn contents_at(rt: &HostRuntime, folder: Option<&str>, place: &[u8]) -> Option<Vec<u8>> {
+/// The file of a place, if the folder has it.
+fn look_at(rt: &HostRuntime, folder: Option<&str>, place: &[u8]) -> Option<Found> {
     let folder = folder?;
     match str::from_utf8(place) {
-        Ok(place) => contents(rt, folder, place),
+        Ok(place) => look_in(rt, folder, place),
         Err(_) => None,
+    }
+}
+
+/// The head of the answer with a file, and whether its contents follow.
+fn head_of<'a>(
+    rt: &HostRuntime,
+    ask: &Ask<'_>,
+    kind: &'a str,
+    tag: &'a [u8],
+    length: usize,
+) -> Result<(Vec<u8>, bool), AllocError>
+    ensures head { IfOk result (λ r. r.0.items ≡ page_head (served kind.now (Some tag.now) length) (asked_by ask.now)) }
+    ensures follows { IfOk result (λ r. r.1 ≡ has_body (served kind.now (Some tag.now) length) (asked_by ask.now)) }
+{
+    let mut out = Vec::new(rt.alloc());
+    let page = Page {
+        kind,
+        tag: Some(tag),
+        length,
+        policy: policy(),
+    };
+    let follows = push_page(&mut out, &page, ask)?;
+    Ok((out, follows))
+}
+
+/// The answer with a file, which is read only where its contents are to follow. Its tag is of what it was before it was read: where it changes
+/// meanwhile, who asks once more is sent it again.
+fn file(rt: &HostRuntime, ask: &Ask<'_>, place: &[u8], found: &Found) -> Result<Vec<u8>, AllocError>
+    ensures { IfOk result (λ out. IsFile (asked_by ask.now) place.now found.now.size found.now.changed out.items) }
+{
+    let tag = etag_of(rt.alloc(), found.size as u64, found.changed)?;
+    let kind = kind_of(place);
+    let (head, follows) = head_of(rt, ask, kind, &tag, found.size)?;
+    if !follows {
+        return Ok(head);
+    }
+    match fs::read(rt, found.path.as_path()) {
+        Ok(contents) => {
+            let page = answer(rt, ask, kind, Some(&tag), &contents)?;
+            Ok(page)
+        }
+        Err(_) => {
+            let missing = refusal(rt, Refusal::NotFound, ask.only_head)?;
+            Ok(missing)
+        }
     }
 }
 
@@ -101,14 +161,13 @@ pub fn page_in(rt: &HostRuntime, folder: Option<&str>, ask: &Ask<'_>) -> Result<
         let missing = refusal(rt, Refusal::NotFound, ask.only_head)?;
         return Ok(missing);
     };
-    match contents_at(rt, folder, &place) {
+    match look_at(rt, folder, &place) {
         None => {
             let missing = refusal(rt, Refusal::NotFound, ask.only_head)?;
             Ok(missing)
         }
-        Some(contents) => {
-            let tag = etag_of(rt.alloc(), &contents)?;
-            let page = answer(rt, ask, kind_of(&place), Some(&tag), &contents)?;
+        Some(found) => {
+            let page = file(rt, ask, &place, &found)?;
             Ok(page)
         }
     }

@@ -2,6 +2,7 @@
 ghost use Rattle.std.specs.Prelude.{◌≡◌, IfOk, Some};
 ghost use Rattle.iv_tokens.specs.Entries.{entries_in};
 
+use crate::files::{changed_in, read_file};
 use iv_clients::TokensFault;
 use iv_tokens::{Entry, read_entries};
 use std::alloc::Global;
@@ -29,8 +30,8 @@ impl From<TokensFault> for TokenFault {
     }
 }
 
-/// When a file was changed, and its length.
-type Stamp = (Option<SystemTime>, u64);
+/// When a file changed last, and its length, if there is one.
+type Stamp = Option<(u64, u64)>;
 
 /// The file of tokens, and what it was when it was read.
 #[derive(Drop)]
@@ -42,14 +43,8 @@ pub struct TokenFile {
 /// What the system says of a file.
 fn stamp_of(rt: &HostRuntime, path: &str) -> Stamp {
     match fs::metadata(rt, path) {
-        Err(_) => (None, 0),
-        Ok(is) => {
-            let len = is.len();
-            match is.modified() {
-                Ok(time) => (Some(time), len),
-                Err(_) => (None, len),
-            }
-        }
+        Err(_) => None,
+        Ok(is) => Some((changed_in(&is), is.len())),
     }
 }
 
@@ -67,7 +62,7 @@ impl TokenFile {
     /// `System` where it could not be read, `File` where it is no file of tokens, or has none.
     pub fn open(rt: &HostRuntime, path: String) -> Result<(TokenFile, Vec<Entry>), TokenFault> {
         let stamp = stamp_of(rt, path.as_str());
-        let bytes = fs::read(rt, path.as_str())?;
+        let bytes = read_file(rt, path.as_str())?;
         let entries = entries_in(rt.alloc(), &bytes)?;
         if entries.is_empty() {
             return Err(TokenFault::File(TokensFault::Empty));
@@ -85,7 +80,7 @@ impl TokenFile {
             return Ok(None);
         }
         self.stamp = stamp;
-        let bytes = fs::read(rt, self.path.as_str())?;
+        let bytes = read_file(rt, self.path.as_str())?;
         Ok(Some(entries_in(rt.alloc(), &bytes)?))
     }
 }
@@ -104,7 +99,7 @@ pub enum SecretFault {
 /// # Errors
 /// `System` where it could not be read, `Short` where it has fewer than 32 bytes.
 pub fn read_secret(rt: &HostRuntime, path: &str) -> Result<Vec<u8>, SecretFault> {
-    let mut secret = match fs::read(rt, path) {
+    let mut secret = match read_file(rt, path) {
         Ok(bytes) => bytes,
         Err(error) => return Err(SecretFault::System(error)),
     };

@@ -1,14 +1,12 @@
 -- Answers as bytes (RFC 9110, sections 8.8.3, 13.1.2, 15.4.5 and 15.5; RFC 9111, section 5.2.2.4; RFC 9112, sections 4 and 9.6).
 use Rattle.std.specs.Prelude.{ℕ, ◌+◌, ◌==◌, ◌||◌, not, Bool, false, if◌then◌else◌, List, [], ◌∷◌, ◌++◌, length, take, drop, bytes_eq, codes, decimal, Option, Some, None}
 use Rattle.std.specs.List.{list_any}
-use Rattle.hex.specs.Hex.{encode_lower}
-use Rattle.sha2.specs.Sha256.{sha256}
 use Rattle.iv_pages.specs.declared.answers.Refusal.{Refusal}
 use Rattle.iv_pages.specs.declared.answers.Refusal.TheVariants.{BadRequest, NotFound, MethodNotAllowed, TargetTooLong, FieldsTooLarge, Failed, Unavailable, VersionNotSupported}
 use Rattle.iv_pages.specs.Asking.{Asked}
 use Rattle.iv_pages.specs.Cut.{parts}
 
--- a file: its media type, the tag of its contents, their number of bytes, and the policy of its content
+-- a file: its media type, its tag, its number of bytes, and the policy of its content
 pub record Served : Type 0 where
   pub kind : List ℕ
   pub tag : Option (List ℕ)
@@ -17,9 +15,9 @@ pub record Served : Type 0 where
 
 -- ---- tags
 
--- the SHA-256 of the contents in hexadecimal digits, between quotation marks
-abbrev pub tag_of : List ℕ → List ℕ
-tag_of contents = 34 ∷ (encode_lower (sha256 contents) ++ 34 ∷ [])
+-- a weak one: the bytes of a file, and the nanosecond since 1970 in which it changed last
+abbrev pub tag_of : (size changed : ℕ) → List ℕ
+tag_of size changed = codes "W/\"" ++ (decimal size ++ (codes "-" ++ (decimal changed ++ codes "\"")))
 
 abbrev pub skip_blanks : List ℕ → List ℕ
 skip_blanks [] = []
@@ -31,7 +29,7 @@ strong tag = if bytes_eq (take 2 tag) (codes "W/") then drop 2 tag else tag
 
 -- by weak comparison
 abbrev pub is_tag : (tag part : List ℕ) → Bool
-is_tag tag part = bytes_eq (strong (skip_blanks part)) tag
+is_tag tag part = bytes_eq (strong (skip_blanks part)) (strong tag)
 
 abbrev pub lists_tag : (tag list : List ℕ) → Bool
 lists_tag tag list = list_any (is_tag tag) (parts 44 list)

@@ -1,4 +1,4 @@
-//! Answers as bytes: `push_page` a file's, `push_refusal` a refusal's; `etag_of` the tag of a file's contents.
+//! Answers as bytes: `push_page` a file's, `push_refusal` a refusal's; `etag_of` a file's tag.
 ghost use Rattle.std.specs.Prelude.{◌≡◌, ◌++◌, codes, decimal, IfOk, OnOk, option_map};
 ghost use Rattle.iv_pages.specs.Answer.{allow_line, closing_lines, field_line, has_body, is_known, is_tag, lists_tag, not_modified, ok_head, page_head, refusal_answer, refusal_head, skip_blanks, status_words, strong, tag_line, tag_of};
 ghost use Rattle.iv_pages.specs.Seen.{asked_by, served_by};
@@ -6,7 +6,6 @@ ghost use Rattle.iv_pages.specs.Seen.{asked_by, served_by};
 use crate::asking::Ask;
 use crate::cutting::cut_at;
 use itoa::Buffer;
-use sha2::{Digest, Sha256};
 use std::alloc::{AllocError, Global};
 
 /// A file that is answered, but for its contents.
@@ -14,7 +13,7 @@ use std::alloc::{AllocError, Global};
 pub struct Page<'a> {
     /// Its media type.
     pub kind: &'a str,
-    /// The tag of its contents, if it has one.
+    /// Its tag, if it has one.
     pub tag: Option<&'a [u8]>,
     /// The bytes of its contents.
     pub length: usize,
@@ -69,19 +68,28 @@ fn allow_line(why: Refusal) -> &'static [u8]
     }
 }
 
-/// The entity tag of a file's contents: their SHA-256 in hexadecimal digits, between quotation marks.
+/// Appends a number.
+fn push_decimal(out: &mut Vec<u8>, number: u64) -> Result<(), AllocError>
+    ensures { OnOk result (out.new.items ≡ out.old.items ++ decimal number) }
+{
+    out.extend_from_slice(Buffer::new().format(number).as_bytes())?;
+    Ok(())
+}
+
+/// The entity tag of a file of so many bytes that changed last in a nanosecond since 1970. It is a weak one: what changes twice in one tick of
+/// the system's clock, and keeps its length, keeps it.
 ///
 /// # Errors
 /// `AllocError` where a growth of memory was refused, as of each function that appends; what was appended then is not to be sent.
-pub fn etag_of(alloc: Global, contents: &[u8]) -> Result<Vec<u8>, AllocError>
-    ensures { IfOk result (λ tag. tag.items ≡ tag_of contents.now) }
+pub fn etag_of(alloc: Global, size: u64, changed: u64) -> Result<Vec<u8>, AllocError>
+    ensures { IfOk result (λ tag. tag.items ≡ tag_of size changed) }
 {
-    let digest = Sha256::digest(contents);
-    let digits = hex::encode(alloc, digest.as_slice())?;
     let mut tag = Vec::new(alloc);
-    tag.push(b'"')?;
-    tag.extend_from_slice(digits.as_bytes())?;
-    tag.push(b'"')?;
+    tag.extend_from_slice(b"W/\"")?;
+    push_decimal(&mut tag, size)?;
+    tag.extend_from_slice(b"-")?;
+    push_decimal(&mut tag, changed)?;
+    tag.extend_from_slice(b"\"")?;
     Ok(tag)
 }
 
@@ -111,7 +119,7 @@ fn strong(tag: &[u8]) -> &[u8]
 fn is_tag(tag: &[u8], part: &[u8]) -> bool
     ensures { result ≡ is_tag tag.now part.now }
 {
-    strong(skip_blanks(part)) == tag
+    strong(skip_blanks(part)) == strong(tag)
 }
 
 /// Whether a list has the tag.

@@ -26,6 +26,7 @@ pub fn places_are_named()
 /// An answer by a tag that is known, and a figure whose label is escaped.
 pub fn answers_are_worked()
     ensures known { is_known (Some (codes "\"c3p0\"")) (Some known_list) ≡ true }
+    ensures weak { is_known (Some (codes "W/\"xyzzy\"")) (Some known_list) ≡ true }
     ensures other { is_known (Some (codes "\"c3p\"")) (Some known_list) ≡ false }
     ensures escaped { sample_line (codes "files") (escaped_label ∷ []) 7 ≡ escaped_line }
 {}

@@ -11,7 +11,7 @@ use Rattle.iv_request.specs.Request.{each}
 abbrev pub behind : {X : Type 0} → List X → Option (List X) → Option (List X)
 behind xs rest = option_map (λ ys. xs ++ ys) rest
 
-behind_nothing : {X : Type 0} (o : Option (List X)) → o ≡ behind [] o
+pub behind_nothing : {X : Type 0} (o : Option (List X)) → o ≡ behind [] o
 behind_nothing None = refl
 behind_nothing (Some ys) = refl
 
@@ -24,7 +24,7 @@ each_at f vs i v h e =
     ap (λ ws. each f (items_data ws)) (drop-cons vs i v h)
     ∙ (λ j. option_and_then (λ x. option_map (λ xs. x ∷ xs) (each f (items_data (drop (sym (add-one i) j) vs)))) (f (value_data (sym e j))))
 
-behind_cons : {X : Type 0} (xs : List X) (x : X) (o : Option (List X)) → behind xs (option_map (λ ys. x ∷ ys) o) ≡ behind (xs ++ x ∷ []) o
+pub behind_cons : {X : Type 0} (xs : List X) (x : X) (o : Option (List X)) → behind xs (option_map (λ ys. x ∷ ys) o) ≡ behind (xs ++ x ∷ []) o
 behind_cons xs x None = refl
 behind_cons xs x (Some ys) = ap Some (sym (append_assoc xs (x ∷ []) ys))
 

@@ -45,7 +45,7 @@ twice true c = refl
 twice false c = refl
 
 -- a member that comes or takes the place of one
-put_passes : (test : List ℕ → Bool) (k : List ℕ) (d : Data) (ms : Members) → keys_pass test (put k d ms) ≡ (test k && keys_pass test ms)
+pub put_passes : (test : List ℕ → Bool) (k : List ℕ) (d : Data) (ms : Members) → keys_pass test (put k d ms) ≡ (test k && keys_pass test ms)
 put_passes test k d no_members = refl
 put_passes test k d (member m e ms) = part (compare k m) refl (put_passes test k d ms)
   where

@@ -119,7 +119,7 @@ op_well d =
 found_well : {X : Type 0} (P : X → Type 0) (x : X) (f : Data → Option X) (key : List ℕ) (d : Data) → P x → ((v : Data) → IfSome (f v) P) → IfSome (found_or x f key d) P
 found_well P x f key d p h = given_well P x f (get key d) p h
 
-positive_well : (d : Data) → IfSome (positive_of d) (λ n. is_positive n ≡ true)
+pub positive_well : (d : Data) → IfSome (positive_of d) (λ n. is_positive n ≡ true)
 positive_well d =
     let o : Option ℕ = option_and_then as_u64 (as_number d) in
     weaker (λ (n : ℕ). (is_positive n ≡ true) × Unit {0}) (λ (n : ℕ). is_positive n ≡ true) (positive_of d) (passes (λ (n : ℕ). Unit {0}) is_positive o (nothing_more o)) (λ n h. h.0)

@@ -7,8 +7,8 @@
 //! `json`, on which `serde_json` stands, reads a line in room that is kept from line to line. The value that `serde_json` builds, which
 //! was the first form, took 18 of the 22 requests for memory of an insert of one row. Cost: the proof that both have the same data.
 //!
-//! Nearly all numbers of requests are short whole ones, and each is read twice: by `fits`, and for its value. `few_digits` takes 9
-//! instructions a digit; `fast_float`, which reads any number, took 115 more for each of one to five digits.
+//! Nearly all numbers of requests are short whole ones, and each number of such a value is read twice: by `fits`, and for what it is.
+//! `few_digits` takes 9 instructions a digit; `fast_float`, which reads any number, took 115 more for each of one to five digits.
 ghost use Rattle.std.specs.Prelude.{◌≡◌, ◌==◌, ◌<◌, ◌≤◌, ◌^◌, false, true, length, slice_index, IfOk, IfSome, IsTrue, is_some, option_map};
 ghost use Rattle.std.specs.Option.{SomeIff};
 ghost use Rattle.std.specs.Str.Parse.{digits_value, IsNumeral};

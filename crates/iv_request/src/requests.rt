@@ -1,11 +1,11 @@
-//! `command_in`: from a line to its command, by the shape rules: which request a JSON value is; `WireFault`: why there is none.
+//! `command_by_value`: from a text to its command, by the shape rules: which request a JSON value is; `WireFault`: why there is none.
 ghost use Rattle.std.specs.Prelude.{◌≡◌, IfOk, IfSome, IsErrOf, option_map, true};
-ghost use Rattle.iv_machine.specs.Stored.{IsGiven};
-ghost use Rattle.iv_machine.specs.Well.{is_well_act, is_well_command};
+ghost use Rattle.iv_machine.specs.Well.{is_well_act};
 ghost use Rattle.iv_command.specs.Views.{act_of, command_of};
 ghost use Rattle.iv_request.specs.Request.{session_of, begin_of, create_role_of, create_table_of, create_view_of, write_of, subscribe_of, unsubscribe_of, act_for, asked_act, request};
 ghost use Rattle.iv_request.specs.Documents.{value_data};
-ghost use Rattle.iv_request.specs.Reading.{bad_json, bad_request, asked, reading_of, value_of};
+ghost use Rattle.iv_request.specs.Reading.{bad_json, bad_request, asked, reading_by, value_of};
+ghost use Rattle.serde_json.specs.Read as serde_json;
 
 use crate::columns::columns_at;
 use crate::documents::read;
@@ -225,28 +225,27 @@ pub fn read_value<'a>(
     }
 }
 
-/// The command that a line asks for, without its newline, read by means of room that is kept from line to line.
+/// The command that the JSON value of a text asks for, read by means of a buffer that is kept from line to line.
 ///
 /// # Errors
-/// `BadJson` where the line is no JSON value; `BadRequest` where the value is no request; `Memory` where a growth of
+/// `BadJson` where the text is no JSON value; `BadRequest` where the value is no request; `Memory` where a growth of
 /// memory was refused, which may come in place of the others.
 ///
 /// Source: RFC 8259; docs/PROTOCOL.md, Requests.
-pub fn command_in(alloc: Global, line: &[u8], scratch: &mut Scratch) -> Result<Command, WireFault>
-    ensures command { IfOk result (λ command. reading_of line.now ≡ asked (command_of command)) }
-    ensures well { IfOk result (λ command. is_well_command (command_of command) ≡ true) }
-    ensures given { IfOk result (λ command. IsGiven (command_of command)) }
-    ensures bad_json { IsErrOf result WireFault.BadJson → reading_of line.now ≡ bad_json }
-    ensures bad_request { IsErrOf result WireFault.BadRequest → reading_of line.now ≡ bad_request }
+pub fn command_by_value(
+    alloc: Global,
+    text: &str,
+    scratch: &mut Scratch,
+) -> Result<Command, WireFault>
+    ensures command { IfOk result (λ command. reading_by (serde_json.read text.now) ≡ asked (command_of command)) }
+    ensures bad_json { IsErrOf result WireFault.BadJson → reading_by (serde_json.read text.now) ≡ bad_json }
+    ensures bad_request { IsErrOf result WireFault.BadRequest → reading_by (serde_json.read text.now) ≡ bad_request }
 {
-    match read_value(alloc, line, scratch)? {
+    match read(alloc, text, scratch)? {
         None => Err(WireFault::BadJson),
         Some(value) => match request_of(alloc, &value)? {
             None => Err(WireFault::BadRequest),
-            Some(command) => {
-                command.texts();
-                Ok(command)
-            }
+            Some(command) => Ok(command),
         },
     }
 }

@@ -1,3 +1,4 @@
+pub mod Digests
 pub mod Granting
 pub mod Judging
 pub mod Naming

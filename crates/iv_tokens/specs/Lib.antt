@@ -1,3 +1,4 @@
+pub mod Apart
 pub mod Entries
 pub mod Granted
 pub mod Lines

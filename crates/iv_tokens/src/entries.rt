@@ -1,10 +1,11 @@
 //! `read_entries`: the tokens of a file with their holders and ends.
 ghost use Rattle.std.specs.Prelude.{◌≡◌, ◌⊎◌, ◌++◌, ◌∷◌, ◌&&◌, [], if◌then◌else◌, ℕ, List, None, Some, Err, IfOk, OnOk, length, nat_le, nat_lt, option_and_then, option_map, string_bytes};
 ghost use Rattle.std.specs.List.{list_all};
-ghost use Rattle.iv_clients.specs.Tokens.{are_apart, has_digest, is_no_token, lines_of};
+ghost use Rattle.iv_clients.specs.Tokens.{has_digest, is_no_token, lines_of};
 ghost use Rattle.iv_tokens.specs.Entries.{Entry, end_in, entries_in, entries_of, entry_in, entry_of, holder_in, is_holder, is_plain, maybe_quoted, only_one, parts_in, plain_entry, plain_line, quoted, token_of, tokens_among};
 ghost use Rattle.iv_tokens.specs.Lines.{behind_entries, entries_read, parts_by};
 
+use crate::apart::are_apart;
 use crate::moments::moment_in;
 use iv_clients::{Token, TokensFault, behind, cut_at, read_tokens};
 use std::alloc::{AllocError, Global};
@@ -237,19 +238,6 @@ pub fn has_digest(entries: &[Entry], digest: &[u8]) -> bool
     false
 }
 
-/// Whether no digest stands twice.
-fn are_apart(entries: &[Entry]) -> bool
-    ensures { result ≡ are_apart (tokens_among entries.now) }
-{
-    for at in 0..entries.len() {
-        let entry = &entries[at];
-        if has_digest(&entries[at + 1..], &entry.token.digest) {
-            return false;
-        }
-    }
-    true
-}
-
 /// Appends the entry of a line, where it has one. Whether the file may have the line.
 fn push_entry(alloc: Global, entries: &mut Vec<Entry>, line: &[u8]) -> Result<bool, AllocError>
     ensures { IfOk result (λ is. (ls : List (List ℕ)) → behind_entries entries.old.items (entries_of (line.now ∷ ls))
@@ -325,12 +313,10 @@ pub fn read_entries(alloc: Global, file: &[u8]) -> Result<Vec<Entry>, TokensFaul
     match entries_of(alloc, file) {
         Err(AllocError) => Err(TokensFault::Memory),
         Ok(Err(number)) => Err(TokensFault::Line(number)),
-        Ok(Ok(entries)) => {
-            if are_apart(&entries) {
-                Ok(entries)
-            } else {
-                Err(TokensFault::Twice)
-            }
-        }
+        Ok(Ok(entries)) => match are_apart(alloc, &entries) {
+            Err(AllocError) => Err(TokensFault::Memory),
+            Ok(true) => Ok(entries),
+            Ok(false) => Err(TokensFault::Twice),
+        },
     }
 }

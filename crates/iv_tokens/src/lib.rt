@@ -1,6 +1,7 @@
 //! Tokens of a gateway second by second: a file that says holders and ends, and web tokens that a secret grants.
 #![tactic(auto)]
 
+mod apart;
 mod entries;
 mod known_tokens;
 pub mod laws;

@@ -31,7 +31,8 @@ use iv_lines::{
     End, Next, Room, RunFault, Sink, Source, is_blank_line, next_line, write_all, write_fault,
     write_lines,
 };
-use iv_request::{WireFault, command_in};
+use iv_reading::command_in;
+use iv_request::WireFault;
 use json::Scratch;
 use std::alloc::{AllocError, Global};
 

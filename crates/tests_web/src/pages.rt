@@ -255,25 +255,25 @@ fn kinds_are_known(rt: HostRuntime) {
     assert_eq!(rt; first_of_other_kind(), "none");
 }
 
-/// The tag of `abc` (FIPS 180-4, appendix B.1).
-const TAG: &[u8] = b"\"ba7816bf8f01cfea414140de5dae2223b00361a396177a9cb410ff61f20015ad\"";
+/// The tag of three bytes that changed at the beginning of 2025.
+const TAG: &[u8] = b"W/\"3-1735689600000000000\"";
 
 const OK: &[u8] =
-    b"HTTP/1.1 200 OK\r\ncontent-type: text/plain; charset=utf-8\r\ncontent-length: 3\r\netag: \"ba7816bf8f01cfea414140de5dae2223b00361a396177a9cb410ff61f20015ad\"\r\ncontent-security-policy: default-src 'self'\r\ncache-control: no-cache\r\nx-content-type-options: nosniff\r\nconnection: close\r\n\r\n";
+    b"HTTP/1.1 200 OK\r\ncontent-type: text/plain; charset=utf-8\r\ncontent-length: 3\r\netag: W/\"3-1735689600000000000\"\r\ncontent-security-policy: default-src 'self'\r\ncache-control: no-cache\r\nx-content-type-options: nosniff\r\nconnection: close\r\n\r\n";
 
 const NOT_MODIFIED: &[u8] =
-    b"HTTP/1.1 304 Not Modified\r\netag: \"ba7816bf8f01cfea414140de5dae2223b00361a396177a9cb410ff61f20015ad\"\r\ncache-control: no-cache\r\nx-content-type-options: nosniff\r\nconnection: close\r\n\r\n";
+    b"HTTP/1.1 304 Not Modified\r\netag: W/\"3-1735689600000000000\"\r\ncache-control: no-cache\r\nx-content-type-options: nosniff\r\nconnection: close\r\n\r\n";
 
 /// What a client knows, and whether that is the file.
 const KNOWN: &str = r#"*|true
-"ba7816bf8f01cfea414140de5dae2223b00361a396177a9cb410ff61f20015ad"|true
-W/"ba7816bf8f01cfea414140de5dae2223b00361a396177a9cb410ff61f20015ad"|true
-"xyzzy",\x09 "ba7816bf8f01cfea414140de5dae2223b00361a396177a9cb410ff61f20015ad"|true
-"ba7816bf8f01cfea414140de5dae2223b00361a396177a9cb410ff61f20015ad","xyzzy"|true
+"3-1735689600000000000"|true
+W/"3-1735689600000000000"|true
+"xyzzy",\x09 W/"3-1735689600000000000"|true
+W/"3-1735689600000000000","xyzzy"|true
 "xyzzy"|false
 |false
 "*"|false
-ba7816bf8f01cfea414140de5dae2223b00361a396177a9cb410ff61f20015ad|false"#;
+W/"3-1735689600000000001"|false"#;
 
 fn page<'a>(tag: Option<&'a [u8]>) -> Page<'a> {
     Page {
@@ -324,9 +324,9 @@ fn first_unlike(alloc: Global, tag: &[u8]) -> &'static str {
     "none"
 }
 
-/// Whether the tag is that of `abc`, and what is answered by it.
+/// Whether the tag is that of the three bytes, and what is answered by it.
 fn answered(alloc: Global) -> Result<(bool, &'static str, [bool; 2]), AllocError> {
-    let tag = etag_of(alloc, b"abc")?;
+    let tag = etag_of(alloc, 3, 1_735_689_600_000_000_000)?;
     let are_answered = are_answered(alloc, &tag)?;
     Ok((
         tag.as_slice() == TAG,

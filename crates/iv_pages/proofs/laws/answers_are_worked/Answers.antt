@@ -5,6 +5,9 @@ use Rattle.iv_pages.proofs.laws.answers_are_worked.Goals as goal
 pub returns-clause-known : goal.returns-clause-known
 returns-clause-known c = refl
 
+pub returns-clause-weak : goal.returns-clause-weak
+returns-clause-weak c = refl
+
 pub returns-clause-other : goal.returns-clause-other
 returns-clause-other c = refl
 

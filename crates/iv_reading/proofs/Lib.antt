@@ -1,0 +1,3 @@
+mod Lines
+mod Members
+mod Pulling
