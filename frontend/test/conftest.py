@@ -35,7 +35,7 @@ def pytest_configure() -> None:
     """What the tests have started ends with them, and they may have many files open."""
     many_files()
     for number in (signal.SIGTERM, signal.SIGHUP):
-        signal.signal(number, lambda number, _: pytest.exit(f"signal {number}", 128 + number))
+        signal.signal(number, signal.default_int_handler)
 
 
 def pytest_collection_modifyitems(config: pytest.Config, items: list[pytest.Function]) -> None:

@@ -15,6 +15,7 @@ import select
 import signal
 import socket
 import struct
+import subprocess
 import threading
 import time
 from collections.abc import Callable, Iterator
@@ -22,7 +23,7 @@ from typing import Any
 
 from model import Model, Player, line, text_of
 from trial import BASE, Rows, comes_in, insert, serving, total, until
-from wire import BINARY, CLOSE, COMING, PATIENCE, PING, PONG, TOP, Ended, Gateway, Line, Wire, digest, frame, http, in_time, masked, plain, request
+from wire import BINARY, CLOSE, COMING, PATIENCE, PING, PONG, PROGRAM, TOP, Ended, Gateway, Line, Wire, digest, frame, http, in_time, masked, plain, request
 
 LATE = 30  # seconds for which the gateway keeps who takes nothing
 
@@ -488,6 +489,45 @@ def test_pages_of_a_folder_are_served_and_no_others() -> None:
     gate.end()
 
 
+def test_a_page_is_read_only_to_be_sent() -> None:
+    gate = Gateway(start=False)
+    pages = gate.folder / "pages"
+    pages.mkdir()
+    for name, count in (("small.js", 12), ("large.js", 12 << 20)):
+        (pages / name).write_bytes(b"x" * count)
+    gate.words = ("--pages", pages)
+    gate.start()
+    tags = {name: http(gate.port, f"/{name}", method="HEAD")[1]["etag"] for name in ("small.js", "large.js")}
+    for method, status in (("HEAD", 200), ("GET", 304)):
+        def asked(name: str) -> None:
+            head = {"If-None-Match": tags[name]} if status == 304 else {}
+            assert [http(gate.port, f"/{name}", method=method, head=head)[0] for _ in range(40)] == [status] * 40
+        small, large = (spent(gate, lambda: asked(name)) for name in ("small.js", "large.js"))
+        print(f"  {status}: {small * 25:.2f} ms for a page of 12 bytes, {large * 25:.2f} for one of 12 MiB", flush=True)
+        assert large < 5 * small
+    gate.end()
+
+
+def test_a_page_that_changed_has_another_tag() -> None:
+    """Also if its length and its time are as they were."""
+    gate = Gateway(start=False)
+    pages = gate.folder / "pages"
+    pages.mkdir()
+    page, tags = pages / "a.js", list[str]()
+    gate.words = ("--pages", pages)
+    for text in (b"one", b"two", b"ten"):
+        page.write_bytes(text)
+        os.utime(page, (1_000_000_000, 1_000_000_000))
+        if not tags:
+            gate.start()
+        status, head, body = http(gate.port, "/a.js", head={"If-None-Match": ", ".join(['"x"', *tags])})
+        assert (status, body) == (200, text), (head, tags)
+        tags.append(head["etag"])
+        assert http(gate.port, "/a.js", head={"If-None-Match": tags[-1]})[::2] == (304, b"")
+        time.sleep(0.1)  # two ticks of the system's clock
+    gate.end()
+
+
 # ---- tokens
 
 
@@ -565,6 +605,81 @@ def test_a_wrong_line_of_the_tokens_is_named_and_changes_nothing() -> None:
         gate.know("admin", "mia", lines=(wide("mia"),))
         until(lambda: gate.said().count("stands twice") > before, "a token that stands twice is not told of")
         assert gate.enter("bob")
+
+
+def test_a_copy_that_keeps_time_and_length_is_read() -> None:
+    with serving() as (gate, admin):
+        is_of = gate.tokens.stat()
+        fresh = gate.folder / "tokens.copy"
+        fresh.write_text(gate.tokens.read_text().replace(digest("mia-demo"), digest("eve-demo")))
+        os.utime(fresh, ns=(is_of.st_atime_ns, is_of.st_mtime_ns))
+        fresh.rename(gate.tokens)
+        assert (gate.tokens.stat().st_size, gate.tokens.stat().st_mtime_ns) == (is_of.st_size, is_of.st_mtime_ns)
+        until(lambda: gate.knock("mia-demo").code == 4401, "a token that is gone opens a role")
+        assert gate.knock("eve-demo").role == "mia" and admin.ask({"do": "unsubscribe", "sub": 9}) == ['{"error":19}']
+
+
+def test_many_tokens_are_read_in_time() -> None:
+    """Ten times as many take some ten times as long, and not a hundred times."""
+    def taken(count: int) -> float:
+        lines = tuple(f'"{digest(str(at))}" = "mia"' for at in range(count))
+        gate = Gateway(start=False)
+        gate.know("admin", lines=lines)
+        gate.start()
+        took = gate.processor()
+        assert gate.knock(str(count - 1)).code == 1013 and gate.knock(str(count)).code == 4401  # there is no role mia
+        gate.know("admin", lines=(*lines, wide("mia"), lines[-1]))
+        until(lambda: "stands twice" in gate.said(), "a token that stands twice is not told of")
+        gate.end()
+        return took
+    few, many = (sum(taken(count) for _ in range(3)) for count in (2_000, 20_000))
+    print(f"  {few / 3 * 1000:.0f} ms for 2,000 tokens and a start, {many / 3 * 1000:.0f} for 20,000", flush=True)
+    assert many < 20 * few
+
+
+def removed(path: pathlib.Path) -> pathlib.Path:
+    if path.is_dir():
+        path.rmdir()
+    else:
+        path.unlink(missing_ok=True)
+    return path
+
+
+# what might be read for ever in the place of a file
+ENDLESS: dict[str, Callable[[pathlib.Path], None]] = {
+    "a FIFO": os.mkfifo, "a folder": os.mkdir, "a device": lambda path: os.symlink("/dev/zero", path)}
+
+
+def test_what_is_no_regular_file_does_not_start_it() -> None:
+    for kind, make in ENDLESS.items():
+        for place, word in (("tokens", None), ("journal", None), ("seed", "--seed"), ("secret", "--jwt-secret-file")):
+            gate = Gateway(start=False)
+            path = gate.folder / "other" if word else getattr(gate, place)
+            gate.words = (word, path) if word else ()
+            make(removed(path))
+            assert gate.launch().wait(PATIENCE) == 1 and "it is no regular file" in gate.said(), (kind, place, gate.said())
+            gate.end()
+
+
+def test_what_is_no_regular_file_stops_nobody() -> None:
+    """In the place of the tokens, when it comes later, and of a page."""
+    gate = Gateway(start=False)
+    pages = gate.folder / "pages"
+    pages.mkdir()
+    gate.words = ("--pages", pages)
+    gate.start()
+    admin = gate.enter("admin")
+    for kind, make in ENDLESS.items():
+        make(removed(pages / "a.js"))
+        assert http(gate.port, "/a.js")[0] == 404, kind
+        before = gate.said().count("it is no regular file")
+        make(removed(gate.tokens))
+        until(lambda: gate.said().count("it is no regular file") > before, f"{kind} is not told of")
+        assert admin.ask({"do": "unsubscribe", "sub": 9}) == ['{"error":19}'] and gate.enter("admin"), kind
+    removed(gate.tokens)
+    gate.know("admin", "eve")
+    until(lambda: gate.knock("eve-demo").code == 1013, "a file of tokens is not read again")
+    gate.end()
 
 
 SECRET = b"a secret of 32 bytes or more, say"
@@ -852,6 +967,11 @@ def test_each_entry_tells_who_wrote_it_and_when() -> None:
     gate.end()
 
 
+def test_it_tells_its_version_and_that_of_the_protocol() -> None:
+    said = subprocess.run([PROGRAM, "--version"], stdin=subprocess.DEVNULL, capture_output=True, timeout=PATIENCE)
+    assert (said.returncode, said.stdout, said.stderr) == (0, b"gateway 0.1.0 (protocol 1)\n", b"")
+
+
 def test_one_process_writes_a_journal() -> None:
     with serving() as (gate, admin):
         before, name = gate.process, gate.journal
@@ -887,7 +1007,7 @@ def test_a_full_disk_ends_it_and_nobody_was_told() -> None:
         with contextlib.suppress(Ended, ConnectionError):
             for at in range(100):
                 told += admin.ask(insert(at, "ann")) == ['{"ok":true}']
-        assert gate.process.wait(PATIENCE) == 1 and "the journal could not be written" in gate.said()
+        assert gate.process.wait(PATIENCE) == 1 and all(it in gate.said() for it in ("the journal could not be written", "mend its disk"))
         assert 0 < told < 100
         gate.start()
         assert len(total(gate.enter("admin").ask({"do": "subscribe", "on": "notes"}))) == told

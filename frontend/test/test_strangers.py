@@ -154,18 +154,18 @@ def test_health_is_told_while_others_take_nothing() -> None:
     gate.end()
 
 
-def test_who_says_nothing_keeps_no_administrator_out() -> None:
-    """All numbers are taken by who has not come in: the one that has waited longest goes."""
+def test_who_says_nothing_keeps_nobody_out() -> None:
+    """All numbers are taken by who has not come in: the one that has waited longest goes, and what is kept for administrators is not taken from others."""
     with serving(words=("--clients", "100")) as (gate, admin):
         mia = gate.enter("mia")
 
         def attempt() -> bool | None:
             start = time.monotonic()
             idle = [socket.create_connection(("127.0.0.1", gate.port), PATIENCE) for _ in range(150)]
-            come = gate.enter("admin").role
+            come = [gate.knock(f"{role}-demo").role for role in ("admin", "mia", "ann")]
             for it in idle:
                 it.close()
-            return come == "admin" if time.monotonic() < start + 0.8 * COMING else None  # later they would have gone anyway
+            return come == ["admin", "mia", "ann"] if time.monotonic() < start + 0.8 * COMING else None  # later they would have gone anyway
         assert in_time(attempt)
         for wire in (admin, mia):
             assert wire.ask({"do": "unsubscribe", "sub": 9}) == ['{"error":19}']

@@ -358,9 +358,8 @@ class Gateway:
         return int(found[0]) * 1024
 
     def processor(self) -> float:
-        """Seconds of processor that the process has taken."""
-        fields = pathlib.Path(f"/proc/{self.process.pid}/stat").read_text().rsplit(")", 1)[1].split()
-        return (int(fields[11]) + int(fields[12])) / os.sysconf("SC_CLK_TCK")
+        """Seconds of processor that the process, which has one thread, has taken."""
+        return int(pathlib.Path(f"/proc/{self.process.pid}/schedstat").read_text().split()[0]) / 1e9
 
     def end(self) -> None:
         self.running.remove(self)
