@@ -76,7 +76,8 @@ pub fn answer<'a>(
     tag: Option<&'a [u8]>,
     contents: &[u8],
 ) -> Result<Vec<u8>, AllocError>
-    ensures { IfOk result (λ out. out.items ≡ answer_of (served kind.now (option_map (λ t. t.now) tag.entry) (length contents.now)) (asked_by ask.now) contents.now) }
+    ensures { IfOk result (λ out. out.items
+        ≡ answer_of (served kind.now (option_map (λ t. t.now) tag.entry) (length contents.now)) (asked_by ask.now) contents.now) }
 {
     let mut out = Vec::new(rt.alloc());
     let page = Page {
