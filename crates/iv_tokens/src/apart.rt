@@ -1,10 +1,12 @@
-//! `are_apart`: whether no digest stands twice, by a set of those behind, so that as many tokens as there are cost no more than a look each.
-ghost use Rattle.std.specs.Prelude.{◌≡◌, ◌||◌, ℕ, IfOk, List, OnOk, bytes_eq, not};
-ghost use Rattle.iv_clients.specs.Tokens.{are_apart};
+//! `read_entries`: the tokens of a file, no digest twice, by a set of those behind, so that as many tokens as there are cost no more than a look each.
+ghost use Rattle.std.specs.Prelude.{◌≡◌, ◌⊎◌, ◌||◌, if◌then◌else◌, ℕ, Err, IfOk, List, None, OnOk, Some, bytes_eq, not, option_and_then};
+ghost use Rattle.iv_clients.specs.Tokens.{are_apart, lines_of};
 ghost use Rattle.iv_tokens.specs.Apart.{has_key};
-ghost use Rattle.iv_tokens.specs.Entries.{tokens_among};
+ghost use Rattle.iv_tokens.specs.Entries.{entries_in, entries_of, tokens_among};
+ghost use Rattle.iv_tokens.specs.Lines.{entries_read};
 
-use crate::entries::Entry;
+use crate::entries::{Entry, entries_of};
+use iv_clients::TokensFault;
 use std::alloc::{AllocError, Global};
 use std::collections::BTreeSet;
 
@@ -22,7 +24,7 @@ fn note(alloc: Global, seen: &mut BTreeSet<Vec<u8>>, digest: &[u8]) -> Result<bo
 ///
 /// # Errors
 /// `AllocError` where a growth of memory was refused.
-pub fn are_apart(alloc: Global, entries: &[Entry]) -> Result<bool, AllocError>
+fn are_apart(alloc: Global, entries: &[Entry]) -> Result<bool, AllocError>
     ensures { IfOk result (λ is. is ≡ are_apart (tokens_among entries.now)) }
 {
     let mut seen = BTreeSet::new(alloc);
@@ -33,4 +35,24 @@ pub fn are_apart(alloc: Global, entries: &[Entry]) -> Result<bool, AllocError>
         }
     }
     Ok(true)
+}
+
+/// The entries of a file, which may have none.
+///
+/// # Errors
+/// `Memory` where a growth of memory was refused; `Line` with the first line that is no token, no remark and not the table's name;
+/// `Twice` where a digest stands twice.
+pub fn read_entries(alloc: Global, file: &[u8]) -> Result<Vec<Entry>, TokensFault>
+    ensures entries { IfOk result (λ es. entries_in file.now ≡ Some es.items) }
+    ensures none { (why : TokensFault) → result ≡ Err why → (why ≡ TokensFault.Memory) ⊎ (entries_in file.now ≡ None) }
+{
+    match entries_of(alloc, file) {
+        Err(AllocError) => Err(TokensFault::Memory),
+        Ok(Err(number)) => Err(TokensFault::Line(number)),
+        Ok(Ok(entries)) => match are_apart(alloc, &entries) {
+            Err(AllocError) => Err(TokensFault::Memory),
+            Ok(true) => Ok(entries),
+            Ok(false) => Err(TokensFault::Twice),
+        },
+    }
 }

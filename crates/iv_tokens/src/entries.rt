@@ -1,11 +1,10 @@
-//! `read_entries`: the tokens of a file with their holders and ends.
-ghost use Rattle.std.specs.Prelude.{◌≡◌, ◌⊎◌, ◌++◌, ◌∷◌, ◌&&◌, [], if◌then◌else◌, ℕ, List, None, Some, Err, IfOk, OnOk, length, nat_le, nat_lt, option_and_then, option_map, string_bytes};
+//! `entries_of`: the lines of a file as tokens with their holders and ends.
+ghost use Rattle.std.specs.Prelude.{◌≡◌, ◌++◌, ◌∷◌, ◌&&◌, [], if◌then◌else◌, ℕ, List, None, Some, Err, IfOk, OnOk, length, nat_le, nat_lt, option_and_then, option_map, string_bytes};
 ghost use Rattle.std.specs.List.{list_all};
 ghost use Rattle.iv_clients.specs.Tokens.{has_digest, is_no_token, lines_of};
-ghost use Rattle.iv_tokens.specs.Entries.{Entry, end_in, entries_in, entries_of, entry_in, entry_of, holder_in, is_holder, is_plain, maybe_quoted, only_one, parts_in, plain_entry, plain_line, quoted, token_of, tokens_among};
+ghost use Rattle.iv_tokens.specs.Entries.{Entry, end_in, entries_of, entry_in, entry_of, holder_in, is_holder, is_plain, maybe_quoted, only_one, parts_in, plain_entry, plain_line, quoted, token_of, tokens_among};
 ghost use Rattle.iv_tokens.specs.Lines.{behind_entries, entries_read, parts_by};
 
-use crate::apart::are_apart;
 use crate::moments::moment_in;
 use iv_clients::{Token, TokensFault, behind, cut_at, read_tokens};
 use std::alloc::{AllocError, Global};
@@ -273,7 +272,7 @@ fn last_entry(
 }
 
 /// The entries of the lines of a file, or the number of the first line that it may not have.
-fn entries_of(alloc: Global, file: &[u8]) -> Result<Result<Vec<Entry>, usize>, AllocError>
+pub fn entries_of(alloc: Global, file: &[u8]) -> Result<Result<Vec<Entry>, usize>, AllocError>
     ensures { IfOk result (λ r. entries_read r ≡ entries_of (lines_of file.now)) }
 {
     let mut entries = Vec::new(alloc);
@@ -298,25 +297,5 @@ fn entries_of(alloc: Global, file: &[u8]) -> Result<Result<Vec<Entry>, usize>, A
             Ok(read)
         }
         Some(_) => Err(AllocError),
-    }
-}
-
-/// The entries of a file, which may have none.
-///
-/// # Errors
-/// `Memory` where a growth of memory was refused; `Line` with the first line that is no token, no remark and not the table's name;
-/// `Twice` where a digest stands twice.
-pub fn read_entries(alloc: Global, file: &[u8]) -> Result<Vec<Entry>, TokensFault>
-    ensures entries { IfOk result (λ es. entries_in file.now ≡ Some es.items) }
-    ensures none { (why : TokensFault) → result ≡ Err why → (why ≡ TokensFault.Memory) ⊎ (entries_in file.now ≡ None) }
-{
-    match entries_of(alloc, file) {
-        Err(AllocError) => Err(TokensFault::Memory),
-        Ok(Err(number)) => Err(TokensFault::Line(number)),
-        Ok(Ok(entries)) => match are_apart(alloc, &entries) {
-            Err(AllocError) => Err(TokensFault::Memory),
-            Ok(true) => Ok(entries),
-            Ok(false) => Err(TokensFault::Twice),
-        },
     }
 }

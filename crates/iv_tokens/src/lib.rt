@@ -8,6 +8,7 @@ pub mod laws;
 mod moments;
 mod web;
 
-pub use entries::{Entry, read_entries};
+pub use apart::read_entries;
+pub use entries::Entry;
 pub use known_tokens::{KnownTokens, copied};
 pub use web::{Judged, Web};
