@@ -13,7 +13,7 @@ import sys
 
 from viewd_ci.common import TOP, contents
 
-HAVE = {"iv_database", "iv_pages", "iv_store", "iv_tokens", "iv_zset"}
+HAVE = {"iv_database", "iv_pages", "iv_store", "iv_zset"}
 NAMED = re.compile(r"\bcrate::((?:\w+::)*)(?:\w+|\{|\*)")
 GROUP = re.compile(r"\bcrate::\{([^{}]*)\}")
 COMMENT = re.compile(r"(?m)//.*$")
