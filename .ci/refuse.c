@@ -1,4 +1,4 @@
-/* Put before a program by LD_PRELOAD: refuses the request for memory whose number REFUSE gives, and no other one; none
+/* Put before a program by LD_PRELOAD: refuses the request for more memory whose number REFUSE gives, and no other one; none
    where it is 0. At the end it writes the number of requests to the file descriptor REFUSE_TELL. Where REFUSE_OPTIONS is
    set it refuses each option of a TCP connection, and writes the number of those. It gives the random bytes too. */
 typedef __SIZE_TYPE__ size_t;
@@ -6,6 +6,7 @@ typedef __SIZE_TYPE__ size_t;
 extern void *__libc_malloc(size_t);
 extern void *__libc_realloc(void *, size_t);
 extern void *__libc_calloc(size_t, size_t);
+extern size_t malloc_usable_size(void *);
 extern char *getenv(const char *);
 extern long strtol(const char *, char **, int);
 extern int dprintf(int, const char *, ...);
@@ -29,7 +30,12 @@ static int is_refused(void) {
 
 void *malloc(size_t size) { return is_refused() ? 0 : __libc_malloc(size); }
 
-void *realloc(void *block, size_t size) { return is_refused() ? 0 : __libc_realloc(block, size); }
+/* A block that is to have no more than it has asks for nothing: a row gives back what it was given too much. */
+void *realloc(void *block, size_t size) {
+  if (block && size <= malloc_usable_size(block))
+    return __libc_realloc(block, size);
+  return is_refused() ? 0 : __libc_realloc(block, size);
+}
 
 void *calloc(size_t count, size_t size) { return is_refused() ? 0 : __libc_calloc(count, size); }
 
