@@ -140,13 +140,22 @@ def test_health_is_told_while_others_take_nothing() -> None:
     gate.start()
 
     def attempt() -> list[int] | None:
+        def is_full() -> bool:
+            return http(gate.port, "/large.js")[0] == 503
+
         with contextlib.ExitStack() as slow:
-            for _ in range(12):
+            for _ in range(64):
                 it = slow.enter_context(socket.socket())
+                it.settimeout(PATIENCE)
                 it.setsockopt(socket.SOL_SOCKET, socket.SO_RCVBUF, 4096)
                 it.connect(("127.0.0.1", gate.port))
                 it.sendall(b"GET /large.js HTTP/1.1\r\nHost: x\r\n\r\n")
-            if http(gate.port, "/large.js")[0] != 503:
+                assert it.recv(1) == b"H"
+                if is_full():
+                    time.sleep(0.1)  # the system takes some of what waits
+                    if is_full():
+                        break
+            else:
                 return None  # this host took so long that they were let go
             found = [http(gate.port, path, token)[0] for path, token in (("/healthz", None), ("/readyz", None), ("/nothing", None), ("/state", "admin-demo"))]
         return found
