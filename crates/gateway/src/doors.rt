@@ -15,8 +15,11 @@ const LOOKS: u64 = 10;
 /// Who may come in.
 #[derive(Drop)]
 pub struct Doors {
+    /// The allocator of what it makes.
     alloc: Global,
+    /// The tokens of the file, and web tokens that were granted.
     pub known: KnownTokens,
+    /// The tokens that open the role of administrators.
     admins: Admins,
     /// Clients have numbers below this.
     most: u32,

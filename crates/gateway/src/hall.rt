@@ -37,6 +37,7 @@ const TAKING: u64 = 30_000;
 /// The sockets by their numbers.
 #[derive(Drop)]
 pub struct Hall {
+    /// The allocator of what it makes.
     pub alloc: Global,
     /// The numbers are below this.
     pub most: u32,
@@ -62,9 +63,13 @@ pub struct Hall {
     pub gathering: bool,
     /// Milliseconds since the start.
     pub now: u64,
+    /// The lines on standard error.
     pub log: Log,
+    /// What is counted since the start.
     pub counts: Counts,
+    /// The tokens that open roles.
     pub doors: Doors,
+    /// The folder of pages, if there is one.
     pub pages: Option<String>,
 }
 

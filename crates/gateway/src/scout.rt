@@ -12,7 +12,9 @@ const MOST: usize = 32_768;
 /// An end of a connection at which nothing was presented yet.
 #[derive(Drop)]
 pub struct Scout {
+    /// Its own end of the connection, which hears the same bytes as the desk's.
     peer: Peer,
+    /// How many bytes it has heard.
     taken: usize,
 }
 

@@ -32,9 +32,13 @@ pub enum Stage {
 /// A connection.
 #[derive(Drop)]
 pub struct Socket {
+    /// The allocator of what it makes.
     alloc: Global,
+    /// The connection of the system.
     stream: TcpStream,
+    /// How far it is.
     pub stage: Stage,
+    /// The address of the other end.
     pub address: SocketAddr,
     /// There may be bytes to read.
     pub readable: bool,

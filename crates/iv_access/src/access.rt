@@ -25,10 +25,15 @@ use std::marker::Model;
 /// Source: PostgreSQL 16, Role Membership, Privileges, and Row Security Policies.
 #[derive(Drop)]
 pub struct Access {
+    /// The roles by their numbers.
     pub(crate) roles: Roles,
+    /// Which roles are members of which.
     pub(crate) members: Memberships,
+    /// The tables and views by their numbers, each with its owner.
     pub(crate) relations: Relations,
+    /// Row security and policies of each table.
     pub(crate) guards: Vec<Guard>,
+    /// Which role may do what with which relation.
     pub(crate) grants: Grants,
 }
 

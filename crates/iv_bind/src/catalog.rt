@@ -33,6 +33,7 @@ pub(crate) struct Relation {
 /// The tables and views that queries may name, in the order of adding.
 #[derive(Drop)]
 pub struct Catalog {
+    /// The tables and views, each at the place of its number.
     relations: Vec<Relation>,
 }
 

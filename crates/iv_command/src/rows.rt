@@ -18,7 +18,9 @@ const SHORT_TEXT: usize = 64;
 /// Rows with their weights, and their JSON text.
 #[derive(Drop)]
 pub struct SentRows {
+    /// The rows with their weights.
     rows: Vec<(Row, i64)>,
+    /// The JSON text of these, as bytes.
     text: Vec<u8>,
 }
 

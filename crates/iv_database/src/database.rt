@@ -17,11 +17,17 @@ use std::marker::Model;
 /// node of a circuit over them.
 #[derive(Drop)]
 pub struct Database {
+    /// The greatest number of different rows of a table or a node.
     pub(crate) cap: usize,
+    /// Roles, grants, row security and policies.
     pub(crate) access: Access,
+    /// The names and columns of tables and views.
     pub(crate) catalog: Catalog,
+    /// The sessions that were begun.
     pub(crate) sessions: Vec<Session>,
+    /// The rows of tables.
     pub(crate) tables: Tables,
+    /// The allocator of what it makes.
     pub(crate) alloc: Global,
 }
 

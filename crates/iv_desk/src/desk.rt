@@ -25,9 +25,13 @@ use std::alloc::{AllocError, Global};
 /// any more, and nothing is pending.
 #[derive(Drop)]
 pub struct Desk {
+    /// The allocator of what it makes.
     alloc: Global,
+    /// The gateway that answers the clients.
     gateway: Gateway,
+    /// The peer of each number, if there is one.
     places: Vec<Option<Place>>,
+    /// Whether there was a fault.
     dead: bool,
 }
 

@@ -50,8 +50,11 @@ impl From<WriteFault> for KeepFault {
 /// A journal with its audit on a disk.
 #[derive(Drop)]
 pub struct Keeper<D: Disk> {
+    /// The disk with the journal.
     disk: D,
+    /// Where the journal ends.
     chain: Chain,
+    /// Whether a step failed, after which nothing more is written.
     failed: bool,
     ghost whole: { failed ≡ false → is_whole (D.held disk) ≡ true },
 }

@@ -46,7 +46,9 @@ impl From<AllocError> for EngineFault {
 /// access machine does, and after a refused growth of memory none any more.
 #[derive(Drop)]
 pub struct Engine {
+    /// Rights, tables, sessions and subscriptions.
     pub(crate) store: Store,
+    /// Whether a growth of memory was refused, after which no command is answered.
     failed: bool,
 }
 

@@ -33,11 +33,17 @@ use std::slice;
 /// is left.
 #[derive(Drop)]
 pub struct Hall {
+    /// The clients' numbers are below this.
     most: u32,
+    /// The client of each number, if there is one.
     slots: Vec<Option<Client>>,
+    /// The numbers of those who are owed that this is all.
     owed: Numbers,
+    /// The numbers of those who have something to take, or are to go.
     told: Numbers,
+    /// Who follows each feed.
     readers: Vec<Readers>,
+    /// The bytes that wait for the journal.
     waiting: u64,
 }
 

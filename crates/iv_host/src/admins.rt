@@ -18,6 +18,7 @@ pub const ADMIN: &str = "admin";
 /// The tokens that open the role of administrators.
 #[derive(Drop)]
 pub struct Admins {
+    /// The tokens, each with that role.
     tokens: Vec<Token>,
 }
 

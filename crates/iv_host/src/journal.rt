@@ -81,13 +81,21 @@ impl Syncs {
 /// The journal on a disk, and the lock that no other process has meanwhile.
 #[derive(Drop)]
 pub struct DiskJournal<D: Disk> {
+    /// The right to ask the system.
     rt: HostRuntime,
+    /// The journal and its audit.
     keeper: Keeper<D>,
+    /// The file that is locked as long as this lives.
     _lock: File,
+    /// How many bytes the file has.
     end: u64,
+    /// How many entries the journal has.
     entries: u64,
+    /// How often it was synced, and how long that took.
     syncs: Syncs,
+    /// Who made the entries that are written next.
     shares: Vec<Share>,
+    /// Why it failed, if it did.
     why: Option<KeepFault>,
 }
 
@@ -232,9 +240,13 @@ impl From<KeepFault> for OpenFault {
 /// The file of a journal, before anything is known of what it has, and the lock.
 #[derive(Drop)]
 pub struct JournalFile {
+    /// The right to ask the system.
     rt: HostRuntime,
+    /// The file, open to be appended to.
     file: File,
+    /// The file that is locked as long as this lives.
     lock: File,
+    /// What the file has.
     bytes: Vec<u8>,
 }
 

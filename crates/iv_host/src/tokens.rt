@@ -36,7 +36,9 @@ type Stamp = Option<(u64, u64)>;
 /// The file of tokens, and what it was when it was read.
 #[derive(Drop)]
 pub struct TokenFile {
+    /// The path of the file.
     path: String,
+    /// When it had changed last, and its length.
     stamp: Stamp,
 }
 

@@ -19,6 +19,7 @@ pub enum PushFault {
 /// Where a journal ends: the digest of its last line.
 #[derive(Drop)]
 pub struct Chain {
+    /// The SHA-256 digest of the last line, with all before it.
     digest: [u8; 32],
 }
 

@@ -10,10 +10,15 @@ use std::marker::Model;
 /// The parts of a token: its header and its claims as they were sent, which are signed, and all three decoded.
 #[derive(Drop)]
 pub struct Parts<'a> {
+    /// The header as it was sent.
     pub sent_header: &'a [u8],
+    /// The claims as they were sent.
     pub sent_claims: &'a [u8],
+    /// The header, decoded: JSON.
     pub header: Vec<u8>,
+    /// The claims, decoded: JSON.
     pub claims: Vec<u8>,
+    /// The signature, decoded.
     pub mac: Vec<u8>,
 }
 

@@ -19,8 +19,11 @@ pub const LINE_ROOM: usize = 65_537;
 /// Bytes that were read and not taken yet.
 #[derive(Drop)]
 pub struct Room {
+    /// The bytes that were read last.
     bytes: [u8; ROOM],
+    /// How many of these were taken.
     at: usize,
+    /// How many of these were read.
     filled: usize,
     ghost within: { filled ≤ 4096 },
     ghost behind: { at ≤ filled },

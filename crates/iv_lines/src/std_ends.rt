@@ -10,6 +10,7 @@ use std::marker::Model;
 /// A reader of std as a source. Each read is one call of the reader, and an error of the reader is told at once.
 #[derive(Drop)]
 pub struct FromRead<R: Read> {
+    /// The reader, with the count of its calls.
     reader: Watched<R>,
 }
 
@@ -54,7 +55,9 @@ impl<R: Read> Source for FromRead<R> {
 /// call of the writer, and an error of the writer is told at once.
 #[derive(Drop)]
 pub struct FromWrite<W: Write> {
+    /// The writer, with the count of its calls.
     writer: Watched<W>,
+    /// Whether a write took none of some bytes.
     stuck: bool,
 }
 

@@ -18,9 +18,13 @@ use std::marker::Model;
 /// An end of std. Contracts see it, how many calls were made of it, whether one has failed, and whether it is flushed.
 #[derive(Drop)]
 pub struct Watched<E> {
+    /// The end of std.
     end: E,
+    /// How many calls were made of it.
     calls: Calls,
+    /// Whether a call has failed.
     failed: bool,
+    /// Whether nothing was written since the last flush.
     flushed: bool,
 }
 

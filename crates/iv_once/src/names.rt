@@ -30,10 +30,15 @@ pub const LIMITS: Limits = Limits {
 /// What is kept of requests with names.
 #[derive(Drop)]
 pub struct Names {
+    /// The allocator of what it makes.
     alloc: Global,
+    /// How much is kept.
     limits: Limits,
+    /// The epoch of holders who come now.
     epoch: String,
+    /// What is kept of each holder.
     owns: BTreeMap<String, Own>,
+    /// How many entries each holder has added that count as refusals.
     spent: BTreeMap<String, u64>,
 }
 

@@ -120,10 +120,15 @@ fn fault_code(error: &Error) -> u16
 /// One end of a WebSocket, at a server. It has no socket: its caller reads bytes, and sends what is pending.
 #[derive(Drop)]
 pub struct Peer {
+    /// The allocator of what it makes.
     alloc: Global,
+    /// The WebSocket, once the head of the request was read.
     protocol: Option<WebSocketContext>,
+    /// Whether nothing is heard any more.
     over: bool,
+    /// The bytes that were read and not heard yet.
     input: Vec<u8>,
+    /// The bytes that are to be sent.
     output: Vec<u8>,
 }
 

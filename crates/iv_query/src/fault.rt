@@ -21,7 +21,9 @@ pub enum Why {
 /// A fault as the rules give it: its place in bytes from 0, and its reason.
 #[derive(Clone, Copy, PartialEq, Eq)]
 pub struct Fault {
+    /// Its place, in bytes from 0.
     pub place: usize,
+    /// Which rule the text breaks.
     pub why: Why,
 }
 

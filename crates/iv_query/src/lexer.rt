@@ -20,8 +20,11 @@ use std::alloc::{AllocError, Global};
 /// What stands in front of a text, and what stands behind it.
 #[derive(Drop)]
 pub enum Front<'a> {
+    /// A blank, and the text after it.
     Gap(&'a str),
+    /// A token, and the text after it.
     Token(Lexeme, &'a str),
+    /// Neither.
     Nothing,
 }
 
@@ -298,8 +301,11 @@ fn front_of(alloc: Global, text: &str) -> Result<Front<'_>, AllocError>
 /// The tokens of a text, the fault behind them, and whether that is the end of the text.
 #[derive(Drop)]
 pub struct Tokens {
+    /// The tokens, from the left.
     pub list: Vec<Token>,
+    /// The fault after the last token.
     pub stop: Fault,
+    /// Whether the text ends there.
     pub ends: bool,
 }
 

@@ -13,28 +13,47 @@ use json::Value as Json;
 /// The words of requests.
 #[derive(Clone, Copy)]
 pub enum Word {
+    /// `write`
     Write,
+    /// `begin`
     Begin,
+    /// `finish`
     Finish,
+    /// `create_role`
     CreateRole,
+    /// `create_table`
     CreateTable,
+    /// `create_view`
     CreateView,
+    /// `grant`
     Grant,
+    /// `revoke`
     Revoke,
+    /// `grant_role`
     GrantRole,
+    /// `revoke_role`
     RevokeRole,
+    /// `row_security`
     RowSecurity,
+    /// `create_policy`
     CreatePolicy,
+    /// `drop_policy`
     DropPolicy,
+    /// `subscribe`
     Subscribe,
+    /// `unsubscribe`
     Unsubscribe,
 }
 
 /// A word, as it stands at `do`, the further keys that must be there, and those that may be.
 pub struct Form {
+    /// Which request it is.
     pub word: Word,
+    /// The word as it is at `do`.
     text: &'static str,
+    /// The further keys that must be there.
     pub required: &'static [&'static str],
+    /// The keys that may be there.
     pub optional: &'static [&'static str],
 }
 

@@ -100,8 +100,11 @@ pub fn grantee_at(alloc: Global, value: &Json<'_>) -> Result<Option<Option<Strin
 /// What a grant and a revoke name.
 #[derive(Drop)]
 pub struct Granting {
+    /// The name of the table or view.
     rel: String,
+    /// What may be done with it.
     privileges: Vec<Privilege>,
+    /// The name of the role; none for all roles.
     grantee: Option<String>,
 }
 

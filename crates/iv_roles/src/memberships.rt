@@ -48,7 +48,9 @@ impl Membership {
 /// Source: PostgreSQL 16, Role Membership.
 #[derive(Drop)]
 pub struct Memberships {
+    /// The memberships that were granted, in their order.
     direct: Vec<Membership>,
+    /// For each role that a membership names, which roles it reaches.
     rows: Vec<[bool; 256]>,
 }
 

@@ -13,6 +13,7 @@ pub const MOST_ROLES: usize = 256;
 /// The names of the roles, each with the number of its place.
 #[derive(Drop)]
 pub struct Roles {
+    /// The names, each at the place of its number.
     names: IndexSet<String, Seed>,
 }
 

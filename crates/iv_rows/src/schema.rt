@@ -39,6 +39,7 @@ impl Model for Column {
 /// Source: PostgreSQL 16, CREATE TABLE, in the profile of docs/PROTOCOL.md.
 #[derive(Drop)]
 pub struct Schema {
+    /// The columns, from the left.
     columns: Vec<Column>,
 }
 

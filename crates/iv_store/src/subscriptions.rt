@@ -27,8 +27,11 @@ use std::marker::Model;
 /// A subscription of a session to a relation.
 #[derive(Drop)]
 pub struct Subscription {
+    /// The session that opened it.
     pub session: u32,
+    /// Its number, which no other one ever has.
     pub number: u64,
+    /// The table or view that it is to.
     pub rel: RelId,
 }
 

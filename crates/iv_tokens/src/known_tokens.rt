@@ -18,9 +18,13 @@ use std::marker::Model;
 /// The entries that were read last, the web tokens that a secret granted, and which of them were handed on.
 #[derive(Drop)]
 pub struct KnownTokens {
+    /// The entries of the file, as they were read last.
     entries: Vec<Entry>,
+    /// The secret under which web tokens are signed; no byte if none are granted.
     secret: Vec<u8>,
+    /// The web tokens that were granted.
     web: Vec<Web>,
+    /// The second for which tokens were handed on last; none if what is known has changed since.
     handed: Option<u64>,
 }
 

@@ -4,8 +4,11 @@ use std::alloc::Global;
 /// A text that parts are added to. Where a growth of memory was refused it is none.
 #[derive(Drop)]
 pub struct Out {
+    /// The allocator of the text.
     alloc: Global,
+    /// The parts so far.
     text: String,
+    /// Whether a growth of memory was refused.
     is_refused: bool,
 }
 

@@ -34,6 +34,7 @@ const MOST: u32 = 4;
 /// A journal in memory.
 #[derive(Drop)]
 pub struct Kept {
+    /// What was written.
     bytes: Vec<u8>,
 }
 
