@@ -245,7 +245,7 @@ impl Hall {
         }
     }
 
-    /// Reads what a client says, where it is heard.
+    /// Reads what a client says, if it is heard.
     fn read_desk(&mut self, desk: &mut Desk, at: u32) -> Result<(), Fault>
         ensures { Leads desk.old desk.new }
     {

@@ -41,7 +41,7 @@ impl Scout {
     /// Hears further bytes.
     ///
     /// # Errors
-    /// `Memory` where a growth of memory was refused.
+    /// `Memory` if a growth of memory was refused.
     pub fn hear(&mut self, bytes: &[u8]) -> Result<Found, Fault> {
         self.taken = self.taken.saturating_add(bytes.len());
         if self.taken > MOST {

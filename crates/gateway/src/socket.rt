@@ -169,7 +169,7 @@ impl Socket {
         true
     }
 
-    /// Writes bytes. How many the system took; none where the connection is broken.
+    /// Writes bytes. How many the system took; none if the connection is broken.
     fn put(&mut self, bytes: &[u8]) -> Option<usize> {
         match self.stream.write(bytes) {
             Ok(0) => None,
@@ -249,7 +249,7 @@ pub fn read_at(
     }
 }
 
-/// Sends once at a number what is pending there, and nothing else. How many bytes the system took; none where the connection is broken.
+/// Sends once at a number what is pending there, and nothing else. How many bytes the system took; none if the connection is broken.
 pub fn send_at(sockets: &mut [Option<Socket>], desk: &mut Desk, at: u32) -> Option<usize>
     ensures { Leads desk.old desk.new }
 {

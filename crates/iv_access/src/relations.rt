@@ -50,7 +50,7 @@ fn count_like(kinds: &IndexMap<String, Option<Vec<Kind>>, Seed>, table: bool) ->
 }
 
 impl Relations {
-    /// No relation of the rights, where names are hashed under a seed. It takes no memory.
+    /// No relation of the rights, if names are hashed under a seed. It takes no memory.
     pub(crate) fn with_seed(alloc: Global, seed: Seed) -> Relations
         ensures { result ≡ [] }
     {

@@ -2,7 +2,7 @@
 //!
 //! `settings` promises ranges alone, since clap's clauses say nothing of a subcommand's values: a body that answers
 //! another number of the range, or an error, meets its contract. Words and texts are shown by tests. A word that is
-//! not text is status 1, with a text of ours; `--help` is status 0 even where standard output is closed.
+//! not text is status 1, with a text of ours; `--help` is status 0 even if standard output is closed.
 
 ghost use Rattle.std.specs.Prelude.{◌≤◌, IfOk, IfSome};
 ghost use Rattle.iv_rows.specs.RowLimit.{IsRowLimit};

@@ -41,7 +41,7 @@ CutsAreFronts = (epoch : List ℕ) (ws : List Written) (left : ℕ) (r : Reading
 abbrev pub BytesHaveEntries : Type 0
 BytesHaveEntries = (ls : List Line) → AllByRecursion (λ l. is_text l.text ≡ true) ls → bytes_in (journal_of ls) ≡ lines_of (entries_of ls)
 
--- behind whole lines stands what a writer makes of these bytes of the gateway: the gateway's bytes go on by them; where only the first bytes of it
+-- behind whole lines stands what a writer makes of these bytes of the gateway: the gateway's bytes go on by them; if only the first bytes of it
 -- are there, by the first of them
 pub record IsLonger (before given out : List ℕ) : Type 0 where
   pub whole : bytes_in (before ++ out) ≡ bytes_in before ++ given

@@ -120,7 +120,7 @@ fn entries_of(alloc: Global, lines: &[Line]) -> Result<Vec<u8>, AllocError>
 /// Reads a journal.
 ///
 /// # Errors
-/// `Damaged` with the byte at which what belongs to no journal of this form begins; `Memory` where a growth of memory was refused.
+/// `Damaged` with the byte at which what belongs to no journal of this form begins; `Memory` if a growth of memory was refused.
 pub fn read_audit(alloc: Global, bytes: &[u8]) -> Result<Audit, AuditFault>
     ensures read { IfOk result (λ a. IsAudit bytes.now a) }
     ensures damaged { (place : ℕ) → result ≡ Err (AuditFault.Damaged place) → IsDamaged bytes.now place }

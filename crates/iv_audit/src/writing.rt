@@ -163,7 +163,7 @@ fn make_text(
 /// by which it was made, as the shares tell.
 ///
 /// # Errors
-/// `NotEntries` where the bytes are none, or an entry is no text of a journal; `Memory` where a growth of memory was refused. Nothing of what was
+/// `NotEntries` if the bytes are none, or an entry is no text of a journal; `Memory` if a growth of memory was refused. Nothing of what was
 /// appended is to be used then.
 pub fn push_records(
     alloc: Global,
@@ -201,7 +201,7 @@ pub fn push_records(
 /// Appends the head, by 32 digits that no other journal has.
 ///
 /// # Errors
-/// `NotEntries` where these are no text; `Memory` where a growth of memory was refused.
+/// `NotEntries` if these are no text; `Memory` if a growth of memory was refused.
 pub fn push_head(
     alloc: Global,
     chain: &mut Chain,

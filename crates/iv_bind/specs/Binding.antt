@@ -36,7 +36,7 @@ pub record Named : Type 0 where
 abbrev pub column_place : ColumnTree → ℕ
 column_place (ColumnAt source name p) = p
 
--- the text says this column: its name, and its source where one stands before a dot
+-- the text says this column: its name, and its source if one stands before a dot
 abbrev pub is_meant : ColumnTree → Named → Bool
 is_meant (ColumnAt None name p) n = bytes_eq name n.name
 is_meant (ColumnAt (Some source) name p) n = bytes_eq source n.source && bytes_eq name n.name

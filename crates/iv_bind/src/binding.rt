@@ -107,7 +107,7 @@ fn finished(alloc: Global, part: Part) -> Result<Bound, BindFault>
 /// What a query is bound to over a catalog.
 ///
 /// # Errors
-/// `At` with the place and the reason of the first fault, in the order of binding; `Memory` where a growth of memory was
+/// `At` with the place and the reason of the first fault, in the order of binding; `Memory` if a growth of memory was
 /// refused.
 ///
 /// Source: PostgreSQL 16, SELECT, in the profile of docs/PROTOCOL.md, Queries.
@@ -129,7 +129,7 @@ pub fn bind(alloc: Global, tree: &Query, catalog: &Catalog) -> Result<Bound, Bin
 /// What a policy's predicate is bound to over the columns of its table. The user's name is a text.
 ///
 /// # Errors
-/// `At` with the place and the reason of the first fault; `Memory` where a growth of memory was refused.
+/// `At` with the place and the reason of the first fault; `Memory` if a growth of memory was refused.
 ///
 /// Source: PostgreSQL 16, CREATE POLICY, in the profile of docs/PROTOCOL.md, Queries.
 #[tactic(auto, unfolding(crate::specs::Binding::bound_pred))]

@@ -121,7 +121,7 @@ impl Catalog {
     /// Adds a table to the catalog, of a new name and number, behind the relations that are there.
     ///
     /// # Errors
-    /// `AllocError` where a growth of memory was refused; the catalog is unchanged then.
+    /// `AllocError` if a growth of memory was refused; the catalog is unchanged then.
     pub fn add_table(&mut self, name: &str, rel: RelId, schema: Schema) -> Result<(), AllocError>
         requires name { named self.old name.now ≡ None }
         requires number { numbered self.old rel.0 ≡ None }
@@ -135,7 +135,7 @@ impl Catalog {
     /// Adds a view to the catalog, of a new name and number, behind the relations that are there.
     ///
     /// # Errors
-    /// `AllocError` where a growth of memory was refused; the catalog is unchanged then.
+    /// `AllocError` if a growth of memory was refused; the catalog is unchanged then.
     pub fn add_view(&mut self, name: &str, rel: RelId, bound: Bound) -> Result<(), AllocError>
         requires name { named self.old name.now ≡ None }
         requires number { numbered self.old rel.0 ≡ None }
@@ -156,7 +156,7 @@ impl Catalog {
         named(&self.relations, name)
     }
 
-    /// The columns of the catalog's table of a number; none where that is no table's. It takes no memory.
+    /// The columns of the catalog's table of a number; none if that is no table's. It takes no memory.
     pub fn schema(&self, rel: RelId) -> Option<&Schema>
         ensures { option_map (λ s. s.now) result ≡ schema_of self.now rel.0 }
     {
@@ -169,7 +169,7 @@ impl Catalog {
         }
     }
 
-    /// The catalog's view of a number, as it was bound; none where that is no view's. It takes no memory.
+    /// The catalog's view of a number, as it was bound; none if that is no view's. It takes no memory.
     pub fn view(&self, rel: RelId) -> Option<&Bound>
         ensures found { option_map (λ b. bound_of b.now) result ≡ view_of self.now rel.0 }
         // Over all tables of the catalog's kinds the plan fits, and its rows have the kinds of the columns.

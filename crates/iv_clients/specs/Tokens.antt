@@ -78,6 +78,6 @@ abbrev pub are_apart : List Token → Bool
 are_apart [] = true
 are_apart (t ∷ ts) = not (has_digest t.digest ts) && are_apart ts
 
--- the tokens of a file; none where a line is wrong, a digest stands twice, or there is no token
+-- the tokens of a file; none if a line is wrong, a digest stands twice, or there is no token
 abbrev pub tokens_in : List ℕ → Option (List Token)
 tokens_in file = option_and_then (λ ts. if are_apart ts && nat_lt 0 (length ts) then Some ts else None) (tokens_of (lines_of file))

@@ -198,7 +198,7 @@ impl Client {
     /// Has a text sent, once the journal has what it shows.
     ///
     /// # Errors
-    /// `AllocError` where a growth of memory was refused.
+    /// `AllocError` if a growth of memory was refused.
     pub fn hold(&mut self, text: &[u8]) -> Result<(), AllocError>
         ensures { OnOk result (self.new ≡ holding text.now self.old) }
     {
@@ -211,7 +211,7 @@ impl Client {
         Ok(())
     }
 
-    /// Has the text sent that says that this is all, where something was told.
+    /// Has the text sent that says that this is all, if something was told.
     pub fn settle(&mut self, text: &[u8]) -> Result<(), AllocError>
         ensures { OnOk result (self.new ≡ holding_owed text.now self.old) }
     {
@@ -357,7 +357,7 @@ impl Client {
         mem::replace(&mut self.sendable, Vec::new(alloc))
     }
 
-    /// It is to go where its token does not open its role any more.
+    /// It is to go if its token does not open its role any more.
     pub fn check(&mut self, tokens: &[Token])
         ensures { self.new ≡ checking tokens.now self.old }
     {

@@ -128,7 +128,7 @@ fn first_id(front: Option<Id>, id: Option<Id>) -> Option<Id>
     }
 }
 
-/// A message that was read, where its text begins with no brace.
+/// A message that was read, if its text begins with no brace.
 fn not_request(message: Message) -> Message
     ensures message { said_of result ≡ not_request (said_of message) }
     ensures well { is_well_message (said_of result) ≡ true }
@@ -160,7 +160,7 @@ fn said_in(
 /// What a client says, and the line that its entry has.
 ///
 /// # Errors
-/// `AllocError` where a growth of memory was refused.
+/// `AllocError` if a growth of memory was refused.
 pub fn read_said(
     alloc: Global,
     text: &[u8],

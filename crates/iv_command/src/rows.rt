@@ -40,7 +40,7 @@ impl SentRows {
     /// The rows that are sent, with their weights, whose JSON text is written now.
     ///
     /// # Errors
-    /// `AllocError` where a growth of memory was refused.
+    /// `AllocError` if a growth of memory was refused.
     pub fn new(alloc: Global, rows: Vec<(Row, i64)>) -> Result<SentRows, AllocError>
         ensures { IfOk result (λ sent. sent ≡ rows.items) }
     {

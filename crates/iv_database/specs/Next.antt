@@ -52,7 +52,7 @@ database_after d n act = record {
 }
 
 -- it is done; or the refusal tells the first test that fails, of those that look at no row, and nothing has changed; nothing is
--- said where memory runs out
+-- said if memory runs out
 abbrev pub IsDone : Database → ℕ → Act → Result Unit Stop → Database → Type 0
 IsDone d n act (Ok u) new = (frame_refusal (frame_of d) n act ≡ None) × (new ≡ database_after d n act)
 IsDone d n act (Err (Refused r)) new = (frame_refusal (frame_of d) n act ≡ Some (refusal_of r)) × (new ≡ d)

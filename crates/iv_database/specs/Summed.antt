@@ -45,7 +45,7 @@ pub record IsNet (rows : Weighed) : Type 0 where
   pub zset : IsZSet rows
   pub difference : (before after : List (List Cell)) → ((q : List Cell) → weight_of rows q ≡ weight before after q) → rows ≡ difference before after
 
--- the net change of the sums of a table; a limit where a sum is no weight
+-- the net change of the sums of a table; a limit if a sum is no weight
 abbrev pub IsFinished : Change → Result Change Stop → Type 0
 IsFinished s (Ok c) = (c.rel ≡ s.rel) × SameZ c.rows s.rows × IsNet c.rows
 IsFinished s (Err (Refused r)) = (refusal_of r ≡ limit) × IsOutOfRange s.rows

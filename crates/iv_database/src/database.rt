@@ -52,7 +52,7 @@ impl Database {
     /// A database of one role, `admin`, and nothing else. Rows will be hashed under the seed.
     ///
     /// # Errors
-    /// `AllocError` where a growth of memory was refused.
+    /// `AllocError` if a growth of memory was refused.
     pub fn new(alloc: Global, seed: Seed, cap: usize) -> Result<Database, AllocError>
         ensures { IfOk result (λ database. database ≡ at_start cap) }
     {

@@ -73,7 +73,7 @@ most_pending = 262144
 abbrev pub is_held : Gate → ℕ → Socket → Bool
 is_held g m s = nat_lt most_pending (length s.output) || (has_presented s && not (is_heard g m))
 
--- what the bytes of number m say is heard, one thing after another: what is no text; the first text, which is a token; a message, where
+-- what the bytes of number m say is heard, one thing after another: what is no text; the first text, which is a token; a message, if
 -- the client of the number is heard
 pub data HearsAt (m : ℕ) (g : Gate) (s : Socket) : Gate → Socket → Type 0 where
   nothing : HearsAt m g s g s
@@ -96,7 +96,7 @@ text_for g m = if_some (client_at g.clients m) [] (λ c. text_shown c.sendable)
 abbrev pub let_go : Socket → Socket
 let_go s = closed 1013 (codes "What was told was not taken.") s
 
--- the text is told in one frame, where there is any
+-- the text is told in one frame, if there is any
 abbrev pub told_some : List ℕ → Socket → Socket
 told_some [] s = s
 told_some (b ∷ bs) s = told_text (b ∷ bs) s

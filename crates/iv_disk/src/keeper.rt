@@ -104,7 +104,7 @@ impl<D: Disk + Drop> Keeper<D> {
     /// written if there is none, and all of it is synced.
     ///
     /// # Errors
-    /// `Memory` where a growth of memory was refused; `NotEntries` where the digits are no text; `System` where the system refuses.
+    /// `Memory` if a growth of memory was refused; `NotEntries` if the digits are no text; `System` if the system refuses.
     pub fn begin(
         alloc: Global,
         disk: D,
@@ -129,7 +129,7 @@ impl<D: Disk + Drop> Keeper<D> {
     /// How many bytes the disk has.
     ///
     /// # Errors
-    /// Where the system refuses.
+    /// If the system refuses.
     pub fn length(&self) -> io::Result<u64>
         ensures { IfOk result (λ n. IfSome (D.held self.now.disk) (λ bytes. n ≡ length bytes)) }
     {
@@ -141,7 +141,7 @@ impl<D: Disk + Drop> Keeper<D> {
     /// it was made, as the shares tell, and syncs. Answers how many bytes the disk has more.
     ///
     /// # Errors
-    /// As of `begin`; `Failed` where it failed before. Nothing is to stay of what could not be written whole; where that fails too, the next start
+    /// As of `begin`; `Failed` if it failed before. Nothing is to stay of what could not be written whole; if that fails too, the next start
     /// cuts what is torn. Nothing more is written then.
     pub fn append(
         &mut self,

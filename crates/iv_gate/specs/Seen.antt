@@ -92,7 +92,7 @@ read_by g c own = if_some (followed_by c.subs own) [] (λ k. seen g.machine c.ro
 
 -- ---- the difference
 
--- the text of a change; none where nothing changes
+-- the text of a change; none if nothing changes
 abbrev pub change_told : ℕ → List (List Cell × ℤ) → List Told
 change_told own [] = []
 change_told own rows = changed own rows ∷ []

@@ -28,7 +28,7 @@ drops c e = false
 abbrev pub as_told : Client → Client → Client
 as_told now c = record c { given = now.given; subs = now.subs; unsynced = now.unsynced; sendable = now.sendable; owed = now.owed }
 
--- a client stays, with its role, its token, its messages and what was handed to it; it is to go where the event drops it
+-- a client stays, with its role, its token, its messages and what was handed to it; it is to go if the event drops it
 pub record StaysItself (g : Gate) (e : Event) (m : ℕ) (c : Client) : Type 0 where
   pub now : Client
   pub there : client_at (next g e).clients m ≡ Some now
@@ -44,7 +44,7 @@ pub record AreTouched (g : Gate) (e : Event) : Type 0 where
   pub leaves : (m : ℕ) → e ≡ gone m → client_at (next g e).clients m ≡ None
   pub comes : (m : ℕ) (d : Client) → client_at g.clients m ≡ None → client_at (next g e).clients m ≡ Some d → IsNewcomer g e m d
 
--- who presents a token that opens a role which the machine knows comes in, where the number is free and a session is there for the role
+-- who presents a token that opens a role which the machine knows comes in, if the number is free and a session is there for the role
 abbrev pub LetsIn : Gate → Type 0
 LetsIn g = (m : ℕ) (token : List ℕ) (role : Name) → role_opened g.tokens (sha256 token) ≡ Some role
     → is_name role ≡ true → is_some (role_of g.machine.frame.rights role) ≡ true → is_free m g.clients ≡ true

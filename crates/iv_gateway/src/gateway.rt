@@ -60,7 +60,7 @@ impl Gateway {
     /// A gateway with no client, and places for as many, over an engine with nothing.
     ///
     /// # Errors
-    /// `AllocError` where a growth of memory was refused.
+    /// `AllocError` if a growth of memory was refused.
     pub fn new(
         alloc: Global,
         engine: Engine,

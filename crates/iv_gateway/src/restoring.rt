@@ -83,8 +83,8 @@ impl Gateway {
     /// was torn, which is to be cut off before anything happens.
     ///
     /// # Errors
-    /// `Damaged` with the place where the journal is no journal of this gateway; `Memory` where a growth of memory was refused; `Late`
-    /// where something waits for the journal, or the gateway was dead. The gateway is dead then.
+    /// `Damaged` with the place where the journal is no journal of this gateway; `Memory` if a growth of memory was refused; `Late`
+    /// if something waits for the journal, or the gateway was dead. The gateway is dead then.
     pub fn restore(&mut self, journal: &[u8]) -> Result<usize, RestoreFault>
         ensures restored { IfOk result (λ kept. (g : Gate) → IsGate g self.old → IsRestored g journal.now kept self.new) }
         ensures damaged { (place : ℕ) → result ≡ Err (RestoreFault.Damaged place) → (g : Gate) → IsGate g self.old → IsDamagedAt g journal.now place }

@@ -63,7 +63,7 @@ impl Hall {
     /// As many places with nobody.
     ///
     /// # Errors
-    /// `AllocError` where a growth of memory was refused, here and below.
+    /// `AllocError` if a growth of memory was refused, here and below.
     pub fn new(alloc: Global, most: u32) -> Result<Hall, AllocError>
         ensures { IfOk result (λ hall. hall ≡ replicate most None) }
     {

@@ -46,7 +46,7 @@ impl Numbers {
     /// None of as many numbers.
     ///
     /// # Errors
-    /// `AllocError` where a growth of memory was refused.
+    /// `AllocError` if a growth of memory was refused.
     pub(crate) fn new(alloc: Global, size: u32) -> Result<Numbers, AllocError>
         ensures { IfOk result (λ n. n ≡ record { list = []; size = size }) }
     {

@@ -65,7 +65,7 @@ impl Admins {
     /// Those among tokens.
     ///
     /// # Errors
-    /// `AllocError` where a growth of memory was refused.
+    /// `AllocError` if a growth of memory was refused.
     pub fn among(alloc: Global, tokens: &[Token]) -> Result<Admins, AllocError>
         ensures { IfOk result (λ a. a.tokens.items ≡ admins_among tokens.now) }
     {

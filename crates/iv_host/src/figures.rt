@@ -60,7 +60,7 @@ impl Now {
     /// Counts a client of a role.
     ///
     /// # Errors
-    /// `AllocError` where a growth of memory was refused.
+    /// `AllocError` if a growth of memory was refused.
     pub fn count(&mut self, role: &str) -> Result<(), AllocError>
         ensures { OnOk result (by_role self.new.roles.items ≡ one_more role.now (by_role self.old.roles.items)) }
     {
@@ -271,7 +271,7 @@ fn push_clients(out: &mut Vec<u8>, roles: &[(String, u64)]) -> Result<(), AllocE
 /// What the program tells of itself, as Prometheus reads it.
 ///
 /// # Errors
-/// `AllocError` where a growth of memory was refused.
+/// `AllocError` if a growth of memory was refused.
 pub fn figures_now(
     rt: &HostRuntime,
     counts: &Counts,

@@ -149,7 +149,7 @@ fn sync_folder(rt: &HostRuntime, path: &str) -> io::Result<()> {
     File::open(rt, folder)?.sync_all()
 }
 
-/// Puts a file with these bytes where there is none, whole or not at all.
+/// Puts a file with these bytes if there is none, whole or not at all.
 fn sow(rt: &HostRuntime, path: &str, bytes: &[u8]) -> io::Result<()> {
     let Ok(fresh) = format!(in rt.alloc(); "{path}.new") else {
         return Err(out_of_memory());
@@ -173,7 +173,7 @@ fn is_missing(rt: &HostRuntime, path: &str) -> bool {
     }
 }
 
-/// Puts the bytes of a seed where a journal is missing.
+/// Puts the bytes of a seed if a journal is missing.
 fn sow_seed(rt: &HostRuntime, path: &str, seed: Option<&str>) -> io::Result<()> {
     match seed {
         Some(seed) if is_missing(rt, path) => {
@@ -184,7 +184,7 @@ fn sow_seed(rt: &HostRuntime, path: &str, seed: Option<&str>) -> io::Result<()> 
     }
 }
 
-/// The microseconds since a moment; none where the system does not tell them.
+/// The microseconds since a moment; none if the system does not tell them.
 fn micros_since(rt: &HostRuntime, start: &io::Result<Instant>) -> u64 {
     let Ok(start) = start else {
         return 0;
@@ -251,10 +251,10 @@ pub struct JournalFile {
 }
 
 impl JournalFile {
-    /// Opens the file of a journal, and makes it where it is missing, with the bytes of a seed.
+    /// Opens the file of a journal, and makes it if it is missing, with the bytes of a seed.
     ///
     /// # Errors
-    /// `Taken` where another process writes it; `System` where the system refuses a step.
+    /// `Taken` if another process writes it; `System` if the system refuses a step.
     pub fn open(
         rt: &HostRuntime,
         path: &str,
@@ -290,7 +290,7 @@ impl JournalFile {
     /// not at all.
     ///
     /// # Errors
-    /// `NotEntries` where these are none; else as of `open`.
+    /// `NotEntries` if these are none; else as of `open`.
     pub fn renew(self, path: &str, kept: usize) -> Result<JournalFile, OpenFault> {
         let rt = self.rt;
         let digits = random_digits(&rt)?;
@@ -310,7 +310,7 @@ impl JournalFile {
     /// synced.
     ///
     /// # Errors
-    /// `System` where the system refuses a step.
+    /// `System` if the system refuses a step.
     pub fn begin(self, audit: &Audit) -> Result<FileJournal, OpenFault> {
         let digits = random_digits(&self.rt)?;
         let journal = DiskJournal::begin(&self.rt, self.file, self.lock, audit, &digits)?;
@@ -393,7 +393,7 @@ impl<D: Disk + Drop> Journal for DiskJournal<D> {
     ghost kept = { λ j. given_to (D.held j.keeper.disk) };
 
     /// Each entry is written with the second, and with who held the token by which it was made. Nothing is to stay of what could not be written
-    /// whole. Where that fails too, the next start cuts what is torn.
+    /// whole. If that fails too, the next start cuts what is torn.
     fn append(&mut self, bytes: &[u8]) -> Result<(), JournalFault>
         ensures appended { OnOk result (Appends (given_to (D.held self.old.keeper.disk)) (given_to (D.held self.new.keeper.disk)) bytes.now) }
         ensures torn { OnErr result ((n : ℕ) × Appends (given_to (D.held self.old.keeper.disk)) (given_to (D.held self.new.keeper.disk)) (take n bytes.now)) }

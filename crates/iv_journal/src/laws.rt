@@ -11,7 +11,7 @@ pub fn bytes_have_one_reading()
 {}
 
 /// A reading tells all bytes: these are its lines, parts of a record that has no last line, and a rest. Without a fault the rest is a torn line;
-/// else the fault is at the byte where, behind these lines and parts, neither a line nor a torn one begins, or at 0 where the first line has no head.
+/// else the fault is at the byte where, behind these lines and parts, neither a line nor a torn one begins, or at 0 if the first line has no head.
 pub fn readings_tell_all_bytes()
     ensures { (bytes : List ℕ) (r : Reading) → IsReading bytes r → IsTold bytes r }
 {}

@@ -154,7 +154,7 @@ fn reading_of<'a>(mut lines: Vec<Line<'a>>, rest: &[u8], at: &End, end: &End) ->
 /// Reads bytes as a journal.
 ///
 /// # Errors
-/// Where a growth of memory was refused.
+/// If a growth of memory was refused.
 pub fn read_journal(alloc: Global, bytes: &[u8]) -> Result<Reading<'_>, AllocError>
     ensures reading { IfOk result (λ r. IsReading bytes.now (record { lines = r.lines.items; fault = r.fault })) }
     ensures end { IfOk result (λ r. AreEnded r.lines.items r.end) }

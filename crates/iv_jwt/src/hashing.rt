@@ -17,7 +17,7 @@ fn padded(text: &[u8]) -> [u8; 64]
     block
 }
 
-/// The block of a key, which is hashed first where it is longer.
+/// The block of a key, which is hashed first if it is longer.
 fn key_block(key: &[u8]) -> [u8; 64]
     ensures { result ≡ key_block key.now }
 {

@@ -32,7 +32,7 @@ pub record Heard : Type 0 where
 abbrev pub behind : List Reading → Heard → Heard
 behind rs h = record { readings = rs ++ h.readings; end = h.end; rest = h.rest }
 
--- what the cut gives, where `more` hears what is behind the line
+-- what the cut gives, if `more` hears what is behind the line
 abbrev pub heard_cut : (List ℕ → Heard) → Cut → Heard
 heard_cut more nothing = record { readings = []; end = Input; rest = [] }
 heard_cut more endless = record { readings = too_long ∷ []; end = TooLong; rest = [] }

@@ -17,7 +17,7 @@ pub record ReadsAt (P : Moment → Type 0) (old new : List Moment) : Type 0 wher
   pub behind : new ≡ old ++ more
   pub each : AllByRecursion P more
 
--- these bytes are left, where they are known, and these are taken
+-- these bytes are left, if they are known, and these are taken
 abbrev pub IsMoment : (left taken : Option (List ℕ)) → Bool → Moment → Type 0
 IsMoment left taken flushed m = Keeps left m.left × (m.taken ≡ taken) × (m.flushed ≡ flushed)
 

@@ -44,7 +44,7 @@ impl Room {
         }
     }
 
-    /// Reads bytes ahead, where all that were ahead have been taken.
+    /// Reads bytes ahead, if all that were ahead have been taken.
     #[tactic(auto, using(crate::proofs::Ahead::ahead_empty))]
     fn refill<R: Source, W: Sink>(&mut self, reader: &mut R, writer: &W) -> Result<(), EndFault>
         requires { self.old.at ≡ self.old.filled }
@@ -62,7 +62,7 @@ impl Room {
         Ok(())
     }
 
-    /// Reads bytes ahead, unless some are ahead. Nothing is ahead then only where no byte is left.
+    /// Reads bytes ahead, unless some are ahead. Nothing is ahead then only if no byte is left.
     pub(crate) fn fill<R: Source, W: Sink>(
         &mut self,
         reader: &mut R,

@@ -4,7 +4,7 @@
 //! writer is called, so no contract over `Read` and `Write` can: what calls twice meets whatever one call meets. Of the
 //! three one-line calls here tests show it, by ends that count their calls and fail once at each in turn (a write or a
 //! flush tried again, a flush that does nothing, a read of no bytes before each read fail there). Everything above them
-//! is refused by the prover where it calls twice, swallows an error or leaves a flush out. A token that each call uses
+//! is refused by the prover if it calls twice, swallows an error or leaves a flush out. A token that each call uses
 //! up would change nothing: whoever holds it can call twice behind it.
 ghost use Rattle.std.specs.Prelude.{◌≡◌, ◌≤◌, ◌+◌, ◌||◌, true, false, length, IfOk, OnOk, is_err};
 ghost use Rattle.std.specs.Io.KnownBytes.{Keeps, ReadConsumes, WriteAppends};

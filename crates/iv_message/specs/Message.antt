@@ -49,7 +49,7 @@ id_in (string s) = if nat_le (length s) 64 then Some (string s) else None
 id_in (array ds) = None
 id_in (object ms) = None
 
--- what is given back in the reply: nothing where no id is there, or the value is none
+-- what is given back in the reply: nothing if no id is there, or the value is none
 abbrev pub id_of : Data → Option Data
 id_of d = option_and_then id_in (get (codes "id") d)
 
@@ -77,7 +77,7 @@ using_fits command using = if has_texts command using None then true else has_te
 abbrev pub check_fits : PolicyCommand → Option (List ℕ) → Bool
 check_fits command check = if has_texts command None check then true else has_texts command (Some []) check
 
--- a text that may be left out goes with the command; where the command is wrong itself, any text does
+-- a text that may be left out goes with the command; if the command is wrong itself, any text does
 abbrev pub goes_with : (PolicyCommand → Option (List ℕ) → Bool) → Option PolicyCommand → Option (Option (List ℕ)) → Bool
 goes_with fits command None = false
 goes_with fits None (Some text) = true
@@ -145,7 +145,7 @@ unknown_key f d = option_and_then (first_failing (is_among (keys_of f))) (as_obj
 abbrev pub unknown_in : Form → Data → Option Why
 unknown_in f d = option_map unknown (unknown_key f d)
 
--- the number of the first item that is no entry, where the first item has number n
+-- the number of the first item that is no entry, if the first item has number n
 abbrev pub first_wrong : ℕ → Items → Option ℕ
 first_wrong n no_items = None
 first_wrong n (item d ds) = if is_some (entry_of d) then first_wrong (suc n) ds else Some n
@@ -153,7 +153,7 @@ first_wrong n (item d ds) = if is_some (entry_of d) then first_wrong (suc n) ds 
 abbrev pub wrong_entry : List ℕ → Data → Option ℕ
 wrong_entry key d = if bytes_eq key (codes "entries") then option_and_then (first_wrong 1) (option_and_then as_array (get key d)) else None
 
--- a value fails, in the order of the form; a law says that one does exactly where there is no act
+-- a value fails, in the order of the form; a law says that one does exactly if there is no act
 abbrev pub wrong_key : Form → Data → List ℕ
 wrong_key f d = unwrap_or (find (λ key. not (passes f.word key d)) (f.required ++ f.optional)) (codes "do")
 

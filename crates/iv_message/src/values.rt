@@ -205,7 +205,7 @@ fn first_wrong(alloc: Global, items: &[Json<'_>]) -> Result<Option<usize>, Alloc
     Ok(None)
 }
 
-/// The number of the first entry that is none, where the value at `entries` is wrong.
+/// The number of the first entry that is none, if the value at `entries` is wrong.
 pub fn wrong_entry(alloc: Global, key: &str, value: &Json<'_>) -> Result<Option<usize>, AllocError>
     ensures { IfOk result (λ found. found ≡ wrong_entry key.now (value_data value.now)) }
 {

@@ -1,4 +1,4 @@
--- What happens where requests have names, over any machine: crashes, restarts, compaction and copies among it.
+-- What happens if requests have names, over any machine: crashes, restarts, compaction and copies among it.
 use Rattle.std.specs.Prelude.{ℕ, not, Bool, if◌then◌else◌, List, [], ◌∷◌, ◌++◌, take, drop, bytes_eq, Option, None, option_map}
 use Rattle.std.specs.List.{list_any}
 use Rattle.iv_once.specs.Names.{Limits, Ask, Entry, named, plain, renewed, Journal, Known, Names, Verdict, carry, again, another, late, foreign, ahead, over, blamed, followed, spent_more, verdict, with_epoch}

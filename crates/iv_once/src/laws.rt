@@ -50,7 +50,7 @@ pub fn what_is_kept_survives()
 {}
 
 /// Whatever happens: entries that were refused, and new epochs, are no more of a holder than are allowed until they are forgiven; and no more
-/// holders have names than may. Only who is to blame for as many as are allowed is told 104, or where as many holders have names as may.
+/// holders have names than may. Only who is to blame for as many as are allowed is told 104, or if as many holders have names as may.
 pub fn names_are_bounded()
     ensures refusals { (l : Limits) (epoch : List ℕ) (es : List Event) (holder : List ℕ) → blames holder (history (run l epoch es)) ≤ l.refusals * (1 + forgiveness es) }
     ensures holders { (l : Limits) (epoch : List ℕ) (es : List Event) → (known l (run l epoch es)).holders ≤ l.holders }

@@ -46,7 +46,7 @@ impl Names {
     /// The names of a journal with no entry, in an epoch: 128 random bits that nobody drew before.
     ///
     /// # Errors
-    /// `AllocError` where a growth of memory was refused.
+    /// `AllocError` if a growth of memory was refused.
     pub fn new(alloc: Global, limits: Limits, epoch: &str) -> Result<Names, AllocError>
         ensures { IfOk result (λ n. names_of n ≡ record { limits = limits_of limits; known = nothing_known epoch.now; spent = unspent }) }
     {
@@ -140,7 +140,7 @@ impl Names {
     /// holders there are.
     ///
     /// # Errors
-    /// `AllocError` where a growth of memory was refused.
+    /// `AllocError` if a growth of memory was refused.
     pub fn verdict(&self, ask: &Ask) -> Result<Verdict, AllocError>
         ensures { IfOk result (λ v. verdict_of v ≡ verdict (names_of self.now) ask.now) }
     {
@@ -160,7 +160,7 @@ impl Names {
     /// The entry of a request with a name joins the journal, or is read from it.
     ///
     /// # Errors
-    /// `AllocError` where a growth of memory was refused: the names are to be let go then.
+    /// `AllocError` if a growth of memory was refused: the names are to be let go then.
     pub fn push(&mut self, entry: Named) -> Result<(), AllocError>
         ensures { OnOk result (names_of self.new ≡ pushed (names_of self.old) (named entry)) }
     {

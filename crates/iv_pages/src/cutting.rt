@@ -14,7 +14,7 @@ pub fn cut_at(bytes: &[u8], byte: u8) -> Option<(&[u8], &[u8])>
     None
 }
 
-/// What stands before the first such byte: all, where there is none.
+/// What stands before the first such byte: all, if there is none.
 pub fn before(bytes: &[u8], byte: u8) -> &[u8]
     ensures { result.now ≡ before byte bytes.now }
 {

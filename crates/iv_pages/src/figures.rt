@@ -153,7 +153,7 @@ fn push_heading(out: &mut Vec<u8>, metric: &Metric<'_>, kind: &[u8]) -> Result<(
 /// Appends the line of one more figure of a name, behind a counter's or a gauge's, by other labels.
 ///
 /// # Errors
-/// `AllocError` where a growth of memory was refused, as of each function here; what was appended then is not to be sent.
+/// `AllocError` if a growth of memory was refused, as of each function here; what was appended then is not to be sent.
 pub fn push_sample(
     out: &mut Vec<u8>,
     name: &str,

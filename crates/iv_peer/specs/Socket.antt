@@ -172,6 +172,6 @@ closed code words s = if is_open s then telling (answer (close_of code words)) (
 
 -- ---- what is sent
 
--- the first n bytes that were offered are sent, where as many are to be sent
+-- the first n bytes that were offered are sent, if as many are to be sent
 abbrev pub passing : ℕ → Socket → Socket
 passing n s = if nat_le n (length s.output) then record s { output = drop n s.output; sent = s.sent ++ take n s.output } else s

@@ -158,7 +158,7 @@ impl Peer {
     /// Takes in bytes that were read.
     ///
     /// # Errors
-    /// `AllocError` where a growth of memory was refused. The peer is not to be used any more, as behind each of its errors.
+    /// `AllocError` if a growth of memory was refused. The peer is not to be used any more, as behind each of its errors.
     pub fn take(&mut self, bytes: &[u8]) -> Result<(), AllocError>
         ensures { OnOk result (self.new ≡ forget (took bytes.now self.old)) }
     {
@@ -342,7 +342,7 @@ impl Peer {
         self.over
     }
 
-    /// Tells a text in one frame, where the connection is open; else nothing.
+    /// Tells a text in one frame, if the connection is open; else nothing.
     ///
     /// # Errors
     /// As of `take`.
@@ -360,7 +360,7 @@ impl Peer {
         Ok(())
     }
 
-    /// Closes the connection by a code and words that tell why, where it is open. Nothing more is heard or told.
+    /// Closes the connection by a code and words that tell why, if it is open. Nothing more is heard or told.
     ///
     /// # Errors
     /// As of `take`.
@@ -394,7 +394,7 @@ impl Peer {
         &self.output
     }
 
-    /// The first bytes of what was pending were sent, where as many were pending.
+    /// The first bytes of what was pending were sent, if as many were pending.
     pub fn pass(&mut self, count: usize)
         ensures { self.new ≡ forget (passing count self.old) }
     {

@@ -3,9 +3,9 @@
 //! A failed engine is answered before an accept, which a test shows: no contract of a listener tells its accepts, nor
 //! where it listens. What is done with a connection has its contract in `answer_connection`. Behind it the engine is asked
 //! whether it failed: a read or a write that fails ends the connection alone, so a network fault comes from an accept. An
-//! accept that fails ends the program, also where another try might do; std's accept tries again after a signal.
+//! accept that fails ends the program, also if another try might do; std's accept tries again after a signal.
 //!
-//! Each answer is one write, so `TCP_NODELAY` is set; where it can't be, answers may come later and are the same. Tests
+//! Each answer is one write, so `TCP_NODELAY` is set; if it can't be, answers may come later and are the same. Tests
 //! (`.ci/socket`) have connections of which no option can be set, one that is reset before it is accepted, and one to
 //! another address of the host, which is refused. The engine is made before the port is taken, so want of memory there
 //! leaves no line `listening on ..`, which is written by the same kind of end as answers: its text and its faults are in a
@@ -46,8 +46,8 @@ pub enum ServeFault {
 /// fails ends, and the next one is served.
 ///
 /// # Errors
-/// `Failed` exactly where the engine had failed: no connection is accepted then. `Network` where a connection could not
-/// be accepted; `Memory` where a growth of memory was refused: the engine has failed then.
+/// `Failed` exactly if the engine had failed: no connection is accepted then. `Network` if a connection could not
+/// be accepted; `Memory` if a growth of memory was refused: the engine has failed then.
 pub fn serve_on(
     alloc: Global,
     engine: &mut Engine,
@@ -75,7 +75,7 @@ pub fn serve_on(
         let _ = stream.set_nodelay(true);
         let mut reader = FromRead::new(&stream);
         let mut writer = FromWrite::new(&stream);
-        // where its read or write fails, the connection ends, and the next one is served
+        // if its read or write fails, the connection ends, and the next one is served
         let _ = answer_connection(alloc, engine, &mut reader, &mut writer, lines);
         if engine.is_failed() {
             return Err(ServeFault::Memory);
@@ -114,8 +114,8 @@ fn tell_port<W: Sink>(alloc: Global, writer: &mut W, port: u16) -> Result<(), Fa
 /// failed, with at most `lines` lines of each.
 ///
 /// # Errors
-/// `Network` where the port could not be listened on, or a connection not be accepted; `Write` where the writer failed;
-/// `Memory` where a growth of memory was refused.
+/// `Network` if the port could not be listened on, or a connection not be accepted; `Write` if the writer failed;
+/// `Memory` if a growth of memory was refused.
 fn serve_through<W: Sink>(
     rt: &HostRuntime,
     engine: &mut Engine,
@@ -146,8 +146,8 @@ fn serve_through<W: Sink>(
 /// most `lines` lines of each, and at most `rows` different rows in each table and node. Rows are hashed under the seed.
 ///
 /// # Errors
-/// `Network` where the port could not be listened on, or a connection not be accepted; `Write` where the writer failed;
-/// `Memory` where a growth of memory was refused.
+/// `Network` if the port could not be listened on, or a connection not be accepted; `Write` if the writer failed;
+/// `Memory` if a growth of memory was refused.
 pub fn serve<W: Sink>(
     rt: &HostRuntime,
     seed: Seed,

@@ -69,7 +69,7 @@ pub data Reads (d : Dialect) : Part → ℕ → List Tok → PredTree → List T
   not_is : {room p : ℕ} {ts us : List Tok} {a : PredTree} → Reads d term room ts a us → Reads d term (suc room) (Fixed Not p ∷ ts) (Negation a) us
   -- term = "(" pred ")"
   group_is : {room p q : ℕ} {ts us : List Tok} {a : PredTree} → Reads d pred room ts a (Fixed Close q ∷ us) → Reads d term (suc room) (Fixed Open p ∷ ts) a us
-  -- term = "true" and term = "false", where no comparison sign follows
+  -- term = "true" and term = "false", if no comparison sign follows
   holds_is : {room p : ℕ} {ts : List Tok} → after_op ts ≡ None → Reads d term room (Fixed True p ∷ ts) (Constant true) ts
   fails_is : {room p : ℕ} {ts : List Tok} → after_op ts ≡ None → Reads d term room (Fixed False p ∷ ts) (Constant false) ts
   -- term = operand op operand

@@ -93,7 +93,7 @@ term_at d stop (suc room) ts =
     (λ us. pred_at (term_at d stop room) us >>= λ x. need symbol.Close stop x.1 >>= λ vs. Ok (x.0, vs)))
     (λ us. term_at d stop room us >>= λ x. Ok (Negation x.0, x.1))
 
--- after a whole text: nothing, where the text ends there
+-- after a whole text: nothing, if the text ends there
 unfoldable pub end_at : Fault → Bool → List Tok → Result (Unit {0}) Fault
 end_at stop true [] = Ok tt
 end_at stop false [] = Err stop

@@ -49,7 +49,7 @@ is_symbol s (Name n p) = false
 is_symbol s (Number n p) = false
 is_symbol s (Quoted v p) = false
 
--- what stands behind the symbol, where it comes first
+-- what stands behind the symbol, if it comes first
 unfoldable pub after_symbol : Symbol → List Tok → Option (List Tok)
 after_symbol s [] = None
 after_symbol s (t ∷ ts) = if is_symbol s t then Some ts else None

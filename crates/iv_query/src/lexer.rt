@@ -1,7 +1,7 @@
 //! `lexed`: from the bytes of a text to its tokens: words, numbers, quoted texts and signs.
 //!
-//! A letter is A to Z, a to z or an underscore, also where a number must have none behind it. A text without its closing quote is
-//! one fault at its first quote, also where a shorter text could be cut from it.
+//! A letter is A to Z, a to z or an underscore, also if a number must have none behind it. A text without its closing quote is
+//! one fault at its first quote, also if a shorter text could be cut from it.
 
 ghost use Rattle.std.specs.Prelude.{◌≡◌, ◌==◌, ◌<◌, ◌∷◌, length, drop, slice_index, IfOk, IsTrue, option_map, string_bytes};
 ghost use Rattle.std.specs.Char.{is_ascii_digit};
@@ -119,7 +119,7 @@ fn behind_two(text: &str) -> &str
     &text[2..]
 }
 
-/// The word in front of a text, as a token in lower case; nothing where the word is too long.
+/// The word in front of a text, as a token in lower case; nothing if the word is too long.
 #[tactic(auto, unfolding(crate::specs::Lexing::word_at))]
 fn word(alloc: Global, text: &str) -> Result<Front<'_>, AllocError>
     ensures { IfOk result (λ f. ahead_of f ≡ word_at text.now) }
@@ -134,7 +134,7 @@ fn word(alloc: Global, text: &str) -> Result<Front<'_>, AllocError>
     Ok(Front::Token(word_lexeme(word), rest))
 }
 
-/// The sign in front of a text, as a token; nothing where no sign stands there.
+/// The sign in front of a text, as a token; nothing if no sign stands there.
 #[tactic(auto, unfolding(crate::specs::Lexing::sign_at))]
 fn sign(text: &str) -> Front<'_>
     ensures { ahead_of result ≡ sign_at text.now }
@@ -190,7 +190,7 @@ fn number(text: &str) -> Front<'_>
     }
 }
 
-/// The token of a number with a minus, where `behind` stands behind the minus.
+/// The token of a number with a minus, if `behind` stands behind the minus.
 #[tactic(auto, unfolding(crate::specs::Lexing::negative_at))]
 fn negative<'a>(text: &'a str, behind: &str) -> Front<'a>
     requires whole { text.now ≡ 45 ∷ behind.now }
@@ -245,7 +245,7 @@ fn quoted(alloc: Global, text: &str) -> Result<Option<(String, &str)>, AllocErro
     }
 }
 
-/// The token of a quoted text, where `text` begins behind its first quote.
+/// The token of a quoted text, if `text` begins behind its first quote.
 #[tactic(auto, unfolding(crate::specs::Lexing::text_at))]
 fn text_front(alloc: Global, text: &str) -> Result<Front<'_>, AllocError>
     ensures { IfOk result (λ f. ahead_of f ≡ text_at text.now) }

@@ -83,7 +83,7 @@ fn long(place: usize) -> QueryFault
     }
 }
 
-/// Reads a source of a query, and its alias if it has one, where `left` may still be named.
+/// Reads a source of a query, and its alias if it has one, if `left` may still be named.
 #[tactic(auto, unfolding(crate::specs::QueryReading::source_at))]
 fn source(
     alloc: Global,
@@ -125,7 +125,7 @@ impl Listed for Pair {
     }
 }
 
-/// A join without the word `inner`: its source and its pairs, where `left` sources may still be named.
+/// A join without the word `inner`: its source and its pairs, if `left` sources may still be named.
 #[tactic(auto, unfolding(crate::specs::QueryReading::plain_join_at))]
 fn plain_join(
     alloc: Global,
@@ -142,7 +142,7 @@ fn plain_join(
     Ok((Join { source, on }, rest))
 }
 
-/// A join with or without the word `inner`, where `left` sources may still be named.
+/// A join with or without the word `inner`, if `left` sources may still be named.
 #[tactic(auto, unfolding(crate::specs::QueryReading::join_at))]
 fn join(
     alloc: Global,
@@ -165,7 +165,7 @@ fn starts_join(tokens: &[Token]) -> bool
     }
 }
 
-/// Reads the joins behind the first source, where `left` sources may still be named.
+/// Reads the joins behind the first source, if `left` sources may still be named.
 #[tactic(auto, unfolding(crate::specs::QueryReading::joins_at))]
 fn joins(
     alloc: Global,
@@ -294,7 +294,7 @@ impl Listed for Column {
     }
 }
 
-/// The columns of a select's group behind `group by`, and none where the word `group` does not come first.
+/// The columns of a select's group behind `group by`, and none if the word `group` does not come first.
 #[tactic(auto, unfolding(crate::specs::QueryReading::group_at))]
 fn group(
     alloc: Global,
@@ -345,7 +345,7 @@ fn head(
     Ok((first_place(tokens, stop), distinct, columns, rest))
 }
 
-/// The word `from`, the first source and the joins, where `left` sources may still be named.
+/// The word `from`, the first source and the joins, if `left` sources may still be named.
 #[tactic(auto, unfolding(crate::specs::QueryReading::from_at))]
 fn sources(
     alloc: Global,
@@ -380,7 +380,7 @@ fn tail(
     }
 }
 
-/// Reads a select, where `left` sources may still be named.
+/// Reads a select, if `left` sources may still be named.
 #[tactic(auto, unfolding(crate::specs::QueryReading::select_at, crate::specs::QueryReading::tail_at))]
 fn select(
     alloc: Global,
@@ -445,7 +445,7 @@ fn set_op(tokens: &[Token], stop: Fault) -> Result<(SetOp, &[Token]), QueryFault
     Ok((SetOp::Except, rest))
 }
 
-/// Reads a set operation and its right select, where `left` sources may still be named.
+/// Reads a set operation and its right select, if `left` sources may still be named.
 #[tactic(auto, unfolding(crate::specs::QueryReading::next_at))]
 fn next(
     alloc: Global,

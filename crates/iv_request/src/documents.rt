@@ -50,7 +50,7 @@ fn few_digits(bytes: &[u8]) -> Option<u64>
     Some(number)
 }
 
-/// The JSON number that is the nearest float to a numeral, where that float is finite.
+/// The JSON number that is the nearest float to a numeral, if that float is finite.
 fn float_of(negative: bool, numeral: &Numeral<'_>) -> Option<Number>
     ensures { option_map number_view result ≡ float_of negative numeral.now }
 {
@@ -105,7 +105,7 @@ fn scanned(bytes: &[u8]) -> Option<Number>
     }
 }
 
-/// The number that a text of JSON's grammar is: a whole one of 64 bits, or the nearest float where that is finite.
+/// The number that a text of JSON's grammar is: a whole one of 64 bits, or the nearest float if that is finite.
 #[tactic(auto, using(crate::proofs::Digits::unsigned_is))]
 #[inline]
 pub fn number_of(text: &str) -> Option<Number>

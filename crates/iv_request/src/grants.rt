@@ -74,7 +74,7 @@ pub fn privileges_at(alloc: Global, value: &Json<'_>) -> Result<Option<Vec<Privi
     }
 }
 
-/// The grantee that a word of a request names: a role, or none where it stands for PUBLIC.
+/// The grantee that a word of a request names: a role, or none if it stands for PUBLIC.
 pub fn grantee_named(alloc: Global, word: &str) -> Result<Option<Option<String>>, AllocError>
     ensures { IfOk result (λ found. option_map (λ to. option_map string_bytes to) found ≡ grantee_named word.now) }
 {
@@ -87,7 +87,7 @@ pub fn grantee_named(alloc: Global, word: &str) -> Result<Option<Option<String>>
     Ok(Some(Some(String::from_str(alloc, word)?)))
 }
 
-/// The grantee of a grant or a revoke, from a JSON value: a role, or none where it is PUBLIC.
+/// The grantee of a grant or a revoke, from a JSON value: a role, or none if it is PUBLIC.
 pub fn grantee_at(alloc: Global, value: &Json<'_>) -> Result<Option<Option<String>>, AllocError>
     ensures { IfOk result (λ found. option_map (λ to. option_map string_bytes to) found ≡ grantee_at (value_data value.now)) }
 {

@@ -13,7 +13,7 @@ use std::alloc::{AllocError, Global};
 /// The greatest number that is read: a signed one of 64 bits.
 const MOST: u64 = 9_223_372_036_854_775_807;
 
-/// How many items a JSON value has as a list, and 0 where it is none.
+/// How many items a JSON value has as a list, and 0 if it is none.
 pub fn count(value: &Json<'_>) -> usize
     ensures { result ≡ count (value_data value.now) }
 {

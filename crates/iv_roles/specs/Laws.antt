@@ -10,6 +10,6 @@ FollowsChains = (ms : List Membership) (role other : ℕ) → Decides (reaches m
 abbrev pub ReachAlongChains : Type 0
 ReachAlongChains = (n role other : ℕ) → role ≤ n → reaches (chain_of n) role other ≡ nat_le other role
 
--- the roles that it reaches are the same where it reaches `role` as it did before
+-- the roles that it reaches are the same if it reaches `role` as it did before
 abbrev pub StaysUnless : List Membership → List Membership → ℕ → Type 0
 StaysUnless before after role = (a : ℕ) → reaches after a role ≡ reaches before a role → (b : ℕ) → reaches after a b ≡ reaches before a b

@@ -1,6 +1,6 @@
 //! `Memberships`: which roles are direct members of which, and which roles each reaches, as rows of flags (`flag_at`).
 //!
-//! There are rows for the roles up to the highest that a membership ever named, and none where there was no
+//! There are rows for the roles up to the highest that a membership ever named, and none if there was no
 //! membership. `grant_role` sets flags once there is room for them, so want of memory changes no right; `revoke_role`
 //! clears the flags, sets those of the memberships that are left, and takes no memory.
 //!
@@ -100,7 +100,7 @@ fn join(row: &mut [bool; 256], other: &[bool; 256], role: usize)
     row[role] = true;
 }
 
-/// Where the row is that of the member, or of a role that reaches it, joins the role's row to it.
+/// If the row is that of the member, or of a role that reaches it, joins the role's row to it.
 fn pass_on(row: &mut [bool; 256], place: usize, member: usize, other: &[bool; 256], role: usize)
     requires { role < 256 }
     ensures { (k : ℕ) → get_or row.new k false ≡ (get_or row.old k false || ((place == member || get_or row.old member false) && (role == k || get_or other.now k false))) }
@@ -203,7 +203,7 @@ impl Memberships {
     /// Makes the member a direct member of the role. After an error nothing has changed.
     ///
     /// # Errors
-    /// `AllocError` where a growth of memory was refused.
+    /// `AllocError` if a growth of memory was refused.
     pub fn add(&mut self, role: RoleId, member: RoleId) -> Result<(), AllocError>
         requires role { role.0 < 256 }
         requires member { member.0 < 256 }

@@ -41,7 +41,7 @@ impl Row {
     /// The row of these values.
     ///
     /// # Errors
-    /// `AllocError` where a growth of memory was refused.
+    /// `AllocError` if a growth of memory was refused.
     pub fn new(values: Vec<Value>) -> Result<Row, AllocError>
         ensures { IfOk result (λ row. row ≡ cells_of values.items) }
     {
@@ -65,7 +65,7 @@ impl Row {
     /// An equal row, which shares the values. It takes no memory.
     ///
     /// # Errors
-    /// `AllocError` where a row has as many copies as can be counted.
+    /// `AllocError` if a row has as many copies as can be counted.
     pub fn copy(&self) -> Result<Row, AllocError>
         ensures { IfOk result (λ row. row ≡ self.now) }
     {
@@ -75,7 +75,7 @@ impl Row {
     /// Values equal to the row's, in memory of the same allocator, with room for so many more.
     ///
     /// # Errors
-    /// `AllocError` where a growth of memory was refused.
+    /// `AllocError` if a growth of memory was refused.
     pub fn copied_values(&self, more: usize) -> Result<Vec<Value>, AllocError>
         ensures { IfOk result (λ values. cells_of values.items ≡ self.now) }
     {

@@ -36,7 +36,7 @@ impl Value {
     /// An equal value, in memory of the same allocator.
     ///
     /// # Errors
-    /// `AllocError` where a growth of memory was refused.
+    /// `AllocError` if a growth of memory was refused.
     pub fn copy(&self) -> Result<Value, AllocError>
         ensures { IfOk result (λ value. cell_of value ≡ cell_of self.now) }
     {

@@ -64,7 +64,7 @@ NothingIsTold = (s : State) → IsSoundState s → stepped [] s ≡ Some (record
 
 -- ---- facts decide
 
--- a step is taken where each fact is accepted with nobody there: who reads, and how many sessions there are, refuses none
+-- a step is taken if each fact is accepted with nobody there: who reads, and how many sessions there are, refuses none
 abbrev pub FactsDecide : Type 0
 FactsDecide = (facts : List Fact) (s : State) → is_some (stepped facts s) ≡ is_some (all_carried facts (shared s))
 

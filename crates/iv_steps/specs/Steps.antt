@@ -1,4 +1,4 @@
--- A step: what others decided, taken at once. It is carried out where nobody is; then each who reads is looked at, in the state behind it.
+-- A step: what others decided, taken at once. It is carried out if nobody is; then each who reads is looked at, in the state behind it.
 use Rattle.std.specs.Prelude.{ℕ, ◌+◌, ◌&&◌, not, Bool, true, false, List, [], ◌∷◌, filter, flat_map, if◌then◌else◌, Option, Some, None, is_some, option_and_then, option_map}
 use Rattle.iv_rows.specs.Names.{is_name}
 use Rattle.iv_access.specs.Rights.{Name}
@@ -50,7 +50,7 @@ abbrev pub looked_at : State → State → Outcome
 looked_at old now = let left = record now { frame = record now.frame { subscriptions = filter (λ e. not (is_some (ending now e))) now.frame.subscriptions } } in
     record { state = left; lines = flat_map (line_for old left (ending now)) now.frame.subscriptions }
 
--- the step; none where a fact is refused
+-- the step; none if a fact is refused
 abbrev pub stepped : List Fact → State → Option Outcome
 stepped fs s = option_map (λ t. looked_at s (among s t)) (all_carried fs (shared s))
 

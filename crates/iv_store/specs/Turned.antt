@@ -1,4 +1,4 @@
--- What readers see more and less where rights change, and which subscriptions end.
+-- What readers see more and less if rights change, and which subscriptions end.
 use Rattle.std.specs.Prelude.{◌≡◌, ℕ, ◌<◌, ◌≤◌, Bool, cond, true, false, not, List, [], ◌∷◌, ◌++◌, filter, flat_map, get_or, length, map, Option, None, Some, IfSome, is_some}
 use Rattle.iv_access.specs.Rights.{Rights}
 use Rattle.std.specs.List.{AllByRecursion}
@@ -114,7 +114,7 @@ IsRebuilt e role rel before code.Beyond = IsBeyond e role (plan_at e.catalog rel
 
 -- ---- lines
 
--- why the subscriptions that read it end; none where they stay open
+-- why the subscriptions that read it end; none if they stay open
 abbrev pub cause_of : Turn → Option Cause
 cause_of Same = None
 cause_of (Anew c rows) = None

@@ -115,7 +115,7 @@ impl Store {
         count_of(&self.subscriptions, session) >= MOST_SUBSCRIPTIONS || self.last >= LAST_NUMBER
     }
 
-    /// The relation of the name, where all tests of a subscription to it pass that look at no row.
+    /// The relation of the name, if all tests of a subscription to it pass that look at no row.
     fn check_subscribe(&self, session: u32, rel: &str) -> Result<RelId, Stop>
         requires { IsStored self.now }
         ensures { MayOpen self.now session rel.now result }

@@ -23,7 +23,7 @@ fn note(alloc: Global, seen: &mut BTreeSet<Vec<u8>>, digest: &[u8]) -> Result<bo
 /// Whether no digest stands twice.
 ///
 /// # Errors
-/// `AllocError` where a growth of memory was refused.
+/// `AllocError` if a growth of memory was refused.
 fn are_apart(alloc: Global, entries: &[Entry]) -> Result<bool, AllocError>
     ensures { IfOk result (λ is. is ≡ are_apart (tokens_among entries.now)) }
 {
@@ -40,8 +40,8 @@ fn are_apart(alloc: Global, entries: &[Entry]) -> Result<bool, AllocError>
 /// The entries of a file, which may have none.
 ///
 /// # Errors
-/// `Memory` where a growth of memory was refused; `Line` with the first line that is no token, no remark and not the table's name;
-/// `Twice` where a digest stands twice.
+/// `Memory` if a growth of memory was refused; `Line` with the first line that is no token, no remark and not the table's name;
+/// `Twice` if a digest stands twice.
 pub fn read_entries(alloc: Global, file: &[u8]) -> Result<Vec<Entry>, TokensFault>
     ensures entries { IfOk result (λ es. entries_in file.now ≡ Some es.items) }
     ensures none { (why : TokensFault) → result ≡ Err why → (why ≡ TokensFault.Memory) ⊎ (entries_in file.now ≡ None) }

@@ -47,7 +47,7 @@ Ends s bytes r (Err Write) = (k : ℕ) × (k < r.lines) × StopsWriting s bytes 
 Ends s bytes r (Err Memory) = (k : ℕ) × (k < r.lines) × HasAnswered s bytes k r
 Ends s bytes r (Err Failed) = ⊤
 
--- where the reader tells the bytes that it has left
+-- if the reader tells the bytes that it has left
 abbrev pub Answers : State → Option (List ℕ) → Run → Result End RunFault → Type 0
 Answers s None r result = ⊤
 Answers s (Some bytes) r result = Ends s bytes r result

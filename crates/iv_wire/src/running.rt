@@ -148,8 +148,8 @@ fn run_lines<R: Source, W: Sink>(
 /// and flushed before the next line is read.
 ///
 /// # Errors
-/// `Read` and `Write` where the reader or the writer failed; `Memory` where a growth of memory was refused: the engine
-/// has failed then; `Failed` exactly where it had failed before.
+/// `Read` and `Write` if the reader or the writer failed; `Memory` if a growth of memory was refused: the engine
+/// has failed then; `Failed` exactly if it had failed before.
 pub fn run<R: Source, W: Sink>(
     alloc: Global,
     engine: &mut Engine,

@@ -64,7 +64,7 @@ fn row(alloc: Global, numbers: [i64; 3]) -> Result<Row, AllocError> {
     Row::new(values)
 }
 
-/// Whether these are the rows, with their copies; none where memory was refused.
+/// Whether these are the rows, with their copies; none if memory was refused.
 pub(crate) fn are(alloc: Global, rows: &ZSet, wanted: &[Weighed]) -> Option<bool> {
     for entry in wanted {
         let (numbers, copies) = *entry;

@@ -86,7 +86,7 @@ pub(crate) fn two(
     }
 }
 
-/// The weight of a row, and a number that no test waits for where memory is short.
+/// The weight of a row, and a number that no test waits for if memory is short.
 fn weight(alloc: Global, zset: &ZSet, keyed: bool, numbers: &[i64]) -> i64 {
     match row(alloc, keyed, numbers) {
         Ok(row) => zset.weight(&row, &mut Meter::new()),

@@ -1,7 +1,7 @@
 //! `Out`: a text that is written part by part, for tests.
 use std::alloc::Global;
 
-/// A text that parts are added to. Where a growth of memory was refused it is none.
+/// A text that parts are added to. If a growth of memory was refused it is none.
 #[derive(Drop)]
 pub struct Out {
     /// The allocator of the text.

@@ -169,7 +169,7 @@ fn restart(gateway: &mut Gateway, journal: &mut Kept, out: &mut Out) {
     }
 }
 
-/// Adds that something is not so of a client, where it is not.
+/// Adds that something is not so of a client, if it is not.
 fn put_unless(is: Result<bool, GatewayFault>, client: u32, text: &str, out: &mut Out) {
     match is {
         Ok(true) => {}

@@ -1,4 +1,4 @@
-//! Tests of clients that do not read: they are heard no more, and are to go where others bring them more than they take; and of what waits.
+//! Tests of clients that do not read: they are heard no more, and are to go if others bring them more than they take; and of what waits.
 use crate::out::Out;
 use crate::playing::{Kept, new_gateway};
 use iv_gateway::Gateway;

@@ -76,7 +76,7 @@ impl Write for Taker {
     }
 }
 
-/// What a run is given, by how many bytes a read, which read fails, and which call of the writer; none where it is 0.
+/// What a run is given, by how many bytes a read, which read fails, and which call of the writer; none if it is 0.
 #[derive(Clone, Copy)]
 struct Given<'a> {
     requests: &'a [u8],

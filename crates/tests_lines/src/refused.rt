@@ -67,7 +67,7 @@ impl Sink for Kept {
     }
 }
 
-/// What came of a test where a request for memory may have been refused.
+/// What came of a test if a request for memory may have been refused.
 type Word = &'static str;
 
 const HELD: Word = "held";

@@ -59,7 +59,7 @@ forgotten (View answer) = View (record answer { needs = [] })
 abbrev pub forgets : CatalogEntry → CatalogEntry
 forgets e = record e { held = forgotten e.held }
 
--- the same, where the view does not say that it needs notes
+-- the same, if the view does not say that it needs notes
 abbrev pub forgetful : State
 forgetful = record viewed { frame = record viewed.frame { catalog = map forgets viewed.frame.catalog } }
 

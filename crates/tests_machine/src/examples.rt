@@ -166,7 +166,7 @@ pub fn shapes_compute()
     ensures last_session { map (λ n. is_well_command (shapes.of_session n)) ((2 ^ 32 - 1) ∷ 2 ^ 32 ∷ []) ≡ true ∷ false ∷ [] }
 {}
 
-/// A row may have 2^63 - 1 copies, a batch may add more that it takes away, and a sum is tested where a view has it.
+/// A row may have 2^63 - 1 copies, a batch may add more that it takes away, and a sum is tested if a view has it.
 pub fn many_copies_compute()
     ensures copies_limit { (c : ℕ) → c ≡ 2 ^ 63 - 1 → Computes copies.unread (copies.copies_limit c) }
     ensures sums_limit { (c : ℕ) → c ≡ 2 ^ 62 → Computes copies.summed (copies.sums_limit c) }
@@ -174,7 +174,7 @@ pub fn many_copies_compute()
     ensures no_sums { (c : ℕ) → c ≡ 2 ^ 62 → Computes copies.unread (copies.no_sums c) }
 {}
 
-/// A step is told by the states before and behind it, and is not taken where a fact is refused.
+/// A step is told by the states before and behind it, and is not taken if a fact is refused.
 pub fn steps_compute()
     ensures nothing { steps.Tells [] (Some []) }
     ensures taken_and_given { steps.Tells steps.taken_and_given (Some []) }

@@ -151,7 +151,7 @@ fn is_answered(alloc: Global, line: &str, piece: usize) -> Result<bool, AllocErr
     Ok(is)
 }
 
-/// The first line that is not answered so where its bytes come in pieces of this length.
+/// The first line that is not answered so if its bytes come in pieces of this length.
 fn first_other(alloc: Global, piece: usize) -> &'static str
     requires { 0 < piece }
 {

@@ -292,7 +292,7 @@ fn ask(only_head: bool, known: Option<&[u8]>) -> Ask<'_> {
     }
 }
 
-/// Whether the page is answered in full where the client knows another file, and is told to be the same where it knows this one.
+/// Whether the page is answered in full if the client knows another file, and is told to be the same if it knows this one.
 fn is_answered(alloc: Global, tag: &[u8], line: &str) -> Result<bool, AllocError> {
     let known = bytes_of(alloc, cell(line, 0))?;
     let is_same = cell(line, 1) == "true";

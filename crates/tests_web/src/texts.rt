@@ -3,7 +3,7 @@ ghost use Rattle.std.specs.Prelude.{◌≤◌};
 
 use std::alloc::{AllocError, Global};
 
-/// A cell of a line, between bars; an empty one where there are fewer.
+/// A cell of a line, between bars; an empty one if there are fewer.
 pub fn cell(line: &str, place: usize) -> &str {
     line.split('|').nth(place).unwrap_or("")
 }
