@@ -25,7 +25,7 @@ const MOST_UNSENT: u64 = 67_108_864;
 /// Bytes of an answer that is made whatever waits, as of `/healthz`.
 const SHORT: usize = 4_096;
 
-/// Bytes of who has presented no token that is known, at most, behind the head of its request.
+/// Bytes of who has presented no token that is known, at most, after the head of its request.
 const MOST_UNKNOWN: usize = 65_536;
 
 /// Clients by one token, at most.

@@ -230,7 +230,7 @@ fn serve(
     Ok(())
 }
 
-/// The line of a journal, counted from 1, in which a byte stands.
+/// The line of a journal, counted from 1, in which a byte is.
 fn line_of(journal: &[u8], place: usize) -> usize {
     journal
         .iter()

@@ -44,7 +44,7 @@ pub struct Socket {
     pub readable: bool,
     /// The system may take bytes.
     pub writable: bool,
-    /// It stands in the list of those that are to be read.
+    /// It is in the list of those that are to be read.
     pub listed: bool,
     /// Bytes of it lie at the desk that are not heard now.
     pub unheard: bool,
@@ -52,7 +52,7 @@ pub struct Socket {
     pub scout: Option<Scout>,
     /// What became of the text that it presented, if that was judged.
     pub judged: Option<Judged>,
-    /// Bytes that were read behind its head before it presented a token that is known.
+    /// Bytes that were read after its head before it presented a token that is known.
     pub said: usize,
     /// It has presented a token that is known.
     pub came: bool,

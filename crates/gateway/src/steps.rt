@@ -1,6 +1,6 @@
 //! The desk's calls as the program makes them: each leads from a run to a run.
 //!
-//! So behind each of them all holds that `browsers_are_told_their_views` of iv_desk says of runs.
+//! So after each of them all holds that `browsers_are_told_their_views` of iv_desk says of runs.
 ghost use Rattle.std.specs.Prelude.{◌≡◌, ℕ, IfOk, false, true};
 ghost use Rattle.iv_rows.specs.RowLimit.{IsRowLimit};
 ghost use Rattle.iv_gateway.specs.Waiting.{WaitsWithin};

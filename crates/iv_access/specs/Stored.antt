@@ -18,7 +18,7 @@ use Rattle.iv_access.specs.Policies.{permits, forbids}
 abbrev pub relation_at : String Global × Option (Vec Kind) → Relation
 relation_at e = record { name = string_bytes e.0; kinds = option_map (λ ks. ks.items) e.1 }
 
--- the name stands before the policy's
+-- the name comes before the policy's
 abbrev pub is_before : Name → Policy → Bool
 is_before name p = is_lt (slice_cmp nat_cmp name p.name)
 

@@ -60,7 +60,7 @@ pub fn nothing_passes_without_a_permissive_policy()
     ensures { NothingPassesWithoutPermissive }
 {}
 
-/// Whatever changes led to the rights, the policies of each table stand in the byte order of their names, and no two
+/// Whatever changes led to the rights, the policies of each table are in the byte order of their names, and no two
 /// have one name.
 pub fn policies_rise_by_name()
     ensures { PoliciesRise }

@@ -96,7 +96,7 @@ impl Catalog {
         let _ = &self.relations;
     }
 
-    /// Adds a relation to the catalog, behind the others.
+    /// Adds a relation to the catalog, after the others.
     fn add(&mut self, name: &str, rel: RelId, held: Held) -> Result<(), AllocError>
         requires { HeldIsSound self.old (held_of held) }
         ensures added { OnOk result (self.new ≡ extended self.old name.now rel.0 (held_of held)) }
@@ -118,7 +118,7 @@ impl Catalog {
         named(&self.relations, name).is_none() && numbered(&self.relations, rel).is_none()
     }
 
-    /// Adds a table to the catalog, of a new name and number, behind the relations that are there.
+    /// Adds a table to the catalog, of a new name and number, after the relations that are there.
     ///
     /// # Errors
     /// `AllocError` if a growth of memory was refused; the catalog is unchanged then.
@@ -132,7 +132,7 @@ impl Catalog {
         self.add(name, rel, Held::Table(schema))
     }
 
-    /// Adds a view to the catalog, of a new name and number, behind the relations that are there.
+    /// Adds a view to the catalog, of a new name and number, after the relations that are there.
     ///
     /// # Errors
     /// `AllocError` if a growth of memory was refused; the catalog is unchanged then.

@@ -37,7 +37,7 @@ fn nothing(alloc: Global) -> Out
     }
 }
 
-/// Whether the column stands among the keys of a select's group so far.
+/// Whether the column is among the keys of a select's group so far.
 fn stands(keys: &[usize], k: usize) -> bool
     ensures { result ≡ stands ◌==◌ k keys.now }
 {

@@ -40,7 +40,7 @@ fn begins_object(text: &[u8]) -> bool
     }
 }
 
-/// A text behind a brace.
+/// A text after a brace.
 fn with_brace(alloc: Global, rest: &[u8]) -> Result<Vec<u8>, AllocError>
     ensures { IfOk result (λ line. line.items ≡ 123 ∷ rest.now) }
 {
@@ -89,7 +89,7 @@ fn parts_of(
     }
 }
 
-/// That an id does not stand in front.
+/// That an id is not in front.
 fn wrong_id(alloc: Global) -> Result<Why, AllocError>
     ensures { IfOk result (λ why. why_of why ≡ wrong (codes "id") None) }
 {

@@ -53,7 +53,7 @@ pub enum TokensFault {
     Memory,
     /// The line of this number, counted from 1, is none that the file may have.
     Line(usize),
-    /// A digest stands twice.
+    /// A digest comes twice.
     Twice,
     /// There is no token.
     Empty,
@@ -134,7 +134,7 @@ fn has_digest(tokens: &[Token], digest: &[u8]) -> bool
     tokens.iter().any(|token| token.digest.as_slice() == digest)
 }
 
-/// Whether no digest stands twice.
+/// Whether no digest comes twice.
 fn are_apart(tokens: &[Token]) -> bool
     ensures { result ≡ are_apart tokens.now }
 {
@@ -214,7 +214,7 @@ fn tokens_of(alloc: Global, file: &[u8]) -> Result<Result<Vec<Token>, usize>, Al
 ///
 /// # Errors
 /// `Memory` if a growth of memory was refused; `Line` with the first line that is no token, no remark and not the table's name;
-/// `Twice` if a digest stands twice; `Empty` if there is no token.
+/// `Twice` if a digest comes twice; `Empty` if there is no token.
 pub fn read_tokens(alloc: Global, file: &[u8]) -> Result<Vec<Token>, TokensFault>
     ensures tokens { IfOk result (λ ts. tokens_in file.now ≡ Some ts.items) }
     ensures none { (why : TokensFault) → result ≡ Err why → (why ≡ TokensFault.Memory) ⊎ (tokens_in file.now ≡ None) }

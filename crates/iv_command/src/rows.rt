@@ -1,6 +1,6 @@
 //! `SentRows`: rows with their weights and their JSON text, which the lines of all readers of a circuit share.
 //!
-//! The text is written once, token by token, however many lines send it. The token writer on which `serde_json` stands says that
+//! The text is written once, token by token, however many lines send it. The token writer on which `serde_json` is built says that
 //! what it writes of a value's tokens is the value's compact text, so an answer is still what `serde_json` writes of its value.
 ghost use Rattle.std.specs.Prelude.{◌≡◌, ◌==◌, IfOk, OnOk, length};
 ghost use Rattle.iv_rows.specs.View.{cell_of, cells_of};

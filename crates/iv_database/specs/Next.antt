@@ -20,7 +20,7 @@ abbrev pub with_table : Held → ℕ → List Table → List Table
 with_table (catalogs.Table columns) rel tables = tables ++ record { rel = record { 0 = rel }; schema = columns; rows = [] } ∷ []
 with_table (catalogs.View answer) rel tables = tables
 
--- with a relation more, behind the others: its owner is granted everything, and it has no row
+-- with a relation more, after the others: its owner is granted everything, and it has no row
 abbrev pub with_relation_of : (name owner : Name) → Held → Database → Database
 with_relation_of name owner held e = record e {
   known = record {

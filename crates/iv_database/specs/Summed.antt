@@ -22,7 +22,7 @@ abbrev pub AreTables : List Table → List Change → Type 0
 AreTables tables [] = Unit {0}
 AreTables tables (c ∷ cs) = HasTable tables c.rel × (list_any (λ d. c.rel == d.rel) cs ≡ false) × AreTables tables cs
 
--- the first of table t stands at the place
+-- the first of table t is at the place
 abbrev pub IsFirst : List Change → (place t : ℕ) → Type 0
 IsFirst [] place t = ⊥
 IsFirst (c ∷ cs) zero t = (c.rel == t) ≡ true

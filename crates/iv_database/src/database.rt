@@ -1,6 +1,6 @@
 //! `Database`: rights, the catalog, the rows of tables and the sessions, and the row limit.
 //!
-//! `tables` has an entry for each table alone. A table's columns stand in the catalog and, copied once when it is
+//! `tables` has an entry for each table alone. A table's columns are in the catalog and, copied once when it is
 //! created, with its rows.
 ghost use Rattle.std.specs.Prelude.{◌≡◌, ◌<◌, IfOk};
 ghost use Rattle.iv_database.specs.Database.{at_start};

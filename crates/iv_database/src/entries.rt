@@ -1,6 +1,6 @@
 //! `placed`: the entries of a write at the numbers of their tables, and whether their rows have the right kinds.
 //!
-//! Each name is looked up once; all that comes behind goes by number. `place` takes no memory, so it answers a bare `Refusal`, and
+//! Each name is looked up once; all that comes after goes by number. `place` takes no memory, so it answers a bare `Refusal`, and
 //! its caller makes the stop.
 ghost use Rattle.std.specs.Prelude.{◌≡◌, ◌+◌, ◌<◌, IfOk, IfErr, IfSome, OnOk, None, Some, is_some, length};
 ghost use Rattle.std.specs.List.{AllByRecursion, list_all};

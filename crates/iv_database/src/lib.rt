@@ -5,7 +5,7 @@
 //! smaller size after a refusal, which would hide it from tests that refuse memory.
 //!
 //! Contracts see the machine's frame with no subscription, so a clause here is the machine's own test. Subscriptions add to the tests of
-//! a write alone. Sessions stand here, since each test begins with who acts.
+//! a write alone. Sessions are here, since each test begins with who acts.
 #![tactic(auto)]
 
 mod changes;

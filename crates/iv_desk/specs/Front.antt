@@ -139,7 +139,7 @@ pub data Happens (d : Front) : Front → Type 0 where
   ticks : Happens d (by_event ticked d)
   fails : Happens d (by_event failed d)
 
--- no socket stands before a gateway that began, also again behind a crash, and that has no client; while it is alive anything happens, and
+-- no socket is before a gateway that began, also again after a crash, and that has no client; while it is alive anything happens, and
 -- sockets are closed from outside
 pub data FrontRuns (cap : ℕ) : Front → Type 0 where
   starts : (g : Gate) (most : ℕ) → Runs cap g → ((m : ℕ) → client_at g.clients m ≡ None) → FrontRuns cap (front_at_start g most)

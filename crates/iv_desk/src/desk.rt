@@ -52,7 +52,7 @@ impl Desk {
         })
     }
 
-    /// Brings the gateway to where a journal leads. Answers how many of its bytes that is: what stands behind them is a last entry that was
+    /// Brings the gateway to where a journal leads. Answers how many of its bytes that is: what follows them is a last entry that was
     /// torn, which is to be cut off before anything happens.
     ///
     /// # Errors
@@ -112,7 +112,7 @@ impl Desk {
         }
     }
 
-    /// Hears on at a number that was held, behind a `settle`. What is left.
+    /// Hears on at a number that was held, after a `settle`. What is left.
     ///
     /// # Errors
     /// As of `read`.
@@ -160,7 +160,7 @@ impl Desk {
     /// it was offered before was sent. One whose client is to go is closed.
     ///
     /// # Errors
-    /// `Journal` if the journal fails; else as of `read`. The journal has a front of what was pending then, behind what it had; a dead
+    /// `Journal` if the journal fails; else as of `read`. The journal has a front of what was pending then, after what it had; a dead
     /// desk gives it nothing.
     pub fn settle<J: Journal>(&mut self, journal: &mut J) -> Result<(), GatewayFault>
         ensures kept { OnOk result ((d : Front) → IsDesk d self.old → d.gate.dead ≡ false

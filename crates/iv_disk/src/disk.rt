@@ -23,13 +23,13 @@ pub trait Disk {
     fn length(&self) -> io::Result<u64>
         ensures { IfOk result (λ n. IfSome (held self.now) (λ xs. n ≡ length xs)) };
 
-    /// Writes a front of the bytes behind those that are there. Answers how many it took.
+    /// Writes a front of the bytes after those that are there. Answers how many it took.
     fn write(&mut self, bytes: &[u8]) -> io::Result<usize>
         ensures bound { WritesAtMost result bytes.now }
         ensures bytes { WriteAppends (held self.old) (held self.new) result bytes.now }
         ensures silent { held self.old ≡ None → held self.new ≡ None };
 
-    /// Cuts what stands behind as many bytes, if there is more.
+    /// Cuts what follows as many bytes, if there is more.
     fn cut(&mut self, length: u64) -> io::Result<()>
         ensures cuts { OnOk result (Keeps (first_known length (held self.old)) (held self.new)) }
         ensures fails { OnErr result (Keeps (held self.old) (held self.new)) }
@@ -69,7 +69,7 @@ impl Disk for File {
     }
 }
 
-/// Writes a front of the bytes behind those that are there: none, if that is interrupted. Answers how many.
+/// Writes a front of the bytes after those that are there: none, if that is interrupted. Answers how many.
 fn write_front<D: Disk>(disk: &mut D, bytes: &[u8]) -> io::Result<usize>
     ensures bound { WritesAtMost result bytes.now }
     ensures bytes { WriteAppends (D.held disk.old) (D.held disk.new) result bytes.now }
@@ -88,7 +88,7 @@ fn write_front<D: Disk>(disk: &mut D, bytes: &[u8]) -> io::Result<usize>
     }
 }
 
-/// Writes all bytes behind those that are there.
+/// Writes all bytes after those that are there.
 fn write_whole<D: Disk>(disk: &mut D, bytes: &[u8]) -> io::Result<()>
     ensures appended { OnOk result (Appends (D.held disk.old) (D.held disk.new) bytes.now) }
     ensures torn { OnErr result ((n : ℕ) × Appends (D.held disk.old) (D.held disk.new) (take n bytes.now)) }
@@ -105,7 +105,7 @@ fn write_whole<D: Disk>(disk: &mut D, bytes: &[u8]) -> io::Result<()>
     Err(io::Error::from(ErrorKind::TimedOut))
 }
 
-/// Writes all bytes behind those that are there, and syncs.
+/// Writes all bytes after those that are there, and syncs.
 fn write_synced<D: Disk>(disk: &mut D, bytes: &[u8]) -> io::Result<()>
     ensures appended { OnOk result (Appends (D.held disk.old) (D.held disk.new) bytes.now) }
     ensures synced { OnOk result (D.synced disk.new ≡ D.held disk.new) }
@@ -117,7 +117,7 @@ fn write_synced<D: Disk>(disk: &mut D, bytes: &[u8]) -> io::Result<()>
     Ok(())
 }
 
-/// Writes all bytes behind those that are there, and syncs. Nothing is to stay of what could not be written whole: if that fails too, a
+/// Writes all bytes after those that are there, and syncs. Nothing is to stay of what could not be written whole: if that fails too, a
 /// front of the bytes is left.
 ///
 /// # Errors
@@ -138,7 +138,7 @@ pub fn put<D: Disk>(disk: &mut D, bytes: &[u8]) -> io::Result<()>
     }
 }
 
-/// Cuts what stands behind as many bytes, and syncs what is left.
+/// Cuts what follows as many bytes, and syncs what is left.
 ///
 /// # Errors
 /// If the system refuses.

@@ -1,4 +1,4 @@
-//! `Keeper`: a journal with its audit on a disk. Behind a failure it writes nothing more.
+//! `Keeper`: a journal with its audit on a disk. After a failure it writes nothing more.
 //!
 //! What `append` promises is proved over any disk that tells its bytes. A real file tells none, so of one it is shown by kills and a full disk.
 ghost use Rattle.std.specs.Prelude.{◌≡◌, ◌<◌, ℕ, [], IfOk, IfSome, List, None, OnErr, OnOk, false, length, take, true};
@@ -75,7 +75,7 @@ fn begin_anew<D: Disk>(alloc: Global, disk: &mut D, epoch: &[u8; 32]) -> Result<
     Ok(chain)
 }
 
-/// Cuts a disk behind whole records. Answers where they end, or writes a head if there are none.
+/// Cuts a disk after whole records. Answers where they end, or writes a head if there are none.
 fn begin<D: Disk>(
     alloc: Global,
     disk: &mut D,
@@ -100,7 +100,7 @@ fn begin<D: Disk>(
 }
 
 impl<D: Disk + Drop> Keeper<D> {
-    /// The journal on a disk of which this was read: what stands behind whole records is cut, a head of 32 digits that no other journal has is
+    /// The journal on a disk of which this was read: what follows whole records is cut, a head of 32 digits that no other journal has is
     /// written if there is none, and all of it is synced.
     ///
     /// # Errors

@@ -1,7 +1,7 @@
 //! `Engine`: `apply` answers a command, `hang_up` ends all sessions; one that failed answers none.
 //!
 //! The clause `known_rows` of `apply` follows from `lines`. It is said all the same: a leak is the worst fault. Of a
-//! change it speaks if the subscription is to a table, since the rows of a view stand in no table; of a last line
+//! change it speaks if the subscription is to a table, since the rows of a view are in no table; of a last line
 //! it says that it takes back all that was shown.
 ghost use Rattle.std.specs.Prelude.{◌≡◌, ◌↔◌, [], IfOk, OnOk, OnErr, map, true, false};
 ghost use Rattle.iv_rows.specs.RowLimit.{IsRowLimit};

@@ -124,7 +124,7 @@ IsSettledBy e ts = ts ≡ []
 -- ---- bounds
 
 -- who is to go has no text; who is not has no more from others, that it was offered and has not taken, than it may leave when the journal
--- is synced; what its own messages bring is bounded by what it may ask. Each number that is open stands once
+-- is synced; what its own messages bring is bounded by what it may ask. Each number that is open is there once
 pub record IsBounded (g : Gate) (m : ℕ) (c : Client) : Type 0 where
   pub gone : c.dropped ≡ true → c.sendable ≡ []
   pub subs : length c.subs ≤ most_subs

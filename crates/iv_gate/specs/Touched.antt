@@ -13,7 +13,7 @@ use Rattle.iv_gate.specs.Events.{Event, presented, gone, known, synced, handed, 
 use Rattle.iv_gate.specs.Gate.{Gate}
 use Rattle.iv_gate.specs.Replies.{heard_by}
 
--- the client behind an event, as far as others cannot change it: its own message that is heard, and what is handed to it
+-- the client after an event, as far as others cannot change it: its own message that is heard, and what is handed to it
 abbrev pub itself_behind : ℕ → Client → Event → Client
 itself_behind m c (handed n) = if n == m then handing c else c
 itself_behind m c e = if_some (heard_by m c e) c (λ text. saying text c)

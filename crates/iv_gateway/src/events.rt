@@ -93,7 +93,7 @@ impl Gateway {
     /// Has the journal keep what is pending, and only then lets be sent what waits for it.
     ///
     /// # Errors
-    /// `Journal` if the journal fails; `Memory` and `Dead` as of `left`. The journal has a front of what was pending then, behind what it
+    /// `Journal` if the journal fails; `Memory` and `Dead` as of `left`. The journal has a front of what was pending then, after what it
     /// had; a dead gateway gives it nothing.
     pub fn settle<J: Journal>(&mut self, journal: &mut J) -> Result<(), GatewayFault>
         ensures gate { OnOk result ((g : Gate) → IsGate g self.old → IsGate (next g synced) self.new) }

@@ -8,7 +8,7 @@ use std::alloc::{AllocError, Global};
 use std::marker::Model;
 
 /// Some of the numbers below a size, each once. `order` has all of them, at its front those that are in the list; `places` says where each
-/// stands. So each change takes the same time, and no memory.
+/// is. So each change takes the same time, and no memory.
 #[derive(Drop)]
 pub(crate) struct Numbers {
     order: Vec<u32>,
@@ -93,7 +93,7 @@ impl Numbers {
         }
     }
 
-    /// Takes a number out. The last one stands in its place.
+    /// Takes a number out. The last one is in its place.
     pub(crate) fn remove(&mut self, number: u32)
         ensures { HasLost number self.old self.new }
     {

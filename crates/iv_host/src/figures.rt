@@ -10,7 +10,7 @@ use iv_pages::{Label, Metric, push_counter, push_gauge, push_histogram, push_sam
 use std::alloc::{AllocError, Global};
 use std::fs;
 
-/// What stands at a moment.
+/// What there is at a moment.
 #[derive(Drop)]
 pub struct Now {
     /// Sockets that are open.
@@ -23,7 +23,7 @@ pub struct Now {
     pub time: u64,
 }
 
-/// Where a role stands first.
+/// Where a role is first.
 fn first_at(roles: &[(String, u64)], role: &str) -> Option<usize>
     ensures { result ≡ first_at role.now (by_role roles.now) }
 {

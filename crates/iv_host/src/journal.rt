@@ -306,7 +306,7 @@ impl JournalFile {
         })
     }
 
-    /// The journal in it, of which this was read. What stands behind whole records is cut, a head is written if there is none, and all of it is
+    /// The journal in it, of which this was read. What follows whole records is cut, a head is written if there is none, and all of it is
     /// synced.
     ///
     /// # Errors

@@ -31,7 +31,7 @@ impl<'a> Model for Parts<'a> {
     ghost view = { λ o. record { signed = o.sent_header.now ++ 46 ∷ o.sent_claims.now; header = o.header.items; claims = o.claims.items; mac = o.mac.items } };
 }
 
-/// What stands before the first dot, and behind it.
+/// What comes before the first dot, and after it.
 fn cut(bytes: &[u8]) -> Option<(&[u8], &[u8])>
     ensures { option_map (λ p. (p.0.now, p.1.now)) result ≡ cut bytes.now }
 {

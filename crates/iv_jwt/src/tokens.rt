@@ -202,7 +202,7 @@ fn is_signed(secret: &[u8], token: &Parts<'_>) -> bool
 /// # Errors
 /// As `Fault` says, the first of them in its order that comes; `Memory` if a growth of memory was refused.
 ///
-/// Source: RFC 7519, section 7.2; RFC 7515, section 5.2. Of a key that stands twice the last value counts (RFC 7519, section 4).
+/// Source: RFC 7519, section 7.2; RFC 7515, section 5.2. Of a key that comes twice the last value counts (RFC 7519, section 4).
 pub fn role_of(alloc: Global, secret: &[u8], now: u64, token: &[u8]) -> Result<Claims, Fault>
     ensures answer { IsAnswer result (judged secret.now now token.now) }
     ensures granted { IfOk result (λ c. IsGranted secret.now now token.now (granted_by c)) }

@@ -1,4 +1,4 @@
--- When a source is read: what it has left then, and what stands written.
+-- When a source is read: what it has left then, and what is written.
 use Rattle.std.specs.Prelude.{◌≡◌, ℕ, Bool, List, ◌++◌, Option}
 use Rattle.std.specs.List.{AllByRecursion}
 use Rattle.std.specs.Io.KnownBytes.{Keeps}

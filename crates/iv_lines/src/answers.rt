@@ -1,4 +1,4 @@
-//! `write_lines`: the texts of a command's lines, one behind another; `write_line`: the text of one line.
+//! `write_lines`: the texts of a command's lines, one after another; `write_line`: the text of one line.
 //!
 //! `ok`, `subscribed` and changes are fixed parts with numbers and the text of their rows between them, proved to be the text of their
 //! value; refusals and faults are written by `serde_json`. The text of rows is written once, if the rows are listed (iv_command), and
@@ -50,7 +50,7 @@ impl SessionPart {
     }
 }
 
-/// Appends to a line's text a fixed part, and a number behind it.
+/// Appends to a line's text a fixed part, and a number after it.
 fn push_number(text: &mut Vec<u8>, before: &[u8], number: u64) -> Result<(), AllocError>
     ensures { OnOk result (text.new.items ≡ text.old.items ++ (before.now ++ decimal number)) }
 {

@@ -5,7 +5,7 @@
 //! three one-line calls here tests show it, by ends that count their calls and fail once at each in turn (a write or a
 //! flush tried again, a flush that does nothing, a read of no bytes before each read fail there). Everything above them
 //! is refused by the prover if it calls twice, swallows an error or leaves a flush out. A token that each call uses
-//! up would change nothing: whoever holds it can call twice behind it.
+//! up would change nothing: whoever holds it can call twice after it.
 ghost use Rattle.std.specs.Prelude.{◌≡◌, ◌≤◌, ◌+◌, ◌||◌, true, false, length, IfOk, OnOk, is_err};
 ghost use Rattle.std.specs.Io.KnownBytes.{Keeps, ReadConsumes, WriteAppends};
 ghost use Rattle.iv_lines.specs.Calls.{unused};

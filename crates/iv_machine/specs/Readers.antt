@@ -28,7 +28,7 @@ GoesToReader old new (ended n k why rows) = has_subscription old n k ≡ true
 
 -- ---- the rows of a change
 
--- the row stands in table t, and the role may see it
+-- the row is in table t, and the role may see it
 pub record IsAllowed (s : State) (role t : ℕ) (row : List Cell) : Type 0 where
   pub there : 0 < copies row (s.rows t)
   pub seen : may_see s.frame.rights role t row ≡ true

@@ -68,7 +68,7 @@ clients_form d = option_and_then (passing (λ f. is_for_clients f.word)) (option
 abbrev pub keys_of : Form → List (List ℕ)
 keys_of f = codes "do" ∷ codes "id" ∷ (f.required ++ f.optional)
 
--- ---- the values: the table of what stands at each key, over the parts of requests
+-- ---- the values: the table of what is at each key, over the parts of requests
 
 -- the command of a policy asks for `using`, or it may have it
 abbrev pub using_fits : PolicyCommand → Option (List ℕ) → Bool
@@ -101,7 +101,7 @@ policy_passes key d =
     else if bytes_eq key (codes "check") then goes_with check_fits (policy_command_at d) (text_if_at key d)
     else is_some (name_at key d)
 
--- what stands at a key of the form, or that nothing does, is as a request of this word has it
+-- what is at a key of the form, or that nothing does, is as a request of this word has it
 abbrev pub passes : Word → List ℕ → Data → Bool
 passes CreateTable key d = if bytes_eq key (codes "columns") then is_some (columns_at d) else is_some (name_at key d)
 passes CreateView key d = if bytes_eq key (codes "query") then is_some (text_at key d) else is_some (name_at key d)

@@ -1,4 +1,4 @@
-//! `id_at`: the id of a message, from a JSON value; `has_good_id`: whether what stands there is one; `read_id`: the id that a text is.
+//! `id_at`: the id of a message, from a JSON value; `has_good_id`: whether what is there is one; `read_id`: the id that a text is.
 ghost use Rattle.std.specs.Prelude.{◌≡◌, IfOk, codes, is_some, option_map, option_and_then};
 ghost use Rattle.serde_json.specs.Find.{get, as_integer, as_number};
 ghost use Rattle.iv_command.specs.RowTexts.{whole};
@@ -26,7 +26,7 @@ fn is_id(value: &Json<'_>) -> bool
     }
 }
 
-/// Whether what stands at `id` is an id, if something does.
+/// Whether what is at `id` is an id, if something does.
 pub fn has_good_id(value: &Json<'_>) -> bool
     ensures { result ≡ is_good_id (get (codes "id") (value_data value.now)) }
 {

@@ -13,8 +13,8 @@ pub data Act : Type 0 where
   asked : Ask → Act
   given : (request : List ℕ) → Act
 
--- on disk are `first`, which stands for the entries `past`, and `lines`; `waiting` is behind these and not yet on disk. `acts` is what the
--- machine, as it stands in memory, has done. `held` waits for the disk; `told` was sent, and may be lost on its way.
+-- on disk are `first`, which stands for the entries `past`, and `lines`; `waiting` is after these and not yet on disk. `acts` is what the
+-- machine, as it is in memory, has done. `held` waits for the disk; `told` was sent, and may be lost on its way.
 -- For the laws alone: `past`; `gone`, the entries that copies did not have; `seen`, each epoch that there was or that a client named
 pub record Run : Type 0 where
   pub first : Known

@@ -196,7 +196,7 @@ impl Names {
         Ok(())
     }
 
-    /// Refusals are forgiven: once a minute, and behind a restart.
+    /// Refusals are forgiven: once a minute, and after a restart.
     pub fn forgive(&mut self)
         ensures { names_of self.new ≡ record (names_of self.old) { spent = unspent } }
     {

@@ -83,7 +83,7 @@ fn place_in(alloc: Global, path: &[u8]) -> Result<Option<Vec<u8>>, AllocError>
 }
 
 /// The file that a target names, as a path within the folder of pages: its segments, each decoded once, with slashes between them, and
-/// `index.html` for a folder; what stands behind a `?` is not looked at. None if the target begins with no slash, or a segment is
+/// `index.html` for a folder; what follows a `?` is not looked at. None if the target begins with no slash, or a segment is
 /// empty, begins with a dot, or has a slash, a backslash, a control or a byte beyond ASCII once it is decoded.
 ///
 /// The path is text of ASCII. The caller opens it below the folder, and refuses what is no regular file there: it has to resolve links

@@ -158,7 +158,7 @@ impl Peer {
     /// Takes in bytes that were read.
     ///
     /// # Errors
-    /// `AllocError` if a growth of memory was refused. The peer is not to be used any more, as behind each of its errors.
+    /// `AllocError` if a growth of memory was refused. The peer is not to be used any more, as after each of its errors.
     pub fn take(&mut self, bytes: &[u8]) -> Result<(), AllocError>
         ensures { OnOk result (self.new ≡ forget (took bytes.now self.old)) }
     {
@@ -297,7 +297,7 @@ impl Peer {
         }
     }
 
-    /// Nothing more is heard behind a close, or a binary message, which is refused.
+    /// Nothing more is heard after a close, or a binary message, which is refused.
     fn end_behind(&mut self, said: Said) -> Result<Heard, AllocError>
         ensures { (m : Option Content) → IsSaidAs m said → IfOk result (λ h. IsEnded m h self.old self.new) }
     {

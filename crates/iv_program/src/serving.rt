@@ -1,7 +1,7 @@
 //! `serve`, `serve_on`: listens on a port, and answers connections one after another through one engine.
 //!
 //! A failed engine is answered before an accept, which a test shows: no contract of a listener tells its accepts, nor
-//! where it listens. What is done with a connection has its contract in `answer_connection`. Behind it the engine is asked
+//! where it listens. What is done with a connection has its contract in `answer_connection`. After it the engine is asked
 //! whether it failed: a read or a write that fails ends the connection alone, so a network fault comes from an accept. An
 //! accept that fails ends the program, also if another try might do; std's accept tries again after a signal.
 //!
@@ -42,7 +42,7 @@ pub enum ServeFault {
 }
 
 /// Serves so many connections of the listener, one after another on the one engine, with at most `lines` lines of each.
-/// Behind each connection all sessions and subscriptions are closed; all else is kept. A connection whose read or write
+/// After each connection all sessions and subscriptions are closed; all else is kept. A connection whose read or write
 /// fails ends, and the next one is served.
 ///
 /// # Errors

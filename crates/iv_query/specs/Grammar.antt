@@ -46,7 +46,7 @@ pub data OperandFault (stop : Fault) : Dialect → List Tok → Fault → Type 0
   no_operand : {d : Dialect} {ts : List Tok} → starts_operand d ts ≡ false → OperandFault stop d ts (unexpected stop ts)
   in_column : {n : List ℕ} {p : ℕ} {ts : List Tok} {f : Fault} → ColumnFault stop (Name n p ∷ ts) f → OperandFault stop Query (Name n p ∷ ts) f
 
--- pred; conj; term; { "or" conj } and { "and" term } behind what they continue
+-- pred; conj; term; { "or" conj } and { "and" term } after what they continue
 pub data Part : Type 0 where
   pred conj term : Part
   ors ands : PredTree → Part
@@ -77,7 +77,7 @@ pub data Reads (d : Dialect) : Part → ℕ → List Tok → PredTree → List T
       → IsOperand d ts x (Fixed s q ∷ us) → op_of s ≡ Some o → IsOperand d us y vs
       → Reads d term room ts (Comparison x o y) vs
 
--- a truth value may stand alone
+-- a truth value may be alone
 abbrev pub stands_alone : OperandTree → Bool
 stands_alone (Literal (flag b) p) = true
 stands_alone x = false

@@ -8,7 +8,7 @@ use std::alloc::{AllocError, AllocFailed};
 /// The reason of a fault.
 #[derive(Clone, Copy, Debug, PartialEq, Eq)]
 pub enum Why {
-    /// No token stands there.
+    /// No token is there.
     Token,
     /// The token there, or the end of the text, is not one that is needed.
     Unexpected,

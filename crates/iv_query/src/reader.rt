@@ -1,6 +1,6 @@
 //! `read_query`, `read_pred`: from the text of a view or a policy to its tree, or its first fault.
 //!
-//! The end of the text is a fault that stands behind the tokens, so reading from the left gives the least place by
+//! The end of the text is a fault that is after the tokens, so reading from the left gives the least place by
 //! itself.
 
 ghost use Rattle.std.specs.Prelude.{◌≡◌, ◌<◌, ◌≤◌, length, IfOk, IfErr};
@@ -42,7 +42,7 @@ fn tokens_of(alloc: Global, text: &str) -> Result<Tokens, QueryFault>
     Ok(lexed(alloc, text)?)
 }
 
-/// Tests that the text of a view or a policy ends behind its tree, or tells its fault there.
+/// Tests that the text of a view or a policy ends after its tree, or tells its fault there.
 #[tactic(auto, unfolding(crate::specs::Reading::end_at))]
 fn end(rest: &[Token], stop: Fault, ends: bool) -> Result<(), QueryFault>
     ensures { Gives (λ _. tt) result (end_at stop ends (toks rest.now)) }

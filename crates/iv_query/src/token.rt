@@ -79,7 +79,7 @@ pub enum Lexeme {
     Name(String),
     /// A whole number.
     Number(i64),
-    /// What stands between the quotes, each doubled quote once.
+    /// What is between the quotes, each doubled quote once.
     Quoted(String),
 }
 

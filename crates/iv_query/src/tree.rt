@@ -23,7 +23,7 @@ pub enum Op {
     GreaterEqual,
 }
 
-/// A name as it stands in a text.
+/// A name as it is in a text.
 #[derive(Drop)]
 pub struct Name {
     /// Its place, in bytes from 0.
@@ -32,7 +32,7 @@ pub struct Name {
     pub text: String,
 }
 
-/// A column, with the source that it is said to belong to, if one stands before a dot.
+/// A column, with the source that it is said to belong to, if one comes before a dot.
 #[derive(Drop)]
 pub struct Column {
     /// Its place, in bytes from 0.
@@ -142,7 +142,7 @@ pub enum Columns {
     Items(Vec<Item>),
 }
 
-/// A select. Its place is that of the word. Without `group by` no column stands in `group`.
+/// A select. Its place is that of the word. Without `group by` no column is in `group`.
 #[derive(Drop)]
 pub struct Select {
     /// Its place, in bytes from 0.
@@ -172,7 +172,7 @@ pub enum SetOp {
     Except,
 }
 
-/// A query: one select, or a query and a select behind it. So set operations group from the left.
+/// A query: one select, or a query and a select after it. So set operations group from the left.
 #[derive(Drop)]
 pub enum Query {
     /// A select alone.

@@ -1,6 +1,6 @@
 //! `form_of`: the forms of requests, each a word and the keys of its requests; `has_its_keys`, `has_only`: the test of keys.
 //!
-//! A key that stands twice is one key, so the keys are tested one by one and not counted.
+//! A key that comes twice is one key, so the keys are tested one by one and not counted.
 ghost use Rattle.std.specs.Prelude.{◌≡◌, ◌++◌, bytes_eq, find, map, option_map};
 ghost use Rattle.std.specs.List.{list_all, list_any};
 ghost use Rattle.iv_request.specs.Documents.{value_data};
@@ -45,7 +45,7 @@ pub enum Word {
     Unsubscribe,
 }
 
-/// A word, as it stands at `do`, the further keys that must be there, and those that may be.
+/// A word, as it is at `do`, the further keys that must be there, and those that may be.
 pub struct Form {
     /// Which request it is.
     pub word: Word,

@@ -23,7 +23,7 @@ pub fn count(value: &Json<'_>) -> usize
     }
 }
 
-/// The part of a JSON value that stands at a key.
+/// The part of a JSON value that is at a key.
 pub fn get<'v, 'a>(value: &'v Json<'a>, key: &str) -> Option<&'v Json<'a>>
     ensures { option_map (λ v. value_data v.now) result ≡ get key.now (value_data value.now) }
 {

@@ -6,7 +6,7 @@ use Rattle.iv_roles.specs.Memberships.{Membership, Reaches, chain_of, reaches}
 abbrev pub FollowsChains : Type 0
 FollowsChains = (ms : List Membership) (role other : ℕ) → Decides (reaches ms role other) (Reaches ms role other)
 
--- along a chain each role reaches those before it, however many they are, and none behind it
+-- along a chain each role reaches those before it, however many they are, and none after it
 abbrev pub ReachAlongChains : Type 0
 ReachAlongChains = (n role other : ℕ) → role ≤ n → reaches (chain_of n) role other ≡ nat_le other role
 

@@ -79,7 +79,7 @@ fn no_flags() -> [bool; 256]
     [false; 256]
 }
 
-/// The flag of a role in a row of roles, such as those that another reaches; false behind the row's end.
+/// The flag of a role in a row of roles, such as those that another reaches; false after the row's end.
 pub fn flag_at(row: &[bool], place: usize) -> bool
     ensures { result ≡ get_or row.now place false }
 {

@@ -1,6 +1,6 @@
 //! `Row`: values that its copies share; how rows are compared and ordered, and what of them a hasher is fed.
 //!
-//! A row never changes, so a copy of it shares its values: a row stands in memory once, however many tables, totals,
+//! A row never changes, so a copy of it shares its values: a row is in memory once, however many tables, totals,
 //! indexes and lines have it. Comparisons of a row are written by hand over those that are derived for `Value`: a derive on a
 //! type with such a view asks for an inverse of the view, and there is none.
 ghost use Rattle.std.specs.Prelude.{◌≡◌, ◌++◌, IfOk, OnOk, refl};
@@ -22,7 +22,7 @@ use std::rc::Rc;
 
 /// The values of the columns of a row, from the left.
 ///
-/// Rows compare from the left, column by column; a row that is the front of another stands before it.
+/// Rows compare from the left, column by column; a row that is the front of another comes before it.
 #[derive(Drop)]
 pub struct Row(Rc<Vec<Value>>);
 

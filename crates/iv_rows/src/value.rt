@@ -21,7 +21,7 @@ pub enum Kind {
 /// A value in a column of a row.
 ///
 /// Values of one kind are ordered: numbers by size, texts by their bytes, false before true. Between kinds a number
-/// stands before a text and a text before a flag.
+/// comes before a text and a text before a flag.
 #[derive(Drop, PartialEq, Eq, PartialOrd, Ord)]
 pub enum Value {
     /// A whole number.

@@ -59,7 +59,7 @@ pub record IsNewFor (e : Store) (role rel : ℕ) (k : RoleCircuit) : Type 0 wher
   pub came : k.since ≡ k.circuit.rounds
   pub opened : k.opened ≡ []
 
--- the place of the first that is for the role and the relation: a new one behind the others only if there was none
+-- the place of the first that is for the role and the relation: a new one after the others only if there was none
 pub record HasCircuitAt (e : Store) (role rel place : ℕ) (new : Store) : Type 0 where
   pub added : List RoleCircuit
   pub is : AllByRecursion (IsNewFor e role rel) added

@@ -18,7 +18,7 @@ use std::alloc::{AllocError, Global};
 use std::marker::Model;
 use std::rc::Rc;
 
-/// The database, subscriptions and the circuits that they read. Subscriptions stand in the order of their lines. For tables
+/// The database, subscriptions and the circuits that they read. Subscriptions are in the order of their lines. For tables
 /// that were written it is kept which circuits scan them, and who reads these.
 #[derive(Drop)]
 pub struct Store {

@@ -56,7 +56,7 @@ impl Subscription {
     }
 }
 
-/// The place behind each subscription of the same session or one before it.
+/// The place after each subscription of the same session or one before it.
 fn place_of(subscriptions: &[Subscription], session: u32) -> usize
     ensures within { result ≤ length subscriptions.now }
     ensures place { (e : state.Subscription) → e.session ≡ session → insert_subscription e subscriptions.now ≡ insert subscriptions.now result e }

@@ -13,7 +13,7 @@ pub record Entry : Type 0 where
 
 -- ---- a line: `"DIGEST" = "role"`, or `"DIGEST" = { role = "role", holder = "name", until = "moment" }`, of which holder and end may be left out
 
--- a text that a quotation mark ends, behind a prefix, and what follows it
+-- a text that a quotation mark ends, after a prefix, and what follows it
 abbrev pub quoted : (prefix line : List ℕ) → Option (List ℕ × List ℕ)
 quoted prefix line = option_and_then (cut_at 34) (behind prefix line)
 
@@ -101,7 +101,7 @@ entries_of (l ∷ ls) = if is_no_token l then entries_of ls else option_and_then
 abbrev pub tokens_among : List Entry → List Token
 tokens_among es = map (λ e. e.token) es
 
--- the entries of a file; none if a line is wrong or a digest stands twice
+-- the entries of a file; none if a line is wrong or a digest comes twice
 abbrev pub entries_in : List ℕ → Option (List Entry)
 entries_in file = option_and_then (λ es. if are_apart (tokens_among es) then Some es else None) (entries_of (lines_of file))
 

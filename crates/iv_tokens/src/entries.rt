@@ -39,7 +39,7 @@ struct Parts<'a> {
     until: Option<&'a [u8]>,
 }
 
-/// A text that a quotation mark ends, behind a prefix, and what follows it.
+/// A text that a quotation mark ends, after a prefix, and what follows it.
 fn quoted<'a>(line: &'a [u8], prefix: &[u8]) -> Option<(&'a [u8], &'a [u8])>
     ensures { option_map (λ p. (p.0.now, p.1.now)) result ≡ quoted prefix.now line.now }
 {

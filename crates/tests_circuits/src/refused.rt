@@ -33,7 +33,7 @@ pub(crate) const ROWS: [Entry; 5] = [
     (1, [2, -3], 1),
 ];
 
-/// Of 1: 7 of a pair, and 5 of the left row, which stands on the left alone. Of 2: two pairs of 5.
+/// Of 1: 7 of a pair, and 5 of the left row, which is on the left alone. Of 2: two pairs of 5.
 pub(crate) const BEFORE: [Weighed; 2] = [([1, 12, 2], 1), ([2, 10, 2], 1)];
 
 const BATCH: [Entry; 5] = [

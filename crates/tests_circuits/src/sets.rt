@@ -37,7 +37,7 @@ fn push_key(values: &mut Vec<Value>, value: Value) -> Result<(), AllocError>
     Ok(())
 }
 
-/// A row of numbers, behind the text `k` if it is keyed.
+/// A row of numbers, after the text `k` if it is keyed.
 pub(crate) fn row(alloc: Global, keyed: bool, numbers: &[i64]) -> Result<Row, AllocError>
     ensures { IfOk result (λ row. row ≡ cells keyed numbers.now) }
 {

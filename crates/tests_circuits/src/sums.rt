@@ -81,7 +81,7 @@ fn put_all(alloc: Global, tables: &mut Tables, notes: &[Note]) -> Result<(), Fai
     Ok(())
 }
 
-/// How often a row stands there.
+/// How often a row is there.
 fn copies(alloc: Global, rows: &ZSet, key: &str, number: i64) -> Result<i64, AllocError> {
     let row = row(alloc, key, number)?;
     let answer = weight(rows, &row);
@@ -106,7 +106,7 @@ fn evaluated(alloc: Global, plan: &Plan, tables: &Tables) -> Option<Result<ZSet,
     }
 }
 
-/// How many rows the plan gives over these tables, and how often `k` with the least sum stands there; none if it breaks a limit.
+/// How many rows the plan gives over these tables, and how often `k` with the least sum is there; none if it breaks a limit.
 fn outcome_over(alloc: Global, plan: &Plan, tables: &Tables) -> Result<Option<(usize, i64)>, Fail> {
     match evaluated(alloc, plan, tables) {
         Some(Ok(rows)) => {

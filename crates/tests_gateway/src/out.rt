@@ -36,7 +36,7 @@ impl Out {
         }
     }
 
-    /// Adds a number with a text behind it.
+    /// Adds a number with a text after it.
     pub fn put_number(&mut self, number: usize, text: &str) {
         match format!(in self.alloc; "{number}{text}") {
             Ok(text) => self.put(&text),
@@ -44,13 +44,13 @@ impl Out {
         }
     }
 
-    /// Adds a text with a number behind it, as a line.
+    /// Adds a text with a number after it, as a line.
     pub fn put_place(&mut self, text: &str, number: usize) {
         self.put(text);
         self.put_number(number, "\n");
     }
 
-    /// Adds each line of a text behind its mark.
+    /// Adds each line of a text after its mark.
     pub fn put_lines(&mut self, mark: &str, text: &str) {
         for line in text.split_inclusive('\n') {
             self.put(mark);

@@ -1,4 +1,4 @@
-//! `bytes_are_written_whole_or_taken_back`: what a disk in memory has behind `put`.
+//! `bytes_are_written_whole_or_taken_back`: what a disk in memory has after `put`.
 ghost use Rattle.std.specs.Prelude.{Some};
 
 use iv_disk::{Disk, put};

@@ -6,7 +6,7 @@ use std::alloc::{AllocError, Global};
 /// The digest of `abc` (FIPS 180-4).
 const ABC: &str = "ba7816bf8f01cfea414140de5dae2223b00361a396177a9cb410ff61f20015ad";
 
-/// What a line says behind the role of a token, and the holder and the end that it gives it; none if the line is none of the file's. The
+/// What a line says after the role of a token, and the holder and the end that it gives it; none if the line is none of the file's. The
 /// seconds are those that GNU date tells (`date -u -d MOMENT +%s`).
 const LINES: [(&str, Option<(&str, u64)>); 16] = [
     ("", Some(("", 0))),

@@ -31,7 +31,7 @@ const TEXTS: [(bool, &[u8]); 4] = [
 /// Where each line begins, and where the last one ends.
 const PLACES: [usize; 5] = [0, 145, 245, 332, 408];
 
-/// Some of the lines behind one another.
+/// Some of the lines after one another.
 fn journal(alloc: Global, lines: &[usize]) -> Result<Vec<u8>, AllocError> {
     let mut out = Vec::new(alloc);
     for at in lines {

@@ -139,7 +139,7 @@ fn lines_are_told(rt: HostRuntime) -> Result<(), Fail> {
     Ok(())
 }
 
-/// `[]`, and blanks behind it, of so many bytes.
+/// `[]`, and blanks after it, of so many bytes.
 fn blank(alloc: Global, bytes: usize) -> Result<Vec<u8>, AllocError> {
     let mut message = Vec::new(alloc);
     message.extend_from_slice(b"[]")?;

@@ -97,7 +97,7 @@ UnsoundTells =
     (ended 2 1 cause.Privilege ((of_ann 1, negsuc 0) ∷ []) ∷ [])
     (ended 2 1 cause.Privilege [] ∷ [])
 
--- a subscription is not within the limits: it ends behind a command that leaves rights, and the frames differ
+-- a subscription is not within the limits: it ends after a command that leaves rights, and the frames differ
 abbrev pub UnsoundLeaves : Type 0
 UnsoundLeaves =
     LooksAlike 1 crowded watched
@@ -127,6 +127,6 @@ UnsoundReads =
     ((step unread puts).lines ≡ reply 1 done ∷ change 2 1 ((of_ann 3, pos 1) ∷ []) ∷ [])
     × (missing_for (left_by unread puts).frame 1 0 ≡ Some (Select, 0))
 
--- subscriptions that stand in another order tell their lines in it
+-- subscriptions that are in another order tell their lines in it
 abbrev pub UnsoundOrder : Type 0
 UnsoundOrder = (step disordered puts).lines ≡ reply 1 done ∷ change 2 2 ((of_ann 3, pos 1) ∷ []) ∷ change 2 1 ((of_ann 3, pos 1) ∷ []) ∷ []

@@ -1,4 +1,4 @@
--- Worked examples of steps: what others decided is told once, by the state behind it.
+-- Worked examples of steps: what others decided is told once, by the state after it.
 use Rattle.std.specs.Prelude.{◌≡◌, pos, negsuc, List, [], ◌∷◌, Option, Some, option_map}
 use Rattle.iv_access.specs.declared.privilege.Privilege.TheVariants.{Select}
 use Rattle.iv_access.specs.Rights.{Name}

@@ -67,7 +67,7 @@ pub fn premises_are_needed()
 {}
 
 /// Nor may the premise go that states are sound: for each law on lines and refusals that has it, states that are not, and what is
-/// told. The frames differ behind `crowded` and `watched`, of which the second is sound: so each of two states must be.
+/// told. The frames differ after `crowded` and `watched`, of which the second is sound: so each of two states must be.
 pub fn soundness_is_needed()
     ensures told { UnsoundTells }
     ensures later { UnsoundLeaves }
@@ -174,7 +174,7 @@ pub fn many_copies_compute()
     ensures no_sums { (c : ℕ) → c ≡ 2 ^ 62 → Computes copies.unread (copies.no_sums c) }
 {}
 
-/// A step is told by the states before and behind it, and is not taken if a fact is refused.
+/// A step is told by the states before and after it, and is not taken if a fact is refused.
 pub fn steps_compute()
     ensures nothing { steps.Tells [] (Some []) }
     ensures taken_and_given { steps.Tells steps.taken_and_given (Some []) }
