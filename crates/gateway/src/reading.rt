@@ -274,7 +274,7 @@ impl Hall {
         Ok(())
     }
 
-    /// Who has presented a token that is known has no time limit, if there is room.
+    /// Who has presented a token that is known has no time limit, if there is space.
     fn come(&mut self, rt: &HostRuntime, desk: &mut Desk, at: u32) -> Result<(), Fault>
         ensures { Leads desk.old desk.new }
     {

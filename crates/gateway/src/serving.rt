@@ -332,7 +332,7 @@ fn lead(
     }
 }
 
-/// Begins a journal of which this was read.
+/// Begins a journal that this was read of.
 fn begin_journal(
     rt: &HostRuntime,
     path: &str,

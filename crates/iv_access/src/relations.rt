@@ -93,7 +93,7 @@ impl Relations {
         RelId(self.kinds.len() as u32)
     }
 
-    /// Adds a relation whose name is not there yet, and for which there is room. After an error nothing has changed.
+    /// Adds a relation whose name is not there yet, and for which there is space. After an error nothing has changed.
     pub(crate) fn push(&mut self, name: &str, kinds: Option<Vec<Kind>>) -> Result<(), AllocError>
         requires new { relation_of self.old name.now ≡ None }
         requires room { count_like (is_some kinds) self.old < 64 }

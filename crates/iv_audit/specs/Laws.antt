@@ -26,7 +26,7 @@ TextsKeepEntries = (w : Written) → IsWritten w → entry_in (text_of w) ≡ w.
 abbrev pub given : List Written → List ℕ
 given ws = lines_of (map (λ w. w.entry) ws)
 
--- of a journal of which these bytes are left: the gateway's bytes of its first entries, of all that are whole within them, and no fault
+-- of a journal that has these bytes left: the gateway's bytes of its first entries, of all that are whole within them, and no fault
 pub record IsFront (epoch : List ℕ) (ws : List Written) (left : ℕ) (r : Reading) : Type 0 where
   pub count : ℕ
   pub entries : lines_of (entries_of r.lines) ≡ given (take count ws)

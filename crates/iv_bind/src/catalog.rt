@@ -2,7 +2,7 @@
 //!
 //! `add_table` and `add_view` ask for a name and a number that are new; `is_new` is the test. `add_view` asks that
 //! the plan fits, as what `bind` answers over the same catalog does. `schema` and `view` look for a number from the
-//! first relation on, of which there are at most 128 in the engine.
+//! first relation on; there are at most 128 in the engine.
 
 ghost use Rattle.std.specs.Prelude.{◌≡◌, ◌&&◌, [], None, is_none, option_map, IfSome, OnOk, OnErr};
 ghost use Rattle.iv_algebra.specs.Shapes.{scans};

@@ -82,7 +82,7 @@ fn first_aggregate(items: &[Item]) -> Option<usize>
     None
 }
 
-/// The place of what does not go with a select's group: an aggregate without keys, a star with some.
+/// The place of the first item that conflicts with `group by`: an aggregate without keys, `*` with some.
 pub(crate) fn ungrouped(keys: &[usize], columns: &Columns) -> Option<usize>
     ensures { result ≡ ungrouped keys.now (list_tree columns.now) }
 {

@@ -65,7 +65,7 @@ abbrev pub begun : ℕ → List (List ℕ) → List (List ℕ)
 begun b [] = (b ∷ []) ∷ []
 begun b (l ∷ ls) = (b ∷ l) ∷ ls
 
--- the lines of a file, of which the last need not end with a newline
+-- the lines of a file; the last need not end with a newline
 abbrev pub lines_of : List ℕ → List (List ℕ)
 lines_of [] = [] ∷ []
 lines_of (b ∷ bytes) = if b == 10 then [] ∷ lines_of bytes else begun b (lines_of bytes)

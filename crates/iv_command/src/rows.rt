@@ -12,7 +12,7 @@ use json::Writer;
 use std::alloc::{AllocError, Global};
 use std::marker::Model;
 
-/// The room that a text is begun with, in bytes: that of a row or two.
+/// The space that a text is begun with, in bytes: that of a row or two.
 const SHORT_TEXT: usize = 64;
 
 /// Rows with their weights, and their JSON text.

@@ -110,7 +110,7 @@ impl Database {
         Ok(table)
     }
 
-    /// Takes a policy of a table away, and says of which; else the first test that fails, and nothing has changed.
+    /// Takes a policy of a table away, and says which table's; else the first test that fails, and nothing has changed.
     ///
     /// # Errors
     /// `Refused` with the test; `Memory` if a growth of memory was refused.

@@ -120,7 +120,7 @@ dismissed m d = if is_dropped d.gate m then at_socket m turned_away d else d
 abbrev pub is_within : (low high n : ℕ) → Bool
 is_within low high n = nat_le low n && nat_le n high
 
--- a close may tell it: its code may be sent, and its words have room in its frame (RFC 6455, sections 7.4 and 5.5)
+-- a close may tell it: its code may be sent, and its words fit into its frame (RFC 6455, sections 7.4 and 5.5)
 abbrev pub may_tell : ℕ → List ℕ → Bool
 may_tell code words = nat_le (length words) 123 && (is_within 1000 1003 code || (is_within 1007 1014 code || is_within 3000 4999 code))
 

@@ -100,7 +100,7 @@ fn begin<D: Disk>(
 }
 
 impl<D: Disk + Drop> Keeper<D> {
-    /// The journal on a disk of which this was read: what follows whole records is cut, a head of 32 digits that no other journal has is
+    /// The journal on a disk that this was read of: what follows whole records is cut, a head of 32 digits that no other journal has is
     /// written if there is none, and all of it is synced.
     ///
     /// # Errors

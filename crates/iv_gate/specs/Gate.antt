@@ -21,7 +21,7 @@ use Rattle.iv_clients.specs.Feeds.{Feed, Seat, feed_for, feed_of, feeds_left, is
 use Rattle.iv_clients.specs.Journal.{Entry, is_shape, is_shared, line_said, said_by, shape_for, shape_of}
 use Rattle.iv_clients.specs.Tokens.{Token, role_opened}
 
--- `entries` are the accepted requests, of which the first `kept` are on disk. Once it is `dead` nothing happens any more. `sent` is all
+-- `entries` are the accepted requests; the first `kept` are on disk. Once it is `dead` nothing happens any more. `sent` is all
 -- text that was handed on, to whomever; the code has no memory of it.
 pub record Gate : Type 0 where
   pub tokens : List Token

@@ -32,7 +32,7 @@ all_replayed s (e ∷ es) = option_and_then (λ t. all_replayed t es) (replayed 
 
 -- ---- bytes
 
--- the bytes begin with the lines of entries, each of which the machine accepts, and lead to the state
+-- the bytes begin with the lines of entries, which the machine accepts, and lead to the state
 pub record LeadTo (s : State) (bytes : List ℕ) (entries : List Entry) (rest : List ℕ) (t : State) : Type 0 where
   pub text : bytes ≡ journal_of entries ++ rest
   pub well : AllByRecursion IsEntry entries

@@ -306,7 +306,7 @@ impl JournalFile {
         })
     }
 
-    /// The journal in it, of which this was read. What follows whole records is cut, a head is written if there is none, and all of it is
+    /// The journal in it, which this was read of. What follows whole records is cut, a head is written if there is none, and all of it is
     /// synced.
     ///
     /// # Errors
@@ -319,7 +319,7 @@ impl JournalFile {
 }
 
 impl<D: Disk + Drop> DiskJournal<D> {
-    /// The journal on a disk of which this was read.
+    /// The journal on a disk that this was read of.
     fn begin(
         rt: &HostRuntime,
         disk: D,

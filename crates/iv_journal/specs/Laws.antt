@@ -36,7 +36,7 @@ pub record IsJournal (ls : List Line) : Type 0 where
   pub head : has_head ls ≡ true
   pub texts : AllByRecursion (λ l. is_text l.text ≡ true) ls
 
--- of a journal of which these bytes are left: the lines that are all within them, without those of an unfinished record, and no fault
+-- of a journal that has these bytes left: the lines that are all within them, without those of an unfinished record, and no fault
 pub record IsCut (ls : List Line) (left : ℕ) (r : Reading) : Type 0 where
   pub count : ℕ
   pub within : length (journal_of (take count ls)) ≤ left

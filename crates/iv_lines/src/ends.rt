@@ -21,7 +21,7 @@ pub trait Source {
     /// At which moments it was read, if the end tells them.
     ghost moments: { Self → List Moment };
 
-    /// Reads some bytes from the source, whose answers go to the writer. It answers 0 only if there is no room or no byte
+    /// Reads some bytes from the source, whose answers go to the writer. It answers 0 only if there is no space or no byte
     /// is left. The writer is not touched: contracts see what it had taken when the source was read.
     ///
     /// # Errors

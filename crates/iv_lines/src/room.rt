@@ -33,7 +33,7 @@ impl Room {
     ghost use Rattle.iv_lines.specs.Ahead.{ahead, known, TakesPart};
     ghost use Rattle.iv_lines.specs.Cut.{line_room};
 
-    /// A room of bytes read ahead, with none in it yet.
+    /// A buffer of bytes read ahead, with none in it yet.
     pub fn new() -> Room
         ensures { ahead result ≡ [] }
     {

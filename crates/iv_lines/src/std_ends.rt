@@ -23,7 +23,7 @@ impl<R: Read> Model for FromRead<R> {
 }
 
 impl<R: Read> FromRead<R> {
-    /// A reader of std as a source, of which no call was made.
+    /// A reader of std as a source, before any call.
     pub fn new(reader: R) -> FromRead<R>
         ensures { result ≡ unused reader }
     {
@@ -71,7 +71,7 @@ impl<W: Write> Model for FromWrite<W> {
 }
 
 impl<W: Write> FromWrite<W> {
-    /// A writer of std as a sink, of which no call was made.
+    /// A writer of std as a sink, before any call.
     pub fn new(writer: W) -> FromWrite<W>
         ensures { result ≡ (unused writer, false) }
     {

@@ -1,7 +1,7 @@
 //! `Watched`: an end of std, each read, write and flush of which is counted.
 //!
 //! The bound on reads speaks of a source that counts its reads. std's clauses do not say how often a reader or a
-//! writer is called, so no contract over `Read` and `Write` can: what calls twice meets whatever one call meets. Of the
+//! writer is called, so no contract over `Read` and `Write` can: a body that calls twice meets what one that calls once meets. Of the
 //! three one-line calls here tests show it, by ends that count their calls and fail once at each in turn (a write or a
 //! flush tried again, a flush that does nothing, a read of no bytes before each read fail there). Everything above them
 //! is refused by the prover if it calls twice, swallows an error or leaves a flush out. A token that each call uses
@@ -37,7 +37,7 @@ impl<E> Model for Watched<E> {
 }
 
 impl<E> Watched<E> {
-    /// An end of std of which no call was made: each is counted from now on.
+    /// An end of std before any call: each is counted from now on.
     pub fn new(end: E) -> Watched<E>
         ensures { result ≡ unused end }
     {

@@ -128,7 +128,7 @@ pub fn on_one_line(alloc: Global, text: &[u8]) -> Result<Vec<u8>, AllocError>
     Ok(line)
 }
 
-/// What a client says by a message, read by means of room that is kept from message to message.
+/// What a client says by a message, read with buffers that are kept from message to message.
 ///
 /// # Errors
 /// `AllocError` if a growth of memory was refused.

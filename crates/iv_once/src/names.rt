@@ -123,7 +123,7 @@ impl Names {
         Verdict::Carry
     }
 
-    /// What becomes of a request of a holder of whom that is kept.
+    /// What becomes of a request of a holder for whom that is kept.
     fn by_own(&self, own: &Own, ask: &Ask) -> Result<Verdict, AllocError>
         ensures { IfOk result (λ v. verdict_of v ≡ by_found (names_of self.now) own.now ask.now (find_named ask.now.name own.now.recent)) }
     {

@@ -65,7 +65,7 @@ pub record IsUnopened (hs ts : List (List ℕ)) (s : Socket) : Type 0 where
   pub waits : s.over ≡ false → (s.offered ≡ []) × (s.input ≡ s.read)
   pub offered : (s.offered ≡ []) ⊎ ((s.offered ≡ bad_request) ⊎ (s.offered ≡ upgrade_required))
 
--- after it: what was read is a request for a WebSocket, and then frames, of which these are the texts, in order; what was offered is the
+-- after it: what was read is a request for a WebSocket, and then frames, whose texts are these, in order; what was offered is the
 -- 101 that accepts its key, and then frames: one for each text that was told, in order, and the protocol's own, which are the replies to
 -- the frames that were read, and after them at most one close
 pub record IsOpened (hs ts : List (List ℕ)) (s : Socket) (conn : Connection) : Type 0 where

@@ -24,7 +24,7 @@ fn command_of_text(alloc: Global, text: &str, scratch: &mut Scratch) -> Result<C
     }
 }
 
-/// The command that a line asks for, without its newline, read by means of room that is kept from line to line.
+/// The command that a line asks for, without its newline, read with buffers that are kept from line to line.
 ///
 /// # Errors
 /// `BadJson` if the line is no JSON value; `BadRequest` if the value is no request; `Memory` if a growth of

@@ -1,10 +1,10 @@
 //! `read`: from a text to a JSON value whose texts are borrowed from the line; `number_of`, `fits`: its numbers.
 //!
 //! What is read has the data that `serde_json` reads of the line: what nests deeper than 127, and a number beyond a
-//! float's range, are no JSON, and of a key that comes twice the last value stays, as one key. Names, texts and
+//! float's range, are no JSON, and of a key that comes twice the last value counts. Names, texts and
 //! values of rows are copied out once, each into memory of its own.
 //!
-//! `json`, on which `serde_json` is built, reads a line in room that is kept from line to line. The value that `serde_json` builds, which
+//! `json`, on which `serde_json` is built, reads a line with buffers that are kept from line to line. The value that `serde_json` builds, which
 //! was the first form, took 18 of the 22 requests for memory of an insert of one row. Cost: the proof that both have the same data.
 //!
 //! Nearly all numbers of requests are short whole ones, and each number of such a value is read twice: by `fits`, and for what it is.

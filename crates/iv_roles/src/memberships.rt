@@ -1,7 +1,7 @@
 //! `Memberships`: which roles are direct members of which, and which roles each reaches, as rows of flags (`flag_at`).
 //!
 //! There are rows for the roles up to the highest that a membership ever named, and none if there was no
-//! membership. `grant_role` sets flags once there is room for them, so want of memory changes no right; `revoke_role`
+//! membership. `grant_role` sets flags once there is space for them, so want of memory changes no right; `revoke_role`
 //! clears the flags, sets those of the memberships that are left, and takes no memory.
 //!
 //! That `admin` has no members is a rule on requests. The rights would allow it, and a member of `admin` would still

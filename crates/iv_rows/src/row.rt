@@ -72,7 +72,7 @@ impl Row {
         Ok(Row(self.0.clone()?))
     }
 
-    /// Values equal to the row's, in memory of the same allocator, with room for so many more.
+    /// Values equal to the row's, in memory of the same allocator, with space for so many more.
     ///
     /// # Errors
     /// `AllocError` if a growth of memory was refused.

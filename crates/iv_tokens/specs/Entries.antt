@@ -11,7 +11,7 @@ pub record Entry : Type 0 where
   pub holder : Option (List ℕ)
   pub until : Option ℕ
 
--- ---- a line: `"DIGEST" = "role"`, or `"DIGEST" = { role = "role", holder = "name", until = "moment" }`, of which holder and end may be left out
+-- ---- a line: `"DIGEST" = "role"`, or `"DIGEST" = { role = "role", holder = "name", until = "moment" }`; holder and end may be left out
 
 -- a text that a quotation mark ends, after a prefix, and what follows it
 abbrev pub quoted : (prefix line : List ℕ) → Option (List ℕ × List ℕ)

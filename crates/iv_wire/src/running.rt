@@ -4,7 +4,7 @@
 //! machine reaches is no premise: the engine's invariant gives it. Each read is made in its turn: whole lines that were
 //! read before are answered then, and their answers flushed.
 //!
-//! A line is read, and its answer written, in the memory of the one before: so much stays as the longest answer took.
+//! A line is read, and its answer written, in the memory of the one before: as much as the longest answer took is kept.
 ghost use Rattle.std.specs.Prelude.{◌≡◌, ◌≤◌, ◌+◌, ◌*◌, ◌||◌, ◌↔◌, ℕ, take, flat_map, true, false, IfOk, IfErr, IfSome, OnOk, OnErr, IsErrOf};
 ghost use Rattle.std.specs.List.{All};
 ghost use Rattle.std.specs.Io.KnownBytes.{Appends};

@@ -36,7 +36,7 @@ const LINES: [(&str, Option<(&str, u64)>); 16] = [
     (", holder = \"a\\nb\"", None),
 ];
 
-/// A file with one token, of which its line says this.
+/// A file with one token, whose line says this.
 fn file_of(alloc: Global, more: &str) -> Result<String, AllocError> {
     format!(in alloc; "[tokens]\n\"{ABC}\" = {{ role = \"ann\"{more} }}\n")
 }

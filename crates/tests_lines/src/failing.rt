@@ -31,7 +31,7 @@ impl Read for Giver<'_> {
     }
 }
 
-/// A writer that keeps `step` bytes of a write, and no more than it has room for. After these it fails, or takes none. It fails at the
+/// A writer that keeps `step` bytes of a write, and no more than it has space for. After these it fails, or takes none. It fails at the
 /// call of the number `fails_at`, too, a write or a flush, and records of each call how many bytes it was given, 0 of a flush.
 #[derive(Drop)]
 struct Taker {
@@ -128,7 +128,7 @@ fn taken(alloc: Global, given: Given<'_>, room: Room) -> Result<(Taker, usize), 
     Ok((taker, reads))
 }
 
-/// The bytes of the answers to the first so many requests, of which the seventh has two lines.
+/// The bytes of the answers to the first so many requests; the seventh has two lines.
 fn front(requests: usize) -> usize {
     let lines = if requests < 7 { requests } else { 8 };
     let mut bytes = 0usize;
@@ -165,7 +165,7 @@ fn is_written(written: &[u8], wanted: Wanted) -> bool {
     }
 }
 
-/// Room for all.
+/// Space for all.
 const ROOM: Room = Room {
     bytes: 4_096,
     step: 4_096,
@@ -280,7 +280,7 @@ fn readers_break_off(rt: HostRuntime) {
     assert_eq!(rt; first_read_that_goes_on(rt.alloc()), None);
 }
 
-/// Whether a writer of this room has just the bytes that it takes, and the run fails after them, if there is no room for all.
+/// Whether a writer of this space has just the bytes that it takes, and the run fails after them, if there is no space for all.
 fn is_filled(alloc: Global, room: Room) -> bool {
     let wanted = Wanted {
         bytes: room.bytes,
@@ -296,7 +296,7 @@ fn is_filled(alloc: Global, room: Room) -> bool {
     }
 }
 
-/// The first number of bytes with room for which a writer has others.
+/// The first number of bytes with space for which a writer has others.
 fn first_unfilled(alloc: Global) -> Option<usize> {
     for bytes in 0..ANSWERS.len() + 1 {
         for (step, takes_none) in [(1usize, false), (4096, false), (4096, true)] {

@@ -1,4 +1,4 @@
--- Worked examples of states that are not sound, of which the laws on what a role learns do not hold: all their other premises do.
+-- Worked examples of states that are not sound, so that the laws on what a role learns do not hold: all their other premises do.
 use Rattle.std.specs.Prelude.{◌≡◌, ◌++◌, pos, negsuc, false, List, [], ◌∷◌, codes, map, Some}
 use Rattle.iv_bind.specs.Catalogs.{CatalogEntry, Held, Table, View}
 use Rattle.iv_access.specs.declared.privilege.Privilege.TheVariants.{Select}

@@ -157,7 +157,7 @@ pub fn counts_come_late()
     ensures limit { refusal (counts.over (counts.numbers 0)) 1 (subscribe counts.one) ≡ Some limit }
 {}
 
-/// Names, lists, texts and numbers that are well, and such that are not.
+/// Names, lists, texts and numbers that are valid, and such that are not.
 pub fn shapes_compute()
     ensures example { list_all is_well_command (commands (opened ++ first_change)) ≡ true }
     ensures good { list_all is_well_act shapes.good ≡ true }
