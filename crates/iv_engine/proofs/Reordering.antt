@@ -7,7 +7,7 @@ use Rattle.iv_zset.specs.Limits.{copies}
 use Rattle.iv_algebra.specs.Counting.{SameTables}
 use Rattle.iv_algebra.specs.Plans.{Lists}
 use Rattle.iv_algebra.specs.Shapes.{Scan}
-use Rattle.iv_algebra.proofs.Counting.{limits_same}
+use Rattle.iv_algebra.proofs.SameCounts.{limits_same}
 use Rattle.iv_bind.specs.Catalogs.{schema_of}
 use Rattle.iv_access.specs.Policies.{allowed, may_see}
 use Rattle.iv_machine.specs.Machine.{ending, first_cause}
