@@ -13,8 +13,8 @@ use Rattle.iv_access.specs.Given.{is_among}
 use Rattle.iv_access.specs.Grants.{AreFlags, FlagsStay, flag_of, grantees_of, IsClear, IsSetIn, is_flagged, no_grants}
 use Rattle.iv_roles.proofs.Chains.{never}
 use Rattle.iv_roles.proofs.Flags.{none_set}
-use Rattle.iv_access.proofs.Granting.{none_left}
-use Rattle.iv_access.proofs.Naming.{among_granted, among_revoked}
+use Rattle.iv_access.proofs.GrantSets.{none_left}
+use Rattle.iv_access.proofs.GrantNames.{among_granted, among_revoked}
 
 -- ---- no flag
 

@@ -11,7 +11,7 @@ use Rattle.iv_access.specs.Rights.{Grantee, Grant}
 use Rattle.iv_access.specs.Privileges.{privilege_eq}
 use Rattle.iv_access.specs.Changing.{grantee_eq, grant_eq, granted, revoked, for_each}
 use Rattle.iv_access.specs.Given.{is_among, is_named_by}
-use Rattle.iv_access.proofs.Granting.{grant_eq_decides, grant_turned}
+use Rattle.iv_access.proofs.GrantSets.{grant_eq_decides, grant_turned}
 
 or_false : (a : Bool) → (a || false) ≡ a
 or_false true = refl
