@@ -16,7 +16,7 @@ use Rattle.iv_access.specs.Policies.{allowed}
 use Rattle.iv_circuit.specs.Changing.{Given, IsReady}
 use Rattle.iv_circuit.specs.Circuits.{IsTurned, ReadersFollow, Running}
 use Rattle.iv_circuit.specs.Nodes.{Scanned}
-use Rattle.iv_circuit.proofs.Filled.{all_from}
+use Rattle.iv_circuit.proofs.NodesFromTables.{all_from}
 use Rattle.tests_circuits.specs.Worlds.{AreSound, HasMore, IsReader, IsSound, LeadTo, SameHeads}
 
 pub same_or_not : (m n : ℕ) → (m ≡ n) ⊎ (m ≢ n)
