@@ -16,8 +16,8 @@ use Rattle.iv_machine.specs.State.{Session, actor, is_open}
 use Rattle.iv_machine.specs.Act.{begin, create_role, create_table, create_view, no_session}
 use Rattle.iv_machine.specs.Changing.{view_held, with_held}
 use Rattle.iv_machine.specs.Refusing.{administrator, bad_text, first, frame_refusal, free_relation, known_role, test, tests_by}
-use Rattle.iv_machine.proofs.Placing.{roles_after}
-use Rattle.iv_machine.proofs.Serving.{or_none}
+use Rattle.iv_machine.proofs.SubscriptionPlaces.{roles_after}
+use Rattle.iv_machine.proofs.OpenSubscriptions.{or_none}
 use Rattle.iv_database.specs.Database.{Database, HoldsKinds, IsDatabase, at_start, frame_of, relation_in, with_rights}
 use Rattle.iv_database.specs.Next.{database_after, with_relation_of}
 use Rattle.iv_database.proofs.Tabled.{heads_with, rows_with}

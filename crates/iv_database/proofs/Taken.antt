@@ -14,7 +14,7 @@ use Rattle.iv_algebra.specs.Contents.{AreOf, heads_of, rows_of}
 use Rattle.iv_algebra.specs.Fits.{or_nothing}
 use Rattle.iv_algebra.specs.Plans.{Lists}
 use Rattle.iv_bind.specs.Catalogs.{schema_of}
-use Rattle.iv_machine.proofs.Fitting.{kinds_after}
+use Rattle.iv_machine.proofs.TableKinds.{kinds_after}
 use Rattle.iv_machine.specs.Act.{Entry, write}
 use Rattle.iv_machine.specs.Sound.{HasKinds}
 use Rattle.iv_database.specs.Changes.{Change, change_at}

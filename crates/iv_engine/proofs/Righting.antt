@@ -18,7 +18,7 @@ use Rattle.iv_machine.specs.Machine.{changes, difference, ending, ending_by, fir
 use Rattle.iv_machine.specs.Refusing.{frame_refusal, or_else, refusal, rows_refusal}
 use Rattle.iv_machine.specs.State.{State, Subscription, actor, is_within, missing_for, needs_at, plan_at, subscription_of, view_shown}
 use Rattle.iv_machine.specs.declared.Cause.{Cause}
-use Rattle.iv_machine.proofs.Reached.{given_kept, unique_kept}
+use Rattle.iv_machine.proofs.UniqueNumbers.{given_kept, unique_kept}
 use Rattle.iv_store.specs.Answering.{IsAccepted, seen, sent}
 use Rattle.iv_store.specs.Counting.{TurnsRounds}
 use Rattle.iv_readers.specs.Each.{Each}

@@ -6,7 +6,7 @@ use Rattle.iv_machine.specs.Act.{Command}
 use Rattle.iv_machine.specs.Machine.{hung, run}
 use Rattle.iv_machine.specs.State.{State, start}
 use Rattle.iv_machine.specs.Stored.{IsGiven, IsStoredSound}
-use Rattle.iv_machine.proofs.Standing.{IsSoundWhole, hung_stays, run_stays, start_stays}
+use Rattle.iv_machine.proofs.SoundRuns.{IsSoundWhole, hung_stays, run_stays, start_stays}
 use Rattle.iv_store.specs.Engine.{Engine, IsBehind, IsLeftBy, IsLeftByAll}
 use Rattle.iv_engine.specs.Sound.{IsSoundEngine}
 use Rattle.iv_engine.proofs.Reordering.{sound_behind}

@@ -12,7 +12,7 @@ use Rattle.iv_machine.specs.Changing.{after, view_held, with_held}
 use Rattle.iv_machine.specs.Machine.{outcome, settled, step}
 use Rattle.iv_machine.specs.Refusing.{or_else, refusal}
 use Rattle.iv_machine.specs.State.{State, next_rel}
-use Rattle.iv_machine.proofs.Placing.{find_more}
+use Rattle.iv_machine.proofs.SubscriptionPlaces.{find_more}
 use Rattle.iv_machine.proofs.Sound.{IsWhole, settled_whole}
 use Rattle.iv_steps.specs.Steps.{Fact, all_carried, at_place, carried, first_refused, is_shared, passed, shared}
 

@@ -21,10 +21,10 @@ use Rattle.iv_rows.specs.Options.{if_some}
 use Rattle.iv_machine.specs.Sound.{IsSoundState, MayRead}
 use Rattle.iv_machine.specs.State.{State, Subscription, shown, subscription_of, view_shown}
 use Rattle.iv_machine.specs.declared.Cause.{Cause}
-use Rattle.iv_machine.proofs.Adding.{found_none, lines_held, shows_nothing}
-use Rattle.iv_machine.proofs.Placing.{HasRole, IsPlaced, all_go}
-use Rattle.iv_machine.proofs.Sending.{difference_only}
-use Rattle.iv_machine.proofs.Reached.{has_number, neither, none_kept}
+use Rattle.iv_machine.proofs.RunSums.{found_none, lines_held, shows_nothing}
+use Rattle.iv_machine.proofs.SubscriptionPlaces.{HasRole, IsPlaced, all_go}
+use Rattle.iv_machine.proofs.StepLines.{difference_only}
+use Rattle.iv_machine.proofs.UniqueNumbers.{has_number, neither, none_kept}
 use Rattle.iv_machine.proofs.Readers.{all_found}
 use Rattle.iv_machine.proofs.Sound.{IsKept, IsWhole, may_read, settled_kept, sound_whole}
 use Rattle.iv_steps.specs.Laws.{FactsDecide, IsStep, IsTold, NoneIsBetween, NothingIsTold, RefusalsAreFound, StepsAreTold}

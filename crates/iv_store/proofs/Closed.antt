@@ -12,8 +12,8 @@ use Rattle.iv_machine.specs.Act.{finish, unsubscribe}
 use Rattle.iv_machine.specs.Machine.{difference, ending, line_for, lines_told as machine_line}
 use Rattle.iv_machine.specs.Refusing.{has_subscription, or_else, test}
 use Rattle.iv_machine.specs.State.{Session, State, Subscription, is_open, session_of, shown, subscription_of, view_shown}
-use Rattle.iv_machine.proofs.Placing.{all_kept}
-use Rattle.iv_machine.proofs.Reached.{given_kept, unique_kept}
+use Rattle.iv_machine.proofs.SubscriptionPlaces.{all_kept}
+use Rattle.iv_machine.proofs.UniqueNumbers.{given_kept, unique_kept}
 use Rattle.iv_store.specs.Answering.{IsAccepted, seen}
 use Rattle.iv_store.specs.Counting.{AreCounted}
 use Rattle.iv_store.specs.Finished.{without_session, without_subscription, without_unread}

@@ -3,7 +3,7 @@ use Rattle.std.proofs.Common.{◌≡◌, true}
 use Rattle.std.specs.Prelude.{filter, is_some}
 use Rattle.std.specs.List.{AllByRecursion}
 use Rattle.iv_machine.specs.State.{Subscription, actor, is_open}
-use Rattle.iv_machine.proofs.Placing.{all_kept}
+use Rattle.iv_machine.proofs.SubscriptionPlaces.{all_kept}
 use Rattle.iv_store.specs.Finished.{without_unread}
 use Rattle.iv_store.specs.Store.{IsOpen, Store, frame_of, is_read, place_of}
 use Rattle.iv_readers.specs.Readers.{RoleCircuit}

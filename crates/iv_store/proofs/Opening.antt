@@ -18,7 +18,7 @@ use Rattle.iv_machine.specs.State.{State, Subscription, actor, is_within, is_wit
 use Rattle.iv_machine.specs.Changing.{after, insert_subscription}
 use Rattle.iv_machine.specs.Machine.{changes, line_for, lines_told as machine_line, ending, settled, difference}
 use Rattle.iv_machine.specs.Reached.{AreNumbersUnique}
-use Rattle.iv_machine.proofs.Reached.{after_numbers, next_is_new}
+use Rattle.iv_machine.proofs.UniqueNumbers.{after_numbers, next_is_new}
 use Rattle.iv_store.specs.Answering.{IsAccepted, IsRefused, IsStep, seen, sent}
 use Rattle.iv_readers.specs.Rows.{AreInOrder}
 use Rattle.iv_store.specs.Built.{IsBeyond}

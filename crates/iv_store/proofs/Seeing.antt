@@ -24,7 +24,7 @@ use Rattle.iv_access.specs.Privileges.{is_for, role_name}
 use Rattle.iv_access.specs.Policies.{applies, by_policies, covers, failed_at, forbids, is_exempt, is_pass, may_see, passes, permits, policies_of}
 use Rattle.iv_machine.specs.Machine.{difference, weight}
 use Rattle.iv_machine.proofs.Alike.{alike}
-use Rattle.iv_machine.proofs.Rising.{AreRising, IsBelow, NoZero, difference_rises, difference_weighs}
+use Rattle.iv_machine.proofs.DifferenceOrder.{AreRising, IsBelow, NoZero, difference_rises, difference_weighs}
 
 -- ---- what a role sees depends on its name, on the roles that it reaches and on the guard alone
 

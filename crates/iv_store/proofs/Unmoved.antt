@@ -19,7 +19,7 @@ use Rattle.iv_access.specs.Privileges.{first_missing, has, role_name}
 use Rattle.iv_access.specs.Rights.{Guard, Name, Rights}
 use Rattle.iv_machine.specs.Changing.{with_held}
 use Rattle.iv_machine.specs.State.{Session, Subscription, actor, is_within, needs_at, next_rel, plan_at, session_of}
-use Rattle.iv_machine.proofs.Placing.{find_kept}
+use Rattle.iv_machine.proofs.SubscriptionPlaces.{find_kept}
 use Rattle.iv_store.specs.Store.{IsCircuitOf, Store, at, frame_of, may_read, shown_rows}
 use Rattle.iv_readers.specs.Readers.{RoleCircuit}
 use Rattle.iv_database.specs.Database.{kinds_at}

@@ -6,7 +6,7 @@ use Rattle.iv_machine.specs.Act.{Command}
 use Rattle.iv_machine.specs.Machine.{run, step}
 use Rattle.iv_machine.specs.State.{State}
 use Rattle.iv_machine.specs.Stored.{IsGiven}
-use Rattle.iv_machine.proofs.Standing.{run_stays}
+use Rattle.iv_machine.proofs.SoundRuns.{run_stays}
 use Rattle.iv_engine.specs.Engine.{Engine, IsBehind}
 use Rattle.iv_engine.specs.Sound.{IsSoundEngine}
 use Rattle.iv_engine.proofs.Sounding.{sound_of, whole_of}

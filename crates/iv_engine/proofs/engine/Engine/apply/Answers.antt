@@ -4,7 +4,7 @@ use Rattle.iv_machine.specs.Machine.{step}
 use Rattle.iv_machine.specs.State.{Frame}
 use Rattle.iv_machine.specs.Reached.{AreNumbersUnique}
 use Rattle.iv_machine.specs.Readers.{ShowsKnownRows}
-use Rattle.iv_machine.proofs.Seeing.{step_shows}
+use Rattle.iv_machine.proofs.RowsOfLines.{step_shows}
 use Rattle.std.specs.List.{All}
 use Rattle.iv_store.specs.Answering.{seen}
 use Rattle.iv_store.specs.Store.{Store, frame_of}

@@ -29,13 +29,13 @@ use Rattle.iv_machine.specs.Refusing.{frame_refusal, refusal}
 use Rattle.iv_machine.specs.Sound.{IsSoundState}
 use Rattle.iv_machine.specs.Stored.{HasNeeds, HasTexts, IsGiven, IsStoredSound}
 use Rattle.iv_machine.specs.Well.{is_well_act}
-use Rattle.iv_machine.proofs.Keeping.{step_keeps}
-use Rattle.iv_machine.proofs.Knowing.{known_after, known_at_start}
-use Rattle.iv_machine.proofs.Needing.{needs_after}
-use Rattle.iv_machine.proofs.Serving.{both, none_refuses}
+use Rattle.iv_machine.proofs.RunInvariants.{step_keeps}
+use Rattle.iv_machine.proofs.KnownNames.{known_after, known_at_start}
+use Rattle.iv_machine.proofs.ViewNeeds.{needs_after}
+use Rattle.iv_machine.proofs.OpenSubscriptions.{both, none_refuses}
 use Rattle.iv_machine.proofs.Sound.{IsWhole, hung_sound, settled_whole, sound_whole, start_sound, start_whole, step_sound}
-use Rattle.iv_machine.proofs.Storing.{fits_given, guarded_after, rights_after}
-use Rattle.iv_machine.proofs.Typing.{catalog_after}
+use Rattle.iv_machine.proofs.StoredRights.{fits_given, guarded_after, rights_after}
+use Rattle.iv_machine.proofs.SoundCatalog.{catalog_after}
 
 module _ (reads_pred : (bs : List ℕ) → IsUtf8 bs → IsOutcome IsPredText HasPredFault bs (read_pred bs))
     (reads_query : (bs : List ℕ) → IsUtf8 bs → IsOutcome IsQueryText HasQueryFault bs (read_query bs))

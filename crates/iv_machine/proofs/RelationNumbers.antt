@@ -12,7 +12,7 @@ use Rattle.iv_machine.specs.Refusing.{test, or_else, first, administrator, known
 use Rattle.iv_machine.specs.Changing.{with_held, view_held, after_frame}
 use Rattle.iv_machine.specs.Machine.{outcome, step, run}
 use Rattle.iv_machine.specs.Numbered.{AreNumbered, IsNumbered}
-use Rattle.iv_machine.proofs.Serving.{none_refuses, or_none}
+use Rattle.iv_machine.proofs.OpenSubscriptions.{none_refuses, or_none}
 
 one_more : (n : ℕ) (es : List catalogs.CatalogEntry) (e : catalogs.CatalogEntry) → AreNumbered n es → e.rel ≡ n + length es → AreNumbered n (es ++ e ∷ [])
 one_more n [] e h k = let r : n + 0 ≡ n = omega arith in (k ∙ r, tt)

@@ -20,10 +20,10 @@ use Rattle.iv_machine.specs.Changing.{after_rights, policy_for}
 use Rattle.iv_machine.specs.Numbered.{IsNumbered}
 use Rattle.iv_machine.specs.Refusing.{administrator, first, frame_refusal, known_grantee, known_relation, known_role, owner_alone}
 use Rattle.iv_machine.specs.Stored.{AreKnown, IsBelow}
-use Rattle.iv_machine.proofs.Numbering.{as_many}
-use Rattle.iv_machine.proofs.Placing.{known_below, some_of}
-use Rattle.iv_machine.proofs.Serving.{or_none, passed}
-use Rattle.iv_machine.proofs.Storing.{asked_by, found_at, policy_tested}
+use Rattle.iv_machine.proofs.RelationNumbers.{as_many}
+use Rattle.iv_machine.proofs.SubscriptionPlaces.{known_below, some_of}
+use Rattle.iv_machine.proofs.OpenSubscriptions.{or_none, passed}
+use Rattle.iv_machine.proofs.StoredRights.{asked_by, found_at, policy_tested}
 
 -- ---- lists
 

@@ -23,8 +23,8 @@ use Rattle.iv_machine.specs.Changing.{after_entry, after}
 use Rattle.iv_machine.specs.Machine.{weight, weighted, is_change, rising_rows, difference, lines_told, line_for, changes, ending_by, reply_to, settled, outcome, step}
 use Rattle.iv_machine.specs.Reached.{AreUnique, AreNumbersUnique}
 use Rattle.iv_machine.specs.Readers.{IsAllowed, IsKnownRow, AreKnownRows, ShowsKnownRows, looks_at_rows}
-use Rattle.iv_machine.proofs.Reached.{has_number, both_false, neither, none_kept, after_numbers}
-use Rattle.iv_machine.proofs.Adding.{shows_nothing}
+use Rattle.iv_machine.proofs.UniqueNumbers.{has_number, both_false, neither, none_kept, after_numbers}
+use Rattle.iv_machine.proofs.RunSums.{shows_nothing}
 
 -- ---- a row of a difference stands in one of the two lists
 

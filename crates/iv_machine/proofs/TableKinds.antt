@@ -20,8 +20,8 @@ use Rattle.iv_machine.specs.Refusing.{test, each_entry, entry_shape, rows_in, kn
 use Rattle.iv_machine.specs.Changing.{times, without, changed_by, after_entry, written, with_held, view_held, after}
 use Rattle.iv_machine.specs.Numbered.{IsNumbered}
 use Rattle.iv_machine.specs.Sound.{HasKinds}
-use Rattle.iv_machine.proofs.Placing.{find_kept, found_by_number, some_of}
-use Rattle.iv_machine.proofs.Serving.{or_none, passed, both}
+use Rattle.iv_machine.proofs.SubscriptionPlaces.{find_kept, found_by_number, some_of}
+use Rattle.iv_machine.proofs.OpenSubscriptions.{or_none, passed, both}
 
 -- ---- an entry keeps what holds of each row
 

@@ -15,8 +15,8 @@ use Rattle.iv_machine.specs.Changing.{after_frame, after}
 use Rattle.iv_machine.specs.Machine.{weight, difference, lines_told, line_for, changes, ending_by, settled, outcome, step, run}
 use Rattle.iv_machine.specs.Held.{line_weight, held, closed_by, closed_in, closed}
 use Rattle.iv_machine.specs.Reached.{AreUnique, AreNumbersUnique, AddsUp}
-use Rattle.iv_machine.proofs.Rising.{difference_weighs, zero_left, zero_right, once}
-use Rattle.iv_machine.proofs.Reached.{has_number, neither, none_kept, settled_numbers, after_numbers, was_not_open}
+use Rattle.iv_machine.proofs.DifferenceOrder.{difference_weighs, zero_left, zero_right, once}
+use Rattle.iv_machine.proofs.UniqueNumbers.{has_number, neither, none_kept, settled_numbers, after_numbers, was_not_open}
 use Rattle.iv_machine.specs.declared.Cause.{Cause}
 
 plus_assoc : (x y z : ℤ) → (x +ℤ y) +ℤ z ≡ x +ℤ (y +ℤ z)

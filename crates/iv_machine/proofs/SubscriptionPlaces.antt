@@ -14,7 +14,7 @@ use Rattle.iv_machine.specs.State.{Frame, Session, Subscription, is_open, actor,
 use Rattle.iv_machine.specs.Refusing.{test, known_role, known_relation, first, frame_refusal, tests_by}
 use Rattle.iv_machine.specs.Changing.{with_held, view_held, opened_by, insert_subscription, after_frame}
 use Rattle.iv_machine.specs.Numbered.{AreNumbered, IsNumbered}
-use Rattle.iv_machine.proofs.Serving.{or_none, passed}
+use Rattle.iv_machine.proofs.OpenSubscriptions.{or_none, passed}
 
 -- its session is open and its relation is known
 abbrev pub IsPlaced : Frame → Subscription → Type 0

@@ -13,9 +13,9 @@ use Rattle.iv_machine.specs.State.{Frame, next_rel}
 use Rattle.iv_machine.specs.Changing.{after_catalog, view_held, with_held}
 use Rattle.iv_machine.specs.Numbered.{AreNumbered, IsNumbered}
 use Rattle.iv_machine.specs.Stored.{HasNeeds}
-use Rattle.iv_machine.proofs.Bounding.{HoldsOfBound, text_keeps}
-use Rattle.iv_machine.proofs.Knowing.{place_within}
-use Rattle.iv_machine.proofs.Storing.{found_at}
+use Rattle.iv_machine.proofs.BoundPlans.{HoldsOfBound, text_keeps}
+use Rattle.iv_machine.proofs.KnownNames.{place_within}
+use Rattle.iv_machine.proofs.StoredRights.{found_at}
 
 abbrev AreBelow : ℕ → List ℕ → Type 0
 AreBelow m ns = All (λ n. n < m) ns

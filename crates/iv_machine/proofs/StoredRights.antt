@@ -56,8 +56,8 @@ use Rattle.iv_machine.specs.Typed.{FitsCatalog}
 use Rattle.iv_machine.specs.Parts.{has_texts, is_between}
 use Rattle.iv_machine.specs.Well.{is_grantee as is_named_grantee, is_well_act, is_well_policy}
 use Rattle.iv_machine.proofs.Distinct.{test_passes}
-use Rattle.iv_machine.proofs.Placing.{some_of}
-use Rattle.iv_machine.proofs.Serving.{none_refuses, or_none, passed, both}
+use Rattle.iv_machine.proofs.SubscriptionPlaces.{some_of}
+use Rattle.iv_machine.proofs.OpenSubscriptions.{none_refuses, or_none, passed, both}
 
 -- ---- what tests find of a policy and a membership
 

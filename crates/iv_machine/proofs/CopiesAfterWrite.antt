@@ -14,7 +14,7 @@ use Rattle.iv_machine.specs.State.{rel_of}
 use Rattle.iv_machine.specs.Refusing.{test, is_present, entries_present}
 use Rattle.iv_machine.specs.Changing.{times, without, changed_by, after_entry, written}
 use Rattle.iv_machine.specs.Added.{adds, added}
-use Rattle.iv_machine.proofs.Serving.{or_none, passed}
+use Rattle.iv_machine.proofs.OpenSubscriptions.{or_none, passed}
 
 pub copies-append : (q : List Cell) (xs ys : List (List Cell)) → copies q (xs ++ ys) ≡ copies q xs + copies q ys
 copies-append q [] ys = omega arith
