@@ -22,7 +22,7 @@ use Rattle.iv_database.specs.Database.{Database, HoldsKinds, IsDatabase, at, kin
 use Rattle.iv_database.specs.Resolving.{Passes, TookIn, left_by}
 use Rattle.iv_database.specs.Stands.{Stands}
 use Rattle.iv_database.specs.Summed.{HasRoom}
-use Rattle.iv_database.proofs.Holding.{one_passes, to_bag, to_list}
+use Rattle.iv_database.proofs.RowKinds.{one_passes, to_bag, to_list}
 
 -- ---- lists behind the tables
 

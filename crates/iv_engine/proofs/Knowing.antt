@@ -11,7 +11,7 @@ use Rattle.iv_bind.specs.Catalogs.{CatalogEntry, named, numbered}
 use Rattle.iv_access.specs.Access.{Relation, relation_name, relation_of}
 use Rattle.iv_access.specs.Rights.{Name}
 use Rattle.iv_database.specs.Database.{Database, IsDatabase, relation_in}
-use Rattle.iv_database.proofs.Telling.{known, unknown}
+use Rattle.iv_database.proofs.RightsRefusals.{known, unknown}
 use Rattle.iv_engine.specs.Known.{has_any}
 use Rattle.iv_engine.specs.Looked.{has_named}
 

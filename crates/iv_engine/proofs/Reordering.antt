@@ -13,7 +13,7 @@ use Rattle.iv_access.specs.Policies.{allowed, may_see}
 use Rattle.iv_machine.specs.Machine.{ending, first_cause}
 use Rattle.iv_machine.specs.Sound.{HasKinds, IsSoundState}
 use Rattle.iv_machine.specs.State.{Frame, State, Subscription, actor, missing_for, plan_at}
-use Rattle.iv_database.proofs.Holding.{all_pass, one_passes, to_list}
+use Rattle.iv_database.proofs.RowKinds.{all_pass, one_passes, to_list}
 use Rattle.iv_store.specs.Engine.{Engine, IsBehind}
 use Rattle.iv_store.proofs.Seeing.{copies_filter}
 

@@ -23,7 +23,7 @@ use Rattle.iv_store.specs.Answering.{IsAccepted, seen, sent}
 use Rattle.iv_store.specs.Counting.{TurnsRounds}
 use Rattle.iv_readers.specs.Each.{Each}
 use Rattle.iv_store.specs.Found.{beside_of, total_at}
-use Rattle.iv_database.proofs.Stored.{rights_stored}
+use Rattle.iv_database.proofs.StoredFacts.{rights_stored}
 use Rattle.iv_store.specs.Store.{database_of, IsOpen, IsRoleCircuit, IsSoundStore, IsStored, IsWithin, Store, at, frame_of, is_read, may_read, place_of, role_reads, shown_rows, with_rights}
 use Rattle.iv_readers.specs.Readers.{RoleCircuit}
 use Rattle.iv_store.specs.Rounds.{rounds_of}

@@ -17,7 +17,7 @@ use Rattle.iv_machine.proofs.UniqueNumbers.{given_kept, unique_kept}
 use Rattle.iv_store.specs.Answering.{IsAccepted, seen}
 use Rattle.iv_store.specs.Counting.{AreCounted}
 use Rattle.iv_store.specs.Finished.{without_session, without_subscription, without_unread}
-use Rattle.iv_database.proofs.Stored.{sessions_stored}
+use Rattle.iv_database.proofs.StoredFacts.{sessions_stored}
 use Rattle.iv_store.specs.Store.{database_of, IsOpen, IsRoleCircuit, IsSoundStore, IsWithin, Store, at, frame_of, may_read, place_of}
 use Rattle.iv_readers.specs.Readers.{is_for}
 use Rattle.iv_store.specs.Rounds.{beside_number, rounds, rounds_of}

@@ -3,7 +3,7 @@
 use Rattle.std.proofs.Common.{◌≡◌, ◌∙◌, Bool, [], suc, ap, subst, sym}
 use Rattle.iv_machine.specs.Machine.{hung}
 use Rattle.iv_machine.specs.State.{Frame, State}
-use Rattle.iv_database.proofs.Stored.{sessions_stored}
+use Rattle.iv_database.proofs.StoredFacts.{sessions_stored}
 use Rattle.iv_store.specs.Store.{database_of, IsSoundStore, Store}
 use Rattle.iv_store.specs.Rounds.{rounds_of}
 use Rattle.iv_store.specs.Engine.{Engine, IsBehind, hung_up}

@@ -32,7 +32,7 @@ use Rattle.iv_readers.specs.Touching.{ArePlaces, AreRisingFrom, IsPlace, rels_of
 use Rattle.iv_readers.specs.declared.changes.Prepared.{Prepared}
 use Rattle.iv_store.specs.declared.touching.Reader.{Reader}
 use Rattle.iv_store.specs.declared.touching.Touched.{Touched}
-use Rattle.iv_database.proofs.Checking.{both}
+use Rattle.iv_database.proofs.FrameTests.{both}
 use Rattle.iv_store.proofs.Beside.{for_is}
 use Rattle.iv_readers.proofs.Held.{same_number}
 use Rattle.iv_readers.proofs.Lists.{all_map, all_zip, is_self, apart, below_not}

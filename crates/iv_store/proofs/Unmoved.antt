@@ -24,7 +24,7 @@ use Rattle.iv_store.specs.Store.{IsCircuitOf, Store, at, frame_of, may_read, sho
 use Rattle.iv_readers.specs.Readers.{RoleCircuit}
 use Rattle.iv_database.specs.Database.{kinds_at}
 use Rattle.iv_database.specs.Stands.{Stands}
-use Rattle.iv_database.proofs.Holding.{to_list}
+use Rattle.iv_database.proofs.RowKinds.{to_list}
 use Rattle.iv_store.proofs.Seeing.{rows_same, sees_same}
 
 -- in d it has the plan and the needs that it has in e, and its reader may select what it might, and sees the same rows; the

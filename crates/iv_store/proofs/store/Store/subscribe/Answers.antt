@@ -3,7 +3,7 @@ use Rattle.std.specs.Prelude.{string_bytes}
 use Rattle.iv_access.specs.Rights.{Name}
 use Rattle.iv_machine.specs.Act.{subscribe}
 use Rattle.iv_machine.specs.State.{Subscription}
-use Rattle.iv_database.proofs.Owning.{err_is}
+use Rattle.iv_database.proofs.PolicyTests.{err_is}
 use Rattle.iv_command.specs.declared.stop.Stop.{Stop}
 use Rattle.iv_store.specs.Answering.{IsStep}
 use Rattle.iv_store.specs.Store.{Store}

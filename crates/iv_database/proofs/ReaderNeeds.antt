@@ -16,7 +16,7 @@ use Rattle.iv_machine.specs.Numbered.{AreNumbered}
 use Rattle.iv_machine.specs.State.{missing_for, name_of, needs_at}
 use Rattle.iv_database.specs.Database.{Database, IsDatabase, frame_of, relation_in}
 use Rattle.iv_access.specs.Privileges.{select_from}
-use Rattle.iv_database.proofs.Reaching.{numbered_there}
+use Rattle.iv_database.proofs.TablesAndViews.{numbered_there}
 use Rattle.iv_database.proofs.Tables.{found_rel}
 
 -- ---- a relation, and those that it reaches

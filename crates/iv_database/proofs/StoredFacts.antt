@@ -20,8 +20,8 @@ use Rattle.iv_machine.proofs.SubscriptionPlaces.{roles_after}
 use Rattle.iv_machine.proofs.OpenSubscriptions.{or_none}
 use Rattle.iv_database.specs.Database.{Database, HoldsKinds, IsDatabase, at_start, frame_of, relation_in, with_rights}
 use Rattle.iv_database.specs.Next.{database_after, with_relation_of}
-use Rattle.iv_database.proofs.Tabled.{heads_with, rows_with}
-use Rattle.iv_database.proofs.Holding.{still_holds}
+use Rattle.iv_database.proofs.TablesOfCatalog.{heads_with, rows_with}
+use Rattle.iv_database.proofs.RowKinds.{still_holds}
 use Rattle.iv_database.proofs.Tables.{numbered_push}
 
 -- ---- lists

@@ -20,8 +20,8 @@ use Rattle.iv_database.specs.Next.{IsDone}
 use Rattle.iv_database.specs.Target.{IsTarget}
 use Rattle.iv_database.specs.Telling.{IsTold, told}
 use Rattle.iv_command.specs.declared.stop.Stop.{Stop}
-use Rattle.iv_database.proofs.Enrolling.{HasTurned, done_by}
-use Rattle.iv_database.proofs.Telling.{Tells, acts}
+use Rattle.iv_database.proofs.MembershipChanges.{HasTurned, done_by}
+use Rattle.iv_database.proofs.RightsRefusals.{Tells, acts}
 
 two : (a b : Bool) (name : Name) → Tells (first_fault ((a, fault.NotOwner) ∷ (b, fault.Role) ∷ [])) name (or_else (test a (machine.not_owner name)) (or_else (test b machine.unknown_role) None))
 two true b name = record { none = λ h. cc; some = λ x h. let e : fault.NotOwner ≡ x = cc in (machine.not_owner name, (refl, ap (λ y. told y name) e)) }

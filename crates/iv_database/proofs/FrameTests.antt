@@ -21,7 +21,7 @@ use Rattle.iv_command.specs.Stops.{IsTested}
 use Rattle.iv_command.specs.Views.{refusal_of}
 use Rattle.iv_command.specs.declared.stop.Stop.{Stop}
 use Rattle.iv_command.specs.declared.stop.Stop.TheVariants.{Refused, Memory}
-use Rattle.iv_database.proofs.Telling.{acts}
+use Rattle.iv_database.proofs.RightsRefusals.{acts}
 
 -- ---- the shape of an entry
 

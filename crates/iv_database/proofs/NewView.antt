@@ -26,8 +26,8 @@ use Rattle.iv_command.specs.Views.{refusal_of}
 use Rattle.iv_command.specs.declared.stop.Stop.{Stop}
 use Rattle.iv_command.specs.declared.stop.Stop.TheVariants.{Refused, Memory}
 use Rattle.iv_database.specs.Telling.{IsStopOf, told as told_as}
-use Rattle.iv_database.proofs.Enrolling.{memory_is_none}
-use Rattle.iv_database.proofs.Telling.{closed, named_known, opened}
+use Rattle.iv_database.proofs.MembershipChanges.{memory_is_none}
+use Rattle.iv_database.proofs.RightsRefusals.{closed, named_known, opened}
 
 -- ---- the session and the names
 

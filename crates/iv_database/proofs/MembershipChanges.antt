@@ -19,7 +19,7 @@ use Rattle.iv_database.specs.Telling.{IsTold, told}
 use Rattle.iv_command.specs.Views.{refusal_of}
 use Rattle.iv_command.specs.declared.stop.Stop.{Stop}
 use Rattle.iv_command.specs.declared.stop.Stop.TheVariants.{Refused, Memory}
-use Rattle.iv_database.proofs.Telling.{Tells, acts}
+use Rattle.iv_database.proofs.RightsRefusals.{Tells, acts}
 
 four : (a b c d : Bool) (name : Name) → Tells (first_fault ((a, fault.NotAdmin) ∷ (b, fault.Role) ∷ (c, fault.Role) ∷ (d, fault.Loop) ∷ [])) name
     (or_else (test a machine.not_administrator) (or_else (test b machine.unknown_role) (or_else (test c machine.unknown_role) (or_else (test d machine.membership_loop) None))))
