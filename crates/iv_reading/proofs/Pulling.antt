@@ -24,7 +24,7 @@ use Rattle.iv_request.specs.Reading.{asked, reading_by}
 use Rattle.iv_reading.specs.Pulled.{IsNext, Pulls, Adds, Closes, natural_by, items_after, HasRead, members_after, HasFound}
 use Rattle.iv_request.proofs.Each.{behind_nothing, behind_cons}
 use Rattle.iv_request.proofs.Keys.{both_true}
-use Rattle.iv_request.proofs.Looking.{read_fits}
+use Rattle.iv_request.proofs.BorrowedValues.{read_fits}
 use Rattle.iv_reading.proofs.Lines.{asks}
 
 -- ---- a value
