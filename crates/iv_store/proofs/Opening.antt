@@ -43,7 +43,7 @@ use Rattle.iv_command.specs.declared.stop.Stop.TheVariants.{Refused, Memory}
 use Rattle.iv_store.proofs.Beside.{is_own, place_pushed, slot_is}
 use Rattle.iv_store.proofs.Circling.{same_circuit, serves_circuit}
 use Rattle.iv_store.proofs.Counted.{all_beside, all_given, next_none, now_counted, rounds_more}
-use Rattle.iv_readers.proofs.Listing.{from_none}
+use Rattle.iv_readers.proofs.RowLists.{from_none}
 use Rattle.iv_store.proofs.Pairing.{all_at}
 use Rattle.iv_store.proofs.Opened.{opened_have, opened_same, others_rounds, own_rounds}
 use Rattle.iv_store.proofs.Replaced.{IsSameReader, place_same, read_still}
