@@ -14,8 +14,8 @@ use Rattle.iv_store.specs.Answering.{seen}
 use Rattle.iv_store.specs.Store.{Store, frame_of}
 use Rattle.iv_store.specs.Rounds.{by_number, of_number, rounds, rounds_of}
 use Rattle.iv_store.specs.Engine.{HasRoundsOfOpen}
-use Rattle.iv_store.proofs.Counted.{none_listed}
-use Rattle.iv_store.proofs.Running.{shown_by}
+use Rattle.iv_store.proofs.SubscriptionRounds.{none_listed}
+use Rattle.iv_store.proofs.RunLines.{shown_by}
 
 same_nat : (m n : ℕ) → (m == n) ≡ true → m ≡ n
 same_nat m n h = grind (arith, nat_tests)

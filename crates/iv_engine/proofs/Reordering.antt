@@ -15,7 +15,7 @@ use Rattle.iv_machine.specs.Sound.{HasKinds, IsSoundState}
 use Rattle.iv_machine.specs.State.{Frame, State, Subscription, actor, missing_for, plan_at}
 use Rattle.iv_database.proofs.RowKinds.{all_pass, one_passes, to_list}
 use Rattle.iv_store.specs.Engine.{Engine, IsBehind}
-use Rattle.iv_store.proofs.Seeing.{copies_filter}
+use Rattle.iv_store.proofs.VisibleRows.{copies_filter}
 
 abbrev state_of : Frame → Lists → State
 state_of f S = record { frame = f; rows = S }

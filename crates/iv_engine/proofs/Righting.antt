@@ -33,13 +33,13 @@ use Rattle.iv_store.specs.Turned.{AreReadersTold, AreShowed, AreWaiting, IsOther
 use Rattle.iv_command.specs.Views.{line_of, reply_of}
 use Rattle.iv_command.specs.declared.answer.Answer.{Answer}
 use Rattle.iv_store.proofs.Beside.{beside_each}
-use Rattle.iv_store.proofs.Circling.{bag_for, same_circuit}
-use Rattle.iv_store.proofs.Counted.{IsBeside, all_beside, those_counted}
-use Rattle.iv_store.proofs.Passing.{all_kept, all_pass}
-use Rattle.iv_store.proofs.Showing.{each_found, kept_found, kept_one, lists_behind, shown_is, stands_behind}
+use Rattle.iv_store.proofs.RelationCircuits.{bag_for, same_circuit}
+use Rattle.iv_store.proofs.SubscriptionRounds.{IsBeside, all_beside, those_counted}
+use Rattle.iv_store.proofs.FilteredLists.{all_kept, all_pass}
+use Rattle.iv_store.proofs.SubscriptionViews.{each_found, kept_found, kept_one, lists_behind, shown_is, stands_behind}
 use Rattle.iv_readers.proofs.Lists.{all_map, all_zip}
 use Rattle.iv_store.proofs.Sound.{has_same}
-use Rattle.iv_store.proofs.Stepping.{no_refusal, same_lines}
+use Rattle.iv_store.proofs.RequestSteps.{no_refusal, same_lines}
 use Rattle.iv_store.proofs.Totals.{total_counts}
 use Rattle.iv_store.proofs.Unread.{read_has}
 

@@ -11,7 +11,7 @@ use Rattle.iv_store.specs.Store.{Store, frame_of}
 use Rattle.iv_store.specs.Engine.{Engine, IsBehind}
 use Rattle.iv_database.specs.Stands.{Stands}
 use Rattle.iv_command.specs.Views.{command_of, line_of}
-use Rattle.iv_store.proofs.Running.{counted_seen, shown_by}
+use Rattle.iv_store.proofs.RunLines.{counted_seen, shown_by}
 use Rattle.iv_engine.proofs.engine.Engine.apply.Goals as goal
 
 pub returns-in-Ok-clause-lines : goal.returns-in-Ok-clause-lines

@@ -24,7 +24,7 @@ use Rattle.iv_machine.specs.declared.Cause.TheVariants as cause
 use Rattle.iv_database.proofs.Taken as taking
 use Rattle.iv_store.specs.Store.{database_of, Store, IsStored, frame_of, at, may_read, shown_rows, table_rows}
 use Rattle.iv_database.specs.Stands.{Stands}
-use Rattle.iv_store.proofs.Seeing.{filter_within, rows_same}
+use Rattle.iv_store.proofs.VisibleRows.{filter_within, rows_same}
 use Rattle.iv_database.proofs.Tables.{IsATable, plan_is}
 
 nat_at_most : (m n : ℕ) → m ≤ n → nat_le m n ≡ true

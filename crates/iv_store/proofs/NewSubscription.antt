@@ -41,15 +41,15 @@ use Rattle.iv_command.specs.declared.command.Reply.{Reply}
 use Rattle.iv_command.specs.declared.stop.Stop.{Stop}
 use Rattle.iv_command.specs.declared.stop.Stop.TheVariants.{Refused, Memory}
 use Rattle.iv_store.proofs.Beside.{is_own, place_pushed, slot_is}
-use Rattle.iv_store.proofs.Circling.{same_circuit, serves_circuit}
-use Rattle.iv_store.proofs.Counted.{all_beside, all_given, next_none, now_counted, rounds_more}
+use Rattle.iv_store.proofs.RelationCircuits.{same_circuit, serves_circuit}
+use Rattle.iv_store.proofs.SubscriptionRounds.{all_beside, all_given, next_none, now_counted, rounds_more}
 use Rattle.iv_readers.proofs.RowLists.{from_none}
-use Rattle.iv_store.proofs.Pairing.{all_at}
-use Rattle.iv_store.proofs.Opened.{opened_have, opened_same, others_rounds, own_rounds}
-use Rattle.iv_store.proofs.Replaced.{IsSameReader, place_same, read_still}
-use Rattle.iv_store.proofs.Showing.{difference_none, shown_is}
+use Rattle.iv_store.proofs.ListPairs.{all_at}
+use Rattle.iv_store.proofs.OpenCircuit.{opened_have, opened_same, others_rounds, own_rounds}
+use Rattle.iv_store.proofs.ReplacedCircuits.{IsSameReader, place_same, read_still}
+use Rattle.iv_store.proofs.SubscriptionViews.{difference_none, shown_is}
 use Rattle.iv_readers.proofs.Lists.{all_map, all_zip}
-use Rattle.iv_store.proofs.Stepping.{IsShown, each_shown, no_lines, none_ends, none_settled, refused_step}
+use Rattle.iv_store.proofs.RequestSteps.{IsShown, each_shown, no_lines, none_ends, none_settled, refused_step}
 use Rattle.iv_store.proofs.Totals.{circuits_within, total_counts}
 use Rattle.iv_store.proofs.Unread.{place_found, place_more, reads_it}
 

@@ -25,7 +25,7 @@ use Rattle.iv_readers.specs.Readers.{RoleCircuit}
 use Rattle.iv_database.specs.Database.{kinds_at}
 use Rattle.iv_database.specs.Stands.{Stands}
 use Rattle.iv_database.proofs.RowKinds.{to_list}
-use Rattle.iv_store.proofs.Seeing.{rows_same, sees_same}
+use Rattle.iv_store.proofs.VisibleRows.{rows_same, sees_same}
 
 -- in d it has the plan and the needs that it has in e, and its reader may select what it might, and sees the same rows; the
 -- relations of e are those of d, and the reader is the same and sees the same of each table

@@ -7,7 +7,7 @@ use Rattle.std.specs.List.{AllByRecursion}
 use Rattle.iv_readers.specs.Each.{Each}
 use Rattle.iv_readers.specs.Readers.{RoleCircuit, is_for, opened_to, opened_at}
 use Rattle.iv_store.specs.Rounds.{beside_or, rounds_in, rounds_since}
-use Rattle.iv_store.proofs.Replaced.{IsSameReader}
+use Rattle.iv_store.proofs.ReplacedCircuits.{IsSameReader}
 
 same_each : (ks : List RoleCircuit) → Each IsSameReader ks ks
 same_each [] = tt

@@ -7,8 +7,8 @@ use Rattle.iv_database.proofs.StoredFacts.{sessions_stored}
 use Rattle.iv_store.specs.Store.{database_of, IsSoundStore, Store}
 use Rattle.iv_store.specs.Rounds.{rounds_of}
 use Rattle.iv_store.specs.Engine.{Engine, IsBehind, hung_up}
-use Rattle.iv_store.proofs.Counted.{none_listed}
-use Rattle.iv_store.proofs.Running.{shown_by}
+use Rattle.iv_store.proofs.SubscriptionRounds.{none_listed}
+use Rattle.iv_store.proofs.RunLines.{shown_by}
 
 pub closed_behind : (s : State) (e new : Engine) → new ≡ hung_up e → IsBehind s e → IsBehind (hung s) new
 closed_behind s e new h b = subst (λ (v : Engine). IsBehind (hung s) v) (sym h) (record { frame = ap (λ (f : Frame). record f { sessions = []; subscriptions = [] }) b.frame; rows = b.rows })

@@ -26,13 +26,13 @@ use Rattle.iv_database.specs.Stands.{Stands}
 use Rattle.iv_command.specs.Views.{line_of}
 use Rattle.iv_command.specs.declared.command.Line.{Line}
 use Rattle.iv_command.specs.declared.command.Reply.TheVariants.{Ok}
-use Rattle.iv_store.proofs.Counted.{IsBeside, all_beside, left_rounds, same_rounds, those_counted}
-use Rattle.iv_store.proofs.Dropped.{left_have, left_read, left_there}
-use Rattle.iv_store.proofs.Showing.{difference_none, each_found}
+use Rattle.iv_store.proofs.SubscriptionRounds.{IsBeside, all_beside, left_rounds, same_rounds, those_counted}
+use Rattle.iv_store.proofs.DroppedCircuits.{left_have, left_read, left_there}
+use Rattle.iv_store.proofs.SubscriptionViews.{difference_none, each_found}
 use Rattle.iv_readers.proofs.Lists.{all_zip}
 use Rattle.iv_store.proofs.Sound.{circuits_stay}
-use Rattle.iv_store.proofs.Stepping.{no_lines, no_refusal, none_ends, none_settled}
-use Rattle.iv_store.proofs.Unmoved.{IsUnmoved, other_sessions, still_read, still_shown, still_within}
+use Rattle.iv_store.proofs.RequestSteps.{no_lines, no_refusal, none_ends, none_settled}
+use Rattle.iv_store.proofs.UnmovedSubscriptions.{IsUnmoved, other_sessions, still_read, still_shown, still_within}
 
 -- ---- what is left of the subscriptions, whose sessions are as before
 

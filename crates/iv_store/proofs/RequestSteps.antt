@@ -34,13 +34,13 @@ use Rattle.iv_command.specs.declared.command.Reply.TheVariants.{Ok}
 use Rattle.iv_command.specs.declared.answer.Answer.{Answer}
 use Rattle.iv_command.specs.declared.stop.Stop.{Stop}
 use Rattle.iv_command.specs.declared.stop.Stop.TheVariants.{Refused, Memory}
-use Rattle.iv_store.proofs.Counted.{all_beside, same_rounds, those_counted}
+use Rattle.iv_store.proofs.SubscriptionRounds.{all_beside, same_rounds, those_counted}
 use Rattle.iv_database.proofs.PolicyTests.{err_is}
 use Rattle.iv_database.proofs.TablesOfCatalog.{rows_with}
-use Rattle.iv_store.proofs.Showing.{cause_for, difference_none, each_found, ending_is, shown_is}
+use Rattle.iv_store.proofs.SubscriptionViews.{cause_for, difference_none, each_found, ending_is, shown_is}
 use Rattle.iv_readers.proofs.Lists.{all_map, all_zip}
 use Rattle.iv_store.proofs.Sound.{all_shown, begin_sound, begin_unmoved, grant_sound, grant_unmoved, role_sound, role_unmoved, table_sound, table_unmoved, view_sound, view_unmoved}
-use Rattle.iv_store.proofs.Unmoved.{IsUnmoved}
+use Rattle.iv_store.proofs.UnmovedSubscriptions.{IsUnmoved}
 
 -- ---- lists of subscriptions
 

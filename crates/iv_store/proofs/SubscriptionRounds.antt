@@ -10,7 +10,7 @@ use Rattle.iv_store.specs.Store.{IsOpen, IsStored, Store, frame_of, is_read}
 use Rattle.iv_readers.specs.Readers.{RoleCircuit, is_for}
 use Rattle.iv_store.specs.Rounds.{beside_number, by_number, of_number, rounds, rounds_in, rounds_of, rounds_since}
 use Rattle.iv_store.proofs.Beside.{for_is}
-use Rattle.iv_store.proofs.Showing.{each_found}
+use Rattle.iv_store.proofs.SubscriptionViews.{each_found}
 use Rattle.iv_readers.proofs.Lists.{all_map, all_zip}
 use Rattle.iv_store.proofs.Unread.{reads_own}
 
