@@ -1,4 +1,4 @@
-use Rattle.iv_engine.proofs.Sounding.{sound_after_all}
+use Rattle.iv_engine.proofs.SoundStates.{sound_after_all}
 use Rattle.std.proofs.Common.{◌≡◌, ◌∙◌, refl, sym, ap, List, map, ◌++◌, [], subst, cond, arith}
 use Rattle.std.specs.List.{list_all}
 use Rattle.std.proofs.lemmas.List.{map-append}

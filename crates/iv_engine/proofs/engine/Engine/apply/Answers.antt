@@ -1,4 +1,4 @@
-use Rattle.iv_engine.proofs.Sounding.{sound_after}
+use Rattle.iv_engine.proofs.SoundStates.{sound_after}
 use Rattle.std.proofs.Common.{◌≡◌, ◌∙◌, false, map, sym, ap, subst}
 use Rattle.iv_machine.specs.Machine.{step}
 use Rattle.iv_machine.specs.State.{Frame}

@@ -16,8 +16,8 @@ use Rattle.iv_store.specs.Store.{IsSoundStore, Store, database_of, frame_of, wit
 use Rattle.iv_store.specs.Next.{kept_after}
 use Rattle.iv_store.specs.Turned.{AreReadersTold, AreWaiting}
 use Rattle.iv_command.specs.declared.answer.Answer.{Answer}
-use Rattle.iv_engine.proofs.Joining.{joined_step, joined_waiting, many_flags, parted_step, parted_waiting}
-use Rattle.iv_engine.proofs.Righting.{told_as, waiting_as}
+use Rattle.iv_engine.proofs.MembershipEffects.{joined_step, joined_waiting, many_flags, parted_step, parted_waiting}
+use Rattle.iv_engine.proofs.RightsSteps.{told_as, waiting_as}
 use Rattle.iv_store.proofs.RequestSteps.{TestsAlike, has_become, has_passed}
 
 -- of each circuit, whether its role reaches the role as it did not before

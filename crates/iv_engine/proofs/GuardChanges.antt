@@ -28,7 +28,7 @@ use Rattle.iv_store.specs.Turned.{AreReadersTold, AreWaiting}
 use Rattle.iv_command.specs.declared.answer.Answer.{Answer}
 use Rattle.iv_store.proofs.RelationCircuits.{seen_circuit}
 use Rattle.iv_store.proofs.RequestSteps.{refused_step}
-use Rattle.iv_engine.proofs.Righting.{StaysStill, told_as, waiting_as, flag_beside, reads_same, righted_step, righted_stored, waiting}
+use Rattle.iv_engine.proofs.RightsSteps.{StaysStill, told_as, waiting_as, flag_beside, reads_same, righted_step, righted_stored, waiting}
 use Rattle.iv_store.proofs.VisibleRows.{sees_same}
 use Rattle.iv_store.proofs.Touches.{scans_alike}
 

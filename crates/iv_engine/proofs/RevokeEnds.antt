@@ -18,7 +18,7 @@ use Rattle.iv_store.specs.Next.{kept_after}
 use Rattle.iv_store.specs.Turned.{AreReadersTold, AreWaiting}
 use Rattle.iv_command.specs.declared.answer.Answer.{Answer}
 use Rattle.iv_store.proofs.RelationCircuits.{seen_circuit}
-use Rattle.iv_engine.proofs.Righting.{StaysStill, flag_beside, righted_step, righted_stored, told_as, waiting, waiting_as}
+use Rattle.iv_engine.proofs.RightsSteps.{StaysStill, flag_beside, righted_step, righted_stored, told_as, waiting, waiting_as}
 use Rattle.iv_store.proofs.VisibleRows.{sees_same}
 use Rattle.iv_store.proofs.RequestSteps.{has_become, has_passed}
 

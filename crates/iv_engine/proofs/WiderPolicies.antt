@@ -32,7 +32,7 @@ use Rattle.iv_store.specs.Store.{database_of, with_database, IsRoleCircuit, IsSo
 use Rattle.iv_engine.specs.Restricted.{is_user, names_user, IsHidden, IsRestricted}
 use Rattle.iv_store.specs.Turned.{IsNarrowed}
 use Rattle.iv_readers.proofs.Lists.{all_map}
-use Rattle.iv_engine.proofs.Guarding.{drop_guards, guard_is, guarded}
+use Rattle.iv_engine.proofs.GuardChanges.{drop_guards, guard_is, guarded}
 
 -- ---- conditions that do not read the name of the user
 

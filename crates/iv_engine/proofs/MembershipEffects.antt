@@ -27,7 +27,7 @@ use Rattle.iv_store.specs.Engine.{Engine}
 use Rattle.iv_store.specs.Turned.{AreReadersTold, AreWaiting}
 use Rattle.iv_command.specs.declared.answer.Answer.{Answer}
 use Rattle.iv_store.proofs.RelationCircuits.{seen_circuit}
-use Rattle.iv_engine.proofs.Righting.{StaysStill, flag_beside, flags_of, reads_same, righted_step, righted_stored, waiting}
+use Rattle.iv_engine.proofs.RightsSteps.{StaysStill, flag_beside, flags_of, reads_same, righted_step, righted_stored, waiting}
 use Rattle.iv_store.proofs.VisibleRows.{sees_same}
 
 -- ---- flags that differ

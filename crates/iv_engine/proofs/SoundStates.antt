@@ -9,7 +9,7 @@ use Rattle.iv_machine.specs.Stored.{IsGiven, IsStoredSound}
 use Rattle.iv_machine.proofs.SoundRuns.{IsSoundWhole, hung_stays, run_stays, start_stays}
 use Rattle.iv_store.specs.Engine.{Engine, IsBehind, IsLeftBy, IsLeftByAll}
 use Rattle.iv_engine.specs.Sound.{IsSoundEngine}
-use Rattle.iv_engine.proofs.Reordering.{sound_behind}
+use Rattle.iv_engine.proofs.RowOrder.{sound_behind}
 
 pub sound_of : (s : State) (e : Engine) → IsBehind s e → IsSoundWhole s → IsSoundEngine e
 sound_of s e b k = record { state = s; behind = b; sound = λ t d. sound_behind s t e b d k.0; stored = subst IsStoredSound b.frame k.1 }

@@ -19,7 +19,7 @@ use Rattle.iv_machine.specs.State.{rel_of}
 use Rattle.iv_store.specs.Store.{database_of, with_database, IsRoleCircuit, IsSoundStore, Store, frame_of}
 use Rattle.iv_store.specs.Turned.{IsNarrowed}
 use Rattle.iv_readers.proofs.Lists.{all_map}
-use Rattle.iv_engine.proofs.Guarding.{guard_is, guarded, policy_guards}
+use Rattle.iv_engine.proofs.GuardChanges.{guard_is, guarded, policy_guards}
 
 same_number : (n m : ℕ) → (n == m) ≡ true → n ≡ m
 same_number n m h = grind (arith, nat_tests)
