@@ -14,7 +14,7 @@ use Rattle.iv_command.specs.declared.command.Command.{Command}
 use Rattle.iv_embedded.specs.Applied.{AreApplied}
 use Rattle.iv_store.specs.Engine.{IsBehind}
 use Rattle.iv_command.specs.Views.{command_of, line_of}
-use Rattle.iv_embedded.proofs.Applying.{GoesBehind, one_more}
+use Rattle.iv_embedded.proofs.CommandLists.{GoesBehind, one_more}
 use Rattle.iv_store.proofs.RunLines.{no_items, nothing_more, run_more, well_others}
 use Rattle.iv_embedded.proofs.listing.run_list.Goals as goal
 
