@@ -29,7 +29,7 @@ use Rattle.iv_machine.proofs.Readers.{all_found}
 use Rattle.iv_machine.proofs.Sound.{IsKept, IsWhole, may_read, settled_kept, sound_whole}
 use Rattle.iv_steps.specs.Laws.{FactsDecide, IsStep, IsTold, NoneIsBetween, NothingIsTold, RefusalsAreFound, StepsAreTold}
 use Rattle.iv_steps.specs.Steps.{Fact, all_carried, among, looked_at, shared}
-use Rattle.iv_steps.proofs.Carrying.{Grows, all_carry, one_refused}
+use Rattle.iv_steps.proofs.FactSteps.{Grows, all_carry, one_refused}
 
 -- ---- who is left may read
 
