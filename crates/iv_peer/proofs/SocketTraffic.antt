@@ -14,7 +14,7 @@ use Rattle.websocket.specs.Stream.{prepend, read_all}
 use Rattle.iv_peer.specs.Socket.{Item, Socket, IsAccepted, accepted, answer, answers, at_start, bad_request, close_of, closed, ended, ending, failed, fault_code, framed, fresh, is_open, item_bytes, offering, passing, refused, stepped, telling, told, told_text, took, upgrade_required}
 use Rattle.iv_peer.specs.Hearing.{Hears, IsServer, IsWaiting, IsWaitingAt, accepts, refuses_other, refuses_bad, refuses_long, frames, fails, text_in}
 use Rattle.iv_peer.specs.Lives.{Carries, CarriesAt, Decodes, IsOpened, IsUnopened, Lives, answer_of, answers_in, begins, closes, ends, frame, hears, listed, nothing, replies_of, sends, takes, tells, text_of, texts_in, texts_of}
-use Rattle.iv_peer.proofs.Decoding.{decodes_all, decodes_more, decodes_on, waits_all}
+use Rattle.iv_peer.proofs.FrameBytes.{decodes_all, decodes_more, decodes_on, waits_all}
 use Rattle.iv_peer.proofs.Roles.{role_stays}
 
 none_some : {X : Type 0} (a : X) → None ≡ Some a → ⊥
