@@ -17,7 +17,7 @@ use Rattle.iv_desk.specs.declared.place.Hearing.{Hearing}
 use Rattle.iv_desk.specs.declared.place.Hearing.TheVariants.{Over}
 use Rattle.iv_clients.proofs.Slots.{at_other, at_same, one_some, set_other}
 use Rattle.iv_desk.proofs.Slots.{at_each_number, none_some}
-use Rattle.iv_desk.proofs.Presenting.{Forgets, SameEffects, closed_effects, closed_forgets, effects_present, passed_effects, passed_forgets}
+use Rattle.iv_desk.proofs.PresentedTokens.{Forgets, SameEffects, closed_effects, closed_forgets, effects_present, passed_effects, passed_forgets}
 use Rattle.iv_desk.proofs.OneNumber.{LeavesMarks, hearing_begins, offered_alive, offered_lived}
 
 -- ---- lists of places

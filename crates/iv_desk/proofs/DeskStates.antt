@@ -18,7 +18,7 @@ use Rattle.iv_desk.specs.declared.place.Place.{Place}
 use Rattle.iv_desk.specs.declared.place.Hearing.{Hearing}
 use Rattle.iv_desk.proofs.Slots.{nobody_there, none_some}
 use Rattle.iv_desk.proofs.OneNumber.{LeavesMarks, dead_by}
-use Rattle.iv_desk.proofs.Standing.{behind_put, free_places, nobody_all, place_there}
+use Rattle.iv_desk.proofs.StatesAfterStep.{behind_put, free_places, nobody_all, place_there}
 
 -- ---- dead, and alive
 

@@ -27,8 +27,8 @@ use Rattle.iv_desk.specs.Front.{goes_on, has_presented, hears, knows, leaves, le
 use Rattle.iv_desk.specs.Front.{offered_to, offers, put_off, sends, socket_at, starts, syncs, takes, text_for, ticks, told_some, turned_away, with_both}
 use Rattle.iv_desk.specs.Front.{is_dropped}
 use Rattle.iv_desk.specs.Served.{BrowsersAreTold, CarriesFor}
-use Rattle.iv_desk.proofs.Calling.{AreLines, shown_there, suc_zero}
-use Rattle.iv_desk.proofs.Presenting.{AlwaysCarries, has_heard}
+use Rattle.iv_desk.proofs.ClientsToTell.{AreLines, shown_there, suc_zero}
+use Rattle.iv_desk.proofs.PresentedTokens.{AlwaysCarries, has_heard}
 use Rattle.iv_clients.proofs.Slots.{at_other, at_same, free_none, one_some, set_gone, set_other, set_there}
 use Rattle.iv_desk.proofs.Slots.{at_each_number, free_every, nobody_there, none_some}
 

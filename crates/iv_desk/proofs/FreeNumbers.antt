@@ -22,11 +22,11 @@ use Rattle.iv_peer.specs.Lives.{CarriesAt, listed}
 use Rattle.iv_desk.specs.Front.{Front, by_event, goes_on, has_presented, is_dropped, let_go, most_pending, offered, offered_to, offers, sends, socket_at, syncs}
 use Rattle.iv_desk.specs.Front.{with_both}
 use Rattle.iv_desk.specs.Progress.{HeldAreFreed, IsFree, caught_up, left_at, taken}
-use Rattle.iv_desk.proofs.Leading.{front_alive}
-use Rattle.iv_desk.proofs.Calling.{suc_zero}
+use Rattle.iv_desk.proofs.RunsByCalls.{front_alive}
+use Rattle.iv_desk.proofs.ClientsToTell.{suc_zero}
 use Rattle.iv_desk.proofs.OneNumber.{LeavesMarks, dead_by, offered_parts}
-use Rattle.iv_desk.proofs.Presenting.{has_heard}
-use Rattle.iv_desk.proofs.Serving.{IsLiving, Laws, LivesClient, LivesFor, LivesNobody, closed_over, goes_or_stays, passed_over, runs_living}
+use Rattle.iv_desk.proofs.PresentedTokens.{has_heard}
+use Rattle.iv_desk.proofs.NumberTraffic.{IsLiving, Laws, LivesClient, LivesFor, LivesNobody, closed_over, goes_or_stays, passed_over, runs_living}
 use Rattle.iv_clients.proofs.Slots.{at_every, at_same, one_some}
 use Rattle.iv_desk.proofs.Slots.{nobody_there, none_some}
 

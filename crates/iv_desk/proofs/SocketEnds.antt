@@ -25,8 +25,8 @@ use Rattle.iv_desk.specs.Front.{takes, text_for, ticks, told_some, turned_away, 
 use Rattle.iv_desk.specs.Desks.{IsLived}
 use Rattle.iv_desk.specs.Causes.{HasFailed, IsOverFor, asked_none, dropped, ended, failed, is_last, refused}
 use Rattle.iv_desk.proofs.OneNumber.{offered_by}
-use Rattle.iv_desk.proofs.Presenting.{closed_effects, texts_heard}
-use Rattle.iv_desk.proofs.Serving.{Laws, LivesFor, LivesNobody, first_lives, heard_leads, none_comes, passed_over, runs_living, token_first}
+use Rattle.iv_desk.proofs.PresentedTokens.{closed_effects, texts_heard}
+use Rattle.iv_desk.proofs.NumberTraffic.{Laws, LivesFor, LivesNobody, first_lives, heard_leads, none_comes, passed_over, runs_living, token_first}
 use Rattle.iv_clients.proofs.Slots.{at_other, at_same, free_none, one_some, set_gone, set_other}
 use Rattle.iv_desk.proofs.Slots.{none_some}
 
