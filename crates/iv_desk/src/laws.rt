@@ -18,7 +18,7 @@ use iv_peer::laws::sockets_carry_what_is_told;
 
 /// In whatever runs, over restarts, each socket carries what its own client says and is told, all of it and in order: the texts that its
 /// bytes decode to are the token that the client presented and then its messages, and it is offered what was handed to the client, each
-/// time in one frame. If no client is, a socket is offered an answer to its handshake, pongs and a close. And all holds that holds
+/// time in one frame. Where no client is, a socket is offered an answer to its handshake, pongs and a close. And all holds that holds
 /// always of the gateway: what clients are told adds up to their views.
 pub fn browsers_are_told_their_views()
     ensures { BrowsersAreTold }

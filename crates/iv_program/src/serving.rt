@@ -3,7 +3,7 @@
 //! A failed engine is answered before an accept, which a test shows: no contract of a listener tells its accepts, nor
 //! where it listens. What is done with a connection has its contract in `answer_connection`. After it the engine is asked
 //! whether it failed: a read or a write that fails ends the connection alone, so a network fault comes from an accept. An
-//! accept that fails ends the program, also if another try might do; std's accept tries again after a signal.
+//! accept that fails ends the program, even if another try might do; std's accept tries again after a signal.
 //!
 //! Each answer is one write, so `TCP_NODELAY` is set; if it can't be, answers may come later and are the same. Tests
 //! (`.ci/socket`) have connections of which no option can be set, one that is reset before it is accepted, and one to

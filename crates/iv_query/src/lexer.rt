@@ -1,7 +1,7 @@
 //! `lexed`: from the bytes of a text to its tokens: words, numbers, quoted texts and signs.
 //!
-//! A letter is A to Z, a to z or an underscore, also if a number must have none after it. A text without its closing quote is
-//! one fault at its first quote, also if a shorter text could be cut from it.
+//! A letter is A to Z, a to z or an underscore, even if a number must have none after it. A text without its closing quote is
+//! one fault at its first quote, even if a shorter text could be cut from it.
 
 ghost use Rattle.std.specs.Prelude.{◌≡◌, ◌==◌, ◌<◌, ◌∷◌, length, drop, slice_index, IfOk, IsTrue, option_map, string_bytes};
 ghost use Rattle.std.specs.Char.{is_ascii_digit};
