@@ -9,7 +9,7 @@
 //! (`.ci/socket`) have connections of which no option can be set, one that is reset before it is accepted, and one to
 //! another address of the host, which is refused. The engine is made before the port is taken, so want of memory there
 //! leaves no line `listening on ..`, which is written by the same kind of end as answers: its text and its faults are in a
-//! contract.
+//! contract. A network fault is told on standard error here, where its cause is known.
 
 ghost use Rattle.std.specs.Prelude.{◌≡◌, ◌≤◌, ◌||◌, ◌↔◌, ◌∷◌, [], true, false, IsErrOf, OnOk};
 ghost use Rattle.std.specs.Net.Addr.{ipv4_octets};
@@ -28,6 +28,7 @@ use iv_arguments::Fault;
 use iv_engine::{Engine, Seed};
 use iv_lines::{EndFault, FromRead, FromWrite, Sink, write_all};
 use std::alloc::Global;
+use std::io::{Error, ErrorKind};
 use std::net::{Ipv4Addr, SocketAddrV4, TcpListener};
 
 /// Why no more connections are served.
@@ -110,6 +111,27 @@ fn tell_port<W: Sink>(alloc: Global, writer: &mut W, port: u16) -> Result<(), Fa
     }
 }
 
+/// Tells on standard error that a port cannot be listened on, why, and what may help.
+fn tell_unbound(rt: &HostRuntime, port: u16, error: &Error) {
+    let fault = Fault::Network;
+    let hint = match error.kind() {
+        ErrorKind::AddrInUse => "Does another program listen there? --port takes another one.",
+        ErrorKind::PermissionDenied =>
+            "Ports below 1024 may need an administrator; --port takes another one.",
+        _ => "Does this machine have 127.0.0.1?",
+    };
+    let _ = eprintln!(rt; "{fault}\nviewd: could not listen on 127.0.0.1:{port}: {error}. {hint}");
+}
+
+/// Tells on standard error that a connection cannot be accepted, and what may help.
+fn tell_unaccepted(rt: &HostRuntime, port: u16) {
+    let fault = Fault::Network;
+    let hint = "May it open more files? ulimit -n tells how many.";
+    let _ = eprintln!(rt;
+        "{fault}\nviewd: could not accept a connection on 127.0.0.1:{port}. {hint}"
+    );
+}
+
 /// Listens on a port of 127.0.0.1, tells so on the writer, and serves so many connections through an engine that has not
 /// failed, with at most `lines` lines of each.
 ///
@@ -130,13 +152,20 @@ fn serve_through<W: Sink>(
     ensures flushed { (is_write result ≡ false) → W.is_flushed writer.old ≡ true → W.is_flushed writer.new ≡ true }
 {
     let alloc = rt.alloc();
-    let Ok(listener) = TcpListener::bind(rt, address_of(port)) else {
-        return Err(Fault::Network);
+    let listener = match TcpListener::bind(rt, address_of(port)) {
+        Ok(listener) => listener,
+        Err(error) => {
+            tell_unbound(rt, port, &error);
+            return Err(Fault::Network);
+        }
     };
     tell_port(alloc, writer, port)?;
     match serve_on(alloc, engine, &listener, connections, lines) {
         Ok(()) => Ok(()),
-        Err(ServeFault::Network) => Err(Fault::Network),
+        Err(ServeFault::Network) => {
+            tell_unaccepted(rt, port);
+            Err(Fault::Network)
+        }
         Err(ServeFault::Memory) => Err(Fault::Memory),
         Err(ServeFault::Failed) => unreachable!(),
     }
