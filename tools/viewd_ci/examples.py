@@ -169,6 +169,9 @@ def compare_statuses() -> None:
     for words in (["--help"], ["replay", "--help"]):
         status, written, told = run(words, input=first, stdout=subprocess.PIPE)
         expect(f"the words {words}", (0, True, b""), (status, b"Usage: viewd" in written, told))
+    written = run(["--help"], input=first, stdout=subprocess.PIPE)[1]
+    for said in (b"viewd replay < ", b"viewd serve --port 7171", b"3  out of memory", b"Who may connect: "):
+        expect(f"what --help says has {said!r}", 1, written.count(said))
     for words in (["replay", "--help"], ["serve", "--help"]):
         status, written, told = run(words, input=first, stdout=subprocess.PIPE)
         bound = b"--rows <N>" in written and b"different rows" in written and b"[default: 65536]" in written

@@ -27,9 +27,9 @@ PROGRAM = "crates/viewd/out/viewd"
 GATEWAY = "crates/gateway/out/gateway"
 # what needs the longest comes first
 PARTS = ["clients", "frontend", "program", "postgresql", "refuse", "try", "limits", "fuzz", "examples", "queries", "socket", "types"]
-PARTS += ["tools", "lint", "meters", "seeds", "files", "modules", "definitions", "protocol", "words"]
+PARTS += ["tools", "lint", "meters", "seeds", "edit_texts", "files", "modules", "definitions", "protocol", "words"]
 # those that do not ask for the program that is built, and those that ask for the kit
-OF_SOURCES = {"tools", "lint", "meters", "seeds", "files", "modules", "definitions", "protocol", "words", "types", "try"}
+OF_SOURCES = {"tools", "lint", "meters", "seeds", "edit_texts", "files", "modules", "definitions", "protocol", "words", "types", "try"}
 OF_KIT = {"refuse", "try"}
 # and what asks for a program of its own
 OF_ITSELF = {"program"}

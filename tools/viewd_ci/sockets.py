@@ -47,6 +47,9 @@ FIRST_ANSWERS = contents("first_change.answers.jsonl")
 READER = b'{"do":"begin","role":"ann","session":2}\n{"do":"subscribe","on":"notes","session":2}\n'
 BEGIN = b'{"do":"begin","role":"admin","session":1}\n'
 OK = b'{"ok":true,"session":1}\n'
+# what standard error has of a network fault, at its end
+ANOTHER_PORT = "Does another program listen there? --port takes another one."
+MORE_FILES = "May it open more files? ulimit -n tells how many."
 
 
 def reader_answers(number: int) -> bytes:
@@ -222,7 +225,8 @@ def row_limit() -> None:
 def no_file_more() -> None:
     """If no connection can be accepted, since the program may open no file more, the network fails."""
     serving = Serving("no file more", preexec_fn=lambda: resource.setrlimit(resource.RLIMIT_NOFILE, (4, 4)))
-    serving.ends(2, b"viewd: network failed\n")
+    told = f"viewd: network failed\nviewd: could not accept a connection on 127.0.0.1:{serving.port}. {MORE_FILES}\n"
+    serving.ends(2, told.encode())
 
 
 def other_addresses() -> None:
@@ -246,15 +250,17 @@ def run(words: list[str], **ends: Any) -> tuple[int, bytes, bytes]:
 
 def statuses() -> None:
     with socket.create_server(("127.0.0.1", 0)) as taken:
-        words = ["serve", "--port", str(taken.getsockname()[1])]
-        expect("a port in use", (2, b"", b"viewd: network failed\n"), run(words, stdout=subprocess.PIPE))
+        port = taken.getsockname()[1]
+        told_why = f"viewd: network failed\nviewd: could not listen on 127.0.0.1:{port}: address in use. {ANOTHER_PORT}\n"
+        expect("a port in use", (2, b"", told_why.encode()), run(["serve", "--port", str(port)], stdout=subprocess.PIPE))
     with open("/dev/full", "wb") as full:
         words = ["serve", "--port", str(free_port())]
         expect("full standard output", (2, None, b"viewd: write failed\n"), run(words, stdout=full))
         # the first port and the last are accepted as words: they are taken, or not allowed, or the line that tells them is not written
         for words in (["serve", "--port", "1"], ["serve", "--port=65535"]):
             status, _, told = run(words, stdout=full)
-            expect(f"{words}", (2, True), (status, told in (b"viewd: network failed\n", b"viewd: write failed\n")))
+            is_told = told == b"viewd: write failed\n" or told.startswith(b"viewd: network failed\nviewd: could not listen on 127.0.0.1:")
+            expect(f"{words}", (2, True), (status, is_told))
     cases: list[tuple[list[str], bytes]] = [
         ([], b"--port"),
         (["--port"], b"--port"),

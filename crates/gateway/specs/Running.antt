@@ -12,7 +12,7 @@ pub record IsRunning (cap : ℕ) (x : Desk) : Type 0 where
   pub runs : FrontRuns cap front
   pub stands : IsDesk front x
 
--- where a run has led to the first desk, one leads to the second
+-- if a run has led to the first desk, one leads to the second
 abbrev pub Leads : Desk → Desk → Type 0
 Leads x y = (cap : ℕ) → IsRunning cap x → IsRunning cap y
 

@@ -84,7 +84,7 @@ impl Hall {
         Ok(())
     }
 
-    /// What stands now.
+    /// What there is now.
     fn stands(&self, desk: &Desk) -> Result<Now, Fault> {
         let mut now = Now {
             sockets: 0,

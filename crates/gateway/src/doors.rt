@@ -15,8 +15,11 @@ const LOOKS: u64 = 10;
 /// Who may come in.
 #[derive(Drop)]
 pub struct Doors {
+    /// The allocator of what it makes.
     alloc: Global,
+    /// The tokens of the file, and web tokens that were granted.
     pub known: KnownTokens,
+    /// The tokens that open the role of administrators.
     admins: Admins,
     /// Clients have numbers below this.
     most: u32,
@@ -42,7 +45,7 @@ impl Doors {
     /// Those of known tokens, and the tokens that are known at a second, in seconds since 1970, for a new desk.
     ///
     /// # Errors
-    /// `AllocError` where a growth of memory was refused.
+    /// `AllocError` if a growth of memory was refused.
     pub fn new(
         alloc: Global,
         known: KnownTokens,
@@ -68,7 +71,7 @@ impl Doors {
         Ok((doors, tokens))
     }
 
-    /// Has the desk know the tokens that are known now, where these are others than those that it knows. Who came by another is closed.
+    /// Has the desk know the tokens that are known now, if these are others than those that it knows. Who came by another is closed.
     fn open(&mut self, desk: &mut Desk) -> Result<(), Fault>
         ensures { Leads desk.old desk.new }
     {
@@ -81,11 +84,11 @@ impl Doors {
         }
     }
 
-    /// It is a further second. Has the desk know the tokens that are known then, where these are others than those that it knows. Who came by
+    /// It is a further second. Has the desk know the tokens that are known then, if these are others than those that it knows. Who came by
     /// another is closed.
     ///
     /// # Errors
-    /// `Memory` where a growth of memory was refused.
+    /// `Memory` if a growth of memory was refused.
     pub fn open_at(&mut self, desk: &mut Desk, second: u64) -> Result<(), Fault>
         ensures { Leads desk.old desk.new }
     {
@@ -117,7 +120,7 @@ impl Doors {
         }
     }
 
-    /// Judges a text; where too many are known, once more without those that no client has.
+    /// Judges a text; if too many are known, once more without those that no client has.
     fn judge(&mut self, desk: &Desk, text: &[u8]) -> Result<Judged, Fault> {
         let judged = self.known.judge(self.alloc, self.second, text)?;
         if judged != Judged::Full || self.looked {

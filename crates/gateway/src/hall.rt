@@ -25,18 +25,19 @@ const ACCEPTS: u32 = 256;
 /// Milliseconds from the first byte to the token, at most.
 pub const COMING: u64 = 10_000;
 
-/// Milliseconds from one message to the next of those who asked nothing, at least, where many are there.
+/// Milliseconds from one message to the next of those who asked nothing, at least, if many are there.
 const GATHERING: u64 = 10;
 
 /// So many connections are many.
 const MANY: usize = 64;
 
-/// Milliseconds in which a client takes something, where something waits for it.
+/// Milliseconds in which a client takes something, if something waits for it.
 const TAKING: u64 = 30_000;
 
 /// The sockets by their numbers.
 #[derive(Drop)]
 pub struct Hall {
+    /// The allocator of what it makes.
     pub alloc: Global,
     /// The numbers are below this.
     pub most: u32,
@@ -62,9 +63,13 @@ pub struct Hall {
     pub gathering: bool,
     /// Milliseconds since the start.
     pub now: u64,
+    /// The lines on standard error.
     pub log: Log,
+    /// What is counted since the start.
     pub counts: Counts,
+    /// The tokens that open roles.
     pub doors: Doors,
+    /// The folder of pages, if there is one.
     pub pages: Option<String>,
 }
 
@@ -102,7 +107,7 @@ impl Hall {
     /// Places for as many.
     ///
     /// # Errors
-    /// `AllocError` where a growth of memory was refused.
+    /// `AllocError` if a growth of memory was refused.
     pub fn new(
         alloc: Global,
         most: u32,
@@ -229,7 +234,7 @@ impl Hall {
         Ok(())
     }
 
-    /// A connection has a number, where one is free.
+    /// A connection has a number, if one is free.
     pub fn place(
         &mut self,
         rt: &HostRuntime,
@@ -293,7 +298,7 @@ impl Hall {
         }
     }
 
-    /// Where no number is free, the connection that has not come in for the longest goes.
+    /// If no number is free, the connection that has not come in for the longest goes.
     fn make_room(&mut self, rt: &HostRuntime, desk: &mut Desk) -> Result<(), Fault>
         ensures { Leads desk.old desk.new }
     {
@@ -369,7 +374,7 @@ impl Hall {
     /// Takes in what the events bring, has the journal keep it, and then sends what may be sent.
     ///
     /// # Errors
-    /// `Memory` where a growth of memory was refused, `Journal` where the journal could not be written.
+    /// `Memory` if a growth of memory was refused, `Journal` if the journal could not be written.
     pub fn round(
         &mut self,
         rt: &HostRuntime,

@@ -25,7 +25,7 @@ const MOST_UNSENT: u64 = 67_108_864;
 /// Bytes of an answer that is made whatever waits, as of `/healthz`.
 const SHORT: usize = 4_096;
 
-/// Bytes of who has presented no token that is known, at most, behind the head of its request.
+/// Bytes of who has presented no token that is known, at most, after the head of its request.
 const MOST_UNKNOWN: usize = 65_536;
 
 /// Clients by one token, at most.
@@ -245,7 +245,7 @@ impl Hall {
         }
     }
 
-    /// Reads what a client says, where it is heard.
+    /// Reads what a client says, if it is heard.
     fn read_desk(&mut self, desk: &mut Desk, at: u32) -> Result<(), Fault>
         ensures { Leads desk.old desk.new }
     {
@@ -274,7 +274,7 @@ impl Hall {
         Ok(())
     }
 
-    /// Who has presented a token that is known has no time limit, if there is room.
+    /// Who has presented a token that is known has no time limit, if there is space.
     fn come(&mut self, rt: &HostRuntime, desk: &mut Desk, at: u32) -> Result<(), Fault>
         ensures { Leads desk.old desk.new }
     {

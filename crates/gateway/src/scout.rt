@@ -12,7 +12,9 @@ const MOST: usize = 32_768;
 /// An end of a connection at which nothing was presented yet.
 #[derive(Drop)]
 pub struct Scout {
+    /// Its own end of the connection, which hears the same bytes as the desk's.
     peer: Peer,
+    /// How many bytes it has heard.
     taken: usize,
 }
 
@@ -39,7 +41,7 @@ impl Scout {
     /// Hears further bytes.
     ///
     /// # Errors
-    /// `Memory` where a growth of memory was refused.
+    /// `Memory` if a growth of memory was refused.
     pub fn hear(&mut self, bytes: &[u8]) -> Result<Found, Fault> {
         self.taken = self.taken.saturating_add(bytes.len());
         if self.taken > MOST {

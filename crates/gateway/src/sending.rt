@@ -75,7 +75,7 @@ impl Hall {
         Ok(())
     }
 
-    /// Bytes of a client were taken, or none where the system takes none now.
+    /// Bytes of a client were taken, or none if the system takes none now.
     fn note_sent(&mut self, at: u32, count: usize) {
         let now = self.now;
         raise(&mut self.counts.sent, count as u64);

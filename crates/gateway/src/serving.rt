@@ -24,11 +24,11 @@ use std::alloc::{AllocError, Global};
 use std::net::SocketAddr;
 use std::time::{Duration, Instant};
 
-/// The status where the journal, the tokens or a word is not usable.
+/// The status if the journal, the tokens or a word is not usable.
 const UNUSABLE: u8 = 1;
-/// The status where the system refuses the network, or random bytes.
+/// The status if the system refuses the network, or random bytes.
 const SYSTEM: u8 = 2;
-/// The status where memory is refused.
+/// The status if memory is refused.
 const MEMORY: u8 = 3;
 
 /// Milliseconds between two lines that say that the gateway is there.
@@ -133,7 +133,7 @@ struct Clock {
     alive: u64,
 }
 
-/// Reads the file of tokens again, where it has changed.
+/// Reads the file of tokens again, if it has changed.
 fn read_tokens(rt: &HostRuntime, hall: &mut Hall, file: &mut TokenFile) {
     match file.changed(rt) {
         Ok(None) => {}
@@ -147,7 +147,7 @@ fn read_tokens(rt: &HostRuntime, hall: &mut Hall, file: &mut TokenFile) {
     }
 }
 
-/// Has the desk know the tokens that are valid now, where these are others than those that it knows.
+/// Has the desk know the tokens that are valid now, if these are others than those that it knows.
 fn look_at_tokens(
     rt: &HostRuntime,
     desk: &mut Desk,
@@ -230,7 +230,7 @@ fn serve(
     Ok(())
 }
 
-/// The line of a journal, counted from 1, in which a byte stands.
+/// The line of a journal, counted from 1, in which a byte is.
 fn line_of(journal: &[u8], place: usize) -> usize {
     journal
         .iter()
@@ -332,7 +332,7 @@ fn lead(
     }
 }
 
-/// Begins a journal of which this was read.
+/// Begins a journal that this was read of.
 fn begin_journal(
     rt: &HostRuntime,
     path: &str,

@@ -32,15 +32,19 @@ pub enum Stage {
 /// A connection.
 #[derive(Drop)]
 pub struct Socket {
+    /// The allocator of what it makes.
     alloc: Global,
+    /// The connection of the system.
     stream: TcpStream,
+    /// How far it is.
     pub stage: Stage,
+    /// The address of the other end.
     pub address: SocketAddr,
     /// There may be bytes to read.
     pub readable: bool,
     /// The system may take bytes.
     pub writable: bool,
-    /// It stands in the list of those that are to be read.
+    /// It is in the list of those that are to be read.
     pub listed: bool,
     /// Bytes of it lie at the desk that are not heard now.
     pub unheard: bool,
@@ -48,7 +52,7 @@ pub struct Socket {
     pub scout: Option<Scout>,
     /// What became of the text that it presented, if that was judged.
     pub judged: Option<Judged>,
-    /// Bytes that were read behind its head before it presented a token that is known.
+    /// Bytes that were read after its head before it presented a token that is known.
     pub said: usize,
     /// It has presented a token that is known.
     pub came: bool,
@@ -165,7 +169,7 @@ impl Socket {
         true
     }
 
-    /// Writes bytes. How many the system took; none where the connection is broken.
+    /// Writes bytes. How many the system took; none if the connection is broken.
     fn put(&mut self, bytes: &[u8]) -> Option<usize> {
         match self.stream.write(bytes) {
             Ok(0) => None,
@@ -245,7 +249,7 @@ pub fn read_at(
     }
 }
 
-/// Sends once at a number what is pending there, and nothing else. How many bytes the system took; none where the connection is broken.
+/// Sends once at a number what is pending there, and nothing else. How many bytes the system took; none if the connection is broken.
 pub fn send_at(sockets: &mut [Option<Socket>], desk: &mut Desk, at: u32) -> Option<usize>
     ensures { Leads desk.old desk.new }
 {

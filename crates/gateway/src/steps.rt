@@ -1,6 +1,6 @@
 //! The desk's calls as the program makes them: each leads from a run to a run.
 //!
-//! So behind each of them all holds that `browsers_are_told_their_views` of iv_desk says of runs.
+//! So after each of them all holds that `browsers_are_told_their_views` of iv_desk says of runs.
 ghost use Rattle.std.specs.Prelude.{◌≡◌, ℕ, IfOk, false, true};
 ghost use Rattle.iv_rows.specs.RowLimit.{IsRowLimit};
 ghost use Rattle.iv_gateway.specs.Waiting.{WaitsWithin};
@@ -23,7 +23,7 @@ const MOST_TOLD: u64 = 16_777_216;
 /// A desk over an engine with nothing, with places for as many clients.
 ///
 /// # Errors
-/// `AllocError` where a growth of memory was refused.
+/// `AllocError` if a growth of memory was refused.
 pub fn new_desk(
     alloc: Global,
     seed: Seed,
@@ -117,7 +117,7 @@ pub fn leave(desk: &mut Desk, at: u32) -> Result<(), Fault>
 /// Has the journal keep what is pending there, and then offers each peer what its client may be sent.
 ///
 /// # Errors
-/// `Journal` where the journal fails; else as of `hear`.
+/// `Journal` if the journal fails; else as of `hear`.
 pub fn settle<J: Journal>(desk: &mut Desk, journal: &mut J) -> Result<(), Fault>
     ensures { Leads desk.old desk.new }
 {

@@ -31,12 +31,12 @@ relation_name rs rel = option_map (λ r. r.name) (slice_get rs rel)
 abbrev pub role_number : Rights → Name → ℕ
 role_number r name = unwrap_or (role_of r name) (length r.roles)
 
--- to whom a name goes: all roles where there is none
+-- to whom a name goes: all roles if there is none
 abbrev pub grantee_of : Rights → Option Name → Grantee
 grantee_of r None = Public
 grantee_of r (Some name) = Role (role_number r name)
 
--- the name that is given, where one is
+-- the name that is given, if one is
 abbrev pub name_given : Option (Bor Name) → Option Name
 name_given to = option_map (λ n. n.now) to
 

@@ -64,7 +64,7 @@ with_relation owner r = with_grants (length r.guards) all_privileges (Role owner
 
 -- ---- row security and policies
 
--- what stands at a place is changed
+-- what is at a place is changed
 abbrev pub changed_at : ℕ → (Guard → Guard) → List Guard → List Guard
 changed_at n change [] = []
 changed_at zero change (g ∷ gs) = change g ∷ gs

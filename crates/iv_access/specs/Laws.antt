@@ -80,7 +80,7 @@ NothingPassesWithoutPermissive =
     → list_any (may_permit r role test) (policies_of (slice_get r.guards table)) ≡ false
     → verdict r role table test row ≡ NoPermissive
 
--- the policies of each table stand in the order of their names, and no two have one name
+-- the policies of each table are in the order of their names, and no two have one name
 abbrev pub PoliciesRise : Type 0
 PoliciesRise = (r : Rights) → IsReached r → (table : ℕ) → Rise (policies_of (slice_get r.guards table))
 

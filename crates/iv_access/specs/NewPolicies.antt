@@ -5,7 +5,7 @@ use Rattle.iv_access.specs.declared.policy.PolicyCommand.{PolicyCommand}
 use Rattle.iv_access.specs.Rights.{Name, Policy, Rights}
 use Rattle.iv_access.specs.Access.{grantee_of}
 
--- where `to` has no name it has all roles
+-- if `to` has no name it has all roles
 pub record NewPolicy : Type 0 where
   pub name : Name
   pub restrictive : Bool

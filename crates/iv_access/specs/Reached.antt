@@ -10,7 +10,7 @@ use Rattle.iv_access.specs.Changing.{with_role, with_relation, with_grants, with
 use Rattle.iv_access.specs.Access.{role_number}
 use Rattle.iv_access.specs.Faults.{grant_role_fault, takes_policy}
 
--- those at the start, and those after a change of such; a policy and a membership come where they may
+-- those at the start, and those after a change of such; a policy and a membership come if they may
 pub data IsReached : Rights → Type 0 where
   at_start : IsReached rights_at_start
   role_created : (r : Rights) (name : Name) → IsReached r → IsReached (with_role name r)

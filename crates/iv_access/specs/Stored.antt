@@ -18,16 +18,16 @@ use Rattle.iv_access.specs.Policies.{permits, forbids}
 abbrev pub relation_at : String Global × Option (Vec Kind) → Relation
 relation_at e = record { name = string_bytes e.0; kinds = option_map (λ ks. ks.items) e.1 }
 
--- the name stands before the policy's
+-- the name comes before the policy's
 abbrev pub is_before : Name → Policy → Bool
 is_before name p = is_lt (slice_cmp nat_cmp name p.name)
 
--- of each row some predicate holds where some permissive policy passes it
+-- of each row some predicate holds if some permissive policy passes it
 abbrev pub ArePermissive : Rights → ℕ → List Policy → List Pred → Type 0
 ArePermissive r role policies preds =
     (row : Cells) → list_any (λ p. holds (condition_of p) (role_name r role) row) preds ≡ list_any (permits r role Select row) policies
 
--- of each row some predicate fails where some restrictive policy fails it
+-- of each row some predicate fails if some restrictive policy fails it
 abbrev pub AreRestrictive : Rights → ℕ → List Policy → List Pred → Type 0
 AreRestrictive r role policies preds =
     (row : Cells) → list_any (λ p. not (holds (condition_of p) (role_name r role) row)) preds ≡ list_any (forbids r role Select row) policies

@@ -2,7 +2,7 @@
 //!
 //! Roles and relations are numbers inside; requests and calls name roles and policies. Role 0 is `admin`. Names and
 //! kinds of relations are known here for look-ups and counts; the rights of the definitions have neither. `has` asks
-//! for grants to all roles and to the role itself first. Where neither was granted, it walks two rows of flags side by
+//! for grants to all roles and to the role itself first. If neither was granted, it walks two rows of flags side by
 //! side: of the roles that the role reaches, and of those that were granted the privilege.
 ghost use Rattle.std.specs.Prelude.{◌≡◌, ◌&&◌, true, false, IfOk, map, option_map};
 ghost use Rattle.iv_access.specs.Given.{IsInherited, IsNotInherited};
@@ -25,10 +25,15 @@ use std::marker::Model;
 /// Source: PostgreSQL 16, Role Membership, Privileges, and Row Security Policies.
 #[derive(Drop)]
 pub struct Access {
+    /// The roles by their numbers.
     pub(crate) roles: Roles,
+    /// Which roles are members of which.
     pub(crate) members: Memberships,
+    /// The tables and views by their numbers, each with its owner.
     pub(crate) relations: Relations,
+    /// Row security and policies of each table.
     pub(crate) guards: Vec<Guard>,
+    /// Which role may do what with which relation.
     pub(crate) grants: Grants,
 }
 
@@ -51,17 +56,17 @@ impl Access {
     /// Rights with one role, `admin`, and no relation. Names are hashed under the known seed.
     ///
     /// # Errors
-    /// `AllocError` where a growth of memory was refused.
+    /// `AllocError` if a growth of memory was refused.
     pub fn new(alloc: Global) -> Result<Access, AllocError>
         ensures { IfOk result (λ access. access ≡ access_at_start) }
     {
         Access::with_seed(alloc, Seed::known())
     }
 
-    /// Rights with `admin` alone, where names are hashed under a seed. No answer depends on it.
+    /// Rights with `admin` alone, if names are hashed under a seed. No answer depends on it.
     ///
     /// # Errors
-    /// `AllocError` where a growth of memory was refused.
+    /// `AllocError` if a growth of memory was refused.
     pub fn with_seed(alloc: Global, seed: Seed) -> Result<Access, AllocError>
         ensures { IfOk result (λ access. access ≡ access_at_start) }
     {
@@ -158,7 +163,7 @@ impl Access {
         None
     }
 
-    /// The first of the relations that the role may not select from: a view is read where there is none among the
+    /// The first of the relations that the role may not select from: a view is read if there is none among the
     /// relations that it needs, whoever made it. It takes no memory.
     ///
     /// Source: PostgreSQL 16, CREATE VIEW, `security_invoker`.

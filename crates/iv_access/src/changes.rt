@@ -19,7 +19,7 @@ impl Access {
     /// Changes rights: adds a role. After an error nothing has changed.
     ///
     /// # Errors
-    /// In this order: `NotAdmin`, `Taken`, `TooMany`; `Memory` where a growth was refused.
+    /// In this order: `NotAdmin`, `Taken`, `TooMany`; `Memory` if a growth was refused.
     pub fn create_role(&mut self, acting: RoleId, name: &str) -> Result<(), AccessFault>
         ensures ok { OnOk result (self.new.rights ≡ with_role name.now self.old.rights) }
         ensures relations { self.new.relations ≡ self.old.relations }
@@ -69,7 +69,7 @@ impl Access {
     /// what that role has. After an error nothing has changed.
     ///
     /// # Errors
-    /// In this order: `NotAdmin`, `Role` (the role, then the member), `Loop`; `Memory` where a growth was refused.
+    /// In this order: `NotAdmin`, `Role` (the role, then the member), `Loop`; `Memory` if a growth was refused.
     pub fn grant_role(&mut self, acting: RoleId, role: &str, to: &str) -> Result<(), AccessFault>
         ensures ok { OnOk result (self.new.rights ≡ with_member (role_number self.old.rights role.now) (role_number self.old.rights to.now) self.old.rights) }
         ensures relations { self.new.relations ≡ self.old.relations }
@@ -136,7 +136,7 @@ impl Access {
     /// row security, and its owner is granted everything. After an error nothing has changed.
     ///
     /// # Errors
-    /// In this order: `NotAdmin`, `Role` (the owner), `Taken`, `TooMany`; `Memory` where a growth was refused.
+    /// In this order: `NotAdmin`, `Role` (the owner), `Taken`, `TooMany`; `Memory` if a growth was refused.
     pub fn add_relation(
         &mut self,
         acting: RoleId,
@@ -169,7 +169,7 @@ impl Access {
     }
 
     /// To whom a grant or a revoke on the relation goes, or why the change of rights is refused: all roles
-    /// where there is no name.
+    /// if there is no name.
     fn grantee(&self, acting: RoleId, rel: RelId, to: Option<&str>) -> Result<Grantee, AccessFault>
         ensures grantee { IfOk result (λ g. seen g ≡ grantee_of self.now.rights (name_given to.entry)) }
         ensures place { IfOk result (λ g. HasPlace (seen g)) }
@@ -191,7 +191,7 @@ impl Access {
     /// Changes rights: grants privileges to a role by name, or to all. After an error nothing has changed.
     ///
     /// # Errors
-    /// In this order: `NotOwner`, `Role`; `Memory` where a growth was refused.
+    /// In this order: `NotOwner`, `Role`; `Memory` if a growth was refused.
     pub fn grant(
         &mut self,
         acting: RoleId,

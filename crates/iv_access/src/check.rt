@@ -149,7 +149,7 @@ impl Access {
         }
     }
 
-    /// Looks up the predicate of rows that are there, where one policy alone of the table has that name, and
+    /// Looks up the predicate of rows that are there, if one policy alone of the table has that name, and
     /// it is restrictive. It takes no memory.
     pub fn restriction(&self, table: RelId, name: &str) -> Option<&Pred>
         ensures { IfSome result (λ pred. AllByRecursion (IsRestriction name.now (condition_of pred.now))

@@ -4,7 +4,7 @@
 //! compute, and worked examples have to. Look-ups ask the flags, which are there for the relations up to the highest that
 //! a grant ever named: of each privilege one for all roles, and one at the place of each role.
 //!
-//! A grant that is held is not added again, so to grant it changes nothing at all. `reserve` makes room in the list and
+//! A grant that is held is not added again, so to grant it changes nothing at all. `reserve` makes space in the list and
 //! flags for the relation. No grant after it can fail, so want of memory changes no right; a revoke takes no memory.
 ghost use Rattle.std.specs.Prelude.{◌≡◌, ℕ, ◌+◌, ◌<◌, ◌≤◌, ◌||◌, [], false, get_or, length, OnOk};
 ghost use Rattle.iv_access.specs.Changing.{for_each, granted, revoked};
@@ -172,7 +172,7 @@ impl Grants {
         }
     }
 
-    /// Makes room for a number of further grants on the relation. After an error the grants are the same.
+    /// Makes space for a number of further grants on the relation. After an error the grants are the same.
     pub(crate) fn reserve(&mut self, rel: RelId, count: usize) -> Result<(), AllocError>
         ensures list { self.new.list ≡ self.old.list }
         ensures relation { OnOk result (rel.0 < self.new.relations) }
@@ -183,7 +183,7 @@ impl Grants {
         Ok(())
     }
 
-    /// Grants the privilege, for which there is room.
+    /// Grants the privilege, for which there is space.
     fn give_one(&mut self, rel: RelId, privilege: Privilege, grantee: Grantee)
         requires place { HasPlace (seen grantee) }
         requires relation { rel.0 < self.old.relations }
@@ -204,7 +204,7 @@ impl Grants {
         self.flags[rel.0 as usize].set(privilege, grantee, true);
     }
 
-    /// Grants each of the privileges, for which there is room.
+    /// Grants each of the privileges, for which there is space.
     pub(crate) fn give(&mut self, rel: RelId, privileges: &[Privilege], grantee: Grantee)
         requires place { HasPlace (seen grantee) }
         requires relation { rel.0 < self.old.relations }

@@ -1,6 +1,6 @@
 //! `Guard`: a relation's owner, its row security, and its policies in the order of their names.
 //!
-//! Policies stand in the byte order of their names, so that the first restrictive one that fails is the one that is
+//! Policies are in the byte order of their names, so that the first restrictive one that fails is the one that is
 //! named, and no call sorts.
 ghost use Rattle.std.specs.Prelude.{◌≡◌, ◌≤◌, false, [], OnOk, OnErr, position, length};
 ghost use Rattle.std.specs.List.{position_or_len};
@@ -71,14 +71,14 @@ impl Guard {
     }
 }
 
-/// Whether the name stands before the policy's in the order of a guard's policies.
+/// Whether the name comes before the policy's in the order of a guard's policies.
 fn is_before(name: &str, policy: &Policy) -> bool
     ensures { result ≡ is_before name.now policy.now }
 {
     name.cmp(policy.name.as_str()).is_lt()
 }
 
-/// The place of the first of a guard's policies before whose name the name stands.
+/// The place of the first of a guard's policies before whose name the name comes.
 fn first_after(policies: &[Policy], name: &str) -> Option<usize>
     ensures { result ≡ position (is_before name.now) policies.now }
 {

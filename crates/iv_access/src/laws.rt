@@ -38,7 +38,7 @@ pub fn memberships_do_not_loop()
     ensures { NoLoops }
 {}
 
-/// The privileges of a role and the verdict on each row stay as they are where it reaches the same roles.
+/// The privileges of a role and the verdict on each row stay as they are if it reaches the same roles.
 pub fn reach_decides()
     ensures has { HasByReach }
     ensures sees { SeesByReach }
@@ -49,18 +49,18 @@ pub fn owners_have_all()
     ensures { OwnersHaveAll }
 {}
 
-/// A row passes where the role is exempt, or some permissive policy that applies passes it and no restrictive one that
+/// A row passes if the role is exempt, or some permissive policy that applies passes it and no restrictive one that
 /// applies fails it.
 pub fn rows_pass_where_permitted_and_not_forbidden()
     ensures { RowsPassWherePermitted }
 {}
 
-/// Where no permissive policy applies to a role that is not exempt, no row passes.
+/// If no permissive policy applies to a role that is not exempt, no row passes.
 pub fn nothing_passes_without_a_permissive_policy()
     ensures { NothingPassesWithoutPermissive }
 {}
 
-/// Whatever changes led to the rights, the policies of each table stand in the byte order of their names, and no two
+/// Whatever changes led to the rights, the policies of each table are in the byte order of their names, and no two
 /// have one name.
 pub fn policies_rise_by_name()
     ensures { PoliciesRise }

@@ -140,7 +140,7 @@ fn is_met(pred: &Option<Pred>, user: &str, row: &Row) -> bool
     }
 }
 
-/// Whether the row passes the check of one policy, or its other predicate where it has no check.
+/// Whether the row passes the check of one policy, or its other predicate if it has no check.
 fn is_checked(check: &Option<Pred>, otherwise: &Option<Pred>, user: &str, row: &Row) -> bool
     ensures { result ≡ is_met (or_later (option_map condition_of check.now) (option_map condition_of otherwise.now)) user.now row.now }
 {

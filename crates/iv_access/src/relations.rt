@@ -50,7 +50,7 @@ fn count_like(kinds: &IndexMap<String, Option<Vec<Kind>>, Seed>, table: bool) ->
 }
 
 impl Relations {
-    /// No relation of the rights, where names are hashed under a seed. It takes no memory.
+    /// No relation of the rights, if names are hashed under a seed. It takes no memory.
     pub(crate) fn with_seed(alloc: Global, seed: Seed) -> Relations
         ensures { result ≡ [] }
     {
@@ -93,7 +93,7 @@ impl Relations {
         RelId(self.kinds.len() as u32)
     }
 
-    /// Adds a relation whose name is not there yet, and for which there is room. After an error nothing has changed.
+    /// Adds a relation whose name is not there yet, and for which there is space. After an error nothing has changed.
     pub(crate) fn push(&mut self, name: &str, kinds: Option<Vec<Kind>>) -> Result<(), AllocError>
         requires new { relation_of self.old name.now ≡ None }
         requires room { count_like (is_some kinds) self.old < 64 }

@@ -111,7 +111,7 @@ impl Access {
     /// than `MOST_POLICIES` (`policies`). Whoever asks for it has to own the table (`owns`). After an error nothing has changed.
     ///
     /// # Errors
-    /// `AllocError` where a growth of memory was refused.
+    /// `AllocError` if a growth of memory was refused.
     pub fn create_policy(&mut self, table: RelId, policy: NewPolicy) -> Result<(), AllocError>
         requires table { table.0 < length self.old.rights.guards }
         requires tested { takes_policy self.old.rights table.0 policy.name policy.to ≡ true }

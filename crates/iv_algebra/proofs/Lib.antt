@@ -1,8 +1,8 @@
-pub mod Changing
-pub mod Counting
+pub mod TableChanges
+pub mod SameCounts
 pub mod Groups
-pub mod Growing
-pub mod Holding
+pub mod BagLimits
+pub mod TableLookup
 pub mod Once
 pub mod Operators
-pub mod Typing
+pub mod PlanKinds

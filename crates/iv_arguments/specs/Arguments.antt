@@ -10,7 +10,7 @@ InRange (Replay lines rows) = (1 ≤ lines) × (lines < 2 ^ 32) × IsRowLimit ro
 InRange (Serve port connections lines rows) =
     (1 ≤ port) × (port < 2 ^ 16) × (1 ≤ connections) × (connections < 2 ^ 32) × (1 ≤ lines) × (lines < 2 ^ 32) × IsRowLimit rows
 
--- how many lines to take at most, of each connection where there are connections
+-- how many lines to take at most, of each connection if there are connections
 abbrev pub lines_of : Settings → ℕ
 lines_of (Replay lines rows) = lines
 lines_of (Serve port connections lines rows) = lines

@@ -2,7 +2,7 @@
 //!
 //! `settings` promises ranges alone, since clap's clauses say nothing of a subcommand's values: a body that answers
 //! another number of the range, or an error, meets its contract. Words and texts are shown by tests. A word that is
-//! not text is status 1, with a text of ours; `--help` is status 0 even where standard output is closed.
+//! not text is status 1, with a text of ours; `--help` is status 0 even if standard output is closed.
 
 ghost use Rattle.std.specs.Prelude.{◌≤◌, IfOk, IfSome};
 ghost use Rattle.iv_rows.specs.RowLimit.{IsRowLimit};
@@ -17,6 +17,16 @@ use std::{env, io};
 
 /// The program's version.
 const VERSION: &str = "0.1.0";
+
+/// What `--help` tells at its end: examples, what a status means, and who may connect.
+const MORE: &str = "Examples:
+  viewd replay < examples/first_change.jsonl    answers the lines of a file
+  viewd serve --port 7171                       answers connections to 127.0.0.1:7171
+
+Status:
+  0  all was answered    1  other words    2  reading, writing, random bytes or the network failed    3  out of memory
+
+Who may connect: every program on this machine that reaches 127.0.0.1, and it may act in any role. Tokens are the gateway's.";
 
 /// An option of the command line that takes a number from 1 on, by default 1,000,000.
 fn count<'a>(alloc: Global, name: &'a str, help: &'a str) -> Arg<'a> {
@@ -75,6 +85,7 @@ fn plain<'a>(alloc: Global) -> Result<Command<'a>, AllocError> {
         command
             .version(VERSION)
             .about("Keeps tables, and tells subscribers what changes in them")
+            .after_help(MORE)
             .no_binary_name(true)
             .subcommand_required(true)
             .disable_help_subcommand(true),

@@ -1,6 +1,6 @@
 //! `Settings`: what the program is asked to do: replay or serve, with how many lines, rows and connections.
 //!
-//! `Settings` and `settings` stand in two modules: names that differ only in case are refused in one.
+//! `Settings` and `settings` are in two modules: names that differ only in case are refused in one.
 
 /// What the program is asked to do.
 #[derive(Clone, Copy, Debug, PartialEq, Eq)]

@@ -17,7 +17,7 @@ pub enum Fault {
     /// The system gave no random bytes.
     #[error("viewd: no random bytes")]
     Random,
-    /// The port could not be listened on, or a connection not be accepted.
+    /// The port could not be listened on, or a connection not be accepted. A second line tells the address, the cause and what may help.
     #[error("viewd: network failed")]
     Network,
     /// Memory ran out.

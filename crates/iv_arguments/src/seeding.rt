@@ -8,7 +8,7 @@ use iv_seed::Seed;
 /// A seed of the run's own, which nobody who writes rows can know.
 ///
 /// # Errors
-/// `Random` where the system gives no random bytes.
+/// `Random` if the system gives no random bytes.
 pub fn random_seed(rt: &HostRuntime) -> Result<Seed, Fault>
     ensures { IfErr result (λ fault. fault ≡ Fault.Random) }
 {

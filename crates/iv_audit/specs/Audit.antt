@@ -1,4 +1,4 @@
--- A gateway's journal with an audit: behind a head, a record of one text for each entry, with when it was written and who held the token.
+-- A gateway's journal with an audit: after a head, a record of one text for each entry, with when it was written and who held the token.
 use Rattle.std.specs.Prelude.{ℕ, ◌==◌, ◌||◌, Bool, true, if◌then◌else◌, List, [], ◌∷◌, ◌++◌, Option, None, Some, bytes_eq, codes, decimal, flat_map, map, nat_lt, take}
 use Rattle.hex.specs.Hex.{encode_lower}
 use Rattle.iv_journal.specs.Journal.{Line, head_of}
@@ -34,7 +34,7 @@ escaped_byte b = if is_escaped b then codes "\\u00" ++ encode_lower (b ∷ []) e
 abbrev pub escaped : List ℕ → List ℕ
 escaped name = flat_map escaped_byte name
 
--- what stands before an entry: `"at":1764489600,"by":"Ann Lee",`
+-- what comes before an entry: `"at":1764489600,"by":"Ann Lee",`
 abbrev pub note_text : Note → List ℕ
 note_text n = codes "\"at\":" ++ (decimal n.at ++ (codes ",\"by\":\"" ++ (escaped n.holder ++ codes "\",")))
 
@@ -55,7 +55,7 @@ text_of w = text_by w.note w.entry
 abbrev pub record_of : Written → Line
 record_of w = record { is_last = true; text = text_of w }
 
--- what the head says behind the form and the epoch
+-- what the head says after the form and the epoch
 abbrev pub version : List ℕ
 version = codes "\"audit\":1}"
 

@@ -26,7 +26,7 @@ TextsKeepEntries = (w : Written) → IsWritten w → entry_in (text_of w) ≡ w.
 abbrev pub given : List Written → List ℕ
 given ws = lines_of (map (λ w. w.entry) ws)
 
--- of a journal of which these bytes are left: the gateway's bytes of its first entries, of all that are whole within them, and no fault
+-- of a journal that has these bytes left: the gateway's bytes of its first entries, of all that are whole within them, and no fault
 pub record IsFront (epoch : List ℕ) (ws : List Written) (left : ℕ) (r : Reading) : Type 0 where
   pub count : ℕ
   pub entries : lines_of (entries_of r.lines) ≡ given (take count ws)
@@ -41,7 +41,7 @@ CutsAreFronts = (epoch : List ℕ) (ws : List Written) (left : ℕ) (r : Reading
 abbrev pub BytesHaveEntries : Type 0
 BytesHaveEntries = (ls : List Line) → AllByRecursion (λ l. is_text l.text ≡ true) ls → bytes_in (journal_of ls) ≡ lines_of (entries_of ls)
 
--- behind whole lines stands what a writer makes of these bytes of the gateway: the gateway's bytes go on by them; where only the first bytes of it
+-- after whole lines comes what a writer makes of these bytes of the gateway: the gateway's bytes go on by them; if only the first bytes of it
 -- are there, by the first of them
 pub record IsLonger (before given out : List ℕ) : Type 0 where
   pub whole : bytes_in (before ++ out) ≡ bytes_in before ++ given
@@ -52,7 +52,7 @@ abbrev pub BytesGoOn : Type 0
 BytesGoOn = (before : List ℕ) (at : Option ℕ) (shares : List Share) (given digest after out : List ℕ) → ends_line before ≡ true → IfSome at (λ t. t < 2 ^ 64)
     → GoesOnWith at shares given digest after [] out → IsLonger before given out
 
--- behind a journal that has a head it makes the longer journal
+-- after a journal that has a head it makes the longer journal
 pub record IsLongerJournal (ls : List Line) (after out : List ℕ) : Type 0 where
   pub more : List Line
   pub journal : journal_of ls ++ out ≡ journal_of (ls ++ more)

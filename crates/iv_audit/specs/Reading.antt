@@ -7,7 +7,7 @@ use Rattle.iv_audit.specs.Audit.{line_of, lines_of, version}
 use Rattle.iv_audit.specs.declared.reading.Audit.{Audit}
 use Rattle.std.specs.List.{AllByRecursion}
 
--- what stands behind the first of that byte
+-- what follows the first of that byte
 abbrev pub behind_first : ℕ → List ℕ → List ℕ
 behind_first b [] = []
 behind_first b (x ∷ xs) = if x == b then xs else behind_first b xs
@@ -16,7 +16,7 @@ behind_first b (x ∷ xs) = if x == b then xs else behind_first b xs
 abbrev pub entry_in : List ℕ → List ℕ
 entry_in text = if bytes_eq (take 5 text) (codes "\"at\":") then drop 1 (behind_first 34 (drop 5 (behind_first 34 (drop 5 text)))) else text
 
--- the entries behind the head
+-- the entries after the head
 abbrev pub entries_of : List Line → List (List ℕ)
 entries_of ls = map (λ l. entry_in l.text) (drop 1 ls)
 
@@ -30,7 +30,7 @@ abbrev pub ended_lines : (line bytes : List ℕ) → List (List ℕ)
 ended_lines line [] = []
 ended_lines line (b ∷ bytes) = if b == 10 then line ∷ ended_lines [] bytes else ended_lines (line ++ b ∷ []) bytes
 
--- the gateway's bytes among those of a journal: each line behind the first, without mark, digest and note
+-- the gateway's bytes among those of a journal: each line after the first, without mark, digest and note
 abbrev pub bytes_in : List ℕ → List ℕ
 bytes_in bytes = lines_of (map (λ line. entry_in (drop 75 line)) (drop 1 (ended_lines [] bytes)))
 

@@ -14,7 +14,7 @@ holder_at (s ∷ ss) n = if nat_lt n s.end then string_bytes s.holder else holde
 abbrev pub note_at : Option ℕ → List Share → ℕ → Option Note
 note_at at shares n = option_map (λ t. record { at = t; holder = holder_at shares n }) at
 
--- entries with their notes, of which the first one begins at byte n
+-- entries with their notes; the first one begins at byte n
 abbrev pub noted_from : (at : Option ℕ) (shares : List Share) (n : ℕ) → List (List ℕ) → List Written
 noted_from at shares n [] = []
 noted_from at shares n (e ∷ es) = record { note = note_at at shares n; entry = e } ∷ noted_from at shares (n + length (line_of e)) es

@@ -8,7 +8,7 @@ pub fn texts_keep_entries()
     ensures { TextsKeepEntries }
 {}
 
-/// Of a journal that was cut behind any of its bytes the gateway is given the bytes of its first entries, each whole, and of all that were whole
+/// Of a journal that was cut after any of its bytes the gateway is given the bytes of its first entries, each whole, and of all that were whole
 /// within what is left.
 pub fn cuts_leave_entries()
     ensures { CutsAreFronts }

@@ -13,7 +13,7 @@ use std::alloc::{AllocError, Global};
 pub struct Audit {
     /// Its entries, as it gave them.
     pub bytes: Vec<u8>,
-    /// Where the whole records of the journal end. What stands behind is cut.
+    /// Where the whole records of the journal end. What follows is cut.
     pub end: End,
 }
 
@@ -26,7 +26,7 @@ pub enum AuditFault {
     Damaged(usize),
 }
 
-/// What stands behind the first of a byte.
+/// What follows the first of a byte.
 fn behind_first(bytes: &[u8], byte: u8) -> &[u8]
     ensures { result.now ≡ behind_first byte bytes.now }
 {
@@ -38,7 +38,7 @@ fn behind_first(bytes: &[u8], byte: u8) -> &[u8]
     &[]
 }
 
-/// What stands behind as many bytes.
+/// What follows as many bytes.
 fn behind(bytes: &[u8], count: usize) -> &[u8]
     ensures { result.now ≡ drop count bytes.now }
 {
@@ -108,7 +108,7 @@ fn is_audit(lines: &[Line]) -> bool
     }
 }
 
-/// The lines of the entries behind the head.
+/// The lines of the entries after the head.
 fn entries_of(alloc: Global, lines: &[Line]) -> Result<Vec<u8>, AllocError>
     ensures { IfOk result (λ out. out.items ≡ lines_of (entries_of lines.now)) }
 {
@@ -120,7 +120,7 @@ fn entries_of(alloc: Global, lines: &[Line]) -> Result<Vec<u8>, AllocError>
 /// Reads a journal.
 ///
 /// # Errors
-/// `Damaged` with the byte at which what belongs to no journal of this form begins; `Memory` where a growth of memory was refused.
+/// `Damaged` with the byte at which what belongs to no journal of this form begins; `Memory` if a growth of memory was refused.
 pub fn read_audit(alloc: Global, bytes: &[u8]) -> Result<Audit, AuditFault>
     ensures read { IfOk result (λ a. IsAudit bytes.now a) }
     ensures damaged { (place : ℕ) → result ≡ Err (AuditFault.Damaged place) → IsDamaged bytes.now place }

@@ -9,7 +9,7 @@ use itoa::Buffer;
 use iv_journal::{Chain, Line, PushFault, head_text};
 use std::alloc::{AllocError, Global};
 
-/// What the head says behind the form and the epoch.
+/// What the head says after the form and the epoch.
 pub const VERSION: &[u8] = b"\"audit\":1}";
 
 /// Why nothing is written.
@@ -27,7 +27,7 @@ impl From<AllocError> for WriteFault {
     }
 }
 
-/// The entries of a gateway's bytes up to an end, behind those of an earlier share, were made by one holder of a token.
+/// The entries of a gateway's bytes up to an end, after those of an earlier share, were made by one holder of a token.
 #[derive(Drop)]
 pub struct Share {
     /// The byte where they end.
@@ -61,7 +61,7 @@ fn push_escaped(out: &mut Vec<u8>, name: &[u8]) -> Result<(), AllocError>
     Ok(())
 }
 
-/// Appends what stands before an entry.
+/// Appends what comes before an entry.
 fn push_note(out: &mut Vec<u8>, at: u64, holder: &[u8]) -> Result<(), AllocError>
     ensures { OnOk result (out.new.items ≡ out.old.items ++ note_text (record { at = at; holder = holder.now })) }
 {
@@ -74,7 +74,7 @@ fn push_note(out: &mut Vec<u8>, at: u64, holder: &[u8]) -> Result<(), AllocError
     Ok(())
 }
 
-/// The shares that end behind a byte, and those behind them.
+/// The shares that end after a byte, and those after them.
 fn behind_byte(shares: &[Share], at: usize) -> &[Share]
     ensures { (n : ℕ) → at ≤ n → holder_at result.now n ≡ holder_at shares.now n }
 {
@@ -108,7 +108,7 @@ fn is_entry(entry: &[u8]) -> bool
     }
 }
 
-/// The first entry of a gateway's bytes, and what stands behind its line.
+/// The first entry of a gateway's bytes, and what follows its line.
 fn first_entry(bytes: &[u8]) -> Option<(&[u8], &[u8])>
     ensures { IfSome result (λ p. (bytes.now ≡ line_of p.0.now ++ p.1.now) × (is_entry p.0.now ≡ true)) }
 {
@@ -163,7 +163,7 @@ fn make_text(
 /// by which it was made, as the shares tell.
 ///
 /// # Errors
-/// `NotEntries` where the bytes are none, or an entry is no text of a journal; `Memory` where a growth of memory was refused. Nothing of what was
+/// `NotEntries` if the bytes are none, or an entry is no text of a journal; `Memory` if a growth of memory was refused. Nothing of what was
 /// appended is to be used then.
 pub fn push_records(
     alloc: Global,
@@ -201,7 +201,7 @@ pub fn push_records(
 /// Appends the head, by 32 digits that no other journal has.
 ///
 /// # Errors
-/// `NotEntries` where these are no text; `Memory` where a growth of memory was refused.
+/// `NotEntries` if these are no text; `Memory` if a growth of memory was refused.
 pub fn push_head(
     alloc: Global,
     chain: &mut Chain,

@@ -7,6 +7,6 @@ pub mod Needs
 pub mod Joins
 pub mod Outputs
 pub mod Whole
-pub mod Growing
+pub mod LargerCatalog
 pub mod Policies
 pub mod Examples

@@ -36,7 +36,7 @@ pub record Named : Type 0 where
 abbrev pub column_place : ColumnTree → ℕ
 column_place (ColumnAt source name p) = p
 
--- the text says this column: its name, and its source where one stands before a dot
+-- the text says this column: its name, and its source if one comes before a dot
 abbrev pub is_meant : ColumnTree → Named → Bool
 is_meant (ColumnAt None name p) n = bytes_eq name n.name
 is_meant (ColumnAt (Some source) name p) n = bytes_eq source n.source && bytes_eq name n.name
@@ -120,7 +120,7 @@ is_used scope name = list_any (λ n. bytes_eq name n.source) scope
 abbrev pub source_of : CatalogEntry → List ℕ → From
 source_of e name = record { plan = plan_of e.rel e.held; scope = under name (columns_of e.held); reached = reached_by e.rel e.held }
 
--- a source behind those with the columns of scope
+-- a source after those with the columns of scope
 unfoldable pub source_bound : List CatalogEntry → List Named → SourceTree → Result From Fault
 source_bound catalog scope s = if_some (named catalog (name_text (source_relation s)))
     (Err (FaultAt (place_of_name (source_relation s)) why.UnknownRelation))
@@ -199,7 +199,7 @@ abbrev pub output_name : ColumnTree → Option NameTree → List ℕ
 output_name (ColumnAt source name p) None = name
 output_name c (Some alias) = name_text alias
 
--- one aggregate more: they stand behind the keys
+-- one aggregate more: they are after the keys
 abbrev pub aggregated : Out → Agg → Out
 aggregated out a = record out { aggs = out.aggs ++ a ∷ [] }
 
@@ -262,7 +262,7 @@ query_bound catalog (One s) = select_bound catalog s
 query_bound catalog (Combined q o s) = query_bound catalog q >>= λ left. select_bound catalog s >>= λ right.
     if kinds_eq (kinds_of left.schema) (kinds_of right.schema) then Ok (combined o left right) else Err (FaultAt (place_of_select s) why.ColumnsDiffer)
 
--- each number once, at its first place, behind those before
+-- each number once, at its first place, after those before
 abbrev pub once : List ℕ → List ℕ → List ℕ
 once before [] = before
 once before (n ∷ ns) = once (if stands ◌==◌ n before then before else before ++ n ∷ []) ns

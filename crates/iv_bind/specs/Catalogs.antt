@@ -48,7 +48,7 @@ abbrev pub plan_of : ℕ → Held → Shape
 plan_of rel (Table columns) = Scan rel
 plan_of rel (View answer) = answer.plan
 
--- a relation stands before what it reaches
+-- a relation comes before what it reaches
 abbrev pub reached_by : ℕ → Held → List ℕ
 reached_by rel (Table columns) = rel ∷ []
 reached_by rel (View answer) = rel ∷ answer.needs
@@ -61,7 +61,7 @@ abbrev pub view_in : Held → Option BoundQuery
 view_in (Table columns) = None
 view_in (View answer) = Some answer
 
--- a catalog with one relation more, behind the others
+-- a catalog with one relation more, after the others
 abbrev pub extended : List CatalogEntry → List ℕ → ℕ → Held → List CatalogEntry
 extended catalog name rel held = catalog ++ (record { name = name; rel = rel; held = held }) ∷ []
 

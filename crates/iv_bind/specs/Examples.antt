@@ -73,7 +73,7 @@ abbrev pub union_text : QueryTree
 union_text = Combined (One (SelectOf 0 false (StarAt 7) (source (codes "inner_view") 14) [] None [])) set.Union
     (SelectOf 31 false (ItemsOf (ItemOf (bare (codes "k") 38) None ∷ [])) (source (codes "a") 45) [] None [])
 
--- a view is its plan, and stands in the needs before what it reaches
+-- a view is its plan, and is in the needs before what it reaches
 abbrev pub ViewInUnion : Type 0
 ViewInUnion = bound catalog union_text ≡ Ok (record {
   plan = Distinct (Union (Project (0 ∷ []) (Project (0 ∷ []) (Scan 1))) (Project (0 ∷ []) (Scan 1)));

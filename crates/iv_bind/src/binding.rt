@@ -1,7 +1,7 @@
 //! `bind`: from the tree of a query to its plan over a catalog, and its needs; `bind_pred`: from a policy's to a predicate over rows.
 //!
 //! The definition is a function from a tree and a catalog to a plan as plain data, by steps that may fail, in the
-//! order in which faults are told. A view that is named stands in the needs before what it reaches. Its own needs are
+//! order in which faults are told. A view that is named is in the needs before what it reaches. Its own needs are
 //! each once already, and the whole list is cut to first places at the end.
 
 ghost use Rattle.std.specs.Prelude.{◌≡◌, ◌==◌, ◌-◌, ◌≤◌, [], true, Some, nat_le, SomeIff, IfOk};
@@ -54,7 +54,7 @@ fn after_nodes(plan: &Plan, left: usize) -> Option<usize>
     }
 }
 
-/// Whether the relation stands among the needs of a query that are listed so far.
+/// Whether the relation is among the needs of a query that are listed so far.
 fn stands(list: &[RelId], rel: RelId) -> bool
     ensures { result ≡ stands ◌==◌ rel.0 (numbers list.now) }
 {
@@ -107,7 +107,7 @@ fn finished(alloc: Global, part: Part) -> Result<Bound, BindFault>
 /// What a query is bound to over a catalog.
 ///
 /// # Errors
-/// `At` with the place and the reason of the first fault, in the order of binding; `Memory` where a growth of memory was
+/// `At` with the place and the reason of the first fault, in the order of binding; `Memory` if a growth of memory was
 /// refused.
 ///
 /// Source: PostgreSQL 16, SELECT, in the profile of docs/PROTOCOL.md, Queries.
@@ -129,7 +129,7 @@ pub fn bind(alloc: Global, tree: &Query, catalog: &Catalog) -> Result<Bound, Bin
 /// What a policy's predicate is bound to over the columns of its table. The user's name is a text.
 ///
 /// # Errors
-/// `At` with the place and the reason of the first fault; `Memory` where a growth of memory was refused.
+/// `At` with the place and the reason of the first fault; `Memory` if a growth of memory was refused.
 ///
 /// Source: PostgreSQL 16, CREATE POLICY, in the profile of docs/PROTOCOL.md, Queries.
 #[tactic(auto, unfolding(crate::specs::Binding::bound_pred))]

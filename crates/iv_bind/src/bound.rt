@@ -10,7 +10,7 @@ pub struct Bound {
     pub plan: Plan,
     /// The columns of its rows.
     pub schema: Schema,
-    /// The relations that it reaches, depth first from the left: a view stands before what it reaches, and each stands
+    /// The relations that it reaches, depth first from the left: a view comes before what it reaches, and each comes
     /// once, at its first place.
     pub needs: Vec<RelId>,
 }

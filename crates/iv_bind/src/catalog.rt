@@ -2,7 +2,7 @@
 //!
 //! `add_table` and `add_view` ask for a name and a number that are new; `is_new` is the test. `add_view` asks that
 //! the plan fits, as what `bind` answers over the same catalog does. `schema` and `view` look for a number from the
-//! first relation on, of which there are at most 128 in the engine.
+//! first relation on; there are at most 128 in the engine.
 
 ghost use Rattle.std.specs.Prelude.{◌≡◌, ◌&&◌, [], None, is_none, option_map, IfSome, OnOk, OnErr};
 ghost use Rattle.iv_algebra.specs.Shapes.{scans};
@@ -33,6 +33,7 @@ pub(crate) struct Relation {
 /// The tables and views that queries may name, in the order of adding.
 #[derive(Drop)]
 pub struct Catalog {
+    /// The tables and views, each at the place of its number.
     relations: Vec<Relation>,
 }
 
@@ -95,7 +96,7 @@ impl Catalog {
         let _ = &self.relations;
     }
 
-    /// Adds a relation to the catalog, behind the others.
+    /// Adds a relation to the catalog, after the others.
     fn add(&mut self, name: &str, rel: RelId, held: Held) -> Result<(), AllocError>
         requires { HeldIsSound self.old (held_of held) }
         ensures added { OnOk result (self.new ≡ extended self.old name.now rel.0 (held_of held)) }
@@ -117,10 +118,10 @@ impl Catalog {
         named(&self.relations, name).is_none() && numbered(&self.relations, rel).is_none()
     }
 
-    /// Adds a table to the catalog, of a new name and number, behind the relations that are there.
+    /// Adds a table to the catalog, of a new name and number, after the relations that are there.
     ///
     /// # Errors
-    /// `AllocError` where a growth of memory was refused; the catalog is unchanged then.
+    /// `AllocError` if a growth of memory was refused; the catalog is unchanged then.
     pub fn add_table(&mut self, name: &str, rel: RelId, schema: Schema) -> Result<(), AllocError>
         requires name { named self.old name.now ≡ None }
         requires number { numbered self.old rel.0 ≡ None }
@@ -131,10 +132,10 @@ impl Catalog {
         self.add(name, rel, Held::Table(schema))
     }
 
-    /// Adds a view to the catalog, of a new name and number, behind the relations that are there.
+    /// Adds a view to the catalog, of a new name and number, after the relations that are there.
     ///
     /// # Errors
-    /// `AllocError` where a growth of memory was refused; the catalog is unchanged then.
+    /// `AllocError` if a growth of memory was refused; the catalog is unchanged then.
     pub fn add_view(&mut self, name: &str, rel: RelId, bound: Bound) -> Result<(), AllocError>
         requires name { named self.old name.now ≡ None }
         requires number { numbered self.old rel.0 ≡ None }
@@ -155,7 +156,7 @@ impl Catalog {
         named(&self.relations, name)
     }
 
-    /// The columns of the catalog's table of a number; none where that is no table's. It takes no memory.
+    /// The columns of the catalog's table of a number; none if that is no table's. It takes no memory.
     pub fn schema(&self, rel: RelId) -> Option<&Schema>
         ensures { option_map (λ s. s.now) result ≡ schema_of self.now rel.0 }
     {
@@ -168,7 +169,7 @@ impl Catalog {
         }
     }
 
-    /// The catalog's view of a number, as it was bound; none where that is no view's. It takes no memory.
+    /// The catalog's view of a number, as it was bound; none if that is no view's. It takes no memory.
     pub fn view(&self, rel: RelId) -> Option<&Bound>
         ensures found { option_map (λ b. bound_of b.now) result ≡ view_of self.now rel.0 }
         // Over all tables of the catalog's kinds the plan fits, and its rows have the kinds of the columns.

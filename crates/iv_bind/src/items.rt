@@ -37,7 +37,7 @@ fn nothing(alloc: Global) -> Out
     }
 }
 
-/// Whether the column stands among the keys of a select's group so far.
+/// Whether the column is among the keys of a select's group so far.
 fn stands(keys: &[usize], k: usize) -> bool
     ensures { result ≡ stands ◌==◌ k keys.now }
 {
@@ -82,7 +82,7 @@ fn first_aggregate(items: &[Item]) -> Option<usize>
     None
 }
 
-/// The place of what does not go with a select's group: an aggregate without keys, a star with some.
+/// The place of the first item that conflicts with `group by`: an aggregate without keys, `*` with some.
 pub(crate) fn ungrouped(keys: &[usize], columns: &Columns) -> Option<usize>
     ensures { result ≡ ungrouped keys.now (list_tree columns.now) }
 {

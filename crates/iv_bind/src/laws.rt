@@ -28,7 +28,7 @@ pub fn bound_queries_are_sound()
     ensures text { (es : List CatalogEntry) (text : List ℕ) → IsSoundCatalog es → ReadsWell text → IfOk (bound_query es text) (λ a. IsSoundView es a) }
 {}
 
-/// What is sound over a catalog stays so while relations are added behind the others.
+/// What is sound over a catalog stays so while relations are added after the others.
 pub fn sound_catalogs_grow()
     ensures held { (es : List CatalogEntry) (name : List ℕ) (n : ℕ) (more held : Held) → HeldIsSound es held → HeldIsSound (extended es name n more) held }
     ensures catalog { (es : List CatalogEntry) (name : List ℕ) (n : ℕ) (held : Held) → IsSoundCatalog es → HeldIsSound es held

@@ -59,7 +59,7 @@ pub(crate) fn is_used(scope: &[Named], name: &str) -> bool
 /// The place and the kind of the column that a text means.
 ///
 /// # Errors
-/// `UnknownColumn` where no column is meant, `AmbiguousColumn` where two are.
+/// `UnknownColumn` if no column is meant, `AmbiguousColumn` if two are.
 #[tactic(auto, unfolding(crate::specs::Binding::column_bound))]
 pub(crate) fn column(scope: &[Named], column: &Column) -> Result<(usize, Kind), BindFault>
     ensures { Gives (λ x. x) result (column_bound scope.now (column_tree column.now)) }

@@ -33,7 +33,7 @@ pub(crate) struct Part {
     pub(crate) reached: Vec<RelId>,
 }
 
-/// The plan of a select's groups, where it has keys; else its plan as it is.
+/// The plan of a select's groups, if it has keys; else its plan as it is.
 fn grouped(alloc: Global, keys: Vec<usize>, aggs: Vec<Agg>, plan: Plan) -> Result<Plan, AllocError>
     ensures { IfOk result (λ p. shape_of p ≡ grouped_shape keys.items aggs.items (shape_of plan)) }
 {
@@ -44,7 +44,7 @@ fn grouped(alloc: Global, keys: Vec<usize>, aggs: Vec<Agg>, plan: Plan) -> Resul
     Ok(Plan::Group { keys, aggs, input })
 }
 
-/// The plan of a select, which gives each row once where the select is distinct.
+/// The plan of a select, which gives each row once if the select is distinct.
 fn distinctly(alloc: Global, distinct: bool, plan: Plan) -> Result<Plan, AllocError>
     ensures { IfOk result (λ p. shape_of p ≡ distinctly distinct (shape_of plan)) }
 {

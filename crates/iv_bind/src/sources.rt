@@ -103,7 +103,7 @@ fn called(source: &Source) -> &Name
     }
 }
 
-/// Binds a source of a select behind those that have the columns of `scope`.
+/// Binds a source of a select after those that have the columns of `scope`.
 #[tactic(auto, unfolding(crate::specs::Binding::source_bound))]
 fn source(
     alloc: Global,

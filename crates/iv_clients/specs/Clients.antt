@@ -175,7 +175,7 @@ client_at slots m = option_and_then (λ x. x) (slice_get slots m)
 abbrev pub is_free : {C : Type 0} → ℕ → List (Option C) → Bool
 is_free m slots = if_some (slice_get slots m) false (λ x. if_some x true (λ c. false))
 
--- client m, changed; nobody where there is none
+-- client m, changed; nobody if there is none
 abbrev pub at_client : {C : Type 0} → ℕ → (C → C) → List (Option C) → List (Option C)
 at_client m f [] = []
 at_client zero f (x ∷ xs) = option_map f x ∷ xs

@@ -69,7 +69,7 @@ is_end k (ended n j why rows) = k == j
 abbrev pub ends_in : List Line → ℕ → Bool
 ends_in ls k = list_any (is_end k) ls
 
--- what is left behind lines
+-- what is left after lines
 abbrev pub feeds_left : List Line → List Feed → List Feed
 feeds_left ls feeds = filter (λ f. not (ends_in ls f.number)) feeds
 

@@ -96,7 +96,7 @@ shape_of es = map (λ e. made e.role e.line) (filter (λ e. is_shape e.act) es)
 abbrev pub shape_for : Name → List Entry → List Told
 shape_for role es = if bytes_eq role (codes "admin") then shape_of es else []
 
--- the line without its brace, behind the role
+-- the line without its brace, after the role
 abbrev pub entry_text : Entry → List ℕ
 entry_text e = codes "{\"as\":\"" ++ (e.role ++ (codes "\"," ++ (drop 1 e.line ++ 10 ∷ [])))
 

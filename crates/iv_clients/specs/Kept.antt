@@ -70,7 +70,7 @@ abbrev pub holding_all : List Told → Kept → Kept
 holding_all [] k = k
 holding_all (t ∷ ts) k = holding_all ts (holding (told_text t) k)
 
--- the text that settles is told where something is owed
+-- the text that settles is told if something is owed
 abbrev pub holding_owed : List ℕ → Kept → Kept
 holding_owed text k = if k.owed then record (holding text k) { owed = false } else k
 

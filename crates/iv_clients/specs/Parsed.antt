@@ -10,7 +10,7 @@ use Rattle.iv_clients.specs.Tokens.{behind, cut_at}
 abbrev pub text_of_entry : Name → List ℕ → List ℕ
 text_of_entry role line = codes "{\"as\":\"" ++ (role ++ (codes "\"," ++ (drop 1 line ++ 10 ∷ [])))
 
--- the role of a line, and the message behind it without its brace
+-- the role of a line, and the message after it without its brace
 abbrev pub entry_parts : List ℕ → Option (List ℕ × List ℕ)
 entry_parts line =
     option_and_then (λ rest.
@@ -26,7 +26,7 @@ entry_in line = option_and_then named_entry (entry_parts line)
 
 -- ---- tokens
 
--- what is read behind these tokens
+-- what is read after these tokens
 abbrev pub behind_tokens : List Token → Option (List Token) → Option (List Token)
 behind_tokens ts o = option_map (λ more. ts ++ more) o
 

@@ -17,16 +17,16 @@ role_opened tokens digest = option_map (λ t. t.role) (find (λ t. bytes_eq t.di
 
 -- ---- the file: lines of TOML, `[tokens]` and then `"DIGEST" = "role"`
 
--- what stands before the first such byte, and behind it
+-- what comes before the first such byte, and after it
 abbrev pub cut_at : ℕ → List ℕ → Option (List ℕ × List ℕ)
 cut_at b [] = None
 cut_at b (x ∷ xs) = if x == b then Some ([], xs) else option_map {U = List ℕ × List ℕ} (λ p. (x ∷ p.0, p.1)) (cut_at b xs)
 
--- what stands behind a prefix
+-- what follows a prefix
 abbrev pub behind : List ℕ → List ℕ → Option (List ℕ)
 behind prefix bytes = if bytes_eq (take (length prefix) bytes) prefix then Some (drop (length prefix) bytes) else None
 
--- the digits of a digest and a role, each between quotation marks, and nothing behind them
+-- the digits of a digest and a role, each between quotation marks, and nothing after them
 abbrev pub token_parts : List ℕ → Option (List ℕ × List ℕ)
 token_parts line =
     option_and_then (λ (d : List ℕ × List ℕ). option_and_then (λ role_on.
@@ -65,7 +65,7 @@ abbrev pub begun : ℕ → List (List ℕ) → List (List ℕ)
 begun b [] = (b ∷ []) ∷ []
 begun b (l ∷ ls) = (b ∷ l) ∷ ls
 
--- the lines of a file, of which the last need not end with a newline
+-- the lines of a file; the last need not end with a newline
 abbrev pub lines_of : List ℕ → List (List ℕ)
 lines_of [] = [] ∷ []
 lines_of (b ∷ bytes) = if b == 10 then [] ∷ lines_of bytes else begun b (lines_of bytes)
@@ -73,11 +73,11 @@ lines_of (b ∷ bytes) = if b == 10 then [] ∷ lines_of bytes else begun b (lin
 abbrev pub has_digest : List ℕ → List Token → Bool
 has_digest digest ts = list_any (λ (t : Token). bytes_eq t.digest digest) ts
 
--- no digest stands twice
+-- no digest comes twice
 abbrev pub are_apart : List Token → Bool
 are_apart [] = true
 are_apart (t ∷ ts) = not (has_digest t.digest ts) && are_apart ts
 
--- the tokens of a file; none where a line is wrong, a digest stands twice, or there is no token
+-- the tokens of a file; none if a line is wrong, a digest comes twice, or there is no token
 abbrev pub tokens_in : List ℕ → Option (List Token)
 tokens_in file = option_and_then (λ ts. if are_apart ts && nat_lt 0 (length ts) then Some ts else None) (tokens_of (lines_of file))

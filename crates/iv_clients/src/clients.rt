@@ -24,7 +24,9 @@ const MOST_PILED: u64 = 4_194_304;
 /// A client's own number, and the number of the feed that it follows.
 #[derive(Drop)]
 pub struct Sub {
+    /// The client's own number.
     own: u64,
+    /// The machine's number of the feed.
     feed: u64,
 }
 
@@ -61,21 +63,30 @@ impl Sub {
     }
 }
 
-/// A client: the role of its token, and the token's digest; the last number that it was given, and those that are open; text that waits
-/// for the journal, and text that may be sent, each with the bytes of it that others brought; what it has under way; and whether it is to
-/// go.
+/// What a gateway keeps of a client.
 #[derive(Drop)]
 pub struct Client {
+    /// The role that its token opens.
     role: String,
+    /// The SHA-256 digest of its token, in bytes.
     digest: Vec<u8>,
+    /// The last number of a subscription that it was given.
     given: u64,
+    /// The subscriptions that are open.
     subs: Vec<Sub>,
+    /// Text that waits for the journal.
     unsynced: Vec<u8>,
+    /// Text that may be sent.
     sendable: Vec<u8>,
+    /// How many messages came since text was last handed to it.
     asked: u32,
+    /// The bytes of `unsynced` that others brought it.
     brought: u64,
+    /// The bytes of `sendable` that others brought it.
     piled: u64,
+    /// Whether it is to be told that this is all.
     owed: bool,
+    /// Whether it is to go.
     dropped: bool,
 }
 
@@ -187,7 +198,7 @@ impl Client {
     /// Has a text sent, once the journal has what it shows.
     ///
     /// # Errors
-    /// `AllocError` where a growth of memory was refused.
+    /// `AllocError` if a growth of memory was refused.
     pub fn hold(&mut self, text: &[u8]) -> Result<(), AllocError>
         ensures { OnOk result (self.new ≡ holding text.now self.old) }
     {
@@ -200,7 +211,7 @@ impl Client {
         Ok(())
     }
 
-    /// Has the text sent that says that this is all, where something was told.
+    /// Has the text sent that says that this is all, if something was told.
     pub fn settle(&mut self, text: &[u8]) -> Result<(), AllocError>
         ensures { OnOk result (self.new ≡ holding_owed text.now self.old) }
     {
@@ -346,7 +357,7 @@ impl Client {
         mem::replace(&mut self.sendable, Vec::new(alloc))
     }
 
-    /// It is to go where its token does not open its role any more.
+    /// It is to go if its token does not open its role any more.
     pub fn check(&mut self, tokens: &[Token])
         ensures { self.new ≡ checking tokens.now self.old }
     {

@@ -39,7 +39,7 @@ pub fn push_entry(pending: &mut Vec<u8>, role: &str, line: &[u8]) -> Result<(), 
     Ok(())
 }
 
-/// What stands before the first such byte, and behind it.
+/// What comes before the first such byte, and after it.
 pub fn cut_at(bytes: &[u8], byte: u8) -> Option<(&[u8], &[u8])>
     ensures { option_map (λ p. (p.0.now, p.1.now)) result ≡ cut_at byte bytes.now }
 {
@@ -51,7 +51,7 @@ pub fn cut_at(bytes: &[u8], byte: u8) -> Option<(&[u8], &[u8])>
     None
 }
 
-/// What stands behind a prefix.
+/// What follows a prefix.
 pub fn behind<'a>(bytes: &'a [u8], prefix: &[u8]) -> Option<&'a [u8]>
     ensures { option_map (λ rest. rest.now) result ≡ behind prefix.now bytes.now }
 {
@@ -62,7 +62,7 @@ pub fn behind<'a>(bytes: &'a [u8], prefix: &[u8]) -> Option<&'a [u8]>
     if front == prefix { Some(rest) } else { None }
 }
 
-/// The role of a line, and the message behind it without its brace.
+/// The role of a line, and the message after it without its brace.
 fn entry_parts(line: &[u8]) -> Option<(&[u8], &[u8])>
     ensures { option_map (λ p. (p.0.now, p.1.now)) result ≡ entry_parts line.now }
 {

@@ -40,7 +40,7 @@ fn begins_object(text: &[u8]) -> bool
     }
 }
 
-/// A text behind a brace.
+/// A text after a brace.
 fn with_brace(alloc: Global, rest: &[u8]) -> Result<Vec<u8>, AllocError>
     ensures { IfOk result (λ line. line.items ≡ 123 ∷ rest.now) }
 {
@@ -89,7 +89,7 @@ fn parts_of(
     }
 }
 
-/// That an id does not stand in front.
+/// That an id is not in front.
 fn wrong_id(alloc: Global) -> Result<Why, AllocError>
     ensures { IfOk result (λ why. why_of why ≡ wrong (codes "id") None) }
 {
@@ -128,7 +128,7 @@ fn first_id(front: Option<Id>, id: Option<Id>) -> Option<Id>
     }
 }
 
-/// A message that was read, where its text begins with no brace.
+/// A message that was read, if its text begins with no brace.
 fn not_request(message: Message) -> Message
     ensures message { said_of result ≡ not_request (said_of message) }
     ensures well { is_well_message (said_of result) ≡ true }
@@ -160,7 +160,7 @@ fn said_in(
 /// What a client says, and the line that its entry has.
 ///
 /// # Errors
-/// `AllocError` where a growth of memory was refused.
+/// `AllocError` if a growth of memory was refused.
 pub fn read_said(
     alloc: Global,
     text: &[u8],

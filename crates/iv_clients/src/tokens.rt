@@ -53,7 +53,7 @@ pub enum TokensFault {
     Memory,
     /// The line of this number, counted from 1, is none that the file may have.
     Line(usize),
-    /// A digest stands twice.
+    /// A digest comes twice.
     Twice,
     /// There is no token.
     Empty,
@@ -134,7 +134,7 @@ fn has_digest(tokens: &[Token], digest: &[u8]) -> bool
     tokens.iter().any(|token| token.digest.as_slice() == digest)
 }
 
-/// Whether no digest stands twice.
+/// Whether no digest comes twice.
 fn are_apart(tokens: &[Token]) -> bool
     ensures { result ≡ are_apart tokens.now }
 {
@@ -147,7 +147,7 @@ fn are_apart(tokens: &[Token]) -> bool
     true
 }
 
-/// Appends the token of a line, where it has one. Whether the file may have the line.
+/// Appends the token of a line, if it has one. Whether the file may have the line.
 fn push_token(alloc: Global, tokens: &mut Vec<Token>, line: &[u8]) -> Result<bool, AllocError>
     ensures { IfOk result (λ is. (ls : List (List ℕ)) → behind_tokens tokens.old.items (tokens_of (line.now ∷ ls))
         ≡ (if is then behind_tokens tokens.new.items (tokens_of ls) else None)) }
@@ -164,7 +164,7 @@ fn push_token(alloc: Global, tokens: &mut Vec<Token>, line: &[u8]) -> Result<boo
     }
 }
 
-/// The tokens before the last line of a file, and its own; or the line's number, where the file may not have it.
+/// The tokens before the last line of a file, and its own; or the line's number, if the file may not have it.
 fn last_token(
     alloc: Global,
     tokens: Vec<Token>,
@@ -213,8 +213,8 @@ fn tokens_of(alloc: Global, file: &[u8]) -> Result<Result<Vec<Token>, usize>, Al
 /// The tokens of a file.
 ///
 /// # Errors
-/// `Memory` where a growth of memory was refused; `Line` with the first line that is no token, no remark and not the table's name;
-/// `Twice` where a digest stands twice; `Empty` where there is no token.
+/// `Memory` if a growth of memory was refused; `Line` with the first line that is no token, no remark and not the table's name;
+/// `Twice` if a digest comes twice; `Empty` if there is no token.
 pub fn read_tokens(alloc: Global, file: &[u8]) -> Result<Vec<Token>, TokensFault>
     ensures tokens { IfOk result (λ ts. tokens_in file.now ≡ Some ts.items) }
     ensures none { (why : TokensFault) → result ≡ Err why → (why ≡ TokensFault.Memory) ⊎ (tokens_in file.now ≡ None) }

@@ -19,7 +19,7 @@ abbrev pub bind_stop : BindFault → Stop
 bind_stop (binding.At place why) = Refused (BadQuery place (Binding why))
 bind_stop binding.Memory = Memory
 
--- a test passes, or is refused as the machine says; nothing is said where memory runs out
+-- a test passes, or is refused as the machine says; nothing is said if memory runs out
 abbrev pub IsTested : Option machine.Refusal → Result Unit Stop → Type 0
 IsTested o (Ok u) = o ≡ None
 IsTested o (Err (Refused r)) = o ≡ Some (refusal_of r)

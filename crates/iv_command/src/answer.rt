@@ -19,7 +19,7 @@ pub struct Answer {
 /// The lines of an answer, the reply and then the changes; or the one line of a refusal.
 ///
 /// # Errors
-/// `AllocError` where a growth of memory was refused, before or now.
+/// `AllocError` if a growth of memory was refused, before or now.
 pub fn lines_of(
     alloc: Global,
     session: u32,

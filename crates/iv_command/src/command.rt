@@ -47,13 +47,13 @@ pub enum Act {
         owner: String,
         query: String,
     },
-    /// Gives a role, or PUBLIC where none is named, privileges on a relation. Only its owner and `admin` may.
+    /// Gives a role, or PUBLIC if none is named, privileges on a relation. Only its owner and `admin` may.
     Grant {
         rel: String,
         privileges: Vec<Privilege>,
         grantee: Option<String>,
     },
-    /// Takes privileges on a relation from a role, or from PUBLIC where none is named. Only its owner and `admin` may.
+    /// Takes privileges on a relation from a role, or from PUBLIC if none is named. Only its owner and `admin` may.
     Revoke {
         rel: String,
         privileges: Vec<Privilege>,

@@ -1,6 +1,6 @@
 //! Commands and lines: what a session asks, the shape that it has, and what it is answered.
 //!
-//! They stand below the engine and the crates that read and write them, so reading is proved beside the engine and not behind it.
+//! They are below the engine and the crates that read and write them, so reading is proved beside the engine and not behind it.
 #![tactic(auto)]
 
 mod answer;

@@ -1,6 +1,6 @@
 //! `SentRows`: rows with their weights and their JSON text, which the lines of all readers of a circuit share.
 //!
-//! The text is written once, token by token, however many lines send it. The token writer on which `serde_json` stands says that
+//! The text is written once, token by token, however many lines send it. The token writer on which `serde_json` is built says that
 //! what it writes of a value's tokens is the value's compact text, so an answer is still what `serde_json` writes of its value.
 ghost use Rattle.std.specs.Prelude.{◌≡◌, ◌==◌, IfOk, OnOk, length};
 ghost use Rattle.iv_rows.specs.View.{cell_of, cells_of};
@@ -12,13 +12,15 @@ use json::Writer;
 use std::alloc::{AllocError, Global};
 use std::marker::Model;
 
-/// The room that a text is begun with, in bytes: that of a row or two.
+/// The space that a text is begun with, in bytes: that of a row or two.
 const SHORT_TEXT: usize = 64;
 
 /// Rows with their weights, and their JSON text.
 #[derive(Drop)]
 pub struct SentRows {
+    /// The rows with their weights.
     rows: Vec<(Row, i64)>,
+    /// The JSON text of these, as bytes.
     text: Vec<u8>,
 }
 
@@ -38,7 +40,7 @@ impl SentRows {
     /// The rows that are sent, with their weights, whose JSON text is written now.
     ///
     /// # Errors
-    /// `AllocError` where a growth of memory was refused.
+    /// `AllocError` if a growth of memory was refused.
     pub fn new(alloc: Global, rows: Vec<(Row, i64)>) -> Result<SentRows, AllocError>
         ensures { IfOk result (λ sent. sent ≡ rows.items) }
     {

@@ -15,7 +15,7 @@ use Rattle.iv_access.specs.Rights.{Name}
 use Rattle.iv_access.specs.Access.{Relation}
 use Rattle.iv_machine.specs.Numbered.{AreNumbered}
 use Rattle.iv_machine.specs.State.{plan_at, needs_at}
-use Rattle.iv_machine.proofs.Placing.{find_kept}
+use Rattle.iv_machine.proofs.SubscriptionPlaces.{find_kept}
 use Rattle.iv_database.specs.Database.{relation_in}
 
 same_nat : (m n : ℕ) → (m == n) ≡ true → m ≡ n

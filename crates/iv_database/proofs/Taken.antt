@@ -14,7 +14,7 @@ use Rattle.iv_algebra.specs.Contents.{AreOf, heads_of, rows_of}
 use Rattle.iv_algebra.specs.Fits.{or_nothing}
 use Rattle.iv_algebra.specs.Plans.{Lists}
 use Rattle.iv_bind.specs.Catalogs.{schema_of}
-use Rattle.iv_machine.proofs.Fitting.{kinds_after}
+use Rattle.iv_machine.proofs.TableKinds.{kinds_after}
 use Rattle.iv_machine.specs.Act.{Entry, write}
 use Rattle.iv_machine.specs.Sound.{HasKinds}
 use Rattle.iv_database.specs.Changes.{Change, change_at}
@@ -22,7 +22,7 @@ use Rattle.iv_database.specs.Database.{Database, HoldsKinds, IsDatabase, at, kin
 use Rattle.iv_database.specs.Resolving.{Passes, TookIn, left_by}
 use Rattle.iv_database.specs.Stands.{Stands}
 use Rattle.iv_database.specs.Summed.{HasRoom}
-use Rattle.iv_database.proofs.Holding.{one_passes, to_bag, to_list}
+use Rattle.iv_database.proofs.RowKinds.{one_passes, to_bag, to_list}
 
 -- ---- lists behind the tables
 

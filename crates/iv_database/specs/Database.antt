@@ -15,7 +15,7 @@ use Rattle.iv_access.specs.Rights.{Rights}
 use Rattle.iv_machine.specs.State.{Frame, Session, State, session_of}
 use Rattle.iv_machine.specs.Numbered.{AreNumbered}
 
--- the relations stand in the catalog at their numbers, and the tables among them have their rows; `cap` is the greatest
+-- the relations are in the catalog at their numbers, and the tables among them have their rows; `cap` is the greatest
 -- number of different rows of a table, and of a node of a circuit
 pub record Database : Type 0 where
   pub cap : ℕ

@@ -20,7 +20,7 @@ abbrev pub with_table : Held → ℕ → List Table → List Table
 with_table (catalogs.Table columns) rel tables = tables ++ record { rel = record { 0 = rel }; schema = columns; rows = [] } ∷ []
 with_table (catalogs.View answer) rel tables = tables
 
--- with a relation more, behind the others: its owner is granted everything, and it has no row
+-- with a relation more, after the others: its owner is granted everything, and it has no row
 abbrev pub with_relation_of : (name owner : Name) → Held → Database → Database
 with_relation_of name owner held e = record e {
   known = record {
@@ -52,7 +52,7 @@ database_after d n act = record {
 }
 
 -- it is done; or the refusal tells the first test that fails, of those that look at no row, and nothing has changed; nothing is
--- said where memory runs out
+-- said if memory runs out
 abbrev pub IsDone : Database → ℕ → Act → Result Unit Stop → Database → Type 0
 IsDone d n act (Ok u) new = (frame_refusal (frame_of d) n act ≡ None) × (new ≡ database_after d n act)
 IsDone d n act (Err (Refused r)) new = (frame_refusal (frame_of d) n act ≡ Some (refusal_of r)) × (new ≡ d)

@@ -22,7 +22,7 @@ abbrev pub AreTables : List Table → List Change → Type 0
 AreTables tables [] = Unit {0}
 AreTables tables (c ∷ cs) = HasTable tables c.rel × (list_any (λ d. c.rel == d.rel) cs ≡ false) × AreTables tables cs
 
--- the first of table t stands at the place
+-- the first of table t is at the place
 abbrev pub IsFirst : List Change → (place t : ℕ) → Type 0
 IsFirst [] place t = ⊥
 IsFirst (c ∷ cs) zero t = (c.rel == t) ≡ true
@@ -45,7 +45,7 @@ pub record IsNet (rows : Weighed) : Type 0 where
   pub zset : IsZSet rows
   pub difference : (before after : List (List Cell)) → ((q : List Cell) → weight_of rows q ≡ weight before after q) → rows ≡ difference before after
 
--- the net change of the sums of a table; a limit where a sum is no weight
+-- the net change of the sums of a table; a limit if a sum is no weight
 abbrev pub IsFinished : Change → Result Change Stop → Type 0
 IsFinished s (Ok c) = (c.rel ≡ s.rel) × SameZ c.rows s.rows × IsNet c.rows
 IsFinished s (Err (Refused r)) = (refusal_of r ≡ limit) × IsOutOfRange s.rows

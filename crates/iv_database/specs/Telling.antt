@@ -28,7 +28,7 @@ abbrev pub IsStopOf : AccessFault → Name → Stop → Type 0
 IsStopOf f rel (Refused r) = told f rel ≡ Some (refusal_of r)
 IsStopOf f rel Memory = f ≡ fault.Memory
 
--- what the request is answered, where the change of rights has the result
+-- what the request is answered, if the change of rights has the result
 abbrev pub IsTold : Result Unit AccessFault → Name → Result Unit Stop → Type 0
 IsTold (Ok u) rel (Ok v) = Unit {0}
 IsTold (Ok u) rel (Err s) = ⊥

@@ -37,7 +37,7 @@ impl Database {
     /// Whether the role has the privileges that the entries need.
     ///
     /// # Errors
-    /// `Refused` with the first that is missing; `Memory` where a growth of memory was refused.
+    /// `Refused` with the first that is missing; `Memory` if a growth of memory was refused.
     pub(crate) fn check_privileges(&self, acting: RoleId, entries: &[Placement]) -> Result<(), Stop>
         requires { AllByRecursion (IsPlaced (frame_of self.now)) entries.now }
         ensures { IsTested (each_entry (entry_privileges (frame_of self.now) acting.0) 1 (map entry_of entries.now)) result }
@@ -129,7 +129,7 @@ impl Database {
     /// Whether the policies of their tables let the entries through.
     ///
     /// # Errors
-    /// `Refused` with the first test that fails; `Memory` where a growth of memory was refused.
+    /// `Refused` with the first test that fails; `Memory` if a growth of memory was refused.
     pub(crate) fn check_policies(&self, acting: RoleId, entries: &[Placement]) -> Result<(), Stop>
         requires { AllByRecursion (IsPlaced (frame_of self.now)) entries.now }
         ensures { IsTested (each_entry (entry_policies (frame_of self.now) acting.0) 1 (map entry_of entries.now)) result }

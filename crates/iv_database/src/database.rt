@@ -1,6 +1,6 @@
 //! `Database`: rights, the catalog, the rows of tables and the sessions, and the row limit.
 //!
-//! `tables` has an entry for each table alone. A table's columns stand in the catalog and, copied once when it is
+//! `tables` has an entry for each table alone. A table's columns are in the catalog and, copied once when it is
 //! created, with its rows.
 ghost use Rattle.std.specs.Prelude.{◌≡◌, ◌<◌, IfOk};
 ghost use Rattle.iv_database.specs.Database.{at_start};
@@ -17,11 +17,17 @@ use std::marker::Model;
 /// node of a circuit over them.
 #[derive(Drop)]
 pub struct Database {
+    /// The greatest number of different rows of a table or a node.
     pub(crate) cap: usize,
+    /// Roles, grants, row security and policies.
     pub(crate) access: Access,
+    /// The names and columns of tables and views.
     pub(crate) catalog: Catalog,
+    /// The sessions that were begun.
     pub(crate) sessions: Vec<Session>,
+    /// The rows of tables.
     pub(crate) tables: Tables,
+    /// The allocator of what it makes.
     pub(crate) alloc: Global,
 }
 
@@ -46,7 +52,7 @@ impl Database {
     /// A database of one role, `admin`, and nothing else. Rows will be hashed under the seed.
     ///
     /// # Errors
-    /// `AllocError` where a growth of memory was refused.
+    /// `AllocError` if a growth of memory was refused.
     pub fn new(alloc: Global, seed: Seed, cap: usize) -> Result<Database, AllocError>
         ensures { IfOk result (λ database. database ≡ at_start cap) }
     {

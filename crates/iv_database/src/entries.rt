@@ -1,6 +1,6 @@
 //! `placed`: the entries of a write at the numbers of their tables, and whether their rows have the right kinds.
 //!
-//! Each name is looked up once; all that comes behind goes by number. `place` takes no memory, so it answers a bare `Refusal`, and
+//! Each name is looked up once; all that comes after goes by number. `place` takes no memory, so it answers a bare `Refusal`, and
 //! its caller makes the stop.
 ghost use Rattle.std.specs.Prelude.{◌≡◌, ◌+◌, ◌<◌, IfOk, IfErr, IfSome, OnOk, None, Some, is_some, length};
 ghost use Rattle.std.specs.List.{AllByRecursion, list_all};
@@ -50,7 +50,7 @@ fn accepts(schema: &Schema, op: &Op) -> bool
 }
 
 impl Database {
-    /// The relation that a write's entry names. Where the entry before names it, it is not looked up again.
+    /// The relation that a write's entry names. If the entry before names it, it is not looked up again.
     fn relation_behind(&self, placed: &[Placement], name: &str) -> Option<RelId>
         requires stored { IsDatabase self.now }
         requires placed { AllByRecursion (IsPlaced (frame_of self.now)) placed.now }
@@ -106,7 +106,7 @@ impl Database {
     /// The entries at the numbers of their tables.
     ///
     /// # Errors
-    /// `Refused` with the first whose table or rows fail; `Memory` where a growth of memory was refused.
+    /// `Refused` with the first whose table or rows fail; `Memory` if a growth of memory was refused.
     pub(crate) fn placed(&self, entries: Vec<Entry>) -> Result<Vec<Placement>, Stop>
         requires { IsDatabase self.now }
         ensures { AreEntries (frame_of self.now) entries.items result }

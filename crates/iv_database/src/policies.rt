@@ -30,7 +30,7 @@ fn asked(policy: PolicyText, predicates: Predicates) -> NewPolicy
 }
 
 impl Database {
-    /// The table of a name, where the role of the session may change the table's policies.
+    /// The table of a name, if the role of the session may change the table's policies.
     fn owned(&self, session: u32, rel: &str) -> Result<RelId, Stop>
         requires { IsDatabase self.now }
         ensures { IsOwned self.now session rel.now result }
@@ -59,7 +59,7 @@ impl Database {
         Ok(())
     }
 
-    /// The table of a policy and its predicates, where all tests pass but that of the number of policies.
+    /// The table of a policy and its predicates, if all tests pass but that of the number of policies.
     fn check_policy(&self, session: u32, policy: &PolicyText) -> Result<(RelId, Predicates), Stop>
         requires { IsDatabase self.now }
         ensures { IsChecked self.now session policy.now result }
@@ -74,7 +74,7 @@ impl Database {
     /// Switches row security of a table, and says which; else the first test that fails, and nothing has changed.
     ///
     /// # Errors
-    /// `Refused` with the test; `Memory` where a growth of memory was refused.
+    /// `Refused` with the test; `Memory` if a growth of memory was refused.
     pub fn row_security(
         &mut self,
         session: u32,
@@ -94,7 +94,7 @@ impl Database {
     /// Adds a policy to a table, and says to which; else the first test that fails, and nothing has changed.
     ///
     /// # Errors
-    /// `Refused` with the test; `Memory` where a growth of memory was refused.
+    /// `Refused` with the test; `Memory` if a growth of memory was refused.
     pub fn create_policy(&mut self, session: u32, policy: PolicyText) -> Result<RelId, Stop>
         requires { IsDatabase self.old }
         ensures guarded { IsGuarded self.old session (machine.create_policy policy) policy.rel result self.new }
@@ -110,10 +110,10 @@ impl Database {
         Ok(table)
     }
 
-    /// Takes a policy of a table away, and says of which; else the first test that fails, and nothing has changed.
+    /// Takes a policy of a table away, and says which table's; else the first test that fails, and nothing has changed.
     ///
     /// # Errors
-    /// `Refused` with the test; `Memory` where a growth of memory was refused.
+    /// `Refused` with the test; `Memory` if a growth of memory was refused.
     pub fn drop_policy(&mut self, session: u32, rel: &str, name: &str) -> Result<RelId, Stop>
         requires { IsDatabase self.old }
         ensures guarded { IsGuarded self.old session (machine.drop_policy rel.now name.now) rel.now result self.new }

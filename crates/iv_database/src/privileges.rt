@@ -42,7 +42,7 @@ impl Database {
     /// Tests a session's request to grant privileges on a relation to a role or to PUBLIC, and grants them.
     ///
     /// # Errors
-    /// `Refused` with the first test that fails; `Memory` where a growth of memory was refused.
+    /// `Refused` with the first test that fails; `Memory` if a growth of memory was refused.
     pub fn grant(
         &mut self,
         session: u32,
@@ -62,7 +62,7 @@ impl Database {
     /// Tests a session's request to revoke privileges on a relation, and takes them back.
     ///
     /// # Errors
-    /// `Refused` with the first test that fails; `Memory` where a growth of memory was refused.
+    /// `Refused` with the first test that fails; `Memory` if a growth of memory was refused.
     pub fn revoke(
         &mut self,
         session: u32,

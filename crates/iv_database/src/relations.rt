@@ -25,7 +25,7 @@ use iv_rows::{Column, Kind, RelId, Schema};
 use std::alloc::{AllocError, Global};
 
 impl Database {
-    /// The relation of the database that has the name; none where there is none.
+    /// The relation of the database that has the name; none if there is none.
     pub(crate) fn relation(&self, name: &str) -> Option<RelId>
         requires { IsDatabase self.now }
         ensures known { is_some result ≡ is_some (named (frame_of self.now).catalog name.now) }
@@ -57,7 +57,7 @@ impl Database {
     /// The name of a relation of the database, in memory of its own.
     ///
     /// # Errors
-    /// `AllocError` where a growth of memory was refused.
+    /// `AllocError` if a growth of memory was refused.
     pub fn name_of(&self, rel: RelId) -> Result<String, AllocError>
         requires { IsDatabase self.now }
         ensures { IfOk result (λ name. string_bytes name ≡ name_of self.now.catalog rel.0) }
@@ -92,7 +92,7 @@ impl Database {
     /// Tests a session's request for a new table, and adds it, with each privilege for its owner.
     ///
     /// # Errors
-    /// `Refused` with the first test that fails; `Memory` where a growth of memory was refused.
+    /// `Refused` with the first test that fails; `Memory` if a growth of memory was refused.
     pub fn create_table(
         &mut self,
         session: u32,
@@ -111,7 +111,7 @@ impl Database {
         self.add_table(acting, name, owner, columns)
     }
 
-    /// Adds a table without rows to the database, where the rights admit it.
+    /// Adds a table without rows to the database, if the rights admit it.
     fn add_table(
         &mut self,
         acting: RoleId,
@@ -153,7 +153,7 @@ fn bound_view(alloc: Global, catalog: &Catalog, query: &str) -> Result<Bound, St
 }
 
 impl Database {
-    /// The acting role, where it may add a relation of the name and the owner; else the first test that fails.
+    /// The acting role, if it may add a relation of the name and the owner; else the first test that fails.
     fn creator(&self, session: u32, name: &str, owner: &str) -> Result<RoleId, Stop>
         requires { IsDatabase self.now }
         ensures { IsCreator self.now session name.now owner.now result }
@@ -205,7 +205,7 @@ impl Database {
     /// Tests a session's request for a new view, and adds it, with each privilege for its owner.
     ///
     /// # Errors
-    /// `Refused` with the first test that fails; `Memory` where a growth of memory was refused.
+    /// `Refused` with the first test that fails; `Memory` if a growth of memory was refused.
     pub fn create_view(
         &mut self,
         session: u32,

@@ -11,7 +11,7 @@ impl Database {
     /// Tests a session's request for a new role, and adds it.
     ///
     /// # Errors
-    /// `Refused` with the first test that fails; `Memory` where a growth of memory was refused.
+    /// `Refused` with the first test that fails; `Memory` if a growth of memory was refused.
     pub fn create_role(&mut self, session: u32, name: String) -> Result<(), Stop>
         ensures done { IsDone self.old session (machine.create_role (string_bytes name)) result self.new }
         ensures sessions { self.new.sessions ≡ self.old.sessions }
@@ -26,7 +26,7 @@ impl Database {
     /// Tests a session's request to make the role `to` a member of a role, and makes it one.
     ///
     /// # Errors
-    /// `Refused` with the first test that fails; `Memory` where a growth of memory was refused.
+    /// `Refused` with the first test that fails; `Memory` if a growth of memory was refused.
     pub fn grant_role(&mut self, session: u32, role: String, to: &str) -> Result<(), Stop>
         ensures done { IsDone self.old session (machine.grant_role (string_bytes role) to.now) result self.new }
         ensures sessions { self.new.sessions ≡ self.old.sessions }
@@ -41,7 +41,7 @@ impl Database {
     /// Tests a session's request to take the role `to` out of the direct members of a role, and takes it out.
     ///
     /// # Errors
-    /// `Refused` with the first test that fails; `Memory` where a growth of memory was refused.
+    /// `Refused` with the first test that fails; `Memory` if a growth of memory was refused.
     pub fn revoke_role(&mut self, session: u32, role: String, to: &str) -> Result<(), Stop>
         ensures done { IsDone self.old session (machine.revoke_role (string_bytes role) to.now) result self.new }
         ensures sessions { self.new.sessions ≡ self.old.sessions }

@@ -33,7 +33,7 @@ pub(crate) fn find_session(sessions: &[Session], number: u32) -> Option<&Session
 }
 
 impl Database {
-    /// The role that acts in the session; none where it is not open.
+    /// The role that acts in the session; none if it is not open.
     pub fn actor(&self, session: u32) -> Option<RoleId>
         ensures { option_map (λ r. r.0) result ≡ option_map (λ s. s.role) (session_of self.now.sessions session) }
     {
@@ -75,7 +75,7 @@ impl Database {
     /// Opens a session.
     ///
     /// # Errors
-    /// `Refused` with the first test that fails; `Memory` where a growth of memory was refused.
+    /// `Refused` with the first test that fails; `Memory` if a growth of memory was refused.
     pub fn begin(&mut self, session: u32, role: &str) -> Result<(), Stop>
         ensures { IsDone self.old session (machine.begin role.now) result self.new }
     {

@@ -26,9 +26,9 @@ use Rattle.iv_desk.specs.Front.{put_off, text_for, told_some, turned_away}
 use Rattle.iv_desk.specs.Desks.{IsHeardOut, IsHearing, IsLived, IsTextNext, place_of}
 use Rattle.iv_desk.specs.declared.place.Place.{Place}
 use Rattle.iv_desk.specs.declared.place.Hearing.TheVariants.{All, Held, Over}
-use Rattle.iv_desk.proofs.Presenting.{AlwaysCarries, closed_effects, closed_forgets, effects_present, no_text_presents, text_presents, told_effects}
-use Rattle.iv_desk.proofs.Presenting.{told_forgets}
-use Rattle.iv_desk.proofs.Serving.{none_comes}
+use Rattle.iv_desk.proofs.PresentedTokens.{AlwaysCarries, closed_effects, closed_forgets, effects_present, no_text_presents, text_presents, told_effects}
+use Rattle.iv_desk.proofs.PresentedTokens.{told_forgets}
+use Rattle.iv_desk.proofs.NumberTraffic.{none_comes}
 
 -- ---- what the code hears is heard
 

@@ -27,7 +27,7 @@ pub record HasEnded (s : Socket) : Type 0 where
   pub all : s.effects ≡ before ++ last ∷ []
   pub ends : is_last last.message ≡ true
 
--- behind a request for a WebSocket and frames there was read of it what is no frame
+-- after a request for a WebSocket and frames there was read of it what is no frame
 pub record HasFailed (s : Socket) : Type 0 where
   pub head : RequestHead
   pub accept : List ℕ

@@ -73,7 +73,7 @@ most_pending = 262144
 abbrev pub is_held : Gate → ℕ → Socket → Bool
 is_held g m s = nat_lt most_pending (length s.output) || (has_presented s && not (is_heard g m))
 
--- what the bytes of number m say is heard, one thing after another: what is no text; the first text, which is a token; a message, where
+-- what the bytes of number m say is heard, one thing after another: what is no text; the first text, which is a token; a message, if
 -- the client of the number is heard
 pub data HearsAt (m : ℕ) (g : Gate) (s : Socket) : Gate → Socket → Type 0 where
   nothing : HearsAt m g s g s
@@ -96,7 +96,7 @@ text_for g m = if_some (client_at g.clients m) [] (λ c. text_shown c.sendable)
 abbrev pub let_go : Socket → Socket
 let_go s = closed 1013 (codes "What was told was not taken.") s
 
--- the text is told in one frame, where there is any
+-- the text is told in one frame, if there is any
 abbrev pub told_some : List ℕ → Socket → Socket
 told_some [] s = s
 told_some (b ∷ bs) s = told_text (b ∷ bs) s
@@ -120,7 +120,7 @@ dismissed m d = if is_dropped d.gate m then at_socket m turned_away d else d
 abbrev pub is_within : (low high n : ℕ) → Bool
 is_within low high n = nat_le low n && nat_le n high
 
--- a close may tell it: its code may be sent, and its words have room in its frame (RFC 6455, sections 7.4 and 5.5)
+-- a close may tell it: its code may be sent, and its words fit into its frame (RFC 6455, sections 7.4 and 5.5)
 abbrev pub may_tell : ℕ → List ℕ → Bool
 may_tell code words = nat_le (length words) 123 && (is_within 1000 1003 code || (is_within 1007 1014 code || is_within 3000 4999 code))
 
@@ -139,7 +139,7 @@ pub data Happens (d : Front) : Front → Type 0 where
   ticks : Happens d (by_event ticked d)
   fails : Happens d (by_event failed d)
 
--- no socket stands before a gateway that began, also again behind a crash, and that has no client; while it is alive anything happens, and
+-- no socket is before a gateway that began, also again after a crash, and that has no client; while it is alive anything happens, and
 -- sockets are closed from outside
 pub data FrontRuns (cap : ℕ) : Front → Type 0 where
   starts : (g : Gate) (most : ℕ) → Runs cap g → ((m : ℕ) → client_at g.clients m ≡ None) → FrontRuns cap (front_at_start g most)

@@ -25,9 +25,13 @@ use std::alloc::{AllocError, Global};
 /// any more, and nothing is pending.
 #[derive(Drop)]
 pub struct Desk {
+    /// The allocator of what it makes.
     alloc: Global,
+    /// The gateway that answers the clients.
     gateway: Gateway,
+    /// The peer of each number, if there is one.
     places: Vec<Option<Place>>,
+    /// Whether there was a fault.
     dead: bool,
 }
 
@@ -35,7 +39,7 @@ impl Desk {
     /// A desk at which nobody is, with places for as many, before a gateway that has no client and was no fault of.
     ///
     /// # Errors
-    /// `AllocError` where a growth of memory was refused.
+    /// `AllocError` if a growth of memory was refused.
     pub fn new(alloc: Global, gateway: Gateway, most: u32) -> Result<Desk, AllocError>
         ensures { IfOk result (λ x. (g : Gate) → IsGate g gateway → g.dead ≡ false → IsDesk (front_at_start g most) x) }
     {
@@ -48,7 +52,7 @@ impl Desk {
         })
     }
 
-    /// Brings the gateway to where a journal leads. Answers how many of its bytes that is: what stands behind them is a last entry that was
+    /// Brings the gateway to where a journal leads. Answers how many of its bytes that is: what follows them is a last entry that was
     /// torn, which is to be cut off before anything happens.
     ///
     /// # Errors
@@ -90,7 +94,7 @@ impl Desk {
     /// Takes in bytes that were read at a number, and hears all that may be heard now. What is left.
     ///
     /// # Errors
-    /// `Memory` where a growth of memory was refused; `Dead` where there was a fault before. The desk is dead then.
+    /// `Memory` if a growth of memory was refused; `Dead` if there was a fault before. The desk is dead then.
     pub fn read(&mut self, at: u32, bytes: &[u8]) -> Result<Hearing, GatewayFault>
         ensures heard { IfOk result (λ hearing. (d : Front) → IsDesk d self.old → IsHeard (at_socket at (took bytes.now) d) at hearing self.new) }
         ensures fails { OnErr result ((d : Front) → IsDesk d self.old → IsDesk (by_event failed d) self.new) }
@@ -108,7 +112,7 @@ impl Desk {
         }
     }
 
-    /// Hears on at a number that was held, behind a `settle`. What is left.
+    /// Hears on at a number that was held, after a `settle`. What is left.
     ///
     /// # Errors
     /// As of `read`.
@@ -152,11 +156,11 @@ impl Desk {
         }
     }
 
-    /// Has the journal keep what is pending there, and only then offers each peer what its client may be sent, in one message, where all that
+    /// Has the journal keep what is pending there, and only then offers each peer what its client may be sent, in one message, if all that
     /// it was offered before was sent. One whose client is to go is closed.
     ///
     /// # Errors
-    /// `Journal` where the journal fails; else as of `read`. The journal has a front of what was pending then, behind what it had; a dead
+    /// `Journal` if the journal fails; else as of `read`. The journal has a front of what was pending then, after what it had; a dead
     /// desk gives it nothing.
     pub fn settle<J: Journal>(&mut self, journal: &mut J) -> Result<(), GatewayFault>
         ensures kept { OnOk result ((d : Front) → IsDesk d self.old → d.gate.dead ≡ false
@@ -233,7 +237,7 @@ impl Desk {
         }
     }
 
-    /// Closes the connection of a number by a code and words that tell why, where it is open. Nothing more is heard or told at it. The code is
+    /// Closes the connection of a number by a code and words that tell why, if it is open. Nothing more is heard or told at it. The code is
     /// one that may be sent (1000 to 1003, 1007 to 1014, 3000 to 4999), and the words have at most 123 bytes.
     ///
     /// # Errors
@@ -305,7 +309,7 @@ impl Desk {
         }
     }
 
-    /// The first bytes of what was pending at a number were sent, as many as that, where as many were pending.
+    /// The first bytes of what was pending at a number were sent, as many as that, if as many were pending.
     pub fn sent(&mut self, at: u32, count: usize)
         ensures { (d : Front) → IsDesk d self.old → IsDesk (at_socket at (passing count) d) self.new }
     {

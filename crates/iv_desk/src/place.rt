@@ -15,7 +15,7 @@ use std::alloc::{AllocError, Global};
 /// Bytes that wait at a number which is heard, at most.
 const MOST_PENDING: usize = 262_144;
 
-/// The code of a close where the token opens no role.
+/// The code of a close if the token opens no role.
 pub(crate) const NO_ROLE: u16 = 4401;
 
 /// What is left at a number of the bytes that were read.
@@ -82,7 +82,7 @@ fn is_held(gateway: &Gateway, at: u32, place: &Place) -> bool
     place.peer.pending().len() > MOST_PENDING || place.presented && !gateway.is_heard(at)
 }
 
-/// A token is presented at a number. Where nobody comes in by it, the peer is closed.
+/// A token is presented at a number. If nobody comes in by it, the peer is closed.
 fn present(
     gateway: &mut Gateway,
     at: u32,
@@ -105,7 +105,7 @@ fn present(
     }
 }
 
-/// A text is heard: a token where none was presented, and else a message of the client.
+/// A text is heard: a token if none was presented, and else a message of the client.
 fn hear_text(
     gateway: &mut Gateway,
     at: u32,

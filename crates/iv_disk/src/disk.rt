@@ -10,7 +10,7 @@ use std::io::{ErrorKind, Write};
 
 /// Where a journal's bytes lie, as a file does.
 pub trait Disk {
-    /// The bytes that it has, where it tells them. One that does not tell them never does.
+    /// The bytes that it has, if it tells them. One that does not tell them never does.
     ghost held: { Self → Option (List ℕ) };
 
     /// Those of them that are to survive a crash, for all that it was told.
@@ -19,17 +19,17 @@ pub trait Disk {
     /// How many bytes it has.
     ///
     /// # Errors
-    /// Where the system refuses, as of each function here.
+    /// If the system refuses, as of each function here.
     fn length(&self) -> io::Result<u64>
         ensures { IfOk result (λ n. IfSome (held self.now) (λ xs. n ≡ length xs)) };
 
-    /// Writes a front of the bytes behind those that are there. Answers how many it took.
+    /// Writes a front of the bytes after those that are there. Answers how many it took.
     fn write(&mut self, bytes: &[u8]) -> io::Result<usize>
         ensures bound { WritesAtMost result bytes.now }
         ensures bytes { WriteAppends (held self.old) (held self.new) result bytes.now }
         ensures silent { held self.old ≡ None → held self.new ≡ None };
 
-    /// Cuts what stands behind as many bytes, where there is more.
+    /// Cuts what follows as many bytes, if there is more.
     fn cut(&mut self, length: u64) -> io::Result<()>
         ensures cuts { OnOk result (Keeps (first_known length (held self.old)) (held self.new)) }
         ensures fails { OnErr result (Keeps (held self.old) (held self.new)) }
@@ -69,7 +69,7 @@ impl Disk for File {
     }
 }
 
-/// Writes a front of the bytes behind those that are there: none, where that is interrupted. Answers how many.
+/// Writes a front of the bytes after those that are there: none, if that is interrupted. Answers how many.
 fn write_front<D: Disk>(disk: &mut D, bytes: &[u8]) -> io::Result<usize>
     ensures bound { WritesAtMost result bytes.now }
     ensures bytes { WriteAppends (D.held disk.old) (D.held disk.new) result bytes.now }
@@ -88,7 +88,7 @@ fn write_front<D: Disk>(disk: &mut D, bytes: &[u8]) -> io::Result<usize>
     }
 }
 
-/// Writes all bytes behind those that are there.
+/// Writes all bytes after those that are there.
 fn write_whole<D: Disk>(disk: &mut D, bytes: &[u8]) -> io::Result<()>
     ensures appended { OnOk result (Appends (D.held disk.old) (D.held disk.new) bytes.now) }
     ensures torn { OnErr result ((n : ℕ) × Appends (D.held disk.old) (D.held disk.new) (take n bytes.now)) }
@@ -105,7 +105,7 @@ fn write_whole<D: Disk>(disk: &mut D, bytes: &[u8]) -> io::Result<()>
     Err(io::Error::from(ErrorKind::TimedOut))
 }
 
-/// Writes all bytes behind those that are there, and syncs.
+/// Writes all bytes after those that are there, and syncs.
 fn write_synced<D: Disk>(disk: &mut D, bytes: &[u8]) -> io::Result<()>
     ensures appended { OnOk result (Appends (D.held disk.old) (D.held disk.new) bytes.now) }
     ensures synced { OnOk result (D.synced disk.new ≡ D.held disk.new) }
@@ -117,11 +117,11 @@ fn write_synced<D: Disk>(disk: &mut D, bytes: &[u8]) -> io::Result<()>
     Ok(())
 }
 
-/// Writes all bytes behind those that are there, and syncs. Nothing is to stay of what could not be written whole: where that fails too, a
+/// Writes all bytes after those that are there, and syncs. Nothing is to stay of what could not be written whole: if that fails too, a
 /// front of the bytes is left.
 ///
 /// # Errors
-/// Where the system refuses.
+/// If the system refuses.
 pub fn put<D: Disk>(disk: &mut D, bytes: &[u8]) -> io::Result<()>
     ensures appended { OnOk result (Appends (D.held disk.old) (D.held disk.new) bytes.now) }
     ensures synced { OnOk result (D.synced disk.new ≡ D.held disk.new) }
@@ -138,10 +138,10 @@ pub fn put<D: Disk>(disk: &mut D, bytes: &[u8]) -> io::Result<()>
     }
 }
 
-/// Cuts what stands behind as many bytes, and syncs what is left.
+/// Cuts what follows as many bytes, and syncs what is left.
 ///
 /// # Errors
-/// Where the system refuses.
+/// If the system refuses.
 pub fn cut_synced<D: Disk>(disk: &mut D, length: u64) -> io::Result<()>
     ensures cuts { OnOk result (Keeps (first_known length (D.held disk.old)) (D.held disk.new)) }
     ensures synced { OnOk result (D.synced disk.new ≡ D.held disk.new) }

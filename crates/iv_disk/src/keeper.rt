@@ -1,4 +1,4 @@
-//! `Keeper`: a journal with its audit on a disk. Behind a failure it writes nothing more.
+//! `Keeper`: a journal with its audit on a disk. After a failure it writes nothing more.
 //!
 //! What `append` promises is proved over any disk that tells its bytes. A real file tells none, so of one it is shown by kills and a full disk.
 ghost use Rattle.std.specs.Prelude.{◌≡◌, ◌<◌, ℕ, [], IfOk, IfSome, List, None, OnErr, OnOk, false, length, take, true};
@@ -50,8 +50,11 @@ impl From<WriteFault> for KeepFault {
 /// A journal with its audit on a disk.
 #[derive(Drop)]
 pub struct Keeper<D: Disk> {
+    /// The disk with the journal.
     disk: D,
+    /// Where the journal ends.
     chain: Chain,
+    /// Whether a step failed, after which nothing more is written.
     failed: bool,
     ghost whole: { failed ≡ false → is_whole (D.held disk) ≡ true },
 }
@@ -72,7 +75,7 @@ fn begin_anew<D: Disk>(alloc: Global, disk: &mut D, epoch: &[u8; 32]) -> Result<
     Ok(chain)
 }
 
-/// Cuts a disk behind whole records. Answers where they end, or writes a head if there are none.
+/// Cuts a disk after whole records. Answers where they end, or writes a head if there are none.
 fn begin<D: Disk>(
     alloc: Global,
     disk: &mut D,
@@ -97,11 +100,11 @@ fn begin<D: Disk>(
 }
 
 impl<D: Disk + Drop> Keeper<D> {
-    /// The journal on a disk of which this was read: what stands behind whole records is cut, a head of 32 digits that no other journal has is
+    /// The journal on a disk that this was read of: what follows whole records is cut, a head of 32 digits that no other journal has is
     /// written if there is none, and all of it is synced.
     ///
     /// # Errors
-    /// `Memory` where a growth of memory was refused; `NotEntries` where the digits are no text; `System` where the system refuses.
+    /// `Memory` if a growth of memory was refused; `NotEntries` if the digits are no text; `System` if the system refuses.
     pub fn begin(
         alloc: Global,
         disk: D,
@@ -126,7 +129,7 @@ impl<D: Disk + Drop> Keeper<D> {
     /// How many bytes the disk has.
     ///
     /// # Errors
-    /// Where the system refuses.
+    /// If the system refuses.
     pub fn length(&self) -> io::Result<u64>
         ensures { IfOk result (λ n. IfSome (D.held self.now.disk) (λ bytes. n ≡ length bytes)) }
     {
@@ -138,7 +141,7 @@ impl<D: Disk + Drop> Keeper<D> {
     /// it was made, as the shares tell, and syncs. Answers how many bytes the disk has more.
     ///
     /// # Errors
-    /// As of `begin`; `Failed` where it failed before. Nothing is to stay of what could not be written whole; where that fails too, the next start
+    /// As of `begin`; `Failed` if it failed before. Nothing is to stay of what could not be written whole; if that fails too, the next start
     /// cuts what is torn. Nothing more is written then.
     pub fn append(
         &mut self,

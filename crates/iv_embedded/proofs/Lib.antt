@@ -1,1 +1,1 @@
-pub mod Applying
+pub mod CommandLists

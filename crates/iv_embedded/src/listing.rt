@@ -14,14 +14,14 @@ use iv_engine::{Engine, EngineFault};
 /// Answers commands in their order, and stops at the first fault; then no line is handed out.
 ///
 /// # Errors
-/// `Failed` exactly where the engine had failed; `Memory` where a growth of memory was refused. The engine has
+/// `Failed` exactly if the engine had failed; `Memory` if a growth of memory was refused. The engine has
 /// failed after either.
 pub fn run_list(engine: &mut Engine, commands: Vec<Command>) -> Result<Vec<Line>, EngineFault>
     requires { list_all is_well_command (map command_of commands.items) ≡ true }
     ensures lines { IfOk result (λ lines. AreLinesOfAll engine.old (map command_of commands.items) (map line_of lines.items)) }
     ensures state { OnOk result (IsLeftByAll engine.old (map command_of commands.items) engine.new) }
     ensures sound { OnOk result (All IsGiven (map command_of commands.items) → IsSoundEngine engine.old → IsSoundEngine engine.new) }
-    // Each command is answered as `apply` answers it: known rows, nothing changed where it is refused, and rounds counted.
+    // Each command is answered as `apply` answers it: known rows, nothing changed if it is refused, and rounds counted.
     ensures each { IfOk result (λ lines. AreApplied engine.old (map command_of commands.items) (map line_of lines.items) engine.new) }
     // For each subscription that its reader did not close, what is sent adds up to what it shows more than before.
     ensures held { IfOk result (λ lines. LinesAddUpBehind engine.old (map command_of commands.items) (map line_of lines.items)) }

@@ -14,7 +14,7 @@ use std::alloc::Global;
 /// The command that a line asks for, without its newline.
 ///
 /// # Errors
-/// `BadJson` where the line is no JSON value; `BadRequest` where the value is no request; `Memory` where a growth of
+/// `BadJson` if the line is no JSON value; `BadRequest` if the value is no request; `Memory` if a growth of
 /// memory was refused, which may come in place of the others.
 ///
 /// Source: RFC 8259; docs/PROTOCOL.md, Requests.

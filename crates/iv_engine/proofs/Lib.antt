@@ -1,12 +1,12 @@
-mod Narrowing
-mod Widening
-mod Settling
-mod Righting
-mod Ending
-mod Joining
-mod Guarding
-mod Numbering
-mod Reordering
-pub mod Sounding
-pub mod Enrolled
-mod Knowing
+mod NarrowerPolicies
+mod WiderPolicies
+mod WriteSteps
+mod RightsSteps
+mod RevokeEnds
+mod MembershipEffects
+mod GuardChanges
+mod RoundNumbers
+mod RowOrder
+pub mod SoundStates
+pub mod MembershipRequests
+mod NameLookup

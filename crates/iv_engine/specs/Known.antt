@@ -9,7 +9,7 @@ use Rattle.iv_access.specs.Rights.{Name, Rights}
 use Rattle.iv_access.specs.declared.privilege.Privilege.TheVariants.{Select, Insert, Update, Delete}
 use Rattle.iv_machine.specs.State.{Frame}
 
--- the columns of the relation of a name; none where there is no such relation
+-- the columns of the relation of a name; none if there is no such relation
 abbrev pub columns_named : Frame → Name → List Column
 columns_named f rel = if_some (named f.catalog rel) [] (λ e. columns_of e.held)
 

@@ -30,7 +30,7 @@ pub record IsRestricted (e : Store) (rel name : Name) (c : Condition) : Type 0 w
   pub each : AllByRecursion (IsRestriction name c) (policies_of (slice_get e.known.rights.guards (rel_of e.catalog rel)))
   pub plain : names_user c ≡ false
 
--- the rows of the table of which the condition does not hold
+-- the rows of the table that the condition does not hold of
 pub record IsHidden (e : Store) (t : ℕ) (o : Option Condition) (h : HiddenRows) : Type 0 where
   pub table : h.table ≡ t
   pub condition : Condition

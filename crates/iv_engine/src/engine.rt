@@ -1,7 +1,7 @@
 //! `Engine`: `apply` answers a command, `hang_up` ends all sessions; one that failed answers none.
 //!
 //! The clause `known_rows` of `apply` follows from `lines`. It is said all the same: a leak is the worst fault. Of a
-//! change it speaks where the subscription is to a table, since the rows of a view stand in no table; of a last line
+//! change it speaks if the subscription is to a table, since the rows of a view are in no table; of a last line
 //! it says that it takes back all that was shown.
 ghost use Rattle.std.specs.Prelude.{◌≡◌, ◌↔◌, [], IfOk, OnOk, OnErr, map, true, false};
 ghost use Rattle.iv_rows.specs.RowLimit.{IsRowLimit};
@@ -46,7 +46,9 @@ impl From<AllocError> for EngineFault {
 /// access machine does, and after a refused growth of memory none any more.
 #[derive(Drop)]
 pub struct Engine {
+    /// Rights, tables, sessions and subscriptions.
     pub(crate) store: Store,
+    /// Whether a growth of memory was refused, after which no command is answered.
     failed: bool,
 }
 
@@ -72,7 +74,7 @@ impl Engine {
     /// fall together.
     ///
     /// # Errors
-    /// `AllocError` where a growth of memory was refused.
+    /// `AllocError` if a growth of memory was refused.
     pub fn new(alloc: Global, cap: u32) -> Result<Engine, AllocError>
         requires { IsRowLimit cap }
         ensures start { IfOk result (λ engine. IsBehind (start cap) engine) }
@@ -86,7 +88,7 @@ impl Engine {
     /// The same engine, which hashes rows under a seed. The answers do not depend on it.
     ///
     /// # Errors
-    /// `AllocError` where a growth of memory was refused.
+    /// `AllocError` if a growth of memory was refused.
     pub fn with_seed(alloc: Global, seed: Seed, cap: u32) -> Result<Engine, AllocError>
         requires { IsRowLimit cap }
         ensures start { IfOk result (λ engine. IsBehind (start cap) engine) }
@@ -136,7 +138,7 @@ impl Engine {
     /// Security Policies).
     ///
     /// # Errors
-    /// `Failed` exactly where the engine had failed; `Memory` where a growth of memory was refused. The engine has
+    /// `Failed` exactly if the engine had failed; `Memory` if a growth of memory was refused. The engine has
     /// failed after either.
     pub fn apply(&mut self, command: Command) -> Result<Vec<Line>, EngineFault>
         requires { is_well_command (command_of command) ≡ true }

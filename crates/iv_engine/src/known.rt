@@ -15,7 +15,7 @@ use iv_bind::Catalog;
 use iv_rows::{Column, RelId};
 use std::alloc::{AllocError, Global};
 
-/// The columns of the catalog's relation of a number; none where there is no such relation.
+/// The columns of the catalog's relation of a number; none if there is no such relation.
 fn columns_at(catalog: &Catalog, rel: RelId) -> &[Column]
     ensures { result.now ≡ if_some (numbered catalog.now rel.0) [] (λ e. columns_of e.held) }
 {
@@ -68,7 +68,7 @@ fn names_with(alloc: Global, access: &Access, role: RoleId) -> Result<Vec<&str>,
 }
 
 impl Engine {
-    /// The columns of the relation of a name, from the left; none where there is no such relation. It takes no memory.
+    /// The columns of the relation of a name, from the left; none if there is no such relation. It takes no memory.
     pub fn columns(&self, rel: &str) -> &[Column]
         ensures { self.now.failed ≡ false → result.now ≡ columns_named self.now.frame rel.now }
     {
@@ -115,7 +115,7 @@ impl Engine {
     /// The names of the relations on which the role has some privilege, in the order of their creation.
     ///
     /// # Errors
-    /// `AllocError` where a growth of memory was refused. The engine is the same.
+    /// `AllocError` if a growth of memory was refused. The engine is the same.
     pub fn relations_with(&self, alloc: Global, role: &str) -> Result<Vec<&str>, AllocError>
         ensures { IfOk result (λ names. self.now.failed ≡ false → map (λ n. n.now) names.items ≡ relations_with self.now.frame role.now) }
     {

@@ -1,7 +1,7 @@
 //! `grant_role`, `revoke_role`: which readers a change of memberships concerns, and what they are told.
 //!
 //! Which readers a membership concerns is one flag for each circuit: a role reaches other roles than before exactly
-//! where it comes to reach the membership's role, or ceases to. That is a law of iv_access.
+//! if it comes to reach the membership's role, or ceases to. That is a law of iv_access.
 ghost use Rattle.std.specs.Prelude.{◌≡◌, IfOk, length, string_bytes};
 ghost use Rattle.iv_machine.specs.Act as machine;
 ghost use Rattle.iv_store.specs.Answering.{IsStep};

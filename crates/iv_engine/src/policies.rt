@@ -68,7 +68,7 @@ pub fn row_security(
     Ok(answer)
 }
 
-/// Adds a policy to a table, and tells readers of it and of views over it what they see more and less: less alone, where it is
+/// Adds a policy to a table, and tells readers of it and of views over it what they see more and less: less alone, if it is
 /// restrictive.
 pub fn create_policy(store: &mut Store, session: u32, policy: PolicyText) -> Result<Answer, Stop>
     requires { IsSoundStore store.old }
@@ -118,7 +118,7 @@ fn hidden(store: &Store, table: RelId, pred: &Option<Pred>) -> Result<Option<Hid
     Ok(Some(hidden))
 }
 
-/// Takes a policy of a table away, and tells readers of it and of views over it what they see more and less: more alone, where it is
+/// Takes a policy of a table away, and tells readers of it and of views over it what they see more and less: more alone, if it is
 /// restrictive.
 pub fn drop_policy(store: &mut Store, session: u32, rel: &str, name: &str) -> Result<Answer, Stop>
     requires { IsSoundStore store.old }

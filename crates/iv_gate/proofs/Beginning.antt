@@ -14,7 +14,7 @@ use Rattle.iv_machine.specs.Machine.{changes, difference, ending, ending_by, fir
 use Rattle.iv_machine.specs.Refusing.{refusal}
 use Rattle.iv_machine.specs.Sound.{IsSoundState, MayRead}
 use Rattle.iv_machine.specs.State.{Session, State, Subscription, actor, is_within_for, missing_for, shown, subscription_of, view_for, view_shown}
-use Rattle.iv_machine.proofs.Placing.{find_kept}
+use Rattle.iv_machine.proofs.SubscriptionPlaces.{find_kept}
 use Rattle.iv_machine.proofs.Sound.{may_read, sound_whole}
 use Rattle.iv_message.specs.Told.{granted}
 use Rattle.iv_clients.specs.Clients.{Sub, own_line, own_lines}

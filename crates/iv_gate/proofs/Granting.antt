@@ -18,7 +18,7 @@ use Rattle.iv_access.specs.Given.{grant_to, is_among, is_named_by}
 use Rattle.iv_access.specs.Laws.{GrantsGive}
 use Rattle.iv_access.specs.Privileges.{acts_as, has, is_for, privilege_eq, role_of}
 use Rattle.iv_access.specs.Rights.{Grantee, Name, Rights}
-use Rattle.iv_access.proofs.Granting.{given, grant_itself, members_hold}
+use Rattle.iv_access.proofs.GrantSets.{given, grant_itself, members_hold}
 use Rattle.iv_machine.specs.Act.{Act, create_table, create_view, grant, grant_role, Command, unknown_relation, unknown_role}
 use Rattle.iv_machine.specs.Changing.{after}
 use Rattle.iv_machine.specs.Machine.{settled, step}

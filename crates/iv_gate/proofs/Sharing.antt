@@ -13,8 +13,8 @@ use Rattle.iv_machine.specs.Reached.{AreGiven, AreNumbersUnique, AreUnique}
 use Rattle.iv_machine.specs.Refusing.{has_subscription, or_else, refusal, test}
 use Rattle.iv_machine.specs.State.{Frame, Session, State, Subscription, is_open, session_of, subscription_of}
 use Rattle.iv_machine.specs.declared.Cause.{Cause}
-use Rattle.iv_machine.proofs.Placing.{all_inserted, find_more}
-use Rattle.iv_machine.proofs.Reached.{after_numbers}
+use Rattle.iv_machine.proofs.SubscriptionPlaces.{all_inserted, find_more}
+use Rattle.iv_machine.proofs.UniqueNumbers.{after_numbers}
 use Rattle.iv_machine.proofs.Readers.{all_found}
 use Rattle.iv_message.specs.Told.{Told, replied, opened}
 use Rattle.iv_clients.specs.Clients.{Client, Slots, at_all, at_client, client_at, following, has_role, staying, telling, told_one}

@@ -27,7 +27,7 @@ ticking g = record g { clients = at_all (beating g.entries) g.clients }
 abbrev pub on_disk : Gate → Gate
 on_disk g = record g { kept = length g.entries; clients = at_all released g.clients }
 
--- what a client might see when it was told is handed to it, also where it may not see it any more
+-- what a client might see when it was told is handed to it, even if it may not see it any more
 abbrev pub hands : Gate → ℕ → Gate
 hands g m = record g { clients = at_client m handing g.clients; sent = g.sent ++ if_some (client_at g.clients m) [] (λ c. c.sendable) }
 

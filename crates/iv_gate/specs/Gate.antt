@@ -21,7 +21,7 @@ use Rattle.iv_clients.specs.Feeds.{Feed, Seat, feed_for, feed_of, feeds_left, is
 use Rattle.iv_clients.specs.Journal.{Entry, is_shape, is_shared, line_said, said_by, shape_for, shape_of}
 use Rattle.iv_clients.specs.Tokens.{Token, role_opened}
 
--- `entries` are the accepted requests, of which the first `kept` are on disk. Once it is `dead` nothing happens any more. `sent` is all
+-- `entries` are the accepted requests; the first `kept` are on disk. Once it is `dead` nothing happens any more. `sent` is all
 -- text that was handed on, to whomever; the code has no memory of it.
 pub record Gate : Type 0 where
   pub tokens : List Token
@@ -55,7 +55,7 @@ abbrev pub is_member : Frame → Name → Name → Bool
 is_member f role other = if_some (role_of f.rights role) false (λ r. if_some (role_of f.rights other) false (acts_as f.rights r))
 
 -- the relations that an accepted act grants a role something on: what is granted to it or to a role that it is a member of; a new one,
--- where it has a privilege on it; and what the role has of which it becomes a member
+-- if it has a privilege on it; and what the role has of which it becomes a member
 abbrev pub granted_by : Frame → Act → Name → List Name
 granted_by f (grant rel privileges to) role = if if_some to true (is_member f role) then rel ∷ [] else []
 granted_by f (create_table name owner columns) role = if has_some f role name then name ∷ [] else []
@@ -95,7 +95,7 @@ tells g m t = record g { clients = at_client m (told_one g.entries t) g.clients 
 abbrev pub seated : Gate → ℕ → Name → Gate
 seated g n role = ran (record g { seats = g.seats ++ record { session = n; role = role } ∷ [] }) (in_session n (begin role))
 
--- the next session, where the machine begins it for the role
+-- the next session, if the machine begins it for the role
 abbrev pub begun_for : Gate → Name → Option ℕ
 begun_for g role = option_and_then (λ n. if is_accepted (reply_to g (in_session n (begin role))) then Some n else None) (next_seat g.seats)
 
@@ -103,7 +103,7 @@ begun_for g role = option_and_then (λ n. if is_accepted (reply_to g (in_session
 abbrev pub has_session : Gate → Name → Bool
 has_session g role = is_some (seat_of g.seats role) || is_some (begun_for g role)
 
--- one is begun where it has none
+-- one is begun if it has none
 abbrev pub with_session : Gate → Name → Gate
 with_session g role = if_some (seat_of g.seats role) (if_some (begun_for g role) g (λ n. seated g n role)) (λ n. g)
 
@@ -184,7 +184,7 @@ closes g m c id own = if_some (followed_by c.subs own) (tells g m (replied id (r
 
 -- ---- other requests
 
--- what the journal is to have of a request: it, where it is accepted and changes what is shared
+-- what the journal is to have of a request: it, if it is accepted and changes what is shared
 abbrev pub entries_of : Entry → Bool → List Entry
 entries_of e accepted = if is_shared e.act && accepted then e ∷ [] else []
 
@@ -239,7 +239,7 @@ abbrev pub hears : Gate → ℕ → Client → List ℕ → Gate
 hears g m c text = let h = settles (done_for (record g { clients = at_client m (saying text) g.clients }) m c text (said_by text)) in
     record h { clients = at_client m (answered c) h.clients }
 
--- client m sends a message: it is done where it is heard, and else it is to be sent again
+-- client m sends a message: it is done if it is heard, and else it is to be sent again
 abbrev pub said : Gate → ℕ → List ℕ → Gate
 said g m text = if_some (client_at g.clients m) g (λ c. if may_say c then hears g m c text else g)
 

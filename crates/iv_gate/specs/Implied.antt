@@ -32,7 +32,7 @@ HearsFollowed g e = ByClient g e (λ m c d. (own : ℕ) → list_any (is_told_of
 abbrev pub GrantsAreTrue : Gate → Event → Type 0
 GrantsAreTrue g e = ByClient g e (λ m c d. (rel : Name) → Contains (told_by c d) (granted rel) → has_some (next g e).machine.frame c.role rel ≡ true)
 
--- where the shape's text is beyond its bound, an event adds nothing to it
+-- if the shape's text is beyond its bound, an event adds nothing to it
 abbrev pub ShapeIsBounded : Gate → Event → Type 0
 ShapeIsBounded g e = nat_lt most_shape (length (shape_text g.entries)) ≡ true → shape_text (next g e).entries ≡ shape_text g.entries
 

@@ -36,7 +36,7 @@ pub record SentIsKept (g : Gate) : Type 0 where
   pub sendable : (m : ℕ) (c : Client) → client_at g.clients m ≡ Some c → AllByRecursion (IsKeptOnDisk g) c.sendable
 
 -- by an event a client keeps all that it was told, and is told more: it shows the entries that are accepted then, and comes of the client's
--- own message where the event is that
+-- own message if the event is that
 abbrev pub AreShown : Gate → Event → Type 0
 AreShown g e = ByClient g e (λ m c d. all_shown d
     ≡ all_shown c ++ map (λ t. record { told = t; entries = (next g e).entries; answers = is_some (heard_by m c e) }) (told_by c d))
@@ -54,7 +54,7 @@ abbrev pub CrashesAreSafe : (cap : ℕ) → Gate → Type 0
 CrashesAreSafe cap g = (disk : List ℕ) (tokens : List Token) (most : ℕ) → LeavesOnDisk g disk
     → (h : Gate) × Restores (gate_at_start cap tokens most g.sent) disk h × IsFront (take g.kept g.entries) h.entries × IsFront h.entries g.entries
 
--- what a client's message adds to the journal: itself, in the client's role, where it is a request that changes what is shared, the shape
+-- what a client's message adds to the journal: itself, in the client's role, if it is a request that changes what is shared, the shape
 -- has room for it, and the machine accepts it in the role's session
 abbrev pub entries_by : Gate → Client → List ℕ → Message → List Entry
 entries_by g c text (request id act) =
@@ -124,7 +124,7 @@ IsSettledBy e ts = ts ≡ []
 -- ---- bounds
 
 -- who is to go has no text; who is not has no more from others, that it was offered and has not taken, than it may leave when the journal
--- is synced; what its own messages bring is bounded by what it may ask. Each number that is open stands once
+-- is synced; what its own messages bring is bounded by what it may ask. Each number that is open is there once
 pub record IsBounded (g : Gate) (m : ℕ) (c : Client) : Type 0 where
   pub gone : c.dropped ≡ true → c.sendable ≡ []
   pub subs : length c.subs ≤ most_subs

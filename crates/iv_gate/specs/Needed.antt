@@ -23,7 +23,7 @@ pub record KnowsMachine (g : Gate) : Type 0 where
   pub feeds : AllByRecursion (IsOpenFeed g) g.feeds
   pub read : AllByRecursion (λ e. is_followed e.number g.clients ≡ true) g.machine.frame.subscriptions
 
--- the sessions behind an event: some of those before, or one more, of a role that has none with a place
+-- the sessions after an event: some of those before, or one more, of a role that has none with a place
 pub data AreSeatsBehind (g : Gate) : List Seat → Type 0 where
   left : (stays : Seat → Bool) → AreSeatsBehind g (filter stays g.seats)
   begun : (s : Seat) → AreFull g.seats g.feeds s.role → AreSeatsBehind g (g.seats ++ s ∷ [])

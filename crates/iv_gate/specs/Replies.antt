@@ -24,7 +24,7 @@ pub record IsClient (g : Gate) (m : ℕ) (c : Client) : Type 0 where
   pub there : client_at g.clients m ≡ Some c
   pub stays : c.dropped ≡ false
 
--- of each client m that is c before an event and d behind it
+-- of each client m that is c before an event and d after it
 abbrev pub ByClient : Gate → Event → (ℕ → Client → Client → Type 0) → Type 0
 ByClient g e P = (m : ℕ) (c d : Client) → IsClient g m c → IsClient (next g e) m d → P m c d
 

@@ -21,7 +21,7 @@ gate_at_start cap tokens most sent =
 abbrev pub passed : State → Command → Option State
 passed s k = let o = step s k in if is_accepted (reply_in o.lines) then Some o.state else None
 
--- an entry is run in a session that is begun for its role and finished behind it
+-- an entry is run in a session that is begun for its role and finished after it
 abbrev pub replayed : State → Entry → Option State
 replayed s e = option_and_then (λ t. option_and_then (λ u. passed u (in_session entry_session finish)) (passed t (in_session entry_session e.act)))
     (passed s (in_session entry_session (begin e.role)))
@@ -32,7 +32,7 @@ all_replayed s (e ∷ es) = option_and_then (λ t. all_replayed t es) (replayed 
 
 -- ---- bytes
 
--- the bytes begin with the lines of entries, each of which the machine accepts, and lead to the state
+-- the bytes begin with the lines of entries, which the machine accepts, and lead to the state
 pub record LeadTo (s : State) (bytes : List ℕ) (entries : List Entry) (rest : List ℕ) (t : State) : Type 0 where
   pub text : bytes ≡ journal_of entries ++ rest
   pub well : AllByRecursion IsEntry entries
@@ -43,7 +43,7 @@ abbrev pub is_torn : List ℕ → Bool
 is_torn bytes = not (has_newline bytes) && (nat_le (length bytes) (most_said + 71) && bytes_eq (take 7 bytes) (take (length bytes) (codes "{\"as\":\"")))
 
 -- the journal leads a gateway that began to h: it is entries that are accepted, and a last one that was torn, which is cut off. It is on
--- disk as it was read: who starts the gateway syncs the file behind the cut, before the first event. A last entry that was kept, of which
+-- disk as it was read: who starts the gateway syncs the file after the cut, before the first event. A last entry that was kept, of which
 -- a fault of the disk damages the newline alone, looks as one that was torn, and is cut off too
 pub record Restores (g : Gate) (journal : List ℕ) (h : Gate) : Type 0 where
   pub state : State
@@ -60,7 +60,7 @@ pub record IsBadLine (s : State) (bytes : List ℕ) : Type 0 where
   pub whole : has_newline line ≡ false
   pub none : (e : Entry) → IsEntry e → entry_text e ≡ line ++ 10 ∷ [] → replayed s e ≡ None
 
--- behind entries that are accepted, at this byte of the journal, stands a line that is none, or a last one that is not torn
+-- after entries that are accepted, at this byte of the journal, is a line that is none, or a last one that is not torn
 pub record IsDamagedAt (g : Gate) (journal : List ℕ) (place : ℕ) : Type 0 where
   pub entries : List Entry
   pub rest : List ℕ

@@ -92,7 +92,7 @@ read_by g c own = if_some (followed_by c.subs own) [] (λ k. seen g.machine c.ro
 
 -- ---- the difference
 
--- the text of a change; none where nothing changes
+-- the text of a change; none if nothing changes
 abbrev pub change_told : ℕ → List (List Cell × ℤ) → List Told
 change_told own [] = []
 change_told own rows = changed own rows ∷ []
@@ -105,7 +105,7 @@ pub record IsEnd (g : Gate) (e : Event) (c : Client) (own : ℕ) (ts : List Told
   pub cause : hindrance (next g e).machine c.role (rel_read g.feeds feed) ≡ Some why
   pub told : ts ≡ over own (rel_read g.feeds feed) why (difference (read_by g c own) []) ∷ []
 
--- of a number that follows a feed behind an event, it tells the difference of what it shows, in one text; of one that follows none nothing,
+-- of a number that follows a feed after an event, it tells the difference of what it shows, in one text; of one that follows none nothing,
 -- or its end
 pub record TellsDifference (g : Gate) (e : Event) (c d : Client) (own : ℕ) : Type 0 where
   pub goes_on : is_some (followed_by d.subs own) ≡ true

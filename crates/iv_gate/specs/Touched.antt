@@ -13,7 +13,7 @@ use Rattle.iv_gate.specs.Events.{Event, presented, gone, known, synced, handed, 
 use Rattle.iv_gate.specs.Gate.{Gate}
 use Rattle.iv_gate.specs.Replies.{heard_by}
 
--- the client behind an event, as far as others cannot change it: its own message that is heard, and what is handed to it
+-- the client after an event, as far as others cannot change it: its own message that is heard, and what is handed to it
 abbrev pub itself_behind : ℕ → Client → Event → Client
 itself_behind m c (handed n) = if n == m then handing c else c
 itself_behind m c e = if_some (heard_by m c e) c (λ text. saying text c)
@@ -28,7 +28,7 @@ drops c e = false
 abbrev pub as_told : Client → Client → Client
 as_told now c = record c { given = now.given; subs = now.subs; unsynced = now.unsynced; sendable = now.sendable; owed = now.owed }
 
--- a client stays, with its role, its token, its messages and what was handed to it; it is to go where the event drops it
+-- a client stays, with its role, its token, its messages and what was handed to it; it is to go if the event drops it
 pub record StaysItself (g : Gate) (e : Event) (m : ℕ) (c : Client) : Type 0 where
   pub now : Client
   pub there : client_at (next g e).clients m ≡ Some now
@@ -44,7 +44,7 @@ pub record AreTouched (g : Gate) (e : Event) : Type 0 where
   pub leaves : (m : ℕ) → e ≡ gone m → client_at (next g e).clients m ≡ None
   pub comes : (m : ℕ) (d : Client) → client_at g.clients m ≡ None → client_at (next g e).clients m ≡ Some d → IsNewcomer g e m d
 
--- who presents a token that opens a role which the machine knows comes in, where the number is free and a session is there for the role
+-- who presents a token that opens a role which the machine knows comes in, if the number is free and a session is there for the role
 abbrev pub LetsIn : Gate → Type 0
 LetsIn g = (m : ℕ) (token : List ℕ) (role : Name) → role_opened g.tokens (sha256 token) ≡ Some role
     → is_name role ≡ true → is_some (role_of g.machine.frame.rights role) ≡ true → is_free m g.clients ≡ true

@@ -101,7 +101,7 @@ pub fn messages_are_replied()
     requests_open_what_they_name();
 }
 
-/// In whatever runs, over restarts, each client that is not to go was told a welcome first, and as many replies behind it as messages
+/// In whatever runs, over restarts, each client that is not to go was told a welcome first, and as many replies after it as messages
 /// of it were heard; and the last of its own numbers is how many subscriptions were opened for it.
 pub fn clients_are_answered()
     ensures { (cap : ℕ) (g : Gate) (m : ℕ) (c : Client) → Runs cap g → IsClient g m c → IsAnswered c }

@@ -16,7 +16,7 @@ pub record IsRestored (g : Gate) (journal : List ℕ) (kept : ℕ) (x : Gateway)
   pub bytes : kept ≡ length (journal_of now.entries)
   pub gate : IsGate now x
 
--- the entries with as many bytes have led the machine on and made the shape, and behind them is a last one that is torn
+-- the entries with as many bytes have led the machine on and made the shape, and after them is a last one that is torn
 pub record HasReplayed (g : Gate) (journal : List ℕ) (kept : ℕ) (text : List ℕ) (x : Gateway) : Type 0 where
   pub entries : List Entry
   pub torn : List ℕ
@@ -38,7 +38,7 @@ abbrev pub IsPassed : Gate → Option State → Bool → Gateway → Type 0
 IsPassed g None is x = is ≡ false
 IsPassed g (Some s) is x = (is ≡ true) × IsAlive (record g { machine = s }) x
 
--- the line is an entry, which is accepted, and its text is behind that of the shape
+-- the line is an entry, which is accepted, and its text is after that of the shape
 pub record IsReplayedTo (g : Gate) (line : List ℕ) (before after : List ℕ) (x : Gateway) : Type 0 where
   pub entry : Entry
   pub state : State

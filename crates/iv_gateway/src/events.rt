@@ -19,7 +19,7 @@ impl Gateway {
     /// A client goes; what only it needed is closed and finished.
     ///
     /// # Errors
-    /// `Memory` where a growth of memory was refused; `Dead` where there was a fault before. The gateway is dead then.
+    /// `Memory` if a growth of memory was refused; `Dead` if there was a fault before. The gateway is dead then.
     pub fn left(&mut self, client: u32) -> Result<(), GatewayFault>
         ensures gate { OnOk result ((g : Gate) → IsGate g self.old → IsGate (next g (gone client)) self.new) }
         ensures fails { OnErr result ((g : Gate) → IsGate g self.old → IsGate (next g failed) self.new) }
@@ -93,7 +93,7 @@ impl Gateway {
     /// Has the journal keep what is pending, and only then lets be sent what waits for it.
     ///
     /// # Errors
-    /// `Journal` where the journal fails; `Memory` and `Dead` as of `left`. The journal has a front of what was pending then, behind what it
+    /// `Journal` if the journal fails; `Memory` and `Dead` as of `left`. The journal has a front of what was pending then, after what it
     /// had; a dead gateway gives it nothing.
     pub fn settle<J: Journal>(&mut self, journal: &mut J) -> Result<(), GatewayFault>
         ensures gate { OnOk result ((g : Gate) → IsGate g self.old → IsGate (next g synced) self.new) }

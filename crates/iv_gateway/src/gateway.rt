@@ -31,20 +31,28 @@ pub enum GatewayFault {
     Dead,
 }
 
-/// The engine, its sessions by role, the feeds that clients share, the clients by their numbers, the tokens that open roles, what the
-/// journal is to have before anyone is told, and what administrators are told of the shape. After a fault it is dead: it does nothing any
-/// more.
+/// A gateway with the engine in it. After a fault it is dead: it does nothing any more.
 #[derive(Drop)]
 pub struct Gateway {
+    /// The allocator of what it makes.
     pub(crate) alloc: Global,
+    /// The engine that answers commands.
     pub(crate) engine: Engine,
+    /// The sessions of the engine, by role.
     pub(crate) seats: Vec<Seat>,
+    /// The subscriptions of the engine that clients share.
     pub(crate) feeds: Vec<Feed>,
+    /// The clients by their numbers.
     pub(crate) clients: Hall,
+    /// The lines that the journal is to have before anyone is told.
     pub(crate) pending: Vec<u8>,
+    /// What administrators are told of the shape: the lines that make it.
     pub(crate) shape: Vec<u8>,
+    /// The tokens that open roles.
     pub(crate) tokens: Vec<Token>,
+    /// What JSON is read with.
     pub(crate) scratch: Scratch,
+    /// Whether there was a fault.
     pub(crate) dead: bool,
 }
 
@@ -52,7 +60,7 @@ impl Gateway {
     /// A gateway with no client, and places for as many, over an engine with nothing.
     ///
     /// # Errors
-    /// `AllocError` where a growth of memory was refused.
+    /// `AllocError` if a growth of memory was refused.
     pub fn new(
         alloc: Global,
         engine: Engine,

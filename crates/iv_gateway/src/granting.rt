@@ -25,7 +25,7 @@ use std::alloc::{AllocError, Global};
 pub enum Grants {
     /// Nothing.
     Nothing,
-    /// Privileges on a relation, to a role, or to all where none is named.
+    /// Privileges on a relation, to a role, or to all if none is named.
     Privileges {
         /// The relation.
         rel: String,
@@ -60,7 +60,7 @@ impl Grants {
     /// What an act grants.
     ///
     /// # Errors
-    /// `AllocError` where a growth of memory was refused.
+    /// `AllocError` if a growth of memory was refused.
     pub(crate) fn of(act: &Act) -> Result<Grants, AllocError>
         ensures { IfOk result (IsGranting (act_of act.now)) }
     {
@@ -206,7 +206,7 @@ fn hear_granted(
     Ok(())
 }
 
-/// Has what a command grants told, if the lines say that it was accepted. Where it grants nothing nobody is looked at.
+/// Has what a command grants told, if the lines say that it was accepted. If it grants nothing nobody is looked at.
 fn hear_grants(
     alloc: Global,
     clients: &mut Hall,

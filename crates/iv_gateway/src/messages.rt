@@ -1,4 +1,4 @@
-//! `said`: a client sends a message, which is done where it is heard. Its client is told the reply before what it changes.
+//! `said`: a client sends a message, which is done if it is heard. Its client is told the reply before what it changes.
 ghost use Rattle.std.specs.Prelude.{◌≡◌, ◌∷◌, [], ℕ, List, IfOk, OnErr, OnOk, Some, false, map, option_map, true};
 ghost use Rattle.iv_command.specs.Views.{act_of, line_of};
 ghost use Rattle.iv_machine.specs.Well.{is_well_act};
@@ -67,7 +67,7 @@ fn speaker_at(
 }
 
 impl Gateway {
-    /// A client sends a message, which is done where it is heard. Whether it is; what is not heard is to be sent again once it is.
+    /// A client sends a message, which is done if it is heard. Whether it is; what is not heard is to be sent again once it is.
     ///
     /// # Errors
     /// As of `left`.
@@ -92,7 +92,7 @@ impl Gateway {
         }
     }
 
-    /// Has a message of a client done, where it is heard. Whether it is.
+    /// Has a message of a client done, if it is heard. Whether it is.
     fn listen(&mut self, client: u32, text: &[u8]) -> Result<bool, AllocError>
         ensures { IfOk result (λ is. (g : Gate) → IsAlive g self.old → (is ≡ is_heard g client) × IsAlive (said g client text.now) self.new) }
     {
@@ -159,7 +159,7 @@ impl Gateway {
         }
     }
 
-    /// Has done what a client asks, where the shape has room for what it makes of it.
+    /// Has done what a client asks, if the shape has room for what it makes of it.
     fn act_within(
         &mut self,
         client: u32,

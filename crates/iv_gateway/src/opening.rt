@@ -10,7 +10,7 @@ use iv_clients::role_opened;
 use sha2::{Digest, Sha256};
 
 impl Gateway {
-    /// Whether a token opens a role, also where nobody comes in by it now: no session or number is free, or the role is not there.
+    /// Whether a token opens a role, even if nobody comes in by it now: no session or number is free, or the role is not there.
     pub fn opens(&self, token: &[u8]) -> bool
         ensures { (g : Gate) → IsGate g self.now → g.dead ≡ false → result ≡ is_some (role_opened g.tokens (sha256 token.now)) }
     {

@@ -22,7 +22,7 @@ use iv_command::{Act, Command};
 use iv_message::{Message, read_message};
 use std::alloc::AllocError;
 
-/// The session in which entries run, behind those of roles.
+/// The session in which entries run, after those of roles.
 const ENTRY_SESSION: u32 = 256;
 
 /// What each line of a journal begins with.
@@ -36,7 +36,7 @@ const MOST_TORN: usize = 65_534;
 pub enum RestoreFault {
     /// A growth of memory was refused.
     Memory,
-    /// At this byte of the journal stands a line that is no entry, an entry that is not accepted again, or a last line without its end
+    /// At this byte of the journal is a line that is no entry, an entry that is not accepted again, or a last line without its end
     /// that is no front of an entry, or longer than one.
     Damaged(usize),
     /// The gateway has entries that wait for the journal, or is dead: only a new one is restored.
@@ -54,7 +54,7 @@ fn begins_entry(bytes: &[u8]) -> bool
     }
 }
 
-/// Where whole entries end, if what stands behind them, a line without its end, is torn.
+/// Where whole entries end, if what follows them, a line without its end, is torn.
 fn end_at(rest: &[u8], at: usize) -> Result<usize, RestoreFault>
     requires { has_newline rest.now ≡ false }
     ensures { result ≡ (if is_torn rest.now then Ok at else Err (RestoreFault.Damaged at)) }
@@ -79,12 +79,12 @@ fn act_plain(message: Message) -> Option<Act>
 }
 
 impl Gateway {
-    /// Brings a new gateway to where a journal leads. Answers how many of its bytes that is: what stands behind them is a last entry that
+    /// Brings a new gateway to where a journal leads. Answers how many of its bytes that is: what follows them is a last entry that
     /// was torn, which is to be cut off before anything happens.
     ///
     /// # Errors
-    /// `Damaged` with the place where the journal is no journal of this gateway; `Memory` where a growth of memory was refused; `Late`
-    /// where something waits for the journal, or the gateway was dead. The gateway is dead then.
+    /// `Damaged` with the place where the journal is no journal of this gateway; `Memory` if a growth of memory was refused; `Late`
+    /// if something waits for the journal, or the gateway was dead. The gateway is dead then.
     pub fn restore(&mut self, journal: &[u8]) -> Result<usize, RestoreFault>
         ensures restored { IfOk result (λ kept. (g : Gate) → IsGate g self.old → IsRestored g journal.now kept self.new) }
         ensures damaged { (place : ℕ) → result ≡ Err (RestoreFault.Damaged place) → (g : Gate) → IsGate g self.old → IsDamagedAt g journal.now place }
@@ -108,7 +108,7 @@ impl Gateway {
         }
     }
 
-    /// Runs the entries of a journal, and appends what they make of the shape. Answers where they end: what stands behind them is torn.
+    /// Runs the entries of a journal, and appends what they make of the shape. Answers where they end: what follows them is torn.
     fn replay(&mut self, journal: &[u8], shape: &mut Vec<u8>) -> Result<usize, RestoreFault>
         requires { shape.old.items ≡ [] }
         ensures replayed { IfOk result (λ kept. (g : Gate) → IsAlive g self.old → HasReplayed g journal.now kept shape.new.items self.new) }

@@ -84,7 +84,7 @@ impl Gateway {
         Ok(Some(session))
     }
 
-    /// Whether a role has a session, where one is begun for it that has none.
+    /// Whether a role has a session, if one is begun for it that has none.
     pub(crate) fn with_session(&mut self, role: &str) -> Result<bool, AllocError>
         ensures { IfOk result (λ has. (g : Gate) → IsAlive g self.old
             → (has ≡ has_session g role.now) × IsAlive (with_session g role.now) self.new) }

@@ -107,7 +107,7 @@ impl Gateway {
         !(is_shape(act) && self.shape.len() > MOST_SHAPE)
     }
 
-    /// Has administrators told of a request, by the text of what it makes of the shape, if the lines of its answer accept it. Where it makes
+    /// Has administrators told of a request, by the text of what it makes of the shape, if the lines of its answer accept it. If it makes
     /// nothing nobody is looked at.
     pub(crate) fn inform(&mut self, made: &[u8], lines: &[Line]) -> Result<(), AllocError>
         ensures { OnOk result ((g : Gate) (e : Entry) → IsAlive g self.old → is_shared e.act ≡ true → made.now ≡ shape_text (e ∷ [])

@@ -19,7 +19,7 @@ feed_ended (reply n r) = None
 feed_ended (change n k rows) = None
 feed_ended (ended n k why rows) = Some k
 
--- what is told of a line for an own number, where its feed reads the relation
+-- what is told of a line for an own number, if its feed reads the relation
 abbrev pub told_as : Name → Line → ℕ → List Told
 told_as rel (reply n r) own = []
 told_as rel (change n k rows) own = changed own rows ∷ []

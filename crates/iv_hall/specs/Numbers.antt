@@ -43,7 +43,7 @@ pub record IsOrder (order places : List ℕ) : Type 0 where
   pub placed : (m : ℕ) → m < length order → (slice_index places m < length order) × (slice_index order (slice_index places m) ≡ m)
   pub numbered : (i : ℕ) → i < length order → (slice_index order i < length order) × (slice_index places (slice_index order i) ≡ i)
 
--- number n stands at a place, and the one that stood there where n did
+-- number n is at a place, and the one that stood there where n did
 pub record IsExchanged (n to : ℕ) (order places order_new places_new : List ℕ) : Type 0 where
   pub whole : IsOrder order_new places_new
   pub size : length order_new ≡ length order

@@ -33,11 +33,17 @@ use std::slice;
 /// is left.
 #[derive(Drop)]
 pub struct Hall {
+    /// The clients' numbers are below this.
     most: u32,
+    /// The client of each number, if there is one.
     slots: Vec<Option<Client>>,
+    /// The numbers of those who are owed that this is all.
     owed: Numbers,
+    /// The numbers of those who have something to take, or are to go.
     told: Numbers,
+    /// Who follows each feed.
     readers: Vec<Readers>,
+    /// The bytes that wait for the journal.
     waiting: u64,
 }
 
@@ -57,7 +63,7 @@ impl Hall {
     /// As many places with nobody.
     ///
     /// # Errors
-    /// `AllocError` where a growth of memory was refused, here and below.
+    /// `AllocError` if a growth of memory was refused, here and below.
     pub fn new(alloc: Global, most: u32) -> Result<Hall, AllocError>
         ensures { IfOk result (λ hall. hall ≡ replicate most None) }
     {

@@ -21,7 +21,7 @@ struct Said {
     waiting: u64,
 }
 
-/// The bytes that wait for the journal, where as many more of a length are told. It stays the greatest number once it is that.
+/// The bytes that wait for the journal, if as many more of a length are told. It stays the greatest number once it is that.
 pub(crate) fn raised(waiting: u64, texts: usize, length: usize) -> u64
     ensures { (bytes : ℕ) → AreCounted bytes waiting → AreCounted (bytes + texts * length) result }
 {
@@ -57,7 +57,7 @@ impl Said {
         })
     }
 
-    /// The text, as a number has it. It is written again only where the number is another.
+    /// The text, as a number has it. It is written again only if the number is another.
     fn turn(&mut self, alloc: Global, line: &Line, rel: &str, own: u64) -> Result<(), AllocError>
         requires { IsSaying rel.now (line_of line.now) self.old }
         ensures own { OnOk result (self.new.own ≡ own) }
@@ -84,7 +84,7 @@ impl Said {
     }
 }
 
-/// Has a line told for the client's number at a place, where it follows the feed.
+/// Has a line told for the client's number at a place, if it follows the feed.
 fn hear_at(
     alloc: Global,
     client: &mut Client,
@@ -203,11 +203,11 @@ fn hear_said(
     Ok(said.waiting)
 }
 
-/// Has those of the list who follow a line's feed told the line, where it is of this feed, and the feed reads this relation. What is counted
+/// Has those of the list who follow a line's feed told the line, if it is of this feed, and the feed reads this relation. What is counted
 /// then of the bytes that wait for the journal.
 ///
 /// # Errors
-/// `AllocError` where a growth of memory was refused.
+/// `AllocError` if a growth of memory was refused.
 pub(crate) fn hear_listed(
     alloc: Global,
     clients: &mut Vec<Option<Client>>,

@@ -8,7 +8,7 @@ use std::alloc::{AllocError, Global};
 use std::marker::Model;
 
 /// Some of the numbers below a size, each once. `order` has all of them, at its front those that are in the list; `places` says where each
-/// stands. So each change takes the same time, and no memory.
+/// is. So each change takes the same time, and no memory.
 #[derive(Drop)]
 pub(crate) struct Numbers {
     order: Vec<u32>,
@@ -46,7 +46,7 @@ impl Numbers {
     /// None of as many numbers.
     ///
     /// # Errors
-    /// `AllocError` where a growth of memory was refused.
+    /// `AllocError` if a growth of memory was refused.
     pub(crate) fn new(alloc: Global, size: u32) -> Result<Numbers, AllocError>
         ensures { IfOk result (λ n. n ≡ record { list = []; size = size }) }
     {
@@ -93,7 +93,7 @@ impl Numbers {
         }
     }
 
-    /// Takes a number out. The last one stands in its place.
+    /// Takes a number out. The last one is in its place.
     pub(crate) fn remove(&mut self, number: u32)
         ensures { HasLost number self.old self.new }
     {

@@ -1,4 +1,4 @@
-pub mod Adding
-pub mod Answered
+pub mod RoleCounts
+pub mod PageAnswers
 pub mod Fields
 pub mod Roles

@@ -5,7 +5,7 @@ use Rattle.iv_clients.specs.Tokens.{Token, has_digest}
 use Rattle.httparse.specs.Grammar.{ReadsRequest, RequestHead}
 use Rattle.iv_pages.specs.Asking.{most_fields, same_name, window}
 
--- a whole head stands in front of what was read (RFC 9112, section 2)
+-- a whole head is in front of what was read (RFC 9112, section 2)
 abbrev pub HasHead : List ℕ → Type 0
 HasHead bytes = (h : RequestHead) × (rest : List ℕ) × ReadsRequest (window bytes) h rest × (length h.fields ≤ most_fields)
 

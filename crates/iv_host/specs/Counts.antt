@@ -20,6 +20,6 @@ ended Answered c = c
 abbrev pub most_lines : ℕ
 most_lines = 20
 
--- how many lines a second had, where the last one that was written to is another or the same
+-- how many lines a second had, if the last one that was written to is another or the same
 abbrev pub lines_at : (second last lines : ℕ) → ℕ
 lines_at second last lines = if second == last then lines else 0

@@ -21,7 +21,7 @@ served kind tag count = record { kind = kind; tag = tag; length = count; policy 
 abbrev pub file_at : (place : List ℕ) (size changed count : ℕ) → Served
 file_at place size changed count = served (kind_of place) (Some (tag_of size changed)) count
 
--- contents, of which the head of the answer says how many; that head alone, where they are not to follow; or that the file is there no more
+-- contents; the head of the answer says how many; that head alone, if they are not to follow; or that the file is there no more
 pub data IsFile (a : Asked) (place : List ℕ) (size changed : ℕ) : List ℕ → Type 0 where
   whole : (contents : List ℕ) → IsFile a place size changed (answer_of (file_at place size changed (length contents)) a contents)
   headed : has_body (file_at place size changed size) a ≡ false → IsFile a place size changed (page_head (file_at place size changed size) a)

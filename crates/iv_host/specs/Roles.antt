@@ -10,7 +10,7 @@ role_of r = (string_bytes r.0, r.1)
 abbrev pub by_role : List (String Global × ℕ) → ByRole
 by_role rs = map role_of rs
 
--- where a role stands first
+-- where a role is first
 abbrev pub first_at : List ℕ → ByRole → Option ℕ
 first_at role [] = None
 first_at role (r ∷ rs) = if bytes_eq r.0 role then Some 0 else option_map suc (first_at role rs)

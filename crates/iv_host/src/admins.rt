@@ -18,6 +18,7 @@ pub const ADMIN: &str = "admin";
 /// The tokens that open the role of administrators.
 #[derive(Drop)]
 pub struct Admins {
+    /// The tokens, each with that role.
     tokens: Vec<Token>,
 }
 
@@ -64,7 +65,7 @@ impl Admins {
     /// Those among tokens.
     ///
     /// # Errors
-    /// `AllocError` where a growth of memory was refused.
+    /// `AllocError` if a growth of memory was refused.
     pub fn among(alloc: Global, tokens: &[Token]) -> Result<Admins, AllocError>
         ensures { IfOk result (λ a. a.tokens.items ≡ admins_among tokens.now) }
     {
@@ -90,7 +91,7 @@ impl Admins {
         }
     }
 
-    /// Whether the head of a request presents the token of an administrator, by its first field `Authorization`. What stands behind the
+    /// Whether the head of a request presents the token of an administrator, by its first field `Authorization`. What follows the
     /// head is not looked at.
     pub fn is_asking(&self, head: &[u8]) -> bool
         ensures asks { (h : RequestHead) (rest : List ℕ) → ReadsRequest (window head.now) h rest → length h.fields ≤ most_fields
@@ -107,7 +108,7 @@ fn presented_by(field: Option<&[u8]>) -> Option<&[u8]>
     presented(field?)
 }
 
-/// The token that the head of a request presents, by its first field `Authorization`. What stands behind the head is not looked at.
+/// The token that the head of a request presents, by its first field `Authorization`. What follows the head is not looked at.
 pub fn presented_in(head: &[u8]) -> Option<&[u8]>
     ensures presents { (h : RequestHead) (rest : List ℕ) → ReadsRequest (window head.now) h rest → length h.fields ≤ most_fields
         → option_map (λ t. t.now) result ≡ option_and_then presented (field_in (codes "authorization") (map name_and_value h.fields)) }

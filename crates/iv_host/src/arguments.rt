@@ -204,7 +204,7 @@ fn numbers_of(matches: &ArgMatches<'_>) -> Option<Numbers>
     })
 }
 
-/// The settings that the matched words ask for; none where a number or the address is not valid.
+/// The settings that the matched words ask for; none if a number or the address is not valid.
 fn found(alloc: Global, matches: &ArgMatches<'_>) -> Result<Option<Settings>, AllocError>
     ensures { IfOk result (λ o. IfSome o AreValid) }
 {

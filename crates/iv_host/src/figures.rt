@@ -10,7 +10,7 @@ use iv_pages::{Label, Metric, push_counter, push_gauge, push_histogram, push_sam
 use std::alloc::{AllocError, Global};
 use std::fs;
 
-/// What stands at a moment.
+/// What there is at a moment.
 #[derive(Drop)]
 pub struct Now {
     /// Sockets that are open.
@@ -23,7 +23,7 @@ pub struct Now {
     pub time: u64,
 }
 
-/// Where a role stands first.
+/// Where a role is first.
 fn first_at(roles: &[(String, u64)], role: &str) -> Option<usize>
     ensures { result ≡ first_at role.now (by_role roles.now) }
 {
@@ -60,7 +60,7 @@ impl Now {
     /// Counts a client of a role.
     ///
     /// # Errors
-    /// `AllocError` where a growth of memory was refused.
+    /// `AllocError` if a growth of memory was refused.
     pub fn count(&mut self, role: &str) -> Result<(), AllocError>
         ensures { OnOk result (by_role self.new.roles.items ≡ one_more role.now (by_role self.old.roles.items)) }
     {
@@ -271,7 +271,7 @@ fn push_clients(out: &mut Vec<u8>, roles: &[(String, u64)]) -> Result<(), AllocE
 /// What the program tells of itself, as Prometheus reads it.
 ///
 /// # Errors
-/// `AllocError` where a growth of memory was refused.
+/// `AllocError` if a growth of memory was refused.
 pub fn figures_now(
     rt: &HostRuntime,
     counts: &Counts,

@@ -39,8 +39,8 @@ fn window(bytes: &[u8]) -> &[u8]
     &bytes[..MOST_HEAD.min(bytes.len())]
 }
 
-/// The value of the first field with a name, in any case, where the bytes that were read from a connection so far have a whole head of a
-/// request, of at most 8,192 bytes and 64 fields. What stands behind the head is not looked at.
+/// The value of the first field with a name, in any case, if the bytes that were read from a connection so far have a whole head of a
+/// request, of at most 8,192 bytes and 64 fields. What follows the head is not looked at.
 pub fn field_of<'a>(bytes: &'a [u8], name: &[u8]) -> Option<&'a [u8]>
     ensures field { (h : RequestHead) (rest : List ℕ) → ReadsRequest (window bytes.now) h rest → length h.fields ≤ most_fields
         → option_map (λ v. v.now) result ≡ field_in name.now (map name_and_value h.fields) }

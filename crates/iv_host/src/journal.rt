@@ -81,13 +81,21 @@ impl Syncs {
 /// The journal on a disk, and the lock that no other process has meanwhile.
 #[derive(Drop)]
 pub struct DiskJournal<D: Disk> {
+    /// The right to ask the system.
     rt: HostRuntime,
+    /// The journal and its audit.
     keeper: Keeper<D>,
+    /// The file that is locked as long as this lives.
     _lock: File,
+    /// How many bytes the file has.
     end: u64,
+    /// How many entries the journal has.
     entries: u64,
+    /// How often it was synced, and how long that took.
     syncs: Syncs,
+    /// Who made the entries that are written next.
     shares: Vec<Share>,
+    /// Why it failed, if it did.
     why: Option<KeepFault>,
 }
 
@@ -141,7 +149,7 @@ fn sync_folder(rt: &HostRuntime, path: &str) -> io::Result<()> {
     File::open(rt, folder)?.sync_all()
 }
 
-/// Puts a file with these bytes where there is none, whole or not at all.
+/// Puts a file with these bytes if there is none, whole or not at all.
 fn sow(rt: &HostRuntime, path: &str, bytes: &[u8]) -> io::Result<()> {
     let Ok(fresh) = format!(in rt.alloc(); "{path}.new") else {
         return Err(out_of_memory());
@@ -165,7 +173,7 @@ fn is_missing(rt: &HostRuntime, path: &str) -> bool {
     }
 }
 
-/// Puts the bytes of a seed where a journal is missing.
+/// Puts the bytes of a seed if a journal is missing.
 fn sow_seed(rt: &HostRuntime, path: &str, seed: Option<&str>) -> io::Result<()> {
     match seed {
         Some(seed) if is_missing(rt, path) => {
@@ -176,7 +184,7 @@ fn sow_seed(rt: &HostRuntime, path: &str, seed: Option<&str>) -> io::Result<()> 
     }
 }
 
-/// The microseconds since a moment; none where the system does not tell them.
+/// The microseconds since a moment; none if the system does not tell them.
 fn micros_since(rt: &HostRuntime, start: &io::Result<Instant>) -> u64 {
     let Ok(start) = start else {
         return 0;
@@ -232,17 +240,21 @@ impl From<KeepFault> for OpenFault {
 /// The file of a journal, before anything is known of what it has, and the lock.
 #[derive(Drop)]
 pub struct JournalFile {
+    /// The right to ask the system.
     rt: HostRuntime,
+    /// The file, open to be appended to.
     file: File,
+    /// The file that is locked as long as this lives.
     lock: File,
+    /// What the file has.
     bytes: Vec<u8>,
 }
 
 impl JournalFile {
-    /// Opens the file of a journal, and makes it where it is missing, with the bytes of a seed.
+    /// Opens the file of a journal, and makes it if it is missing, with the bytes of a seed.
     ///
     /// # Errors
-    /// `Taken` where another process writes it; `System` where the system refuses a step.
+    /// `Taken` if another process writes it; `System` if the system refuses a step.
     pub fn open(
         rt: &HostRuntime,
         path: &str,
@@ -278,7 +290,7 @@ impl JournalFile {
     /// not at all.
     ///
     /// # Errors
-    /// `NotEntries` where these are none; else as of `open`.
+    /// `NotEntries` if these are none; else as of `open`.
     pub fn renew(self, path: &str, kept: usize) -> Result<JournalFile, OpenFault> {
         let rt = self.rt;
         let digits = random_digits(&rt)?;
@@ -294,11 +306,11 @@ impl JournalFile {
         })
     }
 
-    /// The journal in it, of which this was read. What stands behind whole records is cut, a head is written if there is none, and all of it is
+    /// The journal in it, which this was read of. What follows whole records is cut, a head is written if there is none, and all of it is
     /// synced.
     ///
     /// # Errors
-    /// `System` where the system refuses a step.
+    /// `System` if the system refuses a step.
     pub fn begin(self, audit: &Audit) -> Result<FileJournal, OpenFault> {
         let digits = random_digits(&self.rt)?;
         let journal = DiskJournal::begin(&self.rt, self.file, self.lock, audit, &digits)?;
@@ -307,7 +319,7 @@ impl JournalFile {
 }
 
 impl<D: Disk + Drop> DiskJournal<D> {
-    /// The journal on a disk of which this was read.
+    /// The journal on a disk that this was read of.
     fn begin(
         rt: &HostRuntime,
         disk: D,
@@ -381,7 +393,7 @@ impl<D: Disk + Drop> Journal for DiskJournal<D> {
     ghost kept = { λ j. given_to (D.held j.keeper.disk) };
 
     /// Each entry is written with the second, and with who held the token by which it was made. Nothing is to stay of what could not be written
-    /// whole. Where that fails too, the next start cuts what is torn.
+    /// whole. If that fails too, the next start cuts what is torn.
     fn append(&mut self, bytes: &[u8]) -> Result<(), JournalFault>
         ensures appended { OnOk result (Appends (given_to (D.held self.old.keeper.disk)) (given_to (D.held self.new.keeper.disk)) bytes.now) }
         ensures torn { OnErr result ((n : ℕ) × Appends (given_to (D.held self.old.keeper.disk)) (given_to (D.held self.new.keeper.disk)) (take n bytes.now)) }

@@ -8,8 +8,11 @@ const MOST: u32 = 20;
 /// Which second it is, how many lines it had, and how many were left out.
 #[derive(Drop)]
 pub struct Log {
+    /// The second of the last line, since 1970.
     second: u64,
+    /// How many lines were written in that second.
     lines: u32,
+    /// How many lines were left out and not told of yet.
     left_out: u64,
 }
 

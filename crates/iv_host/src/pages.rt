@@ -30,7 +30,7 @@ struct Found {
     changed: u64,
 }
 
-/// A file of the folder: none where a link leads out of it, or it is no regular file, or a large one.
+/// A file of the folder: none if a link leads out of it, or it is no regular file, or a large one.
 fn look_in(rt: &HostRuntime, folder: &str, place: &str) -> Option<Found> {
     let Ok(path) = format!(in rt.alloc(); "{folder}/{place}") else {
         return None;
@@ -54,7 +54,7 @@ fn look_in(rt: &HostRuntime, folder: &str, place: &str) -> Option<Found> {
     }
 }
 
-/// Appends bytes, where they are to follow.
+/// Appends bytes, if they are to follow.
 fn push_where(out: &mut Vec<u8>, follows: bool, bytes: &[u8]) -> Result<(), AllocError>
     ensures { OnOk result (out.new.items ≡ out.old.items ++ (if follows then bytes.now else [])) }
 {
@@ -68,7 +68,7 @@ fn push_where(out: &mut Vec<u8>, follows: bool, bytes: &[u8]) -> Result<(), Allo
 /// The answer with these contents.
 ///
 /// # Errors
-/// `AllocError` where a growth of memory was refused, as of each function here.
+/// `AllocError` if a growth of memory was refused, as of each function here.
 pub fn answer<'a>(
     rt: &HostRuntime,
     ask: &Ask<'_>,
@@ -131,7 +131,7 @@ fn head_of<'a>(
     Ok((out, follows))
 }
 
-/// The answer with a file, which is read only where its contents are to follow. Its tag is of what it was before it was read: where it changes
+/// The answer with a file, which is read only if its contents are to follow. Its tag is of what it was before it was read: if it changes
 /// meanwhile, who asks once more is sent it again.
 fn file(rt: &HostRuntime, ask: &Ask<'_>, place: &[u8], found: &Found) -> Result<Vec<u8>, AllocError>
     ensures { IfOk result (λ out. IsFile (asked_by ask.now) place.now found.now.size found.now.changed out.items) }

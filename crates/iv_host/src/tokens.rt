@@ -1,4 +1,4 @@
-//! `TokenFile`: the file of tokens, which is read again where it changes; `second_now`: the second at which they have to be valid.
+//! `TokenFile`: the file of tokens, which is read again if it changes; `second_now`: the second at which they have to be valid.
 ghost use Rattle.std.specs.Prelude.{◌≡◌, IfOk, Some};
 ghost use Rattle.iv_tokens.specs.Entries.{entries_in};
 
@@ -36,7 +36,9 @@ type Stamp = Option<(u64, u64)>;
 /// The file of tokens, and what it was when it was read.
 #[derive(Drop)]
 pub struct TokenFile {
+    /// The path of the file.
     path: String,
+    /// When it had changed last, and its length.
     stamp: Stamp,
 }
 
@@ -59,7 +61,7 @@ impl TokenFile {
     /// A file of tokens, with its entries.
     ///
     /// # Errors
-    /// `System` where it could not be read, `File` where it is no file of tokens, or has none.
+    /// `System` if it could not be read, `File` if it is no file of tokens, or has none.
     pub fn open(rt: &HostRuntime, path: String) -> Result<(TokenFile, Vec<Entry>), TokenFault> {
         let stamp = stamp_of(rt, path.as_str());
         let bytes = read_file(rt, path.as_str())?;
@@ -70,10 +72,10 @@ impl TokenFile {
         Ok((TokenFile { path, stamp }, entries))
     }
 
-    /// The entries, where the file is another than when it was last looked at. A file with no token has none, and lets nobody in.
+    /// The entries, if the file is another than when it was last looked at. A file with no token has none, and lets nobody in.
     ///
     /// # Errors
-    /// `System` where it could not be read, `File` where it is no file of tokens; it is not looked at again until it changes.
+    /// `System` if it could not be read, `File` if it is no file of tokens; it is not looked at again until it changes.
     pub fn changed(&mut self, rt: &HostRuntime) -> Result<Option<Vec<Entry>>, TokenFault> {
         let stamp = stamp_of(rt, self.path.as_str());
         if stamp == self.stamp {
@@ -97,7 +99,7 @@ pub enum SecretFault {
 /// The secret that grants web tokens: the bytes of a file, without a newline at their end.
 ///
 /// # Errors
-/// `System` where it could not be read, `Short` where it has fewer than 32 bytes.
+/// `System` if it could not be read, `Short` if it has fewer than 32 bytes.
 pub fn read_secret(rt: &HostRuntime, path: &str) -> Result<Vec<u8>, SecretFault> {
     let mut secret = match read_file(rt, path) {
         Ok(bytes) => bytes,

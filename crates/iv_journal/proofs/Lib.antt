@@ -3,6 +3,6 @@ pub mod Bodies
 pub mod Readings
 pub mod Cuts
 pub mod Fronts
-pub mod Ended
+pub mod RecordEnds
 pub mod Told
 pub mod Digests

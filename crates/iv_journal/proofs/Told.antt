@@ -6,7 +6,7 @@ use Rattle.std.proofs.lemmas.List.{take-append-drop}
 use Rattle.iv_journal.specs.Journal.{Line, digest_behind, has_head, journal_of, no_digest}
 use Rattle.iv_journal.specs.Reading.{BeginsNoLine, IsReading, Reading, before_whole, fault_of, is_torn, whole}
 use Rattle.iv_journal.specs.Laws.{IsDamage, IsTold}
-use Rattle.iv_journal.proofs.Ended.{whole_front}
+use Rattle.iv_journal.proofs.RecordEnds.{whole_front}
 use Rattle.iv_journal.proofs.Readings.{AllText}
 
 abbrev AreParts : List Line → Type 0

@@ -11,7 +11,7 @@ pub record HasOneReading (bytes : List ℕ) : Type 0 where
   pub is : IsReading bytes reading
   pub only : (r : Reading) → IsReading bytes r → r ≡ reading
 
--- what belongs to no journal: a first line of another form, or behind lines neither a further one nor a torn one
+-- what belongs to no journal: a first line of another form, or after lines neither a further one nor a torn one
 abbrev pub IsDamage : List Line → List ℕ → ℕ → Type 0
 IsDamage ls rest byte = ((byte ≡ 0) × (has_head ls ≡ false))
     ⊎ ((byte ≡ length (journal_of ls)) × (is_torn rest ≡ false) × BeginsNoLine (digest_behind no_digest ls) rest)
@@ -26,7 +26,7 @@ pub record IsTold (bytes : List ℕ) (r : Reading) : Type 0 where
   pub torn : r.fault ≡ None → is_torn rest ≡ true
   pub damaged : (byte : ℕ) → r.fault ≡ Some byte → IsDamage (r.lines ++ parts) rest byte
 
--- behind as many bytes of a line stands its text, and one newline ends it
+-- after as many bytes of a line is its text, and one newline ends it
 pub record HasItsText (before : List ℕ) (l : Line) : Type 0 where
   pub text : drop 75 (body_of before l) ≡ l.text
   pub one : is_text l.text ≡ true → list_any (λ b. b == 10) (body_of before l) ≡ false
@@ -36,7 +36,7 @@ pub record IsJournal (ls : List Line) : Type 0 where
   pub head : has_head ls ≡ true
   pub texts : AllByRecursion (λ l. is_text l.text ≡ true) ls
 
--- of a journal of which these bytes are left: the lines that are all within them, without those of an unfinished record, and no fault
+-- of a journal that has these bytes left: the lines that are all within them, without those of an unfinished record, and no fault
 pub record IsCut (ls : List Line) (left : ℕ) (r : Reading) : Type 0 where
   pub count : ℕ
   pub within : length (journal_of (take count ls)) ≤ left
@@ -47,7 +47,7 @@ pub record IsCut (ls : List Line) (left : ℕ) (r : Reading) : Type 0 where
 abbrev pub CutsAreFronts : Type 0
 CutsAreFronts = (ls : List Line) (left : ℕ) (r : Reading) → IsJournal ls → IsReading (take left (journal_of ls)) r → IsCut ls left r
 
--- lines behind lines are written from the digest where these end
+-- lines after lines are written from the digest where these end
 pub record GoesOn (ls ms : List Line) : Type 0 where
   pub bytes : journal_of (ls ++ ms) ≡ journal_of ls ++ bytes_of (digest_behind no_digest ls) ms
   pub digest : digest_behind no_digest (ls ++ ms) ≡ digest_behind (digest_behind no_digest ls) ms
@@ -69,7 +69,7 @@ pub record Collide (ls ms : List Line) : Type 0 where
   pub differ : one ≡ other → ⊥
   pub digests : sha256 one ≡ sha256 other
 
--- a message has the digest that stands before the first line
+-- a message has the digest that comes before the first line
 pub record IsZero (ls : List Line) : Type 0 where
   pub of_zero : List ℕ
   pub is : IsDigested ls of_zero

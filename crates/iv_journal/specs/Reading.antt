@@ -1,4 +1,4 @@
--- What any bytes are, read as a journal: whole records, and what stands behind them.
+-- What any bytes are, read as a journal: whole records, and what follows them.
 use Rattle.std.specs.Prelude.{◌≡◌, ℕ, ◌+◌, ◌&&◌, ◌||◌, Bool, true, false, if◌then◌else◌, List, [], ◌∷◌, ◌++◌, Option, None, Some}
 use Rattle.std.specs.Prelude.{bytes_eq, length, nat_le, take}
 use Rattle.std.specs.List.{AllByRecursion}
@@ -24,7 +24,7 @@ begins rest front = bytes_eq (take (length front) rest) (take (length rest) fron
 abbrev pub is_torn : List ℕ → Bool
 is_torn rest = (begins rest (mark true) || begins rest (mark false)) && (is_plain rest && nat_le (length rest) (75 + most_text))
 
--- no line behind that digest begins the bytes
+-- no line after that digest begins the bytes
 abbrev pub BeginsNoLine : List ℕ → List ℕ → Type 0
 BeginsNoLine before bytes = (l : Line) (after : List ℕ) → is_text l.text ≡ true → bytes ≡ body_of before l ++ 10 ∷ after → ⊥
 
@@ -45,8 +45,8 @@ pub record Reading : Type 0 where
 abbrev pub fault_of : List Line → List ℕ → Option ℕ
 fault_of ls rest = if has_head ls then (if is_torn rest then None else Some (length (journal_of ls))) else Some 0
 
--- Without a fault, what stands behind the whole records is cut: parts of a record that has no last line, and a torn line. A damaged newline
--- of the last line alone looks as a torn line does; a file that was cut behind a whole record, as a shorter journal.
+-- Without a fault, what follows the whole records is cut: parts of a record that has no last line, and a torn line. A damaged newline
+-- of the last line alone looks as a torn line does; a file that was cut after a whole record, as a shorter journal.
 pub record IsReading (bytes : List ℕ) (r : Reading) : Type 0 where
   pub lines : List Line
   pub rest : List ℕ

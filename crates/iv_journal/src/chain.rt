@@ -19,6 +19,7 @@ pub enum PushFault {
 /// Where a journal ends: the digest of its last line.
 #[derive(Drop)]
 pub struct Chain {
+    /// The SHA-256 digest of the last line, with all before it.
     digest: [u8; 32],
 }
 
@@ -62,7 +63,7 @@ impl Chain {
     /// Appends a line of the journal to what is to be written of it.
     ///
     /// # Errors
-    /// `NotText` where it is none; `Memory` where a growth of memory was refused. Nothing is changed then.
+    /// `NotText` if it is none; `Memory` if a growth of memory was refused. Nothing is changed then.
     pub fn push(&mut self, out: &mut Vec<u8>, line: &Line) -> Result<(), PushFault>
         ensures written { OnOk result (out.new.items ≡ out.old.items ++ bytes_of self.old (line.now ∷ [])) }
         ensures digest { OnOk result (self.new ≡ digest_behind self.old (line.now ∷ [])) }

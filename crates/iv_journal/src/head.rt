@@ -17,7 +17,7 @@ pub struct Head<'a> {
 /// The first text of a journal, by 32 digits that no other journal has.
 ///
 /// # Errors
-/// Where a growth of memory was refused.
+/// If a growth of memory was refused.
 pub fn head_text(alloc: Global, epoch: &[u8; 32], more: &[u8]) -> Result<Vec<u8>, AllocError>
     ensures text { IfOk result (λ text. text.items ≡ head_of epoch.now more.now) }
     ensures head { IfOk result (λ text. is_head text.items ≡ true) }
@@ -37,7 +37,7 @@ pub fn is_head(text: &[u8]) -> bool
     front(text, 21) == FORM && front(behind(text, 53), 2) == COMMA
 }
 
-/// What the first text of a journal says. None where it is another text.
+/// What the first text of a journal says. None if it is another text.
 pub fn head_in(text: &[u8]) -> Option<Head<'_>>
     ensures none { result ≡ None → is_head text.now ≡ false }
     ensures some { IfSome result (λ head. (text.now ≡ head_of head.epoch.now head.more.now) × (length head.epoch.now ≡ 32)) }

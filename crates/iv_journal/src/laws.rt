@@ -11,12 +11,12 @@ pub fn bytes_have_one_reading()
 {}
 
 /// A reading tells all bytes: these are its lines, parts of a record that has no last line, and a rest. Without a fault the rest is a torn line;
-/// else the fault is at the byte where, behind these lines and parts, neither a line nor a torn one begins, or at 0 where the first line has no head.
+/// else the fault is at the byte where, after these lines and parts, neither a line nor a torn one begins, or at 0 if the first line has no head.
 pub fn readings_tell_all_bytes()
     ensures { (bytes : List ℕ) (r : Reading) → IsReading bytes r → IsTold bytes r }
 {}
 
-/// Of a journal that was cut behind any of its bytes all records are read that are whole, nothing else, and no fault is told.
+/// Of a journal that was cut after any of its bytes all records are read that are whole, nothing else, and no fault is told.
 pub fn cuts_leave_whole_records()
     ensures { CutsAreFronts }
 {}
@@ -31,12 +31,12 @@ pub fn two_lines_are_written()
     ensures { journal_of two_lines ≡ two_lines_text }
 {}
 
-/// What is written behind a journal, from its last digest on, makes it the longer journal.
+/// What is written after a journal, from its last digest on, makes it the longer journal.
 pub fn journals_go_on()
     ensures { (ls ms : List Line) → GoesOn ls ms }
 {}
 
-/// A line has its text behind its mark, its digest and a comma, and is one line if that is a text.
+/// A line has its text after its mark, its digest and a comma, and is one line if that is a text.
 pub fn lines_have_their_texts()
     ensures { (before : List ℕ) (l : Line) → HasItsText before l }
 {}

@@ -51,7 +51,7 @@ pub fn front(bytes: &[u8], count: usize) -> &[u8]
     }
 }
 
-/// What stands behind as many bytes.
+/// What follows as many bytes.
 pub fn behind(bytes: &[u8], count: usize) -> &[u8]
     ensures { result.now ≡ drop count bytes.now }
 {
@@ -101,7 +101,7 @@ pub fn is_text(bytes: &[u8]) -> bool
     is_plain(bytes) && bytes.len() <= MOST_TEXT
 }
 
-/// The digest of a line behind another.
+/// The digest of a line after another.
 pub fn digest_of(before: &[u8; 32], is_last: bool, text: &[u8]) -> [u8; 32]
     ensures { result ≡ digest_of before.now (record { is_last = is_last; text = text.now }) }
 {

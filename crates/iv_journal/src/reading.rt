@@ -30,7 +30,7 @@ pub struct End {
 pub struct Reading<'a> {
     /// The lines of its whole records.
     pub lines: Vec<Line<'a>>,
-    /// Where they end. What stands behind is cut.
+    /// Where they end. What follows is cut.
     pub end: End,
     /// The byte where what belongs to no journal begins.
     pub fault: Option<usize>,
@@ -88,7 +88,7 @@ fn is_last(body: &[u8]) -> bool
     front(body, MARK) == mark(true)
 }
 
-/// The line that bytes begin with, behind one that has this digest.
+/// The line that bytes begin with, after one that has this digest.
 fn next_line<'a>(before: &[u8; 32], rest: &'a [u8]) -> Option<Found<'a>>
     ensures none { result ≡ None → BeginsNoLine before.now rest.now }
     ensures text { IfSome result (λ f. is_text f.line.text ≡ true) }
@@ -154,7 +154,7 @@ fn reading_of<'a>(mut lines: Vec<Line<'a>>, rest: &[u8], at: &End, end: &End) ->
 /// Reads bytes as a journal.
 ///
 /// # Errors
-/// Where a growth of memory was refused.
+/// If a growth of memory was refused.
 pub fn read_journal(alloc: Global, bytes: &[u8]) -> Result<Reading<'_>, AllocError>
     ensures reading { IfOk result (λ r. IsReading bytes.now (record { lines = r.lines.items; fault = r.fault })) }
     ensures end { IfOk result (λ r. AreEnded r.lines.items r.end) }
@@ -184,7 +184,7 @@ pub fn read_journal(alloc: Global, bytes: &[u8]) -> Result<Reading<'_>, AllocErr
     Ok(reading_of(lines, rest, &at, &kept))
 }
 
-/// Where whole records end behind one line more.
+/// Where whole records end after one line more.
 fn end_of_whole(end: &End, at: &End, line: &Line) -> End
     ensures { result ≡ (if line.now.is_last then at.now else end.now) }
 {

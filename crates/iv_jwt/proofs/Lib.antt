@@ -1,5 +1,5 @@
 pub mod Cuts
-pub mod Believing
+pub mod GrantedTokens
 pub mod Bits
 pub mod Masks
 pub mod Values

@@ -9,7 +9,7 @@ use Rattle.json.specs.Find.{get, as_number, as_str}
 abbrev pub json_of : List ℕ → Option Json
 json_of bytes = if is_utf8 bytes then document bytes else None
 
--- the text at a key; of a key that stands twice the last value counts
+-- the text at a key; of a key that comes twice the last value counts
 abbrev pub text_at : List ℕ → Json → Option (List ℕ)
 text_at key j = option_and_then as_str (get key j)
 
@@ -17,7 +17,7 @@ text_at key j = option_and_then as_str (get key j)
 abbrev pub most_seconds : ℕ
 most_seconds = 253402300799
 
--- the number of decimal digits behind those of a number, up to that second
+-- the number of decimal digits after those of a number, up to that second
 abbrev pub digits_from : ℕ → List ℕ → Option ℕ
 digits_from n [] = Some n
 digits_from n (b ∷ text) = if is_ascii_digit b && nat_le (n * 10 + (b - 48)) most_seconds then digits_from (n * 10 + (b - 48)) text else None

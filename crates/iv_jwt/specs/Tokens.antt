@@ -26,7 +26,7 @@ pub record Opened : Type 0 where
 
 -- ---- its parts
 
--- what stands before the first dot, and behind it
+-- what comes before the first dot, and after it
 abbrev pub cut : List ℕ → Option (List ℕ × List ℕ)
 cut [] = None
 cut (x ∷ xs) = if x == 46 then Some ([], xs) else option_map {U = List ℕ × List ℕ} (λ p. (x ∷ p.0, p.1)) (cut xs)

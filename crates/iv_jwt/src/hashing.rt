@@ -7,7 +7,7 @@ use sha2::{Digest, Sha256};
 /// Bytes of a block of SHA-256.
 const BLOCK: usize = 64;
 
-/// A text, and zeros behind it up to a block.
+/// A text, and zeros after it up to a block.
 fn padded(text: &[u8]) -> [u8; 64]
     requires { length text.now ≤ 64 }
     ensures { result ≡ padded text.now }
@@ -17,7 +17,7 @@ fn padded(text: &[u8]) -> [u8; 64]
     block
 }
 
-/// The block of a key, which is hashed first where it is longer.
+/// The block of a key, which is hashed first if it is longer.
 fn key_block(key: &[u8]) -> [u8; 64]
     ensures { result ≡ key_block key.now }
 {

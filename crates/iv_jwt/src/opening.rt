@@ -10,10 +10,15 @@ use std::marker::Model;
 /// The parts of a token: its header and its claims as they were sent, which are signed, and all three decoded.
 #[derive(Drop)]
 pub struct Parts<'a> {
+    /// The header as it was sent.
     pub sent_header: &'a [u8],
+    /// The claims as they were sent.
     pub sent_claims: &'a [u8],
+    /// The header, decoded: JSON.
     pub header: Vec<u8>,
+    /// The claims, decoded: JSON.
     pub claims: Vec<u8>,
+    /// The signature, decoded.
     pub mac: Vec<u8>,
 }
 
@@ -26,7 +31,7 @@ impl<'a> Model for Parts<'a> {
     ghost view = { λ o. record { signed = o.sent_header.now ++ 46 ∷ o.sent_claims.now; header = o.header.items; claims = o.claims.items; mac = o.mac.items } };
 }
 
-/// What stands before the first dot, and behind it.
+/// What comes before the first dot, and after it.
 fn cut(bytes: &[u8]) -> Option<(&[u8], &[u8])>
     ensures { option_map (λ p. (p.0.now, p.1.now)) result ≡ cut bytes.now }
 {

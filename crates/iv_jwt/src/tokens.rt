@@ -195,14 +195,14 @@ fn is_signed(secret: &[u8], token: &Parts<'_>) -> bool
     is_same(&token.mac, &mac)
 }
 
-/// The role that a token grants now, in seconds since 1970, with its subject and its end: where its signature is that of the secret over
+/// The role that a token grants now, in seconds since 1970, with its subject and its end: if its signature is that of the secret over
 /// exactly the bytes that it signs, its header names HS256, and its claims say a role's name, a subject and an end that is yet to come, and
 /// no audience: a secret is this service's alone.
 ///
 /// # Errors
-/// As `Fault` says, the first of them in its order that comes; `Memory` where a growth of memory was refused.
+/// As `Fault` says, the first of them in its order that comes; `Memory` if a growth of memory was refused.
 ///
-/// Source: RFC 7519, section 7.2; RFC 7515, section 5.2. Of a key that stands twice the last value counts (RFC 7519, section 4).
+/// Source: RFC 7519, section 7.2; RFC 7515, section 5.2. Of a key that comes twice the last value counts (RFC 7519, section 4).
 pub fn role_of(alloc: Global, secret: &[u8], now: u64, token: &[u8]) -> Result<Claims, Fault>
     ensures answer { IsAnswer result (judged secret.now now token.now) }
     ensures granted { IfOk result (λ c. IsGranted secret.now now token.now (granted_by c)) }

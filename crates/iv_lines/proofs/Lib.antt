@@ -1,8 +1,8 @@
 pub mod Ahead
-pub mod Cutting
-pub mod Finding
-pub mod Joining
+pub mod FirstLine
+pub mod BytePlaces
+pub mod JoinedLines
 pub mod Known
 pub mod Moments
-pub mod Parting
-pub mod Writing
+pub mod LineParts
+pub mod LineTexts

@@ -5,7 +5,7 @@ use Rattle.std.specs.Io.KnownBytes.{prepend_known}
 use Rattle.iv_lines.specs.Moments.{Moment, ReadsAt, IsMoment, IsWithinLine}
 use Rattle.iv_lines.specs.Reads.{IsBegun}
 use Rattle.iv_lines.proofs.Ahead.{kept_behind}
-use Rattle.iv_lines.proofs.Cutting.{cut_short}
+use Rattle.iv_lines.proofs.FirstLine.{cut_short}
 
 pub reads_none : (P : Moment → Type 0) (ms : List Moment) → ReadsAt P ms ms
 reads_none P ms = record { more = []; behind = sym (append-nil ms); each = tt }

@@ -15,7 +15,7 @@ known r left = prepend_known (ahead r) left
 abbrev pub newline_if : Bool → List ℕ
 newline_if ended = if ended then 10 ∷ [] else []
 
--- of the bytes ahead a front without newline has moved to the line, and a newline behind it is taken
+-- of the bytes ahead a front without newline has moved to the line, and a newline after it is taken
 pub record TakesPart (old new line longer : List ℕ) (ended : Bool) : Type 0 where
   pub part : List ℕ
   pub plain : All (λ b. b ≢ 10) part

@@ -23,7 +23,7 @@ readings_of line = if is_blank_line line then [] else reading_of line ∷ []
 
 -- ---- up to n lines
 
--- what the lines are, how they end, and what stands behind those that were taken
+-- what the lines are, how they end, and what follows those that were taken
 pub record Heard : Type 0 where
   pub readings : List Reading
   pub end : End
@@ -32,7 +32,7 @@ pub record Heard : Type 0 where
 abbrev pub behind : List Reading → Heard → Heard
 behind rs h = record { readings = rs ++ h.readings; end = h.end; rest = h.rest }
 
--- what the cut gives, where `more` hears what is behind the line
+-- what the cut gives, if `more` hears what is after the line
 abbrev pub heard_cut : (List ℕ → Heard) → Cut → Heard
 heard_cut more nothing = record { readings = []; end = Input; rest = [] }
 heard_cut more endless = record { readings = too_long ∷ []; end = TooLong; rest = [] }

@@ -2,12 +2,12 @@
 use Rattle.std.specs.Prelude.{ℕ, ◌+◌, Bool, false, true, Option, Some, None}
 use Rattle.std.specs.declared.snapshot.Snapshot.{Snapshot}
 
--- one more than the number before, 0 behind none
+-- one more than the number before, 0 after none
 abbrev pub one_more : Option (Snapshot (Snapshot ℕ)) → ℕ
 one_more None = 0
 one_more (Some before) = before.value.value + 1
 
--- an end, how many calls were made of it, whether one of them failed, and whether a flush came behind the last write
+-- an end, how many calls were made of it, whether one of them failed, and whether a flush came after the last write
 pub record Watch (E : Type 0) : Type 0 where
   pub end : E
   pub calls : ℕ

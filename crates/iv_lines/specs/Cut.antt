@@ -2,7 +2,7 @@
 use Rattle.std.specs.Prelude.{ℕ, zero, suc, ◌==◌, ◌||◌, Bool, List, [], ◌∷◌, ◌++◌, if◌then◌else◌}
 use Rattle.std.specs.List.{list_all}
 
--- no byte is left; a line and the bytes behind it; no newline in as many bytes as a line may have with it
+-- no byte is left; a line and the bytes after it; no newline in as many bytes as a line may have with it
 pub data Cut : Type 0 where
   nothing : Cut
   whole : List ℕ → List ℕ → Cut

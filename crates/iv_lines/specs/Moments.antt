@@ -1,4 +1,4 @@
--- When a source is read: what it has left then, and what stands written.
+-- When a source is read: what it has left then, and what is written.
 use Rattle.std.specs.Prelude.{◌≡◌, ℕ, Bool, List, ◌++◌, Option}
 use Rattle.std.specs.List.{AllByRecursion}
 use Rattle.std.specs.Io.KnownBytes.{Keeps}
@@ -17,7 +17,7 @@ pub record ReadsAt (P : Moment → Type 0) (old new : List Moment) : Type 0 wher
   pub behind : new ≡ old ++ more
   pub each : AllByRecursion P more
 
--- these bytes are left, where they are known, and these are taken
+-- these bytes are left, if they are known, and these are taken
 abbrev pub IsMoment : (left taken : Option (List ℕ)) → Bool → Moment → Type 0
 IsMoment left taken flushed m = Keeps left m.left × (m.taken ≡ taken) × (m.flushed ≡ flushed)
 

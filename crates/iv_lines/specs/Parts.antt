@@ -12,7 +12,7 @@ rest_text n k = (codes ",\"session\":" ++ decimal n) ++ ((codes ",\"sub\":" ++ d
 abbrev pub session_part : ℕ → List ℕ
 session_part n = (codes ",\"session\":" ++ decimal n) ++ codes ",\"sub\":"
 
--- the text, where there is one, is the part that names the session
+-- the text, if there is one, is the part that names the session
 abbrev pub IsPart : SessionPart → Type 0
 IsPart p = (length p.text.items == 0) ≡ false → p.text.items ≡ session_part p.session
 

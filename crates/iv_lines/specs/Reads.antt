@@ -6,19 +6,19 @@ use Rattle.iv_lines.specs.declared.lines.RunFault.{RunFault}
 use Rattle.iv_lines.specs.declared.lines.RunFault.TheVariants.{Read, Write, Memory, Failed}
 use Rattle.iv_lines.specs.Cut.{Cut, nothing, whole, endless, cut, cut_from, line_room}
 
--- the cut that it stands for, where these bytes are left behind it
+-- the cut that it stands for, if these bytes are left after it
 abbrev pub cut_of : Next → List ℕ → Cut
 cut_of Nothing left = nothing
 cut_of (Line line) left = whole line.items left
 cut_of Endless left = endless
 
--- where the bytes are known, the first cut of them, and what is left behind it
+-- if the bytes are known, the first cut of them, and what is left after it
 abbrev pub IsCut : Option (List ℕ) → Next → Option (List ℕ) → Type 0
 IsCut None next new = ⊤
 IsCut (Some bytes) next None = ⊥
 IsCut (Some bytes) next (Some left) = cut bytes ≡ cut_of next left
 
--- between the two stands the beginning of one line, and no whole line
+-- between the two is the beginning of one line, and no whole line
 abbrev pub BeginsLine : List ℕ → List ℕ → Type 0
 BeginsLine bytes left = (part : List ℕ) × (bytes ≡ part ++ left) × All (λ b. b ≢ 10) part × (length part < line_room)
 

@@ -1,7 +1,7 @@
-//! `write_lines`: the texts of a command's lines, one behind another; `write_line`: the text of one line.
+//! `write_lines`: the texts of a command's lines, one after another; `write_line`: the text of one line.
 //!
 //! `ok`, `subscribed` and changes are fixed parts with numbers and the text of their rows between them, proved to be the text of their
-//! value; refusals and faults are written by `serde_json`. The text of rows is written once, where the rows are listed (iv_command), and
+//! value; refusals and faults are written by `serde_json`. The text of rows is written once, if the rows are listed (iv_command), and
 //! the part that names a session once for the changes of the session that stand together.
 ghost use Rattle.std.specs.Prelude.{◌≡◌, ◌++◌, map, flat_map, decimal, IfOk, OnOk};
 ghost use Rattle.iv_machine.specs.Act as machine;
@@ -50,7 +50,7 @@ impl SessionPart {
     }
 }
 
-/// Appends to a line's text a fixed part, and a number behind it.
+/// Appends to a line's text a fixed part, and a number after it.
 fn push_number(text: &mut Vec<u8>, before: &[u8], number: u64) -> Result<(), AllocError>
     ensures { OnOk result (text.new.items ≡ text.old.items ++ (before.now ++ decimal number)) }
 {
@@ -185,7 +185,7 @@ pub fn write_lines(alloc: Global, lines: &[Line], sent: Vec<u8>) -> Result<Vec<u
 /// The text of one of a command's lines, with its newline.
 ///
 /// # Errors
-/// `AllocError` where a growth of memory was refused.
+/// `AllocError` if a growth of memory was refused.
 ///
 /// Source: RFC 8259, compact, keys in the order of their bytes.
 pub fn write_line(alloc: Global, line: &Line) -> Result<Vec<u8>, AllocError>

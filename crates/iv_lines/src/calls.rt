@@ -29,6 +29,7 @@ impl Model for Number {
 /// How many calls were made, which contracts alone read.
 #[derive(Drop)]
 pub struct Calls {
+    /// How many calls were made.
     made: Snapshot<Number>,
 }
 

@@ -9,23 +9,23 @@ pub struct EndFault;
 
 /// What bytes are read from.
 pub trait Source {
-    /// The bytes that are left, where the end tells them.
+    /// The bytes that are left, if the end tells them.
     ghost left: { Self → Option (List ℕ) };
 
     /// Whether it has failed.
     ghost has_failed: { Self → Bool };
 
-    /// How many reads were made, where the end counts them.
+    /// How many reads were made, if the end counts them.
     ghost reads: { Self → ℕ };
 
-    /// At which moments it was read, where the end tells them.
+    /// At which moments it was read, if the end tells them.
     ghost moments: { Self → List Moment };
 
-    /// Reads some bytes from the source, whose answers go to the writer. It answers 0 only where there is no room or no byte
+    /// Reads some bytes from the source, whose answers go to the writer. It answers 0 only if there is no space or no byte
     /// is left. The writer is not touched: contracts see what it had taken when the source was read.
     ///
     /// # Errors
-    /// Where the end fails. What is left is as it was.
+    /// If the end fails. What is left is as it was.
     fn read<W: Sink>(&mut self, room: &mut [u8], writer: &W) -> Result<usize, EndFault>
         ensures bound { IfOk result (λ n. n ≤ length room.new) }
         ensures bytes { ReadConsumes (left self.old) (left self.new) result room.new }
@@ -37,7 +37,7 @@ pub trait Source {
 
 /// What bytes are written to.
 pub trait Sink {
-    /// The bytes that were taken, where the end tells them.
+    /// The bytes that were taken, if the end tells them.
     ghost taken: { Self → Option (List ℕ) };
 
     /// Whether it has failed.
@@ -46,13 +46,13 @@ pub trait Sink {
     /// Whether all that was taken is flushed.
     ghost is_flushed: { Self → Bool };
 
-    /// How many writes and flushes were made, where the end counts them.
+    /// How many writes and flushes were made, if the end counts them.
     ghost calls: { Self → ℕ };
 
-    /// Takes a front of the bytes into the sink, at least one where there is one.
+    /// Takes a front of the bytes into the sink, at least one if there is one.
     ///
     /// # Errors
-    /// Where the end fails. What was taken is as it was.
+    /// If the end fails. What was taken is as it was.
     fn write(&mut self, bytes: &[u8]) -> Result<usize, EndFault>
         ensures bound { IfOk result (λ n. n ≤ length bytes.now) }
         ensures some { IfOk result (λ n. 0 < length bytes.now → 0 < n) }
@@ -63,7 +63,7 @@ pub trait Sink {
     /// Passes on all that the sink has taken.
     ///
     /// # Errors
-    /// Where the end fails.
+    /// If the end fails.
     fn flush(&mut self) -> Result<(), EndFault>
         ensures bytes { Keeps (taken self.old) (taken self.new) }
         ensures flushed { OnOk result (is_flushed self.new ≡ true) }
@@ -74,7 +74,7 @@ pub trait Sink {
 /// Writes all the bytes to a sink.
 ///
 /// # Errors
-/// Where the end fails. A front of the bytes was taken then.
+/// If the end fails. A front of the bytes was taken then.
 pub fn write_all<W: Sink>(writer: &mut W, bytes: &[u8]) -> Result<(), EndFault>
     ensures ok { OnOk result (Appends (W.taken writer.old) (W.taken writer.new) bytes.now) }
     ensures err { OnErr result ((n : ℕ) × Appends (W.taken writer.old) (W.taken writer.new) (take n bytes.now)) }

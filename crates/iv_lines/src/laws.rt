@@ -13,7 +13,7 @@ ghost use Rattle.iv_bind.specs.BoundTexts.{Reading, Binding};
 ghost use Rattle.iv_access.specs.declared.policy.Check.TheVariants as check;
 ghost use Rattle.iv_machine.specs.declared.Cause.TheVariants as cause;
 
-/// A line of at most 65,536 bytes is cut again where a newline stands behind it, or nothing; a longer one has no end.
+/// A line of at most 65,536 bytes is cut again if a newline is after it, or nothing; a longer one has no end.
 pub fn lines_are_cut()
     ensures line { (line rest : List ℕ) → All (λ b. b ≢ 10) line → length line < line_room → cut (line ++ 10 ∷ rest) ≡ whole line rest }
     ensures last { (line : List ℕ) → All (λ b. b ≢ 10) line → length line < line_room → cut line ≡ last_line line }

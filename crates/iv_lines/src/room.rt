@@ -19,8 +19,11 @@ pub const LINE_ROOM: usize = 65_537;
 /// Bytes that were read and not taken yet.
 #[derive(Drop)]
 pub struct Room {
+    /// The bytes that were read last.
     bytes: [u8; ROOM],
+    /// How many of these were taken.
     at: usize,
+    /// How many of these were read.
     filled: usize,
     ghost within: { filled ≤ 4096 },
     ghost behind: { at ≤ filled },
@@ -30,7 +33,7 @@ impl Room {
     ghost use Rattle.iv_lines.specs.Ahead.{ahead, known, TakesPart};
     ghost use Rattle.iv_lines.specs.Cut.{line_room};
 
-    /// A room of bytes read ahead, with none in it yet.
+    /// A buffer of bytes read ahead, with none in it yet.
     pub fn new() -> Room
         ensures { ahead result ≡ [] }
     {
@@ -41,7 +44,7 @@ impl Room {
         }
     }
 
-    /// Reads bytes ahead, where all that were ahead have been taken.
+    /// Reads bytes ahead, if all that were ahead have been taken.
     #[tactic(auto, using(crate::proofs::Ahead::ahead_empty))]
     fn refill<R: Source, W: Sink>(&mut self, reader: &mut R, writer: &W) -> Result<(), EndFault>
         requires { self.old.at ≡ self.old.filled }
@@ -59,7 +62,7 @@ impl Room {
         Ok(())
     }
 
-    /// Reads bytes ahead, unless some are ahead. Nothing is ahead then only where no byte is left.
+    /// Reads bytes ahead, unless some are ahead. Nothing is ahead then only if no byte is left.
     pub(crate) fn fill<R: Source, W: Sink>(
         &mut self,
         reader: &mut R,

@@ -10,6 +10,7 @@ use std::marker::Model;
 /// A reader of std as a source. Each read is one call of the reader, and an error of the reader is told at once.
 #[derive(Drop)]
 pub struct FromRead<R: Read> {
+    /// The reader, with the count of its calls.
     reader: Watched<R>,
 }
 
@@ -22,7 +23,7 @@ impl<R: Read> Model for FromRead<R> {
 }
 
 impl<R: Read> FromRead<R> {
-    /// A reader of std as a source, of which no call was made.
+    /// A reader of std as a source, before any call.
     pub fn new(reader: R) -> FromRead<R>
         ensures { result ≡ unused reader }
     {
@@ -54,7 +55,9 @@ impl<R: Read> Source for FromRead<R> {
 /// call of the writer, and an error of the writer is told at once.
 #[derive(Drop)]
 pub struct FromWrite<W: Write> {
+    /// The writer, with the count of its calls.
     writer: Watched<W>,
+    /// Whether a write took none of some bytes.
     stuck: bool,
 }
 
@@ -68,7 +71,7 @@ impl<W: Write> Model for FromWrite<W> {
 }
 
 impl<W: Write> FromWrite<W> {
-    /// A writer of std as a sink, of which no call was made.
+    /// A writer of std as a sink, before any call.
     pub fn new(writer: W) -> FromWrite<W>
         ensures { result ≡ (unused writer, false) }
     {

@@ -1,11 +1,11 @@
 //! `Watched`: an end of std, each read, write and flush of which is counted.
 //!
 //! The bound on reads speaks of a source that counts its reads. std's clauses do not say how often a reader or a
-//! writer is called, so no contract over `Read` and `Write` can: what calls twice meets whatever one call meets. Of the
+//! writer is called, so no contract over `Read` and `Write` can: a body that calls twice meets what one that calls once meets. Of the
 //! three one-line calls here tests show it, by ends that count their calls and fail once at each in turn (a write or a
 //! flush tried again, a flush that does nothing, a read of no bytes before each read fail there). Everything above them
-//! is refused by the prover where it calls twice, swallows an error or leaves a flush out. A token that each call uses
-//! up would change nothing: whoever holds it can call twice behind it.
+//! is refused by the prover if it calls twice, swallows an error or leaves a flush out. A token that each call uses
+//! up would change nothing: whoever holds it can call twice after it.
 ghost use Rattle.std.specs.Prelude.{◌≡◌, ◌≤◌, ◌+◌, ◌||◌, true, false, length, IfOk, OnOk, is_err};
 ghost use Rattle.std.specs.Io.KnownBytes.{Keeps, ReadConsumes, WriteAppends};
 ghost use Rattle.iv_lines.specs.Calls.{unused};
@@ -18,9 +18,13 @@ use std::marker::Model;
 /// An end of std. Contracts see it, how many calls were made of it, whether one has failed, and whether it is flushed.
 #[derive(Drop)]
 pub struct Watched<E> {
+    /// The end of std.
     end: E,
+    /// How many calls were made of it.
     calls: Calls,
+    /// Whether a call has failed.
     failed: bool,
+    /// Whether nothing was written since the last flush.
     flushed: bool,
 }
 
@@ -33,7 +37,7 @@ impl<E> Model for Watched<E> {
 }
 
 impl<E> Watched<E> {
-    /// An end of std of which no call was made: each is counted from now on.
+    /// An end of std before any call: each is counted from now on.
     pub fn new(end: E) -> Watched<E>
         ensures { result ≡ unused end }
     {

@@ -16,7 +16,7 @@ use Rattle.iv_machine.specs.State.{Frame, Session, is_open, actor, next_rel, sta
 use Rattle.iv_machine.specs.Refusing.{test, administrator, known_role, free_role, free_relation, or_else, first, frame_refusal, tests_by}
 use Rattle.iv_machine.specs.Changing.{with_held, view_held, after_frame}
 use Rattle.iv_machine.specs.Sound.{AreNamesDistinct}
-use Rattle.iv_machine.proofs.Serving.{or_none}
+use Rattle.iv_machine.proofs.OpenSubscriptions.{or_none}
 
 pub test_passes : (b : Bool) (r : Refusal) → test b r ≡ None → b ≡ false
 test_passes true r h = cc

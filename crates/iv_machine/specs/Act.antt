@@ -22,7 +22,7 @@ pub record Entry : Type 0 where
   pub op : Op
   pub copies : ℕ
 
--- PostgreSQL 16, CREATE POLICY; where no role is named, it goes to PUBLIC
+-- PostgreSQL 16, CREATE POLICY; if no role is named, it goes to PUBLIC
 pub record PolicyText : Type 0 where
   pub rel : Name
   pub name : Name

@@ -67,7 +67,7 @@ written catalog (e ∷ es) T = written catalog es (after_entry catalog e T)
 
 -- ---- subscriptions
 
--- behind each subscription of the same session or one before it
+-- after each subscription of the same session or one before it
 abbrev pub insert_subscription : Subscription → List Subscription → List Subscription
 insert_subscription e [] = e ∷ []
 insert_subscription e (f ∷ fs) = if nat_lt e.session f.session then e ∷ f ∷ fs else f ∷ insert_subscription e fs

@@ -1,4 +1,4 @@
--- What lasts behind a command: roles, relations, sessions, subscriptions and their numbers; and what a command opens.
+-- What lasts after a command: roles, relations, sessions, subscriptions and their numbers; and what a command opens.
 use Rattle.std.specs.Prelude.{◌≡◌, ◌≢◌, ◌⊎◌, ℕ, ◌==◌, ◌+◌, ◌≤◌, ℤ, Bool, true, false, List, Contains, Some, None, is_some}
 use Rattle.std.specs.List.{list_any}
 use Rattle.iv_rows.specs.Cell.{Cell}
@@ -39,7 +39,7 @@ pub record IsToldEnd (n k : ℕ) (lines : List Line) : Type 0 where
   pub rows : List (List Cell × ℤ)
   pub line : Contains lines (ended n k why rows)
 
--- A subscription that its reader does not close stands as it was, or its session is told its end. One that its reader closes, and one
+-- A subscription that its reader does not close is as it was, or its session is told its end. One that its reader closes, and one
 -- whose end is told, is open no more.
 pub record EndsAreTold (s : State) (c : Command) : Type 0 where
   pub stands : (k : ℕ) (e : Subscription) → list_any (λ j. k == j) (closed_in s c (refusal s c.session c.act)) ≡ false
@@ -51,7 +51,7 @@ pub record EndsAreTold (s : State) (c : Command) : Type 0 where
 
 -- ---- what is opened
 
--- session n is open behind the command, in the role of the name
+-- session n is open after the command, in the role of the name
 pub record OpensSession (n : ℕ) (name : Name) (old new : Frame) : Type 0 where
   pub role : ℕ
   pub known : role_of old.rights name ≡ Some role

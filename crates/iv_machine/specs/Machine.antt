@@ -23,7 +23,7 @@ place_row Less r s rows placed = r ∷ s ∷ rows
 place_row Equal r s rows placed = s ∷ rows
 place_row Greater r s rows placed = s ∷ placed
 
--- at its place, where it does not stand yet
+-- at its place, if it does not stand yet
 abbrev pub insert_row : List Cell → List (List Cell) → List (List Cell)
 insert_row r [] = r ∷ []
 insert_row r (s ∷ rows) = place_row (row_cmp r s) r s rows (insert_row r rows)
@@ -58,7 +58,7 @@ first_cause false true = None
 abbrev pub ending : State → Subscription → Option Cause
 ending s e = first_cause (is_some (missing_for s.frame (actor s.frame e.session) e.rel)) (is_within s e)
 
--- a write ends none; it is refused where a view would not be within the limits
+-- a write ends none; it is refused if a view would not be within the limits
 abbrev pub ending_by : Act → State → Subscription → Option Cause
 ending_by (write entries) s e = None
 ending_by _ s e = ending s e
@@ -73,7 +73,7 @@ abbrev pub reply_to : Frame → Act → Reply
 reply_to f (subscribe rel) = subscribed (f.last + 1)
 reply_to f _ = done
 
--- a last line where the subscription ends, also with no row; else no line where nothing changes
+-- a last line if the subscription ends, also with no row; else no line if nothing changes
 abbrev pub lines_told : Option Cause → Subscription → List (List Cell × ℤ) → List Line
 lines_told (Some why) e rows = ended e.session e.number why rows ∷ []
 lines_told None e [] = []

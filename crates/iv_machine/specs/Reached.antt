@@ -8,7 +8,7 @@ use Rattle.iv_machine.specs.State.{State, Frame, Subscription, is_open_number, s
 use Rattle.iv_machine.specs.Machine.{run, weight}
 use Rattle.iv_machine.specs.Held.{held, closed}
 
--- no number stands twice
+-- no number comes twice
 abbrev pub AreUnique : List Subscription → Type 0
 AreUnique [] = Unit {0}
 AreUnique (e ∷ es) = (list_any (λ f. e.number == f.number) es ≡ false) × AreUnique es

@@ -28,7 +28,7 @@ GoesToReader old new (ended n k why rows) = has_subscription old n k ≡ true
 
 -- ---- the rows of a change
 
--- the row stands in table t, and the role may see it
+-- the row is in table t, and the role may see it
 pub record IsAllowed (s : State) (role t : ℕ) (row : List Cell) : Type 0 where
   pub there : 0 < copies row (s.rows t)
   pub seen : may_see s.frame.rights role t row ≡ true
@@ -37,7 +37,7 @@ pub record IsAllowed (s : State) (role t : ℕ) (row : List Cell) : Type 0 where
 abbrev pub IsKnownRow : (old new : State) → (k role t : ℕ) → List Cell → Type 0
 IsKnownRow old new k role t row = (0 < copies row (shown old k)) ⊎ IsAllowed new role t row
 
--- where the subscription is to table t, each row is one that it showed before, or that its reader may see now
+-- if the subscription is to table t, each row is one that it showed before, or that its reader may see now
 abbrev pub AreKnownRows : (old new : State) → ℕ → List (List Cell × ℤ) → Type 0
 AreKnownRows old new k rows = (e : Subscription) (t : ℕ) → subscription_of new.frame.subscriptions k ≡ Some e
     → plan_at new.frame.catalog e.rel ≡ Scan t → All (λ p. IsKnownRow old new k (actor new.frame e.session) t p.0) rows
@@ -65,7 +65,7 @@ abbrev pub IsRefusedAlike : Frame → Refusal → Type 0
 IsRefusedAlike f r = (S T : Lists) (n : ℕ) (act : Act) → refusal (record { frame = f; rows = S }) n act ≡ Some r
     → refusal (record { frame = f; rows = T }) n act ≡ Some r
 
--- where the role may see the same rows of each table, each as often, it sees the same rows of the relation, each as often, and
+-- if the role may see the same rows of each table, each as often, it sees the same rows of the relation, each as often, and
 -- its limits hold alike
 pub record SeesAlike (f : Frame) (role rel : ℕ) : Type 0 where
   pub rows : (S T : Lists) → SameTables (allowed f.rights role S) (allowed f.rights role T)

@@ -178,7 +178,7 @@ abbrev pub session_test : Frame → ℕ → Act → Option Refusal
 session_test f n (begin name) = test (is_open f n) session_in_use
 session_test f n _ = test (not (is_open f n)) no_session
 
--- the further tests of each request that look at no row, in their order, where role acts in session n
+-- the further tests of each request that look at no row, in their order, if role acts in session n
 abbrev pub tests_by : Frame → (n role : ℕ) → Act → List (Option Refusal)
 tests_by f n role (begin name) = known_role f name ∷ full 256 (length f.sessions) ∷ []
 tests_by f n role finish = []

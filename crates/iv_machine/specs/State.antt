@@ -56,7 +56,7 @@ start cap = record { frame = start_frame cap; rows = λ _. [] }
 abbrev pub next_rel : List CatalogEntry → ℕ
 next_rel catalog = length catalog
 
--- the number of the relation of a name; of none where there is none
+-- the number of the relation of a name; of none if there is none
 abbrev pub rel_of : List CatalogEntry → Name → ℕ
 rel_of catalog name = if_some (named catalog name) (next_rel catalog) (λ e. e.rel)
 
@@ -119,6 +119,6 @@ view_shown s e = view_for s (actor s.frame e.session) e.rel
 abbrev pub is_within : State → Subscription → Bool
 is_within s e = is_within_for s (actor s.frame e.session) e.rel
 
--- the rows that subscription k shows: none where it is not open
+-- the rows that subscription k shows: none if it is not open
 abbrev pub shown : State → ℕ → List (List Cell)
 shown s k = if_some (subscription_of s.frame.subscriptions k) [] (view_shown s)

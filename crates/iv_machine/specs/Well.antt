@@ -25,7 +25,7 @@ is_well_policy p =
 abbrev pub is_well_entry : Entry → Bool
 is_well_entry e = is_name e.rel && (list_all is_well (rows_in e.op) && is_positive e.copies)
 
--- 1 to 4 privileges, of which some may be one; 1 to 1,000 entries; a query may be any text
+-- 1 to 4 privileges, some of which may be one; 1 to 1,000 entries; a query may be any text
 abbrev pub is_well_act : Act → Bool
 is_well_act (begin role) = is_name role
 is_well_act finish = true

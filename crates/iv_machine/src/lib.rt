@@ -1,7 +1,7 @@
 //! The access machine: what a list of commands means. Definitions, and laws over them.
 //!
-//! The definitions stand in `specs/`. The actor of a session that is not open is a number that no role has. No edit
-//! is tried here: the functions are laws without a body, and an edit of a definition shows nothing. Worked examples stand in
+//! The definitions are in `specs/`. The actor of a session that is not open is a number that no role has. No edit
+//! is tried here: the functions are laws without a body, and an edit of a definition shows nothing. Worked examples are in
 //! `crates/tests_machine`.
 #![tactic(auto)]
 

@@ -23,17 +23,17 @@ abbrev pub act_in : Result Act Why → Option Act
 act_in (Ok act) = Some act
 act_in (Err why) = None
 
--- what viewd reads of the object in session 1, where its id is one, or not there, it names no session, and its word is one that
+-- what viewd reads of the object in session 1, if its id is one, or not there, it names no session, and its word is one that
 -- clients have
 abbrev pub read_in_session : Data → Option Command
 read_in_session d =
     if (is_good_id (get (codes "id") d) && not (has (codes "session") d)) && is_some (clients_form d) then request (in_session d) else None
 
--- a client asks what viewd reads there, and is told a reason exactly where nothing is read
+-- a client asks what viewd reads there, and is told a reason exactly if nothing is read
 abbrev pub OneMeaning : Type 0
 OneMeaning = (d : Data) → option_map (command 1) (act_in (asked d)) ≡ read_in_session d
 
--- the values of a form's keys all pass exactly where they make an act
+-- the values of a form's keys all pass exactly if they make an act
 abbrev pub ValuesDecide : Type 0
 ValuesDecide = (text : List ℕ) (f : Form) → form_of text ≡ Some f
     → (d : Data) → list_all (λ key. passes f.word key d) (f.required ++ f.optional) ≡ is_some (act_for f.word d)

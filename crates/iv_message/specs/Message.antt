@@ -49,7 +49,7 @@ id_in (string s) = if nat_le (length s) 64 then Some (string s) else None
 id_in (array ds) = None
 id_in (object ms) = None
 
--- what is given back in the reply: nothing where no id is there, or the value is none
+-- what is given back in the reply: nothing if no id is there, or the value is none
 abbrev pub id_of : Data → Option Data
 id_of d = option_and_then id_in (get (codes "id") d)
 
@@ -68,7 +68,7 @@ clients_form d = option_and_then (passing (λ f. is_for_clients f.word)) (option
 abbrev pub keys_of : Form → List (List ℕ)
 keys_of f = codes "do" ∷ codes "id" ∷ (f.required ++ f.optional)
 
--- ---- the values: the table of what stands at each key, over the parts of requests
+-- ---- the values: the table of what is at each key, over the parts of requests
 
 -- the command of a policy asks for `using`, or it may have it
 abbrev pub using_fits : PolicyCommand → Option (List ℕ) → Bool
@@ -77,7 +77,7 @@ using_fits command using = if has_texts command using None then true else has_te
 abbrev pub check_fits : PolicyCommand → Option (List ℕ) → Bool
 check_fits command check = if has_texts command None check then true else has_texts command (Some []) check
 
--- a text that may be left out goes with the command; where the command is wrong itself, any text does
+-- a text that may be left out goes with the command; if the command is wrong itself, any text does
 abbrev pub goes_with : (PolicyCommand → Option (List ℕ) → Bool) → Option PolicyCommand → Option (Option (List ℕ)) → Bool
 goes_with fits command None = false
 goes_with fits None (Some text) = true
@@ -101,7 +101,7 @@ policy_passes key d =
     else if bytes_eq key (codes "check") then goes_with check_fits (policy_command_at d) (text_if_at key d)
     else is_some (name_at key d)
 
--- what stands at a key of the form, or that nothing does, is as a request of this word has it
+-- what is at a key of the form, or that nothing does, is as a request of this word has it
 abbrev pub passes : Word → List ℕ → Data → Bool
 passes CreateTable key d = if bytes_eq key (codes "columns") then is_some (columns_at d) else is_some (name_at key d)
 passes CreateView key d = if bytes_eq key (codes "query") then is_some (text_at key d) else is_some (name_at key d)
@@ -145,7 +145,7 @@ unknown_key f d = option_and_then (first_failing (is_among (keys_of f))) (as_obj
 abbrev pub unknown_in : Form → Data → Option Why
 unknown_in f d = option_map unknown (unknown_key f d)
 
--- the number of the first item that is no entry, where the first item has number n
+-- the number of the first item that is no entry, if the first item has number n
 abbrev pub first_wrong : ℕ → Items → Option ℕ
 first_wrong n no_items = None
 first_wrong n (item d ds) = if is_some (entry_of d) then first_wrong (suc n) ds else Some n
@@ -153,7 +153,7 @@ first_wrong n (item d ds) = if is_some (entry_of d) then first_wrong (suc n) ds 
 abbrev pub wrong_entry : List ℕ → Data → Option ℕ
 wrong_entry key d = if bytes_eq key (codes "entries") then option_and_then (first_wrong 1) (option_and_then as_array (get key d)) else None
 
--- a value fails, in the order of the form; a law says that one does exactly where there is no act
+-- a value fails, in the order of the form; a law says that one does exactly if there is no act
 abbrev pub wrong_key : Form → Data → List ℕ
 wrong_key f d = unwrap_or (find (λ key. not (passes f.word key d)) (f.required ++ f.optional)) (codes "do")
 

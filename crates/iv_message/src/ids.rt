@@ -1,4 +1,4 @@
-//! `id_at`: the id of a message, from a JSON value; `has_good_id`: whether what stands there is one; `read_id`: the id that a text is.
+//! `id_at`: the id of a message, from a JSON value; `has_good_id`: whether what is there is one; `read_id`: the id that a text is.
 ghost use Rattle.std.specs.Prelude.{◌≡◌, IfOk, codes, is_some, option_map, option_and_then};
 ghost use Rattle.serde_json.specs.Find.{get, as_integer, as_number};
 ghost use Rattle.iv_command.specs.RowTexts.{whole};
@@ -26,7 +26,7 @@ fn is_id(value: &Json<'_>) -> bool
     }
 }
 
-/// Whether what stands at `id` is an id, where something does.
+/// Whether what is at `id` is an id, if something does.
 pub fn has_good_id(value: &Json<'_>) -> bool
     ensures { result ≡ is_good_id (get (codes "id") (value_data value.now)) }
 {
@@ -66,7 +66,7 @@ fn id_in(alloc: Global, value: &Json<'_>) -> Result<Option<Id>, AllocError>
 /// The id that the text of a JSON value is, if it is one.
 ///
 /// # Errors
-/// `AllocError` where a growth of memory was refused.
+/// `AllocError` if a growth of memory was refused.
 pub fn read_id(alloc: Global, text: &[u8], scratch: &mut Scratch) -> Result<Option<Id>, AllocError>
     ensures { IfOk result (λ id. option_map id_data id ≡ option_and_then id_in (value_of text.now)) }
 {

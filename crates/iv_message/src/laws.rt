@@ -11,8 +11,8 @@ ghost use Rattle.iv_message.specs.Message.{message_of, on_one_line, no_json, too
 ghost use Rattle.iv_message.specs.Told.{Told, told_text, welcome, replied, opened, fault, unasked, changed, over, settled, granted, made, alive};
 ghost use Rattle.iv_message.specs.Worked.{Asks, IsUnasked, mia_made, notes_opened, second_wrong, seven, subscribe_text, third_wrong, using_of_insert};
 
-/// There is one meaning of requests: a client asks what viewd reads of its object in a session, and is told a reason exactly where
-/// viewd reads no request of a client there, or the object names a session itself. The values of a request pass one by one exactly where they make its act.
+/// There is one meaning of requests: a client asks what viewd reads of its object in a session, and is told a reason exactly if
+/// viewd reads no request of a client there, or the object names a session itself. The values of a request pass one by one exactly if they make its act.
 pub fn clients_ask_what_viewd_reads()
     ensures meaning { OneMeaning }
     ensures values { ValuesDecide }

@@ -26,7 +26,7 @@ fn id_json(alloc: Global, id: &Id) -> Result<Json, AllocError>
     }
 }
 
-/// Adds the id that the client gave, where it gave one.
+/// Adds the id that the client gave, if it gave one.
 pub fn put_id(
     alloc: Global,
     members: &mut Map<String, Json>,

@@ -117,7 +117,7 @@ fn read_line(alloc: Global, line: &[u8], scratch: &mut Scratch) -> Result<Messag
 /// A text with a blank in place of each newline, so that it is one line.
 ///
 /// # Errors
-/// `AllocError` where a growth of memory was refused.
+/// `AllocError` if a growth of memory was refused.
 pub fn on_one_line(alloc: Global, text: &[u8]) -> Result<Vec<u8>, AllocError>
     ensures { IfOk result (λ line. line.items ≡ on_one_line text.now) }
 {
@@ -128,10 +128,10 @@ pub fn on_one_line(alloc: Global, text: &[u8]) -> Result<Vec<u8>, AllocError>
     Ok(line)
 }
 
-/// What a client says by a message, read by means of room that is kept from message to message.
+/// What a client says by a message, read with buffers that are kept from message to message.
 ///
 /// # Errors
-/// `AllocError` where a growth of memory was refused.
+/// `AllocError` if a growth of memory was refused.
 ///
 /// Source: RFC 8259; docs/PROTOCOL.md, Requests.
 pub fn read_message(

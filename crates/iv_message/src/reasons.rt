@@ -80,7 +80,7 @@ fn unknown_key(alloc: Global, form: &Form, value: &Value) -> Result<Option<Strin
     }
 }
 
-/// Why an object has a key that the form has not: it is told the first one, in the order of their bytes. Keys stand in this
+/// Why an object has a key that the form has not: it is told the first one, in the order of their bytes. Keys are in this
 /// order in an owned value, so a line with such a key is read a second time.
 fn unknown_in(alloc: Global, form: &Form, line: &[u8]) -> Result<Option<Why>, AllocError>
     ensures { IfOk result (λ why. (d : Data) → value_of line.now ≡ Some d → option_map why_of why ≡ unknown_in (form_seen form.now) d) }

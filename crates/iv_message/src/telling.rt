@@ -56,7 +56,7 @@ fn push_text(alloc: Global, text: &mut Vec<u8>, key: &str, value: &str) -> Resul
 /// Appends the first line that a client is told: its role.
 ///
 /// # Errors
-/// `AllocError` where a growth of memory was refused; so it is of each of these functions.
+/// `AllocError` if a growth of memory was refused; so it is of each of these functions.
 pub fn push_welcome(alloc: Global, text: &mut Vec<u8>, role: &str) -> Result<(), AllocError>
     ensures { OnOk result (text.new.items ≡ text.old.items ++ told_text (told.welcome role.now)) }
 {

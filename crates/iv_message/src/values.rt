@@ -30,7 +30,7 @@ fn check_fits(alloc: Global, command: PolicyCommand, check_text: &Option<String>
         || has_texts(command, &Some(String::new(alloc)), check_text)
 }
 
-/// Whether what stands at `using` goes with the command of the policy.
+/// Whether what is at `using` goes with the command of the policy.
 fn using_passes(alloc: Global, value: &Json<'_>) -> Result<bool, AllocError>
     ensures { IfOk result (λ b. b ≡ policy_passes (codes "using") (value_data value.now)) }
 {
@@ -43,7 +43,7 @@ fn using_passes(alloc: Global, value: &Json<'_>) -> Result<bool, AllocError>
     }
 }
 
-/// Whether what stands at `check` goes with the command of the policy.
+/// Whether what is at `check` goes with the command of the policy.
 fn check_passes(alloc: Global, value: &Json<'_>) -> Result<bool, AllocError>
     ensures { IfOk result (λ b. b ≡ policy_passes (codes "check") (value_data value.now)) }
 {
@@ -80,7 +80,7 @@ fn membership_passes(alloc: Global, key: &str, value: &Json<'_>) -> Result<bool,
     }
 }
 
-/// Whether the value at a key, or that none stands there, is as a new policy has it.
+/// Whether the value at a key, or that none is there, is as a new policy has it.
 fn policy_passes(alloc: Global, key: &str, value: &Json<'_>) -> Result<bool, AllocError>
     ensures { IfOk result (λ b. b ≡ policy_passes key.now (value_data value.now)) }
 {
@@ -142,7 +142,7 @@ fn unsubscribe_passes(key: &str, value: &Json<'_>) -> bool
     }
 }
 
-/// Whether the value at a key of the form, or that none stands there, is as a request of the word has it.
+/// Whether the value at a key of the form, or that none is there, is as a request of the word has it.
 fn passes(alloc: Global, word: Word, key: &str, value: &Json<'_>) -> Result<bool, AllocError>
     ensures { IfOk result (λ b. b ≡ passes word key.now (value_data value.now)) }
 {
@@ -205,7 +205,7 @@ fn first_wrong(alloc: Global, items: &[Json<'_>]) -> Result<Option<usize>, Alloc
     Ok(None)
 }
 
-/// The number of the first entry that is none, where the value at `entries` is wrong.
+/// The number of the first entry that is none, if the value at `entries` is wrong.
 pub fn wrong_entry(alloc: Global, key: &str, value: &Json<'_>) -> Result<Option<usize>, AllocError>
     ensures { IfOk result (λ found. found ≡ wrong_entry key.now (value_data value.now)) }
 {

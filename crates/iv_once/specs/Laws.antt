@@ -38,7 +38,7 @@ AreAlike told =
     (a b : Ask) (r s : List ℕ) → a.holder ≡ b.holder → a.name ≡ b.name → a.at ≡ b.at
     → Among (a, says r) told → Among (b, says s) told → (a.digest ≡ b.digest) × (r ≡ s)
 
--- while no more entries of the holder are behind its place than are kept, each copy of what was carried out gets the first answer
+-- while no more entries of the holder are after its place than are kept, each copy of what was carried out gets the first answer
 abbrev pub AreRemembered : Limits → Run → Type 0
 AreRemembered l d =
     (e : Named) → Among e (own e.ask.holder (journal d)) → length (own e.ask.holder (journal d)) ≤ e.ask.at.count + l.names
@@ -50,7 +50,7 @@ AreRemembered l d =
 abbrev pub IsFinal : ℕ → Type 0
 IsFinal rule = (rule ≡ 102) ⊎ (rule ≡ 103)
 
--- what was told so is not carried out behind it
+-- what was told so is not carried out after it
 abbrev pub AreFinal : Limits → Run → Type 0
 AreFinal l d = (a : Ask) (rule : ℕ) → IsFinal rule → Among (a, undecided rule) d.told
     → (es : List Event) → times a.name a.at (own a.holder (history (after l d es))) ≤ times a.name a.at (own a.holder (history d))

@@ -74,7 +74,7 @@ learned l (named e) k = with_own k e.ask.holder (with_entry l.names e (own_of k 
 learned l (plain request) k = k
 learned l (renewed holder epoch) k = with_own k holder (with_epoch epoch (own_of k holder))
 
--- what the first record of a journal says, and the entries behind it
+-- what the first record of a journal says, and the entries after it
 abbrev pub followed : Limits → Known → Journal → Known
 followed l k [] = k
 followed l k (x ∷ j) = learned l x (followed l k j)

@@ -1,4 +1,4 @@
--- What happens where requests have names, over any machine: crashes, restarts, compaction and copies among it.
+-- What happens if requests have names, over any machine: crashes, restarts, compaction and copies among it.
 use Rattle.std.specs.Prelude.{ℕ, not, Bool, if◌then◌else◌, List, [], ◌∷◌, ◌++◌, take, drop, bytes_eq, Option, None, option_map}
 use Rattle.std.specs.List.{list_any}
 use Rattle.iv_once.specs.Names.{Limits, Ask, Entry, named, plain, renewed, Journal, Known, Names, Verdict, carry, again, another, late, foreign, ahead, over, blamed, followed, spent_more, verdict, with_epoch}
@@ -13,8 +13,8 @@ pub data Act : Type 0 where
   asked : Ask → Act
   given : (request : List ℕ) → Act
 
--- on disk are `first`, which stands for the entries `past`, and `lines`; `waiting` is behind these and not yet on disk. `acts` is what the
--- machine, as it stands in memory, has done. `held` waits for the disk; `told` was sent, and may be lost on its way.
+-- on disk are `first`, which stands for the entries `past`, and `lines`; `waiting` is after these and not yet on disk. `acts` is what the
+-- machine, as it is in memory, has done. `held` waits for the disk; `told` was sent, and may be lost on its way.
 -- For the laws alone: `past`; `gone`, the entries that copies did not have; `seen`, each epoch that there was or that a client named
 pub record Run : Type 0 where
   pub first : Known

@@ -20,7 +20,7 @@ ann name count = by (codes "ann") name count
 abbrev pub told_in : List Event → List Answer
 told_in es = map (λ t. t.1) (after few (start (codes "e")) es).told
 
--- it comes twice, the second time behind a crash and a new first record: the machine would say another thing, and is not asked
+-- it comes twice, the second time after a crash and a new first record: the machine would say another thing, and is not asked
 abbrev pub twice : List Event
 twice =
     comes (ann (codes "a") 0) (codes "1") (codes "f") (crashed 0 ∷ compacted ∷ comes (ann (codes "a") 0) (codes "2") (codes "g") [])

@@ -66,7 +66,7 @@ impl Model for Named {
     ghost view = { λ e. record { ask = e.ask; refused = e.refused; answer = string_bytes e.answer } };
 }
 
-/// What becomes of a request with a name. Behind all but the first two it is undecided whether the request was ever carried out.
+/// What becomes of a request with a name. After all but the first two it is undecided whether the request was ever carried out.
 #[derive(Drop)]
 pub enum Verdict {
     /// The machine is asked, and the entry joins the journal with its answer.
@@ -75,7 +75,7 @@ pub enum Verdict {
     Again(String),
     /// 101: its name is that of another request.
     Another,
-    /// 102, final: more entries of its holder are behind its place than are kept.
+    /// 102, final: more entries of its holder are after its place than are kept.
     Late,
     /// 103, final: its place is of another epoch.
     Foreign,

@@ -26,7 +26,7 @@ pub fn names_are_carried_out_once()
 {}
 
 /// Whatever happens: each answer of the machine that was told is that of an entry that the disk had. Two that were told to one holder, name and
-/// place are the same, and are to the same request. While no more entries of its holder are behind its place than are kept, what was carried
+/// place are the same, and are to the same request. While no more entries of its holder are after its place than are kept, what was carried
 /// out gets that answer.
 pub fn repetitions_are_told_the_same()
     ensures kept { (l : Limits) (epoch : List ℕ) (es : List Event) → let d = run l epoch es in AllByRecursion (HasAnswer (kept d ++ d.gone)) d.told }
@@ -34,8 +34,8 @@ pub fn repetitions_are_told_the_same()
     ensures remembered { (l : Limits) (epoch : List ℕ) (es : List Event) → AreRemembered l (run l epoch es) }
 {}
 
-/// Whatever happens: behind a 102 or a 103 that was told, of that request nothing is carried out. No verdict is given without its reason: a
-/// 102, only if more entries of the holder than are kept are behind the request's place.
+/// Whatever happens: after a 102 or a 103 that was told, of that request nothing is carried out. No verdict is given without its reason: a
+/// 102, only if more entries of the holder than are kept are after the request's place.
 pub fn undecided_are_final()
     ensures settled { (l : Limits) (epoch : List ℕ) (es : List Event) → AreFinal l (run l epoch es) }
     ensures reasons { (l : Limits) (epoch : List ℕ) (es : List Event) (a : Ask) → let d = run l epoch es in HasReason l d a (verdict (names l d) a) }
@@ -50,7 +50,7 @@ pub fn what_is_kept_survives()
 {}
 
 /// Whatever happens: entries that were refused, and new epochs, are no more of a holder than are allowed until they are forgiven; and no more
-/// holders have names than may. Only who is to blame for as many as are allowed is told 104, or where as many holders have names as may.
+/// holders have names than may. Only who is to blame for as many as are allowed is told 104, or if as many holders have names as may.
 pub fn names_are_bounded()
     ensures refusals { (l : Limits) (epoch : List ℕ) (es : List Event) (holder : List ℕ) → blames holder (history (run l epoch es)) ≤ l.refusals * (1 + forgiveness es) }
     ensures holders { (l : Limits) (epoch : List ℕ) (es : List Event) → (known l (run l epoch es)).holders ≤ l.holders }

@@ -30,10 +30,15 @@ pub const LIMITS: Limits = Limits {
 /// What is kept of requests with names.
 #[derive(Drop)]
 pub struct Names {
+    /// The allocator of what it makes.
     alloc: Global,
+    /// How much is kept.
     limits: Limits,
+    /// The epoch of holders who come now.
     epoch: String,
+    /// What is kept of each holder.
     owns: BTreeMap<String, Own>,
+    /// How many entries each holder has added that count as refusals.
     spent: BTreeMap<String, u64>,
 }
 
@@ -41,7 +46,7 @@ impl Names {
     /// The names of a journal with no entry, in an epoch: 128 random bits that nobody drew before.
     ///
     /// # Errors
-    /// `AllocError` where a growth of memory was refused.
+    /// `AllocError` if a growth of memory was refused.
     pub fn new(alloc: Global, limits: Limits, epoch: &str) -> Result<Names, AllocError>
         ensures { IfOk result (λ n. names_of n ≡ record { limits = limits_of limits; known = nothing_known epoch.now; spent = unspent }) }
     {
@@ -118,7 +123,7 @@ impl Names {
         Verdict::Carry
     }
 
-    /// What becomes of a request of a holder of whom that is kept.
+    /// What becomes of a request of a holder for whom that is kept.
     fn by_own(&self, own: &Own, ask: &Ask) -> Result<Verdict, AllocError>
         ensures { IfOk result (λ v. verdict_of v ≡ by_found (names_of self.now) own.now ask.now (find_named ask.now.name own.now.recent)) }
     {
@@ -135,7 +140,7 @@ impl Names {
     /// holders there are.
     ///
     /// # Errors
-    /// `AllocError` where a growth of memory was refused.
+    /// `AllocError` if a growth of memory was refused.
     pub fn verdict(&self, ask: &Ask) -> Result<Verdict, AllocError>
         ensures { IfOk result (λ v. verdict_of v ≡ verdict (names_of self.now) ask.now) }
     {
@@ -155,7 +160,7 @@ impl Names {
     /// The entry of a request with a name joins the journal, or is read from it.
     ///
     /// # Errors
-    /// `AllocError` where a growth of memory was refused: the names are to be let go then.
+    /// `AllocError` if a growth of memory was refused: the names are to be let go then.
     pub fn push(&mut self, entry: Named) -> Result<(), AllocError>
         ensures { OnOk result (names_of self.new ≡ pushed (names_of self.old) (named entry)) }
     {
@@ -191,7 +196,7 @@ impl Names {
         Ok(())
     }
 
-    /// Refusals are forgiven: once a minute, and behind a restart.
+    /// Refusals are forgiven: once a minute, and after a restart.
     pub fn forgive(&mut self)
         ensures { names_of self.new ≡ record (names_of self.old) { spent = unspent } }
     {

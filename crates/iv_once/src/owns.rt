@@ -42,7 +42,7 @@ impl Own {
         None
     }
 
-    /// One entry more, of which the last `most` are kept.
+    /// One entry more; the last `most` are kept.
     pub(crate) fn push(&mut self, entry: Named, most: usize) -> Result<(), AllocError>
         ensures { OnOk result (self.new ≡ with_entry most entry self.old) }
     {

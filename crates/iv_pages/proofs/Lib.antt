@@ -1,6 +1,6 @@
 pub mod Cuts
-pub mod Placing
+pub mod PathSegments
 pub mod Heads
-pub mod Appending
+pub mod AppendedTexts
 pub mod Tags
 pub mod Literal

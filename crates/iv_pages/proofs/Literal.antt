@@ -8,7 +8,7 @@ use Rattle.percent_encoding.specs.Percent.{percent_decode}
 use Rattle.iv_pages.specs.Cut.{before, begun, cut_at, front_of, parts}
 use Rattle.iv_pages.specs.Place.{IsInside, PlainIsNamed, is_literal, is_segment, place_at, place_in, segment_named, shown}
 use Rattle.iv_pages.proofs.Cuts.{parts_some}
-use Rattle.iv_pages.proofs.Placing.{both, not_so}
+use Rattle.iv_pages.proofs.PathSegments.{both, not_so}
 
 abbrev is_no : ℕ → ℕ → Bool
 is_no b x = not (x == b)

@@ -49,7 +49,7 @@ abbrev pub tag_line : Option (List ℕ) → List ℕ
 tag_line None = []
 tag_line (Some tag) = field_line (codes "etag") tag
 
--- the connection ends behind the answer, so what a request has behind its head is never read as another
+-- the connection ends after the answer, so what a request has after its head is never read as another
 abbrev pub closing_lines : List ℕ
 closing_lines =
     codes "cache-control: no-cache\r\nx-content-type-options: nosniff\r\nconnection: close\r\n\r\n"

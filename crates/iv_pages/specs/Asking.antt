@@ -50,7 +50,7 @@ has_host minor fields = (minor == 0) || (hosts 0 fields == 1)
 abbrev pub asks_upgrade : (minor : ℕ) → Fields → Bool
 asks_upgrade minor fields = not (minor == 0) && is_some (field_in (codes "upgrade") fields)
 
--- contents stand behind the head
+-- contents are after the head
 abbrev pub has_contents : Fields → Bool
 has_contents fields = is_some (field_in (codes "content-length") fields) || is_some (field_in (codes "transfer-encoding") fields)
 

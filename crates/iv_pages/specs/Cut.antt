@@ -1,7 +1,7 @@
 -- Bytes, cut at a byte.
 use Rattle.std.specs.Prelude.{ℕ, ◌==◌, if◌then◌else◌, List, [], ◌∷◌, Option, Some, None, option_map}
 
--- what stands before the first such byte, and behind it
+-- what comes before the first such byte, and after it
 abbrev pub cut_at : ℕ → List ℕ → Option (List ℕ × List ℕ)
 cut_at b [] = None
 cut_at b (x ∷ xs) = if x == b then Some ([], xs) else option_map {U = List ℕ × List ℕ} (λ p. (x ∷ p.0, p.1)) (cut_at b xs)
@@ -10,7 +10,7 @@ abbrev pub front_of : List ℕ → Option (List ℕ × List ℕ) → List ℕ
 front_of xs None = xs
 front_of xs (Some p) = p.0
 
--- what stands before the first such byte: all, if there is none
+-- what comes before the first such byte: all, if there is none
 abbrev pub before : ℕ → List ℕ → List ℕ
 before b xs = front_of xs (cut_at b xs)
 

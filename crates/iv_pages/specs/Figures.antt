@@ -16,7 +16,7 @@ help_byte b = if b == 92 then codes "\\\\" else if b == 10 then codes "\\n" else
 abbrev pub label_text : Labelled → List ℕ
 label_text l = l.0 ++ (codes "=\"" ++ (flat_map label_byte l.1 ++ codes "\""))
 
--- each behind a comma
+-- each after a comma
 abbrev pub further_labels : List Labelled → List ℕ
 further_labels ls = flat_map (λ (l : Labelled). 44 ∷ label_text l) ls
 

@@ -11,7 +11,7 @@ last_of (p ∷ q ∷ ps) = last_of (q ∷ ps)
 abbrev pub has_dot : List ℕ → Bool
 has_dot name = list_any (λ b. b == 46) name
 
--- what stands behind the last dot of a name; nothing, if it has none
+-- what follows the last dot of a name; nothing, if it has none
 abbrev pub ending_in : List ℕ → List ℕ
 ending_in name = if has_dot name then last_of (parts 46 name) else []
 

@@ -37,7 +37,7 @@ place_of target = place_at (before 63 target)
 
 -- ---- what a place is
 
--- no file outside the folder, and none that is hidden: between slashes stand names that may be shown, and nothing else
+-- no file outside the folder, and none that is hidden: between slashes are names that may be shown, and nothing else
 abbrev pub IsInside : List ℕ → Type 0
 IsInside place = list_all is_segment (parts 47 place) ≡ true
 
@@ -48,6 +48,6 @@ PlacesAreInside = (target place : List ℕ) → place_of target ≡ Some place �
 abbrev pub is_literal : ℕ → Bool
 is_literal b = not (b == 37) && not (b == 63)
 
--- each such path is named, by itself behind a slash
+-- each such path is named, by itself after a slash
 abbrev pub PlainIsNamed : Type 0
 PlainIsNamed = (place : List ℕ) → IsInside place → list_all is_literal place ≡ true → place_of (47 ∷ place) ≡ Some place

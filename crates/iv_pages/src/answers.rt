@@ -80,7 +80,7 @@ fn push_decimal(out: &mut Vec<u8>, number: u64) -> Result<(), AllocError>
 /// the system's clock, and keeps its length, keeps it.
 ///
 /// # Errors
-/// `AllocError` where a growth of memory was refused, as of each function that appends; what was appended then is not to be sent.
+/// `AllocError` if a growth of memory was refused, as of each function that appends; what was appended then is not to be sent.
 pub fn etag_of(alloc: Global, size: u64, changed: u64) -> Result<Vec<u8>, AllocError>
     ensures { IfOk result (λ tag. tag.items ≡ tag_of size changed) }
 {
@@ -215,7 +215,7 @@ fn push_ok(out: &mut Vec<u8>, page: &Page<'_>) -> Result<(), AllocError>
     Ok(())
 }
 
-/// Appends the head of the answer to a request for a page. Whether the page's contents follow it: they do not behind a `HEAD`, nor where
+/// Appends the head of the answer to a request for a page. Whether the page's contents follow it: they do not behind a `HEAD`, nor if
 /// who asks has them, by `If-None-Match`. The caller sends them from where they are, and ends the connection.
 ///
 /// # Errors

@@ -82,7 +82,7 @@ fn hosts(bytes: &[u8], spans: &[HeaderSpan]) -> u8
     count
 }
 
-/// Whether contents stand behind the head.
+/// Whether contents are after the head.
 fn has_contents(bytes: &[u8], spans: &[HeaderSpan]) -> bool
     requires { All (IsHeaderWithin (length bytes.now)) spans.now }
     ensures { result ≡ has_contents (fields_of bytes.now spans.now) }
@@ -167,12 +167,12 @@ fn window(bytes: &[u8]) -> &[u8]
 }
 
 /// What the bytes ask that were read from a connection so far: a head of at most 8,192 bytes and 64 fields decides, however it was cut,
-/// and what stands behind it is not looked at. `GET` and `HEAD` ask for a page, and a field `Upgrade` of HTTP/1.1 asks for another protocol.
+/// and what follows it is not looked at. `GET` and `HEAD` ask for a page, and a field `Upgrade` of HTTP/1.1 asks for another protocol.
 ///
-/// Refused are: another method (`MethodNotAllowed`); a head that is longer (`FieldsTooLarge`, and `TargetTooLong` where its first line
+/// Refused are: another method (`MethodNotAllowed`); a head that is longer (`FieldsTooLarge`, and `TargetTooLong` if its first line
 /// is), or has more fields (`FieldsTooLarge`); a head of HTTP/1.1 that has not one field `Host`, or asks for another protocol and has
 /// contents (`BadRequest`); and what can become no head of HTTP/1.0 or HTTP/1.1 (`BadRequest`, and `VersionNotSupported`
-/// where the first line says another major version).
+/// if the first line says another major version).
 pub fn asked(bytes: &[u8]) -> Wish<'_>
     ensures asks { Asks bytes.now (want_of result) }
     ensures head { (h : RequestHead) (rest : List ℕ) → ReadsRequest (window bytes.now) h rest → length h.fields ≤ most_fields

@@ -2,7 +2,7 @@
 ghost use Rattle.std.specs.Prelude.{◌≡◌, option_map};
 ghost use Rattle.iv_pages.specs.Cut.{before, cut_at};
 
-/// What stands before the first such byte, and behind it.
+/// What comes before the first such byte, and after it.
 pub fn cut_at(bytes: &[u8], byte: u8) -> Option<(&[u8], &[u8])>
     ensures { option_map (λ p. (p.0.now, p.1.now)) result ≡ cut_at byte bytes.now }
 {
@@ -14,7 +14,7 @@ pub fn cut_at(bytes: &[u8], byte: u8) -> Option<(&[u8], &[u8])>
     None
 }
 
-/// What stands before the first such byte: all, where there is none.
+/// What comes before the first such byte: all, if there is none.
 pub fn before(bytes: &[u8], byte: u8) -> &[u8]
     ensures { result.now ≡ before byte bytes.now }
 {

@@ -80,7 +80,7 @@ fn push_label(out: &mut Vec<u8>, label: &Label<'_>) -> Result<(), AllocError>
     Ok(())
 }
 
-/// Appends labels, each behind a comma.
+/// Appends labels, each after a comma.
 fn push_further(out: &mut Vec<u8>, labels: &[Label<'_>]) -> Result<(), AllocError>
     ensures { OnOk result (out.new.items ≡ out.old.items ++ further_labels (labels_of labels.now)) }
 {
@@ -150,10 +150,10 @@ fn push_heading(out: &mut Vec<u8>, metric: &Metric<'_>, kind: &[u8]) -> Result<(
     Ok(())
 }
 
-/// Appends the line of one more figure of a name, behind a counter's or a gauge's, by other labels.
+/// Appends the line of one more figure of a name, after a counter's or a gauge's, by other labels.
 ///
 /// # Errors
-/// `AllocError` where a growth of memory was refused, as of each function here; what was appended then is not to be sent.
+/// `AllocError` if a growth of memory was refused, as of each function here; what was appended then is not to be sent.
 pub fn push_sample(
     out: &mut Vec<u8>,
     name: &str,

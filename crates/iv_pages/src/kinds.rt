@@ -8,7 +8,7 @@ use crate::cutting::cut_at;
 /// The media type of figures in Prometheus' text form.
 pub const FIGURES_KIND: &str = "text/plain; version=0.0.4; charset=utf-8";
 
-/// What stands behind the last such byte: all, where there is none.
+/// What follows the last such byte: all, if there is none.
 fn last_part(text: &[u8], byte: u8) -> &[u8]
     ensures { result.now ≡ last_of (parts byte text.now) }
 {
@@ -25,7 +25,7 @@ fn has_dot(name: &[u8]) -> bool
     name.iter().any(|byte| *byte == b'.')
 }
 
-/// What stands behind the last dot of a name: nothing, where it has none.
+/// What follows the last dot of a name: nothing, if it has none.
 fn ending_in(name: &[u8]) -> &[u8]
     ensures { result.now ≡ ending_in name.now }
 {
@@ -60,7 +60,7 @@ fn type_of(ending: &[u8]) -> &'static str
     }
 }
 
-/// The media type of an ending, where it is none of text alone.
+/// The media type of an ending, if it is none of text alone.
 fn other_type(ending: &[u8]) -> &'static str
     ensures { result.now ≡ other_type ending.now }
 {
@@ -94,7 +94,7 @@ fn drawn_type(ending: &[u8]) -> &'static str
     }
 }
 
-/// The media type of a file, by what stands behind the last dot of its name, in lower case: `application/octet-stream`, where it is
+/// The media type of a file, by what follows the last dot of its name, in lower case: `application/octet-stream`, if it is
 /// none of those that are known.
 pub fn kind_of(place: &[u8]) -> &'static str
     ensures { result.now ≡ kind_of place.now }

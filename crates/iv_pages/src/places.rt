@@ -51,7 +51,7 @@ fn push_segment(place: &mut Vec<u8>, alloc: Global, segment: &[u8]) -> Result<bo
     Ok(true)
 }
 
-/// Appends the name of a path's last segment: `index.html`, where it is empty.
+/// Appends the name of a path's last segment: `index.html`, if it is empty.
 fn push_last(place: &mut Vec<u8>, alloc: Global, segment: &[u8]) -> Result<bool, AllocError>
     ensures { IfOk result (λ shown. IsNamed shown (segment_named segment.now) place.old.items place.new.items) }
 {
@@ -83,14 +83,14 @@ fn place_in(alloc: Global, path: &[u8]) -> Result<Option<Vec<u8>>, AllocError>
 }
 
 /// The file that a target names, as a path within the folder of pages: its segments, each decoded once, with slashes between them, and
-/// `index.html` for a folder; what stands behind a `?` is not looked at. None where the target begins with no slash, or a segment is
+/// `index.html` for a folder; what follows a `?` is not looked at. None if the target begins with no slash, or a segment is
 /// empty, begins with a dot, or has a slash, a backslash, a control or a byte beyond ASCII once it is decoded.
 ///
 /// The path is text of ASCII. The caller opens it below the folder, and refuses what is no regular file there: it has to resolve links
 /// (`canonicalize`) and see that what it opens is still below the folder, for no name tells of a link.
 ///
 /// # Errors
-/// `AllocError` where a growth of memory was refused.
+/// `AllocError` if a growth of memory was refused.
 pub fn place_of(alloc: Global, target: &[u8]) -> Result<Option<Vec<u8>>, AllocError>
     ensures { IfOk result (λ o. option_map (λ p. p.items) o ≡ place_of target.now) }
 {

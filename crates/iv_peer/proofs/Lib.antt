@@ -1,5 +1,5 @@
-pub mod Decoding
+pub mod FrameBytes
 pub mod Roles
-pub mod Reading
-pub mod Answered
-pub mod Carrying
+pub mod ProtocolSteps
+pub mod HeardFrames
+pub mod SocketTraffic

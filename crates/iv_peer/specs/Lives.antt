@@ -26,7 +26,7 @@ pub data Lives : List (List ℕ) → List (List ℕ) → Socket → Type 0 where
 
 -- ---- frames
 
--- the bytes begin with frames that do this, one after another, and leave a state and the bytes behind them
+-- the bytes begin with frames that do this, one after another, and leave a state and the bytes after them
 pub data Decodes : Connection → List ℕ → List Effect → Connection → List ℕ → Type 0 where
   nothing : (c : Connection) (bytes : List ℕ) → Decodes c bytes [] c bytes
   frame : (c d : Connection) (bytes rest : List ℕ) (n : ℕ) (e : Effect) (es : List Effect) → read_step c bytes ≡ Ok (Complete (n, e))
@@ -65,9 +65,9 @@ pub record IsUnopened (hs ts : List (List ℕ)) (s : Socket) : Type 0 where
   pub waits : s.over ≡ false → (s.offered ≡ []) × (s.input ≡ s.read)
   pub offered : (s.offered ≡ []) ⊎ ((s.offered ≡ bad_request) ⊎ (s.offered ≡ upgrade_required))
 
--- behind it: what was read is a request for a WebSocket, and then frames, of which these are the texts, in order; what was offered is the
+-- after it: what was read is a request for a WebSocket, and then frames, whose texts are these, in order; what was offered is the
 -- 101 that accepts its key, and then frames: one for each text that was told, in order, and the protocol's own, which are the replies to
--- the frames that were read, and behind them at most one close
+-- the frames that were read, and after them at most one close
 pub record IsOpened (hs ts : List (List ℕ)) (s : Socket) (conn : Connection) : Type 0 where
   pub head : RequestHead
   pub accept : List ℕ

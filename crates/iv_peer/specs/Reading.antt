@@ -29,7 +29,7 @@ IsRead (Err e) r old new = (r ≡ read.Fault e) × (new ≡ record old { protoco
 IsRead (Ok (Partial n)) r old new = (r ≡ read.Nothing) × (new ≡ old)
 IsRead (Ok (Complete p)) r old new = (s : Said) × (r ≡ read.Frame s) × IsSaidAs p.1.message s × (new ≡ forget (stepped p.0 p.1 old))
 
--- what the code has behind a frame
+-- what the code has after a frame
 abbrev pub left_by : Option Content → Socket → Socket
 left_by (Some (binary bytes)) s = forget (telling (answer (close_of 1003 [])) (ended s))
 left_by (Some (close frame)) s = ended s

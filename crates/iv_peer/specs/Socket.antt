@@ -76,7 +76,7 @@ forget s = record s { read = []; offered = []; sent = []; effects = []; items = 
 abbrev pub limits : WebSocketConfig
 limits = record { max_message_size = Some 131072; max_frame_size = Some 131072; accept_unmasked_frames = false }
 
--- the protocol's state behind the handshake
+-- the protocol's state after the handshake
 abbrev pub at_start : Connection
 at_start = record { role = Server; state = Active; config = limits; fragments = None }
 
@@ -118,7 +118,7 @@ pub record IsAccepted (bytes : List ℕ) (head : RequestHead) (rest accept : Lis
 abbrev pub accepted : List ℕ → List ℕ → Socket → Socket
 accepted accept rest s = offering (response_bytes accept []) (record s { protocol = Some at_start; input = rest })
 
--- an answer with no body, behind which the connection ends
+-- an answer with no body, after which the connection ends
 abbrev pub refusal : List ℕ → List ℕ
 refusal status = codes "HTTP/1.1 " ++ (status ++ codes "\r\nconnection: close\r\ncontent-length: 0\r\n\r\n")
 
@@ -143,7 +143,7 @@ stepped n e s = offering (flat_map item_bytes (answers e.reply)) (record s {
   items = s.items ++ answers e.reply;
 })
 
--- nothing more is heard behind a close, or behind a binary message, which a close refuses
+-- nothing more is heard after a close, or after a binary message, which a close refuses
 abbrev pub ending : Option Content → Socket → Socket
 ending (Some (binary bytes)) s = telling (answer (close_of 1003 [])) (ended s)
 ending (Some (close frame)) s = ended s
@@ -172,6 +172,6 @@ closed code words s = if is_open s then telling (answer (close_of code words)) (
 
 -- ---- what is sent
 
--- the first n bytes that were offered are sent, where as many are to be sent
+-- the first n bytes that were offered are sent, if as many are to be sent
 abbrev pub passing : ℕ → Socket → Socket
 passing n s = if nat_le n (length s.output) then record s { output = drop n s.output; sent = s.sent ++ take n s.output } else s

@@ -120,10 +120,15 @@ fn fault_code(error: &Error) -> u16
 /// One end of a WebSocket, at a server. It has no socket: its caller reads bytes, and sends what is pending.
 #[derive(Drop)]
 pub struct Peer {
+    /// The allocator of what it makes.
     alloc: Global,
+    /// The WebSocket, once the head of the request was read.
     protocol: Option<WebSocketContext>,
+    /// Whether nothing is heard any more.
     over: bool,
+    /// The bytes that were read and not heard yet.
     input: Vec<u8>,
+    /// The bytes that are to be sent.
     output: Vec<u8>,
 }
 
@@ -153,7 +158,7 @@ impl Peer {
     /// Takes in bytes that were read.
     ///
     /// # Errors
-    /// `AllocError` where a growth of memory was refused. The peer is not to be used any more, as behind each of its errors.
+    /// `AllocError` if a growth of memory was refused. The peer is not to be used any more, as after each of its errors.
     pub fn take(&mut self, bytes: &[u8]) -> Result<(), AllocError>
         ensures { OnOk result (self.new ≡ forget (took bytes.now self.old)) }
     {
@@ -292,7 +297,7 @@ impl Peer {
         }
     }
 
-    /// Nothing more is heard behind a close, or a binary message, which is refused.
+    /// Nothing more is heard after a close, or a binary message, which is refused.
     fn end_behind(&mut self, said: Said) -> Result<Heard, AllocError>
         ensures { (m : Option Content) → IsSaidAs m said → IfOk result (λ h. IsEnded m h self.old self.new) }
     {
@@ -337,7 +342,7 @@ impl Peer {
         self.over
     }
 
-    /// Tells a text in one frame, where the connection is open; else nothing.
+    /// Tells a text in one frame, if the connection is open; else nothing.
     ///
     /// # Errors
     /// As of `take`.
@@ -355,7 +360,7 @@ impl Peer {
         Ok(())
     }
 
-    /// Closes the connection by a code and words that tell why, where it is open. Nothing more is heard or told.
+    /// Closes the connection by a code and words that tell why, if it is open. Nothing more is heard or told.
     ///
     /// # Errors
     /// As of `take`.
@@ -389,7 +394,7 @@ impl Peer {
         &self.output
     }
 
-    /// The first bytes of what was pending were sent, where as many were pending.
+    /// The first bytes of what was pending were sent, if as many were pending.
     pub fn pass(&mut self, count: usize)
         ensures { self.new ≡ forget (passing count self.old) }
     {

@@ -9,7 +9,7 @@ use Rattle.iv_lines.specs.Reads.{is_memory}
 use Rattle.iv_wire.specs.Endings.{Run, IsAnswered}
 use Rattle.iv_wire.specs.Sums.{HasWritten}
 
--- its lines are answered as a run answers them, which leaves some engine; behind that all sessions and subscriptions are
+-- its lines are answered as a run answers them, which leaves some engine; after that all sessions and subscriptions are
 -- closed, unless memory ran out
 pub record IsConnection (before : State) (r : Run) (result : Result End RunFault) : Type 0 where
   pub ran : Engine

@@ -28,7 +28,7 @@ pub record Ends : Type 0 where
 abbrev pub run_of : ℕ → Ends → Engine → Run
 run_of lines e now = record { lines = lines; given = e.given; left = e.left; taken = e.taken; written = e.written; now = now }
 
--- a front of the line was written, and all of it where all connections were served
+-- a front of the line was written, and all of it if all connections were served
 abbrev pub Listens : ℕ → (taken written : Option (List ℕ)) → Result (Unit {0}) Fault → Type 0
 Listens port taken written (Ok _) = Appends taken written (listening port)
 Listens port taken written (Err Read) = ⊥
@@ -41,13 +41,13 @@ abbrev pub Does : Settings → Ends → Result (Unit {0}) Fault → Type 0
 Does (Replay lines rows) e result = (now : Engine) × Replays rows (run_of lines e now) result
 Does (Serve port connections lines rows) e result = Listens port e.taken e.written result
 
--- where lines of the reader are answered and the reader tells its bytes, the lines that were written add up, for each
+-- if lines of the reader are answered and the reader tells its bytes, the lines that were written add up, for each
 -- subscription that its reader did not close, to what it shows
 abbrev pub LinesAddUp : Settings → Ends → Type 0
 LinesAddUp (Replay lines rows) e = (now : Engine) × IfSome e.given (λ _. HasWritten (start rows) (run_of lines e now))
 LinesAddUp (Serve port connections lines rows) e = ⊤
 
--- the reader is read in its turn; where those of connections are answered it is not read
+-- the reader is read in its turn; if those of connections are answered it is not read
 abbrev pub IsTurnOf : Settings → (given taken : Option (List ℕ)) → Moment → Type 0
 IsTurnOf (Replay lines rows) given taken m = IsInTurn lines (start rows) given taken m
 IsTurnOf (Serve port connections lines rows) given taken m = ⊥

@@ -1,4 +1,4 @@
--- How a replay ends, and what stands written then.
+-- How a replay ends, and what is written then.
 use Rattle.std.specs.Prelude.{ℕ, Bool, true, false, Result, Ok, Err}
 use Rattle.iv_machine.specs.State.{start}
 use Rattle.iv_wire.specs.Endings.{Run, IsAnswered}

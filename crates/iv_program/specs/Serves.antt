@@ -9,7 +9,7 @@ use Rattle.iv_engine.specs.Engine.{Engine, IsBehind}
 use Rattle.iv_program.specs.declared.serving.ServeFault.{ServeFault}
 use Rattle.iv_program.specs.declared.serving.ServeFault.TheVariants.{Network, Memory, Failed}
 
--- the commands of one connection after another; behind each connection all sessions and subscriptions are closed
+-- the commands of one connection after another; after each connection all sessions and subscriptions are closed
 abbrev pub served : State → List (List Command) → State
 served s [] = s
 served s (commands ∷ more) = served (hung (run s commands).state) more

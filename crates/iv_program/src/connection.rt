@@ -1,6 +1,6 @@
 //! `answer_connection`: answers the lines of one connection, and hangs up.
 //!
-//! It is over any reader and writer. Where these tell their bytes, its contract names what is read and what is written. A
+//! It is over any reader and writer. If these tell their bytes, its contract names what is read and what is written. A
 //! socket tells none.
 
 ghost use Rattle.std.specs.Prelude.{◌≡◌, ◌≤◌, ◌+◌, ◌*◌, ◌||◌, true, false, IsErrOf};
@@ -23,7 +23,7 @@ use std::alloc::Global;
 /// are closed, and all else is kept.
 ///
 /// # Errors
-/// `Read` and `Write` where the connection's reader or writer failed, which ends the connection alone; `Memory` where a
+/// `Read` and `Write` if the connection's reader or writer failed, which ends the connection alone; `Memory` if a
 /// growth of memory was refused: the engine has failed then.
 pub fn answer_connection<R: Source, W: Sink>(
     alloc: Global,

@@ -21,7 +21,7 @@ use std::alloc::Global;
 /// Answers at most `lines` lines of the reader on the writer, through an engine that has not failed.
 ///
 /// # Errors
-/// `Read` and `Write` where the reader or the writer failed; `Memory` where a growth of memory was
+/// `Read` and `Write` if the reader or the writer failed; `Memory` if a growth of memory was
 /// refused.
 fn replay_on<R: Source, W: Sink>(
     alloc: Global,
@@ -63,7 +63,7 @@ fn replay_on<R: Source, W: Sink>(
 /// each table and node. Rows are hashed under the seed.
 ///
 /// # Errors
-/// `Read` and `Write` where the reader or the writer failed; `Memory` where a growth of memory was
+/// `Read` and `Write` if the reader or the writer failed; `Memory` if a growth of memory was
 /// refused.
 fn replay<R: Source, W: Sink>(
     alloc: Global,
@@ -105,8 +105,8 @@ fn replay<R: Source, W: Sink>(
 /// Does what the settings ask, with these ends in place of standard input and output. Rows are hashed under the seed.
 ///
 /// # Errors
-/// `Read` and `Write` where the reader or the writer failed; `Network` where a port could not be
-/// listened on, or a connection not be accepted; `Memory` where a growth of memory was refused.
+/// `Read` and `Write` if the reader or the writer failed; `Network` if a port could not be
+/// listened on, or a connection not be accepted; `Memory` if a growth of memory was refused.
 pub fn work<R: Source, W: Sink>(
     rt: &HostRuntime,
     seed: Seed,

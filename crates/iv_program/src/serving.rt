@@ -1,15 +1,15 @@
 //! `serve`, `serve_on`: listens on a port, and answers connections one after another through one engine.
 //!
 //! A failed engine is answered before an accept, which a test shows: no contract of a listener tells its accepts, nor
-//! where it listens. What is done with a connection has its contract in `answer_connection`. Behind it the engine is asked
+//! where it listens. What is done with a connection has its contract in `answer_connection`. After it the engine is asked
 //! whether it failed: a read or a write that fails ends the connection alone, so a network fault comes from an accept. An
-//! accept that fails ends the program, also where another try might do; std's accept tries again after a signal.
+//! accept that fails ends the program, even if another try might do; std's accept tries again after a signal.
 //!
-//! Each answer is one write, so `TCP_NODELAY` is set; where it can't be, answers may come later and are the same. Tests
+//! Each answer is one write, so `TCP_NODELAY` is set; if it can't be, answers may come later and are the same. Tests
 //! (`.ci/socket`) have connections of which no option can be set, one that is reset before it is accepted, and one to
 //! another address of the host, which is refused. The engine is made before the port is taken, so want of memory there
 //! leaves no line `listening on ..`, which is written by the same kind of end as answers: its text and its faults are in a
-//! contract.
+//! contract. A network fault is told on standard error here, where its cause is known.
 
 ghost use Rattle.std.specs.Prelude.{◌≡◌, ◌≤◌, ◌||◌, ◌↔◌, ◌∷◌, [], true, false, IsErrOf, OnOk};
 ghost use Rattle.std.specs.Net.Addr.{ipv4_octets};
@@ -28,6 +28,7 @@ use iv_arguments::Fault;
 use iv_engine::{Engine, Seed};
 use iv_lines::{EndFault, FromRead, FromWrite, Sink, write_all};
 use std::alloc::Global;
+use std::io::{Error, ErrorKind};
 use std::net::{Ipv4Addr, SocketAddrV4, TcpListener};
 
 /// Why no more connections are served.
@@ -42,12 +43,12 @@ pub enum ServeFault {
 }
 
 /// Serves so many connections of the listener, one after another on the one engine, with at most `lines` lines of each.
-/// Behind each connection all sessions and subscriptions are closed; all else is kept. A connection whose read or write
+/// After each connection all sessions and subscriptions are closed; all else is kept. A connection whose read or write
 /// fails ends, and the next one is served.
 ///
 /// # Errors
-/// `Failed` exactly where the engine had failed: no connection is accepted then. `Network` where a connection could not
-/// be accepted; `Memory` where a growth of memory was refused: the engine has failed then.
+/// `Failed` exactly if the engine had failed: no connection is accepted then. `Network` if a connection could not
+/// be accepted; `Memory` if a growth of memory was refused: the engine has failed then.
 pub fn serve_on(
     alloc: Global,
     engine: &mut Engine,
@@ -75,7 +76,7 @@ pub fn serve_on(
         let _ = stream.set_nodelay(true);
         let mut reader = FromRead::new(&stream);
         let mut writer = FromWrite::new(&stream);
-        // where its read or write fails, the connection ends, and the next one is served
+        // if its read or write fails, the connection ends, and the next one is served
         let _ = answer_connection(alloc, engine, &mut reader, &mut writer, lines);
         if engine.is_failed() {
             return Err(ServeFault::Memory);
@@ -110,12 +111,33 @@ fn tell_port<W: Sink>(alloc: Global, writer: &mut W, port: u16) -> Result<(), Fa
     }
 }
 
+/// Tells on standard error that a port cannot be listened on, why, and what may help.
+fn tell_unbound(rt: &HostRuntime, port: u16, error: &Error) {
+    let fault = Fault::Network;
+    let hint = match error.kind() {
+        ErrorKind::AddrInUse => "Does another program listen there? --port takes another one.",
+        ErrorKind::PermissionDenied =>
+            "Ports below 1024 may need an administrator; --port takes another one.",
+        _ => "Does this machine have 127.0.0.1?",
+    };
+    let _ = eprintln!(rt; "{fault}\nviewd: could not listen on 127.0.0.1:{port}: {error}. {hint}");
+}
+
+/// Tells on standard error that a connection cannot be accepted, and what may help.
+fn tell_unaccepted(rt: &HostRuntime, port: u16) {
+    let fault = Fault::Network;
+    let hint = "May it open more files? ulimit -n tells how many.";
+    let _ = eprintln!(rt;
+        "{fault}\nviewd: could not accept a connection on 127.0.0.1:{port}. {hint}"
+    );
+}
+
 /// Listens on a port of 127.0.0.1, tells so on the writer, and serves so many connections through an engine that has not
 /// failed, with at most `lines` lines of each.
 ///
 /// # Errors
-/// `Network` where the port could not be listened on, or a connection not be accepted; `Write` where the writer failed;
-/// `Memory` where a growth of memory was refused.
+/// `Network` if the port could not be listened on, or a connection not be accepted; `Write` if the writer failed;
+/// `Memory` if a growth of memory was refused.
 fn serve_through<W: Sink>(
     rt: &HostRuntime,
     engine: &mut Engine,
@@ -130,13 +152,20 @@ fn serve_through<W: Sink>(
     ensures flushed { (is_write result ≡ false) → W.is_flushed writer.old ≡ true → W.is_flushed writer.new ≡ true }
 {
     let alloc = rt.alloc();
-    let Ok(listener) = TcpListener::bind(rt, address_of(port)) else {
-        return Err(Fault::Network);
+    let listener = match TcpListener::bind(rt, address_of(port)) {
+        Ok(listener) => listener,
+        Err(error) => {
+            tell_unbound(rt, port, &error);
+            return Err(Fault::Network);
+        }
     };
     tell_port(alloc, writer, port)?;
     match serve_on(alloc, engine, &listener, connections, lines) {
         Ok(()) => Ok(()),
-        Err(ServeFault::Network) => Err(Fault::Network),
+        Err(ServeFault::Network) => {
+            tell_unaccepted(rt, port);
+            Err(Fault::Network)
+        }
         Err(ServeFault::Memory) => Err(Fault::Memory),
         Err(ServeFault::Failed) => unreachable!(),
     }
@@ -146,8 +175,8 @@ fn serve_through<W: Sink>(
 /// most `lines` lines of each, and at most `rows` different rows in each table and node. Rows are hashed under the seed.
 ///
 /// # Errors
-/// `Network` where the port could not be listened on, or a connection not be accepted; `Write` where the writer failed;
-/// `Memory` where a growth of memory was refused.
+/// `Network` if the port could not be listened on, or a connection not be accepted; `Write` if the writer failed;
+/// `Memory` if a growth of memory was refused.
 pub fn serve<W: Sink>(
     rt: &HostRuntime,
     seed: Seed,

@@ -46,7 +46,7 @@ pub data OperandFault (stop : Fault) : Dialect → List Tok → Fault → Type 0
   no_operand : {d : Dialect} {ts : List Tok} → starts_operand d ts ≡ false → OperandFault stop d ts (unexpected stop ts)
   in_column : {n : List ℕ} {p : ℕ} {ts : List Tok} {f : Fault} → ColumnFault stop (Name n p ∷ ts) f → OperandFault stop Query (Name n p ∷ ts) f
 
--- pred; conj; term; { "or" conj } and { "and" term } behind what they continue
+-- pred; conj; term; { "or" conj } and { "and" term } after what they continue
 pub data Part : Type 0 where
   pred conj term : Part
   ors ands : PredTree → Part
@@ -69,7 +69,7 @@ pub data Reads (d : Dialect) : Part → ℕ → List Tok → PredTree → List T
   not_is : {room p : ℕ} {ts us : List Tok} {a : PredTree} → Reads d term room ts a us → Reads d term (suc room) (Fixed Not p ∷ ts) (Negation a) us
   -- term = "(" pred ")"
   group_is : {room p q : ℕ} {ts us : List Tok} {a : PredTree} → Reads d pred room ts a (Fixed Close q ∷ us) → Reads d term (suc room) (Fixed Open p ∷ ts) a us
-  -- term = "true" and term = "false", where no comparison sign follows
+  -- term = "true" and term = "false", if no comparison sign follows
   holds_is : {room p : ℕ} {ts : List Tok} → after_op ts ≡ None → Reads d term room (Fixed True p ∷ ts) (Constant true) ts
   fails_is : {room p : ℕ} {ts : List Tok} → after_op ts ≡ None → Reads d term room (Fixed False p ∷ ts) (Constant false) ts
   -- term = operand op operand
@@ -77,7 +77,7 @@ pub data Reads (d : Dialect) : Part → ℕ → List Tok → PredTree → List T
       → IsOperand d ts x (Fixed s q ∷ us) → op_of s ≡ Some o → IsOperand d us y vs
       → Reads d term room ts (Comparison x o y) vs
 
--- a truth value may stand alone
+-- a truth value may be alone
 abbrev pub stands_alone : OperandTree → Bool
 stands_alone (Literal (flag b) p) = true
 stands_alone x = false

@@ -1,4 +1,4 @@
--- From bytes to tokens: the longest token that stands in front, each with its place.
+-- From bytes to tokens: the longest token that is in front, each with its place.
 use Rattle.std.specs.Prelude.{◌≡◌, ℕ, ◌-◌, ◌^◌, Bool, true, false, ◌||◌, ◌==◌, ◌++◌, not, nat_lt, nat_le, if◌then◌else◌, List, [], ◌∷◌, map, length, take, drop, codes, Option, Some, None, option_map, pos, neg_ℤ}
 use Rattle.std.specs.Char.{is_ascii_alphabetic, is_ascii_digit, to_ascii_lowercase}
 use Rattle.std.specs.List.{prefix_len}
@@ -27,7 +27,7 @@ is_letter b = is_ascii_alphabetic b || (b == 95)
 abbrev pub is_word_byte : ℕ → Bool
 is_word_byte b = is_letter b || is_ascii_digit b
 
--- what stands in front of a text: a byte that separates, or a token, which a place completes, each with what stands behind it, or neither
+-- what is in front of a text: a byte that separates, or a token, which a place completes, each with what follows it, or neither
 pub data Ahead : Type 0 where
   Gap : List ℕ → Ahead
   Token : (ℕ → Tok) → List ℕ → Ahead
@@ -119,7 +119,7 @@ number_at bs = let n = prefix_len is_ascii_digit bs in
     else (if nat_lt (digits_value 10 (take n bs)) (2 ^ 63) then Token (Number (pos (digits_value 10 (take n bs)))) (drop n bs)
     else Nothing)
 
--- the same behind a minus, up to 2 ^ 63
+-- the same after a minus, up to 2 ^ 63
 unfoldable pub negative_at : List ℕ → Ahead
 negative_at bs = let n = prefix_len is_ascii_digit bs in
     if starts_letter (drop n bs) then Nothing
@@ -129,20 +129,20 @@ negative_at bs = let n = prefix_len is_ascii_digit bs in
 abbrev pub is_plain : ℕ → Bool
 is_plain b = not (b == 39)
 
--- what stands behind a quote that comes first
+-- what follows a quote that comes first
 abbrev pub after_quote : List ℕ → Option (List ℕ)
 after_quote [] = None
 after_quote (b ∷ bs) = if b == 39 then Some bs else None
 
--- a value and what stands behind it, with bytes put in front of the value
+-- a value and what follows it, with bytes put in front of the value
 abbrev pub onto : List ℕ → Option (List ℕ × List ℕ) → Option (List ℕ × List ℕ)
 onto v r = option_map (λ x. (v ++ x.0, x.1)) r
 
--- behind a minus
+-- after a minus
 abbrev pub minus_at : List ℕ → Ahead
 minus_at bs = if starts_digit bs then negative_at bs else Nothing
 
--- behind a quote: the value up to the closing quote, each doubled quote once, and what stands behind
+-- after a quote: the value up to the closing quote, each doubled quote once, and what follows
 unfoldable pub quoted : List ℕ → Option (List ℕ × List ℕ)
 quoted [] = None
 quoted (b ∷ []) = if b == 39 then Some ([], []) else None
@@ -164,7 +164,7 @@ ahead (b ∷ bs) =
     else (if b == 45 then minus_at bs
     else sign_at (b ∷ bs)))))
 
--- what a text of total bytes is read as from bs on: its tokens, the fault behind them, and whether that is the end of the text
+-- what a text of total bytes is read as from bs on: its tokens, the fault after them, and whether that is the end of the text
 pub data Lexes (total : ℕ) : List ℕ → List Tok → Fault → Bool → Type 0 where
   at_end : Lexes total [] [] (record { place = total; why = why.Unexpected }) true
   gap : {bs rest : List ℕ} {ts : List Tok} {stop : Fault} {ends : Bool} → ahead bs ≡ Gap rest → Lexes total rest ts stop ends → Lexes total bs ts stop ends

@@ -29,7 +29,7 @@ pub data MayAlias : List Tok → Option NameTree → List Tok → Type 0 where
 pub data MayAliasFault (stop : Fault) : List Tok → Fault → Type 0 where
   in_alias : {ts : List Tok} {f : Fault} → starts_alias ts ≡ true → AliasFault stop ts f → MayAliasFault stop ts f
 
--- source = name [ alias ], where left sources may still be named
+-- source = name [ alias ], if left sources may still be named
 pub data IsSource : ℕ → List Tok → SourceTree → List Tok → Type 0 where
   source_is : {left : ℕ} {ts us vs : List Tok} {n : NameTree} {a : Option NameTree}
       → IsName ts n us → MayAlias us a vs → IsSource (suc left) ts (SourceOf n a) vs

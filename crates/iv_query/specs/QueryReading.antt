@@ -13,7 +13,7 @@ use Rattle.iv_query.specs.Trees.{NameTree, ColumnTree, PredTree, SourceTree, Sou
 use Rattle.iv_query.specs.Parts.{push, starts_alias, long, at_join, HeadTree, HeadOf, FromTree, FromOf, at_set_op, NextTree, NextOf, combine, sources_of}
 use Rattle.iv_query.specs.Reading.{◌>>=◌, Read, need, name_at, column_at, many_at, list_of, pred_at, term_at}
 
--- what stands behind the symbol if it comes first, else all
+-- what follows the symbol if it comes first, else all
 abbrev pub skip : Symbol → List Tok → List Tok
 skip s ts = if_some (after_symbol s ts) ts (λ us. us)
 
@@ -44,7 +44,7 @@ joins_at stop left ts = many_at at_join (λ js. join_at stop (left - length js))
 unfoldable pub column_item_at : Fault → List Tok → Read ItemTree
 column_item_at stop ts = column_at stop ts >>= λ x. may_alias_at stop x.1 >>= λ y. Ok (ItemOf x.0 y.0, y.1)
 
--- behind "sum" and behind "count", at a place
+-- after "sum" and after "count", at a place
 unfoldable pub sum_at : Fault → ℕ → List Tok → Read ItemTree
 sum_at stop p ts = need Open stop ts >>= λ us. column_at stop us >>= λ x. need Close stop x.1 >>= λ vs. alias_at stop vs >>= λ y. Ok (SumOf p x.0 y.0, y.1)
 
@@ -72,7 +72,7 @@ filter_at stop ts = if_some (after_symbol Where ts) (Ok (None, ts)) (λ us. pred
 unfoldable pub group_at : Fault → List Tok → Read (List ColumnTree)
 group_at stop ts = if_some (after_symbol Group ts) (Ok ([], ts)) (λ us. need By stop us >>= λ vs. list_of Comma (column_at stop) vs)
 
--- behind the sources: the predicate, and the columns of the group
+-- after the sources: the predicate, and the columns of the group
 unfoldable pub tail_at : Fault → List Tok → Read (Option PredTree × List ColumnTree)
 tail_at stop ts = filter_at stop ts >>= λ w. group_at stop w.1 >>= λ g. Ok ((w.0, g.0), g.1)
 

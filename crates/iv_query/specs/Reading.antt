@@ -67,7 +67,7 @@ comparison_at d stop ts = operand_at d stop ts >>= λ x. if_some (after_op x.1)
     (if_some (truth_of x.0) (Err (unexpected stop x.1)) (λ b. Ok (Constant b, x.1)))
     (λ o. operand_at d stop o.1 >>= λ y. Ok (Comparison x.0 o.0 y.0, y.1))
 
--- { sign item }: items behind signs, joined from the left to what was read so far, at most n times
+-- { sign item }: items after signs, joined from the left to what was read so far, at most n times
 unfoldable pub many_at : {A B : Type 0} → (List Tok → Option (List Tok)) → (A → List Tok → Read B) → (A → B → A) → ℕ → A → List Tok → Read A
 many_at sign item join zero a ts = Ok (a, ts)
 many_at sign item join (suc n) a ts = if_some (sign ts) (Ok (a, ts)) (λ us. item a us >>= λ x. many_at sign item join n (join a x.0) x.1)
@@ -93,12 +93,12 @@ term_at d stop (suc room) ts =
     (λ us. pred_at (term_at d stop room) us >>= λ x. need symbol.Close stop x.1 >>= λ vs. Ok (x.0, vs)))
     (λ us. term_at d stop room us >>= λ x. Ok (Negation x.0, x.1))
 
--- after a whole text: nothing, where the text ends there
+-- after a whole text: nothing, if the text ends there
 unfoldable pub end_at : Fault → Bool → List Tok → Result (Unit {0}) Fault
 end_at stop true [] = Ok tt
 end_at stop false [] = Err stop
 end_at stop ends (t ∷ ts) = Err (unexpected stop (t ∷ ts))
 
--- all tokens of a text; ends says that the text ends behind them, where else stop stands
+-- all tokens of a text; ends says that the text ends after them, where else stop stands
 unfoldable pub whole_at : {T : Type 0} → (List Tok → Read T) → Fault → Bool → List Tok → Result T Fault
 whole_at read stop ends ts = read ts >>= λ x. end_at stop ends x.1 >>= λ _. Ok x.0

@@ -5,7 +5,7 @@ use Rattle.iv_query.specs.declared.token.Symbol.{Symbol}
 use Rattle.iv_query.specs.Tokens.{Tok, Fixed, Name, starts_name, unexpected}
 use Rattle.iv_query.specs.Trees.{NameTree, Called}
 
--- "s": the symbol comes first, at a place, and the rest behind it
+-- "s": the symbol comes first, at a place, and the rest after it
 pub data First (s : Symbol) : ℕ → List Tok → List Tok → Type 0 where
   first : {p : ℕ} {ts : List Tok} → First s p (Fixed s p ∷ ts) ts
 

@@ -11,7 +11,7 @@ use Rattle.iv_query.specs.Lexing.{Ahead, Gap, Token, Nothing, ahead}
 use Rattle.iv_query.specs.Reading.{Read, pred_at, term_at, whole_at}
 use Rattle.iv_query.specs.QueryReading.{query_at}
 
--- what a text is read as: its tokens, the fault behind them, and whether that is the end of the text
+-- what a text is read as: its tokens, the fault after them, and whether that is the end of the text
 pub record Lexed : Type 0 where
   pub tokens : List Tok
   pub stop : Fault
@@ -24,7 +24,7 @@ tokens_lexed t = record { tokens = toks t.list.items; stop = t.stop; ends = t.en
 abbrev pub at_end : ℕ → Lexed
 at_end total = record { tokens = []; stop = record { place = total; why = why.Unexpected }; ends = true }
 
--- what stands in front at a place, and then the rest, read by `more`
+-- what is in front at a place, and then the rest, read by `more`
 abbrev pub lexed_from : ℕ → (List ℕ → Lexed) → Ahead → Lexed
 lexed_from place more (Gap rest) = more rest
 lexed_from place more (Token k rest) = let later = more rest in record later { tokens = k place ∷ later.tokens }

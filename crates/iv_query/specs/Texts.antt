@@ -15,7 +15,7 @@ pub data IsText {T : Type 0} (Reads : List Tok → T → List Tok → Type 0) : 
   text_is : {bs : List ℕ} {ts : List Tok} {stop : Fault} {t : T}
       → length bs ≤ text_bytes → Lexes (length bs) bs ts stop true → Reads ts t [] → IsText Reads bs t
 
--- A text is too long; or a rule has a fault in its tokens; or a token, or a place where no token stands, comes behind what a rule reads.
+-- A text is too long; or a rule has a fault in its tokens; or a token, or a place where no token is, comes after what a rule reads.
 pub data TextFault {T : Type 0} (Reads : List Tok → T → List Tok → Type 0) (Faults : Fault → List Tok → Fault → Type 0) : List ℕ → Fault → Type 0 where
   too_long : {bs : List ℕ} → text_bytes < length bs → TextFault Reads Faults bs (record { place = text_bytes; why = why.TooLong })
   inside : {bs : List ℕ} {ts : List Tok} {stop f : Fault} {ends : Bool}

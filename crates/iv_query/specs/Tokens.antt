@@ -49,7 +49,7 @@ is_symbol s (Name n p) = false
 is_symbol s (Number n p) = false
 is_symbol s (Quoted v p) = false
 
--- what stands behind the symbol, where it comes first
+-- what follows the symbol, if it comes first
 unfoldable pub after_symbol : Symbol → List Tok → Option (List Tok)
 after_symbol s [] = None
 after_symbol s (t ∷ ts) = if is_symbol s t then Some ts else None
@@ -83,7 +83,7 @@ op_of symbol.Greater = Some op.Greater
 op_of symbol.GreaterEqual = Some op.GreaterEqual
 op_of _ = None
 
--- a comparison sign that comes first, and what stands behind it
+-- a comparison sign that comes first, and what follows it
 abbrev pub after_op : List Tok → Option (Op × List Tok)
 after_op [] = None
 after_op (Fixed s p ∷ ts) = if_some (op_of s) None (λ o. Some (o, ts))

@@ -8,7 +8,7 @@ use std::alloc::{AllocError, AllocFailed};
 /// The reason of a fault.
 #[derive(Clone, Copy, Debug, PartialEq, Eq)]
 pub enum Why {
-    /// No token stands there.
+    /// No token is there.
     Token,
     /// The token there, or the end of the text, is not one that is needed.
     Unexpected,
@@ -21,7 +21,9 @@ pub enum Why {
 /// A fault as the rules give it: its place in bytes from 0, and its reason.
 #[derive(Clone, Copy, PartialEq, Eq)]
 pub struct Fault {
+    /// Its place, in bytes from 0.
     pub place: usize,
+    /// Which rule the text breaks.
     pub why: Why,
 }
 

@@ -1,7 +1,7 @@
 //! `lexed`: from the bytes of a text to its tokens: words, numbers, quoted texts and signs.
 //!
-//! A letter is A to Z, a to z or an underscore, also where a number must have none behind it. A text without its closing quote is
-//! one fault at its first quote, also where a shorter text could be cut from it.
+//! A letter is A to Z, a to z or an underscore, even if a number must have none after it. A text without its closing quote is
+//! one fault at its first quote, even if a shorter text could be cut from it.
 
 ghost use Rattle.std.specs.Prelude.{◌≡◌, ◌==◌, ◌<◌, ◌∷◌, length, drop, slice_index, IfOk, IsTrue, option_map, string_bytes};
 ghost use Rattle.std.specs.Char.{is_ascii_digit};
@@ -17,15 +17,18 @@ use crate::token::{Lexeme, Symbol, Token};
 use iv_rows::{is_well_text, name_ok};
 use std::alloc::{AllocError, Global};
 
-/// What stands in front of a text, and what stands behind it.
+/// What is in front of a text, and what follows it.
 #[derive(Drop)]
 pub enum Front<'a> {
+    /// A blank, and the text after it.
     Gap(&'a str),
+    /// A token, and the text after it.
     Token(Lexeme, &'a str),
+    /// Neither.
     Nothing,
 }
 
-/// Whether a byte is blank: it may stand between tokens, and belongs to none.
+/// Whether a byte is blank: it may be between tokens, and belongs to none.
 fn is_blank(b: u8) -> bool
     ensures { result ≡ is_blank b }
 {
@@ -39,7 +42,7 @@ fn is_letter(b: u8) -> bool
     b.is_ascii_alphabetic() || b == b'_'
 }
 
-/// Whether a byte may stand in a token that is a word: a letter, an underscore or a digit.
+/// Whether a byte may be in a token that is a word: a letter, an underscore or a digit.
 fn is_word_byte(b: u8) -> bool
     ensures { result ≡ is_word_byte b }
 {
@@ -98,7 +101,7 @@ fn word_lexeme(word: String) -> Lexeme
     }
 }
 
-/// What is left of a text behind one byte, such as that of a sign, a quote or a blank.
+/// What is left of a text after one byte, such as that of a sign, a quote or a blank.
 fn behind_one(text: &str) -> &str
     requires there { 0 < length text.now }
     requires ascii { slice_index text.now 0 < 128 }
@@ -107,7 +110,7 @@ fn behind_one(text: &str) -> &str
     &text[1..]
 }
 
-/// What is left of a text behind the two bytes of a sign, such as `<=`.
+/// What is left of a text after the two bytes of a sign, such as `<=`.
 fn behind_two(text: &str) -> &str
     requires there { 1 < length text.now }
     requires ascii { slice_index text.now 1 < 128 }
@@ -116,7 +119,7 @@ fn behind_two(text: &str) -> &str
     &text[2..]
 }
 
-/// The word in front of a text, as a token in lower case; nothing where the word is too long.
+/// The word in front of a text, as a token in lower case; nothing if the word is too long.
 #[tactic(auto, unfolding(crate::specs::Lexing::word_at))]
 fn word(alloc: Global, text: &str) -> Result<Front<'_>, AllocError>
     ensures { IfOk result (λ f. ahead_of f ≡ word_at text.now) }
@@ -131,7 +134,7 @@ fn word(alloc: Global, text: &str) -> Result<Front<'_>, AllocError>
     Ok(Front::Token(word_lexeme(word), rest))
 }
 
-/// The sign in front of a text, as a token; nothing where no sign stands there.
+/// The sign in front of a text, as a token; nothing if no sign is there.
 #[tactic(auto, unfolding(crate::specs::Lexing::sign_at))]
 fn sign(text: &str) -> Front<'_>
     ensures { ahead_of result ≡ sign_at text.now }
@@ -153,14 +156,14 @@ fn sign(text: &str) -> Front<'_>
     }
 }
 
-/// How many digits stand at the front of a text, for the token of a number.
+/// How many digits are at the front of a text, for the token of a number.
 fn digits_len(bytes: &[u8]) -> usize
     ensures { result ≡ prefix_len is_ascii_digit bytes.now }
 {
     bytes.iter().take_while(|b| b.is_ascii_digit()).count()
 }
 
-/// Whether a letter or an underscore comes first: the token of a number must have none behind it.
+/// Whether a letter or an underscore comes first: the token of a number must have none after it.
 fn starts_letter(bytes: &[u8]) -> bool
     ensures { result ≡ starts_letter bytes.now }
 {
@@ -187,7 +190,7 @@ fn number(text: &str) -> Front<'_>
     }
 }
 
-/// The token of a number with a minus, where `behind` stands behind the minus.
+/// The token of a number with a minus, if `behind` is after the minus.
 #[tactic(auto, unfolding(crate::specs::Lexing::negative_at))]
 fn negative<'a>(text: &'a str, behind: &str) -> Front<'a>
     requires whole { text.now ≡ 45 ∷ behind.now }
@@ -212,7 +215,7 @@ fn plain_len(bytes: &[u8]) -> usize
     bytes.iter().take_while(|b| **b != 39).count()
 }
 
-/// What stands behind a quote, if one comes first.
+/// What follows a quote, if one comes first.
 fn after_quote(text: &str) -> Option<&str>
     ensures { option_map (λ x. x.now) result ≡ after_quote text.now }
 {
@@ -222,7 +225,7 @@ fn after_quote(text: &str) -> Option<&str>
     }
 }
 
-/// The value of a quoted text, and what stands behind its closing quote; `text` begins behind the first one.
+/// The value of a quoted text, and what follows its closing quote; `text` begins after the first one.
 fn quoted(alloc: Global, text: &str) -> Result<Option<(String, &str)>, AllocError>
     ensures { IfOk result (λ r. option_map (λ x. (string_bytes x.0, x.1.now)) r ≡ quoted text.now) }
 {
@@ -242,7 +245,7 @@ fn quoted(alloc: Global, text: &str) -> Result<Option<(String, &str)>, AllocErro
     }
 }
 
-/// The token of a quoted text, where `text` begins behind its first quote.
+/// The token of a quoted text, if `text` begins after its first quote.
 #[tactic(auto, unfolding(crate::specs::Lexing::text_at))]
 fn text_front(alloc: Global, text: &str) -> Result<Front<'_>, AllocError>
     ensures { IfOk result (λ f. ahead_of f ≡ text_at text.now) }
@@ -259,7 +262,7 @@ fn text_front(alloc: Global, text: &str) -> Result<Front<'_>, AllocError>
     }
 }
 
-/// The token that begins with a minus, if a number does; `behind` stands behind the minus.
+/// The token that begins with a minus, if a number does; `behind` is after the minus.
 fn minus<'a>(text: &'a str, behind: &str) -> Front<'a>
     requires { text.now ≡ 45 ∷ behind.now }
     ensures { ahead_of result ≡ minus_at behind.now }
@@ -270,7 +273,7 @@ fn minus<'a>(text: &'a str, behind: &str) -> Front<'a>
     }
 }
 
-/// What stands in front of a text: a blank, a word, a number, a quoted text, a sign, or nothing of these.
+/// What is in front of a text: a blank, a word, a number, a quoted text, a sign, or nothing of these.
 #[tactic(auto, unfolding(crate::specs::Lexing::ahead))]
 fn front_of(alloc: Global, text: &str) -> Result<Front<'_>, AllocError>
     ensures { IfOk result (λ f. ahead_of f ≡ ahead text.now) }
@@ -295,15 +298,18 @@ fn front_of(alloc: Global, text: &str) -> Result<Front<'_>, AllocError>
     }
 }
 
-/// The tokens of a text, the fault behind them, and whether that is the end of the text.
+/// The tokens of a text, the fault after them, and whether that is the end of the text.
 #[derive(Drop)]
 pub struct Tokens {
+    /// The tokens, from the left.
     pub list: Vec<Token>,
+    /// The fault after the last token.
     pub stop: Fault,
+    /// Whether the text ends there.
     pub ends: bool,
 }
 
-/// The tokens of a text, up to its end or to the first place where no token stands.
+/// The tokens of a text, up to its end or to the first place where no token is.
 pub fn lexed(alloc: Global, text: &str) -> Result<Tokens, AllocError>
     ensures { IfOk result (λ t. tokens_lexed t ≡ lexed (length text.now) (length text.now) text.now) }
 {

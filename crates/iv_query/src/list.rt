@@ -1,4 +1,4 @@
-//! `list_of`: reads a list of a text: one item, and any number of further ones, each behind a sign.
+//! `list_of`: reads a list of a text: one item, and any number of further ones, each after a sign.
 
 ghost use Rattle.std.specs.Prelude.{List, map};
 ghost use Rattle.iv_query.specs.declared.fault.Fault.{Fault};
@@ -19,12 +19,12 @@ pub trait Listed: Drop + Sized {
 
     ghost item_at: { Fault → List Tok → Read Tree };
 
-    /// One item of a list of a text, and the tokens behind it.
+    /// One item of a list of a text, and the tokens after it.
     fn read(alloc: Global, tokens: &[Token], stop: Fault) -> Result<(Self, &[Token]), QueryFault>
         ensures { Gives (λ x. (tree x.0, toks x.1.now)) result (item_at stop (toks tokens.now)) };
 }
 
-/// One item or more, and the tokens behind the last of them.
+/// One item or more, and the tokens after the last of them.
 #[tactic(auto, unfolding(crate::specs::Reading::list_of))]
 pub fn list_of<T: Listed>(
     alloc: Global,

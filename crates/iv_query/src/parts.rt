@@ -55,7 +55,7 @@ pub fn deep(place: usize) -> QueryFault
     }
 }
 
-/// The tokens of a query or predicate behind a symbol, if it comes first.
+/// The tokens of a query or predicate after a symbol, if it comes first.
 #[tactic(auto, unfolding(crate::specs::Tokens::after_symbol))]
 pub fn after(symbol: Symbol, tokens: &[Token]) -> Option<&[Token]>
     ensures { option_map (λ x. toks x.now) result ≡ after_symbol symbol (toks tokens.now) }
@@ -70,7 +70,7 @@ pub fn after(symbol: Symbol, tokens: &[Token]) -> Option<&[Token]>
     None
 }
 
-/// The tokens behind a symbol that has to come first.
+/// The tokens after a symbol that has to come first.
 #[tactic(auto, unfolding(crate::specs::Reading::need))]
 pub fn need(symbol: Symbol, tokens: &[Token], stop: Fault) -> Result<&[Token], QueryFault>
     ensures { Gives (λ x. toks x.now) result (need symbol stop (toks tokens.now)) }
@@ -81,7 +81,7 @@ pub fn need(symbol: Symbol, tokens: &[Token], stop: Fault) -> Result<&[Token], Q
     }
 }
 
-/// A name that has to come first in a part of a query or predicate, and the tokens behind it.
+/// A name that has to come first in a part of a query or predicate, and the tokens after it.
 pub fn name(alloc: Global, tokens: &[Token], stop: Fault) -> Result<(Name, &[Token]), QueryFault>
     ensures { Gives (λ x. (name_tree x.0, toks x.1.now)) result (name_at stop (toks tokens.now)) }
 {
@@ -95,7 +95,7 @@ pub fn name(alloc: Global, tokens: &[Token], stop: Fault) -> Result<(Name, &[Tok
     Err(unexpected(tokens, stop))
 }
 
-/// A column that has to come first, with its source before a dot if one is named, and the tokens behind it.
+/// A column that has to come first, with its source before a dot if one is named, and the tokens after it.
 #[tactic(auto, unfolding(crate::specs::Reading::column_at))]
 pub fn column(
     alloc: Global,
@@ -150,7 +150,7 @@ pub fn op_of(symbol: Symbol) -> Option<Op>
     }
 }
 
-/// A comparison sign, and the tokens behind it, if one comes first.
+/// A comparison sign, and the tokens after it, if one comes first.
 pub fn after_op(tokens: &[Token]) -> Option<(Op, &[Token])>
     ensures { option_map (λ x. (x.0, toks x.1.now)) result ≡ after_op (toks tokens.now) }
 {
@@ -182,7 +182,7 @@ fn word_operand(symbol: Symbol, place: usize, dialect: Dialect) -> Option<Operan
     }
 }
 
-/// The operand that a name begins, a column, which has no dot in a policy, and the tokens behind it.
+/// The operand that a name begins, a column, which has no dot in a policy, and the tokens after it.
 #[tactic(auto, unfolding(crate::specs::Reading::name_operand_at))]
 fn name_operand(
     alloc: Global,
@@ -214,7 +214,7 @@ fn name_operand(
     }
 }
 
-/// An operand that has to come first, as the dialect allows, and the tokens behind it.
+/// An operand that has to come first, as the dialect allows, and the tokens after it.
 #[tactic(auto, unfolding(crate::specs::Reading::operand_at))]
 pub fn operand(
     alloc: Global,

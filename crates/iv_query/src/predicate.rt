@@ -17,7 +17,7 @@ use crate::tree::{Dialect, Operand, Pred};
 use iv_rows::{Value, boxed_two};
 use std::alloc::Global;
 
-/// The truth value that an operand just read is, if it is one: it needs no comparison sign behind it.
+/// The truth value that an operand just read is, if it is one: it needs no comparison sign after it.
 fn truth_of(operand: &Operand) -> Option<bool>
     ensures { result ≡ truth_of (operand_tree operand.now) }
 {
@@ -30,7 +30,7 @@ fn truth_of(operand: &Operand) -> Option<bool>
     }
 }
 
-/// A comparison of two operands, or a truth value alone, and the tokens behind it.
+/// A comparison of two operands, or a truth value alone, and the tokens after it.
 #[tactic(auto, unfolding(crate::specs::Reading::comparison_at))]
 fn comparison(
     alloc: Global,
@@ -95,7 +95,7 @@ fn term(
     comparison(alloc, tokens, dialect, stop)
 }
 
-/// A conjunction: one term of a predicate, and any number of further ones, each behind `and`.
+/// A conjunction: one term of a predicate, and any number of further ones, each after `and`.
 #[cycle(predicate)]
 #[tactic(auto, unfolding(crate::specs::Reading::conj_at))]
 fn conj(

@@ -19,7 +19,7 @@ use crate::tree::{
 };
 use std::alloc::{AllocError, Global};
 
-/// The tokens of a query behind a symbol if it comes first, else all: for words that may be left out.
+/// The tokens of a query after a symbol if it comes first, else all: for words that may be left out.
 fn skip(symbol: Symbol, tokens: &[Token]) -> &[Token]
     ensures { toks result.now ≡ skip symbol (toks tokens.now) }
 {
@@ -49,7 +49,7 @@ fn starts_alias(tokens: &[Token]) -> bool
     }
 }
 
-/// The alias that has to come first, with or without the word `as`, and the tokens behind it.
+/// The alias that has to come first, with or without the word `as`, and the tokens after it.
 #[tactic(auto, unfolding(crate::specs::QueryReading::alias_at))]
 fn alias(alloc: Global, tokens: &[Token], stop: Fault) -> Result<(Name, &[Token]), QueryFault>
     ensures { Gives (λ x. (name_tree x.0, toks x.1.now)) result (alias_at stop (toks tokens.now)) }
@@ -57,7 +57,7 @@ fn alias(alloc: Global, tokens: &[Token], stop: Fault) -> Result<(Name, &[Token]
     name(alloc, skip(Symbol::As, tokens), stop)
 }
 
-/// The alias of a source or a column, if one comes first, and the tokens behind it.
+/// The alias of a source or a column, if one comes first, and the tokens after it.
 #[tactic(auto, unfolding(crate::specs::QueryReading::may_alias_at))]
 fn may_alias(
     alloc: Global,
@@ -83,7 +83,7 @@ fn long(place: usize) -> QueryFault
     }
 }
 
-/// Reads a source of a query, and its alias if it has one, where `left` may still be named.
+/// Reads a source of a query, and its alias if it has one, if `left` may still be named.
 #[tactic(auto, unfolding(crate::specs::QueryReading::source_at))]
 fn source(
     alloc: Global,
@@ -125,7 +125,7 @@ impl Listed for Pair {
     }
 }
 
-/// A join without the word `inner`: its source and its pairs, where `left` sources may still be named.
+/// A join without the word `inner`: its source and its pairs, if `left` sources may still be named.
 #[tactic(auto, unfolding(crate::specs::QueryReading::plain_join_at))]
 fn plain_join(
     alloc: Global,
@@ -142,7 +142,7 @@ fn plain_join(
     Ok((Join { source, on }, rest))
 }
 
-/// A join with or without the word `inner`, where `left` sources may still be named.
+/// A join with or without the word `inner`, if `left` sources may still be named.
 #[tactic(auto, unfolding(crate::specs::QueryReading::join_at))]
 fn join(
     alloc: Global,
@@ -165,7 +165,7 @@ fn starts_join(tokens: &[Token]) -> bool
     }
 }
 
-/// Reads the joins behind the first source, where `left` sources may still be named.
+/// Reads the joins after the first source, if `left` sources may still be named.
 #[tactic(auto, unfolding(crate::specs::QueryReading::joins_at))]
 fn joins(
     alloc: Global,
@@ -198,7 +198,7 @@ fn column_item(alloc: Global, tokens: &[Token], stop: Fault) -> Result<(Item, &[
     Ok((Item::Column { column, alias }, rest))
 }
 
-/// Reads an item of a select behind its word `sum`, which stands at `place`.
+/// Reads an item of a select after its word `sum`, which is at `place`.
 #[tactic(auto, unfolding(crate::specs::QueryReading::sum_at))]
 fn sum(
     alloc: Global,
@@ -220,7 +220,7 @@ fn sum(
     Ok((item, rest))
 }
 
-/// Reads an item of a select behind its word `count`, which stands at `place`.
+/// Reads an item of a select after its word `count`, which is at `place`.
 #[tactic(auto, unfolding(crate::specs::QueryReading::count_at))]
 fn count(
     alloc: Global,
@@ -294,7 +294,7 @@ impl Listed for Column {
     }
 }
 
-/// The columns of a select's group behind `group by`, and none where the word `group` does not come first.
+/// The columns of a select's group after `group by`, and none if the word `group` does not come first.
 #[tactic(auto, unfolding(crate::specs::QueryReading::group_at))]
 fn group(
     alloc: Global,
@@ -312,7 +312,7 @@ fn group(
     }
 }
 
-/// The predicate of a select behind the word `where`, if that word comes first.
+/// The predicate of a select after the word `where`, if that word comes first.
 #[tactic(auto, unfolding(crate::specs::QueryReading::filter_at))]
 fn filter(
     alloc: Global,
@@ -345,7 +345,7 @@ fn head(
     Ok((first_place(tokens, stop), distinct, columns, rest))
 }
 
-/// The word `from`, the first source and the joins, where `left` sources may still be named.
+/// The word `from`, the first source and the joins, if `left` sources may still be named.
 #[tactic(auto, unfolding(crate::specs::QueryReading::from_at))]
 fn sources(
     alloc: Global,
@@ -361,7 +361,7 @@ fn sources(
     Ok((source, joins, rest))
 }
 
-/// Reads what stands behind the sources of a select: the predicate, and the columns of the group.
+/// Reads what follows the sources of a select: the predicate, and the columns of the group.
 #[tactic(auto, unfolding(crate::specs::QueryReading::tail_at))]
 fn tail(
     alloc: Global,
@@ -380,7 +380,7 @@ fn tail(
     }
 }
 
-/// Reads a select, where `left` sources may still be named.
+/// Reads a select, if `left` sources may still be named.
 #[tactic(auto, unfolding(crate::specs::QueryReading::select_at, crate::specs::QueryReading::tail_at))]
 fn select(
     alloc: Global,
@@ -430,7 +430,7 @@ fn starts_set_op(tokens: &[Token]) -> bool
     }
 }
 
-/// The set operation that has to come first, `union`, `union all` or `except`, and the tokens behind it.
+/// The set operation that has to come first, `union`, `union all` or `except`, and the tokens after it.
 #[tactic(auto, unfolding(crate::specs::QueryReading::set_op_at))]
 fn set_op(tokens: &[Token], stop: Fault) -> Result<(SetOp, &[Token]), QueryFault>
     ensures { Gives (λ x. (x.0, toks x.1.now)) result (set_op_at stop (toks tokens.now)) }
@@ -445,7 +445,7 @@ fn set_op(tokens: &[Token], stop: Fault) -> Result<(SetOp, &[Token]), QueryFault
     Ok((SetOp::Except, rest))
 }
 
-/// Reads a set operation and its right select, where `left` sources may still be named.
+/// Reads a set operation and its right select, if `left` sources may still be named.
 #[tactic(auto, unfolding(crate::specs::QueryReading::next_at))]
 fn next(
     alloc: Global,
@@ -460,14 +460,14 @@ fn next(
     Ok((op, right, rest))
 }
 
-/// How many sources a query may still name behind a select that was read.
+/// How many sources a query may still name after a select that was read.
 fn left_behind(left: usize, select: &Select) -> usize
     ensures { result ≡ left - sources_in (select_tree select.now) }
 {
     left.saturating_sub(1).saturating_sub(select.joins.len())
 }
 
-/// The query of a set operation, once the query before it and the select behind it are read.
+/// The query of a set operation, once the query before it and the select after it are read.
 fn combined(alloc: Global, before: Query, op: SetOp, last: Select) -> Result<Query, AllocError>
     ensures { IfOk result (λ query. query_tree query ≡ Combined (query_tree before) op (select_tree last)) }
 {
@@ -480,7 +480,7 @@ fn combined(alloc: Global, before: Query, op: SetOp, last: Select) -> Result<Que
     }
 }
 
-/// A query with at most eight sources, and the tokens behind it.
+/// A query with at most eight sources, and the tokens after it.
 #[tactic(auto, unfolding(crate::specs::QueryReading::query_at))]
 pub fn query(alloc: Global, tokens: &[Token], stop: Fault) -> Result<(Query, &[Token]), QueryFault>
     ensures { Gives (λ x. (query_tree x.0, toks x.1.now)) result (query_at stop (toks tokens.now)) }

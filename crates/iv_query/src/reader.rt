@@ -1,6 +1,6 @@
 //! `read_query`, `read_pred`: from the text of a view or a policy to its tree, or its first fault.
 //!
-//! The end of the text is a fault that stands behind the tokens, so reading from the left gives the least place by
+//! The end of the text is a fault that is after the tokens, so reading from the left gives the least place by
 //! itself.
 
 ghost use Rattle.std.specs.Prelude.{◌≡◌, ◌<◌, ◌≤◌, length, IfOk, IfErr};
@@ -27,7 +27,7 @@ use crate::token::Token;
 use crate::tree::{Dialect, PredText, Query};
 use std::alloc::Global;
 
-/// The tokens of the text of a view or a policy, or its first fault where it is too long.
+/// The tokens of the text of a view or a policy, or its first fault if it is too long.
 fn tokens_of(alloc: Global, text: &str) -> Result<Tokens, QueryFault>
     ensures short { IfOk result (λ t. length text.now ≤ text_bytes) }
     ensures lexed { IfOk result (λ t. tokens_lexed t ≡ lexed (length text.now) (length text.now) text.now) }
@@ -42,7 +42,7 @@ fn tokens_of(alloc: Global, text: &str) -> Result<Tokens, QueryFault>
     Ok(lexed(alloc, text)?)
 }
 
-/// Tests that the text of a view or a policy ends behind its tree, or tells its fault there.
+/// Tests that the text of a view or a policy ends after its tree, or tells its fault there.
 #[tactic(auto, unfolding(crate::specs::Reading::end_at))]
 fn end(rest: &[Token], stop: Fault, ends: bool) -> Result<(), QueryFault>
     ensures { Gives (λ _. tt) result (end_at stop ends (toks rest.now)) }
@@ -68,8 +68,8 @@ fn whole_pred(alloc: Global, tokens: &Tokens) -> Result<PredText, QueryFault>
     }
 }
 
-/// The predicate of a policy text, or its first fault: `At` exactly where the text has no tree, with the place and
-/// the reason; `Memory` where a growth was refused.
+/// The predicate of a policy text, or its first fault: `At` exactly if the text has no tree, with the place and
+/// the reason; `Memory` if a growth was refused.
 ///
 /// Source: PostgreSQL 16, CREATE POLICY, in the profile of docs/PROTOCOL.md, Queries.
 pub fn read_pred(alloc: Global, text: &str) -> Result<PredText, QueryFault>
@@ -97,8 +97,8 @@ fn whole_query(alloc: Global, tokens: &Tokens) -> Result<Query, QueryFault>
     }
 }
 
-/// The query of a view's text, or its first fault: `At` exactly where the text has no tree, with the place and the
-/// reason; `Memory` where a growth was refused.
+/// The query of a view's text, or its first fault: `At` exactly if the text has no tree, with the place and the
+/// reason; `Memory` if a growth was refused.
 ///
 /// Source: PostgreSQL 16, SELECT, in the profile of docs/PROTOCOL.md, Queries.
 pub fn read_query(alloc: Global, text: &str) -> Result<Query, QueryFault>

@@ -9,7 +9,7 @@ use Rattle.iv_readers.specs.Held.{AreHeld, AreLeftTo, AreSameBut, AreThoseRead, 
 use Rattle.iv_readers.proofs.Held.{held_set, same_number}
 use Rattle.iv_readers.proofs.Lists.{is_self}
 use Rattle.iv_readers.proofs.Partly.{other_not, readers_held}
-use Rattle.iv_readers.proofs.Placing.{held_low}
+use Rattle.iv_readers.proofs.PlaceFlags.{held_low}
 
 clash : false ≡ true → ⊥
 clash q = cc

@@ -15,7 +15,7 @@ pub record Reading : Type 0 where
   pub since : ℕ
   pub opened : List (ℕ × ℕ)
 
--- what stands where no circuit is
+-- what is where no circuit is
 abbrev pub no_circuit : Running
 no_circuit = record { node = Scan (record { 0 = 0 }) 0 (record { exempt = false; user = []; permissive = []; restrictive = [] }) []; rounds = 0; cap = 0 }
 
@@ -50,12 +50,12 @@ pub record AreThoseRead (rs : List Reading) (hs : List (Option Running)) : Type 
 abbrev pub come_to : (role rel at : ℕ) → Running → RoleCircuit
 come_to role rel at c = record { role = role; rel = rel; at = at; circuit = c; since = c.rounds; opened = [] }
 
--- one more reads the circuit, which stands at some place
+-- one more reads the circuit, which is at some place
 pub record HasComeTo (old : List RoleCircuit) (role rel : ℕ) (c : Running) (new : List RoleCircuit) : Type 0 where
   pub at : ℕ
   pub added : new ≡ old ++ come_to role rel at c ∷ []
 
--- the reader at the place has come to the circuit, which stands at some place, and the others read what they read
+-- the reader at the place has come to the circuit, which is at some place, and the others read what they read
 pub record HasMovedTo (old : List RoleCircuit) (place : ℕ) (c : Running) (new : List RoleCircuit) : Type 0 where
   pub at : ℕ
   pub moved : (k : RoleCircuit) → k ≡ get_or old place k → new ≡ set old place (moved_to at c k)

@@ -55,7 +55,7 @@ pub record IsServed (ks : List RoleCircuit) (r : Rights) (role rel place : ℕ) 
 abbrev pub some_exempt : List RoleCircuit → Rights → (role rel : ℕ) → Bool
 some_exempt ks r role rel = list_any (λ k. (k.rel == rel) && are_exempt r role k.circuit.node) ks
 
--- those readers are left, in their order, of whose role and relation it holds
+-- the readers are left, in their order, for whose role and relation it holds
 abbrev pub AreLeft : (stays : RoleId → RelId → Bool → Type 0) → (old new : List RoleCircuit) → Type 0
 AreLeft stays old new =
     (p : (role rel : ℕ) → Bool) → ((role : RoleId) (rel : RelId) (b : Bool) → stays role rel b → b ≡ p role.0 rel.0) → new ≡ filter (λ k. p k.role k.rel) old

@@ -1,7 +1,7 @@
 //! Which role reads which circuit of a relation: circuits that roles share, what a change makes of them, and readers that turn.
 //!
 //! Nothing here knows of subscriptions, sessions or the database: that is the crate above, iv_store. Lemmas that both need
-//! stand here. Vectors grow by `with_capacity` and `push`: `collect` and `extend` ask for a smaller size after a refusal, which
+//! are here. Vectors grow by `with_capacity` and `push`: `collect` and `extend` ask for a smaller size after a refusal, which
 //! would hide it from tests that refuse memory.
 #![tactic(auto)]
 

@@ -1,3 +1,3 @@
 mod Lines
 mod Members
-mod Pulling
+mod TokensAndValues

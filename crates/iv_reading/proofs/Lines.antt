@@ -7,7 +7,7 @@ use Rattle.iv_machine.specs.Act.{Command}
 use Rattle.iv_machine.specs.Well.{is_well_command}
 use Rattle.iv_request.specs.Reading.{bad_json, asked, asked_by, reading_by, reading_of}
 use Rattle.iv_request.specs.Request.{request}
-use Rattle.iv_request.proofs.Reading.{value_of_none, value_of_text}
+use Rattle.iv_request.proofs.LinesAsValues.{value_of_none, value_of_text}
 use Rattle.iv_request.proofs.Well.{well_by}
 
 pub reading_none : (line : List ℕ) → (IsUtf8 line → ⊥) → reading_of line ≡ bad_json

@@ -19,8 +19,8 @@ use Rattle.iv_request.specs.Request.{passing, each, given_or, positive_of, row_o
 use Rattle.iv_request.specs.Documents.{data_of}
 use Rattle.iv_reading.specs.Pulled.{Pulls, Adds, DoesNothing, Does, MakesParts, MakesWrite, name_of, op_by, entries_by, session_by}
 use Rattle.iv_request.proofs.Keys.{left_true, right_true, both_true, put_passes}
-use Rattle.iv_request.proofs.Looking.{put_at}
-use Rattle.iv_reading.proofs.Pulling.{deeper}
+use Rattle.iv_request.proofs.BorrowedValues.{put_at}
+use Rattle.iv_reading.proofs.TokensAndValues.{deeper}
 use Rattle.iv_request.proofs.Well.{positive_well}
 
 same : (k : List ℕ) (d : Data) (ms : Members) → bytes_eq k k ≡ true → get_member k (put k d ms) ≡ Some d

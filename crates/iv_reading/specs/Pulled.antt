@@ -1,4 +1,4 @@
--- What is read token by token: of the tokens `ts` the first are a value, and `rest` is behind it. A value may have so many levels of arrays
+-- What is read token by token: of the tokens `ts` the first are a value, and `rest` is after it. A value may have so many levels of arrays
 -- and objects as are left where it is read: these are at most a number named `levels`.
 use Rattle.std.specs.Prelude.{if◌then◌else◌, bytes_eq, string_bytes, option_and_then, ◌≡◌, ◌≤◌, ◌∷◌, ◌++◌, ℕ, Bool, true, false, List, [], length, Option, Some, None, MatchOption, option_map, codes}
 use Rattle.json.specs.Token.{Token}

@@ -24,10 +24,10 @@ fn command_of_text(alloc: Global, text: &str, scratch: &mut Scratch) -> Result<C
     }
 }
 
-/// The command that a line asks for, without its newline, read by means of room that is kept from line to line.
+/// The command that a line asks for, without its newline, read with buffers that are kept from line to line.
 ///
 /// # Errors
-/// `BadJson` where the line is no JSON value; `BadRequest` where the value is no request; `Memory` where a growth of
+/// `BadJson` if the line is no JSON value; `BadRequest` if the value is no request; `Memory` if a growth of
 /// memory was refused, which may come in place of the others.
 ///
 /// Source: RFC 8259; docs/PROTOCOL.md, Requests.

@@ -484,7 +484,7 @@ fn whole_write(written: Written) -> Option<Command>
 /// The command of a text that is a write, if it is read so.
 ///
 /// # Errors
-/// `AllocError` where a growth of memory was refused.
+/// `AllocError` if a growth of memory was refused.
 pub(crate) fn write_in(
     alloc: Global,
     text: &str,

@@ -1,9 +1,9 @@
-pub mod Asking
+pub mod CommandsOfValues
 pub mod Digits
 pub mod Each
 pub mod Keys
-pub mod Looking
+pub mod BorrowedValues
 pub mod Order
-pub mod Reading
+pub mod LinesAsValues
 pub mod Table
 pub mod Well

@@ -71,7 +71,7 @@ policy_command_text command.Insert = codes "insert"
 policy_command_text command.Update = codes "update"
 policy_command_text command.Delete = codes "delete"
 
--- the key of a text, where there is one
+-- the key of a text, if there is one
 abbrev pub text_member : List ℕ → Option (List ℕ) → Members → Members
 text_member key None ms = ms
 text_member key (Some t) ms = member key (string t) ms

@@ -6,7 +6,7 @@ use Rattle.serde_json.specs.Find.{get, as_object}
 use Rattle.iv_request.specs.declared.forms.Word.{Word}
 use Rattle.iv_request.specs.declared.forms.Word.TheVariants.{Begin, Finish, CreateRole, CreateTable, CreateView, Grant, Revoke, GrantRole, RevokeRole, RowSecurity, CreatePolicy, DropPolicy, Write, Subscribe, Unsubscribe}
 
--- a word, as it stands at `do`, the further keys that must be there, and those that may be
+-- a word, as it is at `do`, the further keys that must be there, and those that may be
 pub record Form : Type 0 where
   pub word : Word
   pub text : List ℕ

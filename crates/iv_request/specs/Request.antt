@@ -29,11 +29,11 @@ count_of (Some ds) = items_len ds
 abbrev pub count : Data → ℕ
 count d = count_of (as_array d)
 
--- the value, where it passes
+-- the value, if it passes
 abbrev pub passing : {X : Type 0} → (X → Bool) → X → Option X
 passing t x = if t x then Some x else None
 
--- what each item is, where each is something
+-- what each item is, if each is something
 abbrev pub each : {X : Type 0} → (Data → Option X) → Items → Option (List X)
 each f no_items = Some []
 each f (item d ds) = option_and_then (λ x. option_map (λ xs. x ∷ xs) (each f ds)) (f d)
@@ -60,12 +60,12 @@ bool_at key d = option_and_then as_bool (get key d)
 abbrev pub positive_of : Data → Option ℕ
 positive_of d = option_and_then (passing is_positive) (option_and_then as_u64 (as_number d))
 
--- what a value is that need not be there, and x where there is none
+-- what a value is that need not be there, and x if there is none
 abbrev pub given_or : {X : Type 0} → X → (Data → Option X) → Option Data → Option X
 given_or x f None = Some x
 given_or x f (Some d) = f d
 
--- what the value at a key is, and x where the key is not there
+-- what the value at a key is, and x if the key is not there
 abbrev pub found_or : {X : Type 0} → X → (Data → Option X) → List ℕ → Data → Option X
 found_or x f key d = given_or x f (get key d)
 
@@ -180,14 +180,14 @@ create_view_of d =
     (λ name. option_and_then (λ owner. option_map (machine.create_view name owner) (text_at (codes "query") d))
     (name_at (codes "owner") d)) (name_at (codes "name") d)
 
--- no role where it is `public`; that word is no name
+-- no role if it is `public`; that word is no name
 abbrev pub grantee_named : List ℕ → Option (Option (List ℕ))
 grantee_named s = if bytes_eq s (codes "public") then Some None else option_map Some (passing is_name s)
 
 abbrev pub grantee_at : Data → Option (Option (List ℕ))
 grantee_at d = option_and_then grantee_named (text_at (codes "to") d)
 
--- what a grant and a revoke name; no role where all are meant
+-- what a grant and a revoke name; no role if all are meant
 pub record Granting : Type 0 where
   pub rel : List ℕ
   pub privileges : List Privilege
@@ -251,11 +251,11 @@ grantee_of d = option_and_then grantee_named (as_str d)
 abbrev pub grantees_of : Data → Option (List (Option (List ℕ)))
 grantees_of d = option_and_then (passing (λ to. is_between 1 16 (length to))) (list_of grantee_of d)
 
--- all commands where none is named
+-- all commands if none is named
 abbrev pub policy_command_at : Data → Option PolicyCommand
 policy_command_at d = found_or policy_command.All policy_command_of (codes "command") d
 
--- permissive where nothing is said
+-- permissive if nothing is said
 abbrev pub restrictive_at : Data → Option Bool
 restrictive_at d = found_or false as_bool (codes "restrictive") d
 
@@ -263,7 +263,7 @@ restrictive_at d = found_or false as_bool (codes "restrictive") d
 abbrev pub everyone : List (Option (List ℕ))
 everyone = None ∷ []
 
--- PUBLIC where nobody is named
+-- PUBLIC if nobody is named
 abbrev pub grantees_at : Data → Option (List (Option (List ℕ)))
 grantees_at d = found_or everyone grantees_of (codes "to") d
 
@@ -357,7 +357,7 @@ is_session n = nat_le 1 n && nat_lt n (2 ^ 32)
 abbrev pub session_of : Data → Option ℕ
 session_of d = option_and_then (passing is_session) (option_and_then as_u64 (option_and_then as_number (get (codes "session") d)))
 
--- what a request of this form asks, where its keys are those of the form
+-- what a request of this form asks, if its keys are those of the form
 abbrev pub act_of_form : Data → Form → Option machine.Act
 act_of_form d f = if has_its_keys f d then act_for f.word d else None
 

@@ -1,10 +1,10 @@
 //! `read`: from a text to a JSON value whose texts are borrowed from the line; `number_of`, `fits`: its numbers.
 //!
 //! What is read has the data that `serde_json` reads of the line: what nests deeper than 127, and a number beyond a
-//! float's range, are no JSON, and of a key that stands twice the last value stays, as one key. Names, texts and
+//! float's range, are no JSON, and of a key that comes twice the last value counts. Names, texts and
 //! values of rows are copied out once, each into memory of its own.
 //!
-//! `json`, on which `serde_json` stands, reads a line in room that is kept from line to line. The value that `serde_json` builds, which
+//! `json`, on which `serde_json` is built, reads a line with buffers that are kept from line to line. The value that `serde_json` builds, which
 //! was the first form, took 18 of the 22 requests for memory of an insert of one row. Cost: the proof that both have the same data.
 //!
 //! Nearly all numbers of requests are short whole ones, and each number of such a value is read twice: by `fits`, and for what it is.
@@ -50,7 +50,7 @@ fn few_digits(bytes: &[u8]) -> Option<u64>
     Some(number)
 }
 
-/// The JSON number that is the nearest float to a numeral, where that float is finite.
+/// The JSON number that is the nearest float to a numeral, if that float is finite.
 fn float_of(negative: bool, numeral: &Numeral<'_>) -> Option<Number>
     ensures { option_map number_view result ≡ float_of negative numeral.now }
 {
@@ -67,7 +67,7 @@ fn unsigned_of(numeral: &Numeral<'_>) -> Option<Number>
     }
 }
 
-/// The JSON number with a minus, from the text behind the minus.
+/// The JSON number with a minus, from the text after the minus.
 fn negative_of(bytes: &[u8]) -> Option<Number>
     ensures { option_map number_view result ≡ number_from true (scan bytes.now) }
 {
@@ -93,7 +93,7 @@ fn has_minus(bytes: &[u8]) -> bool
     !bytes.is_empty() && bytes[0] == b'-'
 }
 
-/// The JSON number of a text of any form. It stands apart, so that its callers take in the short way alone.
+/// The JSON number of a text of any form. It is apart, so that its callers take in the short way alone.
 #[inline(never)]
 fn scanned(bytes: &[u8]) -> Option<Number>
     ensures { option_map number_view result ≡ number_of bytes.now }
@@ -105,7 +105,7 @@ fn scanned(bytes: &[u8]) -> Option<Number>
     }
 }
 
-/// The number that a text of JSON's grammar is: a whole one of 64 bits, or the nearest float where that is finite.
+/// The number that a text of JSON's grammar is: a whole one of 64 bits, or the nearest float if that is finite.
 #[tactic(auto, using(crate::proofs::Digits::unsigned_is))]
 #[inline]
 pub fn number_of(text: &str) -> Option<Number>

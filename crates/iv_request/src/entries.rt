@@ -21,7 +21,7 @@ const MOST_ENTRIES: usize = 1000;
 /// The value in an entry's row that a text is, if a table may hold it.
 ///
 /// # Errors
-/// `AllocError` where a growth of memory was refused.
+/// `AllocError` if a growth of memory was refused.
 pub fn text_cell(alloc: Global, text: &str) -> Result<Option<Value>, AllocError>
     ensures { IfOk result (λ found. option_map iv_rows.cell_of found ≡ passing is_well_cell (cell.text text.now)) }
 {

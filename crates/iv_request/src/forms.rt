@@ -1,6 +1,6 @@
 //! `form_of`: the forms of requests, each a word and the keys of its requests; `has_its_keys`, `has_only`: the test of keys.
 //!
-//! A key that stands twice is one key, so the keys are tested one by one and not counted.
+//! A key that comes twice is one key, so the keys are tested one by one and not counted.
 ghost use Rattle.std.specs.Prelude.{◌≡◌, ◌++◌, bytes_eq, find, map, option_map};
 ghost use Rattle.std.specs.List.{list_all, list_any};
 ghost use Rattle.iv_request.specs.Documents.{value_data};
@@ -13,28 +13,47 @@ use json::Value as Json;
 /// The words of requests.
 #[derive(Clone, Copy)]
 pub enum Word {
+    /// `write`
     Write,
+    /// `begin`
     Begin,
+    /// `finish`
     Finish,
+    /// `create_role`
     CreateRole,
+    /// `create_table`
     CreateTable,
+    /// `create_view`
     CreateView,
+    /// `grant`
     Grant,
+    /// `revoke`
     Revoke,
+    /// `grant_role`
     GrantRole,
+    /// `revoke_role`
     RevokeRole,
+    /// `row_security`
     RowSecurity,
+    /// `create_policy`
     CreatePolicy,
+    /// `drop_policy`
     DropPolicy,
+    /// `subscribe`
     Subscribe,
+    /// `unsubscribe`
     Unsubscribe,
 }
 
-/// A word, as it stands at `do`, the further keys that must be there, and those that may be.
+/// A word, as it is at `do`, the further keys that must be there, and those that may be.
 pub struct Form {
+    /// Which request it is.
     pub word: Word,
+    /// The word as it is at `do`.
     text: &'static str,
+    /// The further keys that must be there.
     pub required: &'static [&'static str],
+    /// The keys that may be there.
     pub optional: &'static [&'static str],
 }
 

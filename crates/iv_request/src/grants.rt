@@ -74,7 +74,7 @@ pub fn privileges_at(alloc: Global, value: &Json<'_>) -> Result<Option<Vec<Privi
     }
 }
 
-/// The grantee that a word of a request names: a role, or none where it stands for PUBLIC.
+/// The grantee that a word of a request names: a role, or none if it stands for PUBLIC.
 pub fn grantee_named(alloc: Global, word: &str) -> Result<Option<Option<String>>, AllocError>
     ensures { IfOk result (λ found. option_map (λ to. option_map string_bytes to) found ≡ grantee_named word.now) }
 {
@@ -87,7 +87,7 @@ pub fn grantee_named(alloc: Global, word: &str) -> Result<Option<Option<String>>
     Ok(Some(Some(String::from_str(alloc, word)?)))
 }
 
-/// The grantee of a grant or a revoke, from a JSON value: a role, or none where it is PUBLIC.
+/// The grantee of a grant or a revoke, from a JSON value: a role, or none if it is PUBLIC.
 pub fn grantee_at(alloc: Global, value: &Json<'_>) -> Result<Option<Option<String>>, AllocError>
     ensures { IfOk result (λ found. option_map (λ to. option_map string_bytes to) found ≡ grantee_at (value_data value.now)) }
 {
@@ -100,8 +100,11 @@ pub fn grantee_at(alloc: Global, value: &Json<'_>) -> Result<Option<Option<Strin
 /// What a grant and a revoke name.
 #[derive(Drop)]
 pub struct Granting {
+    /// The name of the table or view.
     rel: String,
+    /// What may be done with it.
     privileges: Vec<Privilege>,
+    /// The name of the role; none for all roles.
     grantee: Option<String>,
 }
 

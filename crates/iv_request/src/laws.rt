@@ -86,7 +86,7 @@ pub fn unshapely_values_are_refused()
 
 /// The order of keys does not matter: two values in which each key has the same value, or is in neither, are the same
 /// request, and so are two that differ in the order of keys alone, also of the keys of the values in them, as of entries.
-/// Two lines of such values are read alike. Two lines whose keys stand in the reverse of the usual order are worked out.
+/// Two lines of such values are read alike. Two lines whose keys are in the reverse of the usual order are worked out.
 pub fn keys_stand_in_any_order()
     ensures of_requests { (d e : Data) → HaveTheSame d e → request d ≡ request e }
     ensures of_entries { (d e : Data) → IsReordered d e → request d ≡ request e }

@@ -38,7 +38,9 @@ pub fn group_at(alloc: Global, value: &Json<'_>, key: &str) -> Result<Option<Str
 /// What a grant and a revoke of a role name.
 #[derive(Drop)]
 pub struct Membership {
+    /// The name of the role that is granted.
     role: String,
+    /// The name of the role that it is granted to.
     member: String,
 }
 

@@ -13,7 +13,7 @@ use std::alloc::{AllocError, Global};
 /// The greatest number that is read: a signed one of 64 bits.
 const MOST: u64 = 9_223_372_036_854_775_807;
 
-/// How many items a JSON value has as a list, and 0 where it is none.
+/// How many items a JSON value has as a list, and 0 if it is none.
 pub fn count(value: &Json<'_>) -> usize
     ensures { result ≡ count (value_data value.now) }
 {
@@ -23,7 +23,7 @@ pub fn count(value: &Json<'_>) -> usize
     }
 }
 
-/// The part of a JSON value that stands at a key.
+/// The part of a JSON value that is at a key.
 pub fn get<'v, 'a>(value: &'v Json<'a>, key: &str) -> Option<&'v Json<'a>>
     ensures { option_map (λ v. value_data v.now) result ≡ get key.now (value_data value.now) }
 {

@@ -61,7 +61,7 @@ fn policy_command_of(value: &Json<'_>) -> Option<PolicyCommand>
     }
 }
 
-/// What the policy of a request is for, from a JSON value: all where it does not say it.
+/// What the policy of a request is for, from a JSON value: all if it does not say it.
 pub fn command_at(value: &Json<'_>) -> Option<PolicyCommand>
     ensures { result ≡ policy_command_at (value_data value.now) }
 {
@@ -71,7 +71,7 @@ pub fn command_at(value: &Json<'_>) -> Option<PolicyCommand>
     }
 }
 
-/// Whether the policy of a request is restrictive, from a JSON value: not where it does not say it.
+/// Whether the policy of a request is restrictive, from a JSON value: not if it does not say it.
 pub fn restrictive_at(value: &Json<'_>) -> Option<bool>
     ensures { result ≡ restrictive_at (value_data value.now) }
 {
@@ -81,7 +81,7 @@ pub fn restrictive_at(value: &Json<'_>) -> Option<bool>
     }
 }
 
-/// The grantee of a policy that a JSON value is: a role, or none where it is PUBLIC.
+/// The grantee of a policy that a JSON value is: a role, or none if it is PUBLIC.
 fn grantee_of(alloc: Global, value: &Json<'_>) -> Result<Option<Option<String>>, AllocError>
     ensures { IfOk result (λ found. option_map (λ to. option_map string_bytes to) found ≡ grantee_of (value_data value.now)) }
 {
@@ -136,7 +136,7 @@ fn everyone(alloc: Global) -> Result<Vec<Option<String>>, AllocError>
     Ok(everyone)
 }
 
-/// The grantees of the policy of a request, from a JSON value: PUBLIC where it names none.
+/// The grantees of the policy of a request, from a JSON value: PUBLIC if it names none.
 pub fn grantees_at(
     alloc: Global,
     value: &Json<'_>,
@@ -186,7 +186,7 @@ fn scope_at(alloc: Global, value: &Json<'_>) -> Result<Option<Scope>, AllocError
     }
 }
 
-/// The text of a policy at a key of a JSON value, none where the key is not there.
+/// The text of a policy at a key of a JSON value, none if the key is not there.
 pub fn text_if_at(
     alloc: Global,
     value: &Json<'_>,

@@ -173,7 +173,7 @@ fn act_for(alloc: Global, word: Word, value: &Json<'_>) -> Result<Option<Act>, A
 /// The request of this word that a JSON value is, whichever further keys it has.
 ///
 /// # Errors
-/// `AllocError` where a growth of memory was refused.
+/// `AllocError` if a growth of memory was refused.
 pub fn act_of_word(alloc: Global, word: Word, value: &Json<'_>) -> Result<Option<Act>, AllocError>
     ensures act { IfOk result (λ act. option_map act_of act ≡ act_for word (value_data value.now)) }
     ensures well { IfOk result (λ act. IfSome act (λ a. is_well_act (act_of a) ≡ true)) }
@@ -228,7 +228,7 @@ pub fn read_value<'a>(
 /// The command that the JSON value of a text asks for, read by means of a buffer that is kept from line to line.
 ///
 /// # Errors
-/// `BadJson` where the text is no JSON value; `BadRequest` where the value is no request; `Memory` where a growth of
+/// `BadJson` if the text is no JSON value; `BadRequest` if the value is no request; `Memory` if a growth of
 /// memory was refused, which may come in place of the others.
 ///
 /// Source: RFC 8259; docs/PROTOCOL.md, Requests.

@@ -9,7 +9,7 @@ pub fn chains_are_followed()
     ensures { FollowsChains }
 {}
 
-/// Along a chain of any length each role reaches those before it and none behind it.
+/// Along a chain of any length each role reaches those before it and none after it.
 pub fn chains_may_be_long()
     ensures { ReachAlongChains }
 {}

@@ -1,7 +1,7 @@
 //! `Memberships`: which roles are direct members of which, and which roles each reaches, as rows of flags (`flag_at`).
 //!
-//! There are rows for the roles up to the highest that a membership ever named, and none where there was no
-//! membership. `grant_role` sets flags once there is room for them, so want of memory changes no right; `revoke_role`
+//! There are rows for the roles up to the highest that a membership ever named, and none if there was no
+//! membership. `grant_role` sets flags once there is space for them, so want of memory changes no right; `revoke_role`
 //! clears the flags, sets those of the memberships that are left, and takes no memory.
 //!
 //! That `admin` has no members is a rule on requests. The rights would allow it, and a member of `admin` would still
@@ -48,7 +48,9 @@ impl Membership {
 /// Source: PostgreSQL 16, Role Membership.
 #[derive(Drop)]
 pub struct Memberships {
+    /// The memberships that were granted, in their order.
     direct: Vec<Membership>,
+    /// For each role that a membership names, which roles it reaches.
     rows: Vec<[bool; 256]>,
 }
 
@@ -77,7 +79,7 @@ fn no_flags() -> [bool; 256]
     [false; 256]
 }
 
-/// The flag of a role in a row of roles, such as those that another reaches; false behind the row's end.
+/// The flag of a role in a row of roles, such as those that another reaches; false after the row's end.
 pub fn flag_at(row: &[bool], place: usize) -> bool
     ensures { result ≡ get_or row.now place false }
 {
@@ -98,7 +100,7 @@ fn join(row: &mut [bool; 256], other: &[bool; 256], role: usize)
     row[role] = true;
 }
 
-/// Where the row is that of the member, or of a role that reaches it, joins the role's row to it.
+/// If the row is that of the member, or of a role that reaches it, joins the role's row to it.
 fn pass_on(row: &mut [bool; 256], place: usize, member: usize, other: &[bool; 256], role: usize)
     requires { role < 256 }
     ensures { (k : ℕ) → get_or row.new k false ≡ (get_or row.old k false || ((place == member || get_or row.old member false) && (role == k || get_or other.now k false))) }
@@ -201,7 +203,7 @@ impl Memberships {
     /// Makes the member a direct member of the role. After an error nothing has changed.
     ///
     /// # Errors
-    /// `AllocError` where a growth of memory was refused.
+    /// `AllocError` if a growth of memory was refused.
     pub fn add(&mut self, role: RoleId, member: RoleId) -> Result<(), AllocError>
         requires role { role.0 < 256 }
         requires member { member.0 < 256 }

@@ -13,6 +13,7 @@ pub const MOST_ROLES: usize = 256;
 /// The names of the roles, each with the number of its place.
 #[derive(Drop)]
 pub struct Roles {
+    /// The names, each at the place of its number.
     names: IndexSet<String, Seed>,
 }
 
@@ -71,10 +72,10 @@ impl Roles {
         }
     }
 
-    /// Adds a role whose name is not there yet, where there are fewer than `MOST_ROLES`. After an error nothing has changed.
+    /// Adds a role whose name is not there yet, if there are fewer than `MOST_ROLES`. After an error nothing has changed.
     ///
     /// # Errors
-    /// `AllocError` where a growth of memory was refused.
+    /// `AllocError` if a growth of memory was refused.
     pub fn push(&mut self, name: &str) -> Result<(), AllocError>
         requires new { position (bytes_eq name.now) self.old ≡ None }
         requires room { length self.old < 256 }

@@ -39,7 +39,7 @@ is_wide cs = nat_le 1 (length cs) && nat_le (length cs) 16
 abbrev pub has_columns : List Column → Bool
 has_columns cs = is_wide cs && list_all (λ c. is_name c.name) cs
 
--- no name stands twice
+-- no name comes twice
 abbrev pub has_distinct_names : List Column → Bool
 has_distinct_names [] = true
 has_distinct_names (c ∷ cs) = not (list_any (λ d. bytes_eq c.name d.name) cs) && has_distinct_names cs

@@ -12,7 +12,7 @@ fn is_first(byte: u8) -> bool
     (b'a' <= byte && byte <= b'z') || byte == b'_'
 }
 
-/// Whether the byte may stand in a name: a to z, an underscore or a digit.
+/// Whether the byte may be in a name: a to z, an underscore or a digit.
 fn is_further(byte: u8) -> bool
     ensures { result ≡ is_further byte }
 {
@@ -43,7 +43,7 @@ fn is_one_of(words: &[&str], text: &str) -> bool
     words.iter().any(|word| is_word(word, text))
 }
 
-/// Whether the text is a word that is never a name. The words stand by their number of bytes.
+/// Whether the text is a word that is never a name. The words are ordered by their number of bytes.
 fn is_reserved(text: &str) -> bool
     ensures { result ≡ is_reserved text.now }
 {
@@ -77,7 +77,7 @@ fn is_reserved(text: &str) -> bool
     }
 }
 
-/// Whether each byte may stand in a name.
+/// Whether each byte may be in a name.
 fn are_further(bytes: &[u8]) -> bool
     ensures { result ≡ list_all is_further bytes.now }
 {

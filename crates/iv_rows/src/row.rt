@@ -1,6 +1,6 @@
 //! `Row`: values that its copies share; how rows are compared and ordered, and what of them a hasher is fed.
 //!
-//! A row never changes, so a copy of it shares its values: a row stands in memory once, however many tables, totals,
+//! A row never changes, so a copy of it shares its values: a row is in memory once, however many tables, totals,
 //! indexes and lines have it. Comparisons of a row are written by hand over those that are derived for `Value`: a derive on a
 //! type with such a view asks for an inverse of the view, and there is none.
 ghost use Rattle.std.specs.Prelude.{◌≡◌, ◌++◌, IfOk, OnOk, refl};
@@ -22,7 +22,7 @@ use std::rc::Rc;
 
 /// The values of the columns of a row, from the left.
 ///
-/// Rows compare from the left, column by column; a row that is the front of another stands before it.
+/// Rows compare from the left, column by column; a row that is the front of another comes before it.
 #[derive(Drop)]
 pub struct Row(Rc<Vec<Value>>);
 
@@ -41,7 +41,7 @@ impl Row {
     /// The row of these values.
     ///
     /// # Errors
-    /// `AllocError` where a growth of memory was refused.
+    /// `AllocError` if a growth of memory was refused.
     pub fn new(values: Vec<Value>) -> Result<Row, AllocError>
         ensures { IfOk result (λ row. row ≡ cells_of values.items) }
     {
@@ -65,17 +65,17 @@ impl Row {
     /// An equal row, which shares the values. It takes no memory.
     ///
     /// # Errors
-    /// `AllocError` where a row has as many copies as can be counted.
+    /// `AllocError` if a row has as many copies as can be counted.
     pub fn copy(&self) -> Result<Row, AllocError>
         ensures { IfOk result (λ row. row ≡ self.now) }
     {
         Ok(Row(self.0.clone()?))
     }
 
-    /// Values equal to the row's, in memory of the same allocator, with room for so many more.
+    /// Values equal to the row's, in memory of the same allocator, with space for so many more.
     ///
     /// # Errors
-    /// `AllocError` where a growth of memory was refused.
+    /// `AllocError` if a growth of memory was refused.
     pub fn copied_values(&self, more: usize) -> Result<Vec<Value>, AllocError>
         ensures { IfOk result (λ values. cells_of values.items ≡ self.now) }
     {

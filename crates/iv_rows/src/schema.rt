@@ -39,6 +39,7 @@ impl Model for Column {
 /// Source: PostgreSQL 16, CREATE TABLE, in the profile of docs/PROTOCOL.md.
 #[derive(Drop)]
 pub struct Schema {
+    /// The columns, from the left.
     columns: Vec<Column>,
 }
 
@@ -65,7 +66,7 @@ impl Schema {
     /// The same schema: equal columns in their order.
     ///
     /// # Errors
-    /// `AllocError` where a growth of memory was refused.
+    /// `AllocError` if a growth of memory was refused.
     pub fn copy(&self, alloc: Global) -> Result<Schema, AllocError>
         ensures { IfOk result (λ copy. copy ≡ self.now) }
     {

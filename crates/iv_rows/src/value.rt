@@ -21,7 +21,7 @@ pub enum Kind {
 /// A value in a column of a row.
 ///
 /// Values of one kind are ordered: numbers by size, texts by their bytes, false before true. Between kinds a number
-/// stands before a text and a text before a flag.
+/// comes before a text and a text before a flag.
 #[derive(Drop, PartialEq, Eq, PartialOrd, Ord)]
 pub enum Value {
     /// A whole number.
@@ -36,7 +36,7 @@ impl Value {
     /// An equal value, in memory of the same allocator.
     ///
     /// # Errors
-    /// `AllocError` where a growth of memory was refused.
+    /// `AllocError` if a growth of memory was refused.
     pub fn copy(&self) -> Result<Value, AllocError>
         ensures { IfOk result (λ value. cell_of value ≡ cell_of self.now) }
     {

@@ -1,2 +1,2 @@
-pub mod Carrying
-pub mod Showing
+pub mod FactSteps
+pub mod StepOutcomes

@@ -16,13 +16,13 @@ use Rattle.iv_steps.specs.Steps.{Fact, all_carried, first_refused, is_shared, sh
 
 -- ---- lines
 
--- the session reads the subscription in the state behind: what that shows there minus what it showed before
+-- the session reads the subscription in the state after: what that shows there minus what it showed before
 pub record TellsChange (s new : State) (n k : ℕ) (rows : Weighed) : Type 0 where
   pub reader : IsReader new.frame n k
   pub has : rows ≢ []
   pub differ : rows ≡ difference (shown s k) (shown new k)
 
--- the session read the subscription, which the state behind ends for the cause: all that it showed is taken back
+-- the session read the subscription, which the state after ends for the cause: all that it showed is taken back
 pub record TellsEnd (s new : State) (n k : ℕ) (why : Cause) (rows : Weighed) : Type 0 where
   pub reader : IsReader s.frame n k
   pub ends : ending new reader.subscription ≡ Some why
@@ -44,9 +44,9 @@ pub record IsStep (facts : List Fact) (s : State) (o : Outcome) : Type 0 where
   pub shared : all_carried facts (shared s) ≡ Some (shared o.state)
   pub sessions : o.state.frame.sessions ≡ s.frame.sessions
   pub last : o.state.frame.last ≡ s.frame.last
-  -- those read on whom the state behind does not end, and nobody else
+  -- those read on whom the state after does not end, and nobody else
   pub stay : o.state.frame.subscriptions ≡ filter (λ e. not (is_some (ending o.state e))) s.frame.subscriptions
-  -- the lines of each subscription add up to what it shows behind the step minus what it showed before, and it has one at most
+  -- the lines of each subscription add up to what it shows after the step minus what it showed before, and it has one at most
   pub adds : (k : ℕ) (q : List Cell) → held k q o.lines ≡ weight (shown s k) (shown o.state k) q
   pub once : AreLinesInOrder o.lines
   -- each tells who reads, or read, what differs between the two states
@@ -64,7 +64,7 @@ NothingIsTold = (s : State) → IsSoundState s → stepped [] s ≡ Some (record
 
 -- ---- facts decide
 
--- a step is taken where each fact is accepted with nobody there: who reads, and how many sessions there are, refuses none
+-- a step is taken if each fact is accepted with nobody there: who reads, and how many sessions there are, refuses none
 abbrev pub FactsDecide : Type 0
 FactsDecide = (facts : List Fact) (s : State) → is_some (stepped facts s) ≡ is_some (all_carried facts (shared s))
 

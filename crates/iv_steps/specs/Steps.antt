@@ -1,4 +1,4 @@
--- A step: what others decided, taken at once. It is carried out where nobody is; then each who reads is looked at, in the state behind it.
+-- A step: what others decided, taken at once. It is carried out if nobody is; then each who reads is looked at, in the state after it.
 use Rattle.std.specs.Prelude.{ℕ, ◌+◌, ◌&&◌, not, Bool, true, false, List, [], ◌∷◌, filter, flat_map, if◌then◌else◌, Option, Some, None, is_some, option_and_then, option_map}
 use Rattle.iv_rows.specs.Names.{is_name}
 use Rattle.iv_access.specs.Rights.{Name}
@@ -29,11 +29,11 @@ is_well_fact f = is_name f.role && (is_shared f.act && is_well_act f.act)
 abbrev pub shared : State → State
 shared s = record s { frame = record s.frame { sessions = []; subscriptions = []; last = 0 } }
 
--- the state behind what is accepted of the one session
+-- the state after what is accepted of the one session
 abbrev pub passed : Act → State → Option State
 passed act s = if is_some (refusal s 1 act) then None else Some (step s (record { session = 1; act = act })).state
 
--- a fact is carried out in a session that is begun for its role and finished behind it
+-- a fact is carried out in a session that is begun for its role and finished after it
 abbrev pub carried : Fact → State → Option State
 carried f s = if is_shared f.act then option_and_then (passed finish) (option_and_then (passed f.act) (passed (begin f.role) s)) else None
 
@@ -50,7 +50,7 @@ abbrev pub looked_at : State → State → Outcome
 looked_at old now = let left = record now { frame = record now.frame { subscriptions = filter (λ e. not (is_some (ending now e))) now.frame.subscriptions } } in
     record { state = left; lines = flat_map (line_for old left (ending now)) now.frame.subscriptions }
 
--- the step; none where a fact is refused
+-- the step; none if a fact is refused
 abbrev pub stepped : List Fact → State → Option Outcome
 stepped fs s = option_map (λ t. looked_at s (among s t)) (all_carried fs (shared s))
 

@@ -3,8 +3,8 @@
 ghost use Rattle.iv_steps.specs.Laws.{FactsDecide, NoneIsBetween, NothingIsTold, RefusalsAreFound, StepsAreTold};
 
 /// A step leads from a sound state to a sound one, and what is shared is what the facts make of it, whoever reads. Those read on
-/// whom the state behind does not end; its lines tell these alone, and who read, once each what differs between the two states, and
-/// nobody an answer. They add up to what each subscription shows behind it minus what it showed before it.
+/// whom the state after does not end; its lines tell these alone, and who read, once each what differs between the two states, and
+/// nobody an answer. They add up to what each subscription shows after it minus what it showed before it.
 pub fn steps_are_told()
     ensures { StepsAreTold }
 {}

@@ -1,32 +1,32 @@
-pub mod Showing
+pub mod SubscriptionViews
 pub mod Sound
-mod Unmoved
-pub mod Stepping
-mod Negated
-mod Opening
-pub mod Scanning
-mod Viewing
-pub mod Running
-pub mod Passing
-mod Flagging
-pub mod Seeing
-mod Turned
-mod Turning
-mod Closed
-pub mod Hanging
-mod Standing
+mod UnmovedSubscriptions
+pub mod RequestSteps
+mod SubscriptionLines
+mod NewSubscription
+pub mod PlanKinds
+mod RelationPlans
+pub mod RunLines
+pub mod FilteredLists
+mod CircuitFlags
+pub mod VisibleRows
+mod SubscriptionsAfterRights
+mod RightsOutcomes
+mod ClosedSessions
+pub mod HangUps
+mod NodesOnLists
 pub mod Beside
 pub mod Unread
-pub mod Replaced
+pub mod ReplacedCircuits
 pub mod Totals
-pub mod Shared
-mod Dropped
-pub mod Circling
-pub mod Carrying
-mod Giving
-mod Building
-mod Pairing
-pub mod Counted
-mod Opened
+pub mod WriteLines
+mod DroppedCircuits
+pub mod RelationCircuits
+pub mod PreparedCircuits
+mod WriteChanges
+mod NewCircuits
+mod ListPairs
+pub mod SubscriptionRounds
+mod OpenCircuit
 pub mod Touches
-pub mod Spreading
+pub mod PreparedForReaders

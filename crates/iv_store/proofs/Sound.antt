@@ -27,13 +27,13 @@ use Rattle.iv_readers.specs.Readers.{RoleCircuit, is_for as is_circuit_for}
 use Rattle.iv_store.specs.Next.{kept_after}
 use Rattle.iv_database.specs.Next as database
 use Rattle.iv_database.specs.Next.{database_after}
-use Rattle.iv_database.proofs.Stored.{begin_stored, relation_stored, rights_stored, role_stored, start_stored, view_is}
+use Rattle.iv_database.proofs.StoredFacts.{begin_stored, relation_stored, rights_stored, role_stored, start_stored, view_is}
 use Rattle.iv_database.specs.Stands.{Stands}
-use Rattle.iv_database.proofs.Tabled.{none_beyond, rows_with}
-use Rattle.iv_store.proofs.Seeing.{for_same, rows_same, sees_same}
+use Rattle.iv_database.proofs.TablesOfCatalog.{none_beyond, rows_with}
+use Rattle.iv_store.proofs.VisibleRows.{for_same, rows_same, sees_same}
 use Rattle.iv_database.proofs.Tables.{known_at}
 use Rattle.iv_store.proofs.Unread.{read_has, read_same}
-use Rattle.iv_store.proofs.Unmoved.{IsUnmoved, other_sessions, sees_before, sight_before, still_circuit, still_numbered, still_read, still_shown, still_there, still_within}
+use Rattle.iv_store.proofs.UnmovedSubscriptions.{IsUnmoved, other_sessions, sees_before, sight_before, still_circuit, still_numbered, still_read, still_shown, still_there, still_within}
 use Rattle.iv_readers.proofs.Lists.{all_map, all_zip}
 
 -- ---- more rights

@@ -14,8 +14,8 @@ use Rattle.iv_store.specs.Store.{IsRoleCircuit, IsWithin, IsWithinFor, Store, at
 use Rattle.iv_readers.specs.Readers.{RoleCircuit, is_for}
 use Rattle.iv_database.specs.Stands.{Stands}
 use Rattle.iv_store.proofs.Beside.{for_is, place_there}
-use Rattle.iv_store.proofs.Circling.{shows_for, within_for}
-use Rattle.iv_database.proofs.Fitting.{slice_at}
+use Rattle.iv_store.proofs.RelationCircuits.{shows_for, within_for}
+use Rattle.iv_database.proofs.BagSizes.{slice_at}
 
 -- what follows of each circuit that is for the role and the relation, where one is found
 module _ (role rel : ℕ) (P : RoleCircuit → Type 0) (Q : Type 0) (go : (k : RoleCircuit) → k.role ≡ role → k.rel ≡ rel → P k → Q) where

@@ -44,7 +44,7 @@ pub record IsRefused (e : Store) (n : ℕ) (act : machine.Act) (r : Refusal) (ne
   pub told : (T : Lists) → Stands T e.tables → refusal (at e T) n act ≡ Some (refusal_of r)
   pub kept : new ≡ e
 
--- one step of the machine from e to new; nothing is said where memory runs out
+-- one step of the machine from e to new; nothing is said if memory runs out
 abbrev pub IsStep : Store → ℕ → machine.Act → Result Answer Stop → Store → Type 0
 IsStep e n act (Ok a) new = IsAccepted e n act a new
 IsStep e n act (Err (Refused r)) new = IsRefused e n act r new
@@ -61,7 +61,7 @@ IsPlain (Err s) (Err t) = t ≡ s
 abbrev pub change_line : Store → Store → Lists → Lists → Subscription → List machine.Line
 change_line old new T U s = machine_line None s (difference (shown_rows old T s) (shown_rows new U s))
 
--- the same where rows alone have changed
+-- the same if rows alone have changed
 abbrev pub moved_line : Store → Lists → Lists → Subscription → List machine.Line
 moved_line e T U s = change_line e e T U s
 
@@ -77,6 +77,6 @@ IsSaid e c lines = (T : Lists) → Stands T e.tables → lines ≡ (step (at e T
 abbrev pub IsNext : Store → machine.Command → Store → Type 0
 IsNext e c new = (T : Lists) → Stands T e.tables → IsBehind (step (at e T) c).state (seen new)
 
--- what it makes of the rounds of subscriptions, where it is accepted
+-- what it makes of the rounds of subscriptions, if it is accepted
 abbrev pub IsCountedBy : Store → machine.Command → List machine.Line → Store → Type 0
 IsCountedBy e c lines new = AreCountedWhereAccepted (seen e) c lines (seen new)

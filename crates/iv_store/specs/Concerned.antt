@@ -15,7 +15,7 @@ scanning e table = map (λ k. scans_at e.catalog k.rel table) e.circuits
 abbrev pub unreadable : Store → List Bool
 unreadable e = map (λ k. not (role_reads e k.role k.rel)) e.circuits
 
--- the role reaches the other, where there is one
+-- the role reaches the other, if there is one
 abbrev pub reaches_some : Rights → (role : ℕ) → Option RoleId → Bool
 reaches_some r role other = if_some other false (λ o. reaches r.members role o.0)
 

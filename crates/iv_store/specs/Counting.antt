@@ -20,16 +20,16 @@ scans_at catalog rel table = list_any (λ t. t == table) (scans (plan_at catalog
 abbrev pub HasSameCounts : (old new : List Table) → (table : ℕ) → Type 0
 HasSameCounts old new t = SameZ (rows_of new t) (rows_of old t)
 
--- one round more exactly where the counts of a table have changed that the relation scans
+-- one round more exactly if the counts of a table have changed that the relation scans
 pub record IsCounted (old new : Engine) (rel was now : ℕ) : Type 0 where
   pub changed : (t : ℕ) → scans_at old.frame.catalog rel t ≡ true → (HasSameCounts old.tables new.tables t → ⊥) → now ≡ was + 1
   pub same : ((t : ℕ) → scans_at old.frame.catalog rel t ≡ true → HasSameCounts old.tables new.tables t) → now ≡ was
 
--- none any more where the relation scans the table of the name
+-- none any more if the relation scans the table of the name
 abbrev pub IsRebuilt : Engine → (name : List ℕ) → (rel was now : ℕ) → Type 0
 IsRebuilt old name rel was now = now ≡ cond (scans_at old.frame.catalog rel (rel_of old.frame.catalog name)) 0 was
 
--- none any more where the role reaches other roles than before, and as many where it reaches the same
+-- none any more if the role reaches other roles than before, and as many if it reaches the same
 pub record IsRebuiltByReach (old new : Engine) (role was now : ℕ) : Type 0 where
   pub changed : (ReachesAlike old.frame.rights new.frame.rights.members role → ⊥) → now ≡ 0
   pub same : ReachesAlike old.frame.rights new.frame.rights.members role → now ≡ was
@@ -61,6 +61,6 @@ abbrev pub AreCounted : Engine → Act → Engine → Type 0
 AreCounted old act new =
     AllByRecursion (λ s. TurnsRounds old new act (actor new.frame s.session) s.rel (rounds_at old s.number) (rounds_at new s.number)) new.frame.subscriptions
 
--- where the one line is no refusal
+-- if the one line is no refusal
 abbrev pub AreCountedWhereAccepted : Engine → Command → List Line → Engine → Type 0
 AreCountedWhereAccepted old c lines new = ((n : ℕ) (r : Refusal) → lines ≡ reply n (refused r) ∷ [] → ⊥) → AreCounted old c.act new

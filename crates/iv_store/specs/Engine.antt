@@ -54,7 +54,7 @@ AreLinesOfAll e cs lines = (s : State) → IsBehind s e → lines ≡ (run s cs)
 abbrev pub IsLeftByAll : Engine → List Command → Engine → Type 0
 IsLeftByAll e cs new = (s : State) → IsBehind s e → IsBehind (run s cs).state new
 
--- where the one line is a refusal nothing has changed
+-- if the one line is a refusal nothing has changed
 abbrev pub ChangesWhereAccepted : {A : Type 0} → A → List Line → A → Type 0
 ChangesWhereAccepted old lines new = (n : ℕ) (r : Refusal) → lines ≡ reply n (refused r) ∷ [] → new ≡ old
 

@@ -59,7 +59,7 @@ pub record IsNewFor (e : Store) (role rel : ℕ) (k : RoleCircuit) : Type 0 wher
   pub came : k.since ≡ k.circuit.rounds
   pub opened : k.opened ≡ []
 
--- the place of the first that is for the role and the relation: a new one behind the others only where there was none
+-- the place of the first that is for the role and the relation: a new one after the others only if there was none
 pub record HasCircuitAt (e : Store) (role rel place : ℕ) (new : Store) : Type 0 where
   pub added : List RoleCircuit
   pub is : AllByRecursion (IsNewFor e role rel) added
@@ -67,7 +67,7 @@ pub record HasCircuitAt (e : Store) (role rel place : ℕ) (new : Store) : Type 
   pub first : position (is_for role rel) new.circuits ≡ Some place
   pub state : new ≡ record e { circuits = e.circuits ++ added }
 
--- none where that would break the limits
+-- none if that would break the limits
 abbrev pub IsCircuitAt : Store → (role rel : ℕ) → Option ℕ → Store → Type 0
 IsCircuitAt e role rel None new = (new ≡ e) × IsBeyond e role (plan_at e.catalog rel)
 IsCircuitAt e role rel (Some place) new = HasCircuitAt e role rel place new

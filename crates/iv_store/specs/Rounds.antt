@@ -5,12 +5,12 @@ use Rattle.iv_machine.specs.State.{Subscription, actor}
 use Rattle.iv_store.specs.Store.{Store, frame_of}
 use Rattle.iv_readers.specs.Readers.{RoleCircuit, is_for}
 
--- what stands beside the number; 0 where it is not there
+-- what is beside the number; 0 if it is not there
 abbrev pub beside_number : ℕ → List (ℕ × ℕ) → ℕ
 beside_number n [] = 0
 beside_number n (x ∷ xs) = cond (n == x.0) x.1 (beside_number n xs)
 
--- what stands beside the number; where it is not there, what stands for all others
+-- what is beside the number; if it is not there, what stands for all others
 abbrev pub beside_or : (others : ℕ) → ℕ → List (ℕ × ℕ) → ℕ
 beside_or others n [] = others
 beside_or others n (x ∷ xs) = cond (n == x.0) x.1 (beside_or others n xs)

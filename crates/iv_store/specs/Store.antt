@@ -96,7 +96,7 @@ pub record IsStored (e : Store) : Type 0 where
   pub database : IsDatabase (database_of e)
   pub shows : AllByRecursion (IsOpen e) e.subscriptions
 
--- the circuit of the plan for the role: over each table that it scans stands what the role may see of it, and it has taken
+-- the circuit of the plan for the role: over each table that it scans is what the role may see of it, and it has taken
 -- in all rows of the tables, within the engine's own row limit
 pub record IsCircuitFor (e : Store) (role : ℕ) (p : Shape) (c : Running) : Type 0 where
   pub cap : c.cap ≡ e.cap

@@ -1,4 +1,4 @@
--- What readers see more and less where rights change, and which subscriptions end.
+-- What readers see more and less if rights change, and which subscriptions end.
 use Rattle.std.specs.Prelude.{◌≡◌, ℕ, ◌<◌, ◌≤◌, Bool, cond, true, false, not, List, [], ◌∷◌, ◌++◌, filter, flat_map, get_or, length, map, Option, None, Some, IfSome, is_some}
 use Rattle.iv_access.specs.Rights.{Rights}
 use Rattle.std.specs.List.{AllByRecursion}
@@ -114,7 +114,7 @@ IsRebuilt e role rel before code.Beyond = IsBeyond e role (plan_at e.catalog rel
 
 -- ---- lines
 
--- why the subscriptions that read it end; none where they stay open
+-- why the subscriptions that read it end; none if they stay open
 abbrev pub cause_of : Turn → Option Cause
 cause_of Same = None
 cause_of (Anew c rows) = None
@@ -131,12 +131,12 @@ line_by_turn s showed (Anew c rows) = machine_line None s (shared_rows rows)
 line_by_turn s showed Lost = machine_line (Some cause.Privilege) s (difference showed [])
 line_by_turn s showed Beyond = machine_line (Some cause.Limit) s (difference showed [])
 
--- the last line of the subscription, which showed what the Z-set counts, behind those before
+-- the last line of the subscription, which showed what the Z-set counts, after those before
 abbrev pub IsEndedBy : Subscription → Weighed → Cause → (old new : List Line) → Type 0
 IsEndedBy s showed why old new =
     (rows : List Cells) → Counts showed rows → map line_of new ≡ map line_of old ++ machine_line (Some why) s (difference rows [])
 
--- whether the subscription, which showed what the Z-set counts, stays open, and its line, behind those before
+-- whether the subscription, which showed what the Z-set counts, stays open, and its line, after those before
 pub record IsToldTurn (s : Subscription) (showed : Weighed) (turn : Turn) (stays : Bool) (old new : List Line) : Type 0 where
   pub left : stays ≡ leaves_open turn
   pub line : (rows : List Cells) → Counts showed rows → map line_of new ≡ map line_of old ++ line_by_turn s rows turn

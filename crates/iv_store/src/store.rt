@@ -18,15 +18,21 @@ use std::alloc::{AllocError, Global};
 use std::marker::Model;
 use std::rc::Rc;
 
-/// The database, subscriptions and the circuits that they read. Subscriptions stand in the order of their lines. For tables
+/// The database, subscriptions and the circuits that they read. Subscriptions are in the order of their lines. For tables
 /// that were written it is kept which circuits scan them, and who reads these.
 #[derive(Drop)]
 pub struct Store {
+    /// Rights, relations, the rows of tables, and sessions.
     pub database: Database,
+    /// The open subscriptions, in the order of their lines.
     pub subscriptions: Vec<Subscription>,
+    /// The circuits that subscriptions read.
     pub circuits: Circuits,
+    /// For tables that were written, which circuits scan them, and who reads these.
     pub found: Vec<Rc<Touched>>,
+    /// The last number that a subscription was given.
     pub last: u64,
+    /// The allocator of what it makes.
     pub alloc: Global,
 }
 

@@ -27,8 +27,11 @@ use std::marker::Model;
 /// A subscription of a session to a relation.
 #[derive(Drop)]
 pub struct Subscription {
+    /// The session that opened it.
     pub session: u32,
+    /// Its number, which no other one ever has.
     pub number: u64,
+    /// The table or view that it is to.
     pub rel: RelId,
 }
 
@@ -53,7 +56,7 @@ impl Subscription {
     }
 }
 
-/// The place behind each subscription of the same session or one before it.
+/// The place after each subscription of the same session or one before it.
 fn place_of(subscriptions: &[Subscription], session: u32) -> usize
     ensures within { result ≤ length subscriptions.now }
     ensures place { (e : state.Subscription) → e.session ≡ session → insert_subscription e subscriptions.now ≡ insert subscriptions.now result e }
@@ -112,7 +115,7 @@ impl Store {
         count_of(&self.subscriptions, session) >= MOST_SUBSCRIPTIONS || self.last >= LAST_NUMBER
     }
 
-    /// The relation of the name, where all tests of a subscription to it pass that look at no row.
+    /// The relation of the name, if all tests of a subscription to it pass that look at no row.
     fn check_subscribe(&self, session: u32, rel: &str) -> Result<RelId, Stop>
         requires { IsStored self.now }
         ensures { MayOpen self.now session rel.now result }

@@ -1,7 +1,7 @@
 pub mod Digests
-pub mod Granting
-pub mod Judging
-pub mod Naming
+pub mod KnownAtSecond
+pub mod JudgedTexts
+pub mod HolderNames
 pub mod Plain
-pub mod Reading
+pub mod FileLines
 pub mod Valid

@@ -11,9 +11,9 @@ pub record Entry : Type 0 where
   pub holder : Option (List ℕ)
   pub until : Option ℕ
 
--- ---- a line: `"DIGEST" = "role"`, or `"DIGEST" = { role = "role", holder = "name", until = "moment" }`, of which holder and end may be left out
+-- ---- a line: `"DIGEST" = "role"`, or `"DIGEST" = { role = "role", holder = "name", until = "moment" }`; holder and end may be left out
 
--- a text that a quotation mark ends, behind a prefix, and what follows it
+-- a text that a quotation mark ends, after a prefix, and what follows it
 abbrev pub quoted : (prefix line : List ℕ) → Option (List ℕ × List ℕ)
 quoted prefix line = option_and_then (cut_at 34) (behind prefix line)
 
@@ -21,7 +21,7 @@ abbrev pub or_left : List ℕ → Option (List ℕ × List ℕ) → Option (List
 or_left line None = (None, line)
 or_left line (Some p) = (Some p.0, p.1)
 
--- the same, where it may be left out
+-- the same, if it may be left out
 abbrev pub maybe_quoted : (prefix line : List ℕ) → Option (List ℕ) × List ℕ
 maybe_quoted prefix line = or_left line (quoted prefix line)
 
@@ -67,7 +67,7 @@ is_plain b = nat_le 32 b && (not (b == 127) && not (b == 92))
 abbrev pub is_holder : List ℕ → Bool
 is_holder name = is_utf8 name && (list_all is_plain name && (nat_lt 0 (length name) && nat_le (length name) 64))
 
--- nothing where it is left out
+-- nothing if it is left out
 abbrev pub holder_in : Option (List ℕ) → Option (Option (List ℕ))
 holder_in None = Some None
 holder_in (Some name) = if is_holder name then Some (Some name) else None
@@ -101,7 +101,7 @@ entries_of (l ∷ ls) = if is_no_token l then entries_of ls else option_and_then
 abbrev pub tokens_among : List Entry → List Token
 tokens_among es = map (λ e. e.token) es
 
--- the entries of a file; none where a line is wrong or a digest stands twice
+-- the entries of a file; none if a line is wrong or a digest comes twice
 abbrev pub entries_in : List ℕ → Option (List Entry)
 entries_in file = option_and_then (λ es. if are_apart (tokens_among es) then Some es else None) (entries_of (lines_of file))
 

@@ -8,7 +8,7 @@ use Rattle.iv_tokens.specs.Entries.{Entry, Parts}
 abbrev pub parts_by : code.Parts → Parts
 parts_by p = record { digits = p.digits.now; role = p.role.now; holder = option_map (λ t. t.now) p.holder; until = option_map (λ t. t.now) p.until }
 
--- what is read behind these entries
+-- what is read after these entries
 abbrev pub behind_entries : List Entry → Option (List Entry) → Option (List Entry)
 behind_entries es o = option_map (λ more. es ++ more) o
 

@@ -1,4 +1,4 @@
-//! `read_entries`: the tokens of a file, no digest twice, by a set of those behind, so that as many tokens as there are cost no more than a look each.
+//! `read_entries`: the tokens of a file, no digest twice, by a set of those after, so that as many tokens as there are cost no more than a look each.
 ghost use Rattle.std.specs.Prelude.{◌≡◌, ◌⊎◌, ◌||◌, if◌then◌else◌, ℕ, Err, IfOk, List, None, OnOk, Some, bytes_eq, not, option_and_then};
 ghost use Rattle.iv_clients.specs.Tokens.{are_apart, lines_of};
 ghost use Rattle.iv_tokens.specs.Apart.{has_key};
@@ -20,10 +20,10 @@ fn note(alloc: Global, seen: &mut BTreeSet<Vec<u8>>, digest: &[u8]) -> Result<bo
     Ok(seen.insert(key)?)
 }
 
-/// Whether no digest stands twice.
+/// Whether no digest comes twice.
 ///
 /// # Errors
-/// `AllocError` where a growth of memory was refused.
+/// `AllocError` if a growth of memory was refused.
 fn are_apart(alloc: Global, entries: &[Entry]) -> Result<bool, AllocError>
     ensures { IfOk result (λ is. is ≡ are_apart (tokens_among entries.now)) }
 {
@@ -40,8 +40,8 @@ fn are_apart(alloc: Global, entries: &[Entry]) -> Result<bool, AllocError>
 /// The entries of a file, which may have none.
 ///
 /// # Errors
-/// `Memory` where a growth of memory was refused; `Line` with the first line that is no token, no remark and not the table's name;
-/// `Twice` where a digest stands twice.
+/// `Memory` if a growth of memory was refused; `Line` with the first line that is no token, no remark and not the table's name;
+/// `Twice` if a digest comes twice.
 pub fn read_entries(alloc: Global, file: &[u8]) -> Result<Vec<Entry>, TokensFault>
     ensures entries { IfOk result (λ es. entries_in file.now ≡ Some es.items) }
     ensures none { (why : TokensFault) → result ≡ Err why → (why ≡ TokensFault.Memory) ⊎ (entries_in file.now ≡ None) }

@@ -39,14 +39,14 @@ struct Parts<'a> {
     until: Option<&'a [u8]>,
 }
 
-/// A text that a quotation mark ends, behind a prefix, and what follows it.
+/// A text that a quotation mark ends, after a prefix, and what follows it.
 fn quoted<'a>(line: &'a [u8], prefix: &[u8]) -> Option<(&'a [u8], &'a [u8])>
     ensures { option_map (λ p. (p.0.now, p.1.now)) result ≡ quoted prefix.now line.now }
 {
     cut_at(behind(line, prefix)?, b'"')
 }
 
-/// The same, where it may be left out.
+/// The same, if it may be left out.
 fn maybe_quoted<'a>(line: &'a [u8], prefix: &[u8]) -> (Option<&'a [u8]>, &'a [u8])
     ensures text { option_map (λ t. t.now) result.0 ≡ (maybe_quoted prefix.now line.now).0 }
     ensures rest { result.1.now ≡ (maybe_quoted prefix.now line.now).1 }
@@ -151,7 +151,7 @@ fn name_in(name: &[u8]) -> Option<&str>
     }
 }
 
-/// The holder that a line says, if it says one; none where what it says is no name.
+/// The holder that a line says, if it says one; none if what it says is no name.
 fn holder_in(alloc: Global, name: Option<&[u8]>) -> Result<Option<Option<String>>, AllocError>
     ensures { IfOk result (λ o. option_map (option_map string_bytes) o ≡ holder_in (option_map (λ t. t.now) name.entry)) }
 {
@@ -164,7 +164,7 @@ fn holder_in(alloc: Global, name: Option<&[u8]>) -> Result<Option<Option<String>
     }
 }
 
-/// The end that a line says, if it says one; none where what it says is no moment.
+/// The end that a line says, if it says one; none if what it says is no moment.
 fn end_in(alloc: Global, text: Option<&[u8]>) -> Result<Option<Option<u64>>, AllocError>
     ensures { IfOk result (λ o. o ≡ end_in (option_map (λ t. t.now) text.entry)) }
 {
@@ -237,7 +237,7 @@ pub fn has_digest(entries: &[Entry], digest: &[u8]) -> bool
     false
 }
 
-/// Appends the entry of a line, where it has one. Whether the file may have the line.
+/// Appends the entry of a line, if it has one. Whether the file may have the line.
 fn push_entry(alloc: Global, entries: &mut Vec<Entry>, line: &[u8]) -> Result<bool, AllocError>
     ensures { IfOk result (λ is. (ls : List (List ℕ)) → behind_entries entries.old.items (entries_of (line.now ∷ ls))
         ≡ (if is then behind_entries entries.new.items (entries_of ls) else None)) }
@@ -254,7 +254,7 @@ fn push_entry(alloc: Global, entries: &mut Vec<Entry>, line: &[u8]) -> Result<bo
     }
 }
 
-/// The entries before the last line of a file, and its own; or the line's number, where the file may not have it.
+/// The entries before the last line of a file, and its own; or the line's number, if the file may not have it.
 fn last_entry(
     alloc: Global,
     entries: Vec<Entry>,

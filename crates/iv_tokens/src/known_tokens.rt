@@ -18,9 +18,13 @@ use std::marker::Model;
 /// The entries that were read last, the web tokens that a secret granted, and which of them were handed on.
 #[derive(Drop)]
 pub struct KnownTokens {
+    /// The entries of the file, as they were read last.
     entries: Vec<Entry>,
+    /// The secret under which web tokens are signed; no byte if none are granted.
     secret: Vec<u8>,
+    /// The web tokens that were granted.
     web: Vec<Web>,
+    /// The second for which tokens were handed on last; none if what is known has changed since.
     handed: Option<u64>,
 }
 
@@ -208,7 +212,7 @@ fn answer_to(
 }
 
 impl KnownTokens {
-    /// Those of a file, and a secret that grants web tokens: none, where it has fewer than 32 bytes. None was handed on.
+    /// Those of a file, and a secret that grants web tokens: none, if it has fewer than 32 bytes. None was handed on.
     pub fn new(alloc: Global, secret: Vec<u8>, entries: Vec<Entry>) -> KnownTokens
         ensures { result ≡ known_from secret.items entries.items }
     {
@@ -228,11 +232,11 @@ impl KnownTokens {
         self.handed = None;
     }
 
-    /// The tokens that are known at a second, in seconds since 1970, to be handed on; none where those that were handed on last are the same.
+    /// The tokens that are known at a second, in seconds since 1970, to be handed on; none if those that were handed on last are the same.
     /// Each is of an entry whose end is yet to come, or a web token that the secret grants at that second.
     ///
     /// # Errors
-    /// `AllocError` where a growth of memory was refused; nothing is handed on then.
+    /// `AllocError` if a growth of memory was refused; nothing is handed on then.
     pub fn at(&mut self, alloc: Global, now: u64) -> Result<Option<Vec<Token>>, AllocError>
         ensures others { IfOk result (λ o. IfSome o (λ ts. ts.items ≡ known_at now self.old)) }
         ensures known { IfOk result (λ o. IfSome o (λ ts. All (IsKnown now self.old) ts.items)) }
@@ -253,7 +257,7 @@ impl KnownTokens {
     /// Judges a text that is presented at a second. If it is granted, it is known from now on, to be handed on.
     ///
     /// # Errors
-    /// `AllocError` where a growth of memory was refused.
+    /// `AllocError` if a growth of memory was refused.
     pub fn judge(&mut self, alloc: Global, now: u64, text: &[u8]) -> Result<Judged, AllocError>
         ensures judged { IfOk result (λ j. j ≡ told (answer_by self.old now text.now)) }
         ensures kept { OnOk result (self.new ≡ kept (answer_by self.old now text.now) self.old) }

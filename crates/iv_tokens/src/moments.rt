@@ -128,7 +128,7 @@ fn shape_in(alloc: Global, text: &[u8]) -> Result<Vec<u8>, AllocError>
     Ok(shape)
 }
 
-/// Whether a text has digits and signs where a moment has them.
+/// Whether a text has digits and signs if a moment has them.
 fn is_shaped(alloc: Global, text: &[u8]) -> Result<bool, AllocError>
     ensures { IfOk result (λ is. is ≡ is_shaped text.now) }
 {
@@ -165,7 +165,7 @@ fn read_of(text: &[u8]) -> Moment
 /// The second that a text names, in seconds since 1970.
 ///
 /// # Errors
-/// `AllocError` where a growth of memory was refused.
+/// `AllocError` if a growth of memory was refused.
 pub fn moment_in(alloc: Global, text: &[u8]) -> Result<Option<u64>, AllocError>
     ensures { IfOk result (λ o. o ≡ moment_in text.now) }
 {

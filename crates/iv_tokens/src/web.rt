@@ -49,7 +49,7 @@ pub enum Judged {
 }
 
 impl Judged {
-    /// Why a web token lets nobody in, in words; none where it does, or where the text is none.
+    /// Why a web token lets nobody in, in words; none if it does, or where the text is none.
     pub fn words(self) -> Option<&'static str> {
         match self {
             Judged::Full => Some("too many web tokens are known, or too many of its subject"),

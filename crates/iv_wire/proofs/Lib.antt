@@ -1,4 +1,4 @@
-pub mod Answering
+pub mod RunAnswers
 pub mod Ran
 pub mod Sums
 pub mod Turns

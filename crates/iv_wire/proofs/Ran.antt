@@ -6,10 +6,10 @@ use Rattle.iv_machine.specs.Act.{Command}
 use Rattle.iv_machine.specs.Machine.{run, step}
 use Rattle.iv_machine.specs.State.{State}
 use Rattle.iv_machine.specs.Stored.{IsGiven}
-use Rattle.iv_machine.proofs.Standing.{run_stays}
+use Rattle.iv_machine.proofs.SoundRuns.{run_stays}
 use Rattle.iv_engine.specs.Engine.{Engine, IsBehind}
 use Rattle.iv_engine.specs.Sound.{IsSoundEngine}
-use Rattle.iv_engine.proofs.Sounding.{sound_of, whole_of}
+use Rattle.iv_engine.proofs.SoundStates.{sound_of, whole_of}
 use Rattle.iv_request.specs.Reading.{Reading, faulty, asked, reading_of}
 use Rattle.iv_lines.specs.Answer.{commands_of, readings_of, told}
 use Rattle.iv_lines.specs.Cut.{is_blank_line}

@@ -5,7 +5,7 @@ use Rattle.iv_machine.specs.Act.{Line}
 use Rattle.iv_machine.specs.Machine.{run, step}
 use Rattle.iv_machine.specs.Reached.{AreNumbersUnique}
 use Rattle.iv_machine.specs.State.{State}
-use Rattle.iv_machine.proofs.Adding.{adds_up, run_numbers}
+use Rattle.iv_machine.proofs.RunSums.{adds_up, run_numbers}
 use Rattle.iv_engine.specs.Engine.{Engine, IsBehind}
 use Rattle.iv_request.specs.Reading.{Reading, faulty, asked}
 use Rattle.iv_lines.specs.Answer.{heard, commands_of, text_answered}

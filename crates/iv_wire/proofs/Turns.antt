@@ -8,7 +8,7 @@ use Rattle.iv_lines.specs.Reads.{IsCutShort}
 use Rattle.iv_lines.proofs.Moments.{reads_more, reads_like}
 use Rattle.std.specs.Io.KnownBytes.{Appends}
 use Rattle.iv_wire.specs.Turns.{IsInTurn}
-use Rattle.iv_wire.proofs.Answering.{HasTold}
+use Rattle.iv_wire.proofs.RunAnswers.{HasTold}
 
 -- a read of the next line, where k lines are answered
 in_turn : (lines k : ℕ) (s : State) (given left taken now : Option (List ℕ)) (engine : Engine) (flushed : Bool) → k < lines → HasTold s given k taken now engine left → flushed ≡ true → (m : Moment) → IsWithinLine left now flushed m → IsInTurn lines s given taken m

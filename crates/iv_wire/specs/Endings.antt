@@ -1,4 +1,4 @@
--- What stands written at each ending of a run, and the machine's state behind the engine.
+-- What is written at each ending of a run, and the machine's state behind the engine.
 use Rattle.std.specs.Prelude.{◌≡◌, ◌≤◌, ◌<◌, ◌+◌, ℕ, List, take, length, Option, Some, None, ⊤, Result, Ok, Err}
 use Rattle.std.specs.Io.KnownBytes.{Appends}
 use Rattle.iv_machine.specs.State.{State}
@@ -28,12 +28,12 @@ HasAnswered s bytes k r = let a = answer k s bytes in (a.end ≡ Lines) × Appen
 abbrev pub IsWhole : Answer → End → Run → Type 0
 IsWhole a end r = Appends r.taken r.written a.text × IsBehind a.state r.now × (end ≡ a.end)
 
--- what is left begins a line cut short, behind those that were answered
+-- what is left begins a line cut short, after those that were answered
 abbrev pub StopsBehind : Answer → Option (List ℕ) → Run → Type 0
 StopsBehind a None r = ⊥
 StopsBehind a (Some left) r = IsBehind a.state r.now × BeginsLine a.rest left
 
--- the line behind k others is applied, and a front of the answers was written, which has those to the k lines whole
+-- the line after k others is applied, and a front of the answers was written, which has those to the k lines whole
 abbrev pub StopsWriting : State → List ℕ → ℕ → Run → Type 0
 StopsWriting s bytes k r =
     let a = answer k s bytes in let b = answer (k + 1) s bytes in
@@ -47,7 +47,7 @@ Ends s bytes r (Err Write) = (k : ℕ) × (k < r.lines) × StopsWriting s bytes 
 Ends s bytes r (Err Memory) = (k : ℕ) × (k < r.lines) × HasAnswered s bytes k r
 Ends s bytes r (Err Failed) = ⊤
 
--- where the reader tells the bytes that it has left
+-- if the reader tells the bytes that it has left
 abbrev pub Answers : State → Option (List ℕ) → Run → Result End RunFault → Type 0
 Answers s None r result = ⊤
 Answers s (Some bytes) r result = Ends s bytes r result

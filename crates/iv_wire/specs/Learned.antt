@@ -15,7 +15,7 @@ commands_in n bytes = commands_of (heard n bytes).readings
 abbrev pub text_for : (role : ℕ) → State → ℕ → List ℕ → List ℕ
 text_for role s n bytes = flat_map line_text (told_in role s (commands_in n bytes))
 
--- where the states look alike to the role and the commands are answered alike, its sessions are sent the same bytes
+-- if the states look alike to the role and the commands are answered alike, its sessions are sent the same bytes
 abbrev pub BytesTellNothingElse : (role : ℕ) → (s t : State) → ℕ → List ℕ → Type 0
 BytesTellNothingElse role s t n bytes = IsSoundState s → LooksAlike role s t → StayAlike role s t (commands_in n bytes)
     → text_for role s n bytes ≡ text_for role t n bytes

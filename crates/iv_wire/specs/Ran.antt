@@ -1,4 +1,4 @@
--- What a run does to the engine, also where the reader does not tell its bytes.
+-- What a run does to the engine, even if the reader does not tell its bytes.
 use Rattle.std.specs.Prelude.{ℕ, ◌≤◌, List, length}
 use Rattle.std.specs.List.{All}
 use Rattle.iv_machine.specs.Act.{Command}

@@ -1,4 +1,4 @@
--- How the machine's lines stand in a text, and what was written of them.
+-- How a text has the machine's lines, and what was written of them.
 use Rattle.std.specs.Prelude.{ℕ, List, [], ◌∷◌, ◌++◌}
 use Rattle.std.specs.Io.KnownBytes.{Appends}
 use Rattle.iv_machine.specs.Act.{Command, Line}

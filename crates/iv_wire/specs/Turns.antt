@@ -8,7 +8,7 @@ use Rattle.iv_lines.specs.Moments.{Moment}
 use Rattle.iv_lines.specs.Reads.{IsCutShort}
 
 -- at this moment k lines of the bytes, fewer than are asked for, are answered, and their answers are written and flushed; of
--- what stands behind them no whole line was read
+-- what follows them no whole line was read
 pub record IsTurn (lines : ℕ) (before : State) (bytes : List ℕ) (taken : Option (List ℕ)) (m : Moment) : Type 0 where
   pub k : ℕ
   pub fewer : k < lines
@@ -17,7 +17,7 @@ pub record IsTurn (lines : ℕ) (before : State) (bytes : List ℕ) (taken : Opt
   pub flushed : m.flushed ≡ true
   pub within : IsCutShort (Some (answer k before bytes).rest) m.left
 
--- where the reader tells the bytes that it has left
+-- if the reader tells the bytes that it has left
 abbrev pub IsInTurn : ℕ → State → (given taken : Option (List ℕ)) → Moment → Type 0
 IsInTurn lines before None taken m = ⊤
 IsInTurn lines before (Some bytes) taken m = IsTurn lines before bytes taken m

@@ -16,7 +16,7 @@ pub fn answers_are_texts()
 {}
 
 /// Two runs over the same bytes send a role's sessions the same bytes, if they begin in states that look alike to it, of which the
-/// first is sound, each command among the bytes is answered alike, and behind one that may change rights, tables or views the role
+/// first is sound, each command among the bytes is answered alike, and after one that may change rights, tables or views the role
 /// sees the same rows.
 pub fn bytes_tell_roles_nothing_else()
     ensures { (role : ℕ) (s t : State) (n : ℕ) (bytes : List ℕ) → BytesTellNothingElse role s t n bytes }

@@ -4,7 +4,7 @@
 //! machine reaches is no premise: the engine's invariant gives it. Each read is made in its turn: whole lines that were
 //! read before are answered then, and their answers flushed.
 //!
-//! A line is read, and its answer written, in the memory of the one before: so much stays as the longest answer took.
+//! A line is read, and its answer written, in the memory of the one before: as much as the longest answer took is kept.
 ghost use Rattle.std.specs.Prelude.{◌≡◌, ◌≤◌, ◌+◌, ◌*◌, ◌||◌, ◌↔◌, ℕ, take, flat_map, true, false, IfOk, IfErr, IfSome, OnOk, OnErr, IsErrOf};
 ghost use Rattle.std.specs.List.{All};
 ghost use Rattle.std.specs.Io.KnownBytes.{Appends};
@@ -148,8 +148,8 @@ fn run_lines<R: Source, W: Sink>(
 /// and flushed before the next line is read.
 ///
 /// # Errors
-/// `Read` and `Write` where the reader or the writer failed; `Memory` where a growth of memory was refused: the engine
-/// has failed then; `Failed` exactly where it had failed before.
+/// `Read` and `Write` if the reader or the writer failed; `Memory` if a growth of memory was refused: the engine
+/// has failed then; `Failed` exactly if it had failed before.
 pub fn run<R: Source, W: Sink>(
     alloc: Global,
     engine: &mut Engine,

@@ -1,2 +1,2 @@
 pub mod Few
-pub mod Placing
+pub mod CircuitTables

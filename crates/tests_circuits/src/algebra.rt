@@ -1,4 +1,4 @@
-//! Tests of plans and predicates: `eval` of a plan with a node of each kind, and where a predicate fits.
+//! Tests of plans and predicates: `eval` of a plan with a node of each kind, and if a predicate fits.
 ghost use Rattle.tests_circuits.specs.Worlds.{AreSound};
 
 use crate::plans::of_each_kind;

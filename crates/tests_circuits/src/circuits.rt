@@ -9,7 +9,7 @@ use iv_reference::fits;
 use iv_rows::Kind;
 use std::alloc::Global;
 
-/// The circuit of a plan under the rights, where the plan is for the tables.
+/// The circuit of a plan under the rights, if the plan is for the tables.
 fn built(alloc: Global, plan: &Plan, access: &Access, tables: &Tables) -> Option<Circuit>
     ensures { IfSome result (λ circuit. IsReader tables.now circuit) }
 {

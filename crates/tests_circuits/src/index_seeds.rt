@@ -22,7 +22,7 @@ fn hashes(alloc: Global, rows: &ZSet) -> Result<[u64; 2], AllocError> {
     Ok([first?, second?])
 }
 
-/// The same where a row comes.
+/// The same if a row comes.
 fn hashes_of_one(alloc: Global, rows: &mut ZSet) -> Result<[u64; 2], ZFault> {
     rows.add(row(alloc, false, &[1, 2])?, 1, &mut Meter::new())?;
     Ok(hashes(alloc, rows)?)

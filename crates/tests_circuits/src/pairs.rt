@@ -72,7 +72,7 @@ fn step_filled_pair<B: Bilinear>(
     }
 }
 
-/// The step where the left row and the right row have a weight and change by another, and the old output has their pair.
+/// The step if the left row and the right row have a weight and change by another, and the old output has their pair.
 fn step_pair<B: Bilinear>(
     alloc: Global,
     bilinear: &B,
@@ -205,7 +205,7 @@ fn step_filled_groups(
     }
 }
 
-/// The step of the groups by the first column, where the copies of one row go and those of another come.
+/// The step of the groups by the first column, if the copies of one row go and those of another come.
 fn step_groups(
     alloc: Global,
     aggs: &[Agg],
@@ -232,7 +232,7 @@ fn step_groups(
     answer
 }
 
-/// The sum of the second column by the first, where two copies of a row go and one of another comes.
+/// The sum of the second column by the first, if two copies of a row go and one of another comes.
 pub(crate) fn summed(
     alloc: Global,
     gone: i64,
@@ -252,7 +252,7 @@ pub(crate) fn replaced(alloc: Global, gone: i64, come: i64) -> Result<Seen, Delt
     seen_of(alloc, answer, true, &[gone], &[come])
 }
 
-/// The same where no row comes.
+/// The same if no row comes.
 pub(crate) fn emptied(alloc: Global, gone: i64) -> Result<Seen, DeltaFault> {
     let aggs = [Agg::Sum(1)];
     let answer = step_groups(alloc, &aggs, &[gone], 1, -1, &[gone], 0, &[gone]);

@@ -16,7 +16,7 @@ pub(crate) fn joined(alloc: Global) -> Result<Plan, AllocError> {
 }
 
 /// A plan with a node of each kind. First the pairs of rows with one k, of which the right one has a v above 0: the k, and the right
-/// v. Then the rows that stand in table 0 and not in table 1. Of both together, for each k, the sum of v and the number of rows.
+/// v. Then the rows that are in table 0 and not in table 1. Of both together, for each k, the sum of v and the number of rows.
 pub(crate) fn of_each_kind(alloc: Global) -> Result<Plan, AllocError> {
     let input = both(alloc)?;
     let keys = Vec::from_array(alloc, [0])?;

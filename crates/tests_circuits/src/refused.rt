@@ -33,7 +33,7 @@ pub(crate) const ROWS: [Entry; 5] = [
     (1, [2, -3], 1),
 ];
 
-/// Of 1: 7 of a pair, and 5 of the left row, which stands on the left alone. Of 2: two pairs of 5.
+/// Of 1: 7 of a pair, and 5 of the left row, which is on the left alone. Of 2: two pairs of 5.
 pub(crate) const BEFORE: [Weighed; 2] = [([1, 12, 2], 1), ([2, 10, 2], 1)];
 
 const BATCH: [Entry; 5] = [
@@ -64,7 +64,7 @@ fn row(alloc: Global, numbers: [i64; 3]) -> Result<Row, AllocError> {
     Row::new(values)
 }
 
-/// Whether these are the rows, with their copies; none where memory was refused.
+/// Whether these are the rows, with their copies; none if memory was refused.
 pub(crate) fn are(alloc: Global, rows: &ZSet, wanted: &[Weighed]) -> Option<bool> {
     for entry in wanted {
         let (numbers, copies) = *entry;

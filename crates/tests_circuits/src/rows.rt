@@ -8,7 +8,7 @@ fn row_of_k_and_2(alloc: Global) -> Result<Row, AllocError> {
     Row::new(Vec::from_array(alloc, [k, Value::Int(2)])?)
 }
 
-/// Whether a copy of the row is equal to it, and has two values, of which the second is 2.
+/// Whether a copy of the row is equal to it, and has two values, the second of which is 2.
 fn copied_row(row: &Row) -> Result<[bool; 2], AllocError> {
     let copy = row.copy()?;
     Ok([

@@ -37,7 +37,7 @@ fn push_key(values: &mut Vec<Value>, value: Value) -> Result<(), AllocError>
     Ok(())
 }
 
-/// A row of numbers, behind the text `k` if it is keyed.
+/// A row of numbers, after the text `k` if it is keyed.
 pub(crate) fn row(alloc: Global, keyed: bool, numbers: &[i64]) -> Result<Row, AllocError>
     ensures { IfOk result (λ row. row ≡ cells keyed numbers.now) }
 {
@@ -86,7 +86,7 @@ pub(crate) fn two(
     }
 }
 
-/// The weight of a row, and a number that no test waits for where memory is short.
+/// The weight of a row, and a number that no test waits for if memory is short.
 fn weight(alloc: Global, zset: &ZSet, keyed: bool, numbers: &[i64]) -> i64 {
     match row(alloc, keyed, numbers) {
         Ok(row) => zset.weight(&row, &mut Meter::new()),

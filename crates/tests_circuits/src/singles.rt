@@ -76,7 +76,7 @@ pub(crate) fn signs(alloc: Global) -> Result<Seen, DeltaFault> {
     seen_of(alloc, answer, false, &[1], &[0])
 }
 
-/// The union where rows 1 and 7 change by these weights on the right, too.
+/// The union if rows 1 and 7 change by these weights on the right, too.
 fn step_other(
     alloc: Global,
     out: &ZSet,
@@ -108,7 +108,7 @@ fn step_both(
     answer
 }
 
-/// The union where rows 1 and 7 change by these weights on each side, and the old output has row 1.
+/// The union if rows 1 and 7 change by these weights on each side, and the old output has row 1.
 pub(crate) fn united(
     alloc: Global,
     out: i64,
@@ -125,7 +125,7 @@ pub(crate) fn united(
     seen_of(alloc, answer, false, &[1], &[7])
 }
 
-/// The rows once each, where row 1 has a weight and changes by another.
+/// The rows once each, if row 1 has a weight and changes by another.
 pub(crate) fn once(alloc: Global, old: i64, change: i64) -> Result<Seen, DeltaFault> {
     let a = two(alloc, &[1], old, &[1], 0)?;
     let d = two(alloc, &[1], change, &[1], 0)?;
@@ -135,7 +135,7 @@ pub(crate) fn once(alloc: Global, old: i64, change: i64) -> Result<Seen, DeltaFa
     seen_of(alloc, answer, false, &[1], &[1])
 }
 
-/// The rows on the left alone, where row 1 changes by this weight on the right, too.
+/// The rows on the left alone, if row 1 changes by this weight on the right, too.
 fn step_right_side(
     alloc: Global,
     a: &ZSet,
@@ -164,7 +164,7 @@ fn step_sides(
     answer
 }
 
-/// The rows on the left alone, where row 1 has a weight and changes by another on each side.
+/// The rows on the left alone, if row 1 has a weight and changes by another on each side.
 pub(crate) fn alone(
     alloc: Global,
     left: (i64, i64),

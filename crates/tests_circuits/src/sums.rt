@@ -81,7 +81,7 @@ fn put_all(alloc: Global, tables: &mut Tables, notes: &[Note]) -> Result<(), Fai
     Ok(())
 }
 
-/// How often a row stands there.
+/// How often a row is there.
 fn copies(alloc: Global, rows: &ZSet, key: &str, number: i64) -> Result<i64, AllocError> {
     let row = row(alloc, key, number)?;
     let answer = weight(rows, &row);
@@ -97,7 +97,7 @@ fn sums(alloc: Global) -> Result<Plan, AllocError> {
     Ok(Plan::Group { keys, aggs, input })
 }
 
-/// What the plan gives; none where it does not fit.
+/// What the plan gives; none if it does not fit.
 fn evaluated(alloc: Global, plan: &Plan, tables: &Tables) -> Option<Result<ZSet, AlgFault>> {
     if fits(plan, tables) {
         Some(eval(alloc, plan, tables, 1_024, &mut Meter::new()))
@@ -106,7 +106,7 @@ fn evaluated(alloc: Global, plan: &Plan, tables: &Tables) -> Option<Result<ZSet,
     }
 }
 
-/// How many rows the plan gives over these tables, and how often `k` with the least sum stands there; none where it breaks a limit.
+/// How many rows the plan gives over these tables, and how often `k` with the least sum is there; none if it breaks a limit.
 fn outcome_over(alloc: Global, plan: &Plan, tables: &Tables) -> Result<Option<(usize, i64)>, Fail> {
     match evaluated(alloc, plan, tables) {
         Some(Ok(rows)) => {
@@ -121,7 +121,7 @@ fn outcome_over(alloc: Global, plan: &Plan, tables: &Tables) -> Result<Option<(u
     }
 }
 
-/// The same over tables without rows, where these notes are added.
+/// The same over tables without rows, if these notes are added.
 fn outcome_filled(
     alloc: Global,
     plan: &Plan,

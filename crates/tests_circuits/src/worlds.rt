@@ -75,7 +75,7 @@ fn is_enough(copies: i64, more: i64) -> bool
     }
 }
 
-/// Adds copies of a row to a table, where there are then at least none.
+/// Adds copies of a row to a table, if there are then at least none.
 fn put(tables: &mut Tables, table: RelId, row: Row, copies: i64) -> bool
     requires { AreSound tables.old }
     ensures sound { AreSound tables.new }

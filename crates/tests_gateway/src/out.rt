@@ -1,11 +1,14 @@
 //! `Out`: a text that is written part by part, for tests.
 use std::alloc::Global;
 
-/// A text that parts are added to. Where a growth of memory was refused it is none.
+/// A text that parts are added to. If a growth of memory was refused it is none.
 #[derive(Drop)]
 pub struct Out {
+    /// The allocator of the text.
     alloc: Global,
+    /// The parts so far.
     text: String,
+    /// Whether a growth of memory was refused.
     is_refused: bool,
 }
 
@@ -33,7 +36,7 @@ impl Out {
         }
     }
 
-    /// Adds a number with a text behind it.
+    /// Adds a number with a text after it.
     pub fn put_number(&mut self, number: usize, text: &str) {
         match format!(in self.alloc; "{number}{text}") {
             Ok(text) => self.put(&text),
@@ -41,13 +44,13 @@ impl Out {
         }
     }
 
-    /// Adds a text with a number behind it, as a line.
+    /// Adds a text with a number after it, as a line.
     pub fn put_place(&mut self, text: &str, number: usize) {
         self.put(text);
         self.put_number(number, "\n");
     }
 
-    /// Adds each line of a text behind its mark.
+    /// Adds each line of a text after its mark.
     pub fn put_lines(&mut self, mark: &str, text: &str) {
         for line in text.split_inclusive('\n') {
             self.put(mark);

@@ -1,9 +1,9 @@
 //! `played`: a conversation of clients with a gateway, played anew. A line that begins with `> ` has something happen, and is copied;
-//! behind it comes what it brings. The other lines of a conversation are what was brought, by hand, and are not read.
+//! after it comes what it brings. The other lines of a conversation are what was brought, by hand, and are not read.
 //!
 //! `come N TOKEN`: who presents the token is client N. `say N TEXT`: client N sends the message. `go N`: client N goes. `tokens NAME..`:
 //! these tokens are known from now on. `tick`: all are told that the line is alive. `sync`: the journal is synced, and each client that is listed
-//! as told takes what it may be sent, one line each behind its number. `journal`: the journal's lines. `tear TEXT`: the journal ends with the text.
+//! as told takes what it may be sent, one line each after its number. `journal`: the journal's lines. `tear TEXT`: the journal ends with the text.
 //! `spoil TEXT`: the journal has the line. `restart`: another gateway begins from the journal. `viewd REL`: what viewd answers to the
 //! journal's entries as lines of its own, and then to a subscribe to the relation by the administrator.
 ghost use Rattle.std.specs.Prelude.{None};
@@ -16,7 +16,7 @@ use iv_gateway::{Gateway, GatewayFault, Journal, JournalFault, RestoreFault};
 use std::alloc::{AllocError, Global};
 use std::mem;
 
-/// The lines of the tokens' file, each behind its role. A token is the name of its role; the digests are SHA-256 of these, by another
+/// The lines of the tokens' file, each after its role. A token is the name of its role; the digests are SHA-256 of these, by another
 /// program.
 const TOKENS: &str =
     "admin \"8c6976e5b5410415bde908bd4dee15dfb167a9c873fc4bb8a81f6f2ab448a918\" = \"admin\"
@@ -34,6 +34,7 @@ const MOST: u32 = 4;
 /// A journal in memory.
 #[derive(Drop)]
 pub struct Kept {
+    /// What was written.
     bytes: Vec<u8>,
 }
 
@@ -168,7 +169,7 @@ fn restart(gateway: &mut Gateway, journal: &mut Kept, out: &mut Out) {
     }
 }
 
-/// Adds that something is not so of a client, where it is not.
+/// Adds that something is not so of a client, if it is not.
 fn put_unless(is: Result<bool, GatewayFault>, client: u32, text: &str, out: &mut Out) {
     match is {
         Ok(true) => {}
@@ -200,7 +201,7 @@ fn happen_to(gateway: &mut Gateway, word: &str, client: u32, text: &str, out: &m
     }
 }
 
-/// A client's number, and what stands behind it.
+/// A client's number, and what follows it.
 fn numbered(text: &str) -> Option<(u32, &str)> {
     let (digits, rest) = text.split_once(' ').unwrap_or((text, ""));
     match digits.parse::<u32>() {

@@ -1,4 +1,4 @@
-//! Tests of clients that do not read: they are heard no more, and are to go where others bring them more than they take; and of what waits.
+//! Tests of clients that do not read: they are heard no more, and are to go if others bring them more than they take; and of what waits.
 use crate::out::Out;
 use crate::playing::{Kept, new_gateway};
 use iv_gateway::Gateway;
@@ -126,7 +126,7 @@ fn heard(gateway: &mut Gateway) -> u32 {
     count
 }
 
-/// The same, and whether it is heard behind that, and not before.
+/// The same, and whether it is heard after that, and not before.
 fn heard_again(gateway: &mut Gateway, journal: &mut Kept) -> (u32, bool) {
     let count = heard(gateway);
     let is_synced = gateway.settle(journal).is_ok();
@@ -143,7 +143,7 @@ fn heard_anew(alloc: Global) -> Result<(u32, bool), AllocError> {
     Ok(heard)
 }
 
-/// The bytes that are counted as waiting before client 0 says two things, behind these, and behind a sync.
+/// The bytes that are counted as waiting before client 0 says two things, after these, and after a sync.
 fn counted(gateway: &mut Gateway, journal: &mut Kept) -> (u64, u64, u64) {
     let before = gateway.waiting();
     let are_said = is_said(gateway, 0, "{}") && is_said(gateway, 0, INSERT);
@@ -165,7 +165,7 @@ fn counted_anew(alloc: Global) -> Result<(u64, u64, u64), AllocError> {
 
 /// Of a row that is inserted client 1 is told 1,011 bytes, so of a write 12 + 50 x 1,011 + 49 + 11 and the 17 that this is all: 50,639. Of
 /// a row that is deleted it is told one more. The 83 first texts have 42 x 50,639 + 41 x 50,689 bytes, 4,205,087, which are more than
-/// 4,194,304, and the 82 first have fewer. So the sync behind the 83rd finds that the client does not take them.
+/// 4,194,304, and the 82 first have fewer. So the sync after the 83rd finds that the client does not take them.
 #[test]
 fn who_does_not_read_is_to_go(rt: HostRuntime) -> Result<(), Fail> {
     assert_eq!(rt; syncs_anew(rt.alloc())?, 84);
@@ -179,7 +179,7 @@ fn who_asks_much_is_not_heard(rt: HostRuntime) -> Result<(), Fail> {
 }
 
 /// Client 0 is told `{"error":2,"key":"do","why":"missing"}` and `{"ok":true}`, which have 38 and 11 bytes, and client 1
-/// `{"changes":[[1,[1,"ann"]]],"sub":1}`, which has 35. Behind each of the three comes a newline, and the 17 bytes of a line that this is all.
+/// `{"changes":[[1,[1,"ann"]]],"sub":1}`, which has 35. After each of the three comes a newline, and the 17 bytes of a line that this is all.
 #[test]
 fn what_waits_is_counted(rt: HostRuntime) -> Result<(), Fail> {
     assert_eq!(rt; counted_anew(rt.alloc())?, (0, 138, 0));

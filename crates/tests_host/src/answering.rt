@@ -71,7 +71,7 @@ fn administrators_may_ask(rt: HostRuntime) -> Result<(), AllocError> {
     Ok(())
 }
 
-/// An answer, and what stands in it behind the policy (RFC 9110, section 9.3.2).
+/// An answer, and what is in it after the policy (RFC 9110, section 9.3.2).
 #[test]
 fn answers_are_whole(rt: HostRuntime) -> Result<(), AllocError> {
     let ask = Ask {

@@ -1,4 +1,4 @@
-//! `bytes_are_written_whole_or_taken_back`: what a disk in memory has behind `put`.
+//! `bytes_are_written_whole_or_taken_back`: what a disk in memory has after `put`.
 ghost use Rattle.std.specs.Prelude.{Some};
 
 use iv_disk::{Disk, put};
@@ -6,7 +6,7 @@ use std::alloc::{AllocError, Global};
 use std::io;
 use std::io::ErrorKind;
 
-/// A disk in memory: so many bytes at a time are taken, there is room for so many more, and it may refuse to be cut.
+/// A disk in memory: so many bytes at a time are taken, there is space for so many more, and it may refuse to be cut.
 #[derive(Drop)]
 struct Platter {
     bytes: Vec<u8>,

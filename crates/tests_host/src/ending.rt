@@ -6,7 +6,7 @@ use std::alloc::{AllocError, Global};
 /// The digest of `abc` (FIPS 180-4).
 const ABC: &str = "ba7816bf8f01cfea414140de5dae2223b00361a396177a9cb410ff61f20015ad";
 
-/// What a line says behind the role of a token, and the holder and the end that it gives it; none where the line is none of the file's. The
+/// What a line says after the role of a token, and the holder and the end that it gives it; none if the line is none of the file's. The
 /// seconds are those that GNU date tells (`date -u -d MOMENT +%s`).
 const LINES: [(&str, Option<(&str, u64)>); 16] = [
     ("", Some(("", 0))),
@@ -36,12 +36,12 @@ const LINES: [(&str, Option<(&str, u64)>); 16] = [
     (", holder = \"a\\nb\"", None),
 ];
 
-/// A file with one token, of which its line says this.
+/// A file with one token, whose line says this.
 fn file_of(alloc: Global, more: &str) -> Result<String, AllocError> {
     format!(in alloc; "[tokens]\n\"{ABC}\" = {{ role = \"ann\"{more} }}\n")
 }
 
-/// The holder and the end of the one entry, with nothing and 0 where they are not said.
+/// The holder and the end of the one entry, with nothing and 0 if they are not said.
 fn said(entries: &[Entry]) -> Option<(&str, u64)> {
     let [entry] = entries else {
         return None;
@@ -68,7 +68,7 @@ fn lines_say_holders_and_ends(rt: HostRuntime) -> Result<(), AllocError> {
     Ok(())
 }
 
-/// How many tokens are handed on at a second; none where they are those of before.
+/// How many tokens are handed on at a second; none if they are those of before.
 fn handed(known: &mut KnownTokens, alloc: Global, now: u64) -> Result<Option<usize>, AllocError> {
     match known.at(alloc, now)? {
         None => Ok(None),

@@ -10,7 +10,7 @@ const GIVEN: &[u8] = b"{\"as\":\"ann\",\"do\":\"begin\"}\n{\"as\":\"bob\",\"x\":
 /// Where its first entry ends.
 const FIRST: usize = 26;
 
-/// The journal behind a head, with notes.
+/// The journal after a head, with notes.
 const NOTED: [&[u8]; 3] = [
     b"{\"last\":\"a9a097d6250b50a2decb055b4d6dd8a6c6f09c820b3a2ee99b490eb320c069b7\",\"journal\":1,\"epoch\":\"0123456789abcdef0123456789abcdef\",\"audit\":1}\n",
     b"{\"last\":\"ef0051b743fa7e6c5e1ac70f778c0b13bc3dbe19e97c2971aa3fb8448b4e810a\",\"at\":1764489600,\"by\":\"A\\u0022\\u005c\\u0007\xc3\xb6\",\"as\":\"ann\",\"do\":\"begin\"}\n",
@@ -27,7 +27,7 @@ const PLAIN: [&[u8]; 3] = [
 /// The digits of the epoch.
 const EPOCH: &[u8; 32] = b"0123456789abcdef0123456789abcdef";
 
-/// Lines behind one another.
+/// Lines after one another.
 fn joined(alloc: Global, lines: &[&[u8]]) -> Result<Vec<u8>, AllocError> {
     let mut out = Vec::new(alloc);
     for line in lines {

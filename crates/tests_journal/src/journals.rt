@@ -31,7 +31,7 @@ const TEXTS: [(bool, &[u8]); 4] = [
 /// Where each line begins, and where the last one ends.
 const PLACES: [usize; 5] = [0, 145, 245, 332, 408];
 
-/// Some of the lines behind one another.
+/// Some of the lines after one another.
 fn journal(alloc: Global, lines: &[usize]) -> Result<Vec<u8>, AllocError> {
     let mut out = Vec::new(alloc);
     for at in lines {
@@ -234,7 +234,7 @@ fn changed_bytes_are_told(rt: HostRuntime) -> Result<(), Fail> {
         let was = all[at];
         for byte in [0, b'\n', b'0', was ^ 1, was ^ 128] {
             all[at] = byte;
-            // where the last newline is damaged alone, that line looks as one that is being written
+            // if the last newline is damaged alone, that line looks as one that is being written
             let told = if at + 1 == all.len() && byte != 0 {
                 None
             } else {

@@ -22,7 +22,7 @@ pub fn are_well(commands: &[Command]) -> bool
     true
 }
 
-/// The lines that a list of commands is answered, or why it is not; none where a command breaks the rules on shape.
+/// The lines that a list of commands is answered, or why it is not; none if a command breaks the rules on shape.
 pub fn ran_list(
     engine: &mut Engine,
     commands: Vec<Command>,
@@ -34,7 +34,7 @@ pub fn ran_list(
     }
 }
 
-/// What an engine answers to a command, where the command keeps the rules on shape.
+/// What an engine answers to a command, if the command keeps the rules on shape.
 pub fn fault_of(engine: &mut Engine, command: Command) -> Option<EngineFault> {
     if well(&command) {
         engine.apply(command).err()
@@ -44,7 +44,7 @@ pub fn fault_of(engine: &mut Engine, command: Command) -> Option<EngineFault> {
     }
 }
 
-/// What an engine answers to the command of a line; none where it is no command or memory was refused.
+/// What an engine answers to the command of a line; none if it is no command or memory was refused.
 pub fn told(alloc: Global, engine: &mut Engine, line: &str) -> Option<Vec<Line>> {
     match read_line(alloc, line.as_bytes()) {
         Ok(command) => engine.apply(command).ok(),

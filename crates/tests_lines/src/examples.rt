@@ -4,7 +4,9 @@ use crate::replayed::{ANSWERS, REQUESTS};
 /// Requests and what they are answered, each in two parts.
 #[derive(Clone, Copy)]
 pub struct Example {
+    /// The lines that are sent.
     pub requests: [&'static str; 2],
+    /// The lines that are answered.
     pub answers: [&'static str; 2],
 }
 

@@ -1,4 +1,4 @@
-//! Tests with readers and writers of std that fail behind each byte and at each call, and that give or take a byte a call.
+//! Tests with readers and writers of std that fail after each byte and at each call, and that give or take a byte a call.
 //! A run is over at the failure, and each of its reads, writes and flushes is one call. No clause sees how often an end of
 //! std is called; these tests count the calls.
 ghost use Rattle.std.specs.Prelude.{◌<◌};
@@ -31,7 +31,7 @@ impl Read for Giver<'_> {
     }
 }
 
-/// A writer that keeps `step` bytes of a write, and no more than it has room for. Behind these it fails, or takes none. It fails at the
+/// A writer that keeps `step` bytes of a write, and no more than it has space for. After these it fails, or takes none. It fails at the
 /// call of the number `fails_at`, too, a write or a flush, and records of each call how many bytes it was given, 0 of a flush.
 #[derive(Drop)]
 struct Taker {
@@ -41,7 +41,7 @@ struct Taker {
     fails_at: usize,
 }
 
-/// How many bytes a writer takes, how many of them a write, and whether it takes none behind these, in place of a failure.
+/// How many bytes a writer takes, how many of them a write, and whether it takes none after these, in place of a failure.
 #[derive(Clone, Copy)]
 struct Room {
     bytes: usize,
@@ -76,7 +76,7 @@ impl Write for Taker {
     }
 }
 
-/// What a run is given, by how many bytes a read, which read fails, and which call of the writer; none where it is 0.
+/// What a run is given, by how many bytes a read, which read fails, and which call of the writer; none if it is 0.
 #[derive(Clone, Copy)]
 struct Given<'a> {
     requests: &'a [u8],
@@ -116,7 +116,7 @@ fn take(alloc: Global, taker: &mut Taker, given: Given<'_>) -> Result<usize, All
     Ok(giver.calls)
 }
 
-/// A new writer behind the run, and the number of the reader's calls.
+/// A new writer after the run, and the number of the reader's calls.
 fn taken(alloc: Global, given: Given<'_>, room: Room) -> Result<(Taker, usize), AllocError> {
     let mut taker = Taker {
         kept: Vec::new(alloc),
@@ -128,7 +128,7 @@ fn taken(alloc: Global, given: Given<'_>, room: Room) -> Result<(Taker, usize), 
     Ok((taker, reads))
 }
 
-/// The bytes of the answers to the first so many requests, of which the seventh has two lines.
+/// The bytes of the answers to the first so many requests; the seventh has two lines.
 fn front(requests: usize) -> usize {
     let lines = if requests < 7 { requests } else { 8 };
     let mut bytes = 0usize;
@@ -165,7 +165,7 @@ fn is_written(written: &[u8], wanted: Wanted) -> bool {
     }
 }
 
-/// Room for all.
+/// Space for all.
 const ROOM: Room = Room {
     bytes: 4_096,
     step: 4_096,
@@ -217,7 +217,7 @@ fn each_call_is_made_once(rt: HostRuntime) {
     assert_eq!(rt; first_step_of_other_calls(rt.alloc()), None);
 }
 
-/// The first call of the writer behind whose failure another call is made, or what it was given is taken.
+/// The first call of the writer after whose failure another call is made, or what it was given is taken.
 fn first_call_that_goes_on(alloc: Global) -> Option<usize> {
     for call in 1..15usize {
         let wanted = Wanted {
@@ -241,7 +241,7 @@ fn newlines(bytes: &[u8]) -> usize {
     bytes.iter().filter(|byte| **byte == b'\n').count()
 }
 
-/// Whether a run to which a reader of `step` bytes a call gives these, and then fails, answers the whole lines, and makes no call behind
+/// Whether a run to which a reader of `step` bytes a call gives these, and then fails, answers the whole lines, and makes no call after
 /// that.
 fn breaks_off(alloc: Global, requests: &[u8], step: usize) -> bool
     requires { 0 < step }
@@ -261,7 +261,7 @@ fn breaks_off(alloc: Global, requests: &[u8], step: usize) -> bool
     comes_to(alloc, given, wanted, lines.saturating_mul(2)) == Ok((true, true, read))
 }
 
-/// The first number of bytes behind which a reader fails and the run goes on.
+/// The first number of bytes after which a reader fails and the run goes on.
 fn first_read_that_goes_on(alloc: Global) -> Option<usize> {
     let bytes = REQUESTS.as_bytes();
     for k in 0..bytes.len() + 1 {
@@ -280,7 +280,7 @@ fn readers_break_off(rt: HostRuntime) {
     assert_eq!(rt; first_read_that_goes_on(rt.alloc()), None);
 }
 
-/// Whether a writer of this room has just the bytes that it takes, and the run fails behind them, if there is no room for all.
+/// Whether a writer of this space has just the bytes that it takes, and the run fails after them, if there is no space for all.
 fn is_filled(alloc: Global, room: Room) -> bool {
     let wanted = Wanted {
         bytes: room.bytes,
@@ -296,7 +296,7 @@ fn is_filled(alloc: Global, room: Room) -> bool {
     }
 }
 
-/// The first number of bytes with room for which a writer has others.
+/// The first number of bytes with space for which a writer has others.
 fn first_unfilled(alloc: Global) -> Option<usize> {
     for bytes in 0..ANSWERS.len() + 1 {
         for (step, takes_none) in [(1usize, false), (4096, false), (4096, true)] {

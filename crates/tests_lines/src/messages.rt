@@ -9,7 +9,7 @@ use json::Scratch;
 use std::alloc::{AllocError, Global};
 use std::test::Fail;
 
-/// Messages, each with what a client is told of it where its request is done.
+/// Messages, each with what a client is told of it if its request is done.
 const MESSAGES: &str = r#"{"do":"subscribe","on":"notes"} => {"ok":true}
 {"do":"subscribe","id":7,"on":"notes"} => {"id":7,"ok":true}
 {"do":"grant_role","id":"a","role":"team","to":"ann"} => {"id":"a","ok":true}
@@ -139,7 +139,7 @@ fn lines_are_told(rt: HostRuntime) -> Result<(), Fail> {
     Ok(())
 }
 
-/// `[]`, and blanks behind it, of so many bytes.
+/// `[]`, and blanks after it, of so many bytes.
 fn blank(alloc: Global, bytes: usize) -> Result<Vec<u8>, AllocError> {
     let mut message = Vec::new(alloc);
     message.extend_from_slice(b"[]")?;

@@ -18,7 +18,7 @@ use std::alloc::{AllocError, Global};
 use std::io::Read;
 use std::test::Fail;
 
-/// A sink with room of its own, which takes no memory.
+/// A sink with a buffer of its own, which takes no memory.
 #[derive(Drop)]
 struct Kept {
     room: [u8; 1024],
@@ -67,7 +67,7 @@ impl Sink for Kept {
     }
 }
 
-/// What came of a test where a request for memory may have been refused.
+/// What came of a test if a request for memory may have been refused.
 type Word = &'static str;
 
 const HELD: Word = "held";
@@ -123,7 +123,7 @@ fn ended_again(alloc: Global, engine: &mut Engine, writer: &mut Kept) -> Ended {
     )
 }
 
-/// Whether the engine answers `Failed` to a command, to a list of one, and to lines, of which nothing is written.
+/// Whether the engine answers `Failed` to a command, to a list of one, and to lines, none of which is written.
 fn has_failed(alloc: Global, engine: &mut Engine) -> bool {
     let mut writer = Kept::new();
     fault_of(engine, finish()) == Some(EngineFault::Failed)

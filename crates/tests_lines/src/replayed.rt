@@ -41,7 +41,7 @@ pub fn word_of(ended: Ended) -> &'static str {
 /// How a run ends.
 pub type Ended = Result<End, RunFault>;
 
-/// How a run of the engine ends, `Failed` where the engine has failed.
+/// How a run of the engine ends, `Failed` if the engine has failed.
 fn ended_by<R: Source, W: Sink>(
     alloc: Global,
     engine: &mut Engine,

@@ -9,7 +9,7 @@ use Rattle.iv_rows.specs.OrderLaws.{row_eq_equiv}
 use Rattle.iv_zset.specs.Bags.{firsts, firsts_after}
 use Rattle.iv_zset.specs.Limits.{copies, within}
 use Rattle.iv_machine.specs.Changing.{times, without}
-use Rattle.iv_machine.proofs.Counting.{copies-append, copies-times}
+use Rattle.iv_machine.proofs.CopiesAfterWrite.{copies-append, copies-times}
 
 none_further : (c : ℕ) (row : List Cell) → firsts_after row_eq (row ∷ []) (times c row) ≡ []
 none_further zero row = refl

@@ -1,3 +1,3 @@
-pub mod Computing
+pub mod TextValues
 pub mod Copies
 pub mod ManyCopies

@@ -19,8 +19,8 @@ use Rattle.tests_machine.specs.OfCopies.{batch, copies_limit, no_sums, summed, s
 use Rattle.iv_machine.specs.Refusing.{test, or_else, all_within, entries_present, refusal, frame_refusal}
 use Rattle.iv_machine.specs.State.{State, Subscription, is_within}
 use Rattle.tests_machine.specs.Worked.{Computes, first, many, notes, of_ann, of_x, put}
-use Rattle.tests_machine.proofs.Computing.{texts_compute}
-use Rattle.iv_machine.proofs.Counting.{copies-append}
+use Rattle.tests_machine.proofs.TextValues.{texts_compute}
+use Rattle.iv_machine.proofs.CopiesAfterWrite.{copies-append}
 use Rattle.tests_machine.proofs.Copies.{filter_times, within_times, without_times, and_false, one_fails, one_more_not_within, own_copies}
 
 -- c copies of a row

@@ -51,7 +51,7 @@ Differ s t c lines others = IsTold s c lines × IsTold t c others
 
 -- ---- pairs of states
 
--- the state, where notes has these rows
+-- the state, if notes has these rows
 abbrev pub holding : State → List Row → State
 holding s rows = record s { rows = λ table. cond (table == 0) rows [] }
 
@@ -63,7 +63,7 @@ hidden = holding secured (of_ann 1 ∷ of_bob 5 ∷ [])
 abbrev pub other : State
 other = after_steps before_first (asks 1 (put notes (of_ann 2)) (change 2 1 ((of_ann 2, pos 1) ∷ []) ∷ []) ∷ [])
 
--- `first`, where ann has closed her subscription
+-- `first`, if ann has closed her subscription
 abbrev pub closed : State
 closed = after_steps first (asks 2 (unsubscribe 1) [] ∷ [])
 

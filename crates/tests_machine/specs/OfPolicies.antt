@@ -91,7 +91,7 @@ owner_and_force = let mine = codes "mine" in
     ∷ asks 2 (row_security mine true true) (change 2 2 ((one (int 1), negsuc 0) ∷ []) ∷ [])
     ∷ []
 
--- after `secured`: a row that is added is checked by `check`, where there is one
+-- after `secured`: a row that is added is checked by `check`, if there is one
 abbrev pub check_in_place_of_using : Steps
 check_in_place_of_using =
     asks 1 (grant notes (privilege.Insert ∷ privilege.Update ∷ []) (Some ann)) []

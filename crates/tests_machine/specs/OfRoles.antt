@@ -13,7 +13,7 @@ team = codes "team"
 abbrev pub org : Name
 org = codes "org"
 
--- after `first`: ann reads by a role of which she is a member through another
+-- after `first`: ann reads by a role that she is a member of through another
 abbrev pub membership_chain : Steps
 membership_chain =
     asks 1 (create_role team) []

@@ -1,4 +1,4 @@
--- Worked examples of states that are not sound, of which the laws on what a role learns do not hold: all their other premises do.
+-- Worked examples of states that are not sound, so that the laws on what a role learns do not hold: all their other premises do.
 use Rattle.std.specs.Prelude.{◌≡◌, ◌++◌, pos, negsuc, false, List, [], ◌∷◌, codes, map, Some}
 use Rattle.iv_bind.specs.Catalogs.{CatalogEntry, Held, Table, View}
 use Rattle.iv_access.specs.declared.privilege.Privilege.TheVariants.{Select}
@@ -59,7 +59,7 @@ forgotten (View answer) = View (record answer { needs = [] })
 abbrev pub forgets : CatalogEntry → CatalogEntry
 forgets e = record e { held = forgotten e.held }
 
--- the same, where the view does not say that it needs notes
+-- the same, if the view does not say that it needs notes
 abbrev pub forgetful : State
 forgetful = record viewed { frame = record viewed.frame { catalog = map forgets viewed.frame.catalog } }
 
@@ -97,7 +97,7 @@ UnsoundTells =
     (ended 2 1 cause.Privilege ((of_ann 1, negsuc 0) ∷ []) ∷ [])
     (ended 2 1 cause.Privilege [] ∷ [])
 
--- a subscription is not within the limits: it ends behind a command that leaves rights, and the frames differ
+-- a subscription is not within the limits: it ends after a command that leaves rights, and the frames differ
 abbrev pub UnsoundLeaves : Type 0
 UnsoundLeaves =
     LooksAlike 1 crowded watched
@@ -127,6 +127,6 @@ UnsoundReads =
     ((step unread puts).lines ≡ reply 1 done ∷ change 2 1 ((of_ann 3, pos 1) ∷ []) ∷ [])
     × (missing_for (left_by unread puts).frame 1 0 ≡ Some (Select, 0))
 
--- subscriptions that stand in another order tell their lines in it
+-- subscriptions that are in another order tell their lines in it
 abbrev pub UnsoundOrder : Type 0
 UnsoundOrder = (step disordered puts).lines ≡ reply 1 done ∷ change 2 2 ((of_ann 3, pos 1) ∷ []) ∷ change 2 1 ((of_ann 3, pos 1) ∷ []) ∷ []

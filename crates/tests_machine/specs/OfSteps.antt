@@ -1,4 +1,4 @@
--- Worked examples of steps: what others decided is told once, by the state behind it.
+-- Worked examples of steps: what others decided is told once, by the state after it.
 use Rattle.std.specs.Prelude.{◌≡◌, pos, negsuc, List, [], ◌∷◌, Option, Some, option_map}
 use Rattle.iv_access.specs.declared.privilege.Privilege.TheVariants.{Select}
 use Rattle.iv_access.specs.Rights.{Name}
@@ -10,7 +10,7 @@ use Rattle.tests_machine.specs.Worked.{admin, ann, first, notes, of_ann, of_x, p
 abbrev pub by : Name → Act → Fact
 by role act = record { role = role; act = act }
 
--- after `first` these facts, taken as one step, are told by these lines; None where one of them is refused
+-- after `first` these facts, taken as one step, are told by these lines; None if one of them is refused
 abbrev pub Tells : List Fact → Option (List Line) → Type 0
 Tells facts lines = option_map (λ o. o.lines) (stepped facts first) ≡ lines
 

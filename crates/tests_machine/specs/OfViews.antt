@@ -57,7 +57,7 @@ two_tables =
     ∷ asks 3 (begin bob) []
     ∷ []
 
--- where at most so many different rows are in a table and at a node
+-- if at most so many different rows are in a table and at a node
 abbrev pub between : ℕ → State
 between cap = after_steps (start cap) two_tables
 
@@ -70,16 +70,16 @@ pair k v = two (int k) (int v)
 abbrev pub j_text : List ℕ
 j_text = codes "select a.x, b.y from a join b on a.k = b.k"
 
--- where the view j is there
+-- if the view j is there
 abbrev pub of_j : ℕ → State
 of_j cap = after_steps (between cap) (view (codes "j") j_text)
 
--- where the views u and ua are there
+-- if the views u and ua are there
 abbrev pub of_unions : State
 of_unions = after_steps (between least_cap)
     (view (codes "u") (codes "select x from a union select y from b") ++ view (codes "ua") (codes "select x from a union all select y from b"))
 
--- where the view e is there
+-- if the view e is there
 abbrev pub of_except : State
 of_except = after_steps (between least_cap) (view (codes "e") (codes "select x from a except select y from b"))
 
@@ -139,7 +139,7 @@ ended_by_limit =
 abbrev pub large : Row
 large = of_ann (2 ^ 62)
 
--- after `first`: a sum is tested where a view has it
+-- after `first`: a sum is tested if a view has it
 abbrev pub sum_limits : Steps
 sum_limits =
     asks 1 (write (many 2 notes (insert large) ∷ [])) (change 2 1 ((large, pos 2) ∷ []) ∷ [])
@@ -150,7 +150,7 @@ sum_limits =
     ∷ fails 1 (write (many 2 notes (insert large) ∷ [])) limit
     ∷ []
 
--- where one row fits a table
+-- if one row fits a table
 abbrev pub table_limit : Steps
 table_limit = fails 1 (put notes (of_ann 2)) limit ∷ asks 1 (put notes (of_ann 1)) (change 2 1 ((of_ann 1, pos 1) ∷ []) ∷ []) ∷ []
 

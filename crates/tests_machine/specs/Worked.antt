@@ -129,7 +129,7 @@ before_first = after_steps (start least_cap) opened
 abbrev pub first_change : Steps
 first_change = asks 1 (put notes (of_ann 1)) (change 2 1 ((of_ann 1, pos 1) ∷ []) ∷ []) ∷ []
 
--- the state behind it
+-- the state after it
 abbrev pub first : State
 first = after_steps before_first first_change
 
@@ -141,6 +141,6 @@ row_security_then_policy =
     ∷ asks 1 (create_policy (policy notes (codes "own") (codes "who = current_user"))) (change 2 1 ((of_ann 1, pos 1) ∷ []) ∷ [])
     ∷ []
 
--- the state behind it: ann sees her own notes alone
+-- the state after it: ann sees her own notes alone
 abbrev pub secured : State
 secured = after_steps first row_security_then_policy

@@ -67,7 +67,7 @@ pub fn premises_are_needed()
 {}
 
 /// Nor may the premise go that states are sound: for each law on lines and refusals that has it, states that are not, and what is
-/// told. The frames differ behind `crowded` and `watched`, of which the second is sound: so each of two states must be.
+/// told. The frames differ after `crowded` and `watched`, of which the second is sound: so each of two states must be.
 pub fn soundness_is_needed()
     ensures told { UnsoundTells }
     ensures later { UnsoundLeaves }
@@ -157,7 +157,7 @@ pub fn counts_come_late()
     ensures limit { refusal (counts.over (counts.numbers 0)) 1 (subscribe counts.one) ≡ Some limit }
 {}
 
-/// Names, lists, texts and numbers that are well, and such that are not.
+/// Names, lists, texts and numbers that are valid, and such that are not.
 pub fn shapes_compute()
     ensures example { list_all is_well_command (commands (opened ++ first_change)) ≡ true }
     ensures good { list_all is_well_act shapes.good ≡ true }
@@ -166,7 +166,7 @@ pub fn shapes_compute()
     ensures last_session { map (λ n. is_well_command (shapes.of_session n)) ((2 ^ 32 - 1) ∷ 2 ^ 32 ∷ []) ≡ true ∷ false ∷ [] }
 {}
 
-/// A row may have 2^63 - 1 copies, a batch may add more that it takes away, and a sum is tested where a view has it.
+/// A row may have 2^63 - 1 copies, a batch may add more that it takes away, and a sum is tested if a view has it.
 pub fn many_copies_compute()
     ensures copies_limit { (c : ℕ) → c ≡ 2 ^ 63 - 1 → Computes copies.unread (copies.copies_limit c) }
     ensures sums_limit { (c : ℕ) → c ≡ 2 ^ 62 → Computes copies.summed (copies.sums_limit c) }
@@ -174,7 +174,7 @@ pub fn many_copies_compute()
     ensures no_sums { (c : ℕ) → c ≡ 2 ^ 62 → Computes copies.unread (copies.no_sums c) }
 {}
 
-/// A step is told by the states before and behind it, and is not taken where a fact is refused.
+/// A step is told by the states before and after it, and is not taken if a fact is refused.
 pub fn steps_compute()
     ensures nothing { steps.Tells [] (Some []) }
     ensures taken_and_given { steps.Tells steps.taken_and_given (Some []) }

@@ -30,7 +30,7 @@ fn ask(
     })
 }
 
-/// What a request is told where the machine would answer so: a word for what is not carried out.
+/// What a request is told if the machine would answer so: a word for what is not carried out.
 fn told(
     alloc: Global,
     names: &mut Names,

@@ -18,7 +18,7 @@ const UPGRADE: &[u8] =
 
 const BAD: &[u8] = b"HTTP/1.1 400 Bad Request\r\nconnection: close\r\ncontent-length: 0\r\n\r\n";
 
-/// Frames behind the handshake, what is heard of them, and what is answered. Of what is heard `<..>` is a text, `-` another thing, and `.`
+/// Frames after the handshake, what is heard of them, and what is answered. Of what is heard `<..>` is a text, `-` another thing, and `.`
 /// that nothing more is. A mask of zeros changes nothing.
 const FRAMES: &str = r#"||
 # section 5.7: a masked text; a ping, and its pong
@@ -116,7 +116,7 @@ fn opens(peer: &mut Peer, piece: usize, heard: &mut String) -> bool
     is_open
 }
 
-/// Whether frames behind the handshake are heard so, and answered so.
+/// Whether frames after the handshake are heard so, and answered so.
 fn answers(
     peer: &mut Peer,
     frames: &[u8],
@@ -151,7 +151,7 @@ fn is_answered(alloc: Global, line: &str, piece: usize) -> Result<bool, AllocErr
     Ok(is)
 }
 
-/// The first line that is not answered so where its bytes come in pieces of this length.
+/// The first line that is not answered so if its bytes come in pieces of this length.
 fn first_other(alloc: Global, piece: usize) -> &'static str
     requires { 0 < piece }
 {
@@ -179,7 +179,7 @@ fn refusal(word: &str) -> &'static [u8] {
     }
 }
 
-/// Whether the head is answered so, and the connection is over then. Nothing is told before the handshake, nor behind its refusal.
+/// Whether the head is answered so, and the connection is over then. Nothing is told before the handshake, nor after its refusal.
 fn refuses(peer: &mut Peer, head: &[u8], wanted: &[u8], heard: &mut String) -> bool {
     let is_played = play(peer, head, 1000, heard);
     let is = is_played && peer.pending() == wanted && peer.is_over() != wanted.is_empty();
@@ -241,7 +241,7 @@ fn tells(peer: &mut Peer) -> bool {
     told && peer.pending() == b"ello\x81\x02{}".as_slice()
 }
 
-/// Whether a close is told behind these, and nothing behind it, nor is anything heard.
+/// Whether a close is told after these, and nothing after it, nor is anything heard.
 fn closes(peer: &mut Peer, heard: &mut String) -> bool {
     let is_closed = peer.close(4401, b"no such token").is_ok() && peer.tell(b"more").is_ok();
     let is_over = is_closed && peer.close(1000, b"").is_ok();
@@ -251,7 +251,7 @@ fn closes(peer: &mut Peer, heard: &mut String) -> bool {
     is_taken && heard.as_str() == "."
 }
 
-/// Whether a new peer does both behind its handshake.
+/// Whether a new peer does both after its handshake.
 fn are_told(alloc: Global) -> bool {
     let mut heard = String::new(alloc);
     let mut peer = Peer::new(alloc);

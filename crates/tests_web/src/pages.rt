@@ -89,7 +89,7 @@ fn heads_are_read(rt: HostRuntime) {
     assert_eq!(rt; first_misread(rt.alloc()), "none");
 }
 
-/// A text with so many more bytes behind it, and an end.
+/// A text with so many more bytes after it, and an end.
 fn longer(alloc: Global, front: &[u8], more: usize, end: &[u8]) -> Result<Vec<u8>, AllocError> {
     let mut text = Vec::from_slice(alloc, front)?;
     for _ in 0..more {
@@ -109,7 +109,7 @@ fn many_fields(alloc: Global, count: usize) -> Result<Vec<u8>, AllocError> {
     Ok(head)
 }
 
-/// Fronts of heads, how many bytes stand behind them, ends, and what these heads ask: of 8,192 bytes, whole and not, and one more.
+/// Fronts of heads, how many bytes are after them, ends, and what these heads ask: of 8,192 bytes, whole and not, and one more.
 const LONG: &str = r#"GET / HTTP/1.0\r\nb: |8169|\r\n\r\n|GET
 GET / HTTP/1.0\r\nb: |8173||more
 GET / HTTP/1.0\r\nb: |8170|\r\n\r\n|431
@@ -292,7 +292,7 @@ fn ask(only_head: bool, known: Option<&[u8]>) -> Ask<'_> {
     }
 }
 
-/// Whether the page is answered in full where the client knows another file, and is told to be the same where it knows this one.
+/// Whether the page is answered in full if the client knows another file, and is told to be the same if it knows this one.
 fn is_answered(alloc: Global, tag: &[u8], line: &str) -> Result<bool, AllocError> {
     let known = bytes_of(alloc, cell(line, 0))?;
     let is_same = cell(line, 1) == "true";

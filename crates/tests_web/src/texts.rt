@@ -3,7 +3,7 @@ ghost use Rattle.std.specs.Prelude.{◌≤◌};
 
 use std::alloc::{AllocError, Global};
 
-/// A cell of a line, between bars; an empty one where there are fewer.
+/// A cell of a line, between bars; an empty one if there are fewer.
 pub fn cell(line: &str, place: usize) -> &str {
     line.split('|').nth(place).unwrap_or("")
 }
@@ -24,7 +24,7 @@ fn digit(byte: u8) -> u8
     }
 }
 
-/// The byte that stands behind a backslash, as `r`, `n`, `0`, or `x` with two digits, and what stands behind it.
+/// The byte that is after a backslash, as `r`, `n`, `0`, or `x` with two digits, and what follows it.
 fn unescaped(text: &[u8]) -> (Option<u8>, &[u8]) {
     match text {
         [b'r', rest @ ..] => (Some(b'\r'), rest),
@@ -35,7 +35,7 @@ fn unescaped(text: &[u8]) -> (Option<u8>, &[u8]) {
     }
 }
 
-/// Adds what stands behind a backslash.
+/// Adds what follows a backslash.
 fn push_escaped(bytes: &mut Vec<u8>, text: &[u8]) -> Result<(), AllocError> {
     let (byte, rest) = unescaped(text);
     if let Some(byte) = byte {

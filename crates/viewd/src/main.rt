@@ -1,7 +1,7 @@
 //! The program: request lines in, answer lines out, through one engine.
 #![tactic(auto)]
 
-use iv_arguments::{asked_for, random_seed};
+use iv_arguments::{Fault, asked_for, random_seed};
 use iv_lines::{FromRead, FromWrite};
 use iv_program::work;
 use std::process::ExitCode;
@@ -23,6 +23,8 @@ fn main(rt: HostRuntime) -> ExitCode {
     };
     match done {
         Ok(()) => ExitCode::SUCCESS,
+        // told with its cause, where that is known
+        Err(Fault::Network) => ExitCode::from(Fault::Network.status()),
         Err(fault) => {
             let _ = eprintln!(rt; "{fault}");
             ExitCode::from(fault.status())

@@ -18,7 +18,7 @@ use iv_machine::laws::{
 use iv_request::laws::requests_are_well;
 
 /// In whatever runs, over restarts: the token that a client presented opens its role now, and its role has a session. Who presents a token
-/// that opens a known role comes in, where the number is free and a session is there or can be begun.
+/// that opens a known role comes in, if the number is free and a session is there or can be begun.
 pub fn tokens_open_roles()
     ensures acts { (cap : ℕ) (g : Gate) (m : ℕ) (c : Client) → Runs cap g → IsClient g m c → ActsByToken g c }
     ensures comes { (cap : ℕ) (g : Gate) → Runs cap g → g.dead ≡ false → LetsIn g }
@@ -77,7 +77,7 @@ pub fn grants_are_told()
 
 /// In whatever runs, over restarts: what a client was told of the shape is all that is for its role: to an administrator each entry that
 /// makes it, once and in order, and nothing to anyone else. These entries lead, without the others, to the same roles, memberships, rights,
-/// relations and policies. Where the shape's text is beyond its bound, an event adds nothing to it.
+/// relations and policies. If the shape's text is beyond its bound, an event adds nothing to it.
 pub fn the_shape_is_told()
     ensures told { (cap : ℕ) (g : Gate) → Runs cap g → ShapeIsTold g }
     ensures makes { (cap : ℕ) (g : Gate) → Runs cap g → MakesShape cap g }

@@ -10,7 +10,7 @@ use iv_machine::laws::{
     ends_are_told, lines_add_up, requests_open_what_they_name, steps_keep_sound, what_stands_lasts,
 };
 
-/// By an event a client is told what shows the entries that are accepted behind it, and what comes of its own message where the event
+/// By an event a client is told what shows the entries that are accepted after it, and what comes of its own message if the event
 /// is that.
 pub fn told_text_shows_its_entries()
     ensures { (g : Gate) (e : Event) → AreShown g e }

@@ -1,4 +1,4 @@
-use Rattle.gateway.proofs.Leading.{begun_on}
+use Rattle.gateway.proofs.RunsByCalls.{begun_on}
 use Rattle.gateway.proofs.steps.accept.Goals as goal
 
 pub returns : goal.returns

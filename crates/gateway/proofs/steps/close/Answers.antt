@@ -1,6 +1,6 @@
 use Rattle.iv_peer.specs.Socket.{closed}
 use Rattle.iv_desk.specs.Front.{at_socket, closes}
-use Rattle.gateway.proofs.Leading.{done_on, failed_on}
+use Rattle.gateway.proofs.RunsByCalls.{done_on, failed_on}
 use Rattle.gateway.proofs.steps.close.Goals as goal
 
 pub returns-in-Ok : goal.returns-in-Ok

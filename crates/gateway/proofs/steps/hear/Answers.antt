@@ -1,7 +1,7 @@
 use Rattle.std.proofs.Common.{refl}
 use Rattle.iv_peer.specs.Socket.{took}
 use Rattle.iv_desk.specs.Front.{at_socket}
-use Rattle.gateway.proofs.Leading.{failed_on, heard_on, took_runs}
+use Rattle.gateway.proofs.RunsByCalls.{failed_on, heard_on, took_runs}
 use Rattle.gateway.proofs.steps.hear.Goals as goal
 
 pub returns-in-Ok : goal.returns-in-Ok

@@ -1,5 +1,5 @@
 use Rattle.std.proofs.Common.{refl}
-use Rattle.gateway.proofs.Leading.{failed_on, heard_on}
+use Rattle.gateway.proofs.RunsByCalls.{failed_on, heard_on}
 use Rattle.gateway.proofs.steps.hear_on.Goals as goal
 
 pub returns-in-Ok : goal.returns-in-Ok

@@ -1,7 +1,7 @@
 use Rattle.std.proofs.Common.{refl}
 use Rattle.iv_gate.specs.Events.{known}
 use Rattle.iv_desk.specs.Front.{dismissed, knows}
-use Rattle.gateway.proofs.Leading.{called_on, failed_on}
+use Rattle.gateway.proofs.RunsByCalls.{called_on, failed_on}
 use Rattle.gateway.proofs.steps.know.Goals as goal
 
 pub returns-in-Ok : goal.returns-in-Ok

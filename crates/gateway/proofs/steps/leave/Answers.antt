@@ -1,5 +1,5 @@
 use Rattle.iv_desk.specs.Front.{goes_on, leaves, left}
-use Rattle.gateway.proofs.Leading.{done_on, failed_on}
+use Rattle.gateway.proofs.RunsByCalls.{done_on, failed_on}
 use Rattle.gateway.proofs.steps.leave.Goals as goal
 
 pub returns-in-Ok : goal.returns-in-Ok

@@ -1,4 +1,4 @@
-use Rattle.gateway.proofs.Leading.{passed_on}
+use Rattle.gateway.proofs.RunsByCalls.{passed_on}
 use Rattle.gateway.proofs.steps.pass.Goals as goal
 
 pub returns : goal.returns

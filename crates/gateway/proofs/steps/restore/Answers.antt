@@ -1,4 +1,4 @@
-use Rattle.gateway.proofs.Leading.{restored_on}
+use Rattle.gateway.proofs.RunsByCalls.{restored_on}
 use Rattle.gateway.proofs.steps.restore.Goals as goal
 
 pub returns-in-Ok : goal.returns-in-Ok

@@ -1,7 +1,7 @@
 use Rattle.std.proofs.Common.{refl}
 use Rattle.iv_gate.specs.Events.{synced}
 use Rattle.iv_desk.specs.Front.{offered, syncs}
-use Rattle.gateway.proofs.Leading.{called_on, failed_on}
+use Rattle.gateway.proofs.RunsByCalls.{called_on, failed_on}
 use Rattle.gateway.proofs.steps.settle.Goals as goal
 
 pub returns-in-Ok : goal.returns-in-Ok

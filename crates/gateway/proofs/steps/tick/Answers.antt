@@ -1,6 +1,6 @@
 use Rattle.iv_gate.specs.Events.{ticked}
 use Rattle.iv_desk.specs.Front.{by_event, goes_on, ticks}
-use Rattle.gateway.proofs.Leading.{done_on, failed_on}
+use Rattle.gateway.proofs.RunsByCalls.{done_on, failed_on}
 use Rattle.gateway.proofs.steps.tick.Goals as goal
 
 pub returns-in-Ok : goal.returns-in-Ok

@@ -1,7 +1,7 @@
 use Rattle.std.proofs.Common.{◌≡◌, ◌++◌, ◌-◌, ap, ◌∙◌, replicate, arith}
 use Rattle.std.proofs.lemmas.List.{take_all}
 use Rattle.iv_access.specs.Grants.{is_flagged}
-use Rattle.iv_access.proofs.Flagged.{more_clear}
+use Rattle.iv_access.proofs.GrantFlags.{more_clear}
 use Rattle.iv_access.proofs.grants.grow.Goals as goal
 
 pub returns-in_ok-resize-clause-flags : goal.returns-in_ok-resize-clause-flags

@@ -1,7 +1,7 @@
 use Rattle.std.specs.Prelude.{slice_get}
 use Rattle.std.specs.List.{list_any, position}
 use Rattle.iv_access.specs.Policies.{forbids, is_exempt, permits, policies_of}
-use Rattle.iv_access.proofs.Rising.{reached_rise, told, first_by_name}
+use Rattle.iv_access.proofs.PolicyOrder.{reached_rise, told, first_by_name}
 use Rattle.iv_access.proofs.laws.first_by_name_is_told.Goals as goal
 
 pub returns : goal.returns

@@ -1,4 +1,4 @@
-use Rattle.iv_access.proofs.Naming.{among_given}
+use Rattle.iv_access.proofs.GrantNames.{among_given}
 use Rattle.iv_access.proofs.laws.grants_give_what_they_name.Goals as goal
 
 pub returns : goal.returns

@@ -1,4 +1,4 @@
-use Rattle.iv_access.proofs.Naming.{all_held}
+use Rattle.iv_access.proofs.GrantNames.{all_held}
 use Rattle.iv_access.proofs.laws.held_grants_change_nothing.Goals as goal
 
 pub returns : goal.returns

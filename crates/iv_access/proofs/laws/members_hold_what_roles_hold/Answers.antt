@@ -1,5 +1,5 @@
 use Rattle.iv_roles.proofs.Chains.{follows}
-use Rattle.iv_access.proofs.Granting.{members_hold}
+use Rattle.iv_access.proofs.GrantSets.{members_hold}
 use Rattle.iv_access.proofs.laws.members_hold_what_roles_hold.Goals as goal
 
 pub returns : goal.returns

@@ -1,4 +1,4 @@
-use Rattle.iv_access.proofs.Looping.{reached_apart}
+use Rattle.iv_access.proofs.NoLoops.{reached_apart}
 use Rattle.iv_access.proofs.laws.memberships_do_not_loop.Goals as goal
 
 pub returns : goal.returns

@@ -7,8 +7,8 @@ use Rattle.iv_roles.specs.Roles.{is_admin}
 use Rattle.iv_access.specs.Changing.{with_relation, all_privileges}
 use Rattle.iv_access.specs.Given.{is_among}
 use Rattle.iv_roles.proofs.Chains.{by_right, reaches_itself}
-use Rattle.iv_access.proofs.Granting.{given, gives}
-use Rattle.iv_access.proofs.Naming.{among_given, privilege_among_all}
+use Rattle.iv_access.proofs.GrantSets.{given, gives}
+use Rattle.iv_access.proofs.GrantNames.{among_given, privilege_among_all}
 use Rattle.iv_access.proofs.laws.owners_have_all.Goals as goal
 
 or_true : (a : Bool) → (a || true) ≡ true

@@ -1,4 +1,4 @@
-use Rattle.iv_access.proofs.Rising.{reached_rise}
+use Rattle.iv_access.proofs.PolicyOrder.{reached_rise}
 use Rattle.iv_access.proofs.laws.policies_rise_by_name.Goals as goal
 
 pub returns : goal.returns

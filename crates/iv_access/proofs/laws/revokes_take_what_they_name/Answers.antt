@@ -1,4 +1,4 @@
-use Rattle.iv_access.proofs.Naming.{among_taken}
+use Rattle.iv_access.proofs.GrantNames.{among_taken}
 use Rattle.iv_access.proofs.laws.revokes_take_what_they_name.Goals as goal
 
 pub returns : goal.returns

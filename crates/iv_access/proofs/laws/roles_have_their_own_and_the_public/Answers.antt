@@ -1,4 +1,4 @@
-use Rattle.iv_access.proofs.Granting.{has_by, by_has}
+use Rattle.iv_access.proofs.GrantSets.{has_by, by_has}
 use Rattle.iv_access.proofs.laws.roles_have_their_own_and_the_public.Goals as goal
 
 pub returns : goal.returns

@@ -1,4 +1,4 @@
-use Rattle.iv_bind.proofs.Growing.{still_sound, sound_push}
+use Rattle.iv_bind.proofs.LargerCatalog.{still_sound, sound_push}
 use Rattle.iv_bind.proofs.laws.sound_catalogs_grow.Goals as goal
 
 pub returns : goal.returns

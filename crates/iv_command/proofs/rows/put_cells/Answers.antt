@@ -5,7 +5,7 @@ use Rattle.serde_json.specs.View.{items_of}
 use Rattle.iv_command.specs.RowTexts.{cell_data}
 use Rattle.iv_rows.specs.View.{cell_of}
 use Rattle.iv_command.specs.Tokens.{AddsValue}
-use Rattle.iv_command.proofs.Writing.{adds_item, adds_items, map-map}
+use Rattle.iv_command.proofs.TokenTexts.{adds_item, adds_items, map-map}
 use Rattle.iv_command.proofs.rows.put_cells.Goals as goal
 
 pub loop-cell-preserved : goal.loop-cell-preserved

@@ -3,7 +3,7 @@ use Rattle.json.specs.Token.{begin_array}
 use Rattle.iv_command.specs.RowTexts.{cell_data}
 use Rattle.iv_rows.specs.View.{cell_of}
 use Rattle.iv_command.specs.Tokens.{Adds}
-use Rattle.iv_command.proofs.Writing.{each_tokens}
+use Rattle.iv_command.proofs.TokenTexts.{each_tokens}
 use Rattle.iv_command.proofs.rows.put_cells.Given as goal
 
 abbrev pub invariant-loop-cell : goal.invariant-loop-cell

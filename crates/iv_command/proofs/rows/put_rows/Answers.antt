@@ -1,6 +1,6 @@
 use Rattle.std.proofs.Common.{arith}
 use Rattle.iv_command.specs.RowTexts.{entry_data}
-use Rattle.iv_command.proofs.Writing.{adds_item, adds_items}
+use Rattle.iv_command.proofs.TokenTexts.{adds_item, adds_items}
 use Rattle.iv_command.proofs.rows.put_rows.Goals as goal
 
 pub loop-entry-preserved : goal.loop-entry-preserved

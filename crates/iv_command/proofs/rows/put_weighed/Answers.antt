@@ -1,5 +1,5 @@
 use Rattle.std.proofs.Common.{to_z-of_z}
-use Rattle.iv_command.proofs.Writing.{adds_first, adds_more, adds_last, whole_text}
+use Rattle.iv_command.proofs.TokenTexts.{adds_first, adds_more, adds_last, whole_text}
 use Rattle.iv_command.proofs.rows.put_weighed.Goals as goal
 
 pub returns : goal.returns

@@ -1,6 +1,6 @@
 use Rattle.std.proofs.Common.{◌∙◌}
 use Rattle.iv_command.specs.RowTexts.{rows_data}
-use Rattle.iv_command.proofs.Writing.{printed}
+use Rattle.iv_command.proofs.TokenTexts.{printed}
 use Rattle.iv_command.proofs.rows.write_rows.Goals as goal
 
 pub returns : goal.returns

@@ -5,7 +5,7 @@ use Rattle.iv_algebra.specs.Contents.{rows_of}
 use Rattle.iv_database.specs.Changes.{Change}
 use Rattle.iv_database.specs.Summed.{KeepsLimits}
 use Rattle.iv_database.specs.Stands.{HasTable}
-use Rattle.iv_database.proofs.Fitting.{keep_taken, kept_next, table_at}
+use Rattle.iv_database.proofs.BagSizes.{keep_taken, kept_next, table_at}
 use Rattle.iv_database.proofs.limits.all_fit.Goals as goal
 
 pub table-requires : goal.table-requires

@@ -1,6 +1,6 @@
 use Rattle.std.proofs.Common.{take}
 use Rattle.std.specs.List.{AllByRecursion}
-use Rattle.iv_database.proofs.Fitting.{IsKept}
+use Rattle.iv_database.proofs.BagSizes.{IsKept}
 use Rattle.iv_database.proofs.limits.all_fit.Given as goal
 
 abbrev pub invariant-loop-change : goal.invariant-loop-change

@@ -5,7 +5,7 @@ use mir.Val.{SFits}
 use Rattle.iv_zset.specs.Support.{one_for}
 use Rattle.iv_zset.specs.Weights.{InRange}
 use Rattle.iv_zset.proofs.Support.{rows_stored, rows_sum}
-use Rattle.iv_database.proofs.Fitting.{breaks, counted_next, counted_start, entry_fits, keeps, range_next, range_out, range_start, slice_at}
+use Rattle.iv_database.proofs.BagSizes.{breaks, counted_next, counted_start, entry_fits, keeps, range_next, range_out, range_start, slice_at}
 use Rattle.iv_database.proofs.limits.fits_counted.Goals as goal
 
 pub loop-row-init : goal.loop-row-init

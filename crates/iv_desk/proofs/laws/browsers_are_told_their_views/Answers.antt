@@ -1,4 +1,4 @@
-use Rattle.iv_desk.proofs.Serving.{browsers_told}
+use Rattle.iv_desk.proofs.NumberTraffic.{browsers_told}
 use Rattle.iv_desk.proofs.laws.browsers_are_told_their_views.Goals as goal
 
 pub returns : goal.returns

@@ -1,4 +1,4 @@
-use Rattle.iv_desk.proofs.Leading.{dismissed_runs, heard_runs, offered_runs, restored_runs}
+use Rattle.iv_desk.proofs.RunsByCalls.{dismissed_runs, heard_runs, offered_runs, restored_runs}
 use Rattle.iv_desk.proofs.laws.calls_lead_from_runs_to_runs.Goals as goal
 
 pub returns-clause-restores : goal.returns-clause-restores

@@ -1,4 +1,4 @@
-use Rattle.iv_desk.proofs.Freeing.{held_freed}
+use Rattle.iv_desk.proofs.FreeNumbers.{held_freed}
 use Rattle.iv_desk.proofs.laws.held_numbers_are_freed.Goals as goal
 
 pub returns : goal.returns

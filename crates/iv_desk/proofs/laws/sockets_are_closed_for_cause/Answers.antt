@@ -1,4 +1,4 @@
-use Rattle.iv_desk.proofs.Causing.{closed_for_cause}
+use Rattle.iv_desk.proofs.SocketEnds.{closed_for_cause}
 use Rattle.iv_desk.proofs.laws.sockets_are_closed_for_cause.Goals as goal
 
 pub returns : goal.returns

@@ -4,7 +4,7 @@ use Rattle.iv_clients.specs.Clients.{at_client}
 use Rattle.iv_peer.specs.Socket.{closed}
 use Rattle.iv_desk.specs.Front.{at_socket, turned_away}
 use Rattle.iv_desk.specs.Desks.{IsBehind, with_peer}
-use Rattle.iv_desk.proofs.Standing.{behind_closed, dismissed_closed}
+use Rattle.iv_desk.proofs.StatesAfterStep.{behind_closed, dismissed_closed}
 use Rattle.iv_desk.proofs.places.dismiss_at.Goals as goal
 
 pub returns-in_ok-close_at : goal.returns-in_ok-close_at

@@ -1,6 +1,6 @@
 use Rattle.std.proofs.Common.{refl}
 use Rattle.iv_desk.specs.Front.{dismissed}
-use Rattle.iv_desk.proofs.Calling.{called_behind}
+use Rattle.iv_desk.proofs.ClientsToTell.{called_behind}
 use Rattle.iv_desk.proofs.places.dismiss_told.Goals as goal
 
 pub returns : goal.returns

@@ -1,6 +1,6 @@
 use Rattle.std.proofs.Common.{arith}
 use Rattle.std.proofs.lemmas.Grind.{common_steps}
-use Rattle.iv_desk.proofs.Standing.{heard_in, heard_past}
+use Rattle.iv_desk.proofs.StatesAfterStep.{heard_in, heard_past}
 use Rattle.iv_desk.proofs.places.hear_at.Goals as goal
 
 pub returns-in-None : goal.returns-in-None

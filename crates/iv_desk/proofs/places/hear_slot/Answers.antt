@@ -1,5 +1,5 @@
 use Rattle.std.proofs.Common.{◌∙◌, sym}
-use Rattle.iv_desk.proofs.Standing.{heard_slot}
+use Rattle.iv_desk.proofs.StatesAfterStep.{heard_slot}
 use Rattle.iv_desk.proofs.places.hear_slot.Goals as goal
 
 pub returns-in_ok-hearing-in-Some : goal.returns-in_ok-hearing-in-Some

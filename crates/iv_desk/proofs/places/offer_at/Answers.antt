@@ -1,6 +1,6 @@
 use Rattle.std.proofs.Common.{arith}
 use Rattle.std.proofs.lemmas.Grind.{common_steps}
-use Rattle.iv_desk.proofs.Standing.{offered_in, offered_past}
+use Rattle.iv_desk.proofs.StatesAfterStep.{offered_in, offered_past}
 use Rattle.iv_desk.proofs.places.offer_at.Goals as goal
 
 pub returns-in-None : goal.returns-in-None

@@ -1,7 +1,7 @@
 use Rattle.std.proofs.Common.{take}
 use Rattle.iv_desk.specs.Front.{offered}
 use Rattle.iv_desk.specs.Desks.{at_each}
-use Rattle.iv_desk.proofs.Standing.{each_all, each_next}
+use Rattle.iv_desk.proofs.StatesAfterStep.{each_all, each_next}
 use Rattle.iv_desk.proofs.places.offer_each.Goals as goal
 
 pub loop-at-init : goal.loop-at-init

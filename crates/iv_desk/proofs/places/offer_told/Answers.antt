@@ -1,6 +1,6 @@
 use Rattle.std.proofs.Common.{◌∙◌}
 use Rattle.iv_desk.specs.Front.{offered}
-use Rattle.iv_desk.proofs.Calling.{called_behind}
+use Rattle.iv_desk.proofs.ClientsToTell.{called_behind}
 use Rattle.iv_desk.proofs.places.offer_told.Goals as goal
 
 pub returns : goal.returns

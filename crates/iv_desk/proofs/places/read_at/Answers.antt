@@ -2,7 +2,7 @@ use Rattle.std.proofs.Common.{sym, subst}
 use Rattle.iv_peer.specs.Socket.{took}
 use Rattle.iv_desk.specs.Front.{at_socket}
 use Rattle.iv_desk.specs.Desks.{IsBehind}
-use Rattle.iv_desk.proofs.Standing.{behind_took}
+use Rattle.iv_desk.proofs.StatesAfterStep.{behind_took}
 use Rattle.iv_desk.proofs.places.read_at.Goals as goal
 
 pub returns-in_ok-hearing-in-Ok : goal.returns-in_ok-hearing-in-Ok

@@ -1,4 +1,4 @@
-use Rattle.iv_disk.proofs.Keeping.{headed, headed_none, pushed}
+use Rattle.iv_disk.proofs.DiskBytes.{headed, headed_none, pushed}
 use Rattle.iv_disk.proofs.keeper.begin_anew.Goals as goal
 
 pub returns-clause-stands : goal.returns-clause-stands

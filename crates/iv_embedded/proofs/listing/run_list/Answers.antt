@@ -1,9 +1,9 @@
-use Rattle.iv_engine.proofs.Sounding.{sound_after_all}
+use Rattle.iv_engine.proofs.SoundStates.{sound_after_all}
 use Rattle.std.proofs.Common.{◌≡◌, ◌∙◌, refl, sym, ap, List, map, ◌++◌, [], subst, cond, arith}
 use Rattle.std.specs.List.{list_all}
 use Rattle.std.proofs.lemmas.List.{map-append}
 use Rattle.std.specs.Vec.Iter.{into_iter_items}
-use Rattle.iv_machine.proofs.Adding.{adds_up}
+use Rattle.iv_machine.proofs.RunSums.{adds_up}
 use Rattle.iv_machine.specs.Held.{held}
 use Rattle.iv_machine.specs.Machine.{run, step}
 use Rattle.iv_machine.specs.Reached.{AreNumbersUnique}
@@ -14,8 +14,8 @@ use Rattle.iv_command.specs.declared.command.Command.{Command}
 use Rattle.iv_embedded.specs.Applied.{AreApplied}
 use Rattle.iv_store.specs.Engine.{IsBehind}
 use Rattle.iv_command.specs.Views.{command_of, line_of}
-use Rattle.iv_embedded.proofs.Applying.{GoesBehind, one_more}
-use Rattle.iv_store.proofs.Running.{no_items, nothing_more, run_more, well_others}
+use Rattle.iv_embedded.proofs.CommandLists.{GoesBehind, one_more}
+use Rattle.iv_store.proofs.RunLines.{no_items, nothing_more, run_more, well_others}
 use Rattle.iv_embedded.proofs.listing.run_list.Goals as goal
 
 pub loop-command-preserved : goal.loop-command-preserved

@@ -6,7 +6,7 @@ use Rattle.iv_machine.specs.State.{State}
 use Rattle.iv_machine.specs.Well.{is_well_command}
 use Rattle.iv_store.specs.Engine.{IsBehind}
 use Rattle.iv_command.specs.Views.{command_of, line_of}
-use Rattle.iv_embedded.proofs.Applying.{GoesBehind}
+use Rattle.iv_embedded.proofs.CommandLists.{GoesBehind}
 use Rattle.iv_embedded.proofs.listing.run_list.Given as goal
 
 -- from each state behind the engine at the start: a state behind it now, from which what is left has the lines that are still to come;

@@ -2,7 +2,7 @@ use Rattle.std.proofs.Common.{◌≡◌, ◌∙◌, ◌∷◌, [], ◌++◌, Boo
 use Rattle.std.proofs.lemmas.List.{append-nil, map-append}
 use Rattle.iv_access.specs.Rights.{Name}
 use Rattle.iv_engine.specs.Looked.{has_named}
-use Rattle.iv_engine.proofs.Knowing.{told_more}
+use Rattle.iv_engine.proofs.NameLookup.{told_more}
 use Rattle.iv_engine.proofs.known.names_with.Goals as goal
 use Rattle.iv_engine.proofs.known.names_with.Goals.{then-has_named+in_ok-push-in-Some, else-has_named}
 

@@ -3,8 +3,8 @@ use Rattle.std.specs.Prelude.{string_bytes}
 use Rattle.iv_access.specs.Privileges.{role_of}
 use Rattle.iv_machine.specs.Act.{revoke_role}
 use Rattle.iv_store.specs.Store.{Store}
-use Rattle.iv_engine.proofs.Enrolled.{enrolled_long, enrolled_steps, enrolled_waits, parts}
-use Rattle.iv_store.proofs.Stepping.{goes_up, stopped}
+use Rattle.iv_engine.proofs.MembershipRequests.{enrolled_long, enrolled_steps, enrolled_waits, parts}
+use Rattle.iv_store.proofs.RequestSteps.{goes_up, stopped}
 use Rattle.iv_engine.proofs.memberships.revoke_role.Goals as goal
 
 pub returns-in_err-revoke_role : goal.returns-in_err-revoke_role

@@ -3,7 +3,7 @@ use Rattle.std.proofs.lemmas.Result.{IfOk-weaker}
 use Rattle.iv_readers.specs.Flags.{differing}
 use Rattle.iv_store.specs.Concerned.{reaching}
 use Rattle.iv_store.specs.Turned.{AreReadersTold, AreWaiting}
-use Rattle.iv_engine.proofs.Joining.{many_flags}
+use Rattle.iv_engine.proofs.MembershipEffects.{many_flags}
 use Rattle.iv_engine.proofs.memberships.tell_members.Goals as goal
 
 pub differing-requires : goal.differing-requires

@@ -2,9 +2,9 @@ use Rattle.std.proofs.Common.{◌∙◌, ap, subst, sym}
 use Rattle.iv_machine.specs.Act.{PolicyText, create_policy}
 use Rattle.iv_database.specs.Database.{IsDatabase}
 use Rattle.iv_store.specs.Store.{Store, database_of}
-use Rattle.iv_engine.proofs.Guarding.{guard_steps, guard_stops, guard_waits, policy_guards}
-use Rattle.iv_engine.proofs.Narrowing.{policy_narrows}
-use Rattle.iv_store.proofs.Stepping.{goes_up}
+use Rattle.iv_engine.proofs.GuardChanges.{guard_steps, guard_stops, guard_waits, policy_guards}
+use Rattle.iv_engine.proofs.NarrowerPolicies.{policy_narrows}
+use Rattle.iv_store.proofs.RequestSteps.{goes_up}
 use Rattle.iv_engine.proofs.policies.create_policy.Goals as goal
 
 pub create_policy-requires : goal.create_policy-requires

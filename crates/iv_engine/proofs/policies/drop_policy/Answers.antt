@@ -3,8 +3,8 @@ use Rattle.iv_algebra.specs.Shapes.{condition_of}
 use Rattle.iv_machine.specs.Act.{drop_policy}
 use Rattle.iv_database.specs.Database.{IsDatabase}
 use Rattle.iv_store.specs.Store.{Store, database_of}
-use Rattle.iv_engine.proofs.Guarding.{drop_guards, guard_steps, guard_waits}
-use Rattle.iv_engine.proofs.Widening.{rows_brought}
+use Rattle.iv_engine.proofs.GuardChanges.{drop_guards, guard_steps, guard_waits}
+use Rattle.iv_engine.proofs.WiderPolicies.{rows_brought}
 use Rattle.iv_engine.proofs.policies.drop_policy.Goals as goal
 
 pub drop_policy-requires : goal.drop_policy-requires

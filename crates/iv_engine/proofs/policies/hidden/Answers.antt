@@ -1,7 +1,7 @@
 use Rattle.std.proofs.Common.{◌∙◌, ap, option_map}
 use Rattle.iv_algebra.specs.Shapes.{condition_of}
 use Rattle.iv_store.specs.Store.{Store}
-use Rattle.iv_engine.proofs.Widening.{hidden_by}
+use Rattle.iv_engine.proofs.WiderPolicies.{hidden_by}
 use Rattle.iv_engine.proofs.policies.hidden.Goals as goal
 
 pub returns : goal.returns

@@ -3,7 +3,7 @@ use Rattle.iv_algebra.specs.Shapes.{condition_of}
 use Rattle.iv_database.specs.Database.{IsDatabase}
 use Rattle.iv_machine.specs.State.{rel_of}
 use Rattle.iv_store.specs.Store.{Store, database_of}
-use Rattle.iv_engine.proofs.Widening.{restricted_by}
+use Rattle.iv_engine.proofs.WiderPolicies.{restricted_by}
 use Rattle.iv_engine.proofs.policies.restriction.Goals as goal
 
 pub acting_on-requires : goal.acting_on-requires

@@ -2,8 +2,8 @@ use Rattle.std.proofs.Common.{subst, sym}
 use Rattle.iv_machine.specs.Act.{row_security}
 use Rattle.iv_database.specs.Database.{IsDatabase}
 use Rattle.iv_store.specs.Store.{Store, database_of}
-use Rattle.iv_engine.proofs.Guarding.{guard_steps, guard_stops, guard_waits, security_guards}
-use Rattle.iv_store.proofs.Stepping.{goes_up}
+use Rattle.iv_engine.proofs.GuardChanges.{guard_steps, guard_stops, guard_waits, security_guards}
+use Rattle.iv_store.proofs.RequestSteps.{goes_up}
 use Rattle.iv_engine.proofs.policies.row_security.Goals as goal
 
 pub row_security-requires : goal.row_security-requires

@@ -4,8 +4,8 @@ use Rattle.iv_access.specs.Access.{name_given}
 use Rattle.iv_machine.specs.Act as machine
 use Rattle.iv_database.specs.Database.{IsDatabase}
 use Rattle.iv_store.specs.Store.{Store, database_of}
-use Rattle.iv_engine.proofs.Ending.{revoke_steps, revoke_waits}
-use Rattle.iv_store.proofs.Stepping.{goes_up, stopped}
+use Rattle.iv_engine.proofs.RevokeEnds.{revoke_steps, revoke_waits}
+use Rattle.iv_store.proofs.RequestSteps.{goes_up, stopped}
 use Rattle.iv_engine.proofs.privileges.revoke.Goals as goal
 
 pub revoke-requires : goal.revoke-requires

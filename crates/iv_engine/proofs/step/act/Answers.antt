@@ -9,8 +9,8 @@ use Rattle.iv_database.specs.Next.{IsDone}
 use Rattle.iv_store.specs.Store.{store_of, Store, database_of, with_database}
 use Rattle.iv_command.specs.Views.{act_of}
 use Rattle.iv_command.specs.declared.command.Act.{Act}
-use Rattle.iv_store.proofs.Running.{well_columns}
-use Rattle.iv_store.proofs.Stepping.{begin_quiet, grant_quiet, plain_told, role_quiet, table_quiet, view_quiet}
+use Rattle.iv_store.proofs.RunLines.{well_columns}
+use Rattle.iv_store.proofs.RequestSteps.{begin_quiet, grant_quiet, plain_told, role_quiet, table_quiet, view_quiet}
 use Rattle.iv_engine.proofs.step.act.Goals as goal
 
 pub create_table-done-requires-clause-columns : goal.create_table-done-requires-clause-columns

@@ -1,5 +1,5 @@
 use Rattle.iv_command.specs.Views.{act_of}
-use Rattle.iv_store.proofs.Running.{counted_by, left_sound, left_state, said_lines, unchanged}
+use Rattle.iv_store.proofs.RunLines.{counted_by, left_sound, left_state, said_lines, unchanged}
 use Rattle.iv_engine.proofs.step.step.Goals as goal
 
 pub returns-clause-lines : goal.returns-clause-lines

@@ -1,5 +1,5 @@
 use Rattle.iv_host.specs.Roles.{by_role}
-use Rattle.iv_host.proofs.Adding.{sum_is}
+use Rattle.iv_host.proofs.RoleCounts.{sum_is}
 use Rattle.iv_host.proofs.figures.clients_in.Goals as goal
 
 pub loop-one-init : goal.loop-one-init

@@ -1,4 +1,4 @@
-use Rattle.iv_host.proofs.Adding.{adds_up}
+use Rattle.iv_host.proofs.RoleCounts.{adds_up}
 use Rattle.iv_host.proofs.laws.roles_add_up.Goals as goal
 
 pub returns : goal.returns

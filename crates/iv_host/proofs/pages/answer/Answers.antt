@@ -1,6 +1,6 @@
 use Rattle.std.specs.Prelude.{option_map}
 use Rattle.iv_pages.specs.Seen.{asked_by}
-use Rattle.iv_host.proofs.Answered.{answered}
+use Rattle.iv_host.proofs.PageAnswers.{answered}
 use Rattle.iv_host.proofs.pages.answer.Goals as goal
 
 pub returns : goal.returns

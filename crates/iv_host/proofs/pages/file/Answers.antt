@@ -1,6 +1,6 @@
 use Rattle.std.proofs.Common.{◌∙◌, sym}
 use Rattle.iv_pages.specs.Seen.{asked_by}
-use Rattle.iv_host.proofs.Answered.{file_gone, file_headed, file_whole}
+use Rattle.iv_host.proofs.PageAnswers.{file_gone, file_headed, file_whole}
 use Rattle.iv_host.proofs.pages.file.Goals as goal
 
 pub returns-then-not-follows : goal.returns-then-not-follows

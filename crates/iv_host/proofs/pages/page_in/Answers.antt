@@ -1,7 +1,7 @@
 use Rattle.std.proofs.Common.{◌∙◌, ap, sym}
 use Rattle.std.specs.Prelude.{option_map}
 use Rattle.iv_pages.specs.Seen.{asked_by}
-use Rattle.iv_host.proofs.Answered.{page_found, page_missing}
+use Rattle.iv_host.proofs.PageAnswers.{page_found, page_missing}
 use Rattle.iv_host.proofs.pages.page_in.Goals as goal
 
 pub returns-in_default : goal.returns-in_default

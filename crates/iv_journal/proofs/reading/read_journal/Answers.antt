@@ -1,6 +1,6 @@
 use Rattle.std.proofs.Common.{◌∙◌, ◌≤◌, ◌+◌, ◌++◌, ◌∷◌, ap, arith, drop, length, sym, refl}
 use Rattle.iv_journal.specs.Journal.{body_of}
-use Rattle.iv_journal.proofs.Ended.{at_start, ends_at_end, ends_here, goes_on, line_fits, lines_fit}
+use Rattle.iv_journal.proofs.RecordEnds.{at_start, ends_at_end, ends_here, goes_on, line_fits, lines_fit}
 use Rattle.iv_journal.proofs.reading.read_journal.Goals as goal
 
 pub loop-init : goal.loop-init

@@ -1,5 +1,5 @@
 use Rattle.std.proofs.Common.{◌≤◌}
-use Rattle.iv_journal.proofs.Ended.{IsOn}
+use Rattle.iv_journal.proofs.RecordEnds.{IsOn}
 use Rattle.iv_journal.proofs.reading.read_journal.Given as goal
 
 abbrev pub invariant-loop : goal.invariant-loop

@@ -2,7 +2,7 @@ use Rattle.std.proofs.Common.{◌∙◌, List, ap, length, subst, sym, take}
 use Rattle.iv_journal.specs.Journal.{Line, journal_of}
 use Rattle.iv_journal.specs.Reading.{fault_of}
 use Rattle.iv_journal.specs.Ends.{AreEnded}
-use Rattle.iv_journal.proofs.Ended.{whole_front}
+use Rattle.iv_journal.proofs.RecordEnds.{whole_front}
 use Rattle.iv_journal.proofs.reading.reading_of.Goals as goal
 
 pub returns-clause-reading : goal.returns-clause-reading

@@ -1,4 +1,4 @@
-use Rattle.iv_jwt.proofs.Believing.{judged_granted}
+use Rattle.iv_jwt.proofs.GrantedTokens.{judged_granted}
 use Rattle.iv_jwt.proofs.laws.judged_is_granted.Goals as goal
 
 pub returns : goal.returns

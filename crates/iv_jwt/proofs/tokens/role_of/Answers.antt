@@ -2,7 +2,7 @@ use Rattle.std.proofs.Common.{arith}
 use Rattle.std.proofs.lemmas.Grind.{common_steps}
 use Rattle.iv_jwt.specs.Seen.{IsAnswer}
 use Rattle.iv_jwt.specs.Tokens.{judged}
-use Rattle.iv_jwt.proofs.Believing.{granted_answer}
+use Rattle.iv_jwt.proofs.GrantedTokens.{granted_answer}
 use Rattle.iv_jwt.proofs.tokens.role_of.Goals as goal
 
 pub returns-clause-granted : goal.returns-clause-granted

@@ -1,6 +1,6 @@
 use Rattle.std.proofs.Common.{◌++◌}
 use Rattle.std.specs.Prelude.{codes, decimal}
-use Rattle.iv_lines.proofs.Parting.{four_appended}
+use Rattle.iv_lines.proofs.LineParts.{four_appended}
 use Rattle.iv_lines.proofs.answers.push_change.Goals as goal
 
 pub returns : goal.returns

@@ -1,7 +1,7 @@
 use Rattle.std.proofs.Common.{◌∙◌, ◌++◌, ap}
 use Rattle.std.specs.Prelude.{codes}
 use Rattle.iv_lines.specs.Parts.{cause_part, rest_text}
-use Rattle.iv_lines.proofs.Parting.{then_four}
+use Rattle.iv_lines.proofs.LineParts.{then_four}
 use Rattle.iv_lines.proofs.answers.push_ended.Goals as goal
 
 pub returns : goal.returns

@@ -4,7 +4,7 @@ use Rattle.iv_command.specs.Views.{line_of}
 use Rattle.iv_command.specs.declared.command.Line.{Line}
 use Rattle.iv_lines.specs.Parts.{change_behind, ended_text, session_part}
 use Rattle.iv_lines.specs.Texts.{line_text}
-use Rattle.iv_lines.proofs.Parting.{then_same, change_behind_text, change_line_text, ended_line_text}
+use Rattle.iv_lines.proofs.LineParts.{then_same, change_behind_text, change_line_text, ended_line_text}
 use Rattle.iv_lines.proofs.answers.push_line.Goals as goal
 
 pub returns-in_ok-name-in-Change-clause-text : goal.returns-in_ok-name-in-Change-clause-text

@@ -1,6 +1,6 @@
 use Rattle.std.proofs.Common.{◌∙◌, ◌++◌, ap}
 use Rattle.std.specs.Prelude.{decimal}
-use Rattle.iv_lines.proofs.Parting.{two_appended}
+use Rattle.iv_lines.proofs.LineParts.{two_appended}
 use Rattle.iv_lines.proofs.answers.push_number.Goals as goal
 
 pub returns : goal.returns

@@ -4,7 +4,7 @@ use Rattle.iv_command.specs.Views.{reply_of}
 use Rattle.iv_command.specs.declared.command.Reply.{Reply}
 use Rattle.iv_lines.specs.Parts.{done_text, subscribed_text}
 use Rattle.iv_lines.specs.Texts.{line_text}
-use Rattle.iv_lines.proofs.Parting.{then_same, done_line_text, subscribed_line_text}
+use Rattle.iv_lines.proofs.LineParts.{then_same, done_line_text, subscribed_line_text}
 use Rattle.iv_lines.proofs.answers.push_reply.Goals as goal
 
 pub returns-in-Ok : goal.returns-in-Ok

@@ -1,6 +1,6 @@
 use Rattle.std.proofs.Common.{◌++◌}
 use Rattle.std.specs.Prelude.{codes, decimal}
-use Rattle.iv_lines.proofs.Parting.{three_appended}
+use Rattle.iv_lines.proofs.LineParts.{three_appended}
 use Rattle.iv_lines.proofs.answers.push_rest.Goals as goal
 
 pub returns : goal.returns

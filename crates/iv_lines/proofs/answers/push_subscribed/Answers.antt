@@ -1,6 +1,6 @@
 use Rattle.std.specs.Prelude.{codes}
 use Rattle.iv_lines.specs.Parts.{rest_text}
-use Rattle.iv_lines.proofs.Parting.{then_two}
+use Rattle.iv_lines.proofs.LineParts.{then_two}
 use Rattle.iv_lines.proofs.answers.push_subscribed.Goals as goal
 
 pub returns : goal.returns

@@ -1,8 +1,8 @@
 use Rattle.std.proofs.Common.{◌∙◌, arith, refl}
 use Rattle.iv_command.specs.Views.{line_of}
-use Rattle.iv_command.proofs.Writing.{appends_text}
+use Rattle.iv_command.proofs.TokenTexts.{appends_text}
 use Rattle.iv_lines.specs.Texts.{line_text}
-use Rattle.iv_lines.proofs.Writing.{all_texts}
+use Rattle.iv_lines.proofs.LineTexts.{all_texts}
 use Rattle.iv_lines.proofs.answers.write_lines.Goals as goal
 
 pub loop-line-preserved : goal.loop-line-preserved

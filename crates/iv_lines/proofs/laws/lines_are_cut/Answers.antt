@@ -1,4 +1,4 @@
-use Rattle.iv_lines.proofs.Joining.{line_is_cut, last_is_cut, too_long_is_cut}
+use Rattle.iv_lines.proofs.JoinedLines.{line_is_cut, last_is_cut, too_long_is_cut}
 use Rattle.iv_lines.proofs.laws.lines_are_cut.Goals as goal
 
 pub returns-clause-line : goal.returns-clause-line

@@ -1,7 +1,7 @@
 use Rattle.std.proofs.Common.{arith, rules, length, ◌-◌, ◌≡◌, ap, ◌∙◌, sym, subst, ◌==◌, ◌≢◌}
 use Rattle.std.proofs.lemmas.List.Elements.{All-nil}
 use Rattle.iv_lines.proofs.Known.{or_false}
-use Rattle.iv_lines.proofs.Cutting.{ends_nothing, ends_last, takes_newline, takes_more, keeps_begun, plain_more, grows, overflows, begun_nothing, when_ok, at_end}
+use Rattle.iv_lines.proofs.FirstLine.{ends_nothing, ends_last, takes_newline, takes_more, keeps_begun, plain_more, grows, overflows, begun_nothing, when_ok, at_end}
 use Rattle.iv_lines.specs.Ahead.{ahead, known}
 use Rattle.iv_lines.specs.Reads.{IsBegun}
 use Rattle.iv_lines.proofs.Moments.{reads_none, reads_within}

@@ -1,6 +1,6 @@
 -- The first newline that the search finds is the first place of the list whose byte is 10.
 use Rattle.std.proofs.Common.{◌==◌}
-use Rattle.iv_lines.proofs.Finding.{first_position}
+use Rattle.iv_lines.proofs.BytePlaces.{first_position}
 use Rattle.iv_lines.proofs.room.newline.Goals as goal
 
 pub returns : goal.returns

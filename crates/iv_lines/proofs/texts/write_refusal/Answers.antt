@@ -3,7 +3,7 @@ use Rattle.std.proofs.lemmas.Result.{IfOk-weaker}
 use Rattle.serde_json.specs.Written.{has_float}
 use Rattle.iv_command.specs.Views.{refusal_of}
 use Rattle.iv_lines.specs.Texts.{text_of}
-use Rattle.iv_lines.proofs.Writing.{plain_refused}
+use Rattle.iv_lines.proofs.LineTexts.{plain_refused}
 use Rattle.iv_lines.proofs.texts.write_refusal.Goals as goal
 
 pub returns-in-Ok : goal.returns-in-Ok

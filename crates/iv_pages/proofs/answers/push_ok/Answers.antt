@@ -1,7 +1,7 @@
 use Rattle.std.proofs.Common.{◌++◌, ◌∙◌, ap}
 use Rattle.std.specs.Prelude.{codes}
 use Rattle.iv_pages.specs.Answer.{field_line}
-use Rattle.iv_pages.proofs.Appending.{joined2, joined5}
+use Rattle.iv_pages.proofs.AppendedTexts.{joined2, joined5}
 use Rattle.iv_pages.proofs.answers.push_ok.Goals as goal
 
 pub returns : goal.returns

@@ -1,5 +1,5 @@
 use Rattle.std.proofs.Common.{◌++◌, ◌∙◌, ap}
-use Rattle.iv_pages.proofs.Appending.{joined7}
+use Rattle.iv_pages.proofs.AppendedTexts.{joined7}
 use Rattle.iv_pages.proofs.figures.push_bound.Goals as goal
 
 pub returns : goal.returns

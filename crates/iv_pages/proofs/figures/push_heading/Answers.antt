@@ -1,7 +1,7 @@
 use Rattle.std.proofs.Common.{◌++◌, ◌∙◌, ap}
 use Rattle.std.specs.Prelude.{flat_map}
 use Rattle.iv_pages.specs.Figures.{help_byte}
-use Rattle.iv_pages.proofs.Appending.{joined9}
+use Rattle.iv_pages.proofs.AppendedTexts.{joined9}
 use Rattle.iv_pages.proofs.figures.push_heading.Goals as goal
 
 pub returns : goal.returns

@@ -1,5 +1,5 @@
 use Rattle.iv_pages.proofs.Literal.{plain_named}
-use Rattle.iv_pages.proofs.Placing.{places_inside}
+use Rattle.iv_pages.proofs.PathSegments.{places_inside}
 use Rattle.iv_pages.proofs.laws.places_are_inside.Goals as goal
 
 pub returns-clause-inside : goal.returns-clause-inside

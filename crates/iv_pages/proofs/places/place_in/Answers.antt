@@ -4,7 +4,7 @@ use Rattle.iv_pages.specs.Cut.{cut_at}
 use Rattle.iv_pages.specs.Place.{segment_named}
 use Rattle.iv_pages.specs.Pushed.{IsNamed}
 use Rattle.iv_pages.proofs.Cuts.{cut_shorter}
-use Rattle.iv_pages.proofs.Placing.{named_as, place_end, place_ends, place_on, place_stop}
+use Rattle.iv_pages.proofs.PathSegments.{named_as, place_end, place_ends, place_on, place_stop}
 use Rattle.iv_pages.proofs.places.place_in.Goals as goal
 
 pub loop-segment-smaller : goal.loop-segment-smaller

@@ -1,7 +1,7 @@
 use Rattle.std.proofs.Common.{◌≡◌, length}
 use Rattle.iv_pages.specs.Cut.{parts}
 use Rattle.iv_pages.specs.Place.{place_in}
-use Rattle.iv_pages.proofs.Placing.{placed}
+use Rattle.iv_pages.proofs.PathSegments.{placed}
 use Rattle.iv_pages.proofs.places.place_in.Given as goal
 
 abbrev pub invariant-loop-segment : goal.invariant-loop-segment

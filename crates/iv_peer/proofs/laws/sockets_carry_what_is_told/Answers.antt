@@ -1,4 +1,4 @@
-use Rattle.iv_peer.proofs.Carrying.{lives_carry, lives_serve}
+use Rattle.iv_peer.proofs.SocketTraffic.{lives_carry, lives_serve}
 use Rattle.iv_peer.proofs.laws.sockets_carry_what_is_told.Goals as goal
 
 pub returns-clause-carries : goal.returns-clause-carries

@@ -1,4 +1,4 @@
-use Rattle.iv_readers.proofs.Flagging.{differing_more}
+use Rattle.iv_readers.proofs.FlagLists.{differing_more}
 use Rattle.iv_readers.proofs.flags.differing.Goals as goal
 
 pub loop-place-preserved : goal.loop-place-preserved

@@ -1,7 +1,7 @@
 use Rattle.std.proofs.Common.{◌∙◌, ◌∷◌, ap, refl}
 use Rattle.json.specs.Reads.{token_of}
 use Rattle.iv_request.specs.Request.{cell_of}
-use Rattle.iv_reading.proofs.Pulling.{by_whole, by_text, pulls_at, pulls_boolean}
+use Rattle.iv_reading.proofs.TokensAndValues.{by_whole, by_text, pulls_at, pulls_boolean}
 use Rattle.iv_reading.proofs.writes.cell_in.Goals as goal
 
 pub returns-in-Some-Number-clause-cell : goal.returns-in-Some-Number-clause-cell

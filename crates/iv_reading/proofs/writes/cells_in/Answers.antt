@@ -3,7 +3,7 @@ use Rattle.json.specs.Json.{after_end_array}
 use Rattle.iv_rows.specs.View as view
 use Rattle.iv_reading.specs.Pulled.{HasRead}
 use Rattle.iv_request.specs.Request.{cell_of}
-use Rattle.iv_reading.proofs.Pulling.{none_read, one_more, all_read}
+use Rattle.iv_reading.proofs.TokensAndValues.{none_read, one_more, all_read}
 use Rattle.iv_reading.proofs.writes.cells_in.Goals as goal
 
 pub loop-alloc-init : goal.loop-alloc-init

@@ -5,7 +5,7 @@ use Rattle.iv_command.specs.Entries.{copies_of}
 use Rattle.iv_reading.specs.Pulled.{Pulls, natural_by}
 use Rattle.iv_request.specs.Request.{positive_of}
 use Rattle.iv_request.proofs.Keys.{both_true}
-use Rattle.iv_reading.proofs.Pulling.{pulls_passing}
+use Rattle.iv_reading.proofs.TokensAndValues.{pulls_passing}
 use Rattle.iv_reading.proofs.writes.copies_in.Goals as goal
 
 pub returns-then-copies-le-MOST-clause-copies : goal.returns-then-copies-le-MOST-clause-copies

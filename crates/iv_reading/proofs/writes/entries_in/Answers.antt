@@ -1,7 +1,7 @@
 use Rattle.std.proofs.Common.{◌≡◌, None, Some, true, length, ap, arith}
 use Rattle.json.specs.Json.{after_end_array}
 use Rattle.iv_request.specs.Request.{list_of, entry_of}
-use Rattle.iv_reading.proofs.Pulling.{one_kept, all_read, pulls_at}
+use Rattle.iv_reading.proofs.TokensAndValues.{one_kept, all_read, pulls_at}
 use Rattle.iv_reading.proofs.writes.entries_in.Goals as goal
 
 pub loop-alloc-preserved : goal.loop-alloc-preserved

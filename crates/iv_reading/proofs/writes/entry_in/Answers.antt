@@ -1,7 +1,7 @@
 use Rattle.std.proofs.Common.{◌≡◌, true, arith}
 use Rattle.iv_reading.specs.Pulled.{IsParts}
 use Rattle.iv_request.specs.Request.{entry_of}
-use Rattle.iv_reading.proofs.Pulling.{closed}
+use Rattle.iv_reading.proofs.TokensAndValues.{closed}
 use Rattle.iv_reading.proofs.writes.entry_in.Goals as goal
 
 pub returns-then-branch-clause-entry : goal.returns-then-branch-clause-entry

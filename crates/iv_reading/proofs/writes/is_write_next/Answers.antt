@@ -3,7 +3,7 @@ use Rattle.std.specs.Prelude.{codes}
 use Rattle.std.proofs.lemmas.Slice.Eq.{bytes_eq-Decides}
 use Rattle.json.specs.Reads.{token_of}
 use Rattle.serde_json.specs.Find.{as_str}
-use Rattle.iv_reading.proofs.Pulling.{pulls_at, pulls_string}
+use Rattle.iv_reading.proofs.TokensAndValues.{pulls_at, pulls_string}
 use Rattle.iv_reading.proofs.writes.is_write_next.Goals as goal
 
 pub returns-in-Some-String-clause-word : goal.returns-in-Some-String-clause-word

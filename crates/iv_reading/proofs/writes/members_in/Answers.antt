@@ -1,7 +1,7 @@
 use Rattle.std.proofs.Common.{◌≡◌, Some, true, arith}
 use Rattle.json.specs.Json.{read_key}
 use Rattle.iv_reading.specs.Pulled.{IsWritten}
-use Rattle.iv_reading.proofs.Pulling.{reach_more}
+use Rattle.iv_reading.proofs.TokensAndValues.{reach_more}
 use Rattle.iv_reading.proofs.writes.members_in.Goals as goal
 
 pub members-preserved : goal.members-preserved

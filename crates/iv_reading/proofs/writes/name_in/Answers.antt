@@ -1,7 +1,7 @@
 use Rattle.std.proofs.Common.{◌∙◌, ◌∷◌, cond, Some, None, ap, sym}
 use Rattle.json.specs.Reads.{token_of}
 use Rattle.iv_reading.specs.Pulled.{name_of}
-use Rattle.iv_reading.proofs.Pulling.{pulls_at, pulls_string}
+use Rattle.iv_reading.proofs.TokensAndValues.{pulls_at, pulls_string}
 use Rattle.iv_reading.proofs.writes.name_in.Goals as goal
 
 pub returns-in_ok-from_str-in-Some-String-clause-name : goal.returns-in_ok-from_str-in-Some-String-clause-name

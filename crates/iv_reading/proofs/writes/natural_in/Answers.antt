@@ -1,6 +1,6 @@
 use Rattle.std.proofs.Common.{◌∙◌, ◌∷◌, ap}
 use Rattle.json.specs.Reads.{token_of}
-use Rattle.iv_reading.proofs.Pulling.{by_natural}
+use Rattle.iv_reading.proofs.TokensAndValues.{by_natural}
 use Rattle.iv_reading.proofs.writes.natural_in.Goals as goal
 
 pub returns-in-Some-Number-clause-number : goal.returns-in-Some-Number-clause-number

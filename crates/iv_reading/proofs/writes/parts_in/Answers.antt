@@ -2,7 +2,7 @@ use Rattle.std.proofs.Common.{◌≡◌, Some, true, arith}
 use Rattle.json.specs.Json.{read_key}
 use Rattle.json.proofs.Grammar.{read_key-shorter}
 use Rattle.iv_reading.specs.Pulled.{IsParts}
-use Rattle.iv_reading.proofs.Pulling.{reach_more}
+use Rattle.iv_reading.proofs.TokensAndValues.{reach_more}
 use Rattle.iv_reading.proofs.writes.parts_in.Goals as goal
 
 pub members-preserved : goal.members-preserved

@@ -1,7 +1,7 @@
 use Rattle.std.proofs.Common.{◌≤◌, length}
 use Rattle.serde_json.specs.Data.{no_members}
 use Rattle.iv_reading.specs.Pulled.{IsParts}
-use Rattle.iv_reading.proofs.Pulling.{Reaches}
+use Rattle.iv_reading.proofs.TokensAndValues.{Reaches}
 use Rattle.iv_reading.proofs.writes.parts_in.Given as goal
 
 abbrev pub invariant-members : goal.invariant-members

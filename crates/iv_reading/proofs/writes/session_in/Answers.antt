@@ -2,7 +2,7 @@ use Rattle.std.proofs.Common.{le-leb, lt-ltb}
 use Rattle.iv_reading.specs.Pulled.{natural_by}
 use Rattle.iv_request.specs.Request.{is_session}
 use Rattle.iv_request.proofs.Keys.{both_true}
-use Rattle.iv_reading.proofs.Pulling.{pulls_passing}
+use Rattle.iv_reading.proofs.TokensAndValues.{pulls_passing}
 use Rattle.iv_reading.proofs.writes.session_in.Goals as goal
 
 pub returns-then-number-lt4294967296-clause-session : goal.returns-then-number-lt4294967296-clause-session

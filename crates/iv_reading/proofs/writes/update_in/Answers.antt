@@ -2,7 +2,7 @@ use Rattle.std.proofs.Common.{◌≡◌, Some, true, arith}
 use Rattle.json.specs.Json.{after_end_array}
 use Rattle.iv_request.specs.Request.{row_of, update_of}
 use Rattle.iv_reading.proofs.Members.{update_made}
-use Rattle.iv_reading.proofs.Pulling.{pair_read, pulls_at}
+use Rattle.iv_reading.proofs.TokensAndValues.{pair_read, pulls_at}
 use Rattle.iv_reading.proofs.writes.update_in.Goals as goal
 
 pub returns-then-take_end_array-clause-op : goal.returns-then-take_end_array-clause-op

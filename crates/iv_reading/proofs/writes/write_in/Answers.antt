@@ -1,7 +1,7 @@
 use Rattle.std.proofs.Common.{◌≡◌, [], true, arith}
 use Rattle.iv_command.specs.Views.{command_of}
 use Rattle.iv_reading.specs.Pulled.{IsWritten}
-use Rattle.iv_reading.proofs.Pulling.{none_next, line_read}
+use Rattle.iv_reading.proofs.TokensAndValues.{none_next, line_read}
 use Rattle.iv_reading.proofs.writes.write_in.Goals as goal
 
 pub returns : goal.returns

@@ -1,7 +1,7 @@
 use Rattle.std.proofs.Common.{◌∙◌, Some, sym, ap}
 use Rattle.json.specs.Reads.{token_of}
 use Rattle.json.specs.Value.{value_view}
-use Rattle.iv_request.proofs.Looking.{read_fits, read_unfit, read_more}
+use Rattle.iv_request.proofs.BorrowedValues.{read_fits, read_unfit, read_more}
 use Rattle.iv_request.proofs.documents.read.Goals as goal
 
 pub returns-in-Some : goal.returns-in-Some

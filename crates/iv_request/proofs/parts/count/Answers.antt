@@ -3,7 +3,7 @@ use Rattle.json.specs.Value.{value_view}
 use Rattle.json.proofs.Trees.{view-Array}
 use Rattle.iv_request.specs.Documents.{data_of}
 use Rattle.iv_request.specs.Request.{count}
-use Rattle.iv_request.proofs.Looking.{counted}
+use Rattle.iv_request.proofs.BorrowedValues.{counted}
 use Rattle.iv_request.proofs.parts.count.Goals as goal
 
 pub returns-in-Array : goal.returns-in-Array

@@ -1,5 +1,5 @@
 use Rattle.json.specs.Value.{value_view}
-use Rattle.iv_request.proofs.Looking.{found_is}
+use Rattle.iv_request.proofs.BorrowedValues.{found_is}
 use Rattle.iv_request.proofs.parts.get.Goals as goal
 
 pub returns : goal.returns

@@ -1,5 +1,5 @@
 use Rattle.json.specs.Value.{value_view}
-use Rattle.iv_request.proofs.Looking.{item_found}
+use Rattle.iv_request.proofs.BorrowedValues.{item_found}
 use Rattle.iv_request.proofs.parts.item_at.Goals as goal
 
 pub returns : goal.returns

@@ -3,7 +3,7 @@ use Rattle.std.specs.Prelude.{IfOk}
 use Rattle.serde_json.specs.Data.{Data}
 use Rattle.serde_json.specs.Read.{read}
 use Rattle.iv_request.specs.Documents.{value_data}
-use Rattle.iv_request.proofs.Reading.{value_of_none, value_of_text}
+use Rattle.iv_request.proofs.LinesAsValues.{value_of_none, value_of_text}
 use Rattle.iv_request.proofs.requests.read_value.Goals as goal
 
 pub returns-in-Err : goal.returns-in-Err

@@ -1,4 +1,4 @@
-use Rattle.iv_steps.proofs.Showing.{facts_decide, none_is_between}
+use Rattle.iv_steps.proofs.StepOutcomes.{facts_decide, none_is_between}
 use Rattle.iv_steps.proofs.laws.facts_decide.Goals as goal
 
 pub returns-clause-taken : goal.returns-clause-taken

@@ -1,4 +1,4 @@
-use Rattle.iv_steps.proofs.Showing.{refusals_are_found}
+use Rattle.iv_steps.proofs.StepOutcomes.{refusals_are_found}
 use Rattle.iv_steps.proofs.laws.refusals_are_found.Goals as goal
 
 pub returns : goal.returns

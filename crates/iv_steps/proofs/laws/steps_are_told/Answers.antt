@@ -1,4 +1,4 @@
-use Rattle.iv_steps.proofs.Showing.{steps_are_told}
+use Rattle.iv_steps.proofs.StepOutcomes.{steps_are_told}
 use Rattle.iv_steps.proofs.laws.steps_are_told.Goals as goal
 
 pub returns : goal.returns

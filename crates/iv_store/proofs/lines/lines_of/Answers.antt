@@ -1,6 +1,6 @@
 use Rattle.std.proofs.Common.{◌∙◌, ap, map, sym}
 use Rattle.iv_command.specs.Views.{line_of}
-use Rattle.iv_store.proofs.Spreading.{no_lines_at}
+use Rattle.iv_store.proofs.PreparedForReaders.{no_lines_at}
 use Rattle.iv_store.proofs.lines.lines_of.Goals as goal
 
 pub returns-then-shows_nothing : goal.returns-then-shows_nothing

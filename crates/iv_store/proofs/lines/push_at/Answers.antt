@@ -4,8 +4,8 @@ use Rattle.std.proofs.lemmas.Result.{IfOk-weaker}
 use Rattle.iv_machine.specs.Machine as machine
 use Rattle.iv_command.specs.Views.{line_of}
 use Rattle.iv_readers.specs.declared.changes.Prepared.{Prepared}
-use Rattle.iv_store.proofs.Negated.{no_more}
-use Rattle.iv_store.proofs.Spreading.{in_order, rows_at_point, rows_not_at_point, rows_over_point}
+use Rattle.iv_store.proofs.SubscriptionLines.{no_more}
+use Rattle.iv_store.proofs.PreparedForReaders.{in_order, rows_at_point, rows_not_at_point, rows_over_point}
 use Rattle.iv_store.proofs.lines.push_at.Goals as goal
 
 pub returns-then-at-prepared : goal.returns-then-at-prepared

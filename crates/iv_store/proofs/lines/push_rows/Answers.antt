@@ -4,7 +4,7 @@ use Rattle.iv_zset.specs.Weights.{Weighed}
 use Rattle.iv_machine.specs.Machine.{lines_told as machine_line}
 use Rattle.iv_readers.specs.Rows.{shared_rows}
 use Rattle.iv_command.specs.Views.{line_of}
-use Rattle.iv_store.proofs.Negated.{no_more}
+use Rattle.iv_store.proofs.SubscriptionLines.{no_more}
 use Rattle.iv_store.proofs.lines.push_rows.Goals as goal
 
 pub returns-in_ok-clone-in-Some : goal.returns-in_ok-clone-in-Some

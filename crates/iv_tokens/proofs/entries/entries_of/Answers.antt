@@ -1,7 +1,7 @@
 use Rattle.std.proofs.Common.{rules, ◌∙◌}
 use Rattle.iv_clients.specs.Tokens.{lines_of}
 use Rattle.iv_tokens.specs.Entries.{entries_of}
-use Rattle.iv_tokens.proofs.Reading.{read_end, read_on, read_wrong}
+use Rattle.iv_tokens.proofs.FileLines.{read_end, read_on, read_wrong}
 use Rattle.iv_tokens.proofs.entries.entries_of.Goals as goal
 
 pub returns-in-None : goal.returns-in-None

@@ -1,4 +1,4 @@
-use Rattle.iv_tokens.proofs.Reading.{read_last, read_no_last}
+use Rattle.iv_tokens.proofs.FileLines.{read_last, read_no_last}
 use Rattle.iv_tokens.proofs.entries.last_entry.Goals as goal
 
 pub returns-then-branch : goal.returns-then-branch

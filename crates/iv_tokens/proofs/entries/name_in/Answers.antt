@@ -1,5 +1,5 @@
 use Rattle.std.proofs.Common.{sym, ◌∙◌}
-use Rattle.iv_tokens.proofs.Naming.{a_holder, no_holder}
+use Rattle.iv_tokens.proofs.HolderNames.{a_holder, no_holder}
 use Rattle.iv_tokens.proofs.entries.name_in.Goals as goal
 
 pub returns-in-Ok : goal.returns-in-Ok

@@ -1,7 +1,7 @@
 use Rattle.std.proofs.Common.{rules, ◌≡◌, false, Ok, Err, sym, ◌∙◌}
 use Rattle.iv_jwt.specs.Seen.{granted_by}
 use Rattle.iv_tokens.specs.Web.{is_among}
-use Rattle.iv_tokens.proofs.Judging.{if_granted, judged_answer, known_answer}
+use Rattle.iv_tokens.proofs.JudgedTexts.{if_granted, judged_answer, known_answer}
 use Rattle.iv_tokens.proofs.known_tokens.answer_to.Goals as goal
 
 pub returns-then-is_among-clause-answer : goal.returns-then-is_among-clause-answer

@@ -3,7 +3,7 @@ use Rattle.std.proofs.Math.Bool.{or-false}
 use Rattle.std.proofs.lemmas.Result.{err_from_is_err_and}
 use Rattle.iv_lines.specs.Ahead.{known}
 use Rattle.iv_wire.proofs.Ran.{none_ran, one_more_ran, ran_within}
-use Rattle.iv_wire.proofs.Answering.{told_first, told_more, tells, answered_input, answered_endless, answered_lines, answered_read, answered_memory, answered_write, answered_write_endless}
+use Rattle.iv_wire.proofs.RunAnswers.{told_first, told_more, tells, answered_input, answered_endless, answered_lines, answered_read, answered_memory, answered_write, answered_write_endless}
 use Rattle.iv_lines.proofs.Moments.{reads_none}
 use Rattle.iv_wire.proofs.Turns.{one_more_turn}
 use Rattle.iv_wire.proofs.running.run_lines.Goals as goal

@@ -5,7 +5,7 @@ use Rattle.iv_lines.specs.Ahead.{known}
 use Rattle.iv_lines.specs.Moments.{ReadsAt}
 use Rattle.iv_wire.specs.Ran.{HasRun}
 use Rattle.iv_wire.specs.Turns.{IsInTurn}
-use Rattle.iv_wire.proofs.Answering.{HasTold}
+use Rattle.iv_wire.proofs.RunAnswers.{HasTold}
 use Rattle.iv_wire.proofs.running.run_lines.Given as goal
 
 abbrev pub invariant-loop : goal.invariant-loop

@@ -1,4 +1,4 @@
-use Rattle.tests_circuits.proofs.Placing.{ready}
+use Rattle.tests_circuits.proofs.CircuitTables.{ready}
 use Rattle.tests_circuits.proofs.refused.changed.Goals as goal
 
 pub taken_in-outcome-requires : goal.taken_in-outcome-requires

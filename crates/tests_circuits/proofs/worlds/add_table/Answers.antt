@@ -2,7 +2,7 @@ use Rattle.std.proofs.Common.{ap, subst, sym, List}
 use Rattle.iv_algebra.specs.Contents.{rows_or_none}
 use Rattle.iv_algebra.specs.declared.tables.Table.{Table}
 use Rattle.tests_circuits.specs.Worlds.{AreSound}
-use Rattle.tests_circuits.proofs.Placing.{no_rows_sound, sound_but_one}
+use Rattle.tests_circuits.proofs.CircuitTables.{no_rows_sound, sound_but_one}
 use Rattle.tests_circuits.proofs.worlds.add_table.Goals as goal
 
 pub returns-in-Ok-add_table : goal.returns-in-Ok-add_table

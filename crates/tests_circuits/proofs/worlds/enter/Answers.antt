@@ -1,6 +1,6 @@
 use Rattle.std.proofs.Common.{refl}
 use Rattle.iv_circuit.specs.Deltas.{change_in}
-use Rattle.tests_circuits.proofs.Placing.{lead_more}
+use Rattle.tests_circuits.proofs.CircuitTables.{lead_more}
 use Rattle.tests_circuits.proofs.worlds.enter.Goals as goal
 
 pub returns-in-Ok-add-clause-leads : goal.returns-in-Ok-add-clause-leads

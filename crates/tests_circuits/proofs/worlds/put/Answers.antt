@@ -5,7 +5,7 @@ use Rattle.iv_zset.specs.Weights.{weight_of}
 use Rattle.iv_algebra.specs.Contents.{rows_of}
 use Rattle.iv_algebra.specs.declared.tables.Table.{Table}
 use Rattle.tests_circuits.specs.Worlds.{AreSound}
-use Rattle.tests_circuits.proofs.Placing.{more_rows, sound_but_one}
+use Rattle.tests_circuits.proofs.CircuitTables.{more_rows, sound_but_one}
 use Rattle.tests_circuits.proofs.worlds.put.Goals as goal
 
 pub returns-in-Ok-clause-sound : goal.returns-in-Ok-clause-sound

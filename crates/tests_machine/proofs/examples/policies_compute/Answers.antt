@@ -1,5 +1,5 @@
 use Rattle.std.proofs.Common.{refl}
-use Rattle.tests_machine.proofs.Computing.{texts_compute}
+use Rattle.tests_machine.proofs.TextValues.{texts_compute}
 use Rattle.tests_machine.proofs.examples.policies_compute.Goals as goal
 
 pub returns-clause-row_security_then_policy : goal.returns-clause-row_security_then_policy

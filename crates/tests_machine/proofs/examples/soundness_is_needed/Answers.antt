@@ -9,7 +9,7 @@ use Rattle.iv_access.specs.declared.privilege.Privilege.TheVariants.{Select}
 use Rattle.iv_access.specs.Policies.{allowed, may_see}
 use Rattle.iv_access.specs.Privileges.{has, is_for, privilege_eq}
 use Rattle.iv_access.specs.Rights.{Grant, Rights}
-use Rattle.tests_machine.proofs.Computing.{texts_compute}
+use Rattle.tests_machine.proofs.TextValues.{texts_compute}
 use Rattle.tests_machine.specs.OfLearning.{left_by, puts}
 use Rattle.tests_machine.specs.OfSoundness.{crowded, emptied, filled, forgetful, names_bob, unread, watch, watched}
 use Rattle.tests_machine.specs.Worked.{Row, commands, of_ann}

@@ -1,5 +1,5 @@
 use Rattle.std.proofs.Common.{refl}
-use Rattle.tests_machine.proofs.Computing.{texts_compute}
+use Rattle.tests_machine.proofs.TextValues.{texts_compute}
 use Rattle.tests_machine.proofs.examples.views_and_grants_compute.Goals as goal
 
 pub returns-clause-reader_needs_every_relation : goal.returns-clause-reader_needs_every_relation

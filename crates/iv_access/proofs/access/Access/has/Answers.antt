@@ -5,7 +5,7 @@ use Rattle.iv_access.specs.Access.{Access}
 use Rattle.iv_roles.specs.Roles.{is_admin}
 use Rattle.iv_access.specs.Rights.{Public, Role}
 use Rattle.iv_roles.proofs.Chains.{by_right}
-use Rattle.iv_access.proofs.Granting.{by_own, gives, told}
+use Rattle.iv_access.proofs.GrantSets.{by_own, gives, told}
 use Rattle.iv_access.proofs.access.Access.has.Goals as goal
 
 pub returns-then-is_granted : goal.returns-then-is_granted

@@ -2,7 +2,7 @@ use Rattle.std.proofs.Common.{◌≡◌, ◌<◌, [], ◌∷◌, ◌++◌, ap, s
 use Rattle.std.specs.Prelude.{if◌then◌else◌, is_ok}
 use Rattle.iv_access.specs.Given.{grant_to, is_among}
 use Rattle.iv_access.specs.Grants.{AreFlags, seen}
-use Rattle.iv_access.proofs.Flagged.{given_one}
+use Rattle.iv_access.proofs.GrantFlags.{given_one}
 use Rattle.iv_access.proofs.grants.Grants.give_one.Goals as goal
 
 pub invariant_of-self : goal.invariant_of-self

@@ -3,7 +3,7 @@ use Rattle.std.proofs.lemmas.Fn.{filter_same}
 use Rattle.iv_access.specs.Changing.{revoked}
 use Rattle.iv_access.specs.Given.{grant_to, is_among}
 use Rattle.iv_access.specs.Grants.{AreFlags, seen}
-use Rattle.iv_access.proofs.Flagged.{has_flag, nothing_taken, taken_one}
+use Rattle.iv_access.proofs.GrantFlags.{has_flag, nothing_taken, taken_one}
 use Rattle.iv_access.proofs.grants.Grants.take_one.Goals as goal
 
 pub returns-then-not-is_granted_to : goal.returns-then-not-is_granted_to

@@ -1,4 +1,4 @@
-use Rattle.iv_access.proofs.Flagged.{clear_of}
+use Rattle.iv_access.proofs.GrantFlags.{clear_of}
 use Rattle.iv_access.proofs.grants.RelationGrants.new.Goals as goal
 
 pub returns : goal.returns

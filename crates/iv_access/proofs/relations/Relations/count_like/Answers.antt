@@ -1,6 +1,6 @@
 use Rattle.std.proofs.Common.{ap, ◌∙◌}
 use Rattle.iv_access.specs.Faults.{count_like}
-use Rattle.iv_access.proofs.Counting.{count_stored}
+use Rattle.iv_access.proofs.RelationCounts.{count_stored}
 use Rattle.iv_access.proofs.relations.Relations.count_like.Goals as goal
 
 pub returns : goal.returns

@@ -1,5 +1,5 @@
 use Rattle.std.proofs.Common.{arith}
-use Rattle.iv_access.proofs.Counting.{few}
+use Rattle.iv_access.proofs.RelationCounts.{few}
 use Rattle.iv_access.proofs.relations.Relations.next.Goals as goal
 
 pub overflow_cast-result : goal.overflow_cast-result

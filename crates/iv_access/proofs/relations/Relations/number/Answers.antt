@@ -1,7 +1,7 @@
 use Rattle.std.proofs.Common.{ap, sym, ◌∙◌, bytes_eq, string_bytes, arith}
 use Rattle.iv_access.specs.Access.{relation_of}
 use Rattle.iv_access.specs.Stored.{relation_at}
-use Rattle.iv_access.proofs.Counting.{few}
+use Rattle.iv_access.proofs.RelationCounts.{few}
 use Rattle.iv_roles.proofs.Lists.{position_map}
 use Rattle.iv_access.proofs.relations.Relations.number.Goals as goal
 

@@ -3,8 +3,8 @@ use Rattle.std.specs.Prelude.{is_some}
 use Rattle.iv_access.specs.Faults.{count_like}
 use Rattle.iv_access.specs.Access.{relation_of}
 use Rattle.iv_access.specs.Stored.{relation_at}
-use Rattle.iv_access.proofs.Counting.{still_few, seen_some}
-use Rattle.iv_access.proofs.Entering.{entered}
+use Rattle.iv_access.proofs.RelationCounts.{still_few, seen_some}
+use Rattle.iv_access.proofs.NewRelation.{entered}
 use Rattle.iv_access.proofs.relations.Relations.push.Goals as goal
 
 pub invariant_of-self-2 : goal.invariant_of-self-2

@@ -2,7 +2,7 @@ use Rattle.std.proofs.Common.{List, sym, subst}
 use Rattle.iv_bind.specs.Catalogs.{CatalogEntry}
 use Rattle.iv_bind.specs.Held.{held_of}
 use Rattle.iv_bind.specs.Sound.{HeldIsSound}
-use Rattle.iv_bind.proofs.Growing.{relation_push}
+use Rattle.iv_bind.proofs.LargerCatalog.{relation_push}
 use Rattle.iv_bind.proofs.catalog.Catalog.add.Goals as goal
 
 pub invariant_of-self-in-Ok : goal.invariant_of-self-in-Ok

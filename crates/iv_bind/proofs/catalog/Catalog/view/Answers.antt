@@ -2,7 +2,7 @@ use Rattle.std.proofs.Common.{◌∙◌, ap, subst, List}
 use Rattle.iv_bind.specs.Catalogs.{CatalogEntry, numbered}
 use Rattle.iv_bind.specs.Held.{entries}
 use Rattle.iv_bind.specs.Sound.{IsSoundCatalog}
-use Rattle.iv_bind.proofs.Growing.{view_sound}
+use Rattle.iv_bind.proofs.LargerCatalog.{view_sound}
 use Rattle.iv_bind.proofs.catalog.Catalog.view.Goals as goal
 
 pub returns-in-View-clause-typed : goal.returns-in-View-clause-typed

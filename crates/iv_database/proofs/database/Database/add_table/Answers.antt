@@ -4,9 +4,9 @@ use Rattle.iv_access.specs.Rights.{Name}
 use Rattle.iv_bind.specs.Catalogs.{named, numbered}
 use Rattle.iv_access.specs.Faults.{add_relation_fault}
 use Rattle.iv_database.specs.Database.{Database}
-use Rattle.iv_database.proofs.Tabled.{free_table}
+use Rattle.iv_database.proofs.TablesOfCatalog.{free_table}
 use Rattle.iv_algebra.specs.Contents.{table_of}
-use Rattle.iv_database.proofs.Telling.{free_name, free_number}
+use Rattle.iv_database.proofs.RightsRefusals.{free_name, free_number}
 use Rattle.iv_database.proofs.database.Database.add_table.Goals as goal
 
 pub add_table-requires-clause-name : goal.add_table-requires-clause-name

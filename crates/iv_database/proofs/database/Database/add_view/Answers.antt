@@ -5,8 +5,8 @@ use Rattle.iv_access.specs.declared.fault.AccessFault.TheVariants.{Memory}
 use Rattle.iv_access.specs.Rights.{Name}
 use Rattle.iv_bind.specs.Catalogs.{bound_of, numbered}
 use Rattle.iv_database.specs.Database.{Database}
-use Rattle.iv_database.proofs.Creating.{view_stops}
-use Rattle.iv_database.proofs.Telling.{free_number}
+use Rattle.iv_database.proofs.NewView.{view_stops}
+use Rattle.iv_database.proofs.RightsRefusals.{free_number}
 use Rattle.iv_database.proofs.database.Database.add_view.Goals as goal
 
 pub returns-in-Err-clause-added : goal.returns-in-Err-clause-added

@@ -7,7 +7,7 @@ use Rattle.iv_command.specs.Entries.{op_of}
 use Rattle.iv_command.specs.Stops.{IsTested}
 use Rattle.iv_database.specs.Database.{frame_of}
 use Rattle.iv_database.specs.Placed.{Placed}
-use Rattle.iv_database.proofs.Checking.{tests_borrowed, update_tested}
+use Rattle.iv_database.proofs.FrameTests.{tests_borrowed, update_tested}
 use Rattle.iv_database.proofs.database.Database.check_entry.Goals as goal
 
 pub returns-in-Update : goal.returns-in-Update

@@ -4,7 +4,7 @@ use Rattle.iv_access.specs.Rights.{Name}
 use Rattle.iv_machine.specs.Act.{PolicyText}
 use Rattle.iv_database.specs.Owned.{IsChecked, IsOwner}
 use Rattle.iv_command.specs.declared.stop.Stop.{Stop}
-use Rattle.iv_database.proofs.Owning.{checked, err_is, names_stop}
+use Rattle.iv_database.proofs.PolicyTests.{checked, err_is, names_stop}
 use Rattle.iv_database.proofs.database.Database.check_policy.Goals as goal
 
 pub returns-in_err-check_names : goal.returns-in_err-check_names

@@ -9,8 +9,8 @@ use Rattle.iv_database.specs.Database.{frame_of}
 use Rattle.iv_database.specs.Placed.{first_of}
 use Rattle.iv_command.specs.Stops.{IsTested}
 use Rattle.iv_command.specs.declared.stop.Stop.{Stop}
-use Rattle.iv_database.proofs.Checking.{first_stops}
-use Rattle.iv_database.proofs.Owning.{err_is}
+use Rattle.iv_database.proofs.FrameTests.{first_stops}
+use Rattle.iv_database.proofs.PolicyTests.{err_is}
 use Rattle.iv_database.proofs.database.Database.check_rows.Goals as goal
 
 pub returns-in_err-check_row : goal.returns-in_err-check_row

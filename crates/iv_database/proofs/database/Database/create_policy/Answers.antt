@@ -3,7 +3,7 @@ use Rattle.iv_access.specs.Changing.{with_policy}
 use Rattle.iv_access.specs.NewPolicies.{policy_from}
 use Rattle.iv_database.specs.Database.{Database}
 use Rattle.iv_database.specs.Owned.{asked, has_room, with_asked}
-use Rattle.iv_database.proofs.Owning.{asked_after, has_passed, is_full}
+use Rattle.iv_database.proofs.PolicyTests.{asked_after, has_passed, is_full}
 use Rattle.iv_database.proofs.database.Database.create_policy.Goals as goal
 
 pub returns-then-policies-ge-MOST_POLICIES-clause-guarded : goal.returns-then-policies-ge-MOST_POLICIES-clause-guarded

@@ -1,5 +1,5 @@
 use Rattle.std.specs.Prelude.{string_bytes}
-use Rattle.iv_database.proofs.Telling.{added}
+use Rattle.iv_database.proofs.RightsRefusals.{added}
 use Rattle.iv_database.proofs.database.Database.create_table.Goals as goal
 
 pub returns-clause-done : goal.returns-clause-done

@@ -8,8 +8,8 @@ use Rattle.iv_database.specs.Database.{Database}
 use Rattle.iv_database.specs.Defined.{IsBoundView, IsCreator, MayAdd}
 use Rattle.iv_database.specs.Next.{IsDone}
 use Rattle.iv_command.specs.declared.stop.Stop.{Stop}
-use Rattle.iv_database.proofs.Creating.{bound_refused, creator_refused, view_done}
-use Rattle.iv_database.proofs.Owning.{err_is}
+use Rattle.iv_database.proofs.NewView.{bound_refused, creator_refused, view_done}
+use Rattle.iv_database.proofs.PolicyTests.{err_is}
 use Rattle.iv_database.proofs.database.Database.create_view.Goals as goal
 
 pub returns-in_err-acting-clause-done : goal.returns-in_err-acting-clause-done

@@ -4,8 +4,8 @@ use Rattle.iv_access.specs.Access.{relation_of}
 use Rattle.iv_access.specs.Privileges.{role_of}
 use Rattle.iv_bind.specs.Catalogs.{named}
 use Rattle.iv_database.specs.Database.{Database}
-use Rattle.iv_database.proofs.Creating.{found_is, name_taken}
-use Rattle.iv_database.proofs.Telling.{named_known, none_is, unknown}
+use Rattle.iv_database.proofs.NewView.{found_is, name_taken}
+use Rattle.iv_database.proofs.RightsRefusals.{named_known, none_is, unknown}
 use Rattle.iv_database.proofs.database.Database.creator.Goals as goal
 
 pub returns-then-is_some : goal.returns-then-is_some

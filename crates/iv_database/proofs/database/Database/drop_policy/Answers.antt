@@ -6,7 +6,7 @@ use Rattle.iv_machine.specs.Refusing.{test}
 use Rattle.iv_machine.specs.State.{rel_of}
 use Rattle.iv_database.specs.Owned.{IsGuarded}
 use Rattle.iv_command.specs.declared.stop.Stop.{Stop}
-use Rattle.iv_database.proofs.Owning.{err_is, owned_refused}
+use Rattle.iv_database.proofs.PolicyTests.{err_is, owned_refused}
 use Rattle.iv_database.proofs.database.Database.drop_policy.Goals as goal
 
 pub returns-in_err-table-clause-guarded : goal.returns-in_err-table-clause-guarded

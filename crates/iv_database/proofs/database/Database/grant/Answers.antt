@@ -9,8 +9,8 @@ use Rattle.iv_database.specs.Database.{Database, frame_of}
 use Rattle.iv_database.specs.Next.{IsDone}
 use Rattle.iv_database.specs.Target.{IsActingOn}
 use Rattle.iv_command.specs.declared.stop.Stop.{Stop}
-use Rattle.iv_database.proofs.Granting.{granted_done}
-use Rattle.iv_database.proofs.Owning.{acting_refused, err_is}
+use Rattle.iv_database.proofs.GrantChanges.{granted_done}
+use Rattle.iv_database.proofs.PolicyTests.{acting_refused, err_is}
 use Rattle.iv_database.proofs.database.Database.grant.Goals as goal
 
 pub returns-in_err-acting-clause-done : goal.returns-in_err-acting-clause-done

@@ -6,7 +6,7 @@ use Rattle.iv_access.specs.declared.privilege.Privilege.TheVariants.{Select}
 use Rattle.iv_bind.specs.Catalogs.{bound_of, view_of}
 use Rattle.iv_database.specs.Database.{Database}
 use Rattle.iv_access.specs.Privileges.{select_from}
-use Rattle.iv_database.proofs.Needing.{lacks_none, lacks_own, lacks_reached}
+use Rattle.iv_database.proofs.ReaderNeeds.{lacks_none, lacks_own, lacks_reached}
 use Rattle.iv_database.proofs.database.Database.missing_for.Goals as goal
 
 pub returns-then-not-has : goal.returns-then-not-has

@@ -3,7 +3,7 @@ use Rattle.std.specs.Prelude.{option_map, string_bytes, unwrap_or}
 use Rattle.iv_access.specs.Access.{relation_name}
 use Rattle.iv_machine.specs.State.{name_of}
 use Rattle.iv_database.specs.Database.{Database}
-use Rattle.iv_database.proofs.Needing.{name_is, name_or_none, ok_as}
+use Rattle.iv_database.proofs.ReaderNeeds.{name_is, name_or_none, ok_as}
 use Rattle.iv_database.proofs.database.Database.name_of.Goals as goal
 
 pub returns : goal.returns

@@ -9,8 +9,8 @@ use Rattle.iv_database.specs.Stands.{HasTable}
 use Rattle.iv_database.specs.Resolving.{IsNetOf, Leads}
 use Rattle.iv_database.specs.Summed.{AreTables, KeepsLimits}
 use Rattle.iv_command.specs.declared.stop.Stop.{Stop}
-use Rattle.iv_database.proofs.Deciding.{by_limit, frame_stops, leads_same, presence_stops, weight_stops, well_few, well_some}
-use Rattle.iv_database.proofs.Owning.{err_is}
+use Rattle.iv_database.proofs.WriteRefusals.{by_limit, frame_stops, leads_same, presence_stops, weight_stops, well_few, well_some}
+use Rattle.iv_database.proofs.PolicyTests.{err_is}
 use Rattle.iv_database.proofs.database.Database.net.Goals as goal
 
 pub returns-in_err-entries : goal.returns-in_err-entries

@@ -1,7 +1,7 @@
 use Rattle.std.proofs.Common.{Err, subst, sym}
 use Rattle.iv_database.specs.Owned.{IsOwned}
 use Rattle.iv_command.specs.declared.stop.Stop.{Stop}
-use Rattle.iv_database.proofs.Owning.{err_is, not_owned}
+use Rattle.iv_database.proofs.PolicyTests.{err_is, not_owned}
 use Rattle.iv_database.proofs.database.Database.owned.Goals as goal
 
 pub returns-in_err-acting : goal.returns-in_err-acting

@@ -6,7 +6,7 @@ use Rattle.iv_machine.specs.Refusing.{entry_shape, or_else, test}
 use Rattle.iv_machine.specs.State.{table_columns, rel_of}
 use Rattle.iv_command.specs.Entries.{copies_of, op_of}
 use Rattle.iv_database.specs.Database.{Database, frame_of}
-use Rattle.iv_database.proofs.Checking.{shape_is}
+use Rattle.iv_database.proofs.FrameTests.{shape_is}
 use Rattle.iv_database.proofs.database.Database.place.Goals as goal
 
 pub returns-then-not-accepts-clause-refused : goal.returns-then-not-accepts-clause-refused

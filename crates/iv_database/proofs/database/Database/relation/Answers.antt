@@ -1,7 +1,7 @@
 use Rattle.std.proofs.Common.{◌∙◌, ap}
 use Rattle.iv_access.specs.Access.{relation_of}
 use Rattle.iv_database.specs.Database.{Database}
-use Rattle.iv_database.proofs.Telling.{table_columns_are, table_known, table_name, table_number, table_below}
+use Rattle.iv_database.proofs.RightsRefusals.{table_columns_are, table_known, table_name, table_number, table_below}
 use Rattle.iv_database.proofs.database.Database.relation.Goals as goal
 
 pub returns-clause-known : goal.returns-clause-known

@@ -1,7 +1,7 @@
 use Rattle.std.proofs.Common.{rules, ◌≡◌, ◌<◌, length, string_bytes, sym, subst}
 use Rattle.iv_database.specs.Database.{frame_of}
 use Rattle.iv_database.specs.Placed.{IsPlaced}
-use Rattle.iv_database.proofs.Checking.{last_of}
+use Rattle.iv_database.proofs.FrameTests.{last_of}
 use Rattle.iv_database.proofs.database.Database.relation_behind.Goals as goal
 
 pub returns-then-eq : goal.returns-then-eq

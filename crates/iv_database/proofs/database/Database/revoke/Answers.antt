@@ -9,9 +9,9 @@ use Rattle.iv_database.specs.Database.{Database, frame_of}
 use Rattle.iv_database.specs.Next.{IsDone}
 use Rattle.iv_database.specs.Target.{IsActingOn}
 use Rattle.iv_command.specs.declared.stop.Stop.{Stop}
-use Rattle.iv_database.proofs.Enrolling.{without_memory}
-use Rattle.iv_database.proofs.Granting.{taken_done}
-use Rattle.iv_database.proofs.Owning.{acting_refused, err_is}
+use Rattle.iv_database.proofs.MembershipChanges.{without_memory}
+use Rattle.iv_database.proofs.GrantChanges.{taken_done}
+use Rattle.iv_database.proofs.PolicyTests.{acting_refused, err_is}
 use Rattle.iv_database.proofs.database.Database.revoke.Goals as goal
 
 pub returns-in_err-acting-clause-done : goal.returns-in_err-acting-clause-done

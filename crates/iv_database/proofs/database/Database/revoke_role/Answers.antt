@@ -2,7 +2,7 @@ use Rattle.std.proofs.Common.{◌∙◌, ap, sym}
 use Rattle.std.specs.Prelude.{option_map, string_bytes}
 use Rattle.iv_roles.specs.declared.role.RoleId.{RoleId}
 use Rattle.iv_database.specs.Database.{Database}
-use Rattle.iv_database.proofs.Enrolling.{parted_done, without_memory}
+use Rattle.iv_database.proofs.MembershipChanges.{parted_done, without_memory}
 use Rattle.iv_database.proofs.database.Database.revoke_role.Goals as goal
 
 pub returns-clause-done : goal.returns-clause-done

@@ -2,7 +2,7 @@ use Rattle.std.proofs.Common.{[], Err, refl, subst, sym}
 use Rattle.iv_machine.specs.Act as machine
 use Rattle.iv_database.specs.Owned.{IsGuarded}
 use Rattle.iv_command.specs.declared.stop.Stop.{Stop}
-use Rattle.iv_database.proofs.Owning.{err_is, owned_refused}
+use Rattle.iv_database.proofs.PolicyTests.{err_is, owned_refused}
 use Rattle.iv_database.proofs.database.Database.row_security.Goals as goal
 
 pub returns-in_err-table-clause-guarded : goal.returns-in_err-table-clause-guarded

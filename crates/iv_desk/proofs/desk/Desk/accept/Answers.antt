@@ -2,7 +2,7 @@ use Rattle.std.proofs.Common.{◌≡◌, ◌∙◌, ap, sym, subst, true}
 use Rattle.iv_clients.specs.Clients.{is_free}
 use Rattle.iv_desk.specs.Desks.{IsBehind}
 use Rattle.iv_desk.specs.Front.{begun}
-use Rattle.iv_desk.proofs.Desking.{begun_behind, desk_alive, free_is, live_desk}
+use Rattle.iv_desk.proofs.DeskStates.{begun_behind, desk_alive, free_is, live_desk}
 use Rattle.iv_desk.proofs.desk.Desk.accept.Goals as goal
 
 pub returns-clause-begins : goal.returns-clause-begins

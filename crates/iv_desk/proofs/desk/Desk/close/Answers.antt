@@ -2,8 +2,8 @@ use Rattle.std.proofs.Common.{sym, subst}
 use Rattle.iv_peer.specs.Socket.{closed}
 use Rattle.iv_desk.specs.Front.{at_socket}
 use Rattle.iv_desk.specs.Desks.{IsBehind}
-use Rattle.iv_desk.proofs.Standing.{behind_closed}
-use Rattle.iv_desk.proofs.Desking.{desk_alive, live_desk}
+use Rattle.iv_desk.proofs.StatesAfterStep.{behind_closed}
+use Rattle.iv_desk.proofs.DeskStates.{desk_alive, live_desk}
 use Rattle.iv_desk.proofs.desk.Desk.close.Goals as goal
 
 pub returns-in-Ok-clause-front : goal.returns-in-Ok-clause-front

@@ -1,7 +1,7 @@
 use Rattle.std.proofs.Common.{refl}
 use Rattle.iv_gate.specs.Events.{known}
 use Rattle.iv_desk.specs.Front.{by_event, dismissed}
-use Rattle.iv_desk.proofs.Desking.{called_desk, desk_alive, event_behind}
+use Rattle.iv_desk.proofs.DeskStates.{called_desk, desk_alive, event_behind}
 use Rattle.iv_desk.proofs.desk.Desk.know.Goals as goal
 
 pub returns-in-Ok-clause-front : goal.returns-in-Ok-clause-front

@@ -3,8 +3,8 @@ use Rattle.iv_gate.specs.Events.{gone, next}
 use Rattle.iv_desk.specs.Desks.{IsBehind}
 use Rattle.iv_desk.specs.Front.{left}
 use Rattle.iv_desk.proofs.OneNumber.{dead_by}
-use Rattle.iv_desk.proofs.Standing.{behind_put}
-use Rattle.iv_desk.proofs.Desking.{desk_alive, live_desk}
+use Rattle.iv_desk.proofs.StatesAfterStep.{behind_put}
+use Rattle.iv_desk.proofs.DeskStates.{desk_alive, live_desk}
 use Rattle.iv_desk.proofs.desk.Desk.leave.Goals as goal
 
 pub returns-in-Ok-clause-front : goal.returns-in-Ok-clause-front

@@ -1,6 +1,6 @@
 use Rattle.std.proofs.Common.{refl}
 use Rattle.iv_desk.specs.Front.{front_at_start}
-use Rattle.iv_desk.proofs.Desking.{live_desk, starts_behind}
+use Rattle.iv_desk.proofs.DeskStates.{live_desk, starts_behind}
 use Rattle.iv_desk.proofs.desk.Desk.new.Goals as goal
 
 pub returns : goal.returns

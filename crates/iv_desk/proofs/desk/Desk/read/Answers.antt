@@ -1,6 +1,6 @@
 use Rattle.iv_peer.specs.Socket.{took}
 use Rattle.iv_desk.specs.Front.{at_socket}
-use Rattle.iv_desk.proofs.Desking.{desk_alive, heard_desk}
+use Rattle.iv_desk.proofs.DeskStates.{desk_alive, heard_desk}
 use Rattle.iv_desk.proofs.desk.Desk.read.Goals as goal
 
 pub returns-in-Ok-clause-heard : goal.returns-in-Ok-clause-heard

@@ -1,4 +1,4 @@
-use Rattle.iv_desk.proofs.Desking.{desk_alive, live_desk, restored_behind}
+use Rattle.iv_desk.proofs.DeskStates.{desk_alive, live_desk, restored_behind}
 use Rattle.iv_desk.proofs.desk.Desk.restore.Goals as goal
 
 pub returns-in-Ok-clause-restored : goal.returns-in-Ok-clause-restored

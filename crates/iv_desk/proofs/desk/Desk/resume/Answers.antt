@@ -1,4 +1,4 @@
-use Rattle.iv_desk.proofs.Desking.{desk_alive, heard_desk}
+use Rattle.iv_desk.proofs.DeskStates.{desk_alive, heard_desk}
 use Rattle.iv_desk.proofs.desk.Desk.resume.Goals as goal
 
 pub returns-in-Ok-clause-heard : goal.returns-in-Ok-clause-heard

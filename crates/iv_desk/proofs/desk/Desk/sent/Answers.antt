@@ -2,7 +2,7 @@ use Rattle.std.proofs.Common.{sym, subst}
 use Rattle.iv_peer.specs.Socket.{passing}
 use Rattle.iv_desk.specs.Front.{at_socket}
 use Rattle.iv_desk.specs.Desks.{IsBehind}
-use Rattle.iv_desk.proofs.Standing.{behind_passed}
+use Rattle.iv_desk.proofs.StatesAfterStep.{behind_passed}
 use Rattle.iv_desk.proofs.desk.Desk.sent.Goals as goal
 
 pub returns : goal.returns

@@ -4,7 +4,7 @@ use Rattle.std.proofs.Math.Seq.{take-length}
 use Rattle.std.proofs.lemmas.Bool.{false≢true}
 use Rattle.iv_gate.specs.Events.{synced}
 use Rattle.iv_desk.specs.Front.{by_event, offered}
-use Rattle.iv_desk.proofs.Desking.{called_desk, desk_alive, event_behind}
+use Rattle.iv_desk.proofs.DeskStates.{called_desk, desk_alive, event_behind}
 use Rattle.iv_desk.proofs.desk.Desk.settle.Goals as goal
 
 pub returns-in-Ok-offer_told-clause-front : goal.returns-in-Ok-offer_told-clause-front

@@ -1,7 +1,7 @@
 use Rattle.std.proofs.Common.{refl}
 use Rattle.iv_gate.specs.Events.{ticked}
 use Rattle.iv_desk.specs.Front.{by_event}
-use Rattle.iv_desk.proofs.Desking.{desk_alive, event_behind, live_desk}
+use Rattle.iv_desk.proofs.DeskStates.{desk_alive, event_behind, live_desk}
 use Rattle.iv_desk.proofs.desk.Desk.tick.Goals as goal
 
 pub returns-in-Ok-clause-front : goal.returns-in-Ok-clause-front

@@ -1,5 +1,5 @@
 use Rattle.std.proofs.Common.{◌<◌, ◌^◌, arith}
-use Rattle.iv_disk.proofs.Keeping.{records, still_stands, still_whole, torn_given, whole_given}
+use Rattle.iv_disk.proofs.DiskBytes.{records, still_stands, still_whole, torn_given, whole_given}
 use Rattle.iv_disk.proofs.Known.{on_err}
 use Rattle.iv_disk.proofs.keeper.Keeper.append.Goals as goal
 

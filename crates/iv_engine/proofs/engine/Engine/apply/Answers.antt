@@ -1,17 +1,17 @@
-use Rattle.iv_engine.proofs.Sounding.{sound_after}
+use Rattle.iv_engine.proofs.SoundStates.{sound_after}
 use Rattle.std.proofs.Common.{◌≡◌, ◌∙◌, false, map, sym, ap, subst}
 use Rattle.iv_machine.specs.Machine.{step}
 use Rattle.iv_machine.specs.State.{Frame}
 use Rattle.iv_machine.specs.Reached.{AreNumbersUnique}
 use Rattle.iv_machine.specs.Readers.{ShowsKnownRows}
-use Rattle.iv_machine.proofs.Seeing.{step_shows}
+use Rattle.iv_machine.proofs.RowsOfLines.{step_shows}
 use Rattle.std.specs.List.{All}
 use Rattle.iv_store.specs.Answering.{seen}
 use Rattle.iv_store.specs.Store.{Store, frame_of}
 use Rattle.iv_store.specs.Engine.{Engine, IsBehind}
 use Rattle.iv_database.specs.Stands.{Stands}
 use Rattle.iv_command.specs.Views.{command_of, line_of}
-use Rattle.iv_store.proofs.Running.{counted_seen, shown_by}
+use Rattle.iv_store.proofs.RunLines.{counted_seen, shown_by}
 use Rattle.iv_engine.proofs.engine.Engine.apply.Goals as goal
 
 pub returns-in-Ok-clause-lines : goal.returns-in-Ok-clause-lines

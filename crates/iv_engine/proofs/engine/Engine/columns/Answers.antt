@@ -6,7 +6,7 @@ use Rattle.iv_store.specs.Engine.{Engine}
 use Rattle.iv_store.specs.Store.{database_of}
 use Rattle.iv_engine.specs.declared.engine.Engine.TheInside.{Inside}
 use Rattle.iv_engine.specs.Known.{columns_named}
-use Rattle.iv_engine.proofs.Knowing.{by_none, by_number}
+use Rattle.iv_engine.proofs.NameLookup.{by_none, by_number}
 use Rattle.iv_engine.proofs.engine.Engine.columns.Goals as goal
 
 pub returns-in-Some : goal.returns-in-Some

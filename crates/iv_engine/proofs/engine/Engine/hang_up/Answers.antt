@@ -1,7 +1,7 @@
-use Rattle.iv_engine.proofs.Sounding.{sound_hung}
+use Rattle.iv_engine.proofs.SoundStates.{sound_hung}
 use Rattle.std.proofs.Common.{◌∙◌, ap, rules, subst, sym}
 use Rattle.iv_store.specs.Engine.{Engine, IsBehind, hung_up}
-use Rattle.iv_store.proofs.Hanging.{closed_behind, closed_shown}
+use Rattle.iv_store.proofs.HangUps.{closed_behind, closed_shown}
 use Rattle.iv_engine.proofs.engine.Engine.hang_up.Goals as goal
 
 pub returns-then-not-self-clause-hung : goal.returns-then-not-self-clause-hung

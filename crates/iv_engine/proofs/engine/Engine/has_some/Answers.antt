@@ -7,7 +7,7 @@ use Rattle.iv_store.specs.Store.{database_of}
 use Rattle.iv_engine.specs.declared.engine.Engine.TheInside.{Inside}
 use Rattle.iv_engine.specs.Known.{has_some}
 use Rattle.iv_engine.specs.Looked.{has_named}
-use Rattle.iv_engine.proofs.Knowing.{has_by_name, has_in}
+use Rattle.iv_engine.proofs.NameLookup.{has_by_name, has_in}
 use Rattle.iv_engine.proofs.engine.Engine.has_some.Goals as goal
 
 pub returns-in-Some : goal.returns-in-Some

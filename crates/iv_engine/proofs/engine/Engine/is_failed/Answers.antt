@@ -1,6 +1,6 @@
 use Rattle.std.proofs.Common.{subst}
 use Rattle.iv_store.specs.Engine.{HasRoundsOfOpen}
-use Rattle.iv_engine.proofs.Numbering.{rounds_shown}
+use Rattle.iv_engine.proofs.RoundNumbers.{rounds_shown}
 use Rattle.iv_engine.proofs.engine.Engine.is_failed.Goals as goal
 
 pub returns-clause-rounds : goal.returns-clause-rounds

@@ -9,7 +9,7 @@ use Rattle.iv_store.specs.Store.{database_of}
 use Rattle.iv_engine.specs.declared.engine.Engine.TheInside.{Inside}
 use Rattle.iv_engine.specs.Known.{relations_with}
 use Rattle.iv_engine.specs.Looked.{has_named}
-use Rattle.iv_engine.proofs.Knowing.{has_in, if_also, names, none_passes, told_by_name}
+use Rattle.iv_engine.proofs.NameLookup.{has_in, if_also, names, none_passes, told_by_name}
 use Rattle.iv_engine.proofs.engine.Engine.relations_with.Goals as goal
 
 pub returns-in-Some : goal.returns-in-Some

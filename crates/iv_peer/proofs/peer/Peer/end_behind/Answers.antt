@@ -1,5 +1,5 @@
 use Rattle.std.proofs.Common.{rules}
-use Rattle.iv_peer.proofs.Answered.{ends_text, ends_other}
+use Rattle.iv_peer.proofs.HeardFrames.{ends_text, ends_other}
 use Rattle.iv_peer.proofs.peer.Peer.end_behind.Goals as goal
 
 pub returns-in-Text : goal.returns-in-Text

@@ -3,7 +3,7 @@ use Rattle.websocket.specs.Connection.{read_step}
 use Rattle.iv_peer.specs.declared.peer.Read.TheVariants as read
 use Rattle.iv_peer.specs.Hearing.{IsWaitingAt}
 use Rattle.iv_peer.specs.Reading.{IsRead}
-use Rattle.iv_peer.proofs.Answered.{by_fault, by_frame, fault_of, frame_of, waits_of}
+use Rattle.iv_peer.proofs.HeardFrames.{by_fault, by_frame, fault_of, frame_of, waits_of}
 use Rattle.iv_peer.proofs.peer.Peer.frame.Goals as goal
 
 pub returns-in-Nothing : goal.returns-in-Nothing

@@ -6,7 +6,7 @@ use Rattle.websocket.specs.View.{KeepsRest, Returns, ReadLeaves}
 use Rattle.websocket.specs.declared.protocol.frame.codec.FrameStatus.TheVariants.{Complete}
 use Rattle.iv_peer.specs.declared.peer.Read.TheVariants as read
 use Rattle.iv_peer.specs.Reading.{IsRead, IsSaidAs}
-use Rattle.iv_peer.proofs.Reading.{step_is}
+use Rattle.iv_peer.proofs.ProtocolSteps.{step_is}
 use Rattle.iv_peer.proofs.Roles.{role_stays}
 use Rattle.iv_peer.proofs.peer.Peer.read_frame.Goals as goal
 

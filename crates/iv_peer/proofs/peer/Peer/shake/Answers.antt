@@ -1,7 +1,7 @@
 use Rattle.std.proofs.Common.{arith, rules, ◌≡◌, ◌∙◌, sym, ap, subst, ℕ, List}
 use Rattle.httparse.specs.Grammar.{RequestHead}
 use Rattle.iv_peer.specs.Socket.{IsAccepted, accepted, forget}
-use Rattle.iv_peer.proofs.Answered.{by_accept, by_bad, by_long, by_other, no_key}
+use Rattle.iv_peer.proofs.HeardFrames.{by_accept, by_bad, by_long, by_other, no_key}
 use Rattle.iv_peer.proofs.peer.Peer.shake.Goals as goal
 
 pub returns-then-len-gt-MOST_HEAD : goal.returns-then-len-gt-MOST_HEAD

@@ -4,8 +4,8 @@ use Rattle.iv_database.specs.Target.{IsActingOn}
 use Rattle.iv_store.specs.Store.{Store, database_of}
 use Rattle.iv_store.specs.Openable.{MayOpen}
 use Rattle.iv_command.specs.declared.stop.Stop.{Stop}
-use Rattle.iv_database.proofs.Owning.{err_is}
-use Rattle.iv_store.proofs.Opening.{not_acting}
+use Rattle.iv_database.proofs.PolicyTests.{err_is}
+use Rattle.iv_store.proofs.NewSubscription.{not_acting}
 use Rattle.iv_store.proofs.store.Store.check_subscribe.Goals as goal
 
 pub acting_on-requires : goal.acting_on-requires

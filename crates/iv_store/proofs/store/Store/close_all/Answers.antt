@@ -1,6 +1,6 @@
 use Rattle.std.proofs.Common.{◌∙◌, ap, subst, sym}
 use Rattle.iv_store.specs.Store.{store_of, IsSoundStore}
-use Rattle.iv_store.proofs.Hanging.{all_closed, without_sessions}
+use Rattle.iv_store.proofs.HangUps.{all_closed, without_sessions}
 use Rattle.iv_store.proofs.store.Store.close_all.Goals as goal
 
 pub returns-clause-sound : goal.returns-clause-sound

@@ -3,7 +3,7 @@ use Rattle.std.specs.Prelude.{option_map}
 use Rattle.iv_machine.specs.State.{session_of}
 use Rattle.iv_store.specs.Store.{Store}
 use Rattle.iv_store.specs.Finished.{without_unread}
-use Rattle.iv_store.proofs.Closed.{finished_step, is_opened}
+use Rattle.iv_store.proofs.ClosedSessions.{finished_step, is_opened}
 use Rattle.iv_store.proofs.store.Store.finish.Goals as goal
 
 pub returns : goal.returns

@@ -4,9 +4,9 @@ use Rattle.iv_readers.specs.Readers.{RoleCircuit}
 use Rattle.iv_store.specs.Turned.{WasRead}
 use Rattle.iv_access.specs.Privileges.{select_from}
 use Rattle.iv_machine.specs.State.{missing_for}
-use Rattle.iv_store.proofs.Flagging.{missing_flag}
+use Rattle.iv_store.proofs.CircuitFlags.{missing_flag}
 use Rattle.iv_readers.proofs.Held.{reader_at}
-use Rattle.iv_store.proofs.Pairing.{all_at}
+use Rattle.iv_store.proofs.ListPairs.{all_at}
 use Rattle.iv_store.proofs.store.Store.is_unreadable.Goals as goal
 
 pub missing_for-requires-clause-below : goal.missing_for-requires-clause-below

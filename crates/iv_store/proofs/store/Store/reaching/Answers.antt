@@ -3,7 +3,7 @@ use Rattle.iv_store.specs.Concerned.{reaches_some}
 use Rattle.iv_store.specs.Store.{Store}
 use Rattle.iv_readers.specs.Readers.{RoleCircuit}
 use Rattle.iv_readers.proofs.Held.{reader_at}
-use Rattle.iv_store.proofs.Pairing.{map_more, map_whole}
+use Rattle.iv_store.proofs.ListPairs.{map_more, map_whole}
 use Rattle.iv_store.proofs.store.Store.reaching.Goals as goal
 
 pub loop-place-preserved : goal.loop-place-preserved

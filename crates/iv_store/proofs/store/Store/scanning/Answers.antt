@@ -7,9 +7,9 @@ use Rattle.iv_store.specs.Counting.{scans_at}
 use Rattle.iv_store.specs.Store.{Store}
 use Rattle.iv_readers.specs.Readers.{RoleCircuit}
 use Rattle.iv_store.specs.Turned.{WasRead}
-use Rattle.iv_store.proofs.Flagging.{scan_flag}
+use Rattle.iv_store.proofs.CircuitFlags.{scan_flag}
 use Rattle.iv_readers.proofs.Held.{reader_at}
-use Rattle.iv_store.proofs.Pairing.{all_at, map_more, map_whole}
+use Rattle.iv_store.proofs.ListPairs.{all_at, map_more, map_whole}
 use Rattle.iv_store.proofs.store.Store.scanning.Goals as goal
 
 pub loop-place-preserved : goal.loop-place-preserved

@@ -3,13 +3,13 @@ use Rattle.std.specs.Prelude.{string_bytes}
 use Rattle.iv_access.specs.Rights.{Name}
 use Rattle.iv_machine.specs.Act.{subscribe}
 use Rattle.iv_machine.specs.State.{Subscription}
-use Rattle.iv_database.proofs.Owning.{err_is}
+use Rattle.iv_database.proofs.PolicyTests.{err_is}
 use Rattle.iv_command.specs.declared.stop.Stop.{Stop}
 use Rattle.iv_store.specs.Answering.{IsStep}
 use Rattle.iv_store.specs.Store.{Store}
 use Rattle.iv_store.specs.Openable.{IsCircuitAt, IsOpenable, MayOpen}
 use Rattle.iv_command.specs.declared.command.Reply.TheVariants.{Subscribed}
-use Rattle.iv_store.proofs.Opening.{asked, beyond_step, not_opened, opened_step}
+use Rattle.iv_store.proofs.NewSubscription.{asked, beyond_step, not_opened, opened_step}
 use Rattle.iv_store.proofs.store.Store.subscribe.Goals as goal
 
 pub returns-in_err-rel : goal.returns-in_err-rel

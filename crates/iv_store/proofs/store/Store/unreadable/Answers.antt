@@ -2,7 +2,7 @@ use Rattle.std.proofs.Common.{◌≡◌, ◌∙◌, ◌<◌, ◌≤◌, List, ap
 use Rattle.iv_store.specs.Store.{Store, role_reads}
 use Rattle.iv_readers.specs.Readers.{RoleCircuit}
 use Rattle.iv_readers.proofs.Held.{reader_at}
-use Rattle.iv_store.proofs.Pairing.{map_more, map_whole}
+use Rattle.iv_store.proofs.ListPairs.{map_more, map_whole}
 use Rattle.iv_store.proofs.store.Store.unreadable.Goals as goal
 
 pub is_unreadable-requires-clause-place : goal.is_unreadable-requires-clause-place

@@ -1,4 +1,4 @@
-use Rattle.iv_tokens.proofs.Granting.{all_known_in}
+use Rattle.iv_tokens.proofs.KnownAtSecond.{all_known_in}
 use Rattle.iv_tokens.proofs.known_tokens.KnownTokens.at.Goals as goal
 
 pub returns-clause-known : goal.returns-clause-known

@@ -1,4 +1,4 @@
-use Rattle.iv_tokens.proofs.Granting.{web_removed}
+use Rattle.iv_tokens.proofs.KnownAtSecond.{web_removed}
 use Rattle.iv_tokens.proofs.known_tokens.KnownTokens.forget.Goals as goal
 
 pub invariant_of-self : goal.invariant_of-self

@@ -1,5 +1,5 @@
 use Rattle.iv_tokens.specs.Web.{IsWeb}
-use Rattle.iv_tokens.proofs.Granting.{web_pushed}
+use Rattle.iv_tokens.proofs.KnownAtSecond.{web_pushed}
 use Rattle.iv_tokens.proofs.known_tokens.KnownTokens.judge.Goals as goal
 
 pub invariant_of-self-in-Ok : goal.invariant_of-self-in-Ok

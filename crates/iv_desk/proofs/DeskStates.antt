@@ -1,0 +1,117 @@
+-- What stands behind a desk that is alive, or dead.
+use Rattle.std.proofs.Common.{◌≡◌, ℕ, ◌||◌, Bool, true, false, cond, List, [], set, replicate, Option, Some, None, option_map, refl, ap, ◌∙◌, sym, subst}
+use Rattle.std.proofs.lemmas.Bool.{false≢true}
+use Rattle.iv_rows.specs.Options.{if_some}
+use Rattle.iv_clients.specs.Clients.{client_at, is_free}
+use Rattle.iv_gate.specs.Events.{Event, failed, next}
+use Rattle.iv_gate.specs.Gate.{Gate}
+use Rattle.iv_gate.specs.Laws.{marked}
+use Rattle.iv_gate.specs.Restoring.{Restores}
+use Rattle.iv_gateway.specs.Views.{IsGate}
+use Rattle.iv_gateway.specs.declared.gateway.Gateway.{Gateway}
+use Rattle.iv_peer.specs.Socket.{Socket, fresh}
+use Rattle.iv_peer.specs.Lives as life
+use Rattle.iv_desk.specs.Front.{Front, begun, by_event, front_at_start, socket_at}
+use Rattle.iv_desk.specs.Desks.{IsBehind, IsCalledBehind, IsCalledOut, IsDesk, IsHeard, IsHeardBehind, at_each, is_over_at, pending_at, place_of}
+use Rattle.iv_desk.specs.declared.desk.Desk.{Desk}
+use Rattle.iv_desk.specs.declared.place.Place.{Place}
+use Rattle.iv_desk.specs.declared.place.Hearing.{Hearing}
+use Rattle.iv_desk.proofs.Slots.{nobody_there, none_some}
+use Rattle.iv_desk.proofs.OneNumber.{LeavesMarks, dead_by}
+use Rattle.iv_desk.proofs.StatesAfterStep.{behind_put, free_places, nobody_all, place_there}
+
+-- ---- dead, and alive
+
+failed_dead : (g : Gate) → (next g failed).dead ≡ true
+failed_dead g = by g.dead refl
+  where
+    by : (b : Bool) → g.dead ≡ b → (cond b g (record g { dead = true })).dead ≡ true
+    by true e = e
+    by false e = refl
+
+pub failed_desk : (d : Front) (x : Desk) → x.dead ≡ true → IsDesk (by_event failed d) x
+failed_desk d x e = record { dead = e ∙ sym (failed_dead d.gate); alive = λ h. absurd (false≢true (sym h ∙ failed_dead d.gate)) }
+
+pub live_desk : (d : Front) (x : Desk) → IsBehind d x.gateway x.places.items → x.dead ≡ false → IsDesk d x
+live_desk d x b e = record { dead = e ∙ sym b.alive; alive = λ h. b }
+
+pub desk_alive : (d : Front) (x : Desk) → IsDesk d x → x.dead ≡ false → IsBehind d x.gateway x.places.items
+desk_alive d x b e = b.alive (sym b.dead ∙ e)
+
+-- ---- it begins, and goes on
+
+pub starts_behind : (g : Gate) (most : ℕ) (x : Gateway) (slots : List (Option Place)) → IsGate g x → g.dead ≡ false → slots ≡ replicate most None
+    → IsBehind (front_at_start g most) x slots
+starts_behind g most x slots b a e =
+    record { alive = a; gate = b; places = e ∙ nobody_all most; lives = λ m s h. absurd (none_some s (sym (nobody_there most m) ∙ h)) }
+
+pub event_behind : LeavesMarks → (d : Front) (e : Event) (v x : Gateway) (slots : List (Option Place)) → IsBehind d v slots → IsGate (next d.gate e) x
+    → (marked d.gate e).dead ≡ d.gate.dead
+    → IsBehind (by_event e d) x slots
+event_behind k d e v x slots b is same = record { alive = dead_by k d.gate e b.alive ∙ (same ∙ b.alive); gate = is; places = b.places; lives = b.lives }
+
+pub restored_behind : (d : Front) (journal : List ℕ) (now : Gate) (v x : Gateway) (slots : List (Option Place)) → IsBehind d v slots
+    → Restores d.gate journal now → IsGate now x
+    → IsBehind (record d { gate = now }) x slots
+restored_behind d journal now v x slots b r is = record { alive = ap (λ (g : Gate). g.dead) r.gate ∙ b.alive; gate = is; places = b.places; lives = b.lives }
+
+pub begun_behind : (d : Front) (m : ℕ) (x : Gateway) (slots : List (Option Place)) (p : Place) → IsBehind d x slots → is_free m slots ≡ true
+    → p ≡ place_of fresh → IsBehind (begun m d) x (set slots m (Some p))
+begun_behind d m x slots p b free e =
+    subst (λ z. IsBehind (cond z (record d { sockets = set d.sockets m (Some fresh) }) d) x (set slots m (Some p)))
+    (sym (sym (free_places m d.sockets) ∙ (ap (is_free m) (sym b.places) ∙ free)))
+    (subst (λ q. IsBehind (record d { sockets = set d.sockets m (Some fresh) }) x (set slots m (Some q))) (sym e)
+    (behind_put (Some fresh) ([], [], life.begins) d m d.gate x slots b x b.gate b.alive))
+
+pub begun_same : (d : Front) (m : ℕ) (x : Gateway) (slots : List (Option Place)) → IsBehind d x slots → is_free m slots ≡ false → IsBehind (begun m d) x slots
+begun_same d m x slots b free =
+    subst (λ z. IsBehind (cond z (record d { sockets = set d.sockets m (Some fresh) }) d) x slots)
+    (sym (sym (free_places m d.sockets) ∙ (ap (is_free m) (sym b.places) ∙ free))) b
+
+pub free_is : (d : Front) (m : ℕ) (x : Gateway) (slots : List (Option Place)) → IsBehind d x slots → is_free m slots ≡ is_free m d.sockets
+free_is d m x slots b = ap (is_free m) b.places ∙ free_places m d.sockets
+
+pub begun_dead : (d : Front) (m : ℕ) → (begun m d).gate.dead ≡ d.gate.dead
+begun_dead d m = by (is_free m d.sockets)
+  where
+    by : (b : Bool) → (cond b (record d { sockets = set d.sockets m (Some fresh) }) d).gate.dead ≡ d.gate.dead
+    by true = refl
+    by false = refl
+
+-- ---- it hears, and calls
+
+pub heard_desk : (d : Front) (m : ℕ) (hearing : Hearing) (x : Desk) → IsHeardBehind d m hearing x.gateway x.places.items → x.dead ≡ false
+    → IsHeard d m hearing x
+heard_desk d m hearing x w e = record { now = w.now; heard = w.heard; stands = live_desk w.now x w.stands e }
+
+pub called_desk : (f : ℕ → Front → Front) (d : Front) (x : Desk) → IsCalledBehind f d x.gateway x.places.items → x.dead ≡ false → IsCalledOut f d x
+called_desk f d x w e = record { numbers = w.numbers; all = w.all; stands = live_desk (at_each f w.numbers d) x w.stands e }
+
+-- ---- what is read of it
+
+pub dead_pending : (d : Front) (m : ℕ) → d.gate.dead ≡ true → [] ≡ pending_at d m
+dead_pending d m e = ap (λ b. cond b [] (if_some (socket_at d m) [] (λ s. s.output))) (sym e)
+
+pub live_pending : (d : Front) (m : ℕ) (x : Gateway) (slots : List (Option Place)) (o : Option Place) → IsBehind d x slots → client_at slots m ≡ o
+    → if_some o [] (λ (p : Place). p.peer.output) ≡ pending_at d m
+live_pending d m x slots o b h =
+    let e : o ≡ option_map place_of (socket_at d m) = sym h ∙ (ap (λ z. client_at z m) b.places ∙ place_there m d.sockets) in
+    ap (λ z. if_some z [] (λ (p : Place). p.peer.output)) e
+    ∙ (by (socket_at d m) ∙ ap (λ z. cond z [] (if_some (socket_at d m) [] (λ s. s.output))) (sym b.alive))
+  where
+    by : (s : Option Socket) → if_some (option_map place_of s) [] (λ (p : Place). p.peer.output) ≡ if_some s [] (λ s. s.output)
+    by None = refl
+    by (Some s) = refl
+
+pub dead_over : (d : Front) (m : ℕ) → d.gate.dead ≡ true → true ≡ is_over_at d m
+dead_over d m e = ap (λ b. b || if_some (socket_at d m) true (λ s. s.over)) (sym e)
+
+pub live_over : (d : Front) (m : ℕ) (x : Gateway) (slots : List (Option Place)) (o : Option Place) → IsBehind d x slots → client_at slots m ≡ o
+    → if_some o true (λ (p : Place). p.peer.over) ≡ is_over_at d m
+live_over d m x slots o b h =
+    let e : o ≡ option_map place_of (socket_at d m) = sym h ∙ (ap (λ z. client_at z m) b.places ∙ place_there m d.sockets) in
+    ap (λ z. if_some z true (λ (p : Place). p.peer.over)) e ∙ (by (socket_at d m) ∙ ap (λ z. z || if_some (socket_at d m) true (λ s. s.over)) (sym b.alive))
+  where
+    by : (s : Option Socket) → if_some (option_map place_of s) true (λ (p : Place). p.peer.over) ≡ if_some s true (λ s. s.over)
+    by None = refl
+    by (Some s) = refl

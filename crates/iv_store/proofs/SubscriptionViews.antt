@@ -1,0 +1,149 @@
+-- What subscriptions show, and which of them end.
+use Rattle.std.proofs.Common.{◌≡◌, ℕ, ◌≤◌, Bool, true, false, cond, not, ◌||◌, List, [], ◌∷◌, ◌++◌, length, map, pos, Option, None, Some, refl, ap, ◌∙◌, arith}
+use Rattle.std.proofs.lemmas.Bool.Decides.{nat_tests}
+use Rattle.std.proofs.lemmas.Int.{ints}
+use Rattle.std.specs.Prelude.{◌==◌, ◌-ℤ◌, is_some, filter, nat_le, slice_get}
+use Rattle.std.specs.Ordering.{int_eq}
+use Rattle.std.specs.List.{AllByRecursion, list_any}
+use Rattle.iv_rows.specs.Cell.{Cell}
+use Rattle.iv_zset.specs.Limits.{copies, within}
+use Rattle.iv_zset.proofs.Limits.{within_is}
+use Rattle.iv_algebra.specs.Plans.{Lists}
+use Rattle.iv_algebra.specs.Evaluation.{eval, plan_within}
+use Rattle.iv_algebra.specs.Contents.{rows_of}
+use Rattle.iv_rows.specs.Options.{if_some}
+use Rattle.iv_access.specs.Rights.{Rights}
+use Rattle.iv_access.specs.Laws.{ReachesAlike}
+use Rattle.iv_access.specs.Privileges.{role_name}
+use Rattle.iv_access.specs.Policies.{allowed, may_see}
+use Rattle.iv_machine.specs.State.{Frame, Subscription, actor, plan_at, subscription_of, view_for, view_shown, is_within, is_within_for, missing_for, shown}
+use Rattle.iv_machine.specs.Machine.{difference, is_change, weighted, rising_rows, first_cause, ending}
+use Rattle.iv_machine.specs.Reached.{AreUnique}
+use Rattle.iv_machine.specs.declared.Cause.{Cause}
+use Rattle.iv_machine.specs.declared.Cause.TheVariants as cause
+use Rattle.iv_database.proofs.Taken as taking
+use Rattle.iv_store.specs.Store.{database_of, Store, IsStored, frame_of, at, may_read, shown_rows, table_rows}
+use Rattle.iv_database.specs.Stands.{Stands}
+use Rattle.iv_store.proofs.VisibleRows.{filter_within, rows_same}
+use Rattle.iv_database.proofs.Tables.{IsATable, plan_is}
+
+nat_at_most : (m n : ℕ) → m ≤ n → nat_le m n ≡ true
+nat_at_most m n h = grind (arith, nat_tests)
+
+-- ---- a view is the rows of its table that its reader sees
+
+module _ (e : Store) (T : Lists) where
+  pub view_is : (role rel : ℕ) → IsATable e.catalog rel → view_for (at e T) role rel ≡ filter (may_see e.known.rights role rel) (T rel)
+  view_is role rel t = ap (λ p. eval p (allowed e.known.rights role T)) (plan_is e.catalog rel t)
+
+  pub within_for : (role rel : ℕ) → IsATable e.catalog rel → is_within_for (at e T) role rel ≡ within e.cap (filter (may_see e.known.rights role rel) (T rel))
+  within_for role rel t = ap (λ p. plan_within e.cap p (allowed e.known.rights role T)) (plan_is e.catalog rel t)
+
+  pub shown_is : (s : Subscription) → subscription_of e.subscriptions s.number ≡ Some s → shown (at e T) s.number ≡ shown_rows e T s
+  shown_is s found = ap (λ o. if_some o [] (view_shown (at e T))) found
+
+  pub rows_are : (s : Subscription) → IsATable e.catalog s.rel → shown_rows e T s ≡ table_rows e T s
+  rows_are s t = view_is (actor (frame_of e) s.session) s.rel t
+
+  -- and is within the limits where the table is
+  pub view_within : (role rel : ℕ) → IsATable e.catalog rel → within e.cap (T rel) ≡ true → is_within_for (at e T) role rel ≡ true
+  view_within role rel t w = within_for role rel t ∙ filter_within (may_see e.known.rights role rel) e.cap (T rel) w
+
+  module _ (sound : IsStored e) (stands : Stands T e.tables) where
+    pub table_fits : (t : ℕ) → within e.cap (T t) ≡ true
+    table_fits t = within_is e.cap (rows_of e.tables t) (T t) (sound.database.zsets t) (stands t) ∙ nat_at_most (length (rows_of e.tables t)) e.cap (sound.database.small t)
+
+    pub view_fits : (role rel : ℕ) → IsATable e.catalog rel → is_within_for (at e T) role rel ≡ true
+    view_fits role rel t = view_within role rel t (table_fits rel)
+
+-- what a role sees depends on its name, on the roles that it reaches and on the guards alone
+pub view_same : (f : Frame) (q : Rights) (role rel : ℕ) (T : Lists) → ReachesAlike f.rights q.members role → role_name q role ≡ role_name f.rights role → ((t : ℕ) → slice_get q.guards t ≡ slice_get f.rights.guards t)
+    → view_for (record { frame = record f { rights = q }; rows = T }) role rel ≡ view_for (record { frame = f; rows = T }) role rel
+view_same f q role rel T reach name guards = λ i. eval (plan_at f.catalog rel) (λ t. rows_same q f.rights role t reach name (guards t) (T t) i)
+
+-- and so do the limits of it
+pub limits_same : (f : Frame) (q : Rights) (role rel : ℕ) (T : Lists) → ReachesAlike f.rights q.members role → role_name q role ≡ role_name f.rights role → ((t : ℕ) → slice_get q.guards t ≡ slice_get f.rights.guards t)
+    → is_within_for (record { frame = record f { rights = q }; rows = T }) role rel ≡ is_within_for (record { frame = f; rows = T }) role rel
+limits_same f q role rel T reach name guards = λ i. plan_within f.cap (plan_at f.catalog rel) (λ t. rows_same q f.rights role t reach name (guards t) (T t) i)
+
+-- ---- lists behind the tables
+
+abbrev pub lists_behind : Store → Lists
+lists_behind e = taking.lists_behind (database_of e)
+
+pub stands_behind : (e : Store) → IsStored e → Stands (lists_behind e) e.tables
+stands_behind e h = taking.stands_behind (database_of e) h.database
+
+-- ---- which subscriptions end
+
+-- the cause of an end, where the reader may select or not
+abbrev pub cause_for : Bool → Option Cause
+cause_for true = None
+cause_for false = Some cause.Privilege
+
+ends_by : (b w : Bool) → w ≡ true → first_cause b w ≡ cause_for (not b)
+ends_by true w h = refl
+ends_by false w h = ap (first_cause false) h
+
+pub ending_is : (e : Store) (T : Lists) (s : Subscription) → is_within (at e T) s ≡ true → ending (at e T) s ≡ cause_for (may_read e s)
+ending_is e T s w = ends_by (is_some (missing_for (frame_of e) (actor (frame_of e) s.session) s.rel)) (is_within (at e T) s) w
+
+-- ---- nothing changes
+
+no_weight : (n : ℕ) → int_eq (pos n -ℤ pos n) (pos 0) ≡ true
+no_weight n = let e : pos n -ℤ pos n ≡ pos 0 = omega (arith, ints) in ap (λ z. int_eq z (pos 0)) e
+
+none_differ : (rows ks : List (List Cell)) → filter is_change (map (weighted rows rows) ks) ≡ []
+none_differ rows [] = refl
+none_differ rows (r ∷ ks) = ap (λ b. cond (not b) (weighted rows rows r ∷ filter is_change (map (weighted rows rows) ks)) (filter is_change (map (weighted rows rows) ks))) (no_weight (copies r rows)) ∙ none_differ rows ks
+
+pub difference_none : (rows : List (List Cell)) → difference rows rows ≡ []
+difference_none rows = none_differ rows (rising_rows (rows ++ rows))
+
+-- ---- subscriptions by their numbers
+
+same_nat : (m n : ℕ) → (m == n) ≡ true → m ≡ n
+same_nat m n h = grind (arith, nat_tests)
+
+own : (n : ℕ) → (n == n) ≡ true
+own n = grind (arith, nat_tests)
+
+other_way : (m n : ℕ) → (m == n) ≡ false → (n == m) ≡ false
+other_way m n h = grind (arith, nat_tests)
+
+neither : (b c : Bool) → (b || c) ≡ false → (b ≡ false) × (c ≡ false)
+neither true c h = cc
+neither false c h = (refl, h)
+
+-- found in a list is found behind another
+behind : (e : Subscription) (all es : List Subscription) (want : Subscription → Option Subscription) → list_any (λ f. e.number == f.number) es ≡ false → AllByRecursion (λ f. subscription_of all f.number ≡ want f) es → AllByRecursion (λ f. subscription_of (e ∷ all) f.number ≡ want f) es
+behind e all [] want n a = tt
+behind e all (f ∷ es) want n a = let x = neither (e.number == f.number) (list_any (λ f. e.number == f.number) es) n in (
+  ap (λ b. cond b (Some e) (subscription_of all f.number)) (other_way e.number f.number x.0) ∙ a.0,
+  behind e all es want x.1 a.1,
+)
+
+pub each_found : (es : List Subscription) → AreUnique es → AllByRecursion (λ f. subscription_of es f.number ≡ Some f) es
+each_found [] u = tt
+each_found (e ∷ es) u = (ap (λ b. cond b (Some e) (subscription_of es e.number)) (own e.number), behind e es es (λ f. Some f) u.0 (each_found es u.1))
+
+none_found : (k : ℕ) (p : Subscription → Bool) (es : List Subscription) → list_any (λ f. k == f.number) es ≡ false → subscription_of (filter p es) k ≡ None
+none_found k p [] n = refl
+none_found k p (f ∷ es) n = let x = neither (k == f.number) (list_any (λ f. k == f.number) es) n in by (p f) x.0 (none_found k p es x.1)
+  where
+    by : (b : Bool) → (k == f.number) ≡ false → subscription_of (filter p es) k ≡ None → subscription_of (cond b (f ∷ filter p es) (filter p es)) k ≡ None
+    by true d h = ap (λ c. cond c (Some f) (subscription_of (filter p es) k)) d ∙ h
+    by false d h = h
+
+-- what is kept is found, and the others are not
+abbrev pub kept_one : (Subscription → Bool) → Subscription → Option Subscription
+kept_one p f = cond (p f) (Some f) None
+
+pub kept_found : (p : Subscription → Bool) (es : List Subscription) → AreUnique es → AllByRecursion (λ f. subscription_of (filter p es) f.number ≡ kept_one p f) es
+kept_found p [] u = tt
+kept_found p (e ∷ es) u = by (p e) (none_found e.number p es u.0) (kept_found p es u.1)
+  where
+    by : (b : Bool) → subscription_of (filter p es) e.number ≡ None → AllByRecursion (λ f. subscription_of (filter p es) f.number ≡ kept_one p f) es
+        → (subscription_of (cond b (e ∷ filter p es) (filter p es)) e.number ≡ cond b (Some e) None) × AllByRecursion (λ f. subscription_of (cond b (e ∷ filter p es) (filter p es)) f.number ≡ kept_one p f) es
+    by true n a = (ap (λ c. cond c (Some e) (subscription_of (filter p es) e.number)) (own e.number), behind e (filter p es) es (kept_one p) u.0 a)
+    by false n a = (n, a)
