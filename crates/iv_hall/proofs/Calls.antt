@@ -1,62 +1,46 @@
 -- What is listed of clients stays so by each call.
-use Rattle.std.proofs.Common.{◌≡◌, ◌∙◌, ◌⊎◌, inl, inr, ℕ, zero, suc, ◌+◌, ◌<◌, ◌≤◌, true, false, eqb, List, [], length, replicate, set, Option, Some, None}
+use Rattle.std.proofs.Common.{◌≡◌, ◌∙◌, ◌⊎◌, inl, inr, ℕ, zero, suc, ◌+◌, ◌<◌, ◌≤◌, Bool, true, false, eqb, List, [], length, replicate, set, Option}
+use Rattle.std.proofs.Common.{Some, None}
 use Rattle.std.proofs.Common.{option_map, refl, ap, sym, subst, arith}
-use Rattle.std.specs.Prelude.{◌==◌, flat_map, not}
+use Rattle.std.specs.Prelude.{◌==◌, flat_map, is_some, not, option_and_then}
 use Rattle.std.specs.List.{Contains, IsDistinct, list_any}
-use Rattle.std.proofs.lemmas.Bool.{cases_Bool, false≢true}
+use Rattle.std.proofs.lemmas.Bool.{cases_Bool, cases_eq, false≢true}
 use Rattle.iv_rows.specs.Options.{if_some}
 use Rattle.iv_access.specs.Rights.{Name}
 use Rattle.iv_machine.specs.Act.{Line}
-use Rattle.iv_clients.specs.Clients.{at_all, at_client, client_at}
+use Rattle.iv_clients.specs.Clients.{at_all, at_client, client_at, followed_by}
 use Rattle.iv_clients.specs.Kept.{Kept, Places, answering, asking, checking, coming, emptied, holding, holding_beat, holding_owed, is_due, is_followed_by}
 use Rattle.iv_clients.specs.Kept.{is_following, is_told, keeping_closed, keeping_moved, keeping_new, releasing}
 use Rattle.iv_clients.specs.Tokens.{Token}
-use Rattle.iv_clients.proofs.Slots.{at_every, at_same, nobody, set_here, within}
-use Rattle.iv_hall.specs.Hall.{IsHall, is_told_at}
-use Rattle.iv_hall.specs.Hearing.{hearing_for, told_for}
-use Rattle.iv_hall.specs.Listing.{AreListed, walked}
-use Rattle.iv_hall.specs.Numbers.{AreSet, HasGained, HasGainedAll, HasLost, Numbers}
-use Rattle.iv_hall.specs.Readers.{HasJoined, HasKept, HasLeft, Readers, readers_of}
-use Rattle.iv_hall.proofs.Halls.{Stays, hall_all, hall_at, hall_empty, hall_set, listed_some, others_at, others_put, told_all, told_at, told_below, told_lost}
-use Rattle.iv_hall.proofs.Halls.{told_none, told_set, told_some}
-use Rattle.iv_hall.proofs.Heard.{subs_kept}
+use Rattle.iv_clients.proofs.Slots.{length_all, length_at, length_put, nobody, within}
+use Rattle.iv_hall.specs.Hall.{AreNumbered, IsHall, is_owed, is_told_at}
+use Rattle.iv_hall.specs.Hearing.{feed_told, hearing_for, told_for}
+use Rattle.iv_hall.specs.Listing.{AreThose, is_so_at, walked}
+use Rattle.iv_hall.specs.Numbers.{AreSet, HasGainedAll, HasLost, Numbers}
+use Rattle.iv_hall.specs.Readers.{HasKept, HasLeft, IsReader, Readers, readers_of}
+use Rattle.iv_hall.proofs.Halls.{hall_all, hall_at, hall_empty, hall_follows, hall_set}
+use Rattle.iv_hall.proofs.Heard.{heard_owed, held_alike, owed_still}
 use Rattle.iv_hall.proofs.Joined.{any_listed}
-use Rattle.iv_hall.proofs.Quiet.{checked_owed, checked_subs, due_told, emptied_owed, emptied_subs, follows_fewer, follows_moved, follows_new, follows_same}
-use Rattle.iv_hall.proofs.Quiet.{hears_nothing, released_owed, released_quiet, released_subs, released_told, settled_owed, settled_still, settled_subs}
-use Rattle.iv_hall.proofs.Quiet.{told_before}
+use Rattle.iv_hall.proofs.Numbered.{closed_at, numbered_left, numbered_moved, numbered_new}
+use Rattle.iv_hall.proofs.Placed.{set_by}
+use Rattle.iv_hall.proofs.Quiet.{checked_alike, checked_owed, due_told, emptied_alike, emptied_owed, follows_fewer, follows_led, follows_moved, follows_new}
+use Rattle.iv_hall.proofs.Quiet.{follows_on, hears_nothing, released_alike, released_owed, released_quiet, released_same, settled_alike, settled_owed}
+use Rattle.iv_hall.proofs.Quiet.{settled_still}
+use Rattle.iv_hall.proofs.Those.{others_at, others_put, so_all, so_at, so_every, so_fewer, so_here, so_is, so_more, so_more_all, so_put, those_below, those_but}
+use Rattle.iv_hall.proofs.Those.{those_none, those_one, those_same, those_some}
 use Rattle.iv_hall.proofs.Walked.{walked_all}
-
--- as before
-abbrev same : (n : ℕ) (ns : List ℕ) → Stays n ns ns
-same n ns = λ m ne h. h
 
 -- the set is over the clients as they are written
 over : {W : ℕ → Type 0} (xs ys : Places) (old new : Numbers) → ys ≡ xs → AreSet W (is_told_at ys) old new → AreSet W (is_told_at xs) old new
 over {W} xs ys old new e s = subst (λ z. AreSet W (is_told_at z) old new) e s
 
-more : (n : ℕ) (old new : Numbers) → HasGained n old new → Stays n old.list new.list
-more n old new g = λ m ne h. g.kept m h
-
-less : (n : ℕ) (old new : Numbers) → HasLost n old new → Stays n old.list new.list
-less n old new g = λ m ne h. g.kept m ne h
-
--- a client of the number is there, so it is put in
-puts : (most : ℕ) (xs : Places) (n : ℕ) (k : Kept) (old new : Numbers) → length xs ≤ most → old.size ≡ most → HasGained n old new → client_at xs n ≡ Some k
-    → Contains new.list n
-puts most xs n k old new l s g there = let h = within xs n k there in g.put (omega (arith, h, l, s))
-
--- a client of the number is there that is told something then, so it is put in
-puts_told : (most : ℕ) (xs : Places) (n : ℕ) (f : Kept → Kept) (k : Kept) (old new : Numbers) → length xs ≤ most → old.size ≡ most
-    → AreSet (λ m. m ≡ n) (is_told_at (at_client n f xs)) old new → client_at xs n ≡ Some k → is_told (f k) ≡ true
-    → Contains new.list n
-puts_told most xs n f k old new l s g there is =
-    let h = within xs n k there in g.put n refl (ap (λ o. if_some o false is_told) (at_same n f xs ∙ ap (option_map f) there) ∙ is) (omega (arith, h, l, s))
-
-pub fails : (most : ℕ) (xs ys : Places) (owing owing' telling telling' : Numbers) (reading reading' : List Readers) → IsHall most xs owing telling reading
-    → owing'.size ≡ owing.size → telling' ≡ record { list = []; size = telling.size } → ys ≡ []
-    → IsHall most ys owing' telling' reading'
-fails most xs ys owing owing' telling telling' reading reading' h o t e =
-    hall_empty most ys owing' telling' reading' e (o ∙ h.owed_size) (ap (λ (x : Numbers). x.size) t ∙ h.told_size) (ap (λ (x : Numbers). x.list) t)
+pub fails : (most : ℕ) (xs ys : Places) (owing owing' left telling telling' : Numbers) (reading reading' : List Readers) → IsHall most xs owing telling reading
+    → owing'.size ≡ owing.size → left ≡ record { list = []; size = owing'.size } → telling' ≡ record { list = []; size = telling.size } → reading' ≡ []
+    → ys ≡ []
+    → IsHall most ys left telling' reading'
+fails most xs ys owing owing' left telling telling' reading reading' h s o t r e =
+    hall_empty most ys left telling' reading' e (o ∙ ap (λ n. record { list = []; size = n }) (s ∙ h.owed_size))
+    (t ∙ ap (λ n. record { list = []; size = n }) h.told_size) r
 
 pub begins : (most : ℕ) (xs : Places) (owing telling : Numbers) → xs ≡ replicate most None → owing ≡ record { list = []; size = most }
     → telling ≡ record { list = []; size = most } → IsHall most xs owing telling []
@@ -64,241 +48,285 @@ begins most xs owing telling e o t = subst (λ z. IsHall most z owing telling []
   within = many most;
   owed_size = ap (λ (x : Numbers). x.size) o;
   told_size = ap (λ (x : Numbers). x.size) t;
-  owed = λ m k there is. absurd (nobody most m k there);
-  told = λ m k there is. absurd (nobody most m k there);
-  only = told_none (replicate most None) telling (ap (λ (x : Numbers). x.list) t);
-  readers = λ feed m k there is. absurd (nobody most m k there);
+  owed = those_none is_owed owing.list (replicate most None) (ap (λ (x : Numbers). x.list) o) (none is_owed);
+  told = those_none is_told telling.list (replicate most None) (ap (λ (x : Numbers). x.list) t) (none is_told);
+  readers = λ feed. those_none (is_following feed) [] (replicate most None) refl (none (is_following feed));
+  numbered = λ m k there. absurd (nobody most m k there);
 })
   where
     many : (n : ℕ) → length (replicate {A = Option Kept} n None) ≤ n
     many zero = omega arith
     many (suc n) = let h = many n in omega (arith, h)
 
-pub holds : (most : ℕ) (xs ys : Places) (owing owing' telling telling' : Numbers) (reading : List Readers) (n : ℕ) (text : List ℕ)
-    → IsHall most xs owing telling reading → HasGained n owing owing' → AreSet (λ m. m ≡ n) (is_told_at ys) telling telling'
-    → ys ≡ at_client n (holding text) xs → IsHall most ys owing' telling' reading
-holds most xs ys owing owing' telling telling' reading n text h o t e =
-    let s = over (at_client n (holding text) xs) ys telling telling' e t in
-    hall_at most xs ys owing owing' telling telling' reading reading n (holding text) h e o.size t.size (more n owing owing' o) (λ m ne c. t.kept m ne c)
-    (λ feed. same n (readers_of reading feed))
-    (λ k there is. puts most xs n k owing owing' h.within h.owed_size o there)
-    (λ k there is. puts_told most xs n (holding text) k telling telling' h.within h.told_size s there is)
-    (λ k feed there is. h.readers feed n k there is)
-    (told_set n xs (at_client n (holding text) xs) telling telling' h.only s (others_at n (holding text) xs))
+    none : (p : Kept → Bool) (m : ℕ) → is_so_at p (replicate most None) m ≡ false
+    none p m = by (client_at (replicate most None) m) refl
+      where
+        by : (o : Option Kept) → client_at (replicate most None) m ≡ o → if_some o false p ≡ false
+        by None there = refl
+        by (Some k) there = absurd (nobody most m k there)
+
+-- ---- one
+
+pub holds : (most : ℕ) (xs ys : Places) (owing owing' telling telling' : Numbers) (reading : List Readers) (n : ℕ) (is : Bool) (text : List ℕ)
+    → IsHall most xs owing telling reading → is ≡ is_some (client_at xs n) → AreSet (λ m. m ≡ n) (λ m. is) owing owing'
+    → AreSet (λ m. m ≡ n) (is_told_at ys) telling telling' → ys ≡ at_client n (holding text) xs → IsHall most ys owing' telling' reading
+holds most xs ys owing owing' telling telling' reading n is text h there o t e =
+    let f = holding text in let zs = at_client n f xs in let l = length_at n f xs in
+    hall_at most xs ys owing owing' telling telling' reading n f h e o.size t.size (λ k. record { given = refl; subs = refl })
+    (those_one is_owed n xs zs owing owing' h.owed
+    (set_by n is (is_so_at is_owed zs) owing owing' (there ∙ (owed (client_at xs n) ∙ sym (so_here is_owed f n xs))) o)
+    (others_at n f xs) (omega (arith, l, h.within, h.owed_size)))
+    (those_one is_told n xs zs telling telling' h.told (over zs ys telling telling' e t) (others_at n f xs) (omega (arith, l, h.within, h.told_size)))
+  where
+    owed : (o : Option Kept) → is_some o ≡ if_some (option_map (holding text) o) false is_owed
+    owed None = refl
+    owed (Some k) = refl
 
 pub asks : (most : ℕ) (xs ys : Places) (owing telling : Numbers) (reading : List Readers) (n : ℕ) → IsHall most xs owing telling reading
     → ys ≡ at_client n asking xs → IsHall most ys owing telling reading
 asks most xs ys owing telling reading n h e =
-    hall_at most xs ys owing owing telling telling reading reading n asking h e refl refl (same n owing.list) (same n telling.list)
-    (λ feed. same n (readers_of reading feed))
-    (λ k there is. h.owed n k there is)
-    (λ k there is. h.told n k there is)
-    (λ k feed there is. h.readers feed n k there is)
-    (told_at n asking xs telling.list (λ k is. is) h.only)
+    let zs = at_client n asking xs in
+    hall_at most xs ys owing owing telling telling reading n asking h e refl refl (λ k. record { given = refl; subs = refl })
+    (those_same is_owed owing.list xs zs (so_at is_owed asking n xs (λ k. refl)) h.owed)
+    (those_same is_told telling.list xs zs (so_at is_told asking n xs (λ k. refl)) h.told)
 
 pub answers : (most : ℕ) (xs ys : Places) (owing telling telling' : Numbers) (reading : List Readers) (n brought : ℕ) → IsHall most xs owing telling reading
     → AreSet (λ m. m ≡ n) (is_told_at ys) telling telling'
     → ys ≡ at_client n (answering brought) xs → IsHall most ys owing telling' reading
 answers most xs ys owing telling telling' reading n brought h t e =
-    let s = over (at_client n (answering brought) xs) ys telling telling' e t in
-    hall_at most xs ys owing owing telling telling' reading reading n (answering brought) h e refl t.size (same n owing.list) (λ m ne c. t.kept m ne c)
-    (λ feed. same n (readers_of reading feed))
-    (λ k there is. h.owed n k there is)
-    (λ k there is. puts_told most xs n (answering brought) k telling telling' h.within h.told_size s there is)
-    (λ k feed there is. h.readers feed n k there is)
-    (told_set n xs (at_client n (answering brought) xs) telling telling' h.only s (others_at n (answering brought) xs))
-
--- who follows one feed more, or another in its place, is among the readers of that one
-pub follows : (most : ℕ) (xs ys : Places) (owing telling : Numbers) (reading reading' : List Readers) (n feed : ℕ) → IsHall most xs owing telling reading
-    → ys ≡ at_client n (keeping_new feed) xs → HasJoined feed n reading reading'
-    → IsHall most ys owing telling reading'
-follows most xs ys owing telling reading reading' n feed h e j =
-    hall_at most xs ys owing owing telling telling reading reading' n (keeping_new feed) h e refl refl (same n owing.list) (same n telling.list)
-    (λ f m ne c. j.kept f m c)
-    (λ k there is. h.owed n k there is)
-    (λ k there is. h.told n k there is)
-    (λ k f there is. by k f there (follows_new f feed (k.given + 1) k.subs is))
-    (told_at n (keeping_new feed) xs telling.list (λ k is. is) h.only)
-  where
-    by : (k : Kept) (f : ℕ) → client_at xs n ≡ Some k → (f ≡ feed) ⊎ (is_following f k ≡ true) → Contains (readers_of reading' f) n
-    by k f there (inl x) = subst (λ z. Contains (readers_of reading' z) n) (sym x) j.joined
-    by k f there (inr x) = j.kept f n (h.readers f n k there x)
-
-moves : (most : ℕ) (xs ys : Places) (owing telling : Numbers) (reading reading' : List Readers) (n from to : ℕ) → IsHall most xs owing telling reading
-    → HasJoined to n reading reading' → ys ≡ at_client n (keeping_moved from to) xs
-    → IsHall most ys owing telling reading'
-moves most xs ys owing telling reading reading' n from to h j e =
-    hall_at most xs ys owing owing telling telling reading reading' n (keeping_moved from to) h e refl refl (same n owing.list) (same n telling.list)
-    (λ f m ne c. j.kept f m c)
-    (λ k there is. h.owed n k there is)
-    (λ k there is. h.told n k there is)
-    (λ k f there is. by k f there (follows_moved f from to k.subs is))
-    (told_at n (keeping_moved from to) xs telling.list (λ k is. is) h.only)
-  where
-    by : (k : Kept) (f : ℕ) → client_at xs n ≡ Some k → (f ≡ to) ⊎ (is_following f k ≡ true) → Contains (readers_of reading' f) n
-    by k f there (inl x) = subst (λ z. Contains (readers_of reading' z) n) (sym x) j.joined
-    by k f there (inr x) = j.kept f n (h.readers f n k there x)
-
--- who does not follow a feed may go from its readers
-pub quits : (most : ℕ) (xs : Places) (owing telling : Numbers) (reading reading' : List Readers) (n : ℕ) → IsHall most xs owing telling reading
-    → HasKept n xs reading reading' → IsHall most xs owing telling reading'
-quits most xs owing telling reading reading' n h q = record {
-  within = h.within;
-  owed_size = h.owed_size;
-  told_size = h.told_size;
-  owed = h.owed;
-  told = h.told;
-  only = h.only;
-  readers = λ feed m k there is. q.kept feed m (λ p. false≢true (sym p.1
-      ∙ (ap (λ o. if_some o false (is_following feed)) (ap (client_at xs) (sym p.0) ∙ there) ∙ is))) (h.readers feed m k there is);
-}
-
-pub redirects : (most : ℕ) (xs ys : Places) (owing telling : Numbers) (reading reading' left : List Readers) (n from to : ℕ)
-    → IsHall most xs owing telling reading → HasJoined to n reading reading' → ys ≡ at_client n (keeping_moved from to) xs
-    → HasKept n ys reading' left → IsHall most ys owing telling left
-redirects most xs ys owing telling reading reading' left n from to h j e q =
-    quits most ys owing telling reading' left n (moves most xs ys owing telling reading reading' n from to h j e) q
-
-pub closes : (most : ℕ) (xs ys : Places) (owing telling : Numbers) (reading left : List Readers) (n own : ℕ) → IsHall most xs owing telling reading
-    → ys ≡ at_client n (keeping_closed own) xs → HasKept n ys reading left → IsHall most ys owing telling left
-closes most xs ys owing telling reading left n own h e q = quits most ys owing telling reading left n
-    (hall_at most xs ys owing owing telling telling reading reading n (keeping_closed own) h e refl refl (same n owing.list) (same n telling.list)
-    (λ feed. same n (readers_of reading feed))
-    (λ k there is. h.owed n k there is)
-    (λ k there is. h.told n k there is)
-    (λ k feed there is. h.readers feed n k there (follows_fewer feed (λ s. not (own == s.own)) k.subs is))
-    (told_at n (keeping_closed own) xs telling.list (λ k is. is) h.only)) q
+    let f = answering brought in let zs = at_client n f xs in let l = length_at n f xs in
+    hall_at most xs ys owing owing telling telling' reading n f h e refl t.size (λ k. record { given = refl; subs = refl })
+    (those_same is_owed owing.list xs zs (so_at is_owed f n xs (λ k. refl)) h.owed)
+    (those_one is_told n xs zs telling telling' h.told (over zs ys telling telling' e t) (others_at n f xs) (omega (arith, l, h.within, h.told_size)))
 
 pub takes : (most : ℕ) (xs ys : Places) (owing telling telling' : Numbers) (reading : List Readers) (n : ℕ) → IsHall most xs owing telling reading
     → ys ≡ at_client n emptied xs → AreSet (λ m. m ≡ n) (is_told_at ys) telling telling'
     → IsHall most ys owing telling' reading
 takes most xs ys owing telling telling' reading n h e t =
-    let s = over (at_client n emptied xs) ys telling telling' e t in
-    hall_at most xs ys owing owing telling telling' reading reading n emptied h e refl t.size (same n owing.list) (λ m ne c. t.kept m ne c)
-    (λ feed. same n (readers_of reading feed))
-    (λ k there is. h.owed n k there (sym (emptied_owed k) ∙ is))
-    (λ k there is. puts_told most xs n emptied k telling telling' h.within h.told_size s there is)
-    (λ k feed there is. h.readers feed n k there (follows_same feed k (emptied k) (emptied_subs k) is))
-    (told_set n xs (at_client n emptied xs) telling telling' h.only s (others_at n emptied xs))
+    let zs = at_client n emptied xs in let l = length_at n emptied xs in
+    hall_at most xs ys owing owing telling telling' reading n emptied h e refl t.size emptied_alike
+    (those_same is_owed owing.list xs zs (so_at is_owed emptied n xs emptied_owed) h.owed)
+    (those_one is_told n xs zs telling telling' h.told (over zs ys telling telling' e t) (others_at n emptied xs) (omega (arith, l, h.within, h.told_size)))
 
-pub enters : (most : ℕ) (xs ys : Places) (owing telling telling' : Numbers) (reading : List Readers) (n : ℕ) (role : Name) (digest text : List ℕ)
-    → IsHall most xs owing telling reading → AreSet (λ m. m ≡ n) (is_told_at ys) telling telling'
-    → ys ≡ set xs n (Some (coming role digest text)) → IsHall most ys owing telling' reading
-enters most xs ys owing telling telling' reading n role digest text h t e =
-    let who = Some (coming role digest text) in let s = over (set xs n who) ys telling telling' e t in
-    hall_set most xs ys owing owing telling telling' reading reading n who h e refl t.size (same n owing.list) (λ m ne c. t.kept m ne c)
-    (λ feed. same n (readers_of reading feed))
-    (λ k there. ap (λ (x : Kept). x.owed) (is k there))
-    (λ k l there told. s.put n refl (ap (λ o. if_some o false is_told) (set_here n who xs l ∙ there) ∙ told) (omega (arith, l, h.within, h.told_size)))
-    (λ k feed there. ap (is_following feed) (is k there))
-    (told_set n xs (set xs n who) telling telling' h.only s (others_put n who xs))
+-- who follows one feed more, or another in its place, is among the readers of that one
+pub follows : (most : ℕ) (xs ys : Places) (owing telling : Numbers) (reading reading' : List Readers) (n feed : ℕ) → IsHall most xs owing telling reading
+    → ys ≡ at_client n (keeping_new feed) xs → IsReader n feed ys reading reading'
+    → IsHall most ys owing telling reading'
+follows most xs ys owing telling reading reading' n feed h e j =
+    hall_follows most xs ys owing telling reading reading' n (keeping_new feed) h e (λ k. refl) (λ k. refl) (λ k a. numbered_new k.given feed k.subs a)
+    (λ i. those_but (is_following i) n (readers_of reading i) (readers_of reading' i) xs (at_client n (keeping_new feed) xs) (h.readers i) (others_at n
+    (keeping_new feed) xs)
+    (λ m ne c. r.kept i m (λ p. ne p.1) c) (λ m ne c. r.others i m (λ p. ne p.1) c) (λ t. here i t (cases_eq i feed)) (λ c. out i c (cases_eq i feed)))
   where
-    is : (k : Kept) → Some (coming role digest text) ≡ Some k → k ≡ coming role digest text
-    is k x = let y : coming role digest text ≡ k = cc in sym y
+    r : IsReader n feed (at_client n (keeping_new feed) xs) reading reading'
+    r = subst (λ z. IsReader n feed z reading reading') e j
+
+    before : (i : ℕ) → (i ≡ feed → ⊥) → (k : Kept) → is_following i (keeping_new feed k) ≡ true → is_following i k ≡ true
+    before i ne k t = by (follows_new i feed (k.given + 1) k.subs t)
+      where
+        by : (i ≡ feed) ⊎ (is_following i k ≡ true) → is_following i k ≡ true
+        by (inl x) = absurd (ne x)
+        by (inr x) = x
+
+    here : (i : ℕ) → is_so_at (is_following i) (at_client n (keeping_new feed) xs) n ≡ true → (i ≡ feed) ⊎ (i ≡ feed → ⊥) → Contains (readers_of reading' i) n
+    here i t (inl x) = subst (λ z. Contains (readers_of reading' z) n) (sym x) (r.put (subst (λ z. is_so_at (is_following z) (at_client n
+        (keeping_new feed) xs) n ≡ true) x t))
+    here i t (inr ne) = r.kept i n (λ p. ne p.0) ((h.readers i).all n (so_fewer (is_following i) (keeping_new feed) n xs (before i ne) n t))
+
+    out : (i : ℕ) → Contains (readers_of reading' i) n → (i ≡ feed) ⊎ (i ≡ feed → ⊥) → is_so_at (is_following i) (at_client n (keeping_new feed) xs) n ≡ true
+    out i c (inl x) = subst (λ z. is_so_at (is_following z) (at_client n (keeping_new feed) xs) n ≡ true) (sym x) (r.only (subst (λ z. Contains
+        (readers_of reading' z) n) x c))
+    out i c (inr ne) = so_more (is_following i) (keeping_new feed) n xs (λ k t. follows_on i feed (k.given + 1) k.subs t) ((h.readers i).only n
+        (r.others i n (λ p. ne p.0) c))
+
+pub redirects : (most : ℕ) (xs ys : Places) (owing telling : Numbers) (reading reading' left : List Readers) (n from to : ℕ)
+    → IsHall most xs owing telling reading → ys ≡ at_client n (keeping_moved from to) xs → IsReader n to ys reading reading'
+    → HasKept n (Some from) ys reading' left → IsHall most ys owing telling left
+redirects most xs ys owing telling reading reading' left n from to h e j kept =
+    hall_follows most xs ys owing telling reading left n (keeping_moved from to) h e (λ k. refl) (λ k. refl) (λ k a. numbered_moved from to k.given k.subs a)
+    (λ i. those_but (is_following i) n (readers_of reading i) (readers_of left i) xs (at_client n (keeping_moved from to) xs) (h.readers i) (others_at n
+    (keeping_moved from to) xs)
+    (λ m ne c. q.kept i m (λ p. ne p.0) (r.kept i m (λ p. ne p.1) c)) (λ m ne c. r.others i m (λ p. ne p.1) (q.only i m c))
+    (λ t. q.kept i n (λ p. false≢true (sym p.1 ∙ t)) (here i t (cases_eq i to))) (λ c. out i c (cases_eq i to) (cases_eq i from)))
+  where
+    r : IsReader n to (at_client n (keeping_moved from to) xs) reading reading'
+    r = subst (λ z. IsReader n to z reading reading') e j
+
+    q : HasKept n (Some from) (at_client n (keeping_moved from to) xs) reading' left
+    q = subst (λ z. HasKept n (Some from) z reading' left) e kept
+
+    before : (i : ℕ) → (i ≡ to → ⊥) → (k : Kept) → is_following i (keeping_moved from to k) ≡ true → is_following i k ≡ true
+    before i ne k t = by (follows_moved i from to k.subs t)
+      where
+        by : (i ≡ to) ⊎ (is_following i k ≡ true) → is_following i k ≡ true
+        by (inl x) = absurd (ne x)
+        by (inr x) = x
+
+    here : (i : ℕ) → is_so_at (is_following i) (at_client n (keeping_moved from to) xs) n ≡ true → (i ≡ to) ⊎ (i ≡ to → ⊥) → Contains (readers_of reading' i) n
+    here i t (inl x) = subst (λ z. Contains (readers_of reading' z) n) (sym x) (r.put (subst (λ z. is_so_at (is_following z) (at_client n
+        (keeping_moved from to) xs) n ≡ true) x t))
+    here i t (inr ne) = r.kept i n (λ p. ne p.0) ((h.readers i).all n (so_fewer (is_following i) (keeping_moved from to) n xs (before i ne) n t))
+
+    stays : (i : ℕ) → i ≡ from → Contains (readers_of left i) n → (is_so_at (is_following i) (at_client n (keeping_moved from to) xs) n ≡ true) ⊎ (is_so_at
+        (is_following i) (at_client n (keeping_moved from to) xs) n ≡ false)
+        → is_so_at (is_following i) (at_client n (keeping_moved from to) xs) n ≡ true
+    stays i x c (inl t) = t
+    stays i x c (inr u) = absurd (q.gone i (ap Some (sym x)) u c)
+
+    out : (i : ℕ) → Contains (readers_of left i) n → (i ≡ to) ⊎ (i ≡ to → ⊥) → (i ≡ from) ⊎ (i ≡ from → ⊥) → is_so_at (is_following i) (at_client n
+        (keeping_moved from to) xs) n ≡ true
+    out i c (inl x) y = subst (λ z. is_so_at (is_following z) (at_client n (keeping_moved from to) xs) n ≡ true) (sym x)
+        (r.only (subst (λ z. Contains (readers_of reading' z) n) x (q.only i n c)))
+    out i c (inr ne) (inl y) = stays i y c (cases_Bool (is_so_at (is_following i) (at_client n (keeping_moved from to) xs) n))
+    out i c (inr ne) (inr ny) = so_more (is_following i) (keeping_moved from to) n xs (λ k t. follows_led i from to k.subs ny t)
+        ((h.readers i).only n (r.others i n (λ p. ne p.0) (q.only i n c)))
+
+pub closes : (most : ℕ) (xs ys : Places) (owing telling : Numbers) (reading left : List Readers) (n own : ℕ) (feed : Option ℕ)
+    → IsHall most xs owing telling reading → feed ≡ option_and_then (λ (k : Kept). followed_by k.subs own) (client_at xs n)
+    → ys ≡ at_client n (keeping_closed own) xs → HasKept n feed ys reading left → IsHall most ys owing telling left
+closes most xs ys owing telling reading left n own feed h is e kept =
+    hall_follows most xs ys owing telling reading left n (keeping_closed own) h e (λ k. refl) (λ k. refl) (λ k a. numbered_left (λ s. not
+    (own == s.own)) k.given k.subs a)
+    (λ i. those_but (is_following i) n (readers_of reading i) (readers_of left i) xs (at_client n (keeping_closed own) xs) (h.readers i) (others_at n
+    (keeping_closed own) xs)
+    (λ m ne c. q.kept i m (λ p. ne p.0) c) (λ m ne c. q.only i m c) (here i) (λ c. out i c (cases_Bool (is_so_at (is_following i) (at_client n
+    (keeping_closed own) xs) n))))
+  where
+    q : HasKept n feed (at_client n (keeping_closed own) xs) reading left
+    q = subst (λ z. HasKept n feed z reading left) e kept
+
+    here : (i : ℕ) → is_so_at (is_following i) (at_client n (keeping_closed own) xs) n ≡ true → Contains (readers_of left i) n
+    here i t = q.kept i n (λ p. false≢true (sym p.1 ∙ t))
+        ((h.readers i).all n (so_fewer (is_following i) (keeping_closed own) n xs (λ k x. follows_fewer i (λ s. not (own == s.own)) k.subs x) n t))
+
+    out : (i : ℕ) → Contains (readers_of left i) n → (is_so_at (is_following i) (at_client n (keeping_closed own) xs) n ≡ true) ⊎ (is_so_at (is_following i)
+        (at_client n (keeping_closed own) xs) n ≡ false)
+        → is_so_at (is_following i) (at_client n (keeping_closed own) xs) n ≡ true
+    out i c (inl t) = t
+    out i c (inr u) = absurd (q.gone i (is ∙ closed_at i own (client_at xs n) (h.numbered n) ((h.readers i).only n (q.only i n c))
+        (sym (so_here (is_following i) (keeping_closed own) n xs) ∙ u)) u c)
+
+-- ---- one comes or goes
+
+pub enters : (most : ℕ) (xs ys : Places) (owing owing' telling telling' : Numbers) (reading reading' : List Readers) (n : ℕ) (role : Name)
+    (digest text : List ℕ)
+    → IsHall most xs owing telling reading → HasLeft n (λ k. is_so_at (is_following k) xs n) reading reading' → HasLost n owing owing'
+    → AreSet (λ m. m ≡ n) (is_told_at ys) telling telling'
+    → ys ≡ set xs n (Some (coming role digest text)) → IsHall most ys owing' telling' reading'
+enters most xs ys owing owing' telling telling' reading reading' n role digest text h l o t e =
+    let who = Some (coming role digest text) in let zs = set xs n who in let b = length_put n who xs in
+    hall_set most xs ys owing owing' telling telling' reading reading' n who h e o l t.size
+    (those_one is_told n xs zs telling telling' h.told (over zs ys telling telling' e t) (others_put n who xs) (omega (arith, b, h.within, h.told_size)))
+    refl (λ feed. refl) (λ k there. let is : coming role digest text ≡ k = cc in subst (λ (z : Kept). AreNumbered z.given z.subs) is tt)
 
 pub leaves : (most : ℕ) (xs ys : Places) (owing owing' telling telling' : Numbers) (reading reading' : List Readers) (n : ℕ)
-    → IsHall most xs owing telling reading → HasLeft n reading reading' → HasLost n owing owing' → HasLost n telling telling'
-    → ys ≡ set xs n None → IsHall most ys owing' telling' reading'
+    → IsHall most xs owing telling reading → HasLeft n (λ k. is_so_at (is_following k) xs n) reading reading' → HasLost n owing owing'
+    → HasLost n telling telling' → ys ≡ set xs n None → IsHall most ys owing' telling' reading'
 leaves most xs ys owing owing' telling telling' reading reading' n h l o t e =
-    hall_set most xs ys owing owing' telling telling' reading reading' n None h e o.size t.size (less n owing owing' o) (less n telling telling' t)
-    (λ feed m ne c. l.kept feed m ne c)
-    (λ k there. cc) (λ k l there is. cc) (λ k feed there. cc) (told_lost n xs (set xs n None) telling.list telling'.list h.only t.gone t.only
-    (others_put n None xs))
+    hall_set most xs ys owing owing' telling telling' reading reading' n None h e o l t.size
+    (those_but is_told n telling.list telling'.list xs (set xs n None) h.told (others_put n None xs) t.kept (λ m ne c. t.only m c)
+    (λ c. absurd (false≢true (so_put is_told n None xs c))) (λ c. absurd (t.gone c)))
+    refl (λ feed. refl) (λ k there. cc)
 
 -- who has something that may be sent, or is to go, is listed
 pub told_due : (most : ℕ) (xs : Places) (owing telling : Numbers) (reading : List Readers) → IsHall most xs owing telling reading → (m : ℕ) (k : Kept)
     → client_at xs m ≡ Some k → is_due k ≡ true → Contains telling.list m
-told_due most xs owing telling reading h m k there due = h.told m k there (due_told k due)
+told_due most xs owing telling reading h m k there due = h.told.all m (so_is is_told xs m k there (due_told k due))
 
 pub followed : (most : ℕ) (xs : Places) (owing telling : Numbers) (reading : List Readers) (ns : List ℕ) (feed : ℕ) → IsHall most xs owing telling reading
     → ns ≡ readers_of reading feed
     → list_any (λ n. if_some (client_at xs n) false (is_following feed)) ns ≡ is_followed_by feed xs
 followed most xs owing telling reading ns feed h e = any_listed (is_following feed) ns xs
-    (subst (λ z. AreListed (is_following feed) z xs) (sym e) (h.readers feed))
+    (subst (λ z. AreThose (is_following feed) z xs) (sym e) (h.readers feed))
 
 -- ---- all
 
 pub settled_all : (xs : Places) (most : ℕ) (owing telling : Numbers) (reading : List Readers) (ns : List ℕ) (text : List ℕ)
     → IsHall most xs owing telling reading → ns ≡ owing.list → IsDistinct eqb ns
     → walked (holding_owed text) ns xs ≡ at_all (holding_owed text) xs
-settled_all xs most owing telling reading ns text h e d = walked_all (λ (k : Kept). k.owed) (holding_owed text) ns xs d
-    (subst (λ z. AreListed (λ (k : Kept). k.owed) z xs) (sym e) h.owed) (λ k. settled_still text k)
+settled_all xs most owing telling reading ns text h e d = walked_all is_owed (holding_owed text) ns xs d
+    (subst (λ z. AreThose is_owed z xs) (sym e) h.owed) (settled_still text)
 
 pub settles : (most : ℕ) (xs ys : Places) (owing owing' telling telling' : Numbers) (reading : List Readers) (ns text : List ℕ)
     → IsHall most xs owing telling reading → ns ≡ owing.list → AreSet (Contains ns) (is_told_at ys) telling telling'
-    → ys ≡ at_all (holding_owed text) xs → owing'.size ≡ owing.size → IsHall most ys owing' telling' reading
+    → ys ≡ at_all (holding_owed text) xs → owing' ≡ record { list = []; size = owing.size } → IsHall most ys owing' telling' reading
 settles most xs ys owing owing' telling telling' reading ns text h same_list t e o =
-    let f = holding_owed text in let s = over (at_all f xs) ys telling telling' e t in let owed = λ (k : Kept). k.owed in
-    let listed = subst (λ z. AreListed owed z xs) (sym same_list) h.owed in
-    hall_all most xs ys owing owing' telling telling' reading reading f h e o t.size
-    (λ m k there is. absurd (false≢true (sym (settled_owed text k) ∙ is)))
-    (listed_some owed f ns xs telling telling' listed (settled_still text) s most h.within h.told_size h.told)
-    (λ feed m k there is. h.readers feed m k there (follows_same feed k (holding_owed text k) (settled_subs text k) is))
-    (told_some owed f ns xs telling telling' listed (settled_still text) s h.only)
-
-puts_below : (most : ℕ) (xs : Places) (f : Kept → Kept) (m : ℕ) (k : Kept) (old new : Numbers) → length xs ≤ most → old.size ≡ most
-    → AreSet (λ i. i < most) (is_told_at (at_all f xs)) old new → client_at xs m ≡ Some k → is_told (f k) ≡ true
-    → Contains new.list m
-puts_below most xs f m k old new l size s there is =
-    let b = within xs m k there in s.put m (omega (arith, b, l)) (ap (λ o. if_some o false is_told) (at_every f xs m ∙ ap (option_map f) there) ∙ is)
-    (omega (arith, b, l, size))
+    let f = holding_owed text in let zs = at_all f xs in
+    hall_all most xs ys owing owing' telling telling' reading f h e (ap (λ (x : Numbers). x.size) o) t.size (settled_alike text)
+    (those_none is_owed owing'.list zs (ap (λ (x : Numbers). x.list) o) (λ m. so_every is_owed f xs m ∙ none (client_at xs m)))
+    (those_some is_owed is_told f ns xs telling telling' (subst (λ z. AreThose is_owed z xs) (sym same_list) h.owed) (settled_still text) h.told
+    (over zs ys telling telling' e t) (omega (arith, h.within, h.told_size)))
+  where
+    none : (o : Option Kept) → if_some (option_map (holding_owed text) o) false is_owed ≡ false
+    none None = refl
+    none (Some k) = settled_owed text k
 
 pub beats : (most : ℕ) (xs ys : Places) (owing telling telling' : Numbers) (reading : List Readers) (text : List ℕ) → IsHall most xs owing telling reading
     → AreSet (λ m. m < most) (is_told_at ys) telling telling' → ys ≡ at_all (holding_beat text) xs → IsHall most ys owing telling' reading
 beats most xs ys owing telling telling' reading text h t e =
-    let s = over (at_all (holding_beat text) xs) ys telling telling' e t in
-    hall_all most xs ys owing owing telling telling' reading reading (holding_beat text) h e refl t.size
-    (λ m k there is. h.owed m k there is)
-    (λ m k there is. puts_below most xs (holding_beat text) m k telling telling' h.within h.told_size s there is)
-    (λ feed m k there is. h.readers feed m k there is)
-    (told_below most xs (at_all (holding_beat text) xs) telling telling' h.within h.only s)
+    let f = holding_beat text in let zs = at_all f xs in let l = length_all f xs in
+    hall_all most xs ys owing owing telling telling' reading f h e refl t.size (λ k. record { given = refl; subs = refl })
+    (those_same is_owed owing.list xs zs (so_all is_owed f xs (λ k. refl)) h.owed)
+    (those_below is_told most xs zs telling telling' h.told (over zs ys telling telling' e t) h.within (omega (arith, l, h.within)) h.told_size)
 
 pub checks : (most : ℕ) (xs ys : Places) (owing telling telling' : Numbers) (reading : List Readers) (tokens : List Token)
     → IsHall most xs owing telling reading → AreSet (λ m. m < most) (is_told_at ys) telling telling' → ys ≡ at_all (checking tokens) xs
     → IsHall most ys owing telling' reading
 checks most xs ys owing telling telling' reading tokens h t e =
-    let s = over (at_all (checking tokens) xs) ys telling telling' e t in
-    hall_all most xs ys owing owing telling telling' reading reading (checking tokens) h e refl t.size
-    (λ m k there is. h.owed m k there (sym (checked_owed tokens k) ∙ is))
-    (λ m k there is. puts_below most xs (checking tokens) m k telling telling' h.within h.told_size s there is)
-    (λ feed m k there is. h.readers feed m k there (follows_same feed k (checking tokens k) (checked_subs tokens k) is))
-    (told_below most xs (at_all (checking tokens) xs) telling telling' h.within h.only s)
+    let f = checking tokens in let zs = at_all f xs in let l = length_all f xs in
+    hall_all most xs ys owing owing telling telling' reading f h e refl t.size (checked_alike tokens)
+    (those_same is_owed owing.list xs zs (so_all is_owed f xs (checked_owed tokens)) h.owed)
+    (those_below is_told most xs zs telling telling' h.told (over zs ys telling telling' e t) h.within (omega (arith, l, h.within)) h.told_size)
 
 pub released_all : (xs : Places) (most : ℕ) (owing telling : Numbers) (reading : List Readers) (ns : List ℕ) → IsHall most xs owing telling reading
     → ns ≡ telling.list → IsDistinct eqb ns → walked releasing ns xs ≡ at_all releasing xs
-released_all xs most owing telling reading ns h e d = walked_all is_told releasing ns xs d (subst (λ z. AreListed is_told z xs) (sym e) h.told) released_quiet
+released_all xs most owing telling reading ns h e d = walked_all is_told releasing ns xs d (subst (λ z. AreThose is_told z xs) (sym e) h.told) released_quiet
 
 pub releases : (most : ℕ) (xs ys : Places) (owing telling : Numbers) (reading : List Readers) → IsHall most xs owing telling reading → ys ≡ at_all releasing xs
     → IsHall most ys owing telling reading
 releases most xs ys owing telling reading h e =
-    hall_all most xs ys owing owing telling telling reading reading releasing h e refl refl
-    (λ m k there is. h.owed m k there (sym (released_owed k) ∙ is))
-    (λ m k there is. h.told m k there (told_before releasing k (released_quiet k) is))
-    (λ feed m k there is. h.readers feed m k there (follows_same feed k (releasing k) (released_subs k) is))
-    (told_all releasing xs telling.list released_told h.only)
+    let zs = at_all releasing xs in
+    hall_all most xs ys owing owing telling telling reading releasing h e refl refl released_alike
+    (those_same is_owed owing.list xs zs (so_all is_owed releasing xs released_owed) h.owed)
+    (those_same is_told telling.list xs zs (so_all is_told releasing xs released_same) h.told)
 
 pub heard_all : (xs : Places) (most : ℕ) (owing telling : Numbers) (reading : List Readers) (ns : List ℕ) (feed : ℕ) (rel : Name) (l : Line)
     → IsHall most xs owing telling reading → ns ≡ readers_of reading feed → IsDistinct eqb ns
     → walked (hearing_for feed rel l) ns xs ≡ at_all (hearing_for feed rel l) xs
 heard_all xs most owing telling reading ns feed rel l h e d =
-    walked_all (is_following feed) (hearing_for feed rel l) ns xs d (subst (λ z. AreListed (is_following feed) z xs) (sym e) (h.readers feed))
+    walked_all (is_following feed) (hearing_for feed rel l) ns xs d (subst (λ z. AreThose (is_following feed) z xs) (sym e) (h.readers feed))
     (hears_nothing feed rel l)
 
 pub hears : (most : ℕ) (xs ys : Places) (owing owing' telling telling' : Numbers) (reading : List Readers) (ns : List ℕ) (feed : ℕ) (rel : Name) (l : Line)
-    → IsHall most xs owing telling reading → ns ≡ readers_of reading feed
+    → IsHall most xs owing telling reading → ns ≡ readers_of reading feed → feed_told l ≡ Some feed
     → HasGainedAll ns owing owing' → AreSet (Contains ns) (is_told_at ys) telling telling' → ys ≡ at_all (hearing_for feed rel l) xs
     → IsHall most ys owing' telling' reading
-hears most xs ys owing owing' telling telling' reading ns feed rel l h same_list o t e =
-    let f = hearing_for feed rel l in let s = over (at_all f xs) ys telling telling' e t in let listed =
-    subst (λ z. AreListed (is_following feed) z xs) (sym same_list) (h.readers feed) in
-    hall_all most xs ys owing owing' telling telling' reading reading f h e o.size t.size
-    (λ m k there is. owed m k there is (cases_Bool (is_following feed k)))
-    (listed_some (is_following feed) f ns xs telling telling' listed (hears_nothing feed rel l) s most h.within h.told_size h.told)
-    (λ i m k there is. h.readers i m k there (follows_same i k (hearing_for feed rel l k) (subs_kept (flat_map (told_for feed rel l) k.subs) k) is))
-    (told_some (is_following feed) f ns xs telling telling' listed (hears_nothing feed rel l) s h.only)
+hears most xs ys owing owing' telling telling' reading ns feed rel l h same_list of o t e =
+    hall_all most xs ys owing owing' telling telling' reading (hearing_for feed rel l) h e o.size t.size (λ k. held_alike (flat_map
+    (told_for feed rel l) k.subs) k)
+    (record { all = λ m x. all m (client_at xs m) refl (sym (so_every is_owed (hearing_for feed rel l) xs m) ∙ x); only = λ m c. only m (o.only m c) })
+    (those_some (is_following feed) is_told (hearing_for feed rel l) ns xs telling telling' listed (hears_nothing feed rel l) h.told (over (at_all
+    (hearing_for feed rel l) xs) ys telling telling' e t)
+    (omega (arith, h.within, h.told_size)))
   where
-    owed : (m : ℕ) (k : Kept) → client_at xs m ≡ Some k → (hearing_for feed rel l k).owed ≡ true → (is_following feed k ≡ true) ⊎ (is_following feed k ≡ false)
+    listed : AreThose (is_following feed) ns xs
+    listed = subst (λ z. AreThose (is_following feed) z xs) (sym same_list) (h.readers feed)
+
+    owed : (m : ℕ) (k : Kept) → client_at xs m ≡ Some k → is_owed (hearing_for feed rel l k) ≡ true → (is_following feed k ≡ true) ⊎
+        (is_following feed k ≡ false)
         → Contains owing'.list m
     owed m k there is (inl x) = let b = within xs m k there in o.put m (omega (arith, b, h.within, h.owed_size))
-        (subst (λ z. Contains z m) (sym same_list) (h.readers feed m k there x))
-    owed m k there is (inr x) = o.kept m (h.owed m k there (ap (λ (z : Kept). z.owed) (sym (hears_nothing feed rel l k x)) ∙ is))
+        (listed.all m (so_is (is_following feed) xs m k there x))
+    owed m k there is (inr x) = o.kept m (h.owed.all m (so_is is_owed xs m k there (ap is_owed (sym (hears_nothing feed rel l k x)) ∙ is)))
+
+    all : (m : ℕ) (who : Option Kept) → client_at xs m ≡ who → if_some (option_map (hearing_for feed rel l) who) false is_owed ≡ true → Contains owing'.list m
+    all m None there x = absurd (false≢true x)
+    all m (Some k) there x = owed m k there x (cases_Bool (is_following feed k))
+
+    heard : (who : Option Kept) → if_some who false (is_following feed) ≡ true → if_some (option_map (hearing_for feed rel l) who) false is_owed ≡ true
+    heard None x = x
+    heard (Some k) x = heard_owed feed rel l k of x
+
+    only : (m : ℕ) → Contains owing.list m ⊎ Contains ns m → is_so_at is_owed (at_all (hearing_for feed rel l) xs) m ≡ true
+    only m (inl c) = so_more_all is_owed (hearing_for feed rel l) xs (λ k x. owed_still (flat_map (told_for feed rel l) k.subs) k x) m (h.owed.only m c)
+    only m (inr c) = so_every is_owed (hearing_for feed rel l) xs m ∙ heard (client_at xs m) (listed.only m c)

@@ -1,7 +1,9 @@
 -- What is told of lines, one after another.
 use Rattle.std.proofs.Common.{◌≡◌, ◌<◌, ℕ, zero, suc, ◌+◌, true, false, cond, List, [], ◌∷◌, ◌++◌, length, take, Some, None, get_or, map, refl, ap, ◌∙◌, sym}
-use Rattle.std.proofs.Common.{append-nil, add-one, arith}
+use Rattle.std.proofs.Common.{append-nil, add-one, arith, false, ◌||◌, ◌⊎◌, inl, inr}
 use Rattle.std.specs.Prelude.{◌==◌, flat_map, slice_get}
+use Rattle.std.specs.List.{list_any}
+use Rattle.std.proofs.lemmas.Bool.{cases_Bool, false≢true}
 use Rattle.std.proofs.lemmas.List.{map_more}
 use Rattle.std.proofs.lemmas.List.Concat.{flat_map-append}
 use Rattle.iv_access.specs.Rights.{Name}
@@ -9,13 +11,26 @@ use Rattle.iv_machine.specs.Act.{Line, reply, change, ended}
 use Rattle.iv_message.specs.Told.{Told, told_text}
 use Rattle.iv_clients.specs.Clients.{Sub, at_all, own_line}
 use Rattle.iv_clients.specs.Feeds.{Feed, rel_read}
-use Rattle.iv_clients.specs.Kept.{Kept, Places, holding, holding_all}
+use Rattle.iv_clients.specs.Kept.{Kept, Places, holding, holding_all, is_following}
 use Rattle.iv_hall.proofs.Each.{both_all, same_all, still_all}
+use Rattle.iv_hall.proofs.Quiet.{FollowsAlike}
 use Rattle.iv_hall.specs.Hearing.{feed_told, hearing_for, hearing_line, hearing_lines, text_as, told_as, told_for}
 
 pub subs_kept : (ts : List Told) (k : Kept) → (holding_all ts k).subs ≡ k.subs
 subs_kept [] k = refl
 subs_kept (t ∷ ts) k = subs_kept ts (holding (told_text t) k)
+
+given_kept : (ts : List Told) (k : Kept) → (holding_all ts k).given ≡ k.given
+given_kept [] k = refl
+given_kept (t ∷ ts) k = given_kept ts (holding (told_text t) k)
+
+pub held_alike : (ts : List Told) (k : Kept) → FollowsAlike k (holding_all ts k)
+held_alike ts k = record { given = given_kept ts k; subs = subs_kept ts k }
+
+-- who is owed something stays so
+pub owed_still : (ts : List Told) (k : Kept) → k.owed ≡ true → (holding_all ts k).owed ≡ true
+owed_still [] k h = h
+owed_still (t ∷ ts) k h = owed_still ts (holding (told_text t) k) refl
 
 pub all_append : (xs ys : List Told) (k : Kept) → holding_all (xs ++ ys) k ≡ holding_all ys (holding_all xs k)
 all_append [] ys k = refl
@@ -34,6 +49,29 @@ told_here feed rel l s k h e = line_held l rel s.own feed k h ∙ ap (λ b. hold
 
 pub told_not : (feed : ℕ) (rel : Name) (l : Line) (s : Sub) (k : Kept) → (feed == s.feed) ≡ false → k ≡ holding_all (told_for feed rel l s) k
 told_not feed rel l s k e = ap (λ b. holding_all (cond b (told_as rel l s.own) []) k) (sym e)
+
+-- who follows a line's feed is owed something then
+owed_by : (feed : ℕ) (rel : Name) (l : Line) (subs : List Sub) (k : Kept) → feed_told l ≡ Some feed → list_any (λ (s : Sub). feed == s.feed) subs ≡ true
+    → (holding_all (flat_map (told_for feed rel l) subs) k).owed ≡ true
+owed_by feed rel l [] k h any = absurd (false≢true any)
+owed_by feed rel l (s ∷ ss) k h any = by (cases_Bool (feed == s.feed)) (λ more. owed_by feed rel l ss k h more)
+  where
+    parts : holding_all (flat_map (told_for feed rel l) (s ∷ ss)) k ≡ holding_all (flat_map (told_for feed rel l) ss) (holding_all (told_for feed rel l s) k)
+    parts = all_append (told_for feed rel l s) (flat_map (told_for feed rel l) ss) k
+
+    by : ((feed == s.feed) ≡ true) ⊎ ((feed == s.feed) ≡ false)
+        → (list_any (λ (x : Sub). feed == x.feed) ss ≡ true → (holding_all (flat_map (told_for feed rel l) ss) k).owed ≡ true)
+        → (holding_all (flat_map (told_for feed rel l) (s ∷ ss)) k).owed ≡ true
+    by (inl e) further =
+        ap (λ (z : Kept). z.owed) (parts ∙ ap (holding_all (flat_map (told_for feed rel l) ss)) (sym (told_here feed rel l s k h e)))
+        ∙ owed_still (flat_map (told_for feed rel l) ss) (holding (text_as rel l s.own) k) refl
+    by (inr e) further =
+        ap (λ (z : Kept). z.owed) (parts ∙ ap (holding_all (flat_map (told_for feed rel l) ss)) (sym (told_not feed rel l s k e)))
+        ∙ further (ap (λ b. b || list_any (λ (x : Sub). feed == x.feed) ss) (sym e) ∙ any)
+
+pub heard_owed : (feed : ℕ) (rel : Name) (l : Line) (k : Kept) → feed_told l ≡ Some feed → is_following feed k ≡ true
+    → (hearing_for feed rel l k).owed ≡ true
+heard_owed feed rel l k h any = owed_by feed rel l k.subs k h any
 
 -- ---- one number after another
 

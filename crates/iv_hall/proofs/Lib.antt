@@ -3,8 +3,10 @@ pub mod Each
 pub mod Halls
 pub mod Heard
 pub mod Joined
+pub mod Numbered
 pub mod Placed
 pub mod Quiet
 pub mod Stayed
+pub mod Those
 pub mod Waiting
 pub mod Walked

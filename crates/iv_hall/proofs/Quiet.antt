@@ -15,6 +15,11 @@ use Rattle.iv_clients.specs.Tokens.{Token, role_opened}
 use Rattle.iv_rows.specs.Options.{if_some}
 use Rattle.iv_hall.specs.Hearing.{hearing_for, told_as, told_for}
 
+-- it follows the same, and its numbers are the same
+pub record FollowsAlike (before now : Kept) : Type 0 where
+  pub given : now.given ≡ before.given
+  pub subs : now.subs ≡ before.subs
+
 -- ---- told
 
 -- what a client is that was told nothing
@@ -99,13 +104,13 @@ released_told k h = by (k.dropped || nat_lt most_piled k.piled) refl
         let d = (or_parts k.dropped (nat_lt most_piled k.piled) e).0 in
         kept d (waits k.dropped (not (length k.sendable == 0)) (not (length k.unsynced == 0)) (not (k.brought == 0)) (not (k.piled == 0)) d h)
 
--- who is told something was told something before
-pub told_before : (f : Kept → Kept) (k : Kept) → (is_told k ≡ false → f k ≡ k) → is_told (f k) ≡ true → is_told k ≡ true
-told_before f k still h = by (cases_Bool (is_told k))
+-- who is told something then was told something before, and the other way round
+pub released_same : (k : Kept) → is_told (releasing k) ≡ is_told k
+released_same k = by (cases_Bool (is_told k))
   where
-    by : (is_told k ≡ true) ⊎ (is_told k ≡ false) → is_told k ≡ true
-    by (inl e) = e
-    by (inr e) = absurd (false≢true (sym e ∙ (ap is_told (sym (still e)) ∙ h)))
+    by : (is_told k ≡ true) ⊎ (is_told k ≡ false) → is_told (releasing k) ≡ is_told k
+    by (inl e) = released_told k e ∙ sym e
+    by (inr e) = ap is_told (released_quiet k e)
 
 -- who was told nothing has nothing to take
 pub emptied_quiet : (k : Kept) → is_told k ≡ false → emptied k ≡ k
@@ -122,12 +127,12 @@ emptied_by false k = refl
 pub emptied_owed : (k : Kept) → (emptied k).owed ≡ k.owed
 emptied_owed k = emptied_by (length k.sendable == 0) k
 
-emptied_with : (b : Bool) (k : Kept) → (cond b k (record k { sendable = []; asked = 0; piled = 0 })).subs ≡ k.subs
-emptied_with true k = refl
-emptied_with false k = refl
+emptied_with : (b : Bool) (k : Kept) → FollowsAlike k (cond b k (record k { sendable = []; asked = 0; piled = 0 }))
+emptied_with true k = record { given = refl; subs = refl }
+emptied_with false k = record { given = refl; subs = refl }
 
-pub emptied_subs : (k : Kept) → (emptied k).subs ≡ k.subs
-emptied_subs k = emptied_with (length k.sendable == 0) k
+pub emptied_alike : (k : Kept) → FollowsAlike k (emptied k)
+emptied_alike k = emptied_with (length k.sendable == 0) k
 
 released_by : (b : Bool) (k : Kept) → (cond b (letting_go k) (record k
     { unsynced = []; sendable = k.sendable ++ k.unsynced; brought = 0; piled = k.piled + k.brought })).owed ≡ k.owed
@@ -137,13 +142,13 @@ released_by false k = refl
 pub released_owed : (k : Kept) → (releasing k).owed ≡ k.owed
 released_owed k = released_by (k.dropped || nat_lt most_piled k.piled) k
 
-released_with : (b : Bool) (k : Kept) → (cond b (letting_go k) (record k
-    { unsynced = []; sendable = k.sendable ++ k.unsynced; brought = 0; piled = k.piled + k.brought })).subs ≡ k.subs
-released_with true k = refl
-released_with false k = refl
+released_with : (b : Bool) (k : Kept) → FollowsAlike k (cond b (letting_go k) (record k
+    { unsynced = []; sendable = k.sendable ++ k.unsynced; brought = 0; piled = k.piled + k.brought }))
+released_with true k = record { given = refl; subs = refl }
+released_with false k = record { given = refl; subs = refl }
 
-pub released_subs : (k : Kept) → (releasing k).subs ≡ k.subs
-released_subs k = released_with (k.dropped || nat_lt most_piled k.piled) k
+pub released_alike : (k : Kept) → FollowsAlike k (releasing k)
+released_alike k = released_with (k.dropped || nat_lt most_piled k.piled) k
 
 checked_by : (b : Bool) (k : Kept) → (cond b k (letting_go k)).owed ≡ k.owed
 checked_by true k = refl
@@ -152,12 +157,12 @@ checked_by false k = refl
 pub checked_owed : (tokens : List Token) (k : Kept) → (checking tokens k).owed ≡ k.owed
 checked_owed tokens k = checked_by (if_some (role_opened tokens k.digest) false (λ (r : Name). bytes_eq k.role r)) k
 
-checked_with : (b : Bool) (k : Kept) → (cond b k (letting_go k)).subs ≡ k.subs
-checked_with true k = refl
-checked_with false k = refl
+checked_with : (b : Bool) (k : Kept) → FollowsAlike k (cond b k (letting_go k))
+checked_with true k = record { given = refl; subs = refl }
+checked_with false k = record { given = refl; subs = refl }
 
-pub checked_subs : (tokens : List Token) (k : Kept) → (checking tokens k).subs ≡ k.subs
-checked_subs tokens k = checked_with (if_some (role_opened tokens k.digest) false (λ (r : Name). bytes_eq k.role r)) k
+pub checked_alike : (tokens : List Token) (k : Kept) → FollowsAlike k (checking tokens k)
+checked_alike tokens k = checked_with (if_some (role_opened tokens k.digest) false (λ (r : Name). bytes_eq k.role r)) k
 
 -- ---- owed
 
@@ -171,18 +176,14 @@ settled_by text false k h = h
 pub settled_owed : (text : List ℕ) (k : Kept) → (holding_owed text k).owed ≡ false
 settled_owed text k = settled_by text k.owed k refl
 
-settled_with : (text : List ℕ) (b : Bool) (k : Kept) → (cond b (record (holding text k) { owed = false }) k).subs ≡ k.subs
-settled_with text true k = refl
-settled_with text false k = refl
+settled_with : (text : List ℕ) (b : Bool) (k : Kept) → FollowsAlike k (cond b (record (holding text k) { owed = false }) k)
+settled_with text true k = record { given = refl; subs = refl }
+settled_with text false k = record { given = refl; subs = refl }
 
-pub settled_subs : (text : List ℕ) (k : Kept) → (holding_owed text k).subs ≡ k.subs
-settled_subs text k = settled_with text k.owed k
+pub settled_alike : (text : List ℕ) (k : Kept) → FollowsAlike k (holding_owed text k)
+settled_alike text k = settled_with text k.owed k
 
 -- ---- follows
-
--- who has the same subscriptions follows the same
-pub follows_same : (feed : ℕ) (k c : Kept) → c.subs ≡ k.subs → is_following feed c ≡ true → is_following feed k ≡ true
-follows_same feed k c e h = ap (λ z. list_any (λ (s : Sub). feed == s.feed) z) (sym e) ∙ h
 
 any_filter : {X : Type 0} (p q : X → Bool) (xs : List X) → list_any p (filter q xs) ≡ true → list_any p xs ≡ true
 any_filter p q [] h = h
@@ -216,6 +217,28 @@ follows_new feed new own subs h = from (or_cases (list_any (λ (s : Sub). feed =
         last : ((feed == new) ≡ true) ⊎ (false ≡ true) → (feed ≡ new) ⊎ (list_any (λ (s : Sub). feed == s.feed) subs ≡ true)
         last (inl x) = inl (eqb-true feed new x)
         last (inr x) = absurd (false≢true x)
+
+-- who follows one feed more follows all others on
+pub follows_on : (feed new own : ℕ) (subs : List Sub) → list_any (λ (s : Sub). feed == s.feed) subs ≡ true
+    → list_any (λ (s : Sub). feed == s.feed) (subs ++ record { own = own; feed = new } ∷ []) ≡ true
+follows_on feed new own subs h =
+    list_any-append (λ (s : Sub). feed == s.feed) subs (record { own = own; feed = new } ∷ [])
+    ∙ or_left (list_any (λ (s : Sub). feed == s.feed) subs) ((feed == new) || false) h
+
+-- who is led from one feed to another follows all others on
+pub follows_led : (feed from to : ℕ) (subs : List Sub) → (feed ≡ from → ⊥) → list_any (λ (s : Sub). feed == s.feed) subs ≡ true
+    → list_any (λ (s : Sub). feed == s.feed) (map (moved_sub from to) subs) ≡ true
+follows_led feed from to [] ne h = h
+follows_led feed from to (s ∷ ss) ne h = by (cases_Bool (from == s.feed)) (or_cases (feed == s.feed) (list_any (λ (x : Sub). feed == x.feed) ss) h)
+    (λ e. follows_led feed from to ss ne e)
+  where
+    by : ((from == s.feed) ≡ true) ⊎ ((from == s.feed) ≡ false) → ((feed == s.feed) ≡ true) ⊎ (list_any (λ (x : Sub). feed == x.feed) ss ≡ true)
+        → (list_any (λ (x : Sub). feed == x.feed) ss ≡ true → list_any (λ (x : Sub). feed == x.feed) (map (moved_sub from to) ss) ≡ true)
+        → ((feed == (moved_sub from to s).feed) || list_any (λ (x : Sub). feed == x.feed) (map (moved_sub from to) ss)) ≡ true
+    by a (inr e) rest = or_right (feed == (moved_sub from to s).feed) (list_any (λ (x : Sub). feed == x.feed) (map (moved_sub from to) ss)) (rest e)
+    by (inl a) (inl e) rest = absurd (ne (eqb-true feed s.feed e ∙ sym (eqb-true from s.feed a)))
+    by (inr a) (inl e) rest = or_left (feed == (moved_sub from to s).feed) (list_any (λ (x : Sub). feed == x.feed) (map (moved_sub from to) ss))
+        (ap (λ b. feed == (cond b (record s { feed = to }) s).feed) a ∙ e)
 
 -- who is led from one feed to another follows that one, or the same as before
 pub follows_moved : (feed from to : ℕ) (subs : List Sub) → list_any (λ (s : Sub). feed == s.feed) (map (moved_sub from to) subs) ≡ true

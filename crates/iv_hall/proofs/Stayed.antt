@@ -1,24 +1,26 @@
 -- Who follows nothing any more that lines end.
 use Rattle.std.proofs.Common.{◌≡◌, ◌∙◌, ◌⊎◌, inl, inr, ℕ, ◌+◌, ◌<◌, Bool, true, false, ◌||◌, cond, not, eqb, List, [], ◌∷◌, ◌++◌, length, map, take, get_or}
-use Rattle.std.proofs.Common.{filter, Some, None, refl, ap, sym, subst}
+use Rattle.std.proofs.Common.{filter, Option, Some, None, option_map, refl, ap, sym, subst, arith}
 use Rattle.std.specs.Prelude.{◌==◌}
-use Rattle.std.specs.List.{Contains, IsDistinct, list_any}
-use Rattle.std.proofs.lemmas.Bool.{cases_eq, eq-eqb, eqb-false, false≢true, ne_eqb, or_parts}
+use Rattle.std.specs.List.{IsDistinct, list_any}
+use Rattle.std.proofs.lemmas.Bool.{cases_eq, eq-eqb, eqb-false, ne_eqb, or_parts}
 use Rattle.std.proofs.lemmas.List.{map_more}
 use Rattle.std.proofs.lemmas.List.Folds.{list_any-append}
 use Rattle.iv_machine.specs.Act.{Line, reply, change, ended}
+use Rattle.iv_rows.specs.Options.{if_some}
 use Rattle.iv_clients.specs.Clients.{Sub, at_all, client_at}
 use Rattle.iv_clients.specs.Feeds.{ends_in, is_end}
-use Rattle.iv_clients.specs.Kept.{Kept, Places, is_following, keeping_on}
-use Rattle.iv_hall.specs.Hall.{IsHall}
+use Rattle.iv_clients.specs.Kept.{Kept, Places, is_following, is_told, keeping_on}
+use Rattle.iv_clients.proofs.Slots.{length_all}
+use Rattle.iv_hall.specs.Hall.{IsHall, is_owed}
 use Rattle.iv_hall.specs.Hearing.{feed_ended}
-use Rattle.iv_hall.specs.Listing.{AreListed, walked}
+use Rattle.iv_hall.specs.Listing.{AreThose, walked}
 use Rattle.iv_hall.specs.Numbers.{Numbers}
 use Rattle.iv_hall.specs.Readers.{Readers, readers_of}
 use Rattle.iv_hall.proofs.Each.{both_all, same_all, still_all}
-use Rattle.iv_hall.proofs.Halls.{hall_all, told_all}
-use Rattle.iv_hall.proofs.Joined.{others_left}
-use Rattle.iv_hall.proofs.Quiet.{follows_fewer}
+use Rattle.iv_hall.proofs.Joined.{none_left, others_left}
+use Rattle.iv_hall.proofs.Numbered.{numbered_all, numbered_left}
+use Rattle.iv_hall.proofs.Those.{so_all, so_every, those_none, those_same}
 use Rattle.iv_hall.proofs.Walked.{walked_all}
 
 -- the line ends this feed
@@ -64,28 +66,57 @@ none_follow k l (s ∷ ss) e = by (cases_eq s.feed k) (none_follow k l ss e)
         ∙ (ap (λ b. b || list_any (λ (y : Sub). k == y.feed) (filter (λ (y : Sub). not (ends_in (l ∷ []) y.feed)) ss)) (ne_eqb k s.feed (λ y. x (sym y)))
         ∙ rest)
 
+-- what is followed behind a line
+abbrev followed_on : Line → List Sub → List Sub
+followed_on l subs = filter (λ (s : Sub). not (ends_in (l ∷ []) s.feed)) subs
+
+-- all other feeds are followed on
+others_follow : (k feed : ℕ) (l : Line) (subs : List Sub) → IsEnding k l → (feed ≡ k → ⊥)
+    → list_any (λ (s : Sub). feed == s.feed) (followed_on l subs) ≡ list_any (λ (s : Sub). feed == s.feed) subs
+others_follow k feed l [] e ne = refl
+others_follow k feed l (s ∷ ss) e ne = by (cases_eq s.feed k) (others_follow k feed l ss e ne)
+  where
+    by : (s.feed ≡ k) ⊎ (s.feed ≡ k → ⊥) → list_any (λ (x : Sub). feed == x.feed) (followed_on l ss) ≡ list_any (λ (x : Sub). feed == x.feed) ss
+        → list_any (λ (x : Sub). feed == x.feed) (cond (not (is_end s.feed l || false)) (s ∷ followed_on l ss) (followed_on l ss)) ≡ list_any (λ
+        (x : Sub). feed == x.feed) (s ∷ ss)
+    by (inl x) rest =
+        ap (λ b. list_any (λ (y : Sub). feed == y.feed) (cond (not (b || false)) (s ∷ followed_on l ss) (followed_on l ss))) (e s.feed ∙ eq-eqb s.feed k x)
+        ∙ (rest ∙ ap (λ b. b || list_any (λ (y : Sub). feed == y.feed) ss) (sym (ne_eqb feed s.feed (λ y. ne (y ∙ x)))))
+    by (inr x) rest =
+        ap (λ b. list_any (λ (y : Sub). feed == y.feed) (cond (not (b || false)) (s ∷ followed_on l ss) (followed_on l ss))) (e s.feed ∙ ne_eqb s.feed k x)
+        ∙ ap (λ b. (feed == s.feed) || b) rest
+
 pub stayed_all : (xs : Places) (most : ℕ) (owing telling : Numbers) (reading : List Readers) (ns : List ℕ) (k : ℕ) (l : Line)
     → IsHall most xs owing telling reading → IsEnding k l → ns ≡ readers_of reading k → IsDistinct eqb ns
     → walked (keeping_on (l ∷ [])) ns xs ≡ at_all (keeping_on (l ∷ [])) xs
 stayed_all xs most owing telling reading ns k l h e is d =
-    walked_all (is_following k) (keeping_on (l ∷ [])) ns xs d (subst (λ z. AreListed (is_following k) z xs) (sym is) (h.readers k)) (λ c. stays_still k l c e)
+    walked_all (is_following k) (keeping_on (l ∷ [])) ns xs d (subst (λ z. AreThose (is_following k) z xs) (sym is) (h.readers k)) (λ c. stays_still k l c e)
 
 pub stays : (most : ℕ) (xs ys : Places) (owing telling : Numbers) (reading left : List Readers) (k : ℕ) (l : Line) → IsHall most xs owing telling reading
     → IsEnding k l → ys ≡ at_all (keeping_on (l ∷ [])) xs
     → left ≡ filter (λ r. not (k == r.feed)) reading → IsHall most ys owing telling left
-stays most xs ys owing telling reading left k l h e is gone =
-    hall_all most xs ys owing owing telling telling reading left (keeping_on (l ∷ [])) h is refl refl
-    (λ m c there x. h.owed m c there x)
-    (λ m c there x. h.told m c there x)
-    (λ feed m c there x. by feed m c there x (cases_eq feed k))
-    (told_all (keeping_on (l ∷ [])) xs telling.list (λ c x. x) h.only)
+stays most xs ys owing telling reading left k l h e is gone = subst (λ z. IsHall most z owing telling left) (sym is) (record {
+  within = omega (arith, h.within, length_all (keeping_on (l ∷ [])) xs);
+  owed_size = h.owed_size;
+  told_size = h.told_size;
+  owed = those_same is_owed owing.list xs (at_all (keeping_on (l ∷ [])) xs) (so_all is_owed (keeping_on (l ∷ [])) xs (λ c. refl)) h.owed;
+  told = those_same is_told telling.list xs (at_all (keeping_on (l ∷ [])) xs) (so_all is_told (keeping_on (l ∷ [])) xs (λ c. refl)) h.told;
+  readers = λ feed. by feed (cases_eq feed k);
+  numbered = numbered_all (keeping_on (l ∷ [])) xs (λ c a. numbered_left (λ s. not (ends_in (l ∷ []) s.feed)) c.given c.subs a) h.numbered;
+})
   where
-    by : (feed m : ℕ) (c : Kept) → client_at xs m ≡ Some c → is_following feed (keeping_on (l ∷ []) c) ≡ true → (feed ≡ k) ⊎ (feed ≡ k → ⊥)
-        → Contains (readers_of left feed) m
-    by feed m c there x (inl y) = absurd (false≢true (sym (none_follow k l c.subs e)
-        ∙ subst (λ z. list_any (λ (s : Sub). z == s.feed) (filter (λ (s : Sub). not (ends_in (l ∷ []) s.feed)) c.subs) ≡ true) y x))
-    by feed m c there x (inr y) = subst (λ ns. Contains ns m) (sym (ap (λ z. readers_of z feed) gone ∙ others_left reading k feed y))
-        (h.readers feed m c there (follows_fewer feed (λ s. not (ends_in (l ∷ []) s.feed)) c.subs x))
+    none : (feed : ℕ) → feed ≡ k → (o : Option Kept) → if_some (option_map (keeping_on (l ∷ [])) o) false (is_following feed) ≡ false
+    none feed x None = refl
+    none feed x (Some c) = ap (λ z. list_any (λ (s : Sub). z == s.feed) (followed_on l c.subs)) x ∙ none_follow k l c.subs e
+
+    by : (feed : ℕ) → (feed ≡ k) ⊎ (feed ≡ k → ⊥) → AreThose (is_following feed) (readers_of left feed) (at_all (keeping_on (l ∷ [])) xs)
+    by feed (inl x) = those_none (is_following feed) (readers_of left feed) (at_all (keeping_on (l ∷ [])) xs)
+        ((λ i. readers_of (gone i) (x i)) ∙ none_left reading k)
+        (λ m. so_every (is_following feed) (keeping_on (l ∷ [])) xs m ∙ none feed x (client_at xs m))
+    by feed (inr ne) = subst (λ ns. AreThose (is_following feed) ns (at_all (keeping_on (l ∷ [])) xs)) (sym (ap (λ z. readers_of z feed) gone
+        ∙ others_left reading k feed ne))
+        (those_same (is_following feed) (readers_of reading feed) xs (at_all (keeping_on (l ∷ [])) xs)
+        (so_all (is_following feed) (keeping_on (l ∷ [])) xs (λ c. others_follow k feed l c.subs e ne)) (h.readers feed))
 
 -- which lines end a feed
 pub ending : (l : Line) (k : ℕ) → Some k ≡ feed_ended l → IsEnding k l

@@ -2,11 +2,13 @@
 use Rattle.std.proofs.Common.{◌≡◌, ◌∙◌, ◌⊎◌, inl, inr, ℕ, zero, suc, ◌+◌, ◌<◌, Bool, true, false, ◌||◌, cond, eqb, List, [], ◌∷◌, ◌++◌, length, get_or, take}
 use Rattle.std.proofs.Common.{Option, Some, None, option_map, refl, ap, sym, arith}
 use Rattle.std.specs.List.{AllByRecursion, IsDistinct, list_any}
-use Rattle.std.proofs.lemmas.Bool.{cases_eq, eq-eqb, false≢true, ne_eqb, or_right}
+use Rattle.std.proofs.lemmas.Bool.{cases_Bool, cases_eq, eq-eqb, false≢true, ne_eqb, or_right}
 use Rattle.std.proofs.lemmas.List.{take_more}
 use Rattle.std.proofs.lemmas.Map.Keys.{IsDistinct-head, IsDistinct-tail}
+use Rattle.iv_rows.specs.Options.{if_some}
 use Rattle.iv_clients.specs.Clients.{at_all, at_client, client_at}
-use Rattle.iv_hall.specs.Listing.{AreListed, walked}
+use Rattle.iv_clients.specs.Kept.{Kept, Places}
+use Rattle.iv_hall.specs.Listing.{AreThose, walked}
 
 walked-push : {C : Type 0} (f : C → C) (ns : List ℕ) (n : ℕ) (xs : List (Option C)) → walked f (ns ++ n ∷ []) xs ≡ at_client n f (walked f ns xs)
 walked-push f [] n xs = refl
@@ -85,13 +87,11 @@ found m (n ∷ ns) zero h e = ap (λ b. b || list_any (eqb m) ns) (eq-eqb m n (s
 found m (n ∷ ns) (suc k) h e = or_right (eqb m n) (list_any (eqb m) ns) (found m ns k (omega (arith, h)) e)
 
 -- where all are listed to whom it does something, it is done to all
-pub walked_all : {C : Type 0} (p : C → Bool) (f : C → C) (ns : List ℕ) (xs : List (Option C)) → IsDistinct eqb ns → AreListed p ns xs
-    → ((c : C) → p c ≡ false → f c ≡ c) → walked f ns xs ≡ at_all f xs
-walked_all p f ns xs d listed still = walked_some f ns xs d ∙ some_all (λ m. list_any (eqb m) ns) f xs (λ m c there e. still c (unlisted m c there e))
+pub walked_all : (p : Kept → Bool) (f : Kept → Kept) (ns : List ℕ) (xs : Places) → IsDistinct eqb ns → AreThose p ns xs
+    → ((k : Kept) → p k ≡ false → f k ≡ k) → walked f ns xs ≡ at_all f xs
+walked_all p f ns xs d those still = walked_some f ns xs d ∙ some_all (λ m. list_any (eqb m) ns) f xs (λ m k there e. still k (unlisted m k there e
+    (cases_Bool (p k))))
   where
-    unlisted : (m : ℕ) (c : _) → client_at xs m ≡ Some c → list_any (eqb m) ns ≡ false → p c ≡ false
-    unlisted m c there e = by (p c) refl
-      where
-        by : (b : Bool) → p c ≡ b → p c ≡ false
-        by false h = h
-        by true h = (let k = listed m c there h in absurd (false≢true (sym e ∙ found m ns k.0 k.1 k.2)))
+    unlisted : (m : ℕ) (k : Kept) → client_at xs m ≡ Some k → list_any (eqb m) ns ≡ false → (p k ≡ true) ⊎ (p k ≡ false) → p k ≡ false
+    unlisted m k there e (inr h) = h
+    unlisted m k there e (inl h) = let c = those.all m (ap (λ o. if_some o false p) there ∙ h) in absurd (false≢true (sym e ∙ found m ns c.0 c.1 c.2))

@@ -9,17 +9,17 @@ ghost use Rattle.iv_clients.specs.Kept.{Kept, answering, asking, checking, comin
 ghost use Rattle.iv_clients.specs.Kept.{is_followed_by, keeping_closed, keeping_moved, keeping_new, keeping_on, releasing};
 ghost use Rattle.iv_hall.specs.Hall.{is_told_at};
 ghost use Rattle.iv_hall.specs.Numbers.{AreSet};
-ghost use Rattle.iv_hall.specs.Readers.{HasJoined};
+ghost use Rattle.iv_hall.specs.Readers.{IsReader};
 ghost use Rattle.iv_hall.specs.Hearing.{feed_told, hearing_for, hearing_line, hearing_lines};
 ghost use Rattle.iv_hall.specs.Waiting.{AreCounted, bytes_waiting};
 
 use crate::hearing::{feed_ended, feed_told, hear_listed, raised};
 use crate::numbers::Numbers;
-use crate::readers::{Readers, disband, join, quit_client, quit_unfollowed, readers_of};
+use crate::readers::{Readers, disband, list_reader, quit_all, quit_unfollowed, readers_of};
 use crate::slots::{
     answered_at, ask_at, beat_all, check_all, close_at, empty_slots, follow_at, followed_at,
-    has_role, hold_at, is_followed_in, is_free, is_told_at, put_at, redirect_at, release_listed,
-    settle_listed, stay_listed, take_at,
+    has_role, hold_at, is_followed_in, is_free, is_there, is_told_at, put_at, redirect_at,
+    release_listed, settle_listed, stay_listed, subs_at, take_at,
 };
 use iv_clients::{Client, Feed, Token, rel_read};
 use iv_command::Line;
@@ -27,10 +27,9 @@ use std::alloc::{AllocError, Global};
 use std::marker::Model;
 use std::slice;
 
-/// The clients by their numbers. `told` has those who were told something that they have not taken, or who are to go, and nobody else.
-/// `owed` has those who are owed that this is all, and `readers` those who follow each feed; a client of whom this is not so may be there
-/// too. `waiting` counts the bytes that wait for the journal, with those of clients who have gone since it was synced. After an error nobody
-/// is left.
+/// The clients by their numbers. `told` has those who were told something that they have not taken, or who are to go; `owed` those who are
+/// owed that this is all; `readers` those who follow each feed; and each of them nobody else. `waiting` counts the bytes that wait for the
+/// journal, with those of clients who have gone since it was synced. After an error nobody is left.
 #[derive(Drop)]
 pub struct Hall {
     /// The clients' numbers are below this.
@@ -143,6 +142,8 @@ impl Hall {
     )
         ensures { self.new ≡ slice_set self.old client (Some (coming (string_bytes role) digest.items text.items)) }
     {
+        quit_all(&mut self.readers, subs_at(&self.slots, client), client);
+        self.owed.remove(client);
         self.waiting = raised(self.waiting, 1, text.len());
         put_at(
             &mut self.slots,
@@ -156,7 +157,7 @@ impl Hall {
     pub fn leave(&mut self, client: u32)
         ensures { self.new ≡ slice_set self.old client None }
     {
-        quit_client(&mut self.readers, &self.slots, client);
+        quit_all(&mut self.readers, subs_at(&self.slots, client), client);
         self.owed.remove(client);
         self.told.remove(client);
         put_at(&mut self.slots, client, None);
@@ -176,7 +177,7 @@ impl Hall {
     pub fn hold(&mut self, client: u32, text: &[u8]) -> Result<(), AllocError>
         ensures { OnOk result (self.new ≡ at_client client (holding text.now) self.old) }
     {
-        self.owed.insert(client);
+        self.owed.set(client, is_there(&self.slots, client));
         self.waiting = raised(self.waiting, 1, text.len());
         match hold_at(&mut self.slots, client, text) {
             Ok(()) => {
@@ -184,7 +185,12 @@ impl Hall {
                 Ok(())
             }
             Err(error) => {
-                lose(&mut self.slots, &mut self.told);
+                lose(
+                    &mut self.slots,
+                    &mut self.owed,
+                    &mut self.told,
+                    &mut self.readers,
+                );
                 Err(error)
             }
         }
@@ -197,7 +203,12 @@ impl Hall {
         match ask_at(&mut self.slots, client) {
             Ok(()) => Ok(()),
             Err(error) => {
-                lose(&mut self.slots, &mut self.told);
+                lose(
+                    &mut self.slots,
+                    &mut self.owed,
+                    &mut self.told,
+                    &mut self.readers,
+                );
                 Err(error)
             }
         }
@@ -218,7 +229,12 @@ impl Hall {
         match follow_in(alloc, &mut self.slots, &mut self.readers, client, feed) {
             Ok(()) => Ok(()),
             Err(error) => {
-                lose(&mut self.slots, &mut self.told);
+                lose(
+                    &mut self.slots,
+                    &mut self.owed,
+                    &mut self.told,
+                    &mut self.readers,
+                );
                 Err(error)
             }
         }
@@ -234,14 +250,19 @@ impl Hall {
     ) -> Result<(), AllocError>
         ensures { OnOk result (self.new ≡ at_client client (keeping_moved from to) self.old) }
     {
-        match join(alloc, &mut self.readers, to, client) {
+        redirect_at(&mut self.slots, client, from, to);
+        match list_reader(alloc, &mut self.readers, &self.slots, client, to) {
             Ok(()) => {
-                redirect_at(&mut self.slots, client, from, to);
                 quit_unfollowed(&mut self.readers, &self.slots, client, Some(from));
                 Ok(())
             }
             Err(error) => {
-                lose(&mut self.slots, &mut self.told);
+                lose(
+                    &mut self.slots,
+                    &mut self.owed,
+                    &mut self.told,
+                    &mut self.readers,
+                );
                 Err(error)
             }
         }
@@ -269,7 +290,12 @@ impl Hall {
                 Ok(())
             }
             Err(error) => {
-                lose(&mut self.slots, &mut self.told);
+                lose(
+                    &mut self.slots,
+                    &mut self.owed,
+                    &mut self.told,
+                    &mut self.readers,
+                );
                 Err(error)
             }
         }
@@ -286,7 +312,12 @@ impl Hall {
                 Ok(())
             }
             Err(error) => {
-                lose(&mut self.slots, &mut self.told);
+                lose(
+                    &mut self.slots,
+                    &mut self.owed,
+                    &mut self.told,
+                    &mut self.readers,
+                );
                 Err(error)
             }
         }
@@ -302,7 +333,12 @@ impl Hall {
                 Ok(())
             }
             Err(error) => {
-                lose(&mut self.slots, &mut self.told);
+                lose(
+                    &mut self.slots,
+                    &mut self.owed,
+                    &mut self.told,
+                    &mut self.readers,
+                );
                 Err(error)
             }
         }
@@ -344,7 +380,12 @@ impl Hall {
                 Ok(())
             }
             Err(error) => {
-                lose(&mut self.slots, &mut self.told);
+                lose(
+                    &mut self.slots,
+                    &mut self.owed,
+                    &mut self.told,
+                    &mut self.readers,
+                );
                 Err(error)
             }
         }
@@ -406,10 +447,10 @@ fn follow_in(
     feed: u64,
 ) -> Result<(), AllocError>
     ensures clients { OnOk result (clients.new.items ≡ at_client client (keeping_new feed) clients.old.items) }
-    ensures readers { OnOk result (HasJoined feed client readers.old.items readers.new.items) }
+    ensures readers { OnOk result (IsReader client feed clients.new.items readers.old.items readers.new.items) }
 {
     follow_at(clients, client, feed)?;
-    join(alloc, readers, feed, client)?;
+    list_reader(alloc, readers, clients, client, feed)?;
     Ok(())
 }
 
@@ -439,10 +480,19 @@ fn list_all(told: &mut Numbers, clients: &[Option<Client>], most: u32)
 }
 
 /// Nobody is left.
-fn lose(clients: &mut Vec<Option<Client>>, told: &mut Numbers)
+fn lose(
+    clients: &mut Vec<Option<Client>>,
+    owed: &mut Numbers,
+    told: &mut Numbers,
+    readers: &mut Vec<Readers>,
+)
     ensures clients { clients.new.items ≡ [] }
+    ensures owed { owed.new ≡ record { list = []; size = owed.old.size } }
     ensures told { told.new ≡ record { list = []; size = told.old.size } }
+    ensures readers { readers.new.items ≡ [] }
 {
     clients.clear();
+    owed.clear();
     told.clear();
+    readers.clear();
 }

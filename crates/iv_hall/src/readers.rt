@@ -1,8 +1,8 @@
 //! `Readers`: the numbers of those who follow a feed; who comes to it, and who goes.
-ghost use Rattle.std.specs.Prelude.{◌≡◌, ◌==◌, ◌++◌, ◌∷◌, [], OnOk, filter, find, length, option_map, if◌then◌else◌, not};
+ghost use Rattle.std.specs.Prelude.{◌≡◌, ◌==◌, ◌++◌, ◌∷◌, [], OnOk, filter, find, option_map, if◌then◌else◌, not};
 ghost use Rattle.std.specs.List.{IsDistinct, list_any, position};
 ghost use Rattle.std.proofs.Common.{eqb};
-ghost use Rattle.iv_hall.specs.Readers.{HasAll, HasJoined, HasKept, HasLeft, HasQuit, readers_of};
+ghost use Rattle.iv_hall.specs.Readers.{HasAll, HasJoined, HasKept, HasLeft, HasQuit, IsReader, readers_of};
 
 use crate::slots::follows_at;
 use iv_clients::{Client, Sub};
@@ -49,13 +49,6 @@ impl Readers {
         ensures once { IsDistinct eqb result.now }
     {
         &self.numbers
-    }
-
-    /// Whether there are none.
-    fn is_empty(&self) -> bool
-        ensures { result ≡ (length self.now.numbers == 0) }
-    {
-        self.numbers.is_empty()
     }
 
     /// One number more.
@@ -130,14 +123,19 @@ pub(crate) fn join(
     }
 }
 
-/// The list at a place goes, if nobody is on it.
-fn drop_at(readers: &mut Vec<Readers>, at: usize)
+/// Nobody follows a feed any more.
+pub(crate) fn disband(readers: &mut Vec<Readers>, feed: u64)
+    ensures { readers.new.items ≡ filter (λ r. not (feed == r.feed)) readers.old.items }
+{
+    readers.retain(|those| feed != those.feed());
+}
+
+/// The list of a feed goes, if nobody is on it.
+fn drop_empty(readers: &mut Vec<Readers>, feed: u64)
     ensures { HasAll readers.old.items readers.new.items }
 {
-    if at < readers.len() {
-        if readers[at].is_empty() {
-            drop(readers.remove(at));
-        }
+    if readers_of(readers, feed).is_empty() {
+        disband(readers, feed);
     }
 }
 
@@ -149,9 +147,27 @@ pub(crate) fn quit(readers: &mut Vec<Readers>, feed: u64, number: u32)
         None => {}
         Some(at) => {
             readers[at].remove(number);
-            drop_at(readers, at);
+            drop_empty(readers, feed);
         }
     }
+}
+
+/// A client is among those who follow a feed if it follows it, and else it is not.
+pub(crate) fn list_reader(
+    alloc: Global,
+    readers: &mut Vec<Readers>,
+    clients: &[Option<Client>],
+    client: u32,
+    feed: u64,
+) -> Result<(), AllocError>
+    ensures { OnOk result (IsReader client feed clients.now readers.old.items readers.new.items) }
+{
+    if follows_at(clients, client, feed) {
+        join(alloc, readers, feed, client)?;
+    } else {
+        quit(readers, feed, client);
+    }
+    Ok(())
 }
 
 /// A client goes from those who follow a feed, unless it follows it.
@@ -161,7 +177,7 @@ pub(crate) fn quit_unfollowed(
     client: u32,
     feed: Option<u64>,
 )
-    ensures { HasKept client clients.now readers.old.items readers.new.items }
+    ensures { HasKept client feed clients.now readers.old.items readers.new.items }
 {
     if let Some(feed) = feed {
         if !follows_at(clients, client, feed) {
@@ -171,26 +187,10 @@ pub(crate) fn quit_unfollowed(
 }
 
 /// A number goes from those who follow the feeds of subscriptions.
-fn quit_all(readers: &mut Vec<Readers>, subs: &[Sub], number: u32)
-    ensures { HasLeft number readers.old.items readers.new.items }
+pub(crate) fn quit_all(readers: &mut Vec<Readers>, subs: &[Sub], number: u32)
+    ensures { HasLeft number (λ k. list_any (λ s. k == s.feed) subs.now) readers.old.items readers.new.items }
 {
     for sub in subs {
         quit(readers, sub.feed(), number);
     }
-}
-
-/// A client goes from those who follow what it follows.
-pub(crate) fn quit_client(readers: &mut Vec<Readers>, clients: &[Option<Client>], client: u32)
-    ensures { HasLeft client readers.old.items readers.new.items }
-{
-    if let Some(Some(it)) = clients.get(client as usize) {
-        quit_all(readers, it.subs(), client);
-    }
-}
-
-/// Nobody follows a feed any more.
-pub(crate) fn disband(readers: &mut Vec<Readers>, feed: u64)
-    ensures { readers.new.items ≡ filter (λ r. not (feed == r.feed)) readers.old.items }
-{
-    readers.retain(|those| feed != those.feed());
 }

@@ -1,5 +1,5 @@
 //! Clients by their numbers: what is done to one of them, to those of a list, and to all.
-ghost use Rattle.std.specs.Prelude.{◌≡◌, [], map, bytes_eq, false, IfOk, OnOk, Some, None, option_and_then, option_map, replicate, slice_set};
+ghost use Rattle.std.specs.Prelude.{◌≡◌, [], map, bytes_eq, false, IfOk, OnOk, Some, None, is_some, option_and_then, option_map, replicate, slice_set};
 ghost use Rattle.std.specs.List.{list_any};
 ghost use Rattle.iv_rows.specs.Options.{if_some};
 ghost use Rattle.iv_command.specs.Views.{line_of};
@@ -8,7 +8,7 @@ ghost use Rattle.iv_hall.specs.Listing.{walked};
 ghost use Rattle.iv_clients.specs.Kept.{Kept, answering, asking, checking, emptied, has_role_in, holding, holding_beat, holding_owed, is_following, is_told};
 ghost use Rattle.iv_clients.specs.Kept.{keeping_closed, keeping_moved, keeping_new, keeping_on, releasing};
 
-use iv_clients::{Client, Token};
+use iv_clients::{Client, Sub, Token};
 use iv_command::Line;
 use std::alloc::{AllocError, Global};
 
@@ -30,6 +30,26 @@ pub(crate) fn is_free(clients: &[Option<Client>], client: u32) -> bool
     match clients.get(client as usize) {
         Some(None) => true,
         _ => false,
+    }
+}
+
+/// Whether somebody has the number.
+pub(crate) fn is_there(clients: &[Option<Client>], client: u32) -> bool
+    ensures { result ≡ is_some (client_at clients.now client) }
+{
+    match clients.get(client as usize) {
+        Some(Some(_)) => true,
+        _ => false,
+    }
+}
+
+/// What a client follows; of nobody nothing.
+pub(crate) fn subs_at(clients: &[Option<Client>], client: u32) -> &[Sub]
+    ensures { result.now ≡ if_some (client_at clients.now client) [] (λ (k : Kept). k.subs) }
+{
+    match clients.get(client as usize) {
+        Some(Some(it)) => it.subs(),
+        _ => &[],
     }
 }
 

@@ -14,8 +14,8 @@ invariant_of-self c = (
 
 pub invariant_of-self-in-Err : goal.invariant_of-self-in-Err
 invariant_of-self-in-Err c = (
-  fails c.self.inside.most c.self.inside.slots.items _ c.self.inside.owed c.self.inside.owed c.self.inside.told c.lose.new.told c.self.inside.readers.items _
-      c.self.invariant.0 refl c.lose.ensures.told c.lose.ensures.clients,
+  fails c.self.inside.most c.self.inside.slots.items _ c.self.inside.owed c.self.inside.owed _ c.self.inside.told _ c.self.inside.readers.items _
+      c.self.invariant.0 refl c.lose.ensures.owed c.lose.ensures.told c.lose.ensures.readers c.lose.ensures.clients,
   nobody _ c.self.inside.waiting c.lose.ensures.clients,
 )
 

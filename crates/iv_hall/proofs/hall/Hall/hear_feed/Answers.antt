@@ -14,7 +14,7 @@ pub invariant_of-self : goal.invariant_of-self
 invariant_of-self c = (
   hears c.self.inside.most c.self.inside.slots.items _ c.self.inside.owed c.insert_all.new.self c.self.inside.told c.list_some.new.told
       c.self.inside.readers.items c.readers_of-numbers.result.now c.args.feed c.args.rel.now (line_of c.args.line.now) c.self.invariant.0
-      (c.readers_of-numbers.ensures.numbers ∙ ap (λ z. readers_of z c.args.feed) c.deref.ensures.value) c.insert_all.ensures
+      (c.readers_of-numbers.ensures.numbers ∙ ap (λ z. readers_of z c.args.feed) c.deref.ensures.value) c.requires c.insert_all.ensures
       (subst (λ z. AreSet (Contains c.readers_of-numbers.result.now) (is_told_at z) c.self.inside.told c.list_some.new.told) c.deref-in-Ok.ensures.value
       c.list_some.ensures) (c.in-Ok.ensures.told ∙ heard_all c.self.inside.slots.items c.self.inside.most c.self.inside.owed c.self.inside.told
       c.self.inside.readers.items c.readers_of-numbers.result.now c.args.feed c.args.rel.now (line_of c.args.line.now) c.self.invariant.0
@@ -24,8 +24,8 @@ invariant_of-self c = (
 
 pub invariant_of-self-in-Err : goal.invariant_of-self-in-Err
 invariant_of-self-in-Err c = (
-  fails c.self.inside.most c.self.inside.slots.items _ c.self.inside.owed c.insert_all.new.self c.self.inside.told c.lose.new.told c.self.inside.readers.items _
-      c.self.invariant.0 c.insert_all.ensures.size c.lose.ensures.told c.lose.ensures.clients,
+  fails c.self.inside.most c.self.inside.slots.items _ c.self.inside.owed c.insert_all.new.self _ c.self.inside.told _ c.self.inside.readers.items _
+      c.self.invariant.0 c.insert_all.ensures.size c.lose.ensures.owed c.lose.ensures.told c.lose.ensures.readers c.lose.ensures.clients,
   nobody _ c.self.inside.waiting c.lose.ensures.clients,
 )
 

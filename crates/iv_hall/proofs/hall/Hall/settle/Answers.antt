@@ -14,7 +14,7 @@ invariant_of-self c = (
       c.list-owed.result.now c.args.text.now c.self.invariant.0 c.list-owed.ensures.list
       (subst (λ z. AreSet (Contains c.list-owed.result.now) (is_told_at z) c.self.inside.told c.list_some.new.told) c.deref.ensures.value c.list_some.ensures)
       (c.in-Ok.ensures ∙ settled_all c.self.inside.slots.items c.self.inside.most c.self.inside.owed c.self.inside.told c.self.inside.readers.items
-      c.list.result.now c.args.text.now c.self.invariant.0 c.list.ensures.list c.list.ensures.once) (ap (λ n. n.size) c.clear.ensures),
+      c.list.result.now c.args.text.now c.self.invariant.0 c.list.ensures.list c.list.ensures.once) c.clear.ensures,
   settled_listed c.self.inside.waiting c.raised-self-inside.result (length c.args.text.now) (length c.list-owed.result.now) c.args.text.now c.list.result.now
       c.self.inside.slots.items _ c.in-Ok.ensures refl (ap length (c.list-owed.ensures.list ∙ sym c.list.ensures.list)) c.raised-self-inside.ensures
       c.self.invariant.1,
@@ -22,8 +22,8 @@ invariant_of-self c = (
 
 pub invariant_of-self-in-Err : goal.invariant_of-self-in-Err
 invariant_of-self-in-Err c = (
-  fails c.self.inside.most c.self.inside.slots.items _ c.self.inside.owed c.self.inside.owed c.self.inside.told c.lose.new.told c.self.inside.readers.items _
-      c.self.invariant.0 refl c.lose.ensures.told c.lose.ensures.clients,
+  fails c.self.inside.most c.self.inside.slots.items _ c.self.inside.owed c.self.inside.owed _ c.self.inside.told _ c.self.inside.readers.items _
+      c.self.invariant.0 refl c.lose.ensures.owed c.lose.ensures.told c.lose.ensures.readers c.lose.ensures.clients,
   nobody _ c.self.inside.waiting c.lose.ensures.clients,
 )
 
