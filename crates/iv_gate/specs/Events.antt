@@ -3,11 +3,12 @@ use Rattle.std.specs.Prelude.{ℕ, true, if◌then◌else◌, List, [], ◌∷�
 use Rattle.iv_rows.specs.Options.{if_some}
 use Rattle.iv_clients.specs.Clients.{at_all, at_client, beating, checked, client_at, handing, released}
 use Rattle.iv_clients.specs.Tokens.{Token}
+use Rattle.iv_gate.specs.Arriving.{Step, takes}
 use Rattle.iv_gate.specs.Gate.{Gate, came, said, went}
 
 -- a token is presented for number m; client m sends a message, and goes; other tokens are known from now on; all are told that the line is
 -- alive; the journal has all entries on disk (nothing happens between its write and that); what client m may be sent is handed to its
--- socket; a call failed
+-- socket; a step of the log comes; names that were refused are forgiven; a call failed
 pub data Event : Type 0 where
   presented : (m : ℕ) → (token : List ℕ) → Event
   message : (m : ℕ) → (text : List ℕ) → Event
@@ -16,6 +17,8 @@ pub data Event : Type 0 where
   ticked : Event
   synced : Event
   handed : (m : ℕ) → Event
+  arrived : (s : Step) → Event
+  forgave : Event
   failed : Event
 
 abbrev pub knowing : Gate → List Token → Gate
@@ -39,6 +42,8 @@ happens g (known tokens) = knowing g tokens
 happens g ticked = ticking g
 happens g synced = on_disk g
 happens g (handed m) = hands g m
+happens g (arrived s) = takes g s
+happens g forgave = record g { forgiven = length g.entries }
 happens g failed = record g { dead = true }
 
 -- nothing happens to one that is dead

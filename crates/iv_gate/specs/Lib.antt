@@ -1,4 +1,5 @@
 pub mod Gate
+pub mod Arriving
 pub mod Events
 pub mod Restoring
 pub mod Runs
