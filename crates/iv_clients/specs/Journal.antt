@@ -1,5 +1,5 @@
 -- The journal: what was accepted of what changes what is shared, with who made it, by which name, and in which step.
-use Rattle.std.specs.Prelude.{◌≡◌, ◌≢◌, ℕ, ◌==◌, ◌||◌, Bool, true, false, if◌then◌else◌, List, [], ◌∷◌, ◌++◌, drop, map, filter, flat_map, length, bytes_eq, codes, decimal, nat_lt, Option, Some, None, is_some, option_map, option_and_then, unwrap_or}
+use Rattle.std.specs.Prelude.{◌≡◌, ◌≢◌, ◌≤◌, ℕ, ◌==◌, ◌||◌, Bool, true, false, if◌then◌else◌, List, [], ◌∷◌, ◌++◌, drop, map, filter, flat_map, length, bytes_eq, codes, decimal, nat_lt, Option, Some, None, is_some, option_map, option_and_then, unwrap_or}
 use Rattle.std.specs.List.{AllByRecursion, list_any}
 use Rattle.hex.specs.Hex.{encode_lower}
 use Rattle.serde_json.specs.Data.{Data, string}
@@ -173,6 +173,7 @@ pub record IsNamed (e : Named) : Type 0 where
   pub digest : length e.ask.digest ≡ 32
   pub answer : is_some (option_and_then as_object (value_of e.answer)) ≡ true
   pub line : has_newline e.answer ≡ false
+  pub short : length e.answer ≤ most_said
 
 pub record IsEntry (e : Entry) : Type 0 where
   pub requests : AllByRecursion IsRequest e.requests

@@ -55,7 +55,7 @@ first_refused n (q ∷ qs) s = if_some (carried (fact_of q) s) (Some (not_accept
 -- no entry that is kept of its holder bears the name, and all that are behind its place are kept
 abbrev pub is_new : Known → Ask → Bool
 is_new k a = let o = own_of k a.holder in
-    not (is_some (find_named a.name o.recent)) && (bytes_eq a.at.epoch o.epoch && (nat_le a.at.count o.count && nat_le o.count (a.at.count + limits.names)))
+    not (is_some (find_named a.name o.recent)) && (nat_le a.at.count o.count && nat_le o.count (a.at.count + limits.names))
 
 abbrev pub first_known : ℕ → List Named → Known → Option Fault
 first_known n [] k = None

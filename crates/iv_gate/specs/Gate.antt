@@ -284,20 +284,26 @@ carries g m id q name = if has_shape_room g q.act then if_some (seat_of g.seats 
 abbrev pub asked_by : Client → List ℕ → Claim → Ask
 asked_by c line k = record { holder = holder_of c.role c.user; name = k.name; at = k.at; digest = sha256 line }
 
+-- while a log is followed, what is shared is decided there: a request is not done here, and of one with a name nobody here says whether it was
+abbrev pub decided_elsewhere : Option Data → Option Ask → Told
+decided_elsewhere id None = denied id 100
+decided_elsewhere id (Some a) = undecided id 100
+
+abbrev pub decides : Gate → ℕ → Option Data → Request → Option Ask → Gate
+decides g m id q name = if is_some g.head.log then tells g m (decided_elsewhere id name) else carries g m id q name
+
 -- by its name it is done, or told its first answer again, or that it stays undecided whether it was: for ever by 102 and 103; after 104 it may be
 -- sent again
 abbrev pub by_verdict : Gate → ℕ → Option Data → Request → Ask → Verdict → Gate
-by_verdict g m id q a carry = carries g m id q (Some a)
+by_verdict g m id q a carry = decides g m id q (Some a)
 by_verdict g m id q a (again answer) = tells g m (answered id true (place_text (place_of g a.holder)) answer)
 by_verdict g m id q a another = tells g m (undecided id 101)
 by_verdict g m id q a late = tells g m (undecided id 102)
 by_verdict g m id q a foreign = tells g m (undecided id 103)
 by_verdict g m id q a _ = tells g m (undecided id 104)
 
--- while a log is followed, what is shared is decided there
 abbrev pub shares : Gate → ℕ → Client → Option Data → Request → Option Claim → Gate
-shares g m c id q claim = if is_some g.head.log then tells g m (denied id 100)
-    else if_some claim (carries g m id q None) (λ k. let a = asked_by c q.line k in by_verdict g m id q a (verdict (names_of g) a))
+shares g m c id q claim = if_some claim (decides g m id q None) (λ k. let a = asked_by c q.line k in by_verdict g m id q a (verdict (names_of g) a))
 
 -- sessions are begun and finished by the gateway alone: no message asks that
 abbrev pub acts : Gate → ℕ → Client → Option Data → List ℕ → Act → Gate

@@ -9,3 +9,4 @@ pub mod Seen
 pub mod Laws
 pub mod Needed
 pub mod Implied
+pub mod Worked

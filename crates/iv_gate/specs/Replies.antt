@@ -105,6 +105,7 @@ IsAnswer es a answer = (refused : Bool) × Contains (names_in es) (record { ask 
 
 -- why nobody says whether a request with a name was done
 pub data IsUndecided (g : Gate) (a : Ask) : ℕ → Type 0 where
+  elsewhere : is_some g.head.log ≡ true → IsUndecided g a 100
   another : (e : Named) → Contains (names_by g a.holder) e → e.ask.name ≡ a.name → e.ask ≢ a → IsUndecided g a 101
   late : a.at.count + limits.names < count_of g a.holder → IsUndecided g a 102
   foreign : a.at.epoch ≢ (own_of g.head.names a.holder).epoch → IsUndecided g a 103
@@ -118,25 +119,25 @@ place_behind g holder more = place_text (record { epoch = (own_of g.head.names h
 
 -- the reply to a request with a name, and what it adds to the journal: it is done now; or it was, and its answer is told again; or it is undecided
 pub data IsNamedReply (g : Gate) (c : Client) (id : Option Data) (q : Request) (a : Ask) : Told → List Entry → Type 0 where
-  now : (r : Reply) → IsSharedReply g c q.act r → IsNamedReply g c id q a (answered id false (place_behind g a.holder 1) (answer_text r)) (entries_of q (Some a) r)
+  now : (r : Reply) → g.head.log ≡ None → IsSharedReply g c q.act r → IsNamedReply g c id q a (answered id false (place_behind g a.holder 1) (answer_text r)) (entries_of q (Some a) r)
   again : (answer : List ℕ) → IsAnswer g.entries a answer → IsNamedReply g c id q a (answered id true (place_behind g a.holder 0) answer) []
   never : (number : ℕ) → IsUndecided g a number → IsNamedReply g c id q a (undecided id number) []
 
 -- ---- acts
 
--- the reply to a request that changes what is shared, and what that adds to the journal
+-- the reply to a request that changes what is shared, and what that adds to the journal; while a log is followed it is not done here
 abbrev pub IsReplyToShared : Gate → Client → Option Data → Request → Option Claim → Told → List Entry → Type 0
-IsReplyToShared g c id q None t es = (r : Reply) × IsSharedReply g c q.act r × (t ≡ replied id r) × (es ≡ entries_of q None r)
+IsReplyToShared g c id q None t es = if is_some g.head.log then (es ≡ []) × (t ≡ denied id 100)
+    else (r : Reply) × IsSharedReply g c q.act r × (t ≡ replied id r) × (es ≡ entries_of q None r)
 IsReplyToShared g c id q (Some k) t es = IsNamedReply g c id q (asked_by c q.line k) t es
 
--- the reply to a client's act; while a log is followed, what is shared is decided there
+-- the reply to a client's act
 abbrev pub IsReplyToAct : Gate → Client → Option Data → List ℕ → Act → Told → List Entry → Type 0
 IsReplyToAct g c id text (subscribe rel) t es = (es ≡ []) × ((IsFull g c rel × (t ≡ replied id (refused too_many))) ⊎ IsReadingReply g c id rel t)
 IsReplyToAct g c id text (unsubscribe own) t es = (es ≡ []) × (t ≡ replied id (if is_some (followed_by c.subs own) then done else refused unknown_subscription))
 IsReplyToAct g c id text (begin role) t es = (es ≡ []) × (t ≡ fault 2)
 IsReplyToAct g c id text finish t es = (es ≡ []) × (t ≡ fault 2)
-IsReplyToAct g c id text act t es =
-    if is_some g.head.log then (es ≡ []) × (t ≡ denied id 100) else IsReplyToShared g c id (record { role = c.role; line = line_said text; act = act }) (claim_said text) t es
+IsReplyToAct g c id text act t es = IsReplyToShared g c id (record { role = c.role; line = line_said text; act = act }) (claim_said text) t es
 
 -- the reply to what a client says
 abbrev pub IsReplyTo : Gate → Client → List ℕ → Message → Told → List Entry → Type 0

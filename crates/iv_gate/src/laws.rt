@@ -13,6 +13,7 @@ ghost use Rattle.iv_gate.specs.Runs.{Runs};
 ghost use Rattle.iv_gate.specs.Seen.{AreOver, SeesViews, StaysClosed};
 ghost use Rattle.iv_gate.specs.Touched.{AreTouched};
 
+pub mod examples;
 pub mod journal;
 
 use iv_machine::laws::{
