@@ -17,7 +17,8 @@ use Rattle.iv_machine.specs.State.{Frame, State}
 use Rattle.iv_lines.specs.Texts.{reply_members}
 use Rattle.iv_message.specs.Message.{Message, no_json, too_long, no_object, no_request, request, unknown}
 use Rattle.iv_message.specs.Told.{Told, replied, opened, fault, unasked, granted, answered, undecided, denied, told_text}
-use Rattle.iv_once.specs.Names.{Ask, Known, Named, Names, Place, Verdict, carry, again, another, late, foreign, blamed, learned, named, own_of, spent_more, verdict}
+use Rattle.iv_once.specs.Names.{Ask, Known, Named, Names, Place, Verdict, carry, again, another, late, foreign, blamed, learned, own_of, spent_more, verdict}
+use Rattle.iv_once.specs.Names as once
 use Rattle.iv_clients.specs.Bounds.{most_subs}
 use Rattle.iv_clients.specs.Clients.{Client, Shown, Slots, at_all, at_client, client_at, closing, followed_by, following, fresh, has_role, is_followed, is_free, may_say, moved, own_lines, saying, settling, staying, telling, told_one}
 use Rattle.iv_clients.specs.Clients as clients
@@ -209,7 +210,7 @@ closes g m c id own = if_some (followed_by c.subs own) (tells g m (replied id (r
 -- what is known behind these names, in their order
 abbrev pub known_by : Known → List Named → Known
 known_by k [] = k
-known_by k (e ∷ es) = known_by (learned limits (named e) k) es
+known_by k (e ∷ es) = known_by (learned limits (once.named e) k) es
 
 -- what is known of names: what the journal says of them
 abbrev pub known_of : Gate → Known
@@ -221,7 +222,7 @@ place_of g holder = let o = own_of (known_of g) holder in record { epoch = o.epo
 -- how many entries of each holder were refused and are not forgiven
 abbrev pub spent_in : List Named → List ℕ → Option ℕ
 spent_in [] holder = None
-spent_in (e ∷ es) holder = spent_more (spent_in es) (blamed (named e)) holder
+spent_in (e ∷ es) holder = spent_more (spent_in es) (blamed (once.named e)) holder
 
 abbrev pub names_of : Gate → Names
 names_of g = record { limits = limits; known = known_of g; spent = spent_in (names_in (drop g.forgiven g.entries)) }

@@ -1,0 +1,8 @@
+use Rattle.iv_gate.proofs.Answered.{carried_new, each_once}
+use Rattle.iv_gate.proofs.laws.names.new_names_are_once.Goals as goal
+
+pub returns-clause-once : goal.returns-clause-once
+returns-clause-once c = each_once
+
+pub returns-clause-carried : goal.returns-clause-carried
+returns-clause-carried c = carried_new
