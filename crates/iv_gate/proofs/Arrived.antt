@@ -17,12 +17,12 @@ use Rattle.iv_clients.specs.Journal.{Entry}
 use Rattle.iv_steps.specs.Laws.{IsStep, StepsAreTold}
 use Rattle.iv_steps.specs.Steps.{Fact, all_carried, among, carried, is_shared, looked_at, passed, shared, stepped}
 use Rattle.iv_gate.specs.Arriving.{Step, entry_of, fact_of, fault_of, is_behind, landed, newly, takes}
-use Rattle.iv_gate.specs.Gate.{Gate, entered, informs, settles, went_on}
+use Rattle.iv_gate.specs.Gate.{Gate, entered, informs, went_on}
 use Rattle.iv_gate.specs.Replies.{ActsAs}
 use Rattle.iv_gate.proofs.Ending.{not_told, step_over}
 use Rattle.iv_gate.proofs.Machine.{number_same, there_some}
 use Rattle.iv_gate.proofs.Running.{all_so, informs_sound, settles_sound}
-use Rattle.iv_gate.proofs.Sound.{IsFeed, IsReadyFor, IsSoundGate, Moves, Sounds, told_quiet, went_on_ready}
+use Rattle.iv_gate.proofs.Sound.{IsFeed, IsSoundGate, Sounds, told_quiet, went_on_ready}
 
 -- ---- roles and relations last
 

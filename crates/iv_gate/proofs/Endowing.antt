@@ -22,7 +22,7 @@ use Rattle.iv_clients.specs.Journal.{Entry, said_by}
 use Rattle.iv_clients.specs.Tokens.{Token}
 use Rattle.iv_clients.proofs.Slots.{one_some}
 use Rattle.iv_gate.specs.Events.{Event, presented, message, gone, known, ticked, synced, handed, failed, happens, next}
-use Rattle.iv_gate.specs.Gate.{Gate, all_rested, all_swept, granted_by, has_some, hears, in_session, is_accepted, is_needed, ran, reply_in, rested, role_for, settles, told_of}
+use Rattle.iv_gate.specs.Gate.{Gate, all_rested, all_swept, granted_by, has_some, hears, in_session, is_accepted, is_needed, ran, reply_in, rested, token_for, settles, told_of}
 use Rattle.iv_gate.specs.Replies.{IsClient, told_by}
 use Rattle.iv_gate.specs.Restoring.{Restores, all_replayed, gate_at_start, passed, replayed}
 use Rattle.iv_gate.specs.Runs.{Runs, begins, goes_on, begins_again}
@@ -59,11 +59,11 @@ all_rested_admin sounds g [] h = h
 all_rested_admin sounds g (s ∷ ss) h = all_rested_admin sounds (rested g s) ss (rested_admin sounds g s h)
 
 happens_admin : Sounds → (g : Gate) (e : Event) → HasAdmin g.machine → HasAdmin (happens g e).machine
-happens_admin sounds g (presented m token) h = by (role_for g m token)
+happens_admin sounds g (presented m token) h = by (token_for g m token)
   where
-    by : (o : Option Name) → HasAdmin (if_some o g (came_as g m token)).machine
+    by : (o : Option Token) → HasAdmin (if_some o g (came_as g m)).machine
     by None = h
-    by (Some role) = at_with (λ s seats. HasAdmin s) (admin_kit sounds) g role h
+    by (Some t) = at_with (λ s seats. HasAdmin s) (admin_kit sounds) g t.role h
 happens_admin sounds g (message m text) h = by (client_at g.clients m)
   where
     heard : (b : Client) (d : Bool) → HasAdmin (cond d (hears g m b text) g).machine

@@ -13,7 +13,7 @@ use Rattle.iv_clients.specs.Feeds.{seat_of}
 use Rattle.iv_clients.specs.Tokens.{role_opened}
 use Rattle.iv_clients.proofs.Slots.{one_some, some_is_none}
 use Rattle.iv_gate.specs.Events.{Event, presented, message, known, handed, next}
-use Rattle.iv_gate.specs.Gate.{Gate, begun_for, has_session, role_for}
+use Rattle.iv_gate.specs.Gate.{Gate, begun_for, has_session, token_for}
 use Rattle.iv_gate.specs.Replies.{IsClient}
 use Rattle.iv_gate.specs.Runs.{Runs, begins, goes_on, begins_again}
 use Rattle.iv_gate.specs.Touched.{ActsByToken, LetsIn, drops}
@@ -122,9 +122,9 @@ lets_in : (g : Gate) → g.dead ≡ false → IsSoundGate g → IsKept g → (m 
     → is_some (client_at (next g (presented m token)).clients m) ≡ true
 lets_in g live b k m token role a =
     let session = may_have g m token role b k a in
-    let opens_it : role_for g m token ≡ Some role =
-    ap (option_and_then (λ r. cond (is_name r && (is_free m g.clients && has_session g r)) (Some r) None)) a.opened
-    ∙ (λ i. cond (a.name i && (a.free i && session i)) (Some role) None) in
+    let t = a.token in let opens_it : token_for g m token ≡ Some t =
+    ap (option_and_then (λ (r : Token). cond (is_name r.role && (is_free m g.clients && has_session g r.role)) (Some r) None)) a.opened
+    ∙ (λ i. cond (a.name i && (a.free i && session i)) (Some t) None) in
     ap (λ (x : Gate). is_some (client_at x.clients m)) (alive g (presented m token) live)
     ∙ (ap (λ o. is_some (client_at (if_some o g (came_as g m token)).clients m)) opens_it ∙ ap is_some (came_is g m token role a.free))
 

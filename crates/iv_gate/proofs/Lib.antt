@@ -57,3 +57,4 @@ pub mod Tables
 pub mod Together
 pub mod Answered
 pub mod Arrived
+pub mod Choosing

@@ -4,19 +4,20 @@ use Rattle.std.specs.Prelude.{◌==◌, ◌&&◌, codes, nat_lt, filter}
 use Rattle.serde_json.specs.Data.{Data}
 use Rattle.iv_rows.specs.Options.{if_some}
 use Rattle.iv_access.specs.Rights.{Name}
-use Rattle.iv_machine.specs.Act.{Act, begin, finish, create_role, create_table, create_view, grant, revoke, grant_role, revoke_role, row_security, create_policy, drop_policy, subscribe, unsubscribe, write, Command, Refusal, Reply, done, subscribed, refused, no_session, too_many, unknown_subscription, limit}
+use Rattle.iv_machine.specs.Act.{Act, begin, finish, create_role, create_table, create_view, grant, revoke, grant_role, revoke_role, row_security, create_policy, drop_policy, subscribe, unsubscribe, write, Command, Refusal, Reply, done, subscribed, refused, too_many, unknown_subscription}
 use Rattle.iv_message.specs.Message.{Message, no_json, too_long, no_object, no_request, request, unknown}
-use Rattle.iv_message.specs.Told.{Told, replied, opened, fault, unasked, answered, undecided}
-use Rattle.iv_once.specs.Names.{Ask, Verdict, carry, again, another, late, foreign, ahead, over, verdict}
+use Rattle.iv_message.specs.Told.{Told, replied, opened, fault, unasked}
+use Rattle.iv_once.specs.Names.{Ask}
 use Rattle.iv_clients.specs.Bounds.{most_subs}
 use Rattle.iv_clients.specs.Clients as clients
 use Rattle.iv_clients.specs.Clients.{Client, at_client, client_at, closing, followed_by, following, fresh, is_followed, may_say, moved, saying}
 use Rattle.iv_clients.specs.Feeds.{Feed, Seat, feed_for, feed_of, is_of_role, is_reading, room_for, seat_of, without_feed, without_seat}
 use Rattle.iv_clients.specs.Journal.{Request, claim_said, is_shared, line_said, said_by}
-use Rattle.iv_clients.specs.Names.{Claim, place_text}
+use Rattle.iv_clients.specs.Names.{Claim}
 use Rattle.iv_clients.specs.Tokens.{Token}
-use Rattle.iv_gate.specs.Gate.{Gate, acts, all_rested, all_swept, asked_by, at_text, begun_for, by_verdict, came, carries, closes, columns_in, decided_elsewhere, decides, done_for, entered, feed_begun, has_shape_room, hears, in_session, is_needed, joined, joined_by, joins, may_have, names_of, next_own, place_of, ran, reads, reads_first, replies_to, reply_to, requests, rested, said, seated, settles, shares, shut, subscribes, swept, tells, token_for, went, with_session}
+use Rattle.iv_gate.specs.Gate.{Gate, acts, all_rested, all_swept, at_text, begun_for, came, closes, columns_in, done_for, entered, feed_begun, hears, in_session, is_needed, joined, joined_by, joins, may_have, next_own, ran, reads, reads_first, replies_to, reply_to, requests, rested, said, seated, settles, shares, shut, subscribes, swept, tells, token_for, went, with_session}
 use Rattle.iv_gate.specs.Laws.{is_made}
+use Rattle.iv_gate.proofs.Choosing.{IsAside, refers, leaves, repeats, shares_so}
 use Rattle.iv_gate.proofs.Shaping.{test_of}
 
 -- what client c asks by a text
@@ -154,40 +155,18 @@ module _ (m : ℕ) (G : Gate → Gate → Type 0) (kit : Steps m G) where
             ap (λ es. tells (entered g es) m (replied id (refused r))) (nothing (is_shared q.act))
             ∙ ap (λ es. tells (record g { entries = es }) m (replied id (refused r))) (append-nil g.entries)
 
-    step_carries : (id : Option Data) (q : Request) (name : Option Ask) → ((n : ℕ) → seat_of g.seats q.role ≡ Some n → F (requests g m id q name n))
-        → ((a : Ask) (r : Refusal) → F (replies_to g m id q (Some a) (refused r))) → F (carries g m id q name)
-    step_carries id q name f k =
-        test_of F (has_shape_room g q.act) (if_some (seat_of g.seats q.role) (replies_to g m id q name (refused no_session)) (requests g m id q name)) (replies_to g m id q name (refused limit))
-        (by (seat_of g.seats q.role) refl) (step_refuses id q name limit (λ a. k a limit))
-      where
-        by : (o : Option ℕ) → seat_of g.seats q.role ≡ o → F (if_some o (replies_to g m id q name (refused no_session)) (requests g m id q name))
-        by None e = step_refuses id q name no_session (λ a. k a no_session)
-        by (Some n) e = f n e
-
-    step_decides : (id : Option Data) (q : Request) (name : Option Ask) → ((n : ℕ) → seat_of g.seats q.role ≡ Some n → F (requests g m id q name n))
-        → ((a : Ask) (r : Refusal) → F (replies_to g m id q (Some a) (refused r))) → F (decides g m id q name)
-    step_decides id q name f k =
-        test_of F (is_some g.head.log) (tells g m (decided_elsewhere id name)) (carries g m id q name)
-        (reach (tells g m (decided_elsewhere id name)) (kit.tell g (decided_elsewhere id name) (not_made name))) (step_carries id q name f k)
-      where
-        not_made : (o : Option Ask) → is_made (decided_elsewhere id o) ≡ false
-        not_made None = refl
-        not_made (Some a) = refl
-
-    step_verdict : (id : Option Data) (q : Request) (a : Ask) (v : Verdict) → ((name : Option Ask) (n : ℕ) → seat_of g.seats q.role ≡ Some n → F (requests g m id q name n))
-        → ((b : Ask) (r : Refusal) → F (replies_to g m id q (Some b) (refused r))) → F (by_verdict g m id q a v)
-    step_verdict id q a carry f k = step_decides id q (Some a) (f (Some a)) k
-    step_verdict id q a (again answer) f k = let t = answered id true (place_text (place_of g a.holder)) answer in reach (tells g m t) (kit.tell g t refl)
-    step_verdict id q a another f k = reach (tells g m (undecided id 101)) (kit.tell g (undecided id 101) refl)
-    step_verdict id q a late f k = reach (tells g m (undecided id 102)) (kit.tell g (undecided id 102) refl)
-    step_verdict id q a foreign f k = reach (tells g m (undecided id 103)) (kit.tell g (undecided id 103) refl)
-    step_verdict id q a ahead f k = reach (tells g m (undecided id 104)) (kit.tell g (undecided id 104) refl)
-    step_verdict id q a over f k = reach (tells g m (undecided id 104)) (kit.tell g (undecided id 104) refl)
-
     step_shares : (c : Client) (id : Option Data) (q : Request) (claim : Option Claim) → ((name : Option Ask) (n : ℕ) → seat_of g.seats q.role ≡ Some n → F (requests g m id q name n))
         → ((b : Ask) (r : Refusal) → F (replies_to g m id q (Some b) (refused r))) → F (shares g m c id q claim)
-    step_shares c id q None f k = step_decides id q None (f None) k
-    step_shares c id q (Some claim) f k = let a = asked_by c q.line claim in step_verdict id q a (verdict (names_of g) a) f k
+    step_shares c id q claim f k = shares_so F g m id q (record {
+      tells = λ t a. reach (tells g m t) (kit.tell g t (unmade t a));
+      does = f;
+      refuses = λ name r. step_refuses id q name r (λ a. k a r);
+    }) c claim
+      where
+        unmade : (t : Told) → IsAside t → is_made t ≡ false
+        unmade _ (refers i n) = refl
+        unmade _ (leaves i n) = refl
+        unmade _ (repeats i at answer) = refl
 
     step_acts : (c : Client) (id : Option Data) (text : List ℕ) (act : Act)
         → ((name : Option Ask) (n : ℕ) → is_shared act ≡ true → seat_of g.seats c.role ≡ Some n → F (requests g m id (request_of c text act) name n))

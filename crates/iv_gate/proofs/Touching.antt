@@ -54,7 +54,7 @@ pub record IsNewcomer (g : Gate) (e : Event) (m : ℕ) (d : Client) : Type 0 whe
   pub text : List ℕ
   pub token : Token
   pub event : e ≡ presented m text
-  pub known : token_of g.tokens (sha256 text) ≡ Some token
+  pub opened : token_of g.tokens (sha256 text) ≡ Some token
   pub is : d ≡ fresh (next g e).entries token (at_text (next g e) token)
 
 pub record AreTouched (g : Gate) (e : Event) : Type 0 where
@@ -385,7 +385,7 @@ comes_at g e j d live n h = by e refl (ap (λ (x : Gate). client_at x.clients j)
         let same = eqb-true m j q in
         let c = came_new g j token d (token_for g j token) refl n (ap (λ i. client_at (came g i token).clients j) (sym same) ∙ x) in
         let is_next : next g e ≡ came g j token = alive g e live ∙ (ap (happens g) s ∙ ap (λ i. came g i token) same) in
-        record { text = token; token = c.from; event = s ∙ ap (λ i. presented i token) same; known = c.opened; is = c.is ∙ ap (λ (x : Gate). fresh x.entries c.from (at_text x c.from)) (sym is_next) }
+        record { text = token; token = c.from; event = s ∙ ap (λ i. presented i token) same; opened = c.opened; is = c.is ∙ ap (λ (x : Gate). fresh x.entries c.from (at_text x c.from)) (sym is_next) }
     came_by m token false q s x = never (came g m token).clients (came_other g m token j (token_for g m token) refl (λ t _. eqb-false m j q) ∙ nobody) x
 
     went_by : (m : ℕ) (b : Bool) → (m == j) ≡ b → client_at (marks_in (went g m).clients) j ≡ None

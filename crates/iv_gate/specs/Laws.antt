@@ -78,10 +78,13 @@ marked g forgave = record g { forgiven = length g.entries }
 marked g failed = record g { dead = true }
 marked g e = g
 
+abbrev pub HasMarks : Gate → Event → Type 0
+HasMarks g e = let h = next g e in h ≡ record (marked g e) { machine = h.machine; seats = h.seats; feeds = h.feeds; clients = h.clients; entries = h.entries }
+
 pub record LeavesMarks (g : Gate) (e : Event) : Type 0 where
   pub grows : (next g e).entries ≡ g.entries ++ added_by g e
   pub only : AddsOnly g e (added_by g e)
-  pub marks : let h = next g e in h ≡ record (marked g e) { machine = h.machine; seats = h.seats; feeds = h.feeds; clients = h.clients; entries = h.entries }
+  pub marks : HasMarks g e
 
 -- ---- grants
 

@@ -119,16 +119,16 @@ place_behind g holder more = place_text (record { epoch = (own_of g.head.names h
 
 -- the reply to a request with a name, and what it adds to the journal: it is done now; or it was, and its answer is told again; or it is undecided
 pub data IsNamedReply (g : Gate) (c : Client) (id : Option Data) (q : Request) (a : Ask) : Told → List Entry → Type 0 where
-  now : (r : Reply) → g.head.log ≡ None → IsSharedReply g c q.act r → IsNamedReply g c id q a (answered id false (place_behind g a.holder 1) (answer_text r)) (entries_of q (Some a) r)
-  again : (answer : List ℕ) → IsAnswer g.entries a answer → IsNamedReply g c id q a (answered id true (place_behind g a.holder 0) answer) []
-  never : (number : ℕ) → IsUndecided g a number → IsNamedReply g c id q a (undecided id number) []
+  is_done : (r : Reply) → g.head.log ≡ None → IsSharedReply g c q.act r → IsNamedReply g c id q a (answered id false (place_behind g a.holder 1) (answer_text r)) (entries_of q (Some a) r)
+  is_repeated : (answer : List ℕ) → IsAnswer g.entries a answer → IsNamedReply g c id q a (answered id true (place_behind g a.holder 0) answer) []
+  is_left : (number : ℕ) → IsUndecided g a number → IsNamedReply g c id q a (undecided id number) []
 
 -- ---- acts
 
 -- the reply to a request that changes what is shared, and what that adds to the journal; while a log is followed it is not done here
 abbrev pub IsReplyToShared : Gate → Client → Option Data → Request → Option Claim → Told → List Entry → Type 0
-IsReplyToShared g c id q None t es = if is_some g.head.log then (es ≡ []) × (t ≡ denied id 100)
-    else (r : Reply) × IsSharedReply g c q.act r × (t ≡ replied id r) × (es ≡ entries_of q None r)
+IsReplyToShared g c id q None t es = ((is_some g.head.log ≡ true) × (t ≡ denied id 100) × (es ≡ []))
+    ⊎ ((r : Reply) × (g.head.log ≡ None) × IsSharedReply g c q.act r × (t ≡ replied id r) × (es ≡ entries_of q None r))
 IsReplyToShared g c id q (Some k) t es = IsNamedReply g c id q (asked_by c q.line k) t es
 
 -- the reply to a client's act
@@ -145,8 +145,8 @@ IsReplyTo g c text no_json t es = (es ≡ []) × (t ≡ fault 1)
 IsReplyTo g c text too_long t es = (es ≡ []) × (t ≡ fault 22)
 IsReplyTo g c text no_object t es = (es ≡ []) × (t ≡ fault 2)
 IsReplyTo g c text (no_request id why) t es = (es ≡ []) × (t ≡ unasked id why)
-IsReplyTo g c text (request id act) t es =
-    if may_have (claim_said text) act then IsReplyToAct g c id text act t es else (es ≡ []) × (t ≡ unasked id (unknown (codes "once")))
+IsReplyTo g c text (request id act) t es = ((may_have (claim_said text) act ≡ true) × IsReplyToAct g c id text act t es)
+    ⊎ ((may_have (claim_said text) act ≡ false) × (t ≡ unasked id (unknown (codes "once"))) × (es ≡ []))
 
 -- what an event adds to the journal
 abbrev pub added_by : Gate → Event → List Entry

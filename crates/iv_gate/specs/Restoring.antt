@@ -1,5 +1,5 @@
 -- What the lines of a journal lead to.
-use Rattle.std.specs.Prelude.{◌≡◌, ◌⊎◌, ◌<◌, ◌&&◌, ℕ, Bool, true, List, [], ◌∷◌, ◌++◌, length, nat_lt, replicate, map, unwrap_or, None, Some}
+use Rattle.std.specs.Prelude.{◌≡◌, ◌⊎◌, ◌<◌, ◌&&◌, ℕ, Bool, false, true, List, [], ◌∷◌, ◌++◌, length, nat_lt, replicate, map, unwrap_or, None, Some}
 use Rattle.std.specs.List.{AllByRecursion}
 use Rattle.iv_rows.specs.Options.{if_some}
 use Rattle.iv_machine.specs.State.{State, start}

@@ -40,7 +40,7 @@ pub record IsNewcomer (g : Gate) (e : Event) (m : ℕ) (d : Client) : Type 0 whe
   pub text : List ℕ
   pub token : Token
   pub event : e ≡ presented m text
-  pub known : token_of g.tokens (sha256 text) ≡ Some token
+  pub opened : token_of g.tokens (sha256 text) ≡ Some token
   pub is : d ≡ fresh (next g e).entries token (place_behind g (holder_of token.role token.user) 0)
 
 pub record AreTouched (g : Gate) (e : Event) : Type 0 where

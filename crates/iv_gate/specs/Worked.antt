@@ -1,23 +1,21 @@
 -- Worked examples of the gateway: steps of a log, and requests with names.
-use Rattle.std.specs.Prelude.{◌≡◌, ℕ, ◌^◌, ◌++◌, pos, negsuc, Bool, true, false, List, [], ◌∷◌, codes, map, replicate, Option, Some, None, drop, length, if◌then◌else◌}
+use Rattle.std.specs.Prelude.{ℕ, ◌^◌, ◌++◌, pos, Bool, List, [], ◌∷◌, codes, replicate, Option, Some, None, drop, length}
 use Rattle.sha2.specs.Sha256.{sha256}
 use Rattle.iv_rows.specs.Cell.{Cell, num}
-use Rattle.iv_rows.specs.Columns.{Column}
+
 use Rattle.iv_rows.specs.Options.{if_some}
 use Rattle.iv_rows.specs.declared.value.Kind.TheVariants.{Int}
-use Rattle.iv_access.specs.declared.privilege.Privilege.TheVariants.{Select, Insert}
+use Rattle.iv_access.specs.declared.privilege.Privilege.TheVariants.{Select}
 use Rattle.iv_access.specs.Rights.{Name}
-use Rattle.iv_machine.specs.Act.{Act, create_role, create_table, create_view, done, grant, insert, limit, not_administrator, revoke, write}
-use Rattle.iv_machine.specs.declared.Cause.TheVariants as cause
-use Rattle.iv_message.specs.Told.{Told, answered, changed, denied, over, settled, undecided}
+use Rattle.iv_machine.specs.Act.{Act, create_role, create_table, create_view, grant, insert, revoke, write}
+use Rattle.iv_message.specs.Told.{Told, answered, changed, settled}
 use Rattle.iv_clients.specs.Clients.{client_at, told}
 use Rattle.iv_clients.specs.Journal.{Request}
-use Rattle.iv_clients.specs.Names.{limits}
 use Rattle.iv_clients.specs.Tokens.{Token}
 use Rattle.iv_once.specs.Runs.{nothing_known}
-use Rattle.iv_gate.specs.Arriving.{Fault, Step, fault_of, gap, not_accepted, other_log, position}
+use Rattle.iv_gate.specs.Arriving.{Step}
 use Rattle.iv_gate.specs.Events.{Event, after, arrived, message, presented}
-use Rattle.iv_gate.specs.Gate.{Gate, Head, Log, answer_text}
+use Rattle.iv_gate.specs.Gate.{Gate, Log}
 use Rattle.iv_gate.specs.Restoring.{gate_at_start}
 
 abbrev pub admin : Name

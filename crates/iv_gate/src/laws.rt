@@ -22,7 +22,6 @@ use iv_machine::laws::{
 
 pub mod hearing;
 pub mod names;
-pub mod steps;
 
 /// Nothing happens to a gateway that is dead; else each event makes of the tokens, of what is on disk, of what was sent and of the
 /// entries what is told of it.

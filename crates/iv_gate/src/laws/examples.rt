@@ -2,6 +2,7 @@
 ghost use Rattle.std.specs.Prelude.{◌≡◌, ◌∷◌, [], Some, None, codes, negsuc, pos, false, true};
 ghost use Rattle.iv_machine.specs.Act.{not_administrator};
 ghost use Rattle.iv_machine.specs.declared.Cause.TheVariants as cause;
+ghost use Rattle.iv_request.specs.Values.{natural};
 ghost use Rattle.iv_message.specs.Told.{denied, over, settled, undecided};
 ghost use Rattle.iv_gate.specs.Arriving.{fault_of, gap, not_accepted, other_log, position};
 ghost use Rattle.iv_gate.specs.Events.{after, arrived, message};
@@ -25,7 +26,7 @@ pub fn steps_follow_their_log()
     ensures dead { (after (reads_of notes) (arrived later ∷ [])).dead ≡ true }
     ensures position { position (after (reads_of notes) (arrived taken ∷ [])) ≡ 7 }
     ensures denied { hears (reads_of notes) 0 (message 0 (codes "{\"id\":7,\"do\":\"create_role\",\"name\":\"bob\"}"))
-        ≡ denied (Some (Rattle.iv_request.specs.Values.natural 7)) 100 ∷ settled ∷ [] }
+        ≡ denied (Some (natural 7)) 100 ∷ settled ∷ [] }
 {}
 
 /// A request with a name is answered once: the same again gets the same answer, another by its name 101, one ahead 104.
