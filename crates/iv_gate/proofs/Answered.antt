@@ -47,11 +47,12 @@ found_behind name e es h = by (bytes_eq e.ask.name name)
 found_in_more : (name : List ℕ) (k : ℕ) (es : List Named) → is_some (find_named name (take k es)) ≡ true → is_some (find_named name es) ≡ true
 found_in_more name zero es h = cc h
 found_in_more name (suc k) [] h = h
-found_in_more name (suc k) (e ∷ es) h = by (bytes_eq e.ask.name name) h
+found_in_more name (suc k) (e ∷ es) h = by (bytes_eq e.ask.name name) h (λ g. found_in_more name k es g)
   where
-    by : (b : Bool) → is_some (cond b (Some e) (find_named name (take k es))) ≡ true → is_some (cond b (Some e) (find_named name es)) ≡ true
-    by true g = refl
-    by false g = found_in_more name k es g
+    by : (b : Bool) → is_some (cond b (Some e) (find_named name (take k es))) ≡ true → (is_some (find_named name (take k es)) ≡ true → is_some (find_named name es) ≡ true)
+        → is_some (cond b (Some e) (find_named name es)) ≡ true
+    by true g more = refl
+    by false g more = more g
 
 used_first : (e : Named) (o : Own) → e.ask.at.count ≤ o.count → IsUsed e.ask.name e.ask.at 0 (with_entry limits.names e o)
 used_first e o h = record { count = omega (arith, h); found = λ l. found_here e.ask.name e [] (itself e.ask.name) }
@@ -79,10 +80,12 @@ used_is_known e k j u h =
     let c = u.count in
     no_both (is_some (find_named e.ask.name o.recent)) (found_in_more e.ask.name (suc j) o.recent (u.found (omega (arith, c, l)))) parts.0
 
-none_left : (n : ℕ) (es : List Named) (k : Known) (holder name : List ℕ) (at : Place) (j : ℕ) → first_known n es k ≡ None → IsUsed name at j (own_of k holder)
-    → times name at (names_of holder es) ≡ 0
-none_left n [] k holder name at j h u = refl
-none_left n (e ∷ es) k holder name at j h u = by (is_new k e.ask) refl h
+abbrev NoneLeft : List Named → Type 0
+NoneLeft es = (n : ℕ) (k : Known) (holder name : List ℕ) (at : Place) (j : ℕ) → first_known n es k ≡ None → IsUsed name at j (own_of k holder) → times name at (names_of holder es) ≡ 0
+
+-- one more in front, where none is left behind it
+left_in_front : (e : Named) (es : List Named) → NoneLeft es → NoneLeft (e ∷ es)
+left_in_front e es rest n k holder name at j h u = by (is_new k e.ask) refl h
   where
     more : Known
     more = learned limits (named e) k
@@ -96,56 +99,72 @@ none_left n (e ∷ es) k holder name at j h u = by (is_new k e.ask) refl h
         absurd (used_is_known e k j (subst (λ z. IsUsed e.ask.name e.ask.at j (own_of k z)) (sym (same_bytes e.ask.holder holder q)) placed) t)
     here g t q false r =
         zero_more (times name at (names_of holder es))
-        ∙ none_left (n + 1) es more holder name at (suc j) g (subst (IsUsed name at (suc j)) (sym (own_same e k holder q)) (used_more name at j e (own_of k holder) u))
+        ∙ rest (n + 1) more holder name at (suc j) g (subst (IsUsed name at (suc j)) (sym (own_same e k holder q)) (used_more name at j e (own_of k holder) u))
 
     whose : first_known (n + 1) es more ≡ None → is_new k e.ask ≡ true → (d : Bool) → bytes_eq e.ask.holder holder ≡ d → times name at (cond d (e ∷ names_of holder es) (names_of holder es)) ≡ 0
     whose g t true q = here g t q (bytes_eq e.ask.name name && is_place e.ask.at at) refl
-    whose g t false q = none_left (n + 1) es more holder name at j g (subst (IsUsed name at j) (sym (own_other e k holder q)) u)
+    whose g t false q = rest (n + 1) more holder name at j g (subst (IsUsed name at j) (sym (own_other e k holder q)) u)
 
     by : (b : Bool) → is_new k e.ask ≡ b → cond b (first_known (n + 1) es more) (Some (arriving.not_new n)) ≡ None → times name at (names_of holder (e ∷ es)) ≡ 0
     by true t g = whose g t (bytes_eq e.ask.holder holder) refl
     by false t g = absurd (some_is_none (arriving.not_new n) g)
 
-pub each_once : (n : ℕ) (es : List Named) (k : Known) (holder name : List ℕ) (at : Place) → first_known n es k ≡ None → times name at (names_of holder es) ≤ 1
-each_once n [] k holder name at h = omega arith
-each_once n (e ∷ es) k holder name at h = by (is_new k e.ask) refl h
+none_left : (es : List Named) → NoneLeft es
+none_left [] n k holder name at j h u = refl
+none_left (e ∷ es) n k holder name at j h u = left_in_front e es (none_left es) n k holder name at j h u
+
+abbrev AreOnce : List Named → Type 0
+AreOnce es = (n : ℕ) (k : Known) (holder name : List ℕ) (at : Place) → first_known n es k ≡ None → times name at (names_of holder es) ≤ 1
+
+once_in_front : (e : Named) (es : List Named) → AreOnce es → AreOnce (e ∷ es)
+once_in_front e es rest n k holder name at h = by (is_new k e.ask) refl h
   where
     more : Known
     more = learned limits (named e) k
 
+    early : is_new k e.ask ≡ true → e.ask.at.count ≤ (own_of k e.ask.holder).count
+    early t =
+        let o = own_of k e.ask.holder in let a = nat_le e.ask.at.count o.count in let b = nat_le o.count (e.ask.at.count + 64) in
+        le_true e.ask.at.count o.count (and_both a b (and_both (not (is_some (find_named e.ask.name o.recent))) (a && b) t).1).0
+
     here : first_known (n + 1) es more ≡ None → is_new k e.ask ≡ true → bytes_eq e.ask.holder holder ≡ true → (b : Bool) → (bytes_eq e.ask.name name && is_place e.ask.at at) ≡ b
         → cond b 1 0 + times name at (names_of holder es) ≤ 1
     here g t q true r =
-        let p = and_both (bytes_eq e.ask.name name) (is_place e.ask.at at) r in
-        let o = own_of k holder in let early = nat_le e.ask.at.count (own_of k e.ask.holder).count in let late = nat_le (own_of k e.ask.holder).count (e.ask.at.count + 64) in
-        let l : e.ask.at.count ≤ (own_of k e.ask.holder).count = le_true e.ask.at.count (own_of k e.ask.holder).count
-            (and_both early late (and_both (not (is_some (find_named e.ask.name (own_of k e.ask.holder).recent))) (early && late) t).1).0 in
-        let first : IsUsed e.ask.name e.ask.at 0 (with_entry limits.names e o) = used_first e o (subst (λ z. e.ask.at.count ≤ (own_of k z).count) (same_bytes e.ask.holder holder q) l) in
+        let p = and_both (bytes_eq e.ask.name name) (is_place e.ask.at at) r in let o = own_of k holder in
+        let first : IsUsed e.ask.name e.ask.at 0 (with_entry limits.names e o) = used_first e o (subst (λ z. e.ask.at.count ≤ (own_of k z).count) (same_bytes e.ask.holder holder q) (early t)) in
         let named_so : IsUsed name e.ask.at 0 (with_entry limits.names e o) = subst (λ z. IsUsed z e.ask.at 0 (with_entry limits.names e o)) (same_bytes e.ask.name name p.0) first in
         let placed : IsUsed name at 0 (with_entry limits.names e o) = subst (λ z. IsUsed name z 0 (with_entry limits.names e o)) (same_place e.ask.at at p.1) named_so in
-        let none = none_left (n + 1) es more holder name at 0 g (subst (IsUsed name at 0) (sym (own_same e k holder q)) placed) in
+        let none = none_left es (n + 1) more holder name at 0 g (subst (IsUsed name at 0) (sym (own_same e k holder q)) placed) in
         omega (arith, none)
-    here g t q false r = let more_once = each_once (n + 1) es more holder name at g in omega (arith, more_once)
+    here g t q false r = let once = rest (n + 1) more holder name at g in omega (arith, once)
 
     whose : first_known (n + 1) es more ≡ None → is_new k e.ask ≡ true → (d : Bool) → bytes_eq e.ask.holder holder ≡ d → times name at (cond d (e ∷ names_of holder es) (names_of holder es)) ≤ 1
     whose g t true q = here g t q (bytes_eq e.ask.name name && is_place e.ask.at at) refl
-    whose g t false q = each_once (n + 1) es more holder name at g
+    whose g t false q = rest (n + 1) more holder name at g
 
     by : (b : Bool) → is_new k e.ask ≡ b → cond b (first_known (n + 1) es more) (Some (arriving.not_new n)) ≡ None → times name at (names_of holder (e ∷ es)) ≤ 1
     by true t g = whose g t (bytes_eq e.ask.holder holder) refl
     by false t g = absurd (some_is_none (arriving.not_new n) g)
+
+all_once : (es : List Named) → AreOnce es
+all_once [] n k holder name at h = omega arith
+all_once (e ∷ es) n k holder name at h = once_in_front e es (all_once es) n k holder name at h
+
+pub each_once : (n : ℕ) (es : List Named) (k : Known) (holder name : List ℕ) (at : Place) → first_known n es k ≡ None → times name at (names_of holder es) ≤ 1
+each_once n es k holder name at h = all_once es n k holder name at h
 
 -- ---- one name more
 
 -- names behind names are new at their turns
 pub known_more : (n : ℕ) (es fs : List Named) (k : Known) → first_known n es k ≡ None → ((m : ℕ) → first_known m fs (known_by k es) ≡ None) → first_known n (es ++ fs) k ≡ None
 known_more n [] fs k h more = more n
-known_more n (e ∷ es) fs k h more = by (is_new k e.ask) h
+known_more n (e ∷ es) fs k h more = by (is_new k e.ask) h (λ g. known_more (n + 1) es fs (learned limits (named e) k) g more)
   where
     by : (b : Bool) → cond b (first_known (n + 1) es (learned limits (named e) k)) (Some (arriving.not_new n)) ≡ None
+        → (first_known (n + 1) es (learned limits (named e) k) ≡ None → first_known (n + 1) (es ++ fs) (learned limits (named e) k) ≡ None)
         → cond b (first_known (n + 1) (es ++ fs) (learned limits (named e) k)) (Some (arriving.not_new n)) ≡ None
-    by true g = known_more (n + 1) es fs (learned limits (named e) k) g more
-    by false g = g
+    by true g go = go g
+    by false g go = g
 
 -- what is carried out is new
 pub carried_new : (n : Names) (a : Ask) → n.limits ≡ limits → verdict n a ≡ carry → is_new n.known a ≡ true

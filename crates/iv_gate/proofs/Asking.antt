@@ -1,6 +1,6 @@
 -- What a client asks keeps clients in step with what their feeds show.
 use Rattle.std.proofs.Common.{◌≡◌, ℕ, Bool, true, false, cond, List, [], ◌∷◌, ◌++◌, length, Option, Some, None, option_map, refl, ap, ◌∙◌, sym, subst, append-nil}
-use Rattle.std.specs.Prelude.{◌+◌, find, bytes_eq, nat_lt, option_and_then}
+use Rattle.std.specs.Prelude.{◌+◌, find, bytes_eq, nat_lt, option_and_then, codes}
 use Rattle.std.specs.List.{AllByRecursion}
 use Rattle.std.proofs.lemmas.Bool.{false≢true}
 use Rattle.serde_json.specs.Data.{Data}

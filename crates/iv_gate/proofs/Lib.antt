@@ -58,3 +58,4 @@ pub mod Together
 pub mod Answered
 pub mod Arrived
 pub mod Choosing
+pub mod Computing

@@ -71,7 +71,7 @@ any_none p (t ∷ ts) a = (λ i. a.0 i || list_any p ts) ∙ any_none p ts a.1
 
 pub all_greeting : (P : Told → Type 0) → ((role : Name) → P (welcome role)) → ((at : List ℕ) → P (placed at)) → ((role line : List ℕ) → P (made role line)) → P settled
     → (es : List Entry) (role : Name) (at : List ℕ) → AllByRecursion P (greeting es role at)
-all_greeting P w l k s es role at = (w role, l at, with_last (shape_for role es) (all_made P k role es))
+all_greeting P w l k s es role at = (w role, (l at, with_last (shape_for role es) (all_made P k role es)))
   where
     with_last : (ts : List Told) → AllByRecursion P ts → AllByRecursion P (ts ++ settled ∷ [])
     with_last [] a = (s, tt)

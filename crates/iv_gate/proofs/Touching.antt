@@ -122,7 +122,7 @@ pub said_slots : (g : Gate) (m : ℕ) (text : List ℕ) → marks_in (said g m t
 said_slots g m text = by (client_at g.clients m)
   where
     heard : (c : Client) (b : Bool) → marks_in (cond b (hears g m c text) g).clients ≡ cond b (marks_in (at_client m (saying text) g.clients)) (marks_in g.clients)
-    heard c true = ap (λ (s : Sign). s.slots) (sign_hears g m c text)
+    heard c true = ap (λ (s : Sign). s.slots) (sign_hears g m c text).sign
     heard c false = refl
 
     by : (o : Option Client) → marks_in (if_some o g (λ c. cond (may_say c) (hears g m c text) g)).clients
@@ -293,8 +293,11 @@ taken_by g s = cond (is_some (fault_of g s)) [] (cond (is_behind g s) [] (if_som
 pub takes_sign : (g : Gate) (s : Step) → sign (takes g s) ≡ record { marks = marks_behind g (arrived s); entries = g.entries ++ taken_by g s; slots = marks_in g.clients }
 takes_sign g s = by (is_some (fault_of g s)) (is_behind g s) (stepped (map fact_of s.requests) g.machine)
   where
-    same : (m : Marks) → record { marks = m; entries = g.entries; slots = marks_in g.clients } ≡ record { marks = m; entries = g.entries ++ []; slots = marks_in g.clients }
-    same m = ap (λ z. record { marks = m; entries = z; slots = marks_in g.clients }) (sym (append-nil g.entries))
+    as : Marks → List Entry → Sign
+    as m es = record { marks = m; entries = es; slots = marks_in g.clients }
+
+    same : (m : Marks) → as m g.entries ≡ as m (g.entries ++ [])
+    same m = ap (as m) (sym (append-nil g.entries))
 
     by : (b d : Bool) (o : Option Outcome) → sign (cond b (record g { dead = true }) (cond d g (if_some o g (landed g (entry_of s)))))
         ≡ record { marks = cond b (record (marks g) { dead = true }) (marks g); entries = g.entries ++ cond b [] (cond d [] (if_some o [] (λ x. entry_of s ∷ []))); slots = marks_in g.clients }
@@ -440,7 +443,7 @@ pub record IsLeft (g : Gate) (e : Event) : Type 0 where
 left_by : (g : Gate) (e : Event) (m : Marks) → marks_behind g e ≡ m → left (happens g e) ≡ record { marks = m; entries = g.entries } → IsLeft g e
 left_by g e m x y = record { more = []; left = y ∙ (λ i. record { marks = sym x i; entries = sym (append-nil g.entries) i }) }
 
-of_sign : (s : Sign) → Left
+abbrev of_sign : Sign → Left
 of_sign s = record { marks = s.marks; entries = s.entries }
 
 said_left : (g : Gate) (m : ℕ) (text : List ℕ) → IsLeft g (message m text)

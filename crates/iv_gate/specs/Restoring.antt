@@ -44,7 +44,7 @@ pub record LeadOn (g : Gate) (entries : List Entry) (h : Gate) : Type 0 where
 -- the lines of whole records lead a gateway that began to h. They are on disk as they were read: who starts the gateway cuts what stood behind
 -- them, and syncs the file, before the first event
 pub record Restores (g : Gate) (lines : List Line) (h : Gate) : Type 0 where
-  pub lines : lines ≡ journal_of h.entries
+  pub all : lines ≡ journal_of h.entries
   pub leads : LeadOn g h.entries h
 
 -- behind entries that lead on, at this line of the journal, nothing stands that leads on

@@ -1,6 +1,5 @@
 -- Worked examples of the gateway: steps of a log, and requests with names.
 use Rattle.std.specs.Prelude.{ℕ, ◌^◌, ◌++◌, pos, Bool, List, [], ◌∷◌, codes, replicate, Option, Some, None, drop, length}
-use Rattle.sha2.specs.Sha256.{sha256}
 use Rattle.iv_rows.specs.Cell.{Cell, num}
 
 use Rattle.iv_rows.specs.Options.{if_some}
@@ -9,13 +8,13 @@ use Rattle.iv_access.specs.declared.privilege.Privilege.TheVariants.{Select}
 use Rattle.iv_access.specs.Rights.{Name}
 use Rattle.iv_machine.specs.Act.{Act, create_role, create_table, create_view, grant, insert, revoke, write}
 use Rattle.iv_message.specs.Told.{Told, answered, changed, settled}
-use Rattle.iv_clients.specs.Clients.{client_at, told}
+use Rattle.iv_clients.specs.Clients.{client_at, told, untold}
 use Rattle.iv_clients.specs.Journal.{Request}
 use Rattle.iv_clients.specs.Tokens.{Token}
 use Rattle.iv_once.specs.Runs.{nothing_known}
 use Rattle.iv_gate.specs.Arriving.{Step}
-use Rattle.iv_gate.specs.Events.{Event, after, arrived, message, presented}
-use Rattle.iv_gate.specs.Gate.{Gate, Log}
+use Rattle.iv_gate.specs.Events.{Event, after, arrived, message}
+use Rattle.iv_gate.specs.Gate.{Gate, Log, with_session}
 use Rattle.iv_gate.specs.Restoring.{gate_at_start}
 
 abbrev pub admin : Name
@@ -30,9 +29,12 @@ notes = codes "notes"
 abbrev pub total : Name
 total = codes "total"
 
--- ann's token, and one of an administrator
-abbrev pub tokens : List Token
-tokens = record { digest = sha256 (codes "t"); role = ann; user = codes "a" } ∷ record { digest = sha256 (codes "u"); role = admin; user = [] } ∷ []
+-- the tokens of ann and of an administrator, by digests that stand for theirs
+abbrev pub anns : Token
+anns = record { digest = codes "t"; role = ann; user = codes "a" }
+
+abbrev pub admins : Token
+admins = record { digest = codes "u"; role = admin; user = [] }
 
 abbrev pub epoch : List ℕ
 epoch = replicate 32 48
@@ -41,7 +43,11 @@ abbrev pub order : Log
 order = record { name = codes "order"; epoch = epoch }
 
 abbrev pub begins : Option Log → Gate
-begins log = gate_at_start 1024 tokens 2 (record { names = nothing_known epoch; log = log; position = 0 }) []
+begins log = gate_at_start 1024 (anns ∷ admins ∷ []) 2 (record { names = nothing_known epoch; log = log; position = 0 }) []
+
+-- the first client is one of a token
+abbrev pub lets_in : Gate → Token → Gate
+lets_in g t = let h = with_session g t.role in record h { clients = Some (untold t) ∷ None ∷ [] }
 
 abbrev pub by_admin : Act → Request
 by_admin act = record { role = admin; line = []; act = act }
@@ -64,20 +70,25 @@ may_read = grant notes (Select ∷ []) (Some ann)
 abbrev pub may_not_read : Act
 may_not_read = revoke notes (Select ∷ []) (Some ann)
 
--- a table, a view of its sum, and ann, who may read them
+-- a table, and ann, who may read it
 abbrev pub made : List Request
 made =
     by_admin (create_role ann)
     ∷ by_admin (create_table notes admin (record { name = codes "n"; kind = Int } ∷ []))
-    ∷ by_admin (create_view total admin (codes "select n, sum(n) as s from notes group by n"))
     ∷ by_admin may_read
-    ∷ by_admin (grant total (Select ∷ []) (Some ann))
     ∷ []
 
+-- a view of sums of its rows
+abbrev pub sums_made : List Request
+sums_made = by_admin (create_view total admin (codes "select n, sum(n) as s from notes group by n")) ∷ by_admin (grant total (Select ∷ []) (Some ann)) ∷ []
+
 -- the log has them by its first step; ann comes, and reads a relation
-abbrev pub reads_of : Name → Gate
-reads_of rel = after (begins (Some order))
-    (arrived (step 0 1 made) ∷ presented 0 (codes "t") ∷ message 0 (codes "{\"do\":\"subscribe\",\"on\":\"" ++ (rel ++ codes "\"}")) ∷ [])
+abbrev pub reads_of : Name → List Request → Gate
+reads_of rel more = after (lets_in (after (begins (Some order)) (arrived (step 0 1 (made ++ more)) ∷ [])) anns)
+    (message 0 (codes "{\"do\":\"subscribe\",\"on\":\"" ++ (rel ++ codes "\"}")) ∷ [])
+
+abbrev pub reads_notes : Gate
+reads_notes = reads_of notes []
 
 -- what she is told by one more event
 abbrev pub told_at : Gate → ℕ → List Told
@@ -118,11 +129,10 @@ without_right = step 1 2 (by_admin (put 2) ∷ by_ann (create_role (codes "bob")
 
 -- ---- names
 
--- an order of its own: ann may write
+-- an order of its own: what its administrator says, and ann, who may write
 abbrev pub writes_on : Gate
-writes_on = after (begins None) (presented 1 (codes "u") ∷ message 1 (codes "{\"do\":\"create_role\",\"name\":\"ann\"}")
-    ∷ message 1 (codes "{\"do\":\"create_table\",\"name\":\"notes\",\"owner\":\"admin\",\"columns\":[[\"n\",\"int\"]]}")
-    ∷ message 1 (codes "{\"do\":\"grant\",\"on\":\"notes\",\"privileges\":[\"select\",\"insert\"],\"to\":\"ann\"}") ∷ presented 0 (codes "t") ∷ [])
+writes_on = lets_in (after (lets_in (begins None) admins) (message 0 (codes "{\"do\":\"create_role\",\"name\":\"ann\"}")
+    ∷ message 0 (codes "{\"do\":\"create_table\",\"name\":\"notes\",\"owner\":\"ann\",\"columns\":[[\"n\",\"int\"]]}") ∷ [])) anns
 
 abbrev pub first_name : List ℕ
 first_name = replicate 22 97
