@@ -1,9 +1,8 @@
 -- The journal: what was accepted of what changes what is shared, with who made it, by which name, and in which step.
-use Rattle.std.specs.Prelude.{◌≡◌, ◌≢◌, ◌≤◌, ℕ, ◌==◌, ◌||◌, Bool, true, false, if◌then◌else◌, List, [], ◌∷◌, ◌++◌, drop, map, filter, flat_map, length, bytes_eq, codes, decimal, nat_lt, Option, Some, None, is_some, option_map, option_and_then, unwrap_or}
+use Rattle.std.specs.Prelude.{◌≡◌, ◌≢◌, ℕ, ◌==◌, ◌||◌, Bool, true, false, if◌then◌else◌, List, [], ◌∷◌, ◌++◌, drop, map, filter, flat_map, length, bytes_eq, codes, decimal, nat_lt, Option, Some, None, option_map, option_and_then, unwrap_or}
 use Rattle.std.specs.List.{AllByRecursion, list_any}
 use Rattle.hex.specs.Hex.{encode_lower}
 use Rattle.serde_json.specs.Data.{Data, string}
-use Rattle.serde_json.specs.Find.{as_object}
 use Rattle.serde_json.specs.Written.{compact_text}
 use Rattle.iv_rows.specs.Names.{is_name}
 use Rattle.iv_rows.specs.Options.{if_some}
@@ -166,14 +165,12 @@ pub record IsRequest (q : Request) : Type 0 where
   pub line : has_newline q.line ≡ false
   pub asks : message_of q.line ≡ request None q.act
 
--- a name as clients say one, and an answer that is a JSON object on a line
+-- a name as clients say one, and an answer on a line
 pub record IsNamed (e : Named) : Type 0 where
   pub name : is_random e.ask.name ≡ true
   pub epoch : is_epoch e.ask.at.epoch ≡ true
   pub digest : length e.ask.digest ≡ 32
-  pub answer : is_some (option_and_then as_object (value_of e.answer)) ≡ true
   pub line : has_newline e.answer ≡ false
-  pub short : length e.answer ≤ most_said
 
 pub record IsEntry (e : Entry) : Type 0 where
   pub requests : AllByRecursion IsRequest e.requests

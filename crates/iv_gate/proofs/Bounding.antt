@@ -254,13 +254,13 @@ next_bounded sounds g e b a j d h = by g.dead refl
     by true q = a j d (ap (λ (x : Gate). client_at x.clients j) (sym (rests g e q)) ∙ h)
     by false q = who q (client_at g.clients j) refl
 
-restored_bounded : (cap : ℕ) (tokens : List Token) (most : ℕ) (sent : List Shown) (journal : List ℕ) (g : Gate) → Restores (gate_at_start cap tokens most sent) journal g → AllBounded g
-restored_bounded cap tokens most sent journal g r m c h = absurd (nobody most m c (ap (λ (x : Gate). client_at x.clients m) (sym r.gate) ∙ h))
+restored_bounded : (cap : ℕ) (tokens : List Token) (most : ℕ) (head : Head) (sent : List Shown) (journal : List Line) (g : Gate) → Restores (gate_at_start cap tokens most head sent) journal g → AllBounded g
+restored_bounded cap tokens most head sent journal g r m c h = absurd (nobody most m c (ap (λ (x : Gate). client_at x.clients m) (sym r.leads.gate) ∙ h))
 
 runs_bounded : Adds → Starts → Sounds → (cap : ℕ) (g : Gate) → Runs cap g → AllBounded g
-runs_bounded adds starts sounds cap _ (begins tokens most journal g r) = restored_bounded cap tokens most [] journal g r
-runs_bounded adds starts sounds cap _ (goes_on h e r) = next_bounded sounds h e (runs_sound adds starts sounds cap h r) (runs_bounded adds starts sounds cap h r)
-runs_bounded adds starts sounds cap _ (begins_again h disk tokens most i r l x) = restored_bounded cap tokens most h.sent disk i x
+runs_bounded adds starts sounds cap _ (begins tokens most head journal g r) = restored_bounded cap tokens most head [] journal g r
+runs_bounded adds starts sounds cap _ (goes_on h e w r) = next_bounded sounds h e (runs_sound adds starts sounds cap h r) (runs_bounded adds starts sounds cap h r)
+runs_bounded adds starts sounds cap _ (begins_again h disk tokens most i r l x) = restored_bounded cap tokens most h.head h.sent disk i x
 
 -- ---- behind a sync
 

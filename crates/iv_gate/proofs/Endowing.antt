@@ -112,13 +112,13 @@ replays_admin : Sounds → (s t : State) (es : List Entry) → HasAdmin s → al
 replays_admin sounds s t [] b h = subst HasAdmin (one_some s t h) b
 replays_admin sounds s t (e ∷ es) b h = bound (replayed s e) (λ u. all_replayed u es) t (HasAdmin t) h (λ u i k. replays_admin sounds u t es (replayed_admin sounds s u e b i) k)
 
-restored_admin : Sounds → (cap : ℕ) (tokens : List Token) (most : ℕ) (sent : List Shown) (journal : List ℕ) (g : Gate) → Restores (gate_at_start cap tokens most sent) journal g → HasAdmin g.machine
-restored_admin sounds cap tokens most sent journal g r = subst (λ (x : Gate). HasAdmin x.machine) (sym r.gate) (replays_admin sounds (start cap) r.state g.entries refl r.leads.accepted)
+restored_admin : Sounds → (cap : ℕ) (tokens : List Token) (most : ℕ) (head : Head) (sent : List Shown) (journal : List Line) (g : Gate) → Restores (gate_at_start cap tokens most head sent) journal g → HasAdmin g.machine
+restored_admin sounds cap tokens most head sent journal g r = subst (λ (x : Gate). HasAdmin x.machine) (sym r.leads.gate) (replays_admin sounds (start cap) r.state g.entries refl r.leads.accepted)
 
 runs_admin : Sounds → (cap : ℕ) (g : Gate) → Runs cap g → HasAdmin g.machine
-runs_admin sounds cap _ (begins tokens most journal g r) = restored_admin sounds cap tokens most [] journal g r
-runs_admin sounds cap _ (goes_on h e r) = next_admin sounds h e (runs_admin sounds cap h r)
-runs_admin sounds cap _ (begins_again h disk tokens most i r l x) = restored_admin sounds cap tokens most h.sent disk i x
+runs_admin sounds cap _ (begins tokens most head journal g r) = restored_admin sounds cap tokens most head [] journal g r
+runs_admin sounds cap _ (goes_on h e w r) = next_admin sounds h e (runs_admin sounds cap h r)
+runs_admin sounds cap _ (begins_again h disk tokens most i r l x) = restored_admin sounds cap tokens most h.head h.sent disk i x
 
 -- ---- what is told
 

@@ -86,9 +86,9 @@ next_opened g e s = by g.dead refl
     by false t = live_opened g e t s
 
 runs_opened : (cap : ℕ) (g : Gate) → Runs cap g → AreOpened g
-runs_opened cap _ (begins tokens most journal g r) = λ m c h live. absurd (restored_empty cap tokens most [] journal g r m c h)
-runs_opened cap _ (goes_on h e r) = next_opened h e (runs_opened cap h r)
-runs_opened cap _ (begins_again h disk tokens most i r l x) = λ m c y live. absurd (restored_empty cap tokens most h.sent disk i x m c y)
+runs_opened cap _ (begins tokens most head journal g r) = λ m c h live. absurd (restored_empty cap tokens most head [] journal g r m c h)
+runs_opened cap _ (goes_on h e w r) = next_opened h e (runs_opened cap h r)
+runs_opened cap _ (begins_again h disk tokens most i r l x) = λ m c y live. absurd (restored_empty cap tokens most h.head h.sent disk i x m c y)
 
 pub acts_by_token : Adds → Starts → Sounds → (cap : ℕ) (g : Gate) (m : ℕ) (c : Client) → Runs cap g → IsClient g m c → ActsByToken g c
 acts_by_token adds starts sounds cap g m c r x =

@@ -539,16 +539,16 @@ next_using adds sounds g e even b a = by g.dead
     by true = a
     by false = happens_using adds sounds g e even b a
 
-restored_using : (cap : ℕ) (tokens : List Token) (most : ℕ) (sent : List Shown) (journal : List ℕ) (g : Gate) → Restores (gate_at_start cap tokens most sent) journal g → IsUsing none_but g
-restored_using cap tokens most sent journal g r = subst (IsUsing none_but) (sym r.gate) (record {
+restored_using : (cap : ℕ) (tokens : List Token) (most : ℕ) (head : Head) (sent : List Shown) (journal : List Line) (g : Gate) → Restores (gate_at_start cap tokens most head sent) journal g → IsUsing none_but g
+restored_using cap tokens most head sent journal g r = subst (IsUsing none_but) (sym r.leads.gate) (record {
   followed = tt;
   fit = λ m c h. absurd (nobody most m c h);
 })
 
 pub runs_using : Adds → Starts → Sounds → (cap : ℕ) (g : Gate) → Runs cap g → IsUsing none_but g
-runs_using adds starts sounds cap _ (begins tokens most journal g r) = restored_using cap tokens most [] journal g r
-runs_using adds starts sounds cap _ (goes_on h e r) = next_using adds sounds h e (runs_even cap h r) (runs_sound adds starts sounds cap h r) (runs_using adds starts sounds cap h r)
-runs_using adds starts sounds cap _ (begins_again h disk tokens most i r l x) = restored_using cap tokens most h.sent disk i x
+runs_using adds starts sounds cap _ (begins tokens most head journal g r) = restored_using cap tokens most head [] journal g r
+runs_using adds starts sounds cap _ (goes_on h e w r) = next_using adds sounds h e (runs_even cap h r) (runs_sound adds starts sounds cap h r) (runs_using adds starts sounds cap h r)
+runs_using adds starts sounds cap _ (begins_again h disk tokens most i r l x) = restored_using cap tokens most h.head h.sent disk i x
 
 -- each subscription of the machine is a feed that some client follows
 pub reads_for_clients : Adds → Starts → Sounds → (cap : ℕ) (g : Gate) → Runs cap g → ReadsForClients g

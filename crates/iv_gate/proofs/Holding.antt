@@ -392,9 +392,9 @@ next_held g e b = by g.dead
 
 -- ---- runs
 
-restored_held : (cap : ℕ) (tokens : List Token) (most : ℕ) (sent : List Shown) (journal : List ℕ) (h : Gate) → Restores (gate_at_start cap tokens most sent) journal h
+restored_held : (cap : ℕ) (tokens : List Token) (most : ℕ) (head : Head) (sent : List Shown) (journal : List Line) (h : Gate) → Restores (gate_at_start cap tokens most head sent) journal h
     → AllByRecursion (λ (s : Shown). IsFront s.entries h.entries) sent → IsHeld [] h
-restored_held cap tokens most sent journal h r a = subst (IsHeld []) (sym r.gate) (record {
+restored_held cap tokens most head sent journal h r a = subst (IsHeld []) (sym r.leads.gate) (record {
   front = (h.entries, refl);
   kept = omega arith;
   well = r.leads.well;
@@ -409,7 +409,7 @@ kept_again g h disk start w l r =
     front_of_bytes (take g.kept g.entries) h.entries (take l.0 (journal_of (drop g.kept g.entries))) r.torn (all_taken IsEntry g.kept g.entries w) r.leads.well (sym l.1 ∙ r.leads.text) (torn_is_one r.torn r.cut)
 
 pub runs_held : (cap : ℕ) (g : Gate) → Runs cap g → IsHeld [] g
-runs_held cap _ (begins tokens most journal g r) = restored_held cap tokens most [] journal g r tt
+runs_held cap _ (begins tokens most head journal g r) = restored_held cap tokens most head [] journal g r tt
 runs_held cap _ (goes_on g e r) = next_held g e (runs_held cap g r)
 runs_held cap _ (begins_again g disk tokens most h r l x) =
     let b = runs_held cap g r in

@@ -471,10 +471,10 @@ hung_all : (s t : State) (es : List Entry) → AllByRecursion IsEntry es → IsH
 hung_all s t [] a b h = subst IsHung (one_some s t h) b
 hung_all s t (e ∷ es) a b h = bound_to (replayed s e) (λ u. all_replayed u es) t (IsHung t) h (λ u i k. hung_all u t es a.1 (hung_replayed s u e a.0.shared b i) k)
 
-pub kept_restored : (cap : ℕ) (tokens : List Token) (most : ℕ) (sent : List Shown) (journal : List ℕ) (g : Gate) → Restores (gate_at_start cap tokens most sent) journal g → IsKept g
+pub kept_restored : (cap : ℕ) (tokens : List Token) (most : ℕ) (head : Head) (sent : List Shown) (journal : List Line) (g : Gate) → Restores (gate_at_start cap tokens most head sent) journal g → IsKept g
 kept_restored cap tokens most sent journal g r =
     let b = hung_all (start cap) r.state g.entries r.leads.well (record { sessions = refl; subscriptions = refl }) r.leads.accepted in
-    subst IsKept (sym r.gate) (record {
+    subst IsKept (sym r.leads.gate) (record {
       shared = record {
         sessions = b.sessions;
         seated = λ role h. absurd (false≢true (sym (no_roles most role) ∙ h));

@@ -110,16 +110,16 @@ next_led cap g e b l = by g.dead
 
 -- ---- runs
 
-restored_led : (cap : ℕ) (tokens : List Token) (most : ℕ) (sent : List Shown) (journal : List ℕ) (h : Gate) → Restores (gate_at_start cap tokens most sent) journal h → IsLed cap h
-restored_led cap tokens most sent journal h r = record {
+restored_led : (cap : ℕ) (tokens : List Token) (most : ℕ) (head : Head) (sent : List Shown) (journal : List Line) (h : Gate) → Restores (gate_at_start cap tokens most head sent) journal h → IsLed cap h
+restored_led cap tokens most head sent journal h r = record {
   end = r.state;
   replays = r.leads.accepted;
-  same = subst (λ z. SameShared z r.state) (sym (ap (λ (x : Gate). x.machine) r.gate)) (all_same r.state);
+  same = subst (λ z. SameShared z r.state) (sym (ap (λ (x : Gate). x.machine) r.leads.gate)) (all_same r.state);
   quiet = all_quiet (start cap) r.state h.entries r.leads.well (start_quiet cap) r.leads.accepted;
 }
 
 pub runs_led : Adds → Starts → Sounds → (cap : ℕ) (g : Gate) → Runs cap g → IsLed cap g
-runs_led adds starts sounds cap _ (begins tokens most journal g r) = restored_led cap tokens most [] journal g r
+runs_led adds starts sounds cap _ (begins tokens most head journal g r) = restored_led cap tokens most head [] journal g r
 runs_led adds starts sounds cap _ (goes_on g e r) = next_led cap g e (runs_sound adds starts sounds cap g r) (runs_led adds starts sounds cap g r)
 runs_led adds starts sounds cap _ (begins_again g disk tokens most h r l x) = restored_led cap tokens most g.sent disk h x
 

@@ -264,7 +264,7 @@ next_needed adds sounds g e b c u a = by g.dead refl
 
 pub runs_needed : Adds → Starts → Sounds → (cap : ℕ) (g : Gate) → Runs cap g → AreNeeded g
 runs_needed adds starts sounds cap _ (begins tokens most head journal g r) = subst AreNeeded (sym r.leads.gate) tt
-runs_needed adds starts sounds cap _ (goes_on h e r) =
-    next_needed adds sounds h e (runs_sound adds starts sounds cap h r) (runs_sound adds starts sounds cap (next h e) (goes_on h e r)) (runs_using adds starts sounds cap (next h e) (goes_on h e r))
+runs_needed adds starts sounds cap _ (goes_on h e w r) =
+    next_needed adds sounds h e (runs_sound adds starts sounds cap h r) (runs_sound adds starts sounds cap (next h e) (goes_on h e w r)) (runs_using adds starts sounds cap (next h e) (goes_on h e w r))
     (runs_needed adds starts sounds cap h r)
 runs_needed adds starts sounds cap _ (begins_again h disk tokens most i r l x) = subst AreNeeded (sym x.leads.gate) tt

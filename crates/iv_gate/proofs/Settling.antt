@@ -330,9 +330,9 @@ next_owes sounds g e b a j d k = by g.dead refl
     by false q = there q (client_at g.clients j) refl
 
 runs_owe : Adds → Starts → Sounds → (cap : ℕ) (g : Gate) → Runs cap g → OwesNothing g
-runs_owe adds starts sounds cap _ (begins tokens most journal g r) m c x = absurd (restored_empty cap tokens most [] journal g r m c x)
-runs_owe adds starts sounds cap _ (goes_on h e r) m c x = next_owes sounds h e (runs_sound adds starts sounds cap h r) (runs_owe adds starts sounds cap h r) m c x
-runs_owe adds starts sounds cap _ (begins_again h disk tokens most i r l y) m c x = absurd (restored_empty cap tokens most h.sent disk i y m c x)
+runs_owe adds starts sounds cap _ (begins tokens most head journal g r) m c x = absurd (restored_empty cap tokens most head [] journal g r m c x)
+runs_owe adds starts sounds cap _ (goes_on h e w r) m c x = next_owes sounds h e (runs_sound adds starts sounds cap h r) (runs_owe adds starts sounds cap h r) m c x
+runs_owe adds starts sounds cap _ (begins_again h disk tokens most i r l y) m c x = absurd (restored_empty cap tokens most h.head h.sent disk i y m c x)
 
 pub runs_settle : Adds → Starts → Sounds → (cap : ℕ) (g : Gate) (e : Event) → Runs cap g → g.dead ≡ false → ByClient g e (λ m c d. IsSettledBy e (told_by c d))
 runs_settle adds starts sounds cap g e r live m c d x y =

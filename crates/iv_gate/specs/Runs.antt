@@ -3,7 +3,7 @@ use Rattle.std.specs.Prelude.{◌≡◌, ◌≤◌, ℕ, List, [], take}
 use Rattle.iv_clients.specs.Journal.{journal_of}
 use Rattle.iv_clients.specs.Tokens.{Token}
 use Rattle.iv_journal.specs.Journal.{Line}
-use Rattle.iv_gate.specs.Events.{Event, next}
+use Rattle.iv_gate.specs.Events.{Event, IsWell, next}
 use Rattle.iv_gate.specs.Gate.{Gate, Head}
 use Rattle.iv_gate.specs.Restoring.{Restores, gate_at_start}
 
@@ -16,6 +16,6 @@ LeavesOnDisk g lines = (n : ℕ) × (g.kept ≤ n) × (lines ≡ journal_of (tak
 -- tokens and numbers
 pub data Runs (cap : ℕ) : Gate → Type 0 where
   begins : (tokens : List Token) (most : ℕ) (head : Head) (journal : List Line) (g : Gate) → Restores (gate_at_start cap tokens most head []) journal g → Runs cap g
-  goes_on : (g : Gate) (e : Event) → Runs cap g → Runs cap (next g e)
+  goes_on : (g : Gate) (e : Event) → IsWell e → Runs cap g → Runs cap (next g e)
   begins_again : (g : Gate) (disk : List Line) (tokens : List Token) (most : ℕ) (h : Gate) → Runs cap g → LeavesOnDisk g disk
       → Restores (gate_at_start cap tokens most g.head g.sent) disk h → Runs cap h
