@@ -16,7 +16,7 @@ use Rattle.iv_clients.specs.Journal.{Entry, said_by}
 use Rattle.iv_clients.specs.Tokens.{Token}
 use Rattle.iv_clients.proofs.Slots.{at_every, at_other, at_same, nobody, one_some}
 use Rattle.iv_gate.specs.Events.{Event, presented, message, gone, known, ticked, synced, handed, failed, happens, next, arrived, forgave}
-use Rattle.iv_gate.specs.Gate.{Gate, all_rested, all_swept, done_for, hears, token_for, said, settles, told_of, went, at_text}
+use Rattle.iv_gate.specs.Gate.{Gate, all_rested, all_swept, done_for, hears, token_for, said, settles, told_of, went, at_text, Head}
 use Rattle.iv_gate.specs.Laws.{IsBounded}
 use Rattle.iv_gate.specs.Restoring.{Restores, gate_at_start}
 use Rattle.iv_gate.specs.Runs.{Runs, begins, goes_on, begins_again}
@@ -36,6 +36,7 @@ use Rattle.iv_gate.proofs.Walking.{Kit, Later, to_done}
 use Rattle.iv_gate.specs.Arriving.{fault_of, is_behind, landed, entry_of, fact_of, takes}
 use Rattle.iv_steps.specs.Steps.{stepped}
 use Rattle.iv_gate.proofs.Arrived.{step_led}
+use Rattle.iv_journal.specs.Journal.{Line}
 
 -- ---- by a step
 

@@ -21,8 +21,9 @@ use Rattle.iv_clients.specs.Feeds.{Feed, Seat, is_of_role, rel_read, seat_of, wi
 use Rattle.iv_clients.specs.Journal.{Entry, said_by}
 use Rattle.iv_clients.specs.Tokens.{Token}
 use Rattle.iv_clients.proofs.Slots.{one_some}
+use Rattle.iv_journal.specs.Journal as journals
 use Rattle.iv_gate.specs.Events.{Event, presented, message, gone, known, ticked, synced, handed, failed, happens, next}
-use Rattle.iv_gate.specs.Gate.{Gate, all_rested, all_swept, granted_by, has_some, hears, in_session, is_accepted, is_needed, ran, reply_in, rested, token_for, settles, told_of}
+use Rattle.iv_gate.specs.Gate.{Gate, all_rested, all_swept, granted_by, has_some, hears, in_session, is_accepted, is_needed, ran, reply_in, rested, token_for, settles, told_of, Head}
 use Rattle.iv_gate.specs.Replies.{IsClient, told_by}
 use Rattle.iv_gate.specs.Restoring.{Restores, all_replayed, gate_at_start, passed, replayed}
 use Rattle.iv_gate.specs.Runs.{Runs, begins, goes_on, begins_again}
@@ -112,7 +113,7 @@ replays_admin : Sounds → (s t : State) (es : List Entry) → HasAdmin s → al
 replays_admin sounds s t [] b h = subst HasAdmin (one_some s t h) b
 replays_admin sounds s t (e ∷ es) b h = bound (replayed s e) (λ u. all_replayed u es) t (HasAdmin t) h (λ u i k. replays_admin sounds u t es (replayed_admin sounds s u e b i) k)
 
-restored_admin : Sounds → (cap : ℕ) (tokens : List Token) (most : ℕ) (head : Head) (sent : List Shown) (journal : List Line) (g : Gate) → Restores (gate_at_start cap tokens most head sent) journal g → HasAdmin g.machine
+restored_admin : Sounds → (cap : ℕ) (tokens : List Token) (most : ℕ) (head : Head) (sent : List Shown) (journal : List journals.Line) (g : Gate) → Restores (gate_at_start cap tokens most head sent) journal g → HasAdmin g.machine
 restored_admin sounds cap tokens most head sent journal g r = subst (λ (x : Gate). HasAdmin x.machine) (sym r.leads.gate) (replays_admin sounds (start cap) r.state g.entries refl r.leads.accepted)
 
 runs_admin : Sounds → (cap : ℕ) (g : Gate) → Runs cap g → HasAdmin g.machine

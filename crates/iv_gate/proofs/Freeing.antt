@@ -20,7 +20,7 @@ use Rattle.iv_clients.specs.Journal.{Entry, said_by, shape_for, Request, claim_s
 use Rattle.iv_clients.specs.Tokens.{Token}
 use Rattle.iv_clients.proofs.Slots.{at_every, at_same, free_none, from, nobody, one_some, some_is_none}
 use Rattle.iv_gate.specs.Events.{Event, presented, message, gone, known, ticked, synced, handed, failed, happens, next, forgave}
-use Rattle.iv_gate.specs.Gate.{Gate, acts, all_rested, all_swept, begun_for, closes, columns_in, done_for, entered, feed_begun, hears, in_session, is_needed, joined, joined_by, joins, next_own, ran, reads, reads_first, reply_to, requests, rested, token_for, said, seated, settles, shut, subscribes, swept, tells, told_of, went, with_session, informs, entries_of, shares, may_have, reply_told, at_text, replies_to}
+use Rattle.iv_gate.specs.Gate.{Gate, acts, all_rested, all_swept, begun_for, closes, columns_in, done_for, entered, feed_begun, hears, in_session, is_needed, joined, joined_by, joins, next_own, ran, reads, reads_first, reply_to, requests, rested, token_for, said, seated, settles, shut, subscribes, swept, tells, told_of, went, with_session, informs, entries_of, shares, may_have, reply_told, at_text, replies_to, Head}
 use Rattle.iv_gate.specs.Implied.{ReadsForClients}
 use Rattle.iv_gate.specs.Restoring.{Restores, gate_at_start}
 use Rattle.iv_gate.specs.Runs.{Runs, begins, goes_on, begins_again}
@@ -43,6 +43,7 @@ use Rattle.iv_clients.specs.Names.{Claim}
 use Rattle.iv_once.specs.Names.{Ask}
 use Rattle.iv_gate.proofs.Choosing.{shares_so}
 use Rattle.iv_gate.proofs.Stepping.{request_of}
+use Rattle.iv_journal.specs.Journal.{Line}
 
 -- ---- clients that follow what they did
 

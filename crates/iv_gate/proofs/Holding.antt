@@ -18,7 +18,7 @@ use Rattle.iv_clients.specs.Journal.{Entry, IsEntry, is_shared, journal_of, line
 use Rattle.iv_clients.specs.Tokens.{Token, role_opened}
 use Rattle.iv_clients.proofs.Slots.{at_every, at_other, at_same, nobody, one_some, set_other, some_is_none}
 use Rattle.iv_gate.specs.Events.{Event, presented, message, gone, known, ticked, synced, handed, failed, happens, hands, knowing, next, on_disk, ticking}
-use Rattle.iv_gate.specs.Gate.{Gate, came, entered, has_session, in_session, is_accepted, ran, reply_to, requests, token_for, said, tells, told_of, went, informs, entries_of}
+use Rattle.iv_gate.specs.Gate.{Gate, came, entered, has_session, in_session, is_accepted, ran, reply_to, requests, said, tells, told_of, went, informs, entries_of, Head}
 use Rattle.iv_gate.specs.Laws.{IsFront, SentIsKept}
 use Rattle.iv_gate.specs.Restoring.{Restores, gate_at_start}
 use Rattle.iv_gate.specs.Runs.{LeavesOnDisk, Runs, begins, goes_on, begins_again}
@@ -29,6 +29,7 @@ use Rattle.iv_gate.proofs.Rereading.{front_of_bytes, torn_is_one}
 use Rattle.iv_gate.proofs.Running.{all_so}
 use Rattle.iv_gate.proofs.Stepping.{Keeps, Steps, came_keeps, said_keeps, went_keeps}
 use Rattle.iv_gate.proofs.Shaping.{told_itself}
+use Rattle.iv_journal.specs.Journal.{Line}
 
 -- ---- fronts
 

@@ -12,7 +12,7 @@ use Rattle.iv_clients.specs.Feeds.{seat_of}
 use Rattle.iv_clients.specs.Journal.{Entry}
 use Rattle.iv_clients.specs.Tokens.{Token}
 use Rattle.iv_clients.proofs.Slots.{nobody, one_some, some_is_none}
-use Rattle.iv_gate.specs.Gate.{Gate, in_session, is_accepted, reply_in}
+use Rattle.iv_gate.specs.Gate.{Gate, in_session, is_accepted, reply_in, Head}
 use Rattle.iv_gate.specs.Events.{Event}
 use Rattle.iv_gate.specs.Replies.{ActsAs, AreReplied, IsAnswered, IsClient, replies}
 use Rattle.iv_gate.specs.Restoring.{Restores, all_replayed, gate_at_start, passed, replayed}
@@ -25,6 +25,7 @@ use Rattle.iv_gate.proofs.Keeping.{IsKept, kept_next, kept_restored}
 use Rattle.iv_gate.proofs.Seeing.{adds_to_view, may_be_read}
 use Rattle.iv_gate.proofs.Serving.{AreEven, next_sound}
 use Rattle.iv_gate.proofs.Sound.{Adds, IsSoundGate, Sounds}
+use Rattle.iv_journal.specs.Journal.{Line}
 
 abbrev pub Starts : Type 0
 Starts = (cap : ℕ) → IsSoundState (start cap)

@@ -13,7 +13,7 @@ use Rattle.iv_clients.specs.Clients.{Shown, at_client, saying}
 use Rattle.iv_clients.specs.Journal.{Entry, IsEntry, entry_text, is_shared, journal_of, line_said}
 use Rattle.iv_clients.specs.Tokens.{Token}
 use Rattle.iv_gate.specs.Events.{Event, presented, message, gone, known, ticked, synced, handed, failed, happens, next}
-use Rattle.iv_gate.specs.Gate.{Gate, in_session, is_accepted, ran, reply_in, requests}
+use Rattle.iv_gate.specs.Gate.{Gate, in_session, is_accepted, ran, reply_in, requests, Head}
 use Rattle.iv_gate.specs.Laws.{CrashesAreSafe, LeadsBack, shared}
 use Rattle.iv_gate.specs.Replies.{ActsAs}
 use Rattle.iv_gate.specs.Restoring.{Restores, all_replayed, gate_at_start}
@@ -27,6 +27,7 @@ use Rattle.iv_gate.proofs.Replaying.{SameShared, HasLed, IsQuiet, all_quiet, all
 use Rattle.iv_gate.proofs.Rereading.{cut_bytes}
 use Rattle.iv_gate.proofs.Sound.{Adds, IsSoundGate, Sounds}
 use Rattle.iv_gate.proofs.Stepping.{Keeps, Steps, came_keeps, said_keeps, went_keeps}
+use Rattle.iv_journal.specs.Journal.{Line}
 
 -- the entries lead from the start to all that is shared in the state, and nobody is left of it
 pub record LeadsTo (cap : ℕ) (es : List Entry) (s : State) : Type 0 where

@@ -13,6 +13,7 @@ use Rattle.iv_clients.specs.Feeds.{Feed, rel_read}
 use Rattle.iv_clients.specs.Journal.{Entry, said_by, shape_for}
 use Rattle.iv_clients.specs.Tokens.{Token}
 use Rattle.iv_clients.proofs.Slots.{at_every, at_other, at_same, one_some}
+use Rattle.iv_journal.specs.Journal as journals
 use Rattle.iv_gate.specs.Events.{Event, presented, message, gone, known, ticked, synced, handed, failed, happens, next}
 use Rattle.iv_gate.specs.Gate.{Gate, columns_in, done_for, entered, feed_begun, granted_by, hears, in_session, is_accepted, next_own, reply_in, reply_to, said, settles, tells, told_of, entries_of}
 use Rattle.iv_gate.specs.Laws.{IsSettledBy, is_word}
