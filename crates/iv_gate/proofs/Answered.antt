@@ -1,15 +1,17 @@
 -- Of names that were new each at its turn, none stands twice with one place.
-use Rattle.std.proofs.Common.{◌≡◌, ℕ, zero, suc, ◌+◌, ◌<◌, ◌≤◌, Bool, true, false, cond, not, List, [], ◌∷◌, take, Option, Some, None, is_some, refl, ap, ◌∙◌, sym, subst, arith}
-use Rattle.std.specs.Prelude.{◌==◌, ◌&&◌, ◌++◌, bytes_eq, filter, nat_le, nat_lt, unwrap_or}
+use Rattle.std.proofs.Common.{◌≡◌, ℕ, zero, suc, ◌+◌, ◌<◌, ◌≤◌, Bool, true, false, cond, not, List, [], ◌∷◌, take, length, Option, Some, None, is_some, refl, ap, ◌∙◌, sym, subst, arith}
+use Rattle.std.specs.Prelude.{◌&&◌, ◌++◌, bytes_eq, count_by, filter, nat_le, nat_lt, unwrap_or}
 use Rattle.std.proofs.lemmas.Bool.Decides.{nat_tests}
-use Rattle.iv_clients.specs.Names.{limits}
-use Rattle.iv_once.specs.Names.{Ask, Known, Limits, Named, Names, Own, Place, carry, by_count, by_found, find_named, is_over, is_place, learned, named, own_of, verdict, with_entry}
+use Rattle.iv_clients.specs.Journal.{names_in}
+use Rattle.iv_clients.specs.Names.{limits, place_text}
+use Rattle.iv_once.specs.Names.{Ask, Known, Limits, Named, Names, Own, Place, carry, by_count, by_found, find_named, is_over, is_place, learned, named, own_of, spent_by, spent_more, verdict, with_entry}
 use Rattle.iv_once.specs.Names as verdicts
 use Rattle.iv_once.specs.Laws.{times}
 use Rattle.iv_once.proofs.Lists.{and_both, itself, le_true, lt_false, same_bytes, same_place, some_is_none, take_less, zero_more}
 use Rattle.iv_gate.specs.Arriving as arriving
-use Rattle.iv_gate.specs.Arriving.{Fault, first_known, is_new}
-use Rattle.iv_gate.specs.Gate.{known_by}
+use Rattle.iv_gate.specs.Arriving.{first_known, is_new}
+use Rattle.iv_gate.specs.Gate.{Gate, known_by, known_of, place_of, spent_in}
+use Rattle.iv_gate.specs.Replies.{count_of, place_behind}
 
 abbrev pub names_of : List ℕ → List Named → List Named
 names_of holder es = filter (λ e. bytes_eq e.ask.holder holder) es
@@ -197,3 +199,46 @@ carried_new n a same h = by (find_named a.name o.recent) refl h
     by : (f : Option Named) → find_named a.name o.recent ≡ f → by_found n o a f ≡ carry → is_new n.known a ≡ true
     by None e g = place e (bytes_eq a.at.epoch o.epoch) g
     by (Some x) e g = entry x (is_place x.ask.at a.at && bytes_eq x.ask.digest a.digest) g
+
+-- ---- what is known of a holder
+
+-- its epoch is the journal's, and its count goes on by one a name
+pub known_own : (es : List Named) (k : Known) (holder : List ℕ)
+    → ((own_of (known_by k es) holder).epoch ≡ (own_of k holder).epoch) × ((own_of (known_by k es) holder).count ≡ (own_of k holder).count + length (names_of holder es))
+known_own [] k holder = (refl, omega arith)
+known_own (e ∷ es) k holder = by (bytes_eq e.ask.holder holder) refl (known_own es (learned limits (named e) k) holder)
+  where
+    now : Own
+    now = own_of (known_by (learned limits (named e) k) es) holder
+
+    by : (d : Bool) → bytes_eq e.ask.holder holder ≡ d
+        → (now.epoch ≡ (own_of (learned limits (named e) k) holder).epoch) × (now.count ≡ (own_of (learned limits (named e) k) holder).count + length (names_of holder es))
+        → (now.epoch ≡ (own_of k holder).epoch) × (now.count ≡ (own_of k holder).count + length (cond d (e ∷ names_of holder es) (names_of holder es)))
+    by true q h =
+        let c : (own_of (learned limits (named e) k) holder).count ≡ (own_of k holder).count + 1 = ap (λ (o : Own). o.count) (own_same e k holder q) in let n = h.1 in
+        (h.0 ∙ ap (λ (o : Own). o.epoch) (own_same e k holder q), omega (arith, n, c))
+    by false q h = (h.0 ∙ ap (λ (o : Own). o.epoch) (own_other e k holder q), h.1 ∙ ap (λ (o : Own). o.count + length (names_of holder es)) (own_other e k holder q))
+
+-- where its names stand, as laws say it
+pub place_is : (g : Gate) (holder : List ℕ) → place_text (place_of g holder) ≡ place_behind g holder 0
+place_is g holder =
+    let p = known_own (names_in g.entries) g.head.names holder in
+    let c : (own_of (known_of g) holder).count ≡ count_of g holder + 0 = let n = p.1 in omega (arith, n) in
+    λ i. place_text (record { epoch = p.0 i; count = c i })
+
+-- ---- what is spent
+
+pub spent_is : (es : List Named) (holder : List ℕ) → spent_by (spent_in es) holder ≡ count_by (λ (e : Named). e.refused && bytes_eq e.ask.holder holder) es
+spent_is [] holder = refl
+spent_is (e ∷ es) holder = by e.refused (bytes_eq e.ask.holder holder) refl (spent_is es holder) (spent_is es e.ask.holder)
+  where
+    count : List ℕ → ℕ
+    count h = count_by (λ (x : Named). x.refused && bytes_eq x.ask.holder h) es
+
+    by : (r d : Bool) → bytes_eq e.ask.holder holder ≡ d → spent_by (spent_in es) holder ≡ count holder → spent_by (spent_in es) e.ask.holder ≡ count e.ask.holder
+        → spent_by (spent_more (spent_in es) (cond r (Some e.ask.holder) None)) holder ≡ cond (r && d) 1 0 + count holder
+    by false d q h k = h ∙ sym (zero_more (count holder))
+    by true false q h k = ap (λ b. unwrap_or (cond b (Some (spent_by (spent_in es) e.ask.holder + 1)) (spent_in es holder)) 0) q ∙ (h ∙ sym (zero_more (count holder)))
+    by true true q h k =
+        let same : count e.ask.holder ≡ count holder = ap count (same_bytes e.ask.holder holder q) in
+        ap (λ b. unwrap_or (cond b (Some (spent_by (spent_in es) e.ask.holder + 1)) (spent_in es holder)) 0) q ∙ (let f : spent_by (spent_in es) e.ask.holder + 1 ≡ 1 + count holder = omega (arith, k, same) in f)
