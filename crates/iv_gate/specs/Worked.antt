@@ -1,20 +1,20 @@
 -- Worked examples of the gateway: steps of a log, and requests with names.
-use Rattle.std.specs.Prelude.{ℕ, ◌^◌, ◌++◌, pos, Bool, List, [], ◌∷◌, codes, replicate, Option, Some, None, drop, length}
+use Rattle.std.specs.Prelude.{ℕ, ◌^◌, ◌++◌, pos, Bool, true, false, List, [], ◌∷◌, codes, Option, Some, None, drop, length}
 use Rattle.iv_rows.specs.Cell.{Cell, num}
-
 use Rattle.iv_rows.specs.Options.{if_some}
 use Rattle.iv_rows.specs.declared.value.Kind.TheVariants.{Int}
-use Rattle.iv_access.specs.declared.privilege.Privilege.TheVariants.{Select}
+use Rattle.iv_access.specs.declared.privilege.Privilege.TheVariants.{Insert, Select}
 use Rattle.iv_access.specs.Rights.{Name}
-use Rattle.iv_machine.specs.Act.{Act, create_role, create_table, create_view, grant, insert, revoke, write}
+use Rattle.iv_machine.specs.Act.{Act, create_role, create_table, create_view, done, grant, insert, revoke, write}
 use Rattle.iv_message.specs.Told.{Told, answered, changed, settled}
 use Rattle.iv_clients.specs.Clients.{client_at, told, untold}
 use Rattle.iv_clients.specs.Journal.{Request}
+use Rattle.iv_clients.specs.Names.{holder_of, place_text}
 use Rattle.iv_clients.specs.Tokens.{Token}
+use Rattle.iv_once.specs.Names.{Ask, verdict}
 use Rattle.iv_once.specs.Runs.{nothing_known}
-use Rattle.iv_gate.specs.Arriving.{Step}
-use Rattle.iv_gate.specs.Events.{Event, after, arrived, message}
-use Rattle.iv_gate.specs.Gate.{Gate, Log, with_session}
+use Rattle.iv_gate.specs.Arriving.{Step, takes}
+use Rattle.iv_gate.specs.Gate.{Gate, Log, answer_text, by_verdict, names_of, reads, with_session}
 use Rattle.iv_gate.specs.Restoring.{gate_at_start}
 
 abbrev pub admin : Name
@@ -29,25 +29,15 @@ notes = codes "notes"
 abbrev pub total : Name
 total = codes "total"
 
--- the tokens of ann and of an administrator, by digests that stand for theirs
+-- ann's token
 abbrev pub anns : Token
 anns = record { digest = codes "t"; role = ann; user = codes "a" }
 
-abbrev pub admins : Token
-admins = record { digest = codes "u"; role = admin; user = [] }
-
-abbrev pub epoch : List ℕ
-epoch = replicate 32 48
-
 abbrev pub order : Log
-order = record { name = codes "order"; epoch = epoch }
+order = record { name = codes "order"; epoch = codes "e" }
 
-abbrev pub begins : Option Log → Gate
-begins log = gate_at_start 1024 (anns ∷ admins ∷ []) 2 (record { names = nothing_known epoch; log = log; position = 0 }) []
-
--- the first client is one of a token
-abbrev pub lets_in : Gate → Token → Gate
-lets_in g t = let h = with_session g t.role in record h { clients = Some (untold t) ∷ None ∷ [] }
+abbrev pub begins : Gate
+begins = gate_at_start 1024 (anns ∷ []) 1 (record { names = nothing_known (codes "e"); log = Some order; position = 0 }) []
 
 abbrev pub by_admin : Act → Request
 by_admin act = record { role = admin; line = []; act = act }
@@ -70,32 +60,35 @@ may_read = grant notes (Select ∷ []) (Some ann)
 abbrev pub may_not_read : Act
 may_not_read = revoke notes (Select ∷ []) (Some ann)
 
--- a table, and ann, who may read it
+-- a table, and ann, who may read and write it
 abbrev pub made : List Request
 made =
     by_admin (create_role ann)
     ∷ by_admin (create_table notes admin (record { name = codes "n"; kind = Int } ∷ []))
     ∷ by_admin may_read
+    ∷ by_admin (grant notes (Insert ∷ []) (Some ann))
     ∷ []
 
 -- a view of sums of its rows
 abbrev pub sums_made : List Request
 sums_made = by_admin (create_view total admin (codes "select n, sum(n) as s from notes group by n")) ∷ by_admin (grant total (Select ∷ []) (Some ann)) ∷ []
 
--- the log has them by its first step; ann comes, and reads a relation
+-- the log has them by its first step; ann is let in, and reads a relation
+abbrev pub let_in : Gate → Gate
+let_in g = let h = with_session g ann in record h { clients = Some (untold anns) ∷ [] }
+
 abbrev pub reads_of : Name → List Request → Gate
-reads_of rel more = after (lets_in (after (begins (Some order)) (arrived (step 0 1 (made ++ more)) ∷ [])) anns)
-    (message 0 (codes "{\"do\":\"subscribe\",\"on\":\"" ++ (rel ++ codes "\"}")) ∷ [])
+reads_of rel more = reads (let_in (takes begins (step 0 1 (made ++ more)))) 0 (untold anns) None rel
 
 abbrev pub reads_notes : Gate
 reads_notes = reads_of notes []
 
--- what she is told by one more event
-abbrev pub told_at : Gate → ℕ → List Told
-told_at g m = if_some (client_at g.clients m) [] told
+-- what she is told more
+abbrev pub told_by : Gate → List Told
+told_by g = if_some (client_at g.clients 0) [] told
 
-abbrev pub hears : Gate → ℕ → Event → List Told
-hears g m e = drop (length (told_at g m)) (told_at (after g (e ∷ [])) m)
+abbrev pub told_more : Gate → Gate → List Told
+told_more g h = drop (length (told_by g)) (told_by h)
 
 -- ---- steps
 
@@ -122,34 +115,29 @@ abbrev pub later : Step
 later = step 2 3 []
 
 abbrev pub foreign_step : Step
-foreign_step = record later { log = record order { epoch = replicate 32 49 }; from = 1 }
+foreign_step = record (step 1 3 []) { log = record order { epoch = codes "f" } }
 
 abbrev pub without_right : Step
 without_right = step 1 2 (by_admin (put 2) ∷ by_ann (create_role (codes "bob")) ∷ [])
 
 -- ---- names
 
--- an order of its own: what its administrator says, and ann, who may write
-abbrev pub writes_on : Gate
-writes_on = lets_in (after (lets_in (begins None) admins) (message 0 (codes "{\"do\":\"create_role\",\"name\":\"ann\"}")
-    ∷ message 0 (codes "{\"do\":\"create_table\",\"name\":\"notes\",\"owner\":\"ann\",\"columns\":[[\"n\",\"int\"]]}") ∷ [])) anns
+-- the same gateway, with an order of its own
+abbrev pub writes : Gate
+writes = record reads_notes { head = record reads_notes.head { log = None } }
 
-abbrev pub first_name : List ℕ
-first_name = replicate 22 97
+-- ann writes a row by a name, at a place, with such a digest
+abbrev pub asks : ℕ → List ℕ → Ask
+asks count digest = record { holder = holder_of ann (codes "a"); name = codes "n"; at = record { epoch = codes "e"; count = count }; digest = digest }
 
--- she writes a row by a name, with the place of no name before it
-abbrev pub named_write : (at row : List ℕ) → Event
-named_write at row = message 0 (codes "{\"once\":\"" ++ (first_name ++ (codes "\",\"at\":\"" ++ (at
-    ++ (codes "\",\"do\":\"write\",\"entries\":[{\"on\":\"notes\",\"insert\":[" ++ (row ++ codes "]}]}"))))))
-
-abbrev pub at_none : List ℕ
-at_none = epoch ++ codes ".0"
-
-abbrev pub at_one : List ℕ
-at_one = epoch ++ codes ".1"
+abbrev pub puts : Gate → Ask → ℕ → Gate
+puts g a n = by_verdict g 0 None (by_ann (put n)) a (verdict (names_of g) a)
 
 abbrev pub wrote : Gate
-wrote = after writes_on (named_write at_none (codes "7") ∷ [])
+wrote = puts writes (asks 0 (codes "d")) 7
 
-abbrev pub is_done : (again : Bool) → List Told
-is_done again = answered None again at_one (codes "{\"ok\":true}") ∷ settled ∷ []
+abbrev pub is_done : (again : Bool) → Told
+is_done again = answered None again (place_text (record { epoch = codes "e"; count = 1 })) (answer_text done)
+
+abbrev pub done_and_told : List Told
+done_and_told = is_done false ∷ changed 1 ((row 7, pos 1) ∷ []) ∷ []
