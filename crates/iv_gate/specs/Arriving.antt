@@ -1,18 +1,17 @@
 -- Steps of the log that is followed: which are taken, and what is told of one.
-use Rattle.std.specs.Prelude.{ℕ, ◌+◌, ◌==◌, ◌&&◌, not, Bool, false, true, if◌then◌else◌, List, [], ◌∷◌, ◌++◌, map, filter, bytes_eq, nat_le, nat_lt, take, Option, Some, None, is_some}
+use Rattle.std.specs.Prelude.{ℕ, ◌+◌, ◌==◌, ◌&&◌, not, Bool, false, true, if◌then◌else◌, List, [], ◌∷◌, ◌++◌, map, filter, bytes_eq, nat_le, nat_lt, take, Option, Some, None, is_some, option_map}
 use Rattle.iv_rows.specs.Options.{if_some}
 use Rattle.iv_access.specs.Rights.{Name}
-use Rattle.iv_machine.specs.Act.{Refusal, begin}
-use Rattle.iv_machine.specs.Machine.{Outcome, step}
-use Rattle.iv_machine.specs.Refusing.{or_else, refusal}
-use Rattle.iv_machine.specs.State.{Frame, State}
+use Rattle.iv_machine.specs.Act.{Refusal}
+use Rattle.iv_machine.specs.Machine.{Outcome}
+use Rattle.iv_machine.specs.State.{Frame}
 use Rattle.iv_message.specs.Told.{granted}
 use Rattle.iv_clients.specs.Clients.{own_lines}
 use Rattle.iv_clients.specs.Journal.{Entry, Request, position_of}
 use Rattle.iv_clients.specs.Names.{limits}
 use Rattle.iv_once.specs.Names.{Ask, Known, Named, find_named, learned, named, own_of}
-use Rattle.iv_steps.specs.Steps.{Fact, carried, shared, stepped}
-use Rattle.iv_gate.specs.Gate.{Gate, Log, entered, has_some, in_session, informs, known_of, settles, went_on}
+use Rattle.iv_steps.specs.Steps.{Fact, first_refused, shared, stepped}
+use Rattle.iv_gate.specs.Gate.{Gate, Log, entered, has_some, informs, known_of, settles, went_on}
 
 -- a step: which log it is of, from which position to which it leads, what was done there, and the names that have an answer by it
 pub record Step : Type 0 where
@@ -27,7 +26,7 @@ pub record Step : Type 0 where
 pub data Fault : Type 0 where
   other_log : Fault
   gap : (position : ℕ) → Fault
-  not_accepted : (request : ℕ) → Option Refusal → Fault
+  not_accepted : (request : ℕ) → Refusal → Fault
   not_new : (name : ℕ) → Fault
 
 abbrev pub is_log : Log → Log → Bool
@@ -43,14 +42,6 @@ position g = position_of g.head.position g.entries
 -- up to where the journal has it on disk: what the source of the log is told
 abbrev pub settled_at : Gate → ℕ
 settled_at g = position_of g.head.position (take g.kept g.entries)
-
--- why a request is refused in its role, where nobody is
-abbrev pub refusal_of : Request → State → Option Refusal
-refusal_of q s = or_else (refusal s 1 (begin q.role)) (refusal (step s (in_session 1 (begin q.role))).state 1 q.act)
-
-abbrev pub first_refused : ℕ → List Request → State → Option Fault
-first_refused n [] s = None
-first_refused n (q ∷ qs) s = if_some (carried (fact_of q) s) (Some (not_accepted n (refusal_of q s))) (first_refused (n + 1) qs)
 
 -- no entry that is kept of its holder bears the name, and all that are behind its place are kept
 abbrev pub is_new : Known → Ask → Bool
@@ -70,7 +61,7 @@ fault_of g s =
     if is_behind g s then None else (
     if not (if_some g.head.log false (is_log s.log)) then Some other_log else (
     if not ((s.from == position g) && nat_lt s.from s.to) then Some (gap (position g)) else (
-    if_some (first_known 1 s.names (known_of g)) (first_refused 1 s.requests (shared g.machine)) Some)))
+    if_some (first_known 1 s.names (known_of g)) (option_map (λ p. not_accepted p.0 p.1) (first_refused 1 (map fact_of s.requests) (shared g.machine))) Some)))
 
 -- what the journal is to have of it
 abbrev pub entry_of : Step → Entry

@@ -14,7 +14,7 @@ use Rattle.iv_once.specs.Laws.{times}
 use Rattle.iv_once.specs.Names.{Place}
 use Rattle.iv_steps.specs.Steps.{all_carried, shared}
 use Rattle.iv_clients.specs.Tokens.{Token}
-use Rattle.iv_gate.specs.Events.{Event, arrived, failed, forgave, handed, known, message, next, synced, ticked}
+use Rattle.iv_gate.specs.Events.{Event, IsWell, arrived, failed, forgave, handed, known, message, next, synced, ticked}
 use Rattle.iv_gate.specs.Arriving.{entry_of, fact_of, fault_of, is_behind, newly}
 use Rattle.iv_gate.specs.Gate.{Gate, granted_by}
 use Rattle.iv_gate.specs.Replies.{AreReplied, ByClient, IsAnswered, IsClient, added_by, heard_by, names_by, refused_by, told_by}
@@ -189,4 +189,4 @@ pub record HoldsBy (g : Gate) (e : Event) : Type 0 where
 
 -- in whatever runs, over restarts
 abbrev pub HoldAlways : Type 0
-HoldAlways = (cap : ℕ) (g : Gate) → Runs cap g → Holds cap g × ((e : Event) → HoldsBy g e)
+HoldAlways = (cap : ℕ) (g : Gate) → Runs cap g → Holds cap g × ((e : Event) → IsWell e → HoldsBy g e)

@@ -25,7 +25,7 @@ pub fn steps_follow_their_log()
     ensures behind { takes reads_notes behind ≡ reads_notes }
     ensures gap { fault_of reads_notes later ≡ Some (gap 1) }
     ensures foreign { fault_of reads_notes foreign_step ≡ Some other_log }
-    ensures refused { fault_of reads_notes without_right ≡ Some (not_accepted 2 (Some not_administrator)) }
+    ensures refused { fault_of reads_notes without_right ≡ Some (not_accepted 2 not_administrator) }
     ensures dead { (takes reads_notes later).dead ≡ true }
     ensures position { position (takes reads_notes taken) ≡ 7 }
     ensures denied { told_more reads_notes (decides reads_notes 0 None (by_ann (put 1)) None) ≡ denied None 100 ∷ [] }
