@@ -293,11 +293,11 @@ taken_by g s = cond (is_some (fault_of g s)) [] (cond (is_behind g s) [] (if_som
 pub takes_sign : (g : Gate) (s : Step) → sign (takes g s) ≡ record { marks = marks_behind g (arrived s); entries = g.entries ++ taken_by g s; slots = marks_in g.clients }
 takes_sign g s = by (is_some (fault_of g s)) (is_behind g s) (stepped (map fact_of s.requests) g.machine)
   where
-    as : Marks → List Entry → Sign
-    as m es = record { marks = m; entries = es; slots = marks_in g.clients }
+    with_marks : Marks → List Entry → Sign
+    with_marks m es = record { marks = m; entries = es; slots = marks_in g.clients }
 
-    same : (m : Marks) → as m g.entries ≡ as m (g.entries ++ [])
-    same m = ap (as m) (sym (append-nil g.entries))
+    same : (m : Marks) → with_marks m g.entries ≡ with_marks m (g.entries ++ [])
+    same m = ap (with_marks m) (sym (append-nil g.entries))
 
     by : (b d : Bool) (o : Option Outcome) → sign (cond b (record g { dead = true }) (cond d g (if_some o g (landed g (entry_of s)))))
         ≡ record { marks = cond b (record (marks g) { dead = true }) (marks g); entries = g.entries ++ cond b [] (cond d [] (if_some o [] (λ x. entry_of s ∷ []))); slots = marks_in g.clients }
