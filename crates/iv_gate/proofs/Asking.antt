@@ -17,7 +17,7 @@ use Rattle.iv_clients.specs.Clients.{Client, at_client, client_at, closing, foll
 use Rattle.iv_clients.specs.Feeds.{Feed, Seat, ends_in, feed_for, has_room, is_of_role, is_reading, load, next_seat, room_for, seat_of}
 use Rattle.iv_clients.specs.Journal.{Entry, said_by, Request, claim_said}
 use Rattle.iv_clients.proofs.Slots.{at_every, from, one_some, some_is_none}
-use Rattle.iv_gate.specs.Gate.{Gate, acts, begun_for, closes, done_for, entered, in_session, is_accepted, joins, ran, reads, reads_first, reply_in, reply_to, requests, seated, subscribes, swept, tells, told_of, entries_of, shares, may_have, reply_told, replies_to}
+use Rattle.iv_gate.specs.Gate.{Gate, acts, begun_for, closes, done_for, entered, in_session, is_accepted, joins, ran, reads, reads_first, reply_in, reply_to, done_in, seated, subscribes, swept, tells, told_of, entries_of, shares, may_have, reply_told, replies_to}
 use Rattle.iv_gate.specs.Replies.{ActsAs, replies}
 use Rattle.iv_gate.proofs.Joining.{and_both, joins_sound, same_name}
 use Rattle.iv_gate.proofs.Opening.{IsAsker, all_pushed, quiet_replied, subscribes_sound}
@@ -47,7 +47,7 @@ quiet_aside _ (repeats id at answer) = record { weighs = λ own q. refl; goes_on
 replies_sound : (g : Gate) (m : ℕ) (id : Option Data) (q : Request) (name : Option Ask) (r : Reply) → IsSoundGate g → IsSoundGate (replies_to g m id q name r)
 replies_sound g m id q name r b = let h = entered g (entries_of q name r) in tells_sound h m (reply_told h id name r) (quiet_told h id name r) (entered_sound g (entries_of q name r) b)
 
-requests_sound : Adds → Sounds → (g : Gate) (m : ℕ) (id : Option Data) (q : Request) (name : Option Ask) (n : ℕ) → closes_none q.act ≡ true → IsSoundGate g → IsSoundGate (requests g m id q name n)
+requests_sound : Adds → Sounds → (g : Gate) (m : ℕ) (id : Option Data) (q : Request) (name : Option Ask) (n : ℕ) → closes_none q.act ≡ true → IsSoundGate g → IsSoundGate (done_in g m id q name n)
 requests_sound adds sounds g m id q name n h b =
     let k = in_session n q.act in let r = reply_to g k in let i = replies_to g m id q name r in
     informs_sound (ran i k) (entries_of q name r) (ran_sound adds sounds i k h (replies_sound g m id q name r b))

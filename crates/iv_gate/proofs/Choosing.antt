@@ -9,7 +9,7 @@ use Rattle.iv_clients.specs.Feeds.{seat_of}
 use Rattle.iv_clients.specs.Journal.{Request}
 use Rattle.iv_clients.specs.Names.{Claim, place_text}
 use Rattle.iv_once.specs.Names.{Ask, Verdict, carry, again, another, late, foreign, ahead, over, verdict}
-use Rattle.iv_gate.specs.Gate.{Gate, asked_by, by_verdict, carries, decided_elsewhere, decides, has_shape_room, names_of, place_of, replies_to, requests, shares, tells}
+use Rattle.iv_gate.specs.Gate.{Gate, asked_by, by_verdict, carries, decided_elsewhere, decides, has_shape_room, names_of, place_of, replies_to, done_in, shares, tells}
 use Rattle.iv_gate.proofs.Shaping.{test_of}
 
 -- what is told of it otherwise
@@ -21,16 +21,16 @@ pub data IsAside : Told → Type 0 where
 -- what holds behind each of these holds behind all
 pub record Chooses (P : Gate → Type 0) (g : Gate) (m : ℕ) (id : Option Data) (q : Request) : Type 0 where
   pub tells : (t : Told) → IsAside t → P (tells g m t)
-  pub does : (name : Option Ask) (n : ℕ) → seat_of g.seats q.role ≡ Some n → P (requests g m id q name n)
+  pub does : (name : Option Ask) (n : ℕ) → seat_of g.seats q.role ≡ Some n → P (done_in g m id q name n)
   pub refuses : (name : Option Ask) (r : Refusal) → P (replies_to g m id q name (refused r))
 
 module _ (P : Gate → Type 0) (g : Gate) (m : ℕ) (id : Option Data) (q : Request) (x : Chooses P g m id q) where
   carries_so : (name : Option Ask) → P (carries g m id q name)
   carries_so name =
-      test_of P (has_shape_room g q.act) (if_some (seat_of g.seats q.role) (replies_to g m id q name (refused no_session)) (requests g m id q name)) (replies_to g m id q name (refused limit))
+      test_of P (has_shape_room g q.act) (if_some (seat_of g.seats q.role) (replies_to g m id q name (refused no_session)) (done_in g m id q name)) (replies_to g m id q name (refused limit))
       (by (seat_of g.seats q.role) refl) (x.refuses name limit)
     where
-      by : (o : Option ℕ) → seat_of g.seats q.role ≡ o → P (if_some o (replies_to g m id q name (refused no_session)) (requests g m id q name))
+      by : (o : Option ℕ) → seat_of g.seats q.role ≡ o → P (if_some o (replies_to g m id q name (refused no_session)) (done_in g m id q name))
       by None e = x.refuses name no_session
       by (Some n) e = x.does name n e
 

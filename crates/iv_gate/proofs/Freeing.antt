@@ -20,7 +20,7 @@ use Rattle.iv_clients.specs.Journal.{Entry, said_by, shape_for, Request, claim_s
 use Rattle.iv_clients.specs.Tokens.{Token}
 use Rattle.iv_clients.proofs.Slots.{at_every, at_same, free_none, from, nobody, one_some, some_is_none}
 use Rattle.iv_gate.specs.Events.{Event, presented, message, gone, known, ticked, synced, handed, failed, happens, next, forgave}
-use Rattle.iv_gate.specs.Gate.{Gate, acts, all_rested, all_swept, begun_for, closes, columns_in, done_for, entered, feed_begun, hears, in_session, is_needed, joined, joined_by, joins, next_own, ran, reads, reads_first, reply_to, requests, rested, token_for, said, seated, settles, shut, subscribes, swept, tells, told_of, went, with_session, informs, entries_of, shares, may_have, reply_told, at_text, replies_to, Head}
+use Rattle.iv_gate.specs.Gate.{Gate, acts, all_rested, all_swept, begun_for, closes, columns_in, done_for, entered, feed_begun, hears, in_session, is_needed, joined, joined_by, joins, next_own, ran, reads, reads_first, reply_to, done_in, rested, token_for, said, seated, settles, shut, subscribes, swept, tells, told_of, went, with_session, informs, entries_of, shares, may_have, reply_told, at_text, replies_to, Head}
 use Rattle.iv_gate.specs.Implied.{ReadsForClients}
 use Rattle.iv_gate.specs.Restoring.{Restores, gate_at_start}
 use Rattle.iv_gate.specs.Runs.{Runs, begins, goes_on, begins_again}
@@ -90,7 +90,7 @@ using_informs g es a = using_all none_but g (λ c. telling g.entries (shape_for 
 using_replies : (g : Gate) (m : ℕ) (id : Option Data) (q : Request) (name : Option Ask) (r : Reply) → IsUsing none_but g → IsUsing none_but (replies_to g m id q name r)
 using_replies g m id q name r a = let h = entered g (entries_of q name r) in using_tells none_but h m (reply_told h id name r) (record { followed = a.followed; fit = a.fit })
 
-using_requests : (g : Gate) (m : ℕ) (id : Option Data) (q : Request) (name : Option Ask) (n : ℕ) → IsUsing none_but g → IsUsing none_but (requests g m id q name n)
+using_requests : (g : Gate) (m : ℕ) (id : Option Data) (q : Request) (name : Option Ask) (n : ℕ) → IsUsing none_but g → IsUsing none_but (done_in g m id q name n)
 using_requests g m id q name n a =
     let k = in_session n q.act in let r = reply_to g k in let i = replies_to g m id q name r in
     using_informs (ran i k) (entries_of q name r) (ran_using none_but i k (using_replies g m id q name r a))

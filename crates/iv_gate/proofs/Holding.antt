@@ -18,7 +18,7 @@ use Rattle.iv_clients.specs.Journal.{Entry, IsEntry, is_shared, journal_of, line
 use Rattle.iv_clients.specs.Tokens.{Token, role_opened}
 use Rattle.iv_clients.proofs.Slots.{at_every, at_other, at_same, nobody, one_some, set_other, some_is_none}
 use Rattle.iv_gate.specs.Events.{Event, presented, message, gone, known, ticked, synced, handed, failed, happens, hands, knowing, next, on_disk, ticking}
-use Rattle.iv_gate.specs.Gate.{Gate, came, entered, has_session, in_session, is_accepted, ran, reply_to, requests, said, tells, told_of, went, informs, entries_of, Head}
+use Rattle.iv_gate.specs.Gate.{Gate, came, entered, has_session, in_session, is_accepted, ran, reply_to, done_in, said, tells, told_of, went, informs, entries_of, Head}
 use Rattle.iv_gate.specs.Laws.{IsFront, SentIsKept}
 use Rattle.iv_gate.specs.Restoring.{Restores, gate_at_start}
 use Rattle.iv_gate.specs.Runs.{LeavesOnDisk, Runs, begins, goes_on, begins_again}
@@ -257,7 +257,7 @@ module _ (base : List Entry) where
       by true = more_held g (e ∷ []) (w, tt) (v, tt) b
       by false = more_held g [] tt tt b
 
-  requests_held : (g : Gate) (m : ℕ) (id : Option Data) (e : Entry) (n : ℕ) → IsEntry e → IsShort e → IsHeld base g → IsHeld base (requests g m id e n)
+  requests_held : (g : Gate) (m : ℕ) (id : Option Data) (e : Entry) (n : ℕ) → IsEntry e → IsShort e → IsHeld base g → IsHeld base (done_in g m id e n)
   requests_held g m id e n w v b =
       let k = in_session n e.act in let r = reply_to g k in let h = entered g e (is_accepted r) in
       informs_held (ran (tells h m (replied id r)) k) (entries_of e (is_accepted r)) (ran_held (tells h m (replied id r)) k (tells_held h m (replied id r) (entered_held g e (is_accepted r) w v b)))

@@ -21,7 +21,7 @@ use Rattle.iv_clients.specs.Journal.{Entry, IsEntry, is_shared, said_by, shape_f
 use Rattle.iv_clients.specs.Tokens.{Token}
 use Rattle.iv_clients.proofs.Slots.{at_same, one_some, some_is_none}
 use Rattle.iv_gate.specs.Events.{Event, presented, message, gone, known, ticked, synced, handed, failed, happens, next}
-use Rattle.iv_gate.specs.Gate.{Gate, acts, all_rested, all_swept, begun_for, closes, done_for, entered, has_session, hears, in_session, is_accepted, is_needed, joined, joined_by, joins, ran, reads, reads_first, reply_in, reply_to, requests, rested, token_for, said, seated, settles, shut, subscribes, swept, tells, went, with_session, informs, entries_of, at_text, shares, may_have, reply_told, replies_to}
+use Rattle.iv_gate.specs.Gate.{Gate, acts, all_rested, all_swept, begun_for, closes, done_for, entered, has_session, hears, in_session, is_accepted, is_needed, joined, joined_by, joins, ran, reads, reads_first, reply_in, reply_to, done_in, rested, token_for, said, seated, settles, shut, subscribes, swept, tells, went, with_session, informs, entries_of, at_text, shares, may_have, reply_told, replies_to}
 use Rattle.iv_gate.specs.Replies.{ActsAs}
 use Rattle.iv_gate.specs.Restoring.{Restores, all_replayed, gate_at_start, passed, replayed}
 use Rattle.iv_gate.proofs.Asking.{IsHeard, accepted_by, asker_of, feed_acts, seated_sound}
@@ -198,7 +198,7 @@ kept_replies : (g : Gate) (m : ℕ) (id : Option Data) (q : Request) (name : Opt
 kept_replies g m id q name r b = let h = entered g (entries_of q name r) in
     kept_tells h m (reply_told h id name r) (record { shared = record { sessions = b.shared.sessions; seated = b.shared.seated; fed = b.shared.fed }; few = b.few })
 
-kept_requests : (g : Gate) (m : ℕ) (id : Option Data) (q : Request) (name : Option Ask) (n : ℕ) → is_plain q.act ≡ true → IsSoundGate g → IsKept g → IsKept (requests g m id q name n)
+kept_requests : (g : Gate) (m : ℕ) (id : Option Data) (q : Request) (name : Option Ask) (n : ℕ) → is_plain q.act ≡ true → IsSoundGate g → IsKept g → IsKept (done_in g m id q name n)
 kept_requests g m id q name n p s b =
     let k = in_session n q.act in let r = reply_to g k in let i = replies_to g m id q name r in let x = kept_replies g m id q name r b in
     kept_informs (ran i k) (entries_of q name r) (record { shared = shared_plain i k p s.state.numbers x.shared; few = few_less _ g.feeds b.few })

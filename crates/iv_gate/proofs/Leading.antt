@@ -13,7 +13,7 @@ use Rattle.iv_clients.specs.Clients.{Shown, at_client, saying}
 use Rattle.iv_clients.specs.Journal.{Entry, IsEntry, entry_text, is_shared, journal_of, line_said}
 use Rattle.iv_clients.specs.Tokens.{Token}
 use Rattle.iv_gate.specs.Events.{Event, presented, message, gone, known, ticked, synced, handed, failed, happens, next}
-use Rattle.iv_gate.specs.Gate.{Gate, in_session, is_accepted, ran, reply_in, requests, Head}
+use Rattle.iv_gate.specs.Gate.{Gate, in_session, is_accepted, ran, reply_in, done_in, Head}
 use Rattle.iv_gate.specs.Laws.{CrashesAreSafe, LeadsBack, shared}
 use Rattle.iv_gate.specs.Replies.{ActsAs}
 use Rattle.iv_gate.specs.Restoring.{Restores, all_replayed, gate_at_start}
@@ -57,7 +57,7 @@ none_more cap es s t same l = record {
   quiet = l.quiet;
 }
 
-requests_led : (cap : ℕ) (g : Gate) (m : ℕ) (id : Option Data) (e : Entry) (n : ℕ) → ActsAs g.machine n e.role → is_shared e.act ≡ true → IsLed cap g → IsLed cap (requests g m id e n)
+requests_led : (cap : ℕ) (g : Gate) (m : ℕ) (id : Option Data) (e : Entry) (n : ℕ) → ActsAs g.machine n e.role → is_shared e.act ≡ true → IsLed cap g → IsLed cap (done_in g m id e n)
 requests_led cap g m id e n acts shared l = by (is_shared e.act) (is_accepted (reply_in (step g.machine (in_session n e.act)).lines)) shared refl
   where
     by : (x y : Bool) → x ≡ true → is_accepted (reply_in (step g.machine (in_session n e.act)).lines) ≡ y

@@ -13,7 +13,7 @@ use Rattle.iv_clients.specs.Journal.{Entry, Request, said_by, shape_for}
 use Rattle.iv_once.specs.Names.{Ask}
 use Rattle.iv_clients.specs.Tokens.{Token}
 use Rattle.iv_gate.specs.Arriving.{landed, newly}
-use Rattle.iv_gate.specs.Gate.{Gate, Head, all_rested, all_swept, done_for, entered, entries_of, hears, in_session, informs, ran, replies_to, reply_to, reply_told, requests, rested, settles, tells, told_of, went_on, with_session}
+use Rattle.iv_gate.specs.Gate.{Gate, Head, all_rested, all_swept, done_for, entered, entries_of, hears, in_session, informs, ran, replies_to, reply_to, reply_told, done_in, rested, settles, tells, told_of, went_on, with_session}
 use Rattle.iv_gate.proofs.Stepping.{Steps, request_of, step_all_rested, step_all_swept, step_done, step_rested, step_with}
 
 -- ---- what is looked at
@@ -161,7 +161,7 @@ pub sign_replies : (g : Gate) (m : ℕ) (id : Option Data) (q : Request) (name :
 sign_replies g m id q name r = let h = entered g (entries_of q name r) in sign_tells h m (reply_told h id name r)
 
 pub sign_requests : (g : Gate) (m : ℕ) (id : Option Data) (q : Request) (name : Option Ask) (n : ℕ)
-    → sign (requests g m id q name n) ≡ record (sign g) { entries = g.entries ++ entries_of q name (reply_to g (in_session n q.act)) }
+    → sign (done_in g m id q name n) ≡ record (sign g) { entries = g.entries ++ entries_of q name (reply_to g (in_session n q.act)) }
 sign_requests g m id q name n =
     let k = in_session n q.act in let r = reply_to g k in let h = replies_to g m id q name r in
     sign_informs (ran h k) (entries_of q name r) ∙ (sign_ran h k ∙ sign_replies g m id q name r)

@@ -15,7 +15,7 @@ use Rattle.iv_clients.specs.Feeds.{Feed, Seat, feed_for, feed_of, is_of_role, is
 use Rattle.iv_clients.specs.Journal.{Entry, Request, claim_said, is_shared, line_said, said_by}
 use Rattle.iv_clients.specs.Names.{Claim}
 use Rattle.iv_clients.specs.Tokens.{Token}
-use Rattle.iv_gate.specs.Gate.{Gate, acts, all_rested, all_swept, at_text, begun_for, came, closes, columns_in, done_for, entered, feed_begun, hears, in_session, is_needed, joined, joined_by, joins, may_have, next_own, ran, reads, reads_first, replies_to, reply_to, requests, rested, said, seated, settles, shares, shut, subscribes, swept, tells, token_for, went, with_session}
+use Rattle.iv_gate.specs.Gate.{Gate, acts, all_rested, all_swept, at_text, begun_for, came, closes, columns_in, done_for, entered, feed_begun, hears, in_session, is_needed, joined, joined_by, joins, may_have, next_own, ran, reads, reads_first, replies_to, reply_to, done_in, rested, said, seated, settles, shares, shut, subscribes, swept, tells, token_for, went, with_session}
 use Rattle.iv_gate.specs.Laws.{is_made}
 use Rattle.iv_gate.proofs.Choosing.{IsAside, refers, leaves, repeats, shares_so}
 use Rattle.iv_gate.proofs.Shaping.{test_of}
@@ -155,7 +155,7 @@ module _ (m : ℕ) (G : Gate → Gate → Type 0) (kit : Steps m G) where
             ap (λ es. tells (entered g es) m (replied id (refused r))) (nothing (is_shared q.act))
             ∙ ap (λ es. tells (record g { entries = es }) m (replied id (refused r))) (append-nil g.entries)
 
-    step_shares : (c : Client) (id : Option Data) (q : Request) (claim : Option Claim) → ((name : Option Ask) (n : ℕ) → seat_of g.seats q.role ≡ Some n → F (requests g m id q name n))
+    step_shares : (c : Client) (id : Option Data) (q : Request) (claim : Option Claim) → ((name : Option Ask) (n : ℕ) → seat_of g.seats q.role ≡ Some n → F (done_in g m id q name n))
         → ((b : Ask) (r : Refusal) → F (replies_to g m id q (Some b) (refused r))) → F (shares g m c id q claim)
     step_shares c id q claim f k = shares_so F g m id q (record {
       tells = λ t a. reach (tells g m t) (kit.tell g t (unmade t a));
@@ -169,7 +169,7 @@ module _ (m : ℕ) (G : Gate → Gate → Type 0) (kit : Steps m G) where
         unmade _ (repeats i at answer) = refl
 
     step_acts : (c : Client) (id : Option Data) (text : List ℕ) (act : Act)
-        → ((name : Option Ask) (n : ℕ) → is_shared act ≡ true → seat_of g.seats c.role ≡ Some n → F (requests g m id (request_of c text act) name n))
+        → ((name : Option Ask) (n : ℕ) → is_shared act ≡ true → seat_of g.seats c.role ≡ Some n → F (done_in g m id (request_of c text act) name n))
         → ((a : Ask) (r : Refusal) → is_shared act ≡ true → F (replies_to g m id (request_of c text act) (Some a) (refused r)))
         → F (acts g m c id text act)
     step_acts c id text (begin role) f k = reach (tells g m (fault 2)) (kit.tell g (fault 2) refl)
@@ -190,7 +190,7 @@ module _ (m : ℕ) (G : Gate → Gate → Type 0) (kit : Steps m G) where
 
     pub step_done : (c : Client) (text : List ℕ) (s : Message)
         → ((id : Option Data) (act : Act) (name : Option Ask) (n : ℕ) → s ≡ request id act → is_shared act ≡ true → seat_of g.seats c.role ≡ Some n
-        → F (requests g m id (request_of c text act) name n))
+        → F (done_in g m id (request_of c text act) name n))
         → ((id : Option Data) (act : Act) (a : Ask) (r : Refusal) → s ≡ request id act → is_shared act ≡ true → F (replies_to g m id (request_of c text act) (Some a) (refused r)))
         → F (done_for g m c text s)
     step_done c text no_json f k = reach (tells g m (fault 1)) (kit.tell g (fault 1) refl)
@@ -213,7 +213,7 @@ pub record MessageKeeps (P : Gate → Type 0) (g : Gate) (m : ℕ) (c : Client) 
   pub answers : (h : Gate) → P h → P (record h { clients = at_client m (clients.answered c) h.clients })
   pub asks : (id : Option Data) (act : Act) (name : Option Ask) (n : ℕ) → said_by text ≡ request id act → is_shared act ≡ true → seat_of g.seats c.role ≡ Some n
       → P (record g { clients = at_client m (saying text) g.clients })
-      → P (requests (record g { clients = at_client m (saying text) g.clients }) m id (request_of c text act) name n)
+      → P (done_in (record g { clients = at_client m (saying text) g.clients }) m id (request_of c text act) name n)
   pub refuses : (id : Option Data) (act : Act) (a : Ask) (r : Refusal) → said_by text ≡ request id act → is_shared act ≡ true
       → P (record g { clients = at_client m (saying text) g.clients })
       → P (replies_to (record g { clients = at_client m (saying text) g.clients }) m id (request_of c text act) (Some a) (refused r))

@@ -258,8 +258,8 @@ abbrev pub replies_to : Gate → ℕ → Option Data → Request → Option Ask 
 replies_to g m id q name r = let h = entered g (entries_of q name r) in tells h m (reply_told h id name r)
 
 -- client m is told the reply, then everybody what changed, and then administrators the request, if it makes the shape
-abbrev pub requests : Gate → ℕ → Option Data → Request → Option Ask → ℕ → Gate
-requests g m id q name n = let k = in_session n q.act in let r = reply_to g k in
+abbrev pub done_in : Gate → ℕ → Option Data → Request → Option Ask → ℕ → Gate
+done_in g m id q name n = let k = in_session n q.act in let r = reply_to g k in
     informs (ran (replies_to g m id q name r) k) (entries_of q name r)
 
 -- ---- messages
@@ -278,7 +278,7 @@ has_shape_room g act = not (is_shape act && nat_lt most_shape (length (shape_tex
 
 -- a request that changes what is shared is done in a session of its client's role
 abbrev pub carries : Gate → ℕ → Option Data → Request → Option Ask → Gate
-carries g m id q name = if has_shape_room g q.act then if_some (seat_of g.seats q.role) (replies_to g m id q name (refused no_session)) (requests g m id q name)
+carries g m id q name = if has_shape_room g q.act then if_some (seat_of g.seats q.role) (replies_to g m id q name (refused no_session)) (done_in g m id q name)
     else replies_to g m id q name (refused limit)
 
 -- what a client asks by a name
