@@ -73,8 +73,8 @@ newly before behind role = filter (λ rel. has_some behind role rel && not (has_
 
 -- it is carried out whole: each client is told once what differs, also of what it may read from now on and of the shape, and that this is all
 abbrev pub landed : Gate → Entry → Outcome → Gate
-landed g e o =
-    settles (informs (went_on (entered g (e ∷ [])) o (λ c. own_lines g.feeds o.lines c.subs ++ map granted (newly g.machine.frame o.state.frame c.role))) (e ∷ []))
+landed g e o = settles (informs (went_on (entered g (e ∷ [])) o
+    (λ c. own_lines g.feeds o.lines c.subs ++ map granted (newly g.machine.frame o.state.frame c.role))) (e ∷ []))
 
 -- a step is taken, or was taken before and changes nothing, or the gateway is dead
 abbrev pub takes : Gate → Step → Gate

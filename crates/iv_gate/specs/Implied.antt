@@ -1,5 +1,5 @@
 -- What the laws imply, in other words; nobody has to believe it beside them.
-use Rattle.std.specs.Prelude.{◌≡◌, ◌≢◌, ◌⊎◌, ◌≤◌, ◌<◌, ◌+◌, ℕ, not, true, List, Contains, filter, length, nat_lt, Some, is_some, ℤ}
+use Rattle.std.specs.Prelude.{◌≡◌, ◌≢◌, ◌⊎◌, ◌≤◌, ◌<◌, ◌+◌, ◌||◌, ℕ, not, true, List, Contains, filter, length, nat_lt, Some, is_some, ℤ}
 use Rattle.std.specs.List.{AllByRecursion, list_any}
 use Rattle.iv_rows.specs.Cell.{Cell}
 use Rattle.iv_access.specs.Rights.{Name}
@@ -14,7 +14,7 @@ use Rattle.iv_once.specs.Names.{Ask, own_of}
 use Rattle.iv_gate.specs.Arriving.{Step, position, settled_at}
 use Rattle.iv_gate.specs.Events.{Event, arrived, next}
 use Rattle.iv_gate.specs.Gate.{Gate, has_some, most_shape, shape_text}
-use Rattle.iv_gate.specs.Laws.{is_made}
+use Rattle.iv_gate.specs.Laws.{is_made, is_word}
 use Rattle.iv_gate.specs.Replies.{ByClient, count_of, told_by}
 use Rattle.iv_gate.specs.Restoring.{Restores, gate_at_start}
 use Rattle.iv_gate.specs.Runs.{LeavesOnDisk}
@@ -42,7 +42,8 @@ GrantsAreTrue g e = ByClient g e (λ m c d. (rel : Name) → Contains (told_by c
 
 -- where the shape's text is beyond its bound, no client's message adds anything to it
 abbrev pub ShapeIsBounded : Gate → Event → Type 0
-ShapeIsBounded g e = ((s : Step) → e ≡ arrived s → ⊥) → nat_lt most_shape (length (shape_text g.entries)) ≡ true → shape_text (next g e).entries ≡ shape_text g.entries
+ShapeIsBounded g e = ((s : Step) → e ≡ arrived s → ⊥)
+    → nat_lt most_shape (length (shape_text g.entries)) ≡ true → shape_text (next g e).entries ≡ shape_text g.entries
 
 -- the machine reads what clients follow, and nothing else
 pub record ReadsForClients (g : Gate) : Type 0 where
@@ -61,18 +62,19 @@ PositionsLast cap g = (disk : List Line) (tokens : List Token) (most : ℕ) (h :
     → Restores (gate_at_start cap tokens most g.head g.sent) disk h → (settled_at g ≤ settled_at h) × (settled_at h ≤ position g)
 
 -- of a step each client is told what its two states say: another step that leads to the same state tells it the same, but for the requests
--- that make the shape
+-- that make the shape, and that this is all
 abbrev pub TellsNoneBetween : Gate → Type 0
-TellsNoneBetween g = (s t : Step) → (next g (arrived s)).machine ≡ (next g (arrived t)).machine → (m : ℕ) (c d e : Client) → client_at g.clients m ≡ Some c
+TellsNoneBetween g = (s t : Step) → (next g (arrived s)).machine ≡ (next g (arrived t)).machine → (m : ℕ) (c d e : Client)
+    → client_at g.clients m ≡ Some c
     → client_at (next g (arrived s)).clients m ≡ Some d → client_at (next g (arrived t)).clients m ≡ Some e
-    → filter (λ x. not (is_made x)) (told_by c d) ≡ filter (λ x. not (is_made x)) (told_by c e)
+    → filter (λ x. not (is_made x || is_word x)) (told_by c d) ≡ filter (λ x. not (is_made x || is_word x)) (told_by c e)
 
 -- ---- names
 
 -- all entries of the holder that were behind the place and may have borne a name are forgotten, or the place is of another epoch: what was
 -- told 102 or 103 is told it for ever
-abbrev pub IsOver : Gate → Ask → Type 0
-IsOver g a = (a.at.count + limits.names < count_of g a.holder) ⊎ (a.at.epoch ≢ (own_of g.head.names a.holder).epoch)
+abbrev pub IsPast : Gate → Ask → Type 0
+IsPast g a = (a.at.count + limits.names < count_of g a.holder) ⊎ (a.at.epoch ≢ (own_of g.head.names a.holder).epoch)
 
-abbrev pub StaysOver : Gate → Event → Type 0
-StaysOver g e = (a : Ask) → IsOver g a → IsOver (next g e) a
+abbrev pub StaysPast : Gate → Event → Type 0
+StaysPast g e = (a : Ask) → IsPast g a → IsPast (next g e) a

@@ -115,7 +115,8 @@ ShapeIsTold g = (m : ℕ) (c : Client) → IsClient g m c → filter is_made (to
 -- and who goes through it in order has the shape: the entries that make it lead a machine with nothing, without the others, to the same
 -- roles, memberships, rights, relations and policies
 abbrev pub MakesShape : (cap : ℕ) → Gate → Type 0
-MakesShape cap g = option_map (λ s. s.frame) (all_carried (map fact_of (filter (λ q. is_shape q.act) (requests_in g.entries))) (start cap)) ≡ Some (shared g.machine).frame
+MakesShape cap g = option_map (λ s. s.frame)
+    (all_carried (map fact_of (filter (λ q. is_shape q.act) (requests_in g.entries))) (start cap)) ≡ Some (shared g.machine).frame
 
 -- ---- words
 

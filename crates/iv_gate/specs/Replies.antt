@@ -119,7 +119,8 @@ place_behind g holder more = place_text (record { epoch = (own_of g.head.names h
 
 -- the reply to a request with a name, and what it adds to the journal: it is done now; or it was, and its answer is told again; or it is undecided
 pub data IsNamedReply (g : Gate) (c : Client) (id : Option Data) (q : Request) (a : Ask) : Told → List Entry → Type 0 where
-  is_done : (r : Reply) → g.head.log ≡ None → IsSharedReply g c q.act r → IsNamedReply g c id q a (answered id false (place_behind g a.holder 1) (answer_text r)) (entries_of q (Some a) r)
+  is_done : (r : Reply) → g.head.log ≡ None → IsSharedReply g c q.act r
+      → IsNamedReply g c id q a (answered id false (place_behind g a.holder 1) (answer_text r)) (entries_of q (Some a) r)
   is_repeated : (answer : List ℕ) → IsAnswer g.entries a answer → IsNamedReply g c id q a (answered id true (place_behind g a.holder 0) answer) []
   is_left : (number : ℕ) → IsUndecided g a number → IsNamedReply g c id q a (undecided id number) []
 

@@ -15,7 +15,8 @@ LeavesOnDisk g lines = (n : ℕ) × (g.kept ≤ n) × (lines ≡ journal_of (tak
 -- a gateway begins from a journal; anything happens; it crashes or is let go, and begins again from what is on disk, maybe with other
 -- tokens and numbers
 pub data Runs (cap : ℕ) : Gate → Type 0 where
-  begins : (tokens : List Token) (most : ℕ) (head : Head) (journal : List Line) (g : Gate) → Restores (gate_at_start cap tokens most head []) journal g → Runs cap g
+  begins : (tokens : List Token) (most : ℕ) (head : Head) (journal : List Line) (g : Gate)
+      → Restores (gate_at_start cap tokens most head []) journal g → Runs cap g
   goes_on : (g : Gate) (e : Event) → IsWell e → Runs cap g → Runs cap (next g e)
   begins_again : (g : Gate) (disk : List Line) (tokens : List Token) (most : ℕ) (h : Gate) → Runs cap g → LeavesOnDisk g disk
       → Restores (gate_at_start cap tokens most g.head g.sent) disk h → Runs cap h

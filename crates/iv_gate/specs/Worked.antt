@@ -84,11 +84,11 @@ abbrev pub reads_notes : Gate
 reads_notes = reads_of notes []
 
 -- what she is told more
-abbrev pub told_by : Gate → List Told
-told_by g = if_some (client_at g.clients 0) [] told
+abbrev pub all_told : Gate → List Told
+all_told g = if_some (client_at g.clients 0) [] told
 
 abbrev pub told_more : Gate → Gate → List Told
-told_more g h = drop (length (told_by g)) (told_by h)
+told_more g h = drop (length (all_told g)) (all_told h)
 
 -- ---- steps
 
