@@ -45,20 +45,8 @@ greeting es role at = welcome role ∷ placed at ∷ (shape_for role es ++ settl
 
 -- a client that was told nothing
 abbrev pub untold : Token → Client
-untold t = record {
-  role = t.role;
-  user = t.user;
-  digest = t.digest;
-  given = 0;
-  subs = [];
-  unsynced = [];
-  sendable = [];
-  asked = 0;
-  owed = false;
-  dropped = false;
-  messages = [];
-  handed = [];
-}
+untold t =
+    record { role = t.role; user = t.user; digest = t.digest; given = 0; subs = []; unsynced = []; sendable = []; asked = 0; owed = false; dropped = false; messages = []; handed = [] }
 
 -- a client that comes in, when these entries are accepted: it is told its greeting, which comes of its own token
 abbrev pub fresh : List Entry → Token → (at : List ℕ) → Client
