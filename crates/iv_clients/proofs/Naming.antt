@@ -10,7 +10,7 @@ use Rattle.hex.specs.declared.error.FromHexError.{FromHexError}
 use Rattle.hex.specs.declared.error.FromHexError.TheVariants.{OutOfMemory}
 use Rattle.std.specs.Prelude.{Result, Err}
 use Rattle.iv_clients.specs.Tokens.{decoded, role_in}
-use Rattle.iv_clients.specs.Parsed.{entry_in, entry_parts, named_entry}
+use Rattle.iv_clients.specs.Parsed.{request_in, request_parts, named_request}
 
 and_both : (b c : Bool) → (b && c) ≡ true → (b ≡ true) × (c ≡ true)
 and_both true c h = (refl, h)
@@ -30,12 +30,12 @@ all_ascii (b ∷ bs) h = λ i. at i (and_both (is_further b) (list_all is_furthe
 pub name_is_utf8 : (bs : List ℕ) → is_name bs ≡ true → IsUtf8 bs
 name_is_utf8 bs h = IsUtf8-from_ascii bs (all_ascii bs (and_both _ _ (and_both _ _ h).1).0)
 
-pub unnamed : (line : List ℕ) (p : List ℕ × List ℕ) → entry_parts line ≡ Some p → ¬ (IsUtf8 p.0) → None ≡ entry_in line
+pub unnamed : (line : List ℕ) (p : List ℕ × List ℕ) → request_parts line ≡ Some p → ¬ (IsUtf8 p.0) → None ≡ request_in line
 unnamed line p e h = by (is_name p.0) refl
   where
-    by : (b : Bool) → is_name p.0 ≡ b → None ≡ entry_in line
+    by : (b : Bool) → is_name p.0 ≡ b → None ≡ request_in line
     by true k = absurd (h (name_is_utf8 p.0 k))
-    by false k = sym (ap (option_and_then named_entry) e ∙ ap (λ b. cond b (Some (p.0, 123 ∷ p.1)) None) k)
+    by false k = sym (ap (option_and_then named_request) e ∙ ap (λ b. cond b (Some (p.0, 123 ∷ p.1)) None) k)
 
 pub no_role : (role : List ℕ) → ¬ (IsUtf8 role) → None ≡ role_in role
 no_role role h = by (is_name role) refl

@@ -4,6 +4,7 @@
 mod clients;
 mod feeds;
 mod journal;
+mod names;
 mod said;
 mod tokens;
 
@@ -12,6 +13,7 @@ pub use feeds::{
     Feed, Seat, drop_ended, drop_feed, drop_seat, ends_in, feed_for, feed_of, has_feed, load,
     next_seat, rel_read, room_for, seat_of,
 };
-pub use journal::{behind, cut_at, entry_in, is_shape, is_shared, push_entry};
-pub use said::read_said;
-pub use tokens::{Token, TokensFault, read_tokens, role_opened};
+pub use journal::{behind, cut_at, is_shape, is_shared, push_request, request_in};
+pub use names::Claim;
+pub use said::{Said, read_said};
+pub use tokens::{Token, TokensFault, read_tokens, role_opened, token_of};

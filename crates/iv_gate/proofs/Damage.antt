@@ -292,7 +292,7 @@ either_way g journal = by (leads_to (length journal) g.machine journal (let n : 
 restored_once : (g : Gate) (journal : List ℕ) (h i : Gate) → Restores g journal h → Restores g journal i → h ≡ i
 restored_once g journal h i x y =
     let e = same_led g.machine x.state y.state journal h.entries i.entries x.torn y.torn x.leads y.leads (inl (torn_is_one x.torn x.cut)) (inl (torn_is_one y.torn y.cut)) in
-    x.gate ∙ ((λ k. record g { machine = e.state k; entries = e.entries k; kept = length (e.entries k) }) ∙ sym y.gate)
+    x.leads.gate ∙ ((λ k. record g { machine = e.state k; entries = e.entries k; kept = length (e.entries k) }) ∙ sym y.gate)
 
 damaged_once : (g : Gate) (journal : List ℕ) (p q : ℕ) → IsDamagedAt g journal p → IsDamagedAt g journal q → p ≡ q
 damaged_once g journal p q x y =

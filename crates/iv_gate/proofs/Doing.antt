@@ -17,7 +17,7 @@ use Rattle.iv_clients.specs.Bounds.{most_subs}
 use Rattle.iv_clients.specs.Clients.{Client, Slots, Sub, at_client, closing, followed_by, is_followed, moved, moved_sub, told, told_one}
 use Rattle.iv_clients.specs.Feeds.{Feed, feed_for, feed_of, is_reading, room_for, seat_of}
 use Rattle.iv_clients.specs.Journal.{Entry, is_shared, line_said, said_by}
-use Rattle.iv_gate.specs.Gate.{Gate, acts, begun_for, closes, done_for, feed_begun, in_session, joined, joined_by, joins, ran, reads, reads_first, reply_to, requests, seated, shut, subscribes, swept, tells, has_shape_room}
+use Rattle.iv_gate.specs.Gate.{Gate, acts, begun_for, closes, done_for, feed_begun, in_session, joined, joined_by, joins, ran, reads, reads_first, reply_to, done_in, seated, shut, subscribes, swept, tells, has_shape_room}
 use Rattle.iv_gate.proofs.Calm.{ran_alone, seated_still, shut_clients, shut_last, swept_clients, swept_last}
 use Rattle.iv_gate.proofs.Joining.{any_moved}
 use Rattle.iv_gate.proofs.Opening.{reply_of_none, reply_of_some}
@@ -94,7 +94,7 @@ IsSaid act = (text : List ℕ) × (id : Option Data) × (said_by text ≡ reques
 
 pub data IsDone (g : Gate) (m : ℕ) (c : Client) (h : Gate) : Type 0 where
   answers : HasAnswered g m h → IsDone g m c h
-  asks : (id : Option Data) (e : Entry) (n : ℕ) → is_shared e.act ≡ true → IsSaid e.act → h ≡ requests g m id e n → IsDone g m c h
+  asks : (id : Option Data) (e : Entry) (n : ℕ) → is_shared e.act ≡ true → IsSaid e.act → h ≡ done_in g m id e n → IsDone g m c h
   opens : HasRead g m c h → IsDone g m c h
 
 at_same_all : (m : ℕ) (slots : Slots) → at_client m (λ c. c) slots ≡ slots
@@ -278,7 +278,7 @@ module _ (sounds : Sounds) (g : Gate) (m : ℕ) (c : Client) where
       })
 
   other_done : (id : Option Data) (text : List ℕ) (act : Act) (o : Option ℕ) → is_shared act ≡ true → IsSaid act
-      → IsDone g m c (if_some o (tells g m (replied id (refused no_session))) (requests g m id (record { role = c.role; line = line_said text; act = act })))
+      → IsDone g m c (if_some o (tells g m (replied id (refused no_session))) (done_in g m id (record { role = c.role; line = line_said text; act = act })))
   other_done id text act None h said = telling_done g m c (replied id (refused no_session)) refl refl refl
   other_done id text act (Some n) h said = asks id (record { role = c.role; line = line_said text; act = act }) n h said refl
 

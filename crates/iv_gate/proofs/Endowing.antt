@@ -21,8 +21,9 @@ use Rattle.iv_clients.specs.Feeds.{Feed, Seat, is_of_role, rel_read, seat_of, wi
 use Rattle.iv_clients.specs.Journal.{Entry, said_by}
 use Rattle.iv_clients.specs.Tokens.{Token}
 use Rattle.iv_clients.proofs.Slots.{one_some}
+use Rattle.iv_journal.specs.Journal as journals
 use Rattle.iv_gate.specs.Events.{Event, presented, message, gone, known, ticked, synced, handed, failed, happens, next}
-use Rattle.iv_gate.specs.Gate.{Gate, all_rested, all_swept, granted_by, has_some, hears, in_session, is_accepted, is_needed, ran, reply_in, rested, role_for, settles, told_of}
+use Rattle.iv_gate.specs.Gate.{Gate, all_rested, all_swept, granted_by, has_some, hears, in_session, is_accepted, is_needed, ran, reply_in, rested, token_for, settles, told_of, Head}
 use Rattle.iv_gate.specs.Replies.{IsClient, told_by}
 use Rattle.iv_gate.specs.Restoring.{Restores, all_replayed, gate_at_start, passed, replayed}
 use Rattle.iv_gate.specs.Runs.{Runs, begins, goes_on, begins_again}
@@ -59,11 +60,11 @@ all_rested_admin sounds g [] h = h
 all_rested_admin sounds g (s ∷ ss) h = all_rested_admin sounds (rested g s) ss (rested_admin sounds g s h)
 
 happens_admin : Sounds → (g : Gate) (e : Event) → HasAdmin g.machine → HasAdmin (happens g e).machine
-happens_admin sounds g (presented m token) h = by (role_for g m token)
+happens_admin sounds g (presented m token) h = by (token_for g m token)
   where
-    by : (o : Option Name) → HasAdmin (if_some o g (came_as g m token)).machine
+    by : (o : Option Token) → HasAdmin (if_some o g (came_as g m)).machine
     by None = h
-    by (Some role) = at_with (λ s seats. HasAdmin s) (admin_kit sounds) g role h
+    by (Some t) = at_with (λ s seats. HasAdmin s) (admin_kit sounds) g t.role h
 happens_admin sounds g (message m text) h = by (client_at g.clients m)
   where
     heard : (b : Client) (d : Bool) → HasAdmin (cond d (hears g m b text) g).machine
@@ -112,13 +113,13 @@ replays_admin : Sounds → (s t : State) (es : List Entry) → HasAdmin s → al
 replays_admin sounds s t [] b h = subst HasAdmin (one_some s t h) b
 replays_admin sounds s t (e ∷ es) b h = bound (replayed s e) (λ u. all_replayed u es) t (HasAdmin t) h (λ u i k. replays_admin sounds u t es (replayed_admin sounds s u e b i) k)
 
-restored_admin : Sounds → (cap : ℕ) (tokens : List Token) (most : ℕ) (sent : List Shown) (journal : List ℕ) (g : Gate) → Restores (gate_at_start cap tokens most sent) journal g → HasAdmin g.machine
-restored_admin sounds cap tokens most sent journal g r = subst (λ (x : Gate). HasAdmin x.machine) (sym r.gate) (replays_admin sounds (start cap) r.state g.entries refl r.leads.accepted)
+restored_admin : Sounds → (cap : ℕ) (tokens : List Token) (most : ℕ) (head : Head) (sent : List Shown) (journal : List journals.Line) (g : Gate) → Restores (gate_at_start cap tokens most head sent) journal g → HasAdmin g.machine
+restored_admin sounds cap tokens most head sent journal g r = subst (λ (x : Gate). HasAdmin x.machine) (sym r.leads.gate) (replays_admin sounds (start cap) r.state g.entries refl r.leads.accepted)
 
 runs_admin : Sounds → (cap : ℕ) (g : Gate) → Runs cap g → HasAdmin g.machine
-runs_admin sounds cap _ (begins tokens most journal g r) = restored_admin sounds cap tokens most [] journal g r
-runs_admin sounds cap _ (goes_on h e r) = next_admin sounds h e (runs_admin sounds cap h r)
-runs_admin sounds cap _ (begins_again h disk tokens most i r l x) = restored_admin sounds cap tokens most h.sent disk i x
+runs_admin sounds cap _ (begins tokens most head journal g r) = restored_admin sounds cap tokens most head [] journal g r
+runs_admin sounds cap _ (goes_on h e w r) = next_admin sounds h e (runs_admin sounds cap h r)
+runs_admin sounds cap _ (begins_again h disk tokens most i r l x) = restored_admin sounds cap tokens most h.head h.sent disk i x
 
 -- ---- what is told
 

@@ -13,7 +13,7 @@ use Rattle.iv_clients.specs.Feeds.{seat_of}
 use Rattle.iv_clients.specs.Tokens.{role_opened}
 use Rattle.iv_clients.proofs.Slots.{one_some, some_is_none}
 use Rattle.iv_gate.specs.Events.{Event, presented, message, known, handed, next}
-use Rattle.iv_gate.specs.Gate.{Gate, begun_for, has_session, role_for}
+use Rattle.iv_gate.specs.Gate.{Gate, begun_for, has_session, token_for}
 use Rattle.iv_gate.specs.Replies.{IsClient}
 use Rattle.iv_gate.specs.Runs.{Runs, begins, goes_on, begins_again}
 use Rattle.iv_gate.specs.Touched.{ActsByToken, LetsIn, drops}
@@ -86,9 +86,9 @@ next_opened g e s = by g.dead refl
     by false t = live_opened g e t s
 
 runs_opened : (cap : ℕ) (g : Gate) → Runs cap g → AreOpened g
-runs_opened cap _ (begins tokens most journal g r) = λ m c h live. absurd (restored_empty cap tokens most [] journal g r m c h)
-runs_opened cap _ (goes_on h e r) = next_opened h e (runs_opened cap h r)
-runs_opened cap _ (begins_again h disk tokens most i r l x) = λ m c y live. absurd (restored_empty cap tokens most h.sent disk i x m c y)
+runs_opened cap _ (begins tokens most head journal g r) = λ m c h live. absurd (restored_empty cap tokens most head [] journal g r m c h)
+runs_opened cap _ (goes_on h e w r) = next_opened h e (runs_opened cap h r)
+runs_opened cap _ (begins_again h disk tokens most i r l x) = λ m c y live. absurd (restored_empty cap tokens most h.head h.sent disk i x m c y)
 
 pub acts_by_token : Adds → Starts → Sounds → (cap : ℕ) (g : Gate) (m : ℕ) (c : Client) → Runs cap g → IsClient g m c → ActsByToken g c
 acts_by_token adds starts sounds cap g m c r x =
@@ -122,9 +122,9 @@ lets_in : (g : Gate) → g.dead ≡ false → IsSoundGate g → IsKept g → (m 
     → is_some (client_at (next g (presented m token)).clients m) ≡ true
 lets_in g live b k m token role a =
     let session = may_have g m token role b k a in
-    let opens_it : role_for g m token ≡ Some role =
-    ap (option_and_then (λ r. cond (is_name r && (is_free m g.clients && has_session g r)) (Some r) None)) a.opened
-    ∙ (λ i. cond (a.name i && (a.free i && session i)) (Some role) None) in
+    let t = a.token in let opens_it : token_for g m token ≡ Some t =
+    ap (option_and_then (λ (r : Token). cond (is_name r.role && (is_free m g.clients && has_session g r.role)) (Some r) None)) a.opened
+    ∙ (λ i. cond (a.name i && (a.free i && session i)) (Some t) None) in
     ap (λ (x : Gate). is_some (client_at x.clients m)) (alive g (presented m token) live)
     ∙ (ap (λ o. is_some (client_at (if_some o g (came_as g m token)).clients m)) opens_it ∙ ap is_some (came_is g m token role a.free))
 

@@ -4,7 +4,6 @@ use Rattle.std.specs.Prelude.{◌==◌, ◌&&◌, filter, flat_map}
 use Rattle.std.specs.List.{list_any, AllByRecursion}
 use Rattle.std.proofs.lemmas.Bool.{false≢true, eqb-true, eqb-false}
 use Rattle.std.proofs.lemmas.List.Concat.{flat_map-append}
-use Rattle.sha2.specs.Sha256.{sha256}
 use Rattle.iv_rows.specs.Options.{if_some}
 use Rattle.iv_access.specs.Rights.{Name}
 use Rattle.iv_machine.specs.Act.{begin, Command, Line, reply, change, ended}
@@ -16,7 +15,7 @@ use Rattle.iv_clients.specs.Journal.{Entry, said_by}
 use Rattle.iv_clients.specs.Tokens.{Token}
 use Rattle.iv_clients.proofs.Slots.{at_every, at_other, at_same, not_free, one_some, set_other, some_is_none}
 use Rattle.iv_gate.specs.Events.{Event, presented, message, gone, known, ticked, synced, handed, failed, happens}
-use Rattle.iv_gate.specs.Gate.{Gate, all_rested, all_swept, done_for, hears, in_session, role_for, said, seated, settles, told_of, went, with_session}
+use Rattle.iv_gate.specs.Gate.{Gate, all_rested, all_swept, done_for, hears, in_session, token_for, said, seated, settles, told_of, went, with_session, at_text}
 use Rattle.iv_gate.specs.Replies.{heard_by, is_reply, replies}
 use Rattle.iv_gate.specs.Seen.{is_end_of}
 use Rattle.iv_gate.proofs.Growing.{assoc}
@@ -24,7 +23,7 @@ use Rattle.iv_gate.proofs.Joining.{any_moved}
 use Rattle.iv_gate.proofs.Places.{any_before, any_behind, none_replied, or_true, told_replies}
 use Rattle.iv_gate.proofs.Sound.{Seer, any_left, seer, seer_one, seer_telling}
 use Rattle.iv_gate.proofs.Summing.{is_back, neither}
-use Rattle.iv_gate.proofs.Touching.{came_as, leaves_at, opens_role}
+use Rattle.iv_gate.proofs.Touching.{came_as, leaves_at, opens_token}
 use Rattle.iv_gate.proofs.Walking.{Kit, Later, to_all_rested, to_all_swept, to_done, to_settles, to_then, to_with}
 
 -- ---- numbers of a client
@@ -230,17 +229,17 @@ same_client slots j c d h k = subst (Hears c) (one_some c d (sym h ∙ k)) (hear
 apart_of : (m : ℕ) (slots : Slots) (j : ℕ) (c d : Client) → (m ≡ j → ⊥) → Later (Apart m) slots j c → client_at slots j ≡ Some d → Hears c d
 apart_of m slots j c d n p h = subst (Hears c) (one_some p.now d (sym p.there ∙ h)) (p.so n)
 
-came_apart : (g : Gate) (m : ℕ) (token : List ℕ) (j : ℕ) (c d : Client) (o : Option Name) → role_for g m token ≡ o → client_at g.clients j ≡ Some c
-    → client_at (if_some o g (came_as g m token)).clients j ≡ Some d → Hears c d
+came_apart : (g : Gate) (m : ℕ) (token : List ℕ) (j : ℕ) (c d : Client) (o : Option Token) → token_for g m token ≡ o → client_at g.clients j ≡ Some c
+    → client_at (if_some o g (came_as g m)).clients j ≡ Some d → Hears c d
 came_apart g m token j c d None e h k = same_client g.clients j c d h k
-came_apart g m token j c d (Some role) e h k =
-    let i = with_session g role in
-    let p = to_with m (Apart m) (apart m) g role j c h in
-    let there : client_at (came_as g m token role).clients j ≡ Some p.now = set_other m j (Some (fresh i.entries role (sha256 token))) i.clients ne ∙ p.there in
+came_apart g m token j c d (Some t) e h k =
+    let i = with_session g t.role in
+    let p = to_with m (Apart m) (apart m) g t.role j c h in
+    let there : client_at (came_as g m t).clients j ≡ Some p.now = set_other m j (Some (fresh i.entries t (at_text i t))) i.clients ne ∙ p.there in
     subst (Hears c) (one_some p.now d (sym there ∙ k)) (p.so ne)
   where
     ne : m ≡ j → ⊥
-    ne same = false≢true (sym (not_free m c g.clients (ap (client_at g.clients) same ∙ h)) ∙ (opens_role g m token role e).free)
+    ne same = false≢true (sym (not_free m c g.clients (ap (client_at g.clients) same ∙ h)) ∙ (opens_token g m token t e).free)
 
 heard_apart : (g : Gate) (m : ℕ) (text : List ℕ) (j : ℕ) (c d b : Client) → (m ≡ j → ⊥) → client_at g.clients j ≡ Some c → client_at (hears g m b text).clients j ≡ Some d → Hears c d
 heard_apart g m text j c d b ne h k =
@@ -327,7 +326,7 @@ handed_apart g m j c d h k = by (m == j) refl
 
 -- by whatever is no message of its own that is heard
 pub happens_apart : (g : Gate) (e : Event) (j : ℕ) (c d : Client) → client_at g.clients j ≡ Some c → client_at (happens g e).clients j ≡ Some d → d.dropped ≡ false → heard_by j c e ≡ None → Hears c d
-happens_apart g (presented m token) j c d h k s u = came_apart g m token j c d (role_for g m token) refl h k
+happens_apart g (presented m token) j c d h k s u = came_apart g m token j c d (token_for g m token) refl h k
 happens_apart g (message m text) j c d h k s u = said_apart g m text j c d u h k
 happens_apart g (gone m) j c d h k s u = by (m == j) refl
   where

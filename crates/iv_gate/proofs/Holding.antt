@@ -18,7 +18,7 @@ use Rattle.iv_clients.specs.Journal.{Entry, IsEntry, is_shared, journal_of, line
 use Rattle.iv_clients.specs.Tokens.{Token, role_opened}
 use Rattle.iv_clients.proofs.Slots.{at_every, at_other, at_same, nobody, one_some, set_other, some_is_none}
 use Rattle.iv_gate.specs.Events.{Event, presented, message, gone, known, ticked, synced, handed, failed, happens, hands, knowing, next, on_disk, ticking}
-use Rattle.iv_gate.specs.Gate.{Gate, came, entered, has_session, in_session, is_accepted, ran, reply_to, requests, role_for, said, tells, told_of, went, informs, entries_of}
+use Rattle.iv_gate.specs.Gate.{Gate, came, entered, has_session, in_session, is_accepted, ran, reply_to, done_in, said, tells, told_of, went, informs, entries_of, Head}
 use Rattle.iv_gate.specs.Laws.{IsFront, SentIsKept}
 use Rattle.iv_gate.specs.Restoring.{Restores, gate_at_start}
 use Rattle.iv_gate.specs.Runs.{LeavesOnDisk, Runs, begins, goes_on, begins_again}
@@ -29,6 +29,7 @@ use Rattle.iv_gate.proofs.Rereading.{front_of_bytes, torn_is_one}
 use Rattle.iv_gate.proofs.Running.{all_so}
 use Rattle.iv_gate.proofs.Stepping.{Keeps, Steps, came_keeps, said_keeps, went_keeps}
 use Rattle.iv_gate.proofs.Shaping.{told_itself}
+use Rattle.iv_journal.specs.Journal.{Line}
 
 -- ---- fronts
 
@@ -256,7 +257,7 @@ module _ (base : List Entry) where
       by true = more_held g (e ∷ []) (w, tt) (v, tt) b
       by false = more_held g [] tt tt b
 
-  requests_held : (g : Gate) (m : ℕ) (id : Option Data) (e : Entry) (n : ℕ) → IsEntry e → IsShort e → IsHeld base g → IsHeld base (requests g m id e n)
+  requests_held : (g : Gate) (m : ℕ) (id : Option Data) (e : Entry) (n : ℕ) → IsEntry e → IsShort e → IsHeld base g → IsHeld base (done_in g m id e n)
   requests_held g m id e n w v b =
       let k = in_session n e.act in let r = reply_to g k in let h = entered g e (is_accepted r) in
       informs_held (ran (tells h m (replied id r)) k) (entries_of e (is_accepted r)) (ran_held (tells h m (replied id r)) k (tells_held h m (replied id r) (entered_held g e (is_accepted r) w v b)))
@@ -392,9 +393,9 @@ next_held g e b = by g.dead
 
 -- ---- runs
 
-restored_held : (cap : ℕ) (tokens : List Token) (most : ℕ) (sent : List Shown) (journal : List ℕ) (h : Gate) → Restores (gate_at_start cap tokens most sent) journal h
+restored_held : (cap : ℕ) (tokens : List Token) (most : ℕ) (head : Head) (sent : List Shown) (journal : List Line) (h : Gate) → Restores (gate_at_start cap tokens most head sent) journal h
     → AllByRecursion (λ (s : Shown). IsFront s.entries h.entries) sent → IsHeld [] h
-restored_held cap tokens most sent journal h r a = subst (IsHeld []) (sym r.gate) (record {
+restored_held cap tokens most head sent journal h r a = subst (IsHeld []) (sym r.leads.gate) (record {
   front = (h.entries, refl);
   kept = omega arith;
   well = r.leads.well;
@@ -409,7 +410,7 @@ kept_again g h disk start w l r =
     front_of_bytes (take g.kept g.entries) h.entries (take l.0 (journal_of (drop g.kept g.entries))) r.torn (all_taken IsEntry g.kept g.entries w) r.leads.well (sym l.1 ∙ r.leads.text) (torn_is_one r.torn r.cut)
 
 pub runs_held : (cap : ℕ) (g : Gate) → Runs cap g → IsHeld [] g
-runs_held cap _ (begins tokens most journal g r) = restored_held cap tokens most [] journal g r tt
+runs_held cap _ (begins tokens most head journal g r) = restored_held cap tokens most head [] journal g r tt
 runs_held cap _ (goes_on g e r) = next_held g e (runs_held cap g r)
 runs_held cap _ (begins_again g disk tokens most h r l x) =
     let b = runs_held cap g r in

@@ -122,9 +122,9 @@ next_shape sounds g e b a m d x = by g.dead refl
     by false q = there q (client_at g.clients m) refl
 
 pub runs_shape : Adds → Starts → Sounds → (cap : ℕ) (g : Gate) → Runs cap g → ShapeIsTold g
-runs_shape adds starts sounds cap _ (begins tokens most journal g r) = λ m c x. absurd (restored_empty cap tokens most [] journal g r m c x.there)
-runs_shape adds starts sounds cap _ (goes_on h e r) = next_shape sounds h e (runs_sound adds starts sounds cap h r) (runs_shape adds starts sounds cap h r)
-runs_shape adds starts sounds cap _ (begins_again h disk tokens most i r l y) = λ m c x. absurd (restored_empty cap tokens most h.sent disk i y m c x.there)
+runs_shape adds starts sounds cap _ (begins tokens most head journal g r) = λ m c x. absurd (restored_empty cap tokens most head [] journal g r m c x.there)
+runs_shape adds starts sounds cap _ (goes_on h e w r) = next_shape sounds h e (runs_sound adds starts sounds cap h r) (runs_shape adds starts sounds cap h r)
+runs_shape adds starts sounds cap _ (begins_again h disk tokens most i r l y) = λ m c x. absurd (restored_empty cap tokens most h.head h.sent disk i y m c x.there)
 
 -- ---- the bound
 

@@ -13,7 +13,7 @@ use Rattle.iv_clients.specs.Clients.{Shown, at_client, saying}
 use Rattle.iv_clients.specs.Journal.{Entry, IsEntry, entry_text, is_shared, journal_of, line_said}
 use Rattle.iv_clients.specs.Tokens.{Token}
 use Rattle.iv_gate.specs.Events.{Event, presented, message, gone, known, ticked, synced, handed, failed, happens, next}
-use Rattle.iv_gate.specs.Gate.{Gate, in_session, is_accepted, ran, reply_in, requests}
+use Rattle.iv_gate.specs.Gate.{Gate, in_session, is_accepted, ran, reply_in, done_in, Head}
 use Rattle.iv_gate.specs.Laws.{CrashesAreSafe, LeadsBack, shared}
 use Rattle.iv_gate.specs.Replies.{ActsAs}
 use Rattle.iv_gate.specs.Restoring.{Restores, all_replayed, gate_at_start}
@@ -27,6 +27,7 @@ use Rattle.iv_gate.proofs.Replaying.{SameShared, HasLed, IsQuiet, all_quiet, all
 use Rattle.iv_gate.proofs.Rereading.{cut_bytes}
 use Rattle.iv_gate.proofs.Sound.{Adds, IsSoundGate, Sounds}
 use Rattle.iv_gate.proofs.Stepping.{Keeps, Steps, came_keeps, said_keeps, went_keeps}
+use Rattle.iv_journal.specs.Journal.{Line}
 
 -- the entries lead from the start to all that is shared in the state, and nobody is left of it
 pub record LeadsTo (cap : ℕ) (es : List Entry) (s : State) : Type 0 where
@@ -56,7 +57,7 @@ none_more cap es s t same l = record {
   quiet = l.quiet;
 }
 
-requests_led : (cap : ℕ) (g : Gate) (m : ℕ) (id : Option Data) (e : Entry) (n : ℕ) → ActsAs g.machine n e.role → is_shared e.act ≡ true → IsLed cap g → IsLed cap (requests g m id e n)
+requests_led : (cap : ℕ) (g : Gate) (m : ℕ) (id : Option Data) (e : Entry) (n : ℕ) → ActsAs g.machine n e.role → is_shared e.act ≡ true → IsLed cap g → IsLed cap (done_in g m id e n)
 requests_led cap g m id e n acts shared l = by (is_shared e.act) (is_accepted (reply_in (step g.machine (in_session n e.act)).lines)) shared refl
   where
     by : (x y : Bool) → x ≡ true → is_accepted (reply_in (step g.machine (in_session n e.act)).lines) ≡ y
@@ -110,16 +111,16 @@ next_led cap g e b l = by g.dead
 
 -- ---- runs
 
-restored_led : (cap : ℕ) (tokens : List Token) (most : ℕ) (sent : List Shown) (journal : List ℕ) (h : Gate) → Restores (gate_at_start cap tokens most sent) journal h → IsLed cap h
-restored_led cap tokens most sent journal h r = record {
+restored_led : (cap : ℕ) (tokens : List Token) (most : ℕ) (head : Head) (sent : List Shown) (journal : List Line) (h : Gate) → Restores (gate_at_start cap tokens most head sent) journal h → IsLed cap h
+restored_led cap tokens most head sent journal h r = record {
   end = r.state;
   replays = r.leads.accepted;
-  same = subst (λ z. SameShared z r.state) (sym (ap (λ (x : Gate). x.machine) r.gate)) (all_same r.state);
+  same = subst (λ z. SameShared z r.state) (sym (ap (λ (x : Gate). x.machine) r.leads.gate)) (all_same r.state);
   quiet = all_quiet (start cap) r.state h.entries r.leads.well (start_quiet cap) r.leads.accepted;
 }
 
 pub runs_led : Adds → Starts → Sounds → (cap : ℕ) (g : Gate) → Runs cap g → IsLed cap g
-runs_led adds starts sounds cap _ (begins tokens most journal g r) = restored_led cap tokens most [] journal g r
+runs_led adds starts sounds cap _ (begins tokens most head journal g r) = restored_led cap tokens most head [] journal g r
 runs_led adds starts sounds cap _ (goes_on g e r) = next_led cap g e (runs_sound adds starts sounds cap g r) (runs_led adds starts sounds cap g r)
 runs_led adds starts sounds cap _ (begins_again g disk tokens most h r l x) = restored_led cap tokens most g.sent disk h x
 

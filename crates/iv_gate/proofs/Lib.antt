@@ -55,3 +55,7 @@ pub mod Telling
 pub mod Settling
 pub mod Tables
 pub mod Together
+pub mod Answered
+pub mod Arrived
+pub mod Choosing
+pub mod Computing

@@ -18,7 +18,7 @@ use Rattle.iv_clients.specs.Clients.{Client, Slots, Sub, at_client, client_at, f
 use Rattle.iv_clients.specs.Feeds.{Feed, ends_in}
 use Rattle.iv_clients.specs.Journal.{Entry, is_shared, shape_for}
 use Rattle.iv_clients.proofs.Slots.{at_every, at_other, at_same}
-use Rattle.iv_gate.specs.Gate.{Gate, columns_in, entered, feed_begun, in_session, is_accepted, next_own, ran, reply_in, reply_to, requests, tells, told_of, entries_of}
+use Rattle.iv_gate.specs.Gate.{Gate, columns_in, entered, feed_begun, in_session, is_accepted, next_own, ran, reply_in, reply_to, done_in, tells, told_of, entries_of}
 use Rattle.iv_gate.proofs.Calm.{no_lines, last_step}
 use Rattle.iv_gate.proofs.Growing.{assoc}
 use Rattle.iv_gate.proofs.Opening.{above_given, feed_given}
@@ -298,7 +298,7 @@ module _ (g : Gate) (m : ℕ) (id : Option Data) (e : Entry) (n : ℕ) (s : is_s
   lines_role y = ap (λ (v : Seer). v.role) (seer_telling before.entries (told_of before asking.act (step g.machine asking) y) y)
 
   -- by what it was told in front
-  one_hears : (front : List Told) (x y : Client) → AreCalm front → filter is_made front ≡ [] → told y ≡ told x ++ front → y.subs ≡ x.subs → y.role ≡ x.role → Hears g (requests g m id e n) x (hears_all y)
+  one_hears : (front : List Told) (x y : Client) → AreCalm front → filter is_made front ≡ [] → told y ≡ told x ++ front → y.subs ≡ x.subs → y.role ≡ x.role → Hears g (done_in g m id e n) x (hears_all y)
   one_hears front x y c unmade h subs role = by_command (record {
     command = in_session n e.act;
     shared = s;
@@ -325,7 +325,7 @@ module _ (g : Gate) (m : ℕ) (id : Option Data) (e : Entry) (n : ℕ) (s : is_s
 
   pub request_there : (P : Client → Client → Type 0) (j : ℕ) (x : Client) → client_at g.clients j ≡ Some x
       → (m ≡ j → P x (hears_all (told_one before.entries (replied id (reply_to g (in_session n e.act))) x))) → ((m ≡ j → ⊥) → P x (hears_all x))
-      → Later (λ i c d. P c d) (requests g m id e n).clients j x
+      → Later (λ i c d. P c d) (done_in g m id e n).clients j x
   request_there P j x t this others = by (m == j) refl
     where
       text : Told
@@ -334,12 +334,12 @@ module _ (g : Gate) (m : ℕ) (id : Option Data) (e : Entry) (n : ℕ) (s : is_s
       es : List Entry
       es = before.entries
 
-      heard : (y : Client) → client_at before.clients j ≡ Some y → client_at (requests g m id e n).clients j ≡ Some (hears_all y)
+      heard : (y : Client) → client_at before.clients j ≡ Some y → client_at (done_in g m id e n).clients j ≡ Some (hears_all y)
       heard y h =
           at_every (λ c. telling before.entries (shape_for c.role making) c) (ran before asking).clients j
           ∙ ap (option_map (λ c. telling before.entries (shape_for c.role making) c)) (at_every hears_lines before.clients j ∙ ap (option_map hears_lines) h)
 
-      by : (d : Bool) → (m == j) ≡ d → Later (λ i c y. P c y) (requests g m id e n).clients j x
+      by : (d : Bool) → (m == j) ≡ d → Later (λ i c y. P c y) (done_in g m id e n).clients j x
       by true q =
           let same = eqb-true m j q in
           let first : client_at before.clients j ≡ Some (told_one es text x) =
@@ -351,10 +351,10 @@ module _ (g : Gate) (m : ℕ) (id : Option Data) (e : Entry) (n : ℕ) (s : is_s
         so = others (eqb-false m j q);
       }
 
-  heard_request : (j : ℕ) (x : Client) → client_at g.clients j ≡ Some x → Later (λ i c d. Hears g (requests g m id e n) c d) (requests g m id e n).clients j x
+  heard_request : (j : ℕ) (x : Client) → client_at g.clients j ≡ Some x → Later (λ i c d. Hears g (done_in g m id e n) c d) (done_in g m id e n).clients j x
   heard_request j x t =
       let text = replied id (reply_to g (in_session n e.act)) in
-      request_there (Hears g (requests g m id e n)) j x t (λ same. one_hears (text ∷ []) x (told_one before.entries text x) (refl, tt) refl (told_more before.entries text x) refl refl)
+      request_there (Hears g (done_in g m id e n)) j x t (λ same. one_hears (text ∷ []) x (told_one before.entries text x) (refl, tt) refl (told_more before.entries text x) refl refl)
       (λ ne. one_hears [] x x tt refl (sym (append-nil (told x))) refl refl)
 
   fewer_heard : (x : Client) → length (hears_all x).subs ≤ length x.subs
@@ -363,7 +363,7 @@ module _ (g : Gate) (m : ℕ) (id : Option Data) (e : Entry) (n : ℕ) (s : is_s
       ∙ ap (λ (v : Seer). filter (λ s. not (ends_in (step g.machine asking).lines s.feed)) v.subs) (seer_telling before.entries (told_of before asking.act (step g.machine asking) x) x)))
       (fewer_left (λ s. not (ends_in (step g.machine asking).lines s.feed)) x.subs)
 
-  bounded_request : (j : ℕ) (x : Client) → client_at g.clients j ≡ Some x → length x.subs ≤ most_subs → Later (λ i c d. length d.subs ≤ most_subs) (requests g m id e n).clients j x
+  bounded_request : (j : ℕ) (x : Client) → client_at g.clients j ≡ Some x → length x.subs ≤ most_subs → Later (λ i c d. length d.subs ≤ most_subs) (done_in g m id e n).clients j x
   bounded_request j x t few =
       let text = replied id (reply_to g (in_session n e.act)) in
       request_there (λ c d. length d.subs ≤ most_subs) j x t

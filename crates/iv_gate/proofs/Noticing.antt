@@ -4,9 +4,7 @@ use Rattle.std.specs.Prelude.{◌==◌, filter, flat_map}
 use Rattle.std.specs.List.{list_any}
 use Rattle.std.proofs.lemmas.Bool.{false≢true, eqb-true, eqb-false}
 use Rattle.std.proofs.lemmas.List.Concat.{flat_map-append}
-use Rattle.sha2.specs.Sha256.{sha256}
 use Rattle.iv_rows.specs.Options.{if_some}
-use Rattle.iv_access.specs.Rights.{Name}
 use Rattle.iv_machine.specs.Machine.{difference, step}
 use Rattle.iv_machine.specs.Sound.{IsSoundState}
 use Rattle.iv_message.specs.Told.{Told, alive, changed, settled}
@@ -16,7 +14,7 @@ use Rattle.iv_clients.specs.Journal.{Entry, said_by}
 use Rattle.iv_clients.specs.Tokens.{Token}
 use Rattle.iv_clients.proofs.Slots.{at_every, at_other, at_same, not_free, one_some, set_other, some_is_none}
 use Rattle.iv_gate.specs.Events.{Event, presented, message, gone, known, ticked, synced, handed, failed, happens, next}
-use Rattle.iv_gate.specs.Gate.{Gate, all_rested, all_swept, done_for, hears, role_for, said, settles, told_of, with_session}
+use Rattle.iv_gate.specs.Gate.{Gate, all_rested, all_swept, done_for, hears, token_for, said, settles, told_of, with_session, at_text}
 use Rattle.iv_gate.specs.Replies.{told_by}
 use Rattle.iv_gate.proofs.Calm.{all_rested_clients, all_swept_clients, sound_kit, with_clients}
 use Rattle.iv_gate.proofs.Growing.{Grown, assoc, drop_front, grows}
@@ -27,7 +25,7 @@ use Rattle.iv_gate.proofs.Serving.{told_answered}
 use Rattle.iv_gate.proofs.Signs.{Sign}
 use Rattle.iv_gate.proofs.Sitting.{at_all_swept}
 use Rattle.iv_gate.proofs.Sound.{IsSoundGate, Sounds, seer}
-use Rattle.iv_gate.proofs.Touching.{alive as is_alive, came_as, came_sign, leaves_at, opens_role, rests, went_sign}
+use Rattle.iv_gate.proofs.Touching.{alive as is_alive, came_as, came_sign, leaves_at, opens_token, rests, went_sign}
 use Rattle.iv_gate.proofs.Walking.{Later, to_done, to_settles, to_then}
 use Rattle.iv_gate.specs.Laws.{is_made}
 use Rattle.std.proofs.lemmas.List.Elements.{filter-append}
@@ -223,18 +221,18 @@ said_all sounds g b m text j c d t live k = by (client_at g.clients m) refl k
 
 -- where another comes, it stays as it is
 pub came_stays : (g : Gate) → IsSoundGate g → (m : ℕ) (token : List ℕ) (j : ℕ) (c d : Client) → client_at g.clients j ≡ Some c → client_at (happens g (presented m token)).clients j ≡ Some d → c ≡ d
-came_stays g b m token j c d t k = by (role_for g m token) refl k
+came_stays g b m token j c d t k = by (token_for g m token) refl k
   where
-    by : (o : Option Name) → role_for g m token ≡ o → client_at (if_some o g (came_as g m token)).clients j ≡ Some d → c ≡ d
+    by : (o : Option Token) → token_for g m token ≡ o → client_at (if_some o g (came_as g m)).clients j ≡ Some d → c ≡ d
     by None e x = same_slot g.clients j c d t x
-    by (Some role) e x =
-        let i = with_session g role in
-        let there : client_at (came_as g m token role).clients j ≡ Some c =
-        set_other m j (Some (fresh i.entries role (sha256 token))) i.clients ne ∙ (ap (λ z. client_at z j) (with_clients g role b.state) ∙ t) in
+    by (Some s) e x =
+        let i = with_session g s.role in
+        let there : client_at (came_as g m s).clients j ≡ Some c =
+        set_other m j (Some (fresh i.entries s (at_text i s))) i.clients ne ∙ (ap (λ z. client_at z j) (with_clients g s.role b.state) ∙ t) in
         one_some c d (sym there ∙ x)
       where
         ne : m ≡ j → ⊥
-        ne one = false≢true (sym (not_free m c g.clients (ap (client_at g.clients) one ∙ t)) ∙ (opens_role g m token role e).free)
+        ne one = false≢true (sym (not_free m c g.clients (ap (client_at g.clients) one ∙ t)) ∙ (opens_token g m token s e).free)
 
 -- where another goes, it stays as it is, or is told that this is all
 pub went_turns : Sounds → (g : Gate) → IsSoundGate g → (m j : ℕ) (c d : Client) → client_at g.clients j ≡ Some c → client_at (happens g (gone m)).clients j ≡ Some d
@@ -305,11 +303,11 @@ handed_all g h m j c d n t k = by (m == j) refl
 -- ---- each event
 
 came_entries : (g : Gate) (m : ℕ) (token : List ℕ) → (happens g (presented m token)).entries ≡ g.entries
-came_entries g m token = by (role_for g m token)
+came_entries g m token = by (token_for g m token)
   where
-    by : (o : Option Name) → (if_some o g (came_as g m token)).entries ≡ g.entries
+    by : (o : Option Token) → (if_some o g (came_as g m)).entries ≡ g.entries
     by None = refl
-    by (Some role) = ap (λ (x : Sign). x.entries) (came_sign g m token role)
+    by (Some t) = ap (λ (x : Sign). x.entries) (came_sign g m t)
 
 happens_all : Sounds → (g : Gate) (e : Event) → IsSoundGate g → (j : ℕ) (c d : Client) → client_at g.clients j ≡ Some c → c.dropped ≡ false → client_at (happens g e).clients j ≡ Some d → d.dropped ≡ false
     → Hears g (happens g e) c d

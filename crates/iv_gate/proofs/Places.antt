@@ -7,7 +7,7 @@ use Rattle.std.proofs.lemmas.List.Elements.{filter-append}
 use Rattle.iv_access.specs.Rights.{Name}
 use Rattle.iv_machine.specs.Act.{Act, Line, reply, change, ended}
 use Rattle.iv_machine.specs.Machine.{Outcome}
-use Rattle.iv_message.specs.Told.{Told, welcome, replied, opened, fault, unasked, changed, over, settled, granted, made, alive}
+use Rattle.iv_message.specs.Told.{Told, welcome, replied, opened, fault, unasked, changed, over, settled, granted, made, alive, placed, answered, undecided, denied}
 use Rattle.iv_clients.specs.Clients.{Client, Sub, own_line, own_lines}
 use Rattle.iv_clients.specs.Feeds.{Feed, rel_read}
 use Rattle.iv_gate.specs.Gate.{Gate, granted_by, is_accepted, reply_in, told_of}
@@ -100,6 +100,10 @@ opens_reply settled h = refl
 opens_reply (granted rel) h = refl
 opens_reply (made role line) h = refl
 opens_reply alive h = refl
+opens_reply (placed at) h = refl
+opens_reply (answered id again at answer) h = refl
+opens_reply (undecided id number) h = refl
+opens_reply (denied id number) h = refl
 
 cons_none : {X : Type 0} (x : X) (xs : List X) → x ∷ xs ≡ [] → ⊥
 cons_none x xs h = cc

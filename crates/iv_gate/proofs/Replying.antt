@@ -15,7 +15,7 @@ use Rattle.iv_clients.specs.Clients.{Client, Slots, Sub, answered, at_all, at_cl
 use Rattle.iv_clients.specs.Feeds.{Feed, feed_for, feed_of, is_reading, room_for, seat_of, without_feed}
 use Rattle.iv_clients.specs.Journal.{Entry, line_said, said_by, shape_for}
 use Rattle.iv_clients.proofs.Slots.{at_every, at_same, one_some}
-use Rattle.iv_gate.specs.Gate.{Gate, acts, begun_for, closes, columns_in, done_for, entered, feed_begun, hears, in_session, is_accepted, joined, joined_by, joins, next_own, ran, reads, reads_first, reply_to, requests, seated, settles, shut, subscribes, swept, tells, told_of, informs, entries_of, has_shape_room}
+use Rattle.iv_gate.specs.Gate.{Gate, acts, begun_for, closes, columns_in, done_for, entered, feed_begun, hears, in_session, is_accepted, joined, joined_by, joins, next_own, ran, reads, reads_first, reply_to, done_in, seated, settles, shut, subscribes, swept, tells, told_of, informs, entries_of, has_shape_room}
 use Rattle.iv_gate.specs.Replies.{is_opened, reading_told, replies, is_reply}
 use Rattle.iv_gate.specs.Seen.{is_end_of}
 use Rattle.iv_gate.proofs.Growing.{Grown, assoc, grows}
@@ -379,11 +379,11 @@ module _ (g : Gate) (m : ℕ) (c : Client) (text : List ℕ) where
 
   answers_other : (s : Message) (id : Option Data) (act : Act) → client_at g.clients m ≡ Some (saying text c)
       → Answers g s (other_reply g c id act) m (saying text c)
-      (if_some (seat_of g.seats c.role) (tells g m (replied id (refused no_session))) (requests g m id (record { role = c.role; line = line_said text; act = act }))).clients
+      (if_some (seat_of g.seats c.role) (tells g m (replied id (refused no_session))) (done_in g m id (record { role = c.role; line = line_said text; act = act }))).clients
   answers_other s id act e = by (seat_of g.seats c.role)
     where
       by : (o : Option ℕ) → Answers g s (if_some o (replied id (refused no_session)) (λ n. replied id (reply_to g (in_session n act)))) m (saying text c)
-          (if_some o (tells g m (replied id (refused no_session))) (requests g m id (record { role = c.role; line = line_said text; act = act }))).clients
+          (if_some o (tells g m (replied id (refused no_session))) (done_in g m id (record { role = c.role; line = line_said text; act = act }))).clients
       by None = answers_plain g s (replied id (refused no_session)) m (saying text c) refl e
       by (Some n) =
           let k = in_session n act in let r = reply_to g k in let h = entered g (record { role = c.role; line = line_said text; act = act }) (is_accepted r) in

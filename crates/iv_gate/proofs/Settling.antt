@@ -13,6 +13,7 @@ use Rattle.iv_clients.specs.Feeds.{Feed, rel_read}
 use Rattle.iv_clients.specs.Journal.{Entry, said_by, shape_for}
 use Rattle.iv_clients.specs.Tokens.{Token}
 use Rattle.iv_clients.proofs.Slots.{at_every, at_other, at_same, one_some}
+use Rattle.iv_journal.specs.Journal as journals
 use Rattle.iv_gate.specs.Events.{Event, presented, message, gone, known, ticked, synced, handed, failed, happens, next}
 use Rattle.iv_gate.specs.Gate.{Gate, columns_in, done_for, entered, feed_begun, granted_by, hears, in_session, is_accepted, next_own, reply_in, reply_to, said, settles, tells, told_of, entries_of}
 use Rattle.iv_gate.specs.Laws.{IsSettledBy, is_word}
@@ -330,9 +331,9 @@ next_owes sounds g e b a j d k = by g.dead refl
     by false q = there q (client_at g.clients j) refl
 
 runs_owe : Adds → Starts → Sounds → (cap : ℕ) (g : Gate) → Runs cap g → OwesNothing g
-runs_owe adds starts sounds cap _ (begins tokens most journal g r) m c x = absurd (restored_empty cap tokens most [] journal g r m c x)
-runs_owe adds starts sounds cap _ (goes_on h e r) m c x = next_owes sounds h e (runs_sound adds starts sounds cap h r) (runs_owe adds starts sounds cap h r) m c x
-runs_owe adds starts sounds cap _ (begins_again h disk tokens most i r l y) m c x = absurd (restored_empty cap tokens most h.sent disk i y m c x)
+runs_owe adds starts sounds cap _ (begins tokens most head journal g r) m c x = absurd (restored_empty cap tokens most head [] journal g r m c x)
+runs_owe adds starts sounds cap _ (goes_on h e w r) m c x = next_owes sounds h e (runs_sound adds starts sounds cap h r) (runs_owe adds starts sounds cap h r) m c x
+runs_owe adds starts sounds cap _ (begins_again h disk tokens most i r l y) m c x = absurd (restored_empty cap tokens most h.head h.sent disk i y m c x)
 
 pub runs_settle : Adds → Starts → Sounds → (cap : ℕ) (g : Gate) (e : Event) → Runs cap g → g.dead ≡ false → ByClient g e (λ m c d. IsSettledBy e (told_by c d))
 runs_settle adds starts sounds cap g e r live m c d x y =

@@ -17,13 +17,13 @@ use Rattle.iv_clients.specs.Journal.{Entry, line_said, said_by, shape_for}
 use Rattle.iv_clients.specs.Tokens.{Token}
 use Rattle.iv_clients.proofs.Slots.{at_every, at_other, at_same, not_free, one_some, set_gone, set_other, some_is_none}
 use Rattle.iv_gate.specs.Events.{Event, presented, message, gone, known, ticked, synced, handed, failed, happens, next}
-use Rattle.iv_gate.specs.Gate.{Gate, came, done_for, entered, hears, in_session, is_accepted, ran, reply_to, requests, role_for, said, settles, tells, told_of, went, entries_of, informs}
+use Rattle.iv_gate.specs.Gate.{Gate, came, done_for, entered, hears, in_session, is_accepted, ran, reply_to, done_in, token_for, said, settles, tells, told_of, went, entries_of, informs}
 use Rattle.iv_gate.specs.Replies.{ByClient, heard_by}
 use Rattle.iv_gate.proofs.Growing.{Grown, assoc, shown_more}
 use Rattle.iv_gate.proofs.Holding.{all_more}
 use Rattle.iv_gate.proofs.Running.{all_so}
 use Rattle.iv_gate.proofs.Stepping.{Keeps, Steps, came_keeps, step_done, went_keeps}
-use Rattle.iv_gate.proofs.Touching.{alive as is_alive, leaves_at, opens_role, rests}
+use Rattle.iv_gate.proofs.Touching.{alive as is_alive, leaves_at, opens_token, rests}
 
 -- ---- one client
 
@@ -207,7 +207,7 @@ done_reaches g m c text =
     c text (said_by text)
     (λ id act n e shared seat. asked id (record { role = c.role; line = line_said text; act = act }) n)
   where
-    asked : (id : Option Data) (e : Entry) (n : ℕ) → Reached g.clients (requests g m id e n)
+    asked : (id : Option Data) (e : Entry) (n : ℕ) → Reached g.clients (done_in g m id e n)
     asked id e n =
         let k = in_session n e.act in let r = reply_to g k in let i = entered g e (is_accepted r) in
         let x = ran_tells i.entries g.clients (tells i m (replied id r)) k ((telling_kit i.entries g.clients m).tell i (replied id r) refl (record { entries = refl; clients = follow_start i.entries g.clients })) in

@@ -5,17 +5,18 @@ use Rattle.std.specs.List.{AllByRecursion}
 use Rattle.std.proofs.lemmas.Bool.{eqb-true, eqb-false}
 use Rattle.serde_json.specs.Data.{Data}
 use Rattle.iv_access.specs.Rights.{Name}
-use Rattle.iv_machine.specs.Act.{Command}
+use Rattle.iv_machine.specs.Act.{Command, Reply, refused}
 use Rattle.iv_machine.specs.Machine.{step}
 use Rattle.iv_message.specs.Message.{Message}
-use Rattle.iv_message.specs.Told.{Told, made, replied}
+use Rattle.iv_message.specs.Told.{Told, made}
 use Rattle.iv_clients.specs.Clients.{Client, Slots, at_all, at_client, client_at, closing, following, moved, settling, staying, telling, told_one}
 use Rattle.iv_clients.specs.Feeds.{Seat}
-use Rattle.iv_clients.specs.Journal.{Entry, line_said, shape_for}
+use Rattle.iv_clients.specs.Journal.{Entry, Request, shape_for}
+use Rattle.iv_once.specs.Names.{Ask}
 use Rattle.iv_clients.proofs.Slots.{at_every, at_other, at_same}
-use Rattle.iv_gate.specs.Gate.{Gate, all_rested, all_swept, done_for, entered, entries_of, in_session, is_accepted, ran, reply_to, requests, settles, informs, tells, told_of, with_session}
+use Rattle.iv_gate.specs.Gate.{Gate, all_rested, all_swept, done_for, entered, entries_of, in_session, ran, replies_to, reply_to, reply_told, done_in, settles, informs, tells, told_of, with_session}
 use Rattle.iv_gate.proofs.Shaping.{all_made}
-use Rattle.iv_gate.proofs.Stepping.{Steps, step_all_rested, step_all_swept, step_done, step_with}
+use Rattle.iv_gate.proofs.Stepping.{Steps, request_of, step_all_rested, step_all_swept, step_done, step_with}
 
 -- what each step keeps of each client; client m alone is told what is its own
 pub record Kit (m : ℕ) (R : ℕ → Client → Client → Type 0) : Type 0 where
@@ -73,11 +74,14 @@ module _ (m : ℕ) (R : ℕ → Client → Client → Type 0) (kit : Kit m R) wh
   to_informs g es = to_all (λ c. telling g.entries (shape_for c.role es) c)
       (λ j c. shown_all g.entries j (shape_for c.role es) c (all_made (λ t. (d : Client) → R j d (told_one g.entries t d)) (λ role line d. kit.show j d g.entries role line) c.role es)) g.clients
 
-  to_requests : (g : Gate) (id : Option Data) (e : Entry) (n : ℕ) → Leads R g.clients (requests g m id e n).clients
-  to_requests g id e n =
-      let k = in_session n e.act in let r = reply_to g k in let h = tells (entered g e (is_accepted r)) m (replied id r) in
-      to_then g.clients h.clients (requests g m id e n).clients (to_tells (entered g e (is_accepted r)) (replied id r))
-      (to_then h.clients (ran h k).clients (requests g m id e n).clients (to_ran h k) (to_informs (ran h k) (entries_of e (is_accepted r))))
+  to_replies : (g : Gate) (id : Option Data) (q : Request) (name : Option Ask) (r : Reply) → Leads R g.clients (replies_to g m id q name r).clients
+  to_replies g id q name r = let h = entered g (entries_of q name r) in to_tells h (reply_told h id name r)
+
+  to_requests : (g : Gate) (id : Option Data) (q : Request) (name : Option Ask) (n : ℕ) → Leads R g.clients (done_in g m id q name n).clients
+  to_requests g id q name n =
+      let k = in_session n q.act in let r = reply_to g k in let h = replies_to g m id q name r in
+      to_then g.clients h.clients (done_in g m id q name n).clients (to_replies g id q name r)
+      (to_then h.clients (ran h k).clients (done_in g m id q name n).clients (to_ran h k) (to_informs (ran h k) (entries_of q name r)))
 
   steps : Steps m (λ g h. Leads R g.clients h.clients)
   steps = record {
@@ -105,4 +109,4 @@ module _ (m : ℕ) (R : ℕ → Client → Client → Type 0) (kit : Kit m R) wh
   pub to_done : (g : Gate) (c : Client) (text : List ℕ) (s : Message) → Leads R g.clients (done_for g m c text s).clients
   to_done g c text s =
       step_done m (λ h i. Leads R h.clients i.clients) steps g (λ h. Leads R g.clients h.clients) (λ h x. x) c text s
-      (λ id act n e shared seat. to_requests g id (record { role = c.role; line = line_said text; act = act }) n)
+      (λ id act name n e shared seat. to_requests g id (request_of c text act) name n) (λ id act a r e shared. to_replies g id (request_of c text act) (Some a) (refused r))

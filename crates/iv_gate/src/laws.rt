@@ -3,7 +3,7 @@ ghost use Rattle.std.specs.Prelude.{◌≡◌, ℕ, false, true, Some};
 ghost use Rattle.iv_access.specs.Rights.{Name};
 ghost use Rattle.iv_clients.specs.Clients.{Client};
 ghost use Rattle.iv_clients.specs.Feeds.{seat_of};
-ghost use Rattle.iv_gate.specs.Events.{Event, next};
+ghost use Rattle.iv_gate.specs.Events.{Event, IsWell, next};
 ghost use Rattle.iv_gate.specs.Gate.{Gate};
 ghost use Rattle.iv_gate.specs.Laws.{HoldAlways, IsSettledBy, LeavesMarks};
 ghost use Rattle.iv_gate.specs.Implied.{ReadsForClients};
@@ -13,6 +13,7 @@ ghost use Rattle.iv_gate.specs.Runs.{Runs};
 ghost use Rattle.iv_gate.specs.Seen.{AreOver, SeesViews, StaysClosed};
 ghost use Rattle.iv_gate.specs.Touched.{AreTouched};
 
+pub mod examples;
 pub mod journal;
 
 use iv_machine::laws::{
@@ -20,12 +21,13 @@ use iv_machine::laws::{
 };
 
 pub mod hearing;
+pub mod names;
 
 /// Nothing happens to a gateway that is dead; else each event makes of the tokens, of what is on disk, of what was sent and of the
 /// entries what is told of it.
 pub fn events_leave_their_marks()
     ensures rests { (g : Gate) (e : Event) → g.dead ≡ true → next g e ≡ g }
-    ensures marks { (g : Gate) (e : Event) → g.dead ≡ false → LeavesMarks g e }
+    ensures marks { (g : Gate) (e : Event) → IsWell e → g.dead ≡ false → LeavesMarks g e }
 {}
 
 /// By an event a client stays as it is, but for its own message, what is handed to it, its leaving, and what drops it; who comes has

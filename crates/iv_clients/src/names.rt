@@ -1,0 +1,119 @@
+//! `Claim`: the name of a request, as a client says it; `claim_in` reads it.
+ghost use Rattle.std.specs.Prelude.{◌≡◌, ◌&&◌, ℕ, List, IfOk, Some, option_map, string_bytes};
+ghost use Rattle.iv_clients.specs.Names as spec;
+ghost use Rattle.iv_clients.specs.Names.{between, claim_in, count_in, is_between, is_epoch, is_letter, is_random};
+
+use crate::journal::{behind, cut_at};
+use crate::said::with_brace;
+use iv_message::{Id, read_id};
+use iv_once::Place;
+use json::Scratch;
+use std::alloc::{AllocError, Global};
+use std::marker::Model;
+
+/// The name of a request, and the place that its client knew when it said it first.
+#[derive(Drop)]
+pub struct Claim {
+    /// 22 letters, digits, `-` and `_`.
+    pub name: String,
+    /// The epoch, and how many entries with names the client's holder had.
+    pub at: Place,
+}
+
+impl Model for Claim {
+    ghost use Rattle.std.specs.Prelude.{string_bytes};
+    ghost use Rattle.iv_clients.specs.Names.{Claim};
+
+    ghost Value = { Claim };
+
+    ghost view = { λ c. record { name = string_bytes c.name; at = c.at } };
+}
+
+fn is_between(low: u8, high: u8, byte: u8) -> bool
+    ensures { result ≡ is_between low high byte }
+{
+    low <= byte && byte <= high
+}
+
+fn is_letter(byte: u8) -> bool
+    ensures { result ≡ is_letter byte }
+{
+    is_between(b'A', b'Z', byte)
+        || is_between(b'a', b'z', byte)
+        || is_between(b'0', b'9', byte)
+        || byte == b'-'
+        || byte == b'_'
+}
+
+/// Whether a text may be a name.
+fn is_random(name: &[u8]) -> bool
+    ensures { result ≡ is_random name.now }
+{
+    name.len() == 22 && name.iter().all(|byte| is_letter(*byte))
+}
+
+/// Whether a text may be an epoch.
+fn is_epoch(text: &[u8]) -> bool
+    ensures { result ≡ is_epoch text.now }
+{
+    text.len() == 32
+        && text.iter().all(|byte| is_between(b'0', b'9', *byte) || is_between(b'a', b'f', *byte))
+}
+
+/// What stands between a prefix and the first such byte, and behind it.
+fn between<'a>(text: &'a [u8], prefix: &[u8], byte: u8) -> Option<(&'a [u8], &'a [u8])>
+    ensures { option_map (λ p. (p.0.now, p.1.now)) result ≡ between prefix.now byte text.now }
+{
+    let rest = behind(text, prefix)?;
+    cut_at(rest, byte)
+}
+
+/// The number of a place.
+fn count_in(alloc: Global, text: &[u8], scratch: &mut Scratch) -> Result<Option<u64>, AllocError>
+    ensures { IfOk result (λ o. o ≡ count_in text.now) }
+{
+    match read_id(alloc, text, scratch)? {
+        Some(Id::Natural(count)) => Ok(Some(count)),
+        _ => Ok(None),
+    }
+}
+
+/// A name, an epoch, the digits of a count, and what stands behind them.
+fn claim_parts(text: &[u8]) -> Option<(&[u8], &[u8], &[u8], &[u8])> {
+    let (name, rest) = between(text, b"{\"once\":\"", b'"')?;
+    let (epoch, rest) = between(rest, b",\"at\":\"", b'.')?;
+    let (count, rest) = cut_at(rest, b'"')?;
+    let rest = behind(rest, b",")?;
+    Some((name, epoch, count, rest))
+}
+
+/// The name in front of a message, and the rest of it.
+pub fn claim_in(
+    alloc: Global,
+    text: &[u8],
+    scratch: &mut Scratch,
+) -> Result<Option<(Claim, Vec<u8>)>, AllocError>
+    ensures { IfOk result (λ o. option_map {U = spec.Claim × List ℕ} (λ p. (p.0, p.1.items)) o ≡ claim_in text.now) }
+{
+    let Some((name, epoch, count, rest)) = claim_parts(text) else {
+        return Ok(None);
+    };
+    let Some(count) = count_in(alloc, count, scratch)? else {
+        return Ok(None);
+    };
+    if !is_random(name) || !is_epoch(epoch) {
+        return Ok(None);
+    }
+    let (Ok(name), Ok(epoch)) = (str::from_utf8(name), str::from_utf8(epoch)) else {
+        return Ok(None);
+    };
+    let at = Place {
+        epoch: String::from_str(alloc, epoch)?,
+        count,
+    };
+    let claim = Claim {
+        name: String::from_str(alloc, name)?,
+        at,
+    };
+    Ok(Some((claim, with_brace(alloc, rest)?)))
+}
