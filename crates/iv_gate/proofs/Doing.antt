@@ -1,5 +1,5 @@
 -- What is done for a message: its client is told one thing, a command is run, or a subscription is opened.
-use Rattle.std.proofs.Common.{◌≡◌, ℕ, zero, suc, ◌+◌, ◌≤◌, Bool, true, false, cond, not, List, [], ◌∷◌, ◌++◌, length, map, Option, Some, None, refl, ap, ◌∙◌, sym, subst, arith, append-nil}
+use Rattle.std.proofs.Common.{◌≡◌, ℕ, zero, suc, ◌+◌, ◌≤◌, Bool, true, false, cond, not, List, [], ◌∷◌, ◌++◌, length, map, Option, Some, None, refl, ap, ◌∙◌, sym, subst, arith, append-nil, ◌||◌}
 use Rattle.std.specs.Prelude.{◌==◌, ◌&&◌, filter, nat_lt, codes, is_some}
 use Rattle.std.specs.List.{AllByRecursion, list_any}
 use Rattle.std.proofs.lemmas.Bool.{ltb-true}
@@ -17,7 +17,7 @@ use Rattle.iv_clients.specs.Bounds.{most_subs}
 use Rattle.iv_clients.specs.Clients.{Client, Slots, Sub, at_client, closing, followed_by, is_followed, moved, moved_sub, told, told_one}
 use Rattle.iv_clients.specs.Feeds.{Feed, feed_for, feed_of, is_reading, room_for}
 use Rattle.iv_clients.specs.Journal.{Entry, is_shared, said_by, Request, claim_said, requests_in}
-use Rattle.iv_gate.specs.Gate.{Gate, acts, begun_for, closes, done_for, feed_begun, in_session, joined, joined_by, joins, ran, reads, reads_first, reply_to, done_in, seated, shut, subscribes, swept, tells, answering, entered, entries_of, may_have, replies_to, reply_told, shares}
+use Rattle.iv_gate.specs.Gate.{Gate, acts, begun_for, closes, done_for, feed_begun, in_session, joined, joined_by, joins, ran, reads, reads_first, reply_to, done_in, seated, shut, subscribes, swept, tells, answering, entered, entries_of, may_have, replies_to, reply_told, shares, is_accepted}
 use Rattle.iv_gate.proofs.Calm.{ran_alone, seated_still, shut_clients, shut_last, swept_clients, swept_last}
 use Rattle.iv_gate.proofs.Joining.{any_moved}
 use Rattle.iv_gate.proofs.Opening.{reply_of_none, reply_of_some}
@@ -145,6 +145,17 @@ refused_asks_none es q name r = flat_map-append (λ (e : Entry). e.requests) es 
     by : (b : Bool) → requests_in (cond b (record { requests = []; names = answering name (refused r); position = None } ∷ []) []) ≡ []
     by true = refl
     by false = refl
+
+-- what is accepted adds its request, and nothing else does
+pub requests_entered : (q : Request) (name : Option Ask) (r : Reply) → is_shared q.act ≡ true → requests_in (entries_of q name r) ≡ cond (is_accepted r) (q ∷ []) []
+requests_entered q name r h =
+    ap (λ b. requests_in (cond (b && (is_accepted r || is_some name)) (record { requests = cond (is_accepted r) (q ∷ []) []; names = answering name r; position = None } ∷ []) [])) h
+    ∙ by (is_accepted r) (is_some name)
+  where
+    by : (a n : Bool) → requests_in (cond (true && (a || n)) (record { requests = cond a (q ∷ []) []; names = answering name r; position = None } ∷ []) []) ≡ cond a (q ∷ []) []
+    by true n = refl
+    by false true = refl
+    by false false = refl
 
 pub calm_reply : (g : Gate) (id : Option Data) (name : Option Ask) (r : Reply) → is_news (reply_told g id name r) ≡ false
 calm_reply g id None r = refl

@@ -31,8 +31,6 @@ use Rattle.iv_gate.proofs.Touching.{alive as is_alive, rests, touched, test_same
 use Rattle.iv_gate.proofs.Walking.{Later, step_told}
 use Rattle.iv_gate.proofs.Shaping.{all_made, any_none}
 use Rattle.iv_gate.specs.Arriving.{Step, entry_of, fact_of, fault_of, is_behind, landed, newly, takes}
-use Rattle.iv_lines.specs.Answer.{heard}
-use Rattle.iv_desk.specs.Front.{starts}
 use Rattle.iv_steps.specs.Steps.{stepped}
 
 -- ---- what a command tells
