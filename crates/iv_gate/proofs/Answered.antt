@@ -1,17 +1,21 @@
 -- Of names that were new each at its turn, none stands twice with one place.
-use Rattle.std.proofs.Common.{◌≡◌, ℕ, zero, suc, ◌+◌, ◌<◌, ◌≤◌, Bool, true, false, cond, not, List, [], ◌∷◌, take, length, Option, Some, None, is_some, refl, ap, ◌∙◌, sym, subst, arith}
-use Rattle.std.specs.Prelude.{◌&&◌, ◌++◌, bytes_eq, count_by, filter, nat_le, nat_lt, unwrap_or}
+use Rattle.std.proofs.Common.{◌≡◌, ℕ, zero, suc, ◌+◌, ◌<◌, ◌≤◌, Bool, true, false, cond, not, List, [], ◌∷◌, take, length, Option, Some, None, is_some, refl, ap, ◌∙◌, sym, subst, arith, ◌||◌, inl, inr}
+use Rattle.std.specs.Prelude.{◌&&◌, ◌++◌, bytes_eq, count_by, filter, nat_le, nat_lt, unwrap_or, option_map, Contains, drop, ◌⊎◌}
 use Rattle.std.proofs.lemmas.Bool.Decides.{nat_tests}
 use Rattle.iv_clients.specs.Journal.{names_in}
 use Rattle.iv_clients.specs.Names.{limits, place_text}
-use Rattle.iv_once.specs.Names.{Ask, Known, Limits, Named, Names, Own, Place, carry, by_count, by_found, find_named, is_over, is_place, learned, named, own_of, spent_by, spent_more, verdict, with_entry}
+use Rattle.iv_once.specs.Names.{Ask, Known, Limits, Named, Names, Own, Place, carry, by_count, by_found, find_named, is_over, is_place, learned, named, own_of, spent_by, spent_more, verdict, with_entry, Verdict}
 use Rattle.iv_once.specs.Names as verdicts
-use Rattle.iv_once.specs.Laws.{times}
-use Rattle.iv_once.proofs.Lists.{and_both, itself, le_true, lt_false, same_bytes, same_place, some_is_none, take_less, zero_more}
+use Rattle.iv_once.specs.Laws.{times, Among}
+use Rattle.iv_once.proofs.Lists.{and_both, itself, le_true, lt_false, same_bytes, same_place, some_is_none, take_less, zero_more, among_take, is_place_itself}
+use Rattle.iv_gate.specs.Gate as gates
 use Rattle.iv_gate.specs.Arriving as arriving
 use Rattle.iv_gate.specs.Arriving.{first_known, is_new}
-use Rattle.iv_gate.specs.Gate.{Gate, known_by, known_of, place_of, spent_in}
-use Rattle.iv_gate.specs.Replies.{count_of, place_behind}
+use Rattle.iv_gate.specs.Gate.{Gate, known_by, known_of, place_of, spent_in, Head, place_at, known_at}
+use Rattle.iv_gate.specs.Replies.{count_of, place_behind, IsAnswer, IsUndecided, many, names_by, refused_often, late, ahead, another, foreign}
+use Rattle.std.proofs.lemmas.List.Elements.{Contains-append_left, Contains-append_right, Contains-push}
+use Rattle.std.proofs.lemmas.Bool.{ltb-true, false≢true}
+use Rattle.iv_once.proofs.Kept.{found}
 
 abbrev pub names_of : List ℕ → List Named → List Named
 names_of holder es = filter (λ e. bytes_eq e.ask.holder holder) es
@@ -219,12 +223,26 @@ known_own (e ∷ es) k holder = by (bytes_eq e.ask.holder holder) refl (known_ow
         (h.0 ∙ ap (λ (o : Own). o.epoch) (own_same e k holder q), omega (arith, n, c))
     by false q h = (h.0 ∙ ap (λ (o : Own). o.epoch) (own_other e k holder q), h.1 ∙ ap (λ (o : Own). o.count + length (names_of holder es)) (own_other e k holder q))
 
+-- before the first entry a holder stands where the journal's head says, and no name is known
+own_at : (h : Head) (holder : List ℕ) → own_of (known_at h) holder ≡ record { epoch = (place_at h holder).epoch; count = (place_at h holder).count; recent = [] }
+own_at h holder = by (h.places holder)
+  where
+    by : (o : Option Place) → unwrap_or (option_map (λ (p : Place). record { epoch = p.epoch; count = p.count; recent = [] }) o) (record { epoch = h.epoch; count = 0; recent = [] })
+        ≡ record { epoch = (unwrap_or o (record { epoch = h.epoch; count = 0 })).epoch; count = (unwrap_or o (record { epoch = h.epoch; count = 0 })).count; recent = [] }
+    by None = refl
+    by (Some p) = refl
+
+pub epoch_is : (g : Gate) (holder : List ℕ) → (own_of (known_of g) holder).epoch ≡ (place_at g.head holder).epoch
+epoch_is g holder = (known_own (names_in g.entries) (known_at g.head) holder).0 ∙ ap (λ (o : Own). o.epoch) (own_at g.head holder)
+
+pub count_is : (g : Gate) (holder : List ℕ) → (own_of (known_of g) holder).count ≡ count_of g holder
+count_is g holder = (known_own (names_in g.entries) (known_at g.head) holder).1 ∙ ap (λ (o : Own). o.count + length (names_of holder (names_in g.entries))) (own_at g.head holder)
+
 -- where its names stand, as laws say it
 pub place_is : (g : Gate) (holder : List ℕ) → place_text (place_of g holder) ≡ place_behind g holder 0
 place_is g holder =
-    let p = known_own (names_in g.entries) g.head.names holder in
-    let c : (own_of (known_of g) holder).count ≡ count_of g holder + 0 = let n = p.1 in omega (arith, n) in
-    λ i. place_text (record { epoch = p.0 i; count = c i })
+    let c : (own_of (known_of g) holder).count ≡ count_of g holder + 0 = let n = count_is g holder in omega (arith, n) in
+    λ i. place_text (record { epoch = epoch_is g holder i; count = c i })
 
 -- ---- what is spent
 
@@ -242,3 +260,124 @@ spent_is (e ∷ es) holder = by e.refused (bytes_eq e.ask.holder holder) refl (s
     by true true q h k =
         let same : count e.ask.holder ≡ count holder = ap count (same_bytes e.ask.holder holder q) in
         ap (λ b. unwrap_or (cond b (Some (spent_by (spent_in es) e.ask.holder + 1)) (spent_in es holder)) 0) q ∙ (let f : spent_by (spent_in es) e.ask.holder + 1 ≡ 1 + count holder = omega (arith, k, same) in f)
+
+-- ---- why a request gets its verdict
+
+pub data Reason (n : Names) (a : Ask) : Verdict → Type 0 where
+  is_again : (x : Named) → find_named a.name (own_of n.known a.holder).recent ≡ Some x → (is_place x.ask.at a.at && bytes_eq x.ask.digest a.digest) ≡ true → Reason n a (verdicts.again x.answer)
+  is_another : (x : Named) → find_named a.name (own_of n.known a.holder).recent ≡ Some x → (is_place x.ask.at a.at && bytes_eq x.ask.digest a.digest) ≡ false → Reason n a verdicts.another
+  is_foreign : bytes_eq a.at.epoch (own_of n.known a.holder).epoch ≡ false → Reason n a verdicts.foreign
+  is_late : nat_lt (a.at.count + n.limits.names) (own_of n.known a.holder).count ≡ true → Reason n a verdicts.late
+  has_to_wait : is_over n a.holder ≡ true → Reason n a verdicts.over
+  is_ahead : nat_lt (own_of n.known a.holder).count a.at.count ≡ true → Reason n a verdicts.ahead
+  is_carried : is_over n a.holder ≡ false → Reason n a carry
+
+pub reason_of : (n : Names) (a : Ask) → Reason n a (verdict n a)
+reason_of n a = by (find_named a.name (own_of n.known a.holder).recent) refl
+  where
+    o : Own
+    o = own_of n.known a.holder
+
+    count : (l w d : Bool) → nat_lt (a.at.count + n.limits.names) (own_of n.known a.holder).count ≡ l → is_over n a.holder ≡ w → nat_lt (own_of n.known a.holder).count a.at.count ≡ d
+        → Reason n a (cond l verdicts.late (cond w verdicts.over (cond d verdicts.ahead carry)))
+    count true w d e f g = is_late e
+    count false true d e f g = has_to_wait f
+    count false false true e f g = is_ahead g
+    count false false false e f g = is_carried f
+
+    place : (b : Bool) → bytes_eq a.at.epoch (own_of n.known a.holder).epoch ≡ b → Reason n a (cond b (by_count n (own_of n.known a.holder) a) verdicts.foreign)
+    place true e = count (nat_lt (a.at.count + n.limits.names) o.count) (is_over n a.holder) (nat_lt o.count a.at.count) refl refl refl
+    place false e = is_foreign e
+
+    entry : (x : Named) → find_named a.name (own_of n.known a.holder).recent ≡ Some x → (b : Bool) → (is_place x.ask.at a.at && bytes_eq x.ask.digest a.digest) ≡ b
+        → Reason n a (cond b (verdicts.again x.answer) verdicts.another)
+    entry x f true e = is_again x f e
+    entry x f false e = is_another x f e
+
+    by : (f : Option Named) → find_named a.name (own_of n.known a.holder).recent ≡ f → Reason n a (by_found n (own_of n.known a.holder) a f)
+    by None f = place (bytes_eq a.at.epoch o.epoch) refl
+    by (Some x) f = entry x f (is_place x.ask.at a.at && bytes_eq x.ask.digest a.digest) refl
+
+-- ---- what is kept of a holder stands in the journal
+
+among_known : (es : List Named) (k : Known) (holder : List ℕ) (x : Named) → Among x (own_of (known_by k es) holder).recent → Among x (own_of k holder).recent ⊎ Among x (names_of holder es)
+among_known [] k holder x h = inl h
+among_known (e ∷ es) k holder x h = by (bytes_eq e.ask.holder holder) refl (among_known es (learned limits (named e) k) holder x h)
+  where
+    here : Among x (e ∷ (own_of k holder).recent) → Among x (own_of k holder).recent ⊎ Among x (e ∷ names_of holder es)
+    here (inl i) = inr (inl i)
+    here (inr i) = inl i
+
+    by : (d : Bool) → bytes_eq e.ask.holder holder ≡ d → Among x (own_of (learned limits (named e) k) holder).recent ⊎ Among x (names_of holder es)
+        → Among x (own_of k holder).recent ⊎ Among x (cond d (e ∷ names_of holder es) (names_of holder es))
+    by true q (inl i) = here (among_take 64 x (e ∷ (own_of k holder).recent) (subst (λ (o : Own). Among x o.recent) (own_same e k holder q) i))
+    by true q (inr i) = inr (inr i)
+    by false q (inl i) = inl (subst (λ (o : Own). Among x o.recent) (own_other e k holder q) i)
+    by false q (inr i) = inr i
+
+kept_named : (g : Gate) (holder : List ℕ) (x : Named) → Among x (own_of (known_of g) holder).recent → Among x (names_by g holder)
+kept_named g holder x h = by (among_known (names_in g.entries) (known_at g.head) holder x h)
+  where
+    by : Among x (own_of (known_at g.head) holder).recent ⊎ Among x (names_of holder (names_in g.entries)) → Among x (names_by g holder)
+    by (inl i) = absurd (subst (λ (o : Own). Among x o.recent) (own_at g.head holder) i)
+    by (inr i) = i
+
+among_filtered : (p : Named → Bool) (x : Named) (xs : List Named) → Among x (filter p xs) → Among x xs × (p x ≡ true)
+among_filtered p x [] h = absurd h
+among_filtered p x (y ∷ ys) h = by (p y) refl h (among_filtered p x ys)
+  where
+    by : (b : Bool) → p y ≡ b → Among x (cond b (y ∷ filter p ys) (filter p ys)) → (Among x (filter p ys) → Among x ys × (p x ≡ true)) → Among x (y ∷ ys) × (p x ≡ true)
+    by true e (inl i) more = (inl i, ap p (sym i) ∙ e)
+    by true e (inr i) more = let m = more i in (inr m.0, m.1)
+    by false e i more = let m = more i in (inr m.0, m.1)
+
+contains_among : (x : Named) (xs : List Named) → Among x xs → Contains xs x
+contains_among x [] h = absurd h
+contains_among x (y ∷ ys) (inl h) = subst (λ z. Contains (z ∷ ys) x) (sym h) (Contains-append_left (x ∷ []) ys x (Contains-push [] x))
+contains_among x (y ∷ ys) (inr h) = Contains-append_right (y ∷ []) ys x (contains_among x ys h)
+
+-- ---- as laws say it
+
+-- a request is the one that was entered
+same_ask : (a : Ask) (x : Named) → bytes_eq x.ask.holder a.holder ≡ true → x.ask.name ≡ a.name → (is_place x.ask.at a.at && bytes_eq x.ask.digest a.digest) ≡ true → x.ask ≡ a
+same_ask a x h n t =
+    let p = and_both (is_place x.ask.at a.at) (bytes_eq x.ask.digest a.digest) t in
+    let holder = same_bytes x.ask.holder a.holder h in let at = same_place x.ask.at a.at p.0 in let digest = same_bytes x.ask.digest a.digest p.1 in
+    λ i. record { holder = holder i; name = n i; at = at i; digest = digest i }
+
+pub again_said : (g : Gate) (a : Ask) (x : Named) → find_named a.name (own_of (known_of g) a.holder).recent ≡ Some x → (is_place x.ask.at a.at && bytes_eq x.ask.digest a.digest) ≡ true → IsAnswer g.entries a x.answer
+again_said g a x f t =
+    let m = found a.name (own_of (known_of g) a.holder).recent x f in
+    let p = among_filtered (λ (e : Named). bytes_eq e.ask.holder a.holder) x (names_in g.entries) (kept_named g a.holder x m.0) in
+    let same = same_ask a x p.1 m.1 t in
+    (x.refused, subst (λ z. Contains (names_in g.entries) (record { ask = z; refused = x.refused; answer = x.answer })) same (contains_among x (names_in g.entries) p.0))
+
+pub another_said : (g : Gate) (a : Ask) (x : Named) → find_named a.name (own_of (known_of g) a.holder).recent ≡ Some x → (is_place x.ask.at a.at && bytes_eq x.ask.digest a.digest) ≡ false → IsUndecided g a 101
+another_said g a x f t =
+    let m = found a.name (own_of (known_of g) a.holder).recent x f in
+    another x (contains_among x (names_by g a.holder) (kept_named g a.holder x m.0)) m.1 (λ h.
+    false≢true (sym t ∙ (ap (λ (z : Ask). is_place z.at a.at && bytes_eq z.digest a.digest) h ∙ (λ i. is_place_itself a.at i && itself a.digest i))))
+
+pub foreign_said : (g : Gate) (a : Ask) → bytes_eq a.at.epoch (own_of (known_of g) a.holder).epoch ≡ false → IsUndecided g a 103
+foreign_said g a t = foreign (λ h. false≢true (sym t ∙ (ap (bytes_eq a.at.epoch) (epoch_is g a.holder ∙ sym h) ∙ itself a.at.epoch)))
+
+pub late_said : (g : Gate) (a : Ask) → nat_lt (a.at.count + limits.names) (own_of (known_of g) a.holder).count ≡ true → IsUndecided g a 102
+late_said g a t = late (subst (λ n. a.at.count + 64 < n) (count_is g a.holder) (ltb-true (a.at.count + 64) (own_of (known_of g) a.holder).count t))
+
+pub ahead_said : (g : Gate) (a : Ask) → nat_lt (own_of (known_of g) a.holder).count a.at.count ≡ true → IsUndecided g a 104
+ahead_said g a t = ahead (subst (λ n. n < a.at.count) (count_is g a.holder) (ltb-true (own_of (known_of g) a.holder).count a.at.count t))
+
+pub over_said : (g : Gate) (a : Ask) → is_over (gates.names_of g) a.holder ≡ true → IsUndecided g a 104
+over_said g a t = by (nat_le limits.refusals spent) (nat_le limits.holders (known_of g).holders) ((known_of g).owns a.holder) refl refl refl t
+  where
+    spent : ℕ
+    spent = spent_by (spent_in (names_in (drop g.forgiven g.entries))) a.holder
+
+    none : (known_of g).owns a.holder ≡ None → count_of g a.holder ≡ 0
+    none e = sym (count_is g a.holder) ∙ ap (λ o. (unwrap_or o (record { epoch = (known_of g).epoch; count = 0; recent = [] })).count) e
+
+    by : (r h : Bool) (o : Option Own) → nat_le limits.refusals spent ≡ r → nat_le limits.holders (known_of g).holders ≡ h → (known_of g).owns a.holder ≡ o → (r || (h && not (is_some o))) ≡ true → IsUndecided g a 104
+    by true h o e f k u = refused_often (subst (λ n. limits.refusals ≤ n) (spent_is (names_in (drop g.forgiven g.entries)) a.holder) (le_true limits.refusals spent e))
+    by false true None e f k u = many (le_true limits.holders (known_of g).holders f) (none k)
+    by false true (Some o) e f k u = absurd (false≢true u)
+    by false false o e f k u = absurd (false≢true u)

@@ -1,7 +1,6 @@
 -- A step keeps clients in step with what their feeds show.
 use Rattle.std.proofs.Common.{◌≡◌, ℕ, Bool, true, false, cond, List, [], ◌∷◌, Option, Some, None, is_some, map, refl, ap, ◌∙◌, sym, subst}
 use Rattle.std.specs.Prelude.{◌++◌, option_and_then, option_map}
-use Rattle.std.specs.List.{AllByRecursion}
 use Rattle.iv_rows.specs.Options.{if_some}
 use Rattle.iv_access.specs.Privileges.{role_of}
 use Rattle.iv_access.specs.Rights.{Name}
@@ -9,12 +8,12 @@ use Rattle.iv_bind.specs.Catalogs.{CatalogEntry, named}
 use Rattle.iv_machine.specs.Act.{Act, begin, finish}
 use Rattle.iv_machine.specs.Machine.{Outcome, step}
 use Rattle.iv_machine.specs.Refusing.{refusal}
-use Rattle.iv_machine.specs.State.{Frame, State, Subscription, session_of, subscription_of}
+use Rattle.iv_machine.specs.State.{Frame, State, Subscription, session_of, subscription_of, start}
 use Rattle.iv_message.specs.Told.{Told, granted}
 use Rattle.iv_clients.specs.Clients.{Client, own_lines}
 use Rattle.iv_clients.specs.Feeds.{Feed, ends_in}
 use Rattle.iv_clients.specs.Journal.{Entry}
-use Rattle.iv_steps.specs.Laws.{IsStep, StepsAreTold}
+use Rattle.iv_steps.specs.Laws.{IsStep}
 use Rattle.iv_steps.specs.Steps.{Fact, all_carried, among, carried, is_shared, looked_at, passed, shared, stepped}
 use Rattle.iv_gate.specs.Arriving.{Step, entry_of, fact_of, fault_of, is_behind, landed, newly, takes}
 use Rattle.iv_gate.specs.Gate.{Gate, entered, informs, went_on}
@@ -23,6 +22,8 @@ use Rattle.iv_gate.proofs.Ending.{not_told, step_over}
 use Rattle.iv_gate.proofs.Machine.{number_same, there_some}
 use Rattle.iv_gate.proofs.Running.{all_so, informs_sound, settles_sound}
 use Rattle.iv_gate.proofs.Sound.{IsFeed, IsSoundGate, Sounds, told_quiet, went_on_ready}
+use Rattle.iv_machine.specs.Sound.{IsSoundState}
+use Rattle.iv_clients.proofs.Slots.{one_some}
 
 -- ---- roles and relations last
 
@@ -77,6 +78,25 @@ step_led sounds fs s o h = then_some (all_carried fs (shared s)) (λ t. Some (lo
     as_then None e = e
     as_then (Some t) e = e
 
+-- what facts make of a machine with nothing is sound, and nobody is there
+pub record IsBegun (s : State) : Type 0 where
+  pub sound : IsSoundState s
+  pub sessions : s.frame.sessions ≡ []
+  pub subscriptions : s.frame.subscriptions ≡ []
+  pub last : s.frame.last ≡ 0
+
+pub led_from_start : Sounds → (cap : ℕ) → IsSoundState (start cap) → (fs : List Fact) (t : State) → all_carried fs (start cap) ≡ Some t → IsBegun t
+led_from_start sounds cap b fs t h =
+    let o = looked_at (start cap) (among (start cap) t) in
+    let led = sounds.told fs (start cap) o b (ap (option_map (λ u. looked_at (start cap) (among (start cap) u))) h) in
+    let same : t ≡ shared o.state = one_some t (shared o.state) (sym h ∙ led.shared) in
+    record {
+      sound = subst IsSoundState (sym same) led.sound;
+      sessions = ap (λ (u : State). u.frame.sessions) same;
+      subscriptions = ap (λ (u : State). u.frame.subscriptions) same;
+      last = ap (λ (u : State). u.frame.last) same;
+    }
+
 -- ---- a gateway
 
 acts_still : (s : State) (o : Outcome) → IsLed s o → (n : ℕ) (role : Name) → ActsAs s n role → ActsAs o.state n role
@@ -99,8 +119,8 @@ feed_still fs s o l t f b e =
       acts = acts_still s o l f.session f.role b.acts;
     }
 
-pub landed_sound : Sounds → StepsAreTold → (g : Gate) (e : Entry) (fs : List Fact) (o : Outcome) → stepped fs g.machine ≡ Some o → IsSoundGate g → IsSoundGate (landed g e o)
-landed_sound sounds told g e fs o h b =
+pub landed_sound : Sounds → (g : Gate) (e : Entry) (fs : List Fact) (o : Outcome) → stepped fs g.machine ≡ Some o → IsSoundGate g → IsSoundGate (landed g e o)
+landed_sound sounds g e fs o h b =
     settles_sound (informs behind (e ∷ [])) (informs_sound behind (e ∷ []) (went_on_ready now o more (record {
       state = t.sound;
       seats = all_so (λ x a. acts_still g.machine o l x.session x.role a) g.seats b.seats;
@@ -111,7 +131,7 @@ landed_sound sounds told g e fs o h b =
     })))
   where
     t : IsStep fs g.machine o
-    t = told fs g.machine o b.state h
+    t = sounds.told fs g.machine o b.state h
 
     l : IsLed g.machine o
     l = step_led sounds fs g.machine o h
@@ -126,15 +146,15 @@ landed_sound sounds told g e fs o h b =
     behind = went_on now o (λ c. own_lines g.feeds o.lines c.subs ++ more c)
 
 -- a step that comes, whatever it is
-pub takes_sound : Sounds → StepsAreTold → (g : Gate) (s : Step) → IsSoundGate g → IsSoundGate (takes g s)
-takes_sound sounds told g s b = by (is_some (fault_of g s)) (is_behind g s)
+pub takes_sound : Sounds → (g : Gate) (s : Step) → IsSoundGate g → IsSoundGate (takes g s)
+takes_sound sounds g s b = by (is_some (fault_of g s)) (is_behind g s)
   where
     dead : IsSoundGate (record g { dead = true })
     dead = record { state = b.state; seats = b.seats; feeds = b.feeds; clients = b.clients }
 
     lands : (o : Option Outcome) → stepped (map fact_of s.requests) g.machine ≡ o → IsSoundGate (if_some o g (landed g (entry_of s)))
     lands None h = b
-    lands (Some o) h = landed_sound sounds told g (entry_of s) (map fact_of s.requests) o h b
+    lands (Some o) h = landed_sound sounds g (entry_of s) (map fact_of s.requests) o h b
 
     by : (x y : Bool) → IsSoundGate (cond x (record g { dead = true }) (cond y g (if_some (stepped (map fact_of s.requests) g.machine) g (landed g (entry_of s)))))
     by true y = dead

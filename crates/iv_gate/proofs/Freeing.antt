@@ -1,6 +1,6 @@
 -- Each event leads from a gateway whose feeds are followed, by clients of their roles, to another, and so does whatever happens.
 use Rattle.std.proofs.Common.{◌≡◌, ℕ, ◌+◌, Bool, true, false, not, cond, ◌||◌, List, [], ◌∷◌, ◌++◌, length, map, set, Option, Some, None, option_map, refl, ap, ◌∙◌, sym, subst, arith, ◌≤◌, ◌⊎◌, inl, inr}
-use Rattle.std.specs.Prelude.{◌==◌, ◌&&◌, bytes_eq, filter, find, nat_lt, codes}
+use Rattle.std.specs.Prelude.{◌==◌, ◌&&◌, bytes_eq, filter, find, nat_lt, codes, is_some}
 use Rattle.std.specs.List.{AllByRecursion, list_any}
 use Rattle.std.proofs.lemmas.Bool.{false≢true, eqb-true, or_left, or_right}
 use Rattle.serde_json.specs.Data.{Data}
@@ -8,7 +8,7 @@ use Rattle.iv_rows.specs.Options.{if_some}
 use Rattle.iv_access.specs.Rights.{Name}
 use Rattle.iv_machine.specs.Act.{Act, begin, finish, create_role, create_table, create_view, grant, revoke, grant_role, revoke_role, row_security, create_policy, drop_policy, subscribe, unsubscribe, write, Command, Refusal, Reply, done, subscribed, refused, too_many, unknown_subscription}
 use Rattle.iv_machine.specs.Changing.{after}
-use Rattle.iv_machine.specs.Machine.{step}
+use Rattle.iv_machine.specs.Machine.{step, Outcome}
 use Rattle.iv_machine.specs.Refusing.{refusal}
 use Rattle.iv_machine.specs.State.{State, Subscription, subscription_of}
 use Rattle.iv_message.specs.Message.{Message, no_json, too_long, no_object, no_request, request, unknown}
@@ -19,8 +19,8 @@ use Rattle.iv_clients.specs.Feeds.{Feed, Seat, feed_for, feed_of, is_of_role, is
 use Rattle.iv_clients.specs.Journal.{Entry, said_by, shape_for, Request, claim_said}
 use Rattle.iv_clients.specs.Tokens.{Token}
 use Rattle.iv_clients.proofs.Slots.{at_every, at_same, free_none, from, nobody, one_some, some_is_none}
-use Rattle.iv_gate.specs.Events.{Event, presented, message, gone, known, ticked, synced, handed, failed, happens, next, forgave}
-use Rattle.iv_gate.specs.Gate.{Gate, acts, all_rested, all_swept, begun_for, closes, columns_in, done_for, entered, feed_begun, hears, in_session, is_needed, joined, joined_by, joins, next_own, ran, reads, reads_first, reply_to, done_in, rested, token_for, said, seated, settles, shut, subscribes, swept, tells, told_of, went, with_session, informs, entries_of, shares, may_have, reply_told, at_text, replies_to, Head}
+use Rattle.iv_gate.specs.Events.{Event, presented, message, gone, known, ticked, synced, handed, failed, happens, next, forgave, arrived}
+use Rattle.iv_gate.specs.Gate.{Gate, acts, all_rested, all_swept, begun_for, closes, columns_in, done_for, entered, feed_begun, hears, in_session, is_needed, joined, joined_by, joins, next_own, ran, reads, reads_first, reply_to, done_in, rested, token_for, said, seated, settles, shut, subscribes, swept, tells, told_of, went, with_session, informs, entries_of, shares, may_have, reply_told, at_text, replies_to, Head, went_on}
 use Rattle.iv_gate.specs.Implied.{ReadsForClients}
 use Rattle.iv_gate.specs.Restoring.{Restores, gate_at_start}
 use Rattle.iv_gate.specs.Runs.{Runs, begins, goes_on, begins_again}
@@ -37,13 +37,16 @@ use Rattle.iv_gate.proofs.Sharing.{IsFed, one_role}
 use Rattle.iv_gate.proofs.Sound.{Adds, IsFeed, IsSoundGate, Sounds, any_more, filter_all, seer, seer_telling, Seer}
 use Rattle.iv_gate.proofs.Summing.{AreOwn, both, differs_back, is_back, neither, same_self}
 use Rattle.iv_gate.proofs.Touching.{came_as, opens_token, test_same}
-use Rattle.iv_gate.proofs.Using.{ran_using, AreFit, AreFollowed, Fits, IsUsing, fit_all, fit_one, followed_all, followed_by_one, followed_left, followed_one, followed_put, follows, follows_fewer, none_but, ran_subscribe, shrinks_same, shut_using}
+use Rattle.iv_gate.proofs.Using.{ran_using, AreFit, AreFollowed, Fits, IsUsing, fit_all, fit_one, followed_all, followed_by_one, followed_left, followed_one, followed_put, follows, follows_fewer, none_but, ran_subscribe, shrinks_same, shut_using, went_using}
 use Rattle.iv_gate.proofs.Shaping.{test_of}
 use Rattle.iv_clients.specs.Names.{Claim}
 use Rattle.iv_once.specs.Names.{Ask}
 use Rattle.iv_gate.proofs.Choosing.{shares_so}
 use Rattle.iv_gate.proofs.Stepping.{request_of}
 use Rattle.iv_journal.specs.Journal.{Line}
+use Rattle.iv_steps.specs.Steps.{Fact, stepped}
+use Rattle.iv_gate.specs.Arriving.{Step, entry_of, fact_of, fault_of, is_behind, landed, takes}
+use Rattle.iv_gate.proofs.Walking.{step_told}
 
 -- ---- clients that follow what they did
 
@@ -520,6 +523,22 @@ using_went g m a = by (client_at g.clients m) refl
           fit = put_one (Fits g.machine.frame.last g.feeds) m None g.clients (λ d i. absurd (some_is_none d (sym i))) a.fit;
         })))
 
+-- ---- a step
+
+using_landed : Sounds → (g : Gate) (e : Entry) (fs : List Fact) (o : Outcome) → stepped fs g.machine ≡ Some o → IsSoundGate g → IsUsing none_but g → IsUsing none_but (landed g e o)
+using_landed sounds g e fs o h b a =
+    let now = entered g (e ∷ []) in let behind = went_on now o (step_told g o) in let same = (sounds.told fs g.machine o b.state h).last in
+    using_settles (informs behind (e ∷ [])) (using_informs behind (e ∷ []) (went_using none_but now o (step_told g o) (omega (arith, same)) (record { followed = a.followed; fit = a.fit })))
+
+using_takes : Sounds → (g : Gate) (x : Step) → IsSoundGate g → IsUsing none_but g → IsUsing none_but (takes g x)
+using_takes sounds g x b a = by (is_some (fault_of g x)) (is_behind g x) (stepped (map fact_of x.requests) g.machine) refl
+  where
+    by : (d p : Bool) (o : Option Outcome) → stepped (map fact_of x.requests) g.machine ≡ o → IsUsing none_but (cond d (record g { dead = true }) (cond p g (if_some o g (landed g (entry_of x)))))
+    by true p o e = record { followed = a.followed; fit = a.fit }
+    by false true o e = a
+    by false false None e = a
+    by false false (Some o) e = using_landed sounds g (entry_of x) (map fact_of x.requests) o e b a
+
 -- ---- each event, and whatever happens
 
 happens_using : Adds → Sounds → (g : Gate) (e : Event) → AreEven g → IsSoundGate g → IsUsing none_but g → IsUsing none_but (happens g e)
@@ -530,6 +549,7 @@ happens_using adds sounds g (known tokens) even b a = let x = using_all none_but
 happens_using adds sounds g ticked even b a = using_all none_but g (beating g.entries) (λ c. refl) (λ c. refl) a
 happens_using adds sounds g synced even b a = let x = using_all none_but g released released_subs released_role a in record { followed = x.followed; fit = x.fit }
 happens_using adds sounds g (handed m) even b a = let x = using_one none_but g m handing handing_subs handing_role a in record { followed = x.followed; fit = x.fit }
+happens_using adds sounds g (arrived x) even b a = using_takes sounds g x b a
 happens_using adds sounds g forgave even b a = record { followed = a.followed; fit = a.fit }
 happens_using adds sounds g failed even b a = record { followed = a.followed; fit = a.fit }
 

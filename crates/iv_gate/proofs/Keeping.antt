@@ -1,37 +1,36 @@
 -- Whatever happens, sessions and subscriptions of the machine are those of the gateway, and each session has room for what is asked once more.
 use Rattle.std.proofs.Common.{◌≡◌, ◌⊎◌, inl, inr, ℕ, zero, suc, ◌<◌, ◌≤◌, Bool, true, false, not, cond, ◌||◌, List, [], ◌∷◌, ◌++◌, length, map, set, replicate, Option, Some, None, is_some, option_map, refl, ap, ◌∙◌, sym, subst, arith}
-use Rattle.std.specs.Prelude.{◌==◌, ◌&&◌, bytes_eq, filter, find, nat_lt, option_and_then, codes}
+use Rattle.std.specs.Prelude.{◌==◌, ◌&&◌, bytes_eq, filter, find, nat_lt, codes}
 use Rattle.std.specs.List.{AllByRecursion, list_any}
 use Rattle.std.proofs.lemmas.Bool.{false≢true}
 use Rattle.std.proofs.lemmas.Slice.Eq.{bytes_eq-Decides}
 use Rattle.serde_json.specs.Data.{Data}
 use Rattle.iv_rows.specs.Options.{if_some}
 use Rattle.iv_access.specs.Rights.{Name}
-use Rattle.iv_machine.specs.Act.{Act, begin, finish, create_role, create_table, create_view, grant, revoke, grant_role, revoke_role, row_security, create_policy, drop_policy, subscribe, unsubscribe, write, Command, Refusal, Reply, done, subscribed, refused, too_many, unknown_subscription}
-use Rattle.iv_machine.specs.Changing.{after, after_subscriptions}
-use Rattle.iv_machine.specs.Machine.{ending_by, outcome, step}
-use Rattle.iv_machine.specs.Refusing.{refusal}
-use Rattle.iv_machine.specs.State.{State, Subscription, start}
+use Rattle.iv_machine.specs.Act.{Act, begin, finish, create_role, create_table, create_view, grant, revoke, grant_role, revoke_role, row_security, create_policy, drop_policy, subscribe, unsubscribe, write, Command, Reply, done, subscribed, refused, too_many, unknown_subscription}
+use Rattle.iv_machine.specs.Machine.{step, Outcome}
+use Rattle.iv_machine.specs.State.{State, start}
 use Rattle.iv_message.specs.Message.{Message, no_json, too_long, no_object, no_request, request, unknown}
-use Rattle.iv_message.specs.Told.{Told, replied, fault, unasked, settled}
-use Rattle.iv_clients.specs.Bounds.{entry_session, most_feeds, most_subs}
-use Rattle.iv_clients.specs.Clients.{Client, Shown, Slots, Sub, answered, at_all, at_client, beating, checked, client_at, closing, dropping, followed_by, fresh, handing, has_role, is_followed, is_slow, may_say, moved, opens, released, saying, settling, telling, told_one}
+use Rattle.iv_message.specs.Told.{Told, replied, fault, unasked, settled, granted}
+use Rattle.iv_clients.specs.Bounds.{most_feeds, most_subs}
+use Rattle.iv_clients.specs.Clients.{Client, Shown, Slots, Sub, answered, at_all, at_client, beating, checked, client_at, closing, dropping, followed_by, fresh, handing, has_role, is_followed, is_slow, may_say, moved, opens, released, saying, settling, telling, told_one, own_lines}
 use Rattle.iv_clients.specs.Feeds.{Feed, Seat, ends_in, feed_for, feed_of, is_of_role, is_reading, room_for, seat_of, without_seat}
-use Rattle.iv_clients.specs.Journal.{Entry, IsEntry, is_shared, said_by, shape_for, Request, claim_said}
+use Rattle.iv_clients.specs.Journal.{Entry, said_by, shape_for, Request, claim_said, requests_in}
 use Rattle.iv_clients.specs.Tokens.{Token}
 use Rattle.iv_clients.proofs.Slots.{at_same, one_some, some_is_none}
-use Rattle.iv_gate.specs.Events.{Event, presented, message, gone, known, ticked, synced, handed, failed, happens, next}
-use Rattle.iv_gate.specs.Gate.{Gate, acts, all_rested, all_swept, begun_for, closes, done_for, entered, has_session, hears, in_session, is_accepted, is_needed, joined, joined_by, joins, ran, reads, reads_first, reply_in, reply_to, done_in, rested, token_for, said, seated, settles, shut, subscribes, swept, tells, went, with_session, informs, entries_of, at_text, shares, may_have, reply_told, replies_to}
+use Rattle.iv_gate.specs.Events.{Event, presented, message, gone, known, ticked, synced, handed, failed, happens, next, arrived, forgave}
+use Rattle.iv_gate.specs.Gate.{Gate, acts, all_rested, all_swept, begun_for, closes, done_for, entered, has_session, hears, in_session, is_needed, joined, joined_by, joins, ran, reads, reads_first, reply_to, done_in, rested, token_for, said, seated, settles, shut, subscribes, swept, tells, went, with_session, informs, entries_of, at_text, shares, may_have, reply_told, replies_to, Head, went_on}
 use Rattle.iv_gate.specs.Replies.{ActsAs}
-use Rattle.iv_gate.specs.Restoring.{Restores, all_replayed, gate_at_start, passed, replayed}
-use Rattle.iv_gate.proofs.Asking.{IsHeard, accepted_by, asker_of, feed_acts, seated_sound}
+use Rattle.iv_journal.specs.Journal.{Line}
+use Rattle.iv_gate.specs.Restoring.{Restores, gate_at_start}
+use Rattle.iv_gate.proofs.Asking.{IsHeard, asker_of, feed_acts, seated_sound}
 use Rattle.iv_gate.proofs.Few.{AreFew, feeds_in, few_joins, few_less, few_subscribes, found_for, new_has_room, none_reading, room_has, shorter_by}
 use Rattle.iv_gate.proofs.Finishing.{rested_sound}
 use Rattle.iv_gate.proofs.Joining.{same_name}
 use Rattle.iv_gate.proofs.Opening.{IsAsker, subscribes_sound}
 use Rattle.iv_gate.proofs.Running.{all_so, all_swept_sound, client_said, filter_plain, found_all, one_sound, swept_sound}
 use Rattle.iv_gate.proofs.Serving.{AreEven, IsEven, put_sound, says_stays}
-use Rattle.iv_gate.proofs.Sharing.{IsAlone, IsFed, IsShared, alone_of, begun_sessions, finished_sessions, is_plain, numbers_in, plain_keeps, seats_in, sessions_step, shared_all, shared_finished, shared_one, shared_plain, shared_seated, shared_shut, shared_subscribes, subscriptions_same}
+use Rattle.iv_gate.proofs.Sharing.{IsAlone, IsFed, IsShared, alone_of, is_plain, numbers_in, seats_in, shared_all, shared_finished, shared_one, shared_plain, shared_seated, shared_shut, shared_subscribes, shared_stepped}
 use Rattle.iv_gate.proofs.Sound.{Adds, IsFeed, IsSoundGate, Sounds, seer, seer_telling, Seer}
 use Rattle.iv_gate.proofs.Summing.{neither}
 use Rattle.iv_gate.proofs.Touching.{came_as, opens_token, test_same}
@@ -40,6 +39,10 @@ use Rattle.iv_clients.specs.Names.{Claim}
 use Rattle.iv_once.specs.Names.{Ask}
 use Rattle.iv_gate.proofs.Choosing.{shares_so}
 use Rattle.iv_gate.proofs.Stepping.{request_of}
+use Rattle.iv_steps.specs.Steps.{Fact, stepped}
+use Rattle.iv_machine.specs.Sound.{IsSoundState}
+use Rattle.iv_gate.specs.Arriving.{Step, entry_of, fact_of, fault_of, is_behind, landed, newly, takes}
+use Rattle.iv_gate.proofs.Arrived.{led_from_start}
 
 -- what holds of a gateway besides that its clients are in step
 pub record IsKept (g : Gate) : Type 0 where
@@ -378,6 +381,24 @@ kept_as g h m s f c b = record {
   few = subst AreFew (sym f) b.few;
 }
 
+-- a step
+kept_landed : Sounds → (g : Gate) (e : Entry) (fs : List Fact) (o : Outcome) → stepped fs g.machine ≡ Some o → IsSoundGate g → IsKept g → IsKept (landed g e o)
+kept_landed sounds g e fs o h s b =
+    let now = entered g (e ∷ []) in let behind = went_on now o (λ c. own_lines g.feeds o.lines c.subs ++ map granted (newly g.machine.frame o.state.frame c.role)) in
+    kept_settles (informs behind (e ∷ [])) (kept_informs behind (e ∷ []) (record { shared = shared_stepped sounds g (e ∷ []) fs o (λ c. own_lines g.feeds o.lines c.subs ++ map granted (newly g.machine.frame o.state.frame c.role)) h s.state b.shared; few = few_less _ g.feeds b.few }))
+
+kept_takes : Sounds → (g : Gate) (x : Step) → IsSoundGate g → IsKept g → IsKept (takes g x)
+kept_takes sounds g x s b = by (is_some (fault_of g x)) (is_behind g x)
+  where
+    lands : (o : Option Outcome) → stepped (map fact_of x.requests) g.machine ≡ o → IsKept (if_some o g (landed g (entry_of x)))
+    lands None h = b
+    lands (Some o) h = kept_landed sounds g (entry_of x) (map fact_of x.requests) o h s b
+
+    by : (d p : Bool) → IsKept (cond d (record g { dead = true }) (cond p g (if_some (stepped (map fact_of x.requests) g.machine) g (landed g (entry_of x)))))
+    by true p = kept_as g (record g { dead = true }) refl refl refl refl b
+    by false true = b
+    by false false = lands (stepped (map fact_of x.requests) g.machine) refl
+
 kept_happens : Adds → Sounds → (g : Gate) (e : Event) → AreEven g → IsSoundGate g → IsKept g → IsKept (happens g e)
 kept_happens adds sounds g (presented m token) even s b = by (token_for g m token) refl
   where
@@ -390,6 +411,8 @@ kept_happens adds sounds g (known tokens) even s b = kept_as (record g { clients
 kept_happens adds sounds g ticked even s b = kept_all g (beating g.entries) (λ c. refl) b
 kept_happens adds sounds g synced even s b = kept_as (record g { clients = at_all released g.clients }) (happens g synced) refl refl refl refl (kept_all g released released_role b)
 kept_happens adds sounds g (handed m) even s b = kept_as (record g { clients = at_client m handing g.clients }) (happens g (handed m)) refl refl refl refl (kept_one g m handing handing_role b)
+kept_happens adds sounds g (arrived st) even s b = kept_takes sounds g st s b
+kept_happens adds sounds g forgave even s b = kept_as g (happens g forgave) refl refl refl refl b
 kept_happens adds sounds g failed even s b = kept_as g (happens g failed) refl refl refl refl b
 
 pub kept_next : Adds → Sounds → (g : Gate) (e : Event) → AreEven g → IsSoundGate g → IsKept g → IsKept (next g e)
@@ -405,80 +428,15 @@ no_roles : (most : ℕ) (role : Name) → has_role role (replicate most None) �
 no_roles zero role = refl
 no_roles (suc n) role = no_roles n role
 
--- no session and no subscription is open where entries led
-pub record IsHung (s : State) : Type 0 where
-  pub sessions : numbers_in s.frame.sessions ≡ []
-  pub subscriptions : s.frame.subscriptions ≡ []
-
-none_opened : (s : State) (n : ℕ) (act : Act) (o : Option Refusal) → after_subscriptions s.frame n act ≡ [] → s.frame.subscriptions ≡ [] → (outcome s (in_session n act) o).state.frame.subscriptions ≡ []
-none_opened s n act (Some r) a h = h
-none_opened s n act None a h = ap (filter (λ e. not (is_some (ending_by act (after s n act) e)))) a
-
-shared_plainly : (act : Act) → is_shared act ≡ true → is_plain act ≡ true
-shared_plainly (begin role) h = absurd (false≢true h)
-shared_plainly finish h = absurd (false≢true h)
-shared_plainly (create_role name) h = refl
-shared_plainly (create_table name owner columns) h = refl
-shared_plainly (create_view name owner query) h = refl
-shared_plainly (grant rel privileges to) h = refl
-shared_plainly (revoke rel privileges to) h = refl
-shared_plainly (grant_role group to) h = refl
-shared_plainly (revoke_role group to) h = refl
-shared_plainly (row_security rel enable force) h = refl
-shared_plainly (create_policy p) h = refl
-shared_plainly (drop_policy rel name) h = refl
-shared_plainly (subscribe rel) h = absurd (false≢true h)
-shared_plainly (unsubscribe k) h = absurd (false≢true h)
-shared_plainly (write entries) h = refl
-
--- what is passed is the step, which was accepted
-pub record IsPassed (s t : State) (k : Command) : Type 0 where
-  pub accepted : refusal s k.session k.act ≡ None
-  pub state : (step s k).state ≡ t
-
-pub passed_step : (s t : State) (k : Command) → passed s k ≡ Some t → IsPassed s t k
-passed_step s t k h = by (is_accepted (reply_in (step s k).lines)) refl h
-  where
-    by : (a : Bool) → is_accepted (reply_in (step s k).lines) ≡ a → cond a (Some (step s k).state) None ≡ Some t → IsPassed s t k
-    by true e i = record { accepted = accepted_by s k (refusal s k.session k.act) e; state = one_some (step s k).state t i }
-    by false e i = absurd (some_is_none t (sym i))
-
-bound_to : {X Y : Type 0} (o : Option X) (f : X → Option Y) (y : Y) (P : Type 0) → option_and_then f o ≡ Some y → ((x : X) → o ≡ Some x → f x ≡ Some y → P) → P
-bound_to None f y P h k = absurd (some_is_none y (sym h))
-bound_to (Some x) f y P h k = k x refl h
-
-hung_replayed : (s t : State) (e : Entry) → is_shared e.act ≡ true → IsHung s → replayed s e ≡ Some t → IsHung t
-hung_replayed s t e p b h =
-    bound_to (passed s (in_session entry_session (begin e.role))) (λ u. option_and_then (λ v. passed v (in_session entry_session finish)) (passed u (in_session entry_session e.act))) t (IsHung t) h
-    (λ u i k. bound_to (passed u (in_session entry_session e.act)) (λ v. passed v (in_session entry_session finish)) t (IsHung t) k (λ v j l. whole u v (passed_step s u _ i) (passed_step u v _ j) (passed_step v t _ l)))
-  where
-    whole : (u v : State) → IsPassed s u (in_session entry_session (begin e.role)) → IsPassed u v (in_session entry_session e.act) → IsPassed v t (in_session entry_session finish) → IsHung t
-    whole u v x y z =
-        let plain = shared_plainly e.act p in
-        let us : numbers_in u.frame.sessions ≡ entry_session ∷ [] = ap (λ (w : State). numbers_in w.frame.sessions) (sym x.state)
-        ∙ (begun_sessions s entry_session e.role (refusal s entry_session (begin e.role)) x.accepted ∙ ap (λ r. r ++ entry_session ∷ []) b.sessions) in
-        let vs : numbers_in v.frame.sessions ≡ entry_session ∷ [] = ap (λ (w : State). numbers_in w.frame.sessions) (sym y.state) ∙ (ap numbers_in (sessions_step u (in_session entry_session e.act) (plain_keeps e.act plain)) ∙ us) in
-        let un : u.frame.subscriptions ≡ [] = ap (λ (w : State). w.frame.subscriptions) (sym x.state) ∙ none_opened s entry_session (begin e.role) (refusal s entry_session (begin e.role)) b.subscriptions b.subscriptions in
-        let vn : v.frame.subscriptions ≡ [] = ap (λ (w : State). w.frame.subscriptions) (sym y.state)
-        ∙ none_opened u entry_session e.act (refusal u entry_session e.act) (subscriptions_same u.frame entry_session e.act plain ∙ un) un in
-        record {
-          sessions = ap (λ (w : State). numbers_in w.frame.sessions) (sym z.state) ∙ (finished_sessions v entry_session (refusal v entry_session finish) refl ∙ ap (filter (λ i. not (entry_session == i))) vs);
-          subscriptions = ap (λ (w : State). w.frame.subscriptions) (sym z.state)
-              ∙ none_opened v entry_session finish (refusal v entry_session finish) (ap (filter (λ (x : Subscription). not (entry_session == x.session))) vn) vn;
-        }
-
-hung_all : (s t : State) (es : List Entry) → AllByRecursion IsEntry es → IsHung s → all_replayed s es ≡ Some t → IsHung t
-hung_all s t [] a b h = subst IsHung (one_some s t h) b
-hung_all s t (e ∷ es) a b h = bound_to (replayed s e) (λ u. all_replayed u es) t (IsHung t) h (λ u i k. hung_all u t es a.1 (hung_replayed s u e a.0.shared b i) k)
-
-pub kept_restored : (cap : ℕ) (tokens : List Token) (most : ℕ) (head : Head) (sent : List Shown) (journal : List Line) (g : Gate) → Restores (gate_at_start cap tokens most head sent) journal g → IsKept g
-kept_restored cap tokens most sent journal g r =
-    let b = hung_all (start cap) r.state g.entries r.leads.well (record { sessions = refl; subscriptions = refl }) r.leads.accepted in
+pub kept_restored : Sounds → (cap : ℕ) → IsSoundState (start cap) → (tokens : List Token) (most : ℕ) (head : Head) (sent : List Shown) (journal : List Line) (g : Gate)
+    → Restores (gate_at_start cap tokens most head sent) journal g → IsKept g
+kept_restored sounds cap b tokens most head sent journal g r =
+    let x = led_from_start sounds cap b (map fact_of (requests_in g.entries)) r.leads.state r.leads.accepted in
     subst IsKept (sym r.leads.gate) (record {
       shared = record {
-        sessions = b.sessions;
+        sessions = ap numbers_in x.sessions;
         seated = λ role h. absurd (false≢true (sym (no_roles most role) ∙ h));
-        fed = subst (AllByRecursion (IsFed [])) (sym b.subscriptions) tt;
+        fed = subst (AllByRecursion (IsFed [])) (sym x.subscriptions) tt;
       };
       few = record { few = λ n. omega arith; apart = tt; once = λ role rel. omega arith };
     })

@@ -71,11 +71,11 @@ subs_reply : (feeds : List Feed) (l : Line) (xs : List Sub) → replies (flat_ma
 subs_reply feeds l [] = refl
 subs_reply feeds l (x ∷ xs) = none_replied (own_line feeds l x) (flat_map (own_line feeds l) xs) (line_replies feeds l x) (subs_reply feeds l xs)
 
-lines_reply : (feeds : List Feed) (ls : List Line) (xs : List Sub) → replies (own_lines feeds ls xs) ≡ []
+pub lines_reply : (feeds : List Feed) (ls : List Line) (xs : List Sub) → replies (own_lines feeds ls xs) ≡ []
 lines_reply feeds [] xs = refl
 lines_reply feeds (l ∷ ls) xs = none_replied (flat_map (own_line feeds l) xs) (own_lines feeds ls xs) (subs_reply feeds l xs) (lines_reply feeds ls xs)
 
-grants_reply : (names : List Name) → replies (map granted names) ≡ []
+pub grants_reply : (names : List Name) → replies (map granted names) ≡ []
 grants_reply [] = refl
 grants_reply (n ∷ names) = grants_reply names
 

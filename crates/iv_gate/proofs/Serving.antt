@@ -157,7 +157,7 @@ happens_sound adds sounds g (known tokens) even b = knowing_sound g tokens b
 happens_sound adds sounds g ticked even b = ticking_sound g b
 happens_sound adds sounds g synced even b = on_disk_sound g b
 happens_sound adds sounds g (handed m) even b = hands_sound g m b
-happens_sound adds sounds g (arrived s) even b = takes_sound sounds told g s b
+happens_sound adds sounds g (arrived s) even b = takes_sound sounds g s b
 happens_sound adds sounds g forgave even b = record { state = b.state; seats = b.seats; feeds = b.feeds; clients = b.clients }
 happens_sound adds sounds g failed even b = record { state = b.state; seats = b.seats; feeds = b.feeds; clients = b.clients }
 

@@ -24,6 +24,7 @@ use Rattle.iv_clients.specs.Clients.{Client, Shown, Sub, all_shown, client_at, o
 use Rattle.iv_clients.specs.Feeds.{Feed, ends_in, feed_of, feeds_left, is_end, rel_read}
 use Rattle.iv_clients.specs.Journal.{Entry, said_by}
 use Rattle.iv_clients.proofs.Slots.{IsFrom, at_every, from}
+use Rattle.iv_steps.specs.Laws.{StepsAreTold}
 use Rattle.iv_gate.specs.Gate.{Gate, granted_by, is_accepted, ran, reply_in, went_on}
 use Rattle.iv_gate.specs.Replies.{ActsAs, replies}
 use Rattle.iv_gate.specs.Seen.{is_end_of}
@@ -219,13 +220,14 @@ Spares s k j = list_any (λ i. j == i) (closed_in s k (refusal s k.session k.act
 abbrev pub Adds : Type 0
 Adds = (s : State) (cs : List Command) → AreNumbersUnique s.frame → AddsUp s cs
 
--- a command leads from a sound state to another, what stands lasts, no subscription ends untold, and what is named is opened
+-- a command leads from a sound state to another, what stands lasts, no subscription ends untold, and what is named is opened; and steps are told
 pub record Sounds : Type 0 where
   pub sound : (s : State) (c : Command) → IsSoundState s → IsSoundState (step s c).state
   pub lasts : (s : State) (c : Command) → Lasts c s.frame (step s c).state.frame
   pub ends : (s : State) (c : Command) → AreNumbersUnique s.frame → EndsAreTold s c
   pub begins : (s : State) (n : ℕ) (role : Name) → BeginOpens s n role
   pub subscribes : (s : State) (n : ℕ) (rel : Name) → AreNumbersUnique s.frame → SubscribeOpens s n rel
+  pub told : StepsAreTold
 
 pub one_adds : Adds → (s : State) (k : Command) (j : ℕ) (q : List Cell) → AreNumbersUnique s.frame → Spares s k j
     → held j q (step s k).lines ≡ weight (shown s j) (shown (step s k).state j) q

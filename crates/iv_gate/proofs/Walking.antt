@@ -1,22 +1,25 @@
 -- A fact of clients that each step keeps, through all that an event does.
-use Rattle.std.proofs.Common.{◌≡◌, ℕ, Bool, true, false, List, [], ◌∷◌, Option, Some, option_map, refl, ap, ◌∙◌, subst}
-use Rattle.std.specs.Prelude.{◌==◌}
+use Rattle.std.proofs.Common.{◌≡◌, ℕ, Bool, true, false, List, [], ◌∷◌, Option, Some, option_map, refl, ap, ◌∙◌, subst, cond}
+use Rattle.std.specs.Prelude.{◌==◌, ◌++◌, is_some, map}
 use Rattle.std.specs.List.{AllByRecursion}
 use Rattle.std.proofs.lemmas.Bool.{eqb-true, eqb-false}
 use Rattle.serde_json.specs.Data.{Data}
 use Rattle.iv_access.specs.Rights.{Name}
 use Rattle.iv_machine.specs.Act.{Command, Reply, refused}
-use Rattle.iv_machine.specs.Machine.{step}
+use Rattle.iv_machine.specs.Machine.{step, Outcome}
 use Rattle.iv_message.specs.Message.{Message}
-use Rattle.iv_message.specs.Told.{Told, made}
-use Rattle.iv_clients.specs.Clients.{Client, Slots, at_all, at_client, client_at, closing, following, moved, settling, staying, telling, told_one}
+use Rattle.iv_message.specs.Told.{Told, made, granted}
+use Rattle.iv_clients.specs.Clients.{Client, Slots, at_all, at_client, client_at, closing, following, moved, settling, staying, telling, told_one, own_lines}
 use Rattle.iv_clients.specs.Feeds.{Seat}
 use Rattle.iv_clients.specs.Journal.{Entry, Request, shape_for}
 use Rattle.iv_once.specs.Names.{Ask}
 use Rattle.iv_clients.proofs.Slots.{at_every, at_other, at_same}
-use Rattle.iv_gate.specs.Gate.{Gate, all_rested, all_swept, done_for, entered, entries_of, in_session, ran, replies_to, reply_to, reply_told, done_in, settles, informs, tells, told_of, with_session}
+use Rattle.iv_gate.specs.Gate.{Gate, all_rested, all_swept, done_for, entered, entries_of, in_session, ran, replies_to, reply_to, reply_told, done_in, settles, informs, tells, told_of, with_session, went_on}
 use Rattle.iv_gate.proofs.Shaping.{all_made}
 use Rattle.iv_gate.proofs.Stepping.{Steps, request_of, step_all_rested, step_all_swept, step_done, step_with}
+use Rattle.iv_gate.specs.Arriving.{Step, entry_of, fact_of, fault_of, is_behind, landed, newly, takes}
+use Rattle.iv_rows.specs.Options.{if_some}
+use Rattle.iv_steps.specs.Steps.{stepped}
 
 -- what each step keeps of each client; client m alone is told what is its own
 pub record Kit (m : ℕ) (R : ℕ → Client → Client → Type 0) : Type 0 where
@@ -37,6 +40,10 @@ pub record Later (R : ℕ → Client → Client → Type 0) (slots : Slots) (j :
 
 abbrev pub Leads : (ℕ → Client → Client → Type 0) → Slots → Slots → Type 0
 Leads R old new = (j : ℕ) (c : Client) → client_at old j ≡ Some c → Later R new j c
+
+-- what a client is told of a step, but for the shape and that this is all
+abbrev pub step_told : Gate → Outcome → Client → List Told
+step_told g o c = own_lines g.feeds o.lines c.subs ++ map granted (newly g.machine.frame o.state.frame c.role)
 
 module _ (m : ℕ) (R : ℕ → Client → Client → Type 0) (kit : Kit m R) where
   pub to_same : (slots : Slots) → Leads R slots slots
@@ -110,3 +117,25 @@ module _ (m : ℕ) (R : ℕ → Client → Client → Type 0) (kit : Kit m R) wh
   to_done g c text s =
       step_done m (λ h i. Leads R h.clients i.clients) steps g (λ h. Leads R g.clients h.clients) (λ h x. x) c text s
       (λ id act name n e shared seat. to_requests g id (request_of c text act) name n) (λ id act a r e shared. to_replies g id (request_of c text act) (Some a) (refused r))
+
+  -- ---- a step of the log
+
+  pub to_landed : (g : Gate) (e : Entry) (o : Outcome) → ((j : ℕ) (c : Client) → R j c (staying o.lines (telling (g.entries ++ e ∷ []) (step_told g o c) c)))
+      → Leads R g.clients (landed g e o).clients
+  to_landed g e o hear =
+      let now = entered g (e ∷ []) in let h = went_on now o (step_told g o) in let i = informs h (e ∷ []) in
+      to_then g.clients h.clients (landed g e o).clients (to_all (λ c. staying o.lines (telling now.entries (step_told g o c) c)) hear g.clients)
+      (to_then h.clients i.clients (landed g e o).clients (to_informs h (e ∷ [])) (to_settles i))
+
+  -- whatever comes of it
+  pub to_takes : (g : Gate) (s : Step)
+      → ((o : Outcome) → stepped (map fact_of s.requests) g.machine ≡ Some o → (j : ℕ) (c : Client) → R j c (staying o.lines (telling (g.entries ++ entry_of s ∷ []) (step_told g o c) c)))
+      → Leads R g.clients (takes g s).clients
+  to_takes g s hear = by (is_some (fault_of g s)) (is_behind g s) (stepped (map fact_of s.requests) g.machine) refl
+    where
+      by : (d p : Bool) (o : Option Outcome) → stepped (map fact_of s.requests) g.machine ≡ o
+          → Leads R g.clients (cond d (record g { dead = true }) (cond p g (if_some o g (landed g (entry_of s))))).clients
+      by true p o e = to_same g.clients
+      by false true o e = to_same g.clients
+      by false false None e = to_same g.clients
+      by false false (Some o) e = to_landed g (entry_of s) o (hear o e)

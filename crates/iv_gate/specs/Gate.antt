@@ -1,5 +1,5 @@
 -- The gateway: the access machine, its sessions by role, the feeds that clients share, the clients, and the journal's entries.
-use Rattle.std.specs.Prelude.{ℕ, ◌+◌, ◌==◌, ◌&&◌, ◌||◌, not, Bool, true, false, if◌then◌else◌, List, [], ◌∷◌, ◌++◌, codes, drop, map, filter, flat_map, length, nat_lt, slice_set, Option, Some, None, option_and_then, is_some}
+use Rattle.std.specs.Prelude.{ℕ, ◌+◌, ◌==◌, ◌&&◌, ◌||◌, not, Bool, true, false, if◌then◌else◌, List, [], ◌∷◌, ◌++◌, codes, drop, map, filter, flat_map, length, nat_lt, slice_set, Option, Some, None, option_and_then, option_map, unwrap_or, is_some}
 use Rattle.std.specs.List.{list_any}
 use Rattle.sha2.specs.Sha256.{sha256}
 use Rattle.serde_json.specs.Data.{Data, object}
@@ -32,11 +32,17 @@ pub record Log : Type 0 where
   pub name : List ℕ
   pub epoch : List ℕ
 
--- what the journal says before its first entry: what is known of names; the log that it follows, if it follows one, and where that stands
+-- what the journal says before its first entry: where the names of each holder stand, of whom there are so many, and in which epoch those of
+-- others begin; the log that it follows, if it follows one, and where that stands
 pub record Head : Type 0 where
-  pub names : Known
+  pub epoch : List ℕ
+  pub places : List ℕ → Option Place
+  pub holders : ℕ
   pub log : Option Log
   pub position : ℕ
+
+abbrev pub place_at : Head → List ℕ → Place
+place_at h holder = unwrap_or (h.places holder) (record { epoch = h.epoch; count = 0 })
 
 -- `entries` are those of the journal, of which the first `kept` are on disk; the names that were refused in the first `forgiven` are
 -- forgiven. Once it is `dead` nothing happens any more. `sent` is all text that was handed on, to whomever; the code has no memory of it.
@@ -212,9 +218,13 @@ abbrev pub known_by : Known → List Named → Known
 known_by k [] = k
 known_by k (e ∷ es) = known_by (learned limits (once.named e) k) es
 
+-- what is known of names before the first entry: no name
+abbrev pub known_at : Head → Known
+known_at h = record { epoch = h.epoch; owns = λ holder. option_map (λ p. record { epoch = p.epoch; count = p.count; recent = [] }) (h.places holder); holders = h.holders }
+
 -- what is known of names: what the journal says of them
 abbrev pub known_of : Gate → Known
-known_of g = known_by g.head.names (names_in g.entries)
+known_of g = known_by (known_at g.head) (names_in g.entries)
 
 abbrev pub place_of : Gate → List ℕ → Place
 place_of g holder = let o = own_of (known_of g) holder in record { epoch = o.epoch; count = o.count }

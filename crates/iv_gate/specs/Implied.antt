@@ -10,10 +10,10 @@ use Rattle.iv_clients.specs.Feeds.{rel_read}
 use Rattle.iv_clients.specs.Names.{limits}
 use Rattle.iv_clients.specs.Tokens.{Token}
 use Rattle.iv_journal.specs.Journal.{Line}
-use Rattle.iv_once.specs.Names.{Ask, own_of}
+use Rattle.iv_once.specs.Names.{Ask}
 use Rattle.iv_gate.specs.Arriving.{Step, position, settled_at}
 use Rattle.iv_gate.specs.Events.{Event, arrived, next}
-use Rattle.iv_gate.specs.Gate.{Gate, has_some, most_shape, shape_text}
+use Rattle.iv_gate.specs.Gate.{Gate, has_some, most_shape, place_at, shape_text}
 use Rattle.iv_gate.specs.Laws.{is_made, is_word}
 use Rattle.iv_gate.specs.Replies.{ByClient, count_of, told_by}
 use Rattle.iv_gate.specs.Restoring.{Restores, gate_at_start}
@@ -74,7 +74,7 @@ TellsNoneBetween g = (s t : Step) → (next g (arrived s)).machine ≡ (next g (
 -- all entries of the holder that were behind the place and may have borne a name are forgotten, or the place is of another epoch: what was
 -- told 102 or 103 is told it for ever
 abbrev pub IsPast : Gate → Ask → Type 0
-IsPast g a = (a.at.count + limits.names < count_of g a.holder) ⊎ (a.at.epoch ≢ (own_of g.head.names a.holder).epoch)
+IsPast g a = (a.at.count + limits.names < count_of g a.holder) ⊎ (a.at.epoch ≢ (place_at g.head a.holder).epoch)
 
 abbrev pub StaysPast : Gate → Event → Type 0
 StaysPast g e = (a : Ask) → IsPast g a → IsPast (next g e) a

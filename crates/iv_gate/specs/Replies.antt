@@ -15,9 +15,9 @@ use Rattle.iv_clients.specs.Bounds.{most_feeds, most_seats, most_subs}
 use Rattle.iv_clients.specs.Feeds.{Feed, Seat, feed_for}
 use Rattle.iv_clients.specs.Journal.{Entry, Request, claim_said, line_said, names_in, said_by}
 use Rattle.iv_clients.specs.Names.{Claim, limits, place_text}
-use Rattle.iv_once.specs.Names.{Ask, Named, own_of}
+use Rattle.iv_once.specs.Names.{Ask, Named}
 use Rattle.iv_gate.specs.Events.{Event, message, next}
-use Rattle.iv_gate.specs.Gate.{Gate, answer_text, asked_by, columns_in, entries_of, has_shape_room, in_session, known_of, may_have, reply_in}
+use Rattle.iv_gate.specs.Gate.{Gate, answer_text, asked_by, columns_in, entries_of, has_shape_room, in_session, known_of, may_have, place_at, reply_in}
 
 -- ---- clients
 
@@ -94,7 +94,7 @@ names_by g holder = filter (λ e. bytes_eq e.ask.holder holder) (names_in g.entr
 
 -- how many entries with names the holder has
 abbrev pub count_of : Gate → List ℕ → ℕ
-count_of g holder = (own_of g.head.names holder).count + length (names_by g holder)
+count_of g holder = (place_at g.head holder).count + length (names_by g holder)
 
 -- how many of its names were refused and are not forgiven
 abbrev pub refused_by : Gate → List ℕ → ℕ
@@ -108,14 +108,14 @@ pub data IsUndecided (g : Gate) (a : Ask) : ℕ → Type 0 where
   elsewhere : is_some g.head.log ≡ true → IsUndecided g a 100
   another : (e : Named) → Contains (names_by g a.holder) e → e.ask.name ≡ a.name → e.ask ≢ a → IsUndecided g a 101
   late : a.at.count + limits.names < count_of g a.holder → IsUndecided g a 102
-  foreign : a.at.epoch ≢ (own_of g.head.names a.holder).epoch → IsUndecided g a 103
+  foreign : a.at.epoch ≢ (place_at g.head a.holder).epoch → IsUndecided g a 103
   ahead : count_of g a.holder < a.at.count → IsUndecided g a 104
   refused_often : limits.refusals ≤ refused_by g a.holder → IsUndecided g a 104
   many : limits.holders ≤ (known_of g).holders → count_of g a.holder ≡ 0 → IsUndecided g a 104
 
 -- where the names of a holder stand when as many more have an answer
 abbrev pub place_behind : Gate → List ℕ → ℕ → List ℕ
-place_behind g holder more = place_text (record { epoch = (own_of g.head.names holder).epoch; count = count_of g holder + more })
+place_behind g holder more = place_text (record { epoch = (place_at g.head holder).epoch; count = count_of g holder + more })
 
 -- the reply to a request with a name, and what it adds to the journal: it is done now; or it was, and its answer is told again; or it is undecided
 pub data IsNamedReply (g : Gate) (c : Client) (id : Option Data) (q : Request) (a : Ask) : Told → List Entry → Type 0 where

@@ -12,7 +12,6 @@ use Rattle.iv_clients.specs.Journal.{Request}
 use Rattle.iv_clients.specs.Names.{holder_of, place_text}
 use Rattle.iv_clients.specs.Tokens.{Token}
 use Rattle.iv_once.specs.Names.{Ask, verdict}
-use Rattle.iv_once.specs.Runs.{nothing_known}
 use Rattle.iv_gate.specs.Arriving.{Step, takes}
 use Rattle.iv_gate.specs.Gate.{Gate, Log, answer_text, by_verdict, names_of, reads, with_session}
 use Rattle.iv_gate.specs.Restoring.{gate_at_start}
@@ -37,7 +36,7 @@ abbrev pub order : Log
 order = record { name = codes "order"; epoch = codes "e" }
 
 abbrev pub begins : Gate
-begins = gate_at_start 1024 (anns ∷ []) 1 (record { names = nothing_known (codes "e"); log = Some order; position = 0 }) []
+begins = gate_at_start 1024 (anns ∷ []) 1 (record { epoch = codes "e"; places = λ holder. None; holders = 0; log = Some order; position = 0 }) []
 
 abbrev pub by_admin : Act → Request
 by_admin act = record { role = admin; line = []; act = act }

@@ -19,6 +19,7 @@ pub mod journal;
 use iv_machine::laws::{
     ends_are_told, lines_add_up, requests_open_what_they_name, steps_keep_sound, what_stands_lasts,
 };
+use iv_steps::laws::steps_are_told;
 
 pub mod hearing;
 pub mod names;
@@ -48,6 +49,7 @@ pub fn clients_see_their_views()
     what_stands_lasts();
     ends_are_told();
     requests_open_what_they_name();
+    steps_are_told();
 }
 
 /// In whatever runs, over restarts: the machine reads what clients follow, and nothing for nobody.
@@ -59,6 +61,7 @@ pub fn nothing_is_read_for_nobody()
     what_stands_lasts();
     ends_are_told();
     requests_open_what_they_name();
+    steps_are_told();
 }
 
 /// In whatever runs, over restarts: the machine's sessions are those that the gateway has begun, each in its role, of which some client
@@ -71,6 +74,7 @@ pub fn sessions_and_feeds_are_the_machines()
     what_stands_lasts();
     ends_are_told();
     requests_open_what_they_name();
+    steps_are_told();
 }
 
 /// In whatever runs, over restarts, the session of a role acts in that role.
@@ -82,6 +86,7 @@ pub fn sessions_act_in_their_roles()
     what_stands_lasts();
     ends_are_told();
     requests_open_what_they_name();
+    steps_are_told();
 }
 
 /// By an event no more than one session is begun, for a role that has none with a place.
@@ -101,6 +106,7 @@ pub fn messages_are_replied()
     what_stands_lasts();
     ends_are_told();
     requests_open_what_they_name();
+    steps_are_told();
 }
 
 /// In whatever runs, over restarts, each client that is not to go was told a welcome first, and as many replies behind it as messages
@@ -124,6 +130,7 @@ pub fn events_settle_what_they_tell()
     what_stands_lasts();
     ends_are_told();
     requests_open_what_they_name();
+    steps_are_told();
 }
 
 // ---- all of them

@@ -15,6 +15,7 @@ use iv_machine::laws::{
     differences_are_exact, ends_are_told, lines_add_up, requests_open_what_they_name,
     steps_keep_sound, what_stands_lasts,
 };
+use iv_steps::laws::steps_are_told;
 use iv_request::laws::requests_are_well;
 
 /// In whatever runs, over restarts: the token that a client presented opens its role now, and its role has a session. Who presents a token
@@ -28,6 +29,7 @@ pub fn tokens_open_roles()
     what_stands_lasts();
     ends_are_told();
     requests_open_what_they_name();
+    steps_are_told();
 }
 
 /// In whatever runs, over restarts, an event tells a client of numbers alone that it follows, or that it is given now, and of an end for
@@ -43,6 +45,7 @@ pub fn news_are_of_what_is_followed()
     what_stands_lasts();
     ends_are_told();
     requests_open_what_they_name();
+    steps_are_told();
     differences_are_exact();
 }
 
@@ -58,6 +61,7 @@ pub fn clients_are_bounded()
     what_stands_lasts();
     ends_are_told();
     requests_open_what_they_name();
+    steps_are_told();
 }
 
 /// In whatever runs, over restarts: what an event tells a client to be granted its role has then, and it is what the accepted request
@@ -71,6 +75,7 @@ pub fn grants_are_told()
     what_stands_lasts();
     ends_are_told();
     requests_open_what_they_name();
+    steps_are_told();
     grants_give_what_they_name();
     requests_are_well();
 }
@@ -88,4 +93,5 @@ pub fn the_shape_is_told()
     what_stands_lasts();
     ends_are_told();
     requests_open_what_they_name();
+    steps_are_told();
 }

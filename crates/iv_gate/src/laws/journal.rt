@@ -9,6 +9,7 @@ ghost use Rattle.iv_gate.specs.Runs.{Runs};
 use iv_machine::laws::{
     ends_are_told, lines_add_up, requests_open_what_they_name, steps_keep_sound, what_stands_lasts,
 };
+use iv_steps::laws::steps_are_told;
 
 /// By an event a client is told what shows the entries that are accepted behind it, and what comes of its own message where the event
 /// is that.
@@ -33,6 +34,7 @@ pub fn the_journal_leads_back()
     what_stands_lasts();
     ends_are_told();
     requests_open_what_they_name();
+    steps_are_told();
 }
 
 /// Each journal either restores, to one gateway, or is damaged, at one place.

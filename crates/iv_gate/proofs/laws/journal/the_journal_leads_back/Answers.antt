@@ -5,11 +5,11 @@ use Rattle.iv_gate.proofs.laws.journal.the_journal_leads_back.Goals as goal
 pub returns-clause-back : goal.returns-clause-back
 returns-clause-back c =
     let opens = c.requests_open_what_they_name.ensures in
-    let laws : Sounds = record { sound = c.steps_keep_sound.ensures.step; lasts = c.what_stands_lasts.ensures; ends = c.ends_are_told.ensures; begins = opens.session; subscribes = opens.subscription } in
+    let laws : Sounds = record { sound = c.steps_keep_sound.ensures.step; lasts = c.what_stands_lasts.ensures; ends = c.ends_are_told.ensures; begins = opens.session; subscribes = opens.subscription; told = c.steps_are_told.ensures } in
     leads_back c.lines_add_up.ensures c.steps_keep_sound.ensures.start laws
 
 pub returns-clause-safe : goal.returns-clause-safe
 returns-clause-safe c =
     let opens = c.requests_open_what_they_name.ensures in
-    let laws : Sounds = record { sound = c.steps_keep_sound.ensures.step; lasts = c.what_stands_lasts.ensures; ends = c.ends_are_told.ensures; begins = opens.session; subscribes = opens.subscription } in
+    let laws : Sounds = record { sound = c.steps_keep_sound.ensures.step; lasts = c.what_stands_lasts.ensures; ends = c.ends_are_told.ensures; begins = opens.session; subscribes = opens.subscription; told = c.steps_are_told.ensures } in
     crashes_are_safe c.lines_add_up.ensures c.steps_keep_sound.ensures.start laws
