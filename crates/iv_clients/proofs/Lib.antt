@@ -7,3 +7,4 @@ pub mod Cuts
 pub mod Spelling
 pub mod Rereading
 pub mod Recording
+pub mod Claiming

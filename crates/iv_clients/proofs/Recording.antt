@@ -1,6 +1,6 @@
 -- The record of an entry is read back, whatever stands behind it, and nothing else is read.
 use Rattle.std.proofs.Common.{◌≡◌, ℕ, suc, Bool, true, false, cond, not, ◌||◌, ◌==◌, List, [], ◌∷◌, ◌++◌, length, map, Option, Some, None, refl, ap, ◌∙◌, sym, subst, append_assoc, append-nil}
-use Rattle.std.specs.Prelude.{◌≢◌, ◌^◌, is_some, nat_lt, option_and_then}
+use Rattle.std.specs.Prelude.{◌≢◌, is_some, option_and_then}
 use Rattle.std.specs.List.{AllByRecursion}
 use Rattle.std.proofs.lemmas.Bool.{false≢true}
 use Rattle.std.proofs.lemmas.List.{map-append}
@@ -9,6 +9,7 @@ use Rattle.iv_once.specs.Names.{Named}
 use Rattle.iv_journal.specs.Journal.{Line}
 use Rattle.iv_clients.specs.Journal.{Entry, IsEntry, IsNamed, IsRequest, Request, name_text, position_text, record_of, request_text, texts_of}
 use Rattle.iv_clients.specs.Laws.{Begins, ReadsBack}
+use Rattle.iv_clients.specs.Names.{is_count}
 use Rattle.iv_clients.specs.Parsed.{Text, of_request, of_name, of_position, no_entry, part, record_from, record_in, text_in, with_text}
 use Rattle.iv_clients.proofs.Rereading.{Is, text_of_name, text_of_position, text_of_request, text_sound}
 use Rattle.iv_clients.proofs.Slots.{one_some, some_is_none}
@@ -54,7 +55,7 @@ one_text e f t x (u ∷ us) rest out a b ends goes =
     ∙ (ap (option_and_then (λ g. record_from g (record_of (u ∷ us) ++ rest))) b ∙ goes (λ h. no_cons u us h))
 
 abbrev IsPosition : Option ℕ → Type 0
-IsPosition p = if_some p true (λ n. nat_lt n (2 ^ 64)) ≡ true
+IsPosition p = if_some p true is_count ≡ true
 
 position_left : (qs : List Request) (ns : List Named) (p : ℕ) (rest : List Line) → IsPosition (Some p)
     → record_from (made qs ns None) (record_of (position_text p ∷ []) ++ rest) ≡ Some (made qs ns (Some p), rest)
@@ -131,7 +132,7 @@ name_more qs ns None n g a w h = more_of (made qs ns None) (made qs (ns ++ n ∷
       ∙ sym (append_assoc (map request_text qs) (map name_text ns ++ []) (name_text n ∷ []));
 })
 
-position_more : (qs : List Request) (ns : List Named) (p : Option ℕ) (n : ℕ) (g : Entry) → IsFront (made qs ns p) → nat_lt n (2 ^ 64) ≡ true → with_text (made qs ns p) (of_position n) ≡ Some g
+position_more : (qs : List Request) (ns : List Named) (p : Option ℕ) (n : ℕ) (g : Entry) → IsFront (made qs ns p) → is_count n ≡ true → with_text (made qs ns p) (of_position n) ≡ Some g
     → IsMore (made qs ns p) g (position_text n)
 position_more qs ns (Some k) n g a w h = absurd (some_is_none g (sym h))
 position_more qs ns None n g a w h = more_of (made qs ns None) (made qs ns (Some n)) g (position_text n) h (record {

@@ -1,6 +1,6 @@
 -- Each text of the journal is read back, and nothing else is read.
 use Rattle.std.proofs.Common.{◌≡◌, ℕ, suc, Bool, true, false, cond, not, ◌||◌, ◌&&◌, ◌==◌, List, [], ◌∷◌, ◌++◌, drop, length, Option, Some, None, option_map, refl, ap, ◌∙◌, sym, subst, append_assoc}
-use Rattle.std.specs.Prelude.{◌^◌, bytes_eq, codes, decimal, nat_lt, option_and_then}
+use Rattle.std.specs.Prelude.{bytes_eq, codes, decimal, option_and_then}
 use Rattle.std.specs.List.{list_all, list_any}
 use Rattle.std.specs.Str.{is_utf8}
 use Rattle.std.proofs.lemmas.Bool.{eqb-true, false≢true}
@@ -8,19 +8,19 @@ use Rattle.std.proofs.lemmas.Slice.Eq.{bytes_eq-Decides}
 use Rattle.hex.specs.Hex.{decode_sized, encode_lower}
 use Rattle.json.specs.Print.{escape}
 use Rattle.serde_json.specs.Data.{string}
-use Rattle.serde_json.specs.Find.{as_str}
+use Rattle.serde_json.specs.Find.{as_number, as_str, as_u64}
 use Rattle.serde_json.specs.Written.{compact_text}
 use Rattle.iv_rows.specs.Names.{is_further, is_name}
 use Rattle.iv_rows.specs.Options.{if_some}
 use Rattle.iv_access.specs.Rights.{Name}
 use Rattle.iv_machine.specs.Act.{Act}
-use Rattle.iv_message.specs.Message.{Message, no_json, too_long, no_object, no_request, request, message_of}
+use Rattle.iv_message.specs.Message.{Message, no_json, too_long, no_object, no_request, request, id_in, message_of}
 use Rattle.iv_once.specs.Names.{Named}
 use Rattle.iv_request.specs.Reading.{value_of}
 use Rattle.iv_request.specs.Request.{passing}
 use Rattle.iv_clients.specs.Journal.{IsNamed, IsRequest, Request, answer_key, begins_object, has_newline, is_digest, is_shared, name_text, position_text, request_text}
-use Rattle.iv_clients.specs.Names.{Spelled, behind_count, behind_epoch, behind_name, between, count_in, is_between, is_epoch, is_letter, is_random, place_text, spelled_in}
-use Rattle.iv_clients.specs.Parsed.{NameParts, Text, of_request, of_name, of_position, act_plain, answer_in, answered_in, behind_digest, behind_holder, but_last, count_first, count_of, cut_quote, digest_of_32, is_answer, is_asked, name_in, name_parts, named_by, named_in, named_of, named_request, position_in, request_by, request_in, request_parts, request_read, string_in, text_in}
+use Rattle.iv_clients.specs.Names.{Spelled, behind_count, behind_epoch, behind_name, between, count_in, is_between, is_count, is_epoch, is_letter, is_random, place_text, spelled_in}
+use Rattle.iv_clients.specs.Parsed.{NameParts, Text, of_request, of_name, of_position, act_plain, answer_in, answered_in, behind_digest, behind_holder, but_last, count_first, cut_quote, digest_of_32, is_answer, is_asked, name_in, name_parts, named_by, named_in, named_of, named_request, position_in, request_by, request_in, request_parts, request_read, string_in, text_in}
 use Rattle.iv_clients.specs.Tokens.{behind, cut_at, decoded}
 use Rattle.iv_clients.proofs.Cuts.{HasNo, Passes, behind_is, both_true, cut_is, cut_there, found, last_off, let_pass, none_passes, passed, passes, string_cut}
 use Rattle.iv_clients.proofs.Slots.{one_some, some_is_none}
@@ -175,7 +175,7 @@ parts_back refused holder digest answer n =
 named_back : (e : Named) → IsNamed e → named_in (spelling e) ≡ Some e
 named_back e w =
     let answer : answer_in (e.answer ++ 125 ∷ []) ≡ Some e.answer =
-    ap (passing is_answer) (last_off e.answer 125) ∙ let_pass is_answer e.answer (λ i. w.answer i && not (w.line i)) in
+    ap (passing is_answer) (last_off e.answer 125) ∙ let_pass is_answer e.answer (λ i. not (w.line i)) in
     ap (option_and_then (named_by (spelling e))) (parts_back e.refused e.ask.holder e.ask.digest e.answer (digits_no_quote e.ask.digest w.digest))
     ∙ (λ i. named_of e.refused (let_pass is_random e.ask.name w.name i) (let_pass is_epoch e.ask.at.epoch w.epoch i) (answer i)
     (digest_read e.ask.digest w.digest i) (count_read e.ask.at.count w.count i) (string_read e.ask.holder w.holder i))
@@ -217,17 +217,15 @@ name_sound text e h =
     let p = passed (λ f. bytes_eq (name_text f) text) (option_and_then named_in (spelled_in text)) e h in
     let s = found named_in (spelled_in text) e p.there in
     let q = found (named_by s.of) (name_parts s.of.rest) e s.is in
-    let t = are_there q.of.refused (passing is_random s.of.name) (passing is_epoch s.of.epoch) (answer_in q.of.answer) (digest_of_32 q.of.digits) (count_of s.of.digits) (string_in q.of.holder) e q.is in
-    let answer = both_true (is_utf8 e.answer) (not (has_newline e.answer)) (passes is_answer (but_last q.of.answer) e.answer t.answer).passes in
+    let t = are_there q.of.refused (passing is_random s.of.name) (passing is_epoch s.of.epoch) (answer_in q.of.answer) (digest_of_32 q.of.digits) (count_in s.of.digits) (string_in q.of.holder) e q.is in
     record {
       well = record {
         name = (passes is_random s.of.name e.ask.name t.name).passes;
         epoch = (passes is_epoch s.of.epoch e.ask.at.epoch t.epoch).passes;
-        count = (passed (λ n. nat_lt n (2 ^ 64)) (count_in s.of.digits) e.ask.at.count t.count).passes;
+        count = (passed is_count (option_and_then as_u64 (option_and_then as_number (option_and_then id_in (value_of s.of.digits)))) e.ask.at.count t.count).passes;
         holder = (passed is_utf8 (option_and_then as_str (value_of (34 ∷ (q.of.holder ++ 34 ∷ [])))) e.ask.holder t.holder).passes;
         digest = (passed is_digest (decoded (decode_sized q.of.digits 32)) e.ask.digest t.digest).passes;
-        answer = answer.0;
-        line = no (has_newline e.answer) answer.1;
+        line = no (has_newline e.answer) (passes is_answer (but_last q.of.answer) e.answer t.answer).passes;
       };
       text = sym ((bytes_eq-Decides (name_text e) text).0 p.passes);
     }
@@ -238,14 +236,14 @@ name_sound text e h =
 
 -- ---- positions
 
-pub position_back : (p : ℕ) → nat_lt p (2 ^ 64) ≡ true → position_in (position_text p) ≡ Some p
+pub position_back : (p : ℕ) → is_count p ≡ true → position_in (position_text p) ≡ Some p
 position_back p h =
     ap (option_and_then (passing (λ n. bytes_eq (position_text n) (position_text p))))
     (ap (option_and_then count_first) (cut_there 125 (decimal p) [] (decimal_no_brace p) refl) ∙ count_read p h)
     ∙ let_pass (λ n. bytes_eq (position_text n) (position_text p)) p (bytes_same (position_text p))
 
 pub record IsTextOfPosition (text : List ℕ) (p : ℕ) : Type 0 where
-  pub well : nat_lt p (2 ^ 64) ≡ true
+  pub well : is_count p ≡ true
   pub text : text ≡ position_text p
 
 pub position_sound : (text : List ℕ) (p : ℕ) → position_in text ≡ Some p → IsTextOfPosition text p
@@ -253,7 +251,7 @@ position_sound text p h =
     let t = passed (λ n. bytes_eq (position_text n) text) (option_and_then count_first (between (codes "\"step\":") 125 text)) p h in
     let d = found count_first (between (codes "\"step\":") 125 text) p t.there in
     record {
-      well = (passed (λ n. nat_lt n (2 ^ 64)) (count_in d.of.0) p d.is).passes;
+      well = (passed is_count (option_and_then as_u64 (option_and_then as_number (option_and_then id_in (value_of d.of.0)))) p d.is).passes;
       text = sym ((bytes_eq-Decides (position_text p) text).0 t.passes);
     }
 
@@ -270,7 +268,7 @@ text_of_request q w = ap (λ o. if_some o (if_some (name_in (request_text q)) (o
 pub text_of_name : (e : Named) → IsNamed e → text_in (name_text e) ≡ Some (of_name e)
 text_of_name e w = ap (λ o. if_some o (option_map of_position (position_in (name_text e))) (λ z. Some (of_name z))) (name_back e w)
 
-pub text_of_position : (p : ℕ) → nat_lt p (2 ^ 64) ≡ true → text_in (position_text p) ≡ Some (of_position p)
+pub text_of_position : (p : ℕ) → is_count p ≡ true → text_in (position_text p) ≡ Some (of_position p)
 text_of_position p h = ap (option_map of_position) (position_back p h)
 
 pub text_sound : (text : List ℕ) (t : Text) → text_in text ≡ Some t → Is text t

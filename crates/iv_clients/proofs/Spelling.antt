@@ -28,8 +28,8 @@ use Rattle.iv_message.specs.Message.{id_in}
 use Rattle.iv_request.specs.Reading.{value_of}
 use Rattle.iv_request.specs.Request.{passing}
 use Rattle.iv_clients.specs.Journal.{is_digest}
-use Rattle.iv_clients.specs.Names.{count_in}
-use Rattle.iv_clients.specs.Parsed.{count_of, digest_of_32, string_in}
+use Rattle.iv_clients.specs.Names.{count_in, is_count}
+use Rattle.iv_clients.specs.Parsed.{digest_of_32, string_in}
 use Rattle.iv_clients.specs.Tokens.{decoded}
 use Rattle.iv_clients.proofs.Cuts.{HasNo, both_true, let_pass, none_passes}
 
@@ -49,10 +49,10 @@ value_of_number : (n : ℕ) → n < 2 ^ 64 → value_of (decimal n) ≡ Some (nu
 value_of_number n h =
     ap (λ b. cond b (read (decimal n)) None) (is_utf8-from_IsUtf8 (decimal n) (IsUtf8-from_ascii (decimal n) (IsAscii-decimal n h))) ∙ read_number n h
 
-pub count_read : (n : ℕ) → nat_lt n (2 ^ 64) ≡ true → count_of (decimal n) ≡ Some n
+pub count_read : (n : ℕ) → is_count n ≡ true → count_in (decimal n) ≡ Some n
 count_read n h =
-    let read : count_in (decimal n) ≡ Some n = ap (λ o. option_and_then as_u64 (option_and_then as_number (option_and_then id_in o))) (value_of_number n (ltb-true n (2 ^ 64) h)) in
-    ap (option_and_then (passing (λ m. nat_lt m (2 ^ 64)))) read ∙ let_pass (λ m. nat_lt m (2 ^ 64)) n h
+    ap (λ o. option_and_then (passing is_count) (option_and_then as_u64 (option_and_then as_number (option_and_then id_in o)))) (value_of_number n (ltb-true n (2 ^ 64) h))
+    ∙ let_pass is_count n h
 
 -- no quotation mark and no brace is a digit
 glyph_no_quote : (n : ℕ) → (digit_glyph false (n % 10) == 34) ≡ false

@@ -1,21 +1,23 @@
 -- Names of requests: how a client says one, whose it is, and where its holder's names stand.
-use Rattle.std.specs.Prelude.{ℕ, ◌==◌, ◌&&◌, ◌||◌, Bool, if◌then◌else◌, List, [], ◌∷◌, ◌++◌, codes, decimal, length, nat_le, Option, Some, None, option_map, option_and_then}
+use Rattle.std.specs.Prelude.{ℕ, ◌==◌, ◌^◌, ◌&&◌, ◌||◌, Bool, if◌then◌else◌, List, [], ◌∷◌, ◌++◌, codes, decimal, length, nat_le, nat_lt, Option, Some, None, option_map, option_and_then}
 use Rattle.std.specs.List.{list_all}
+use Rattle.std.specs.Str.{is_utf8}
 use Rattle.serde_json.specs.Find.{as_number, as_u64}
 use Rattle.iv_access.specs.Rights.{Name}
 use Rattle.iv_message.specs.Message.{id_in}
 use Rattle.iv_message.specs.Told.{most_names}
 use Rattle.iv_once.specs.Names.{Limits, Place}
 use Rattle.iv_request.specs.Reading.{value_of}
+use Rattle.iv_request.specs.Request.{passing}
 use Rattle.iv_clients.specs.Tokens.{behind, cut_at}
 
 -- what bounds them: 64 of each holder are kept, it may have 64 refused until these are forgiven, and 4,096 holders may have names
 abbrev pub limits : Limits
 limits = record { names = most_names; refusals = 64; holders = 4096 }
 
--- whose they are: a role's and a user's, never a token's or a socket's
+-- whose they are: a role's and a user's, never a token's or a socket's; a user is text (RFC 3629)
 abbrev pub holder_of : Name → List ℕ → List ℕ
-holder_of role user = role ++ 47 ∷ user
+holder_of role user = role ++ 47 ∷ (if is_utf8 user then user else [])
 
 abbrev pub place_text : Place → List ℕ
 place_text p = p.epoch ++ 46 ∷ decimal p.count
@@ -44,8 +46,12 @@ is_epoch text = (length text == 32) && list_all (λ b. is_between 48 57 b || is_
 abbrev pub between : List ℕ → ℕ → List ℕ → Option (List ℕ × List ℕ)
 between prefix b text = option_and_then (cut_at b) (behind prefix text)
 
+-- a number of 64 bits
+abbrev pub is_count : ℕ → Bool
+is_count n = nat_lt n (2 ^ 64)
+
 abbrev pub count_in : List ℕ → Option ℕ
-count_in text = option_and_then as_u64 (option_and_then as_number (option_and_then id_in (value_of text)))
+count_in text = option_and_then (passing is_count) (option_and_then as_u64 (option_and_then as_number (option_and_then id_in (value_of text))))
 
 -- a name, an epoch and the digits of a count, as they are written, and what stands behind them
 pub record Spelled : Type 0 where

@@ -1,5 +1,5 @@
 -- For contracts of the code: what texts of the journal, its records, and the lines of a file of tokens are read as.
-use Rattle.std.specs.Prelude.{ℕ, ◌-◌, ◌==◌, ◌^◌, ◌&&◌, ◌||◌, not, Bool, true, false, if◌then◌else◌, List, [], ◌∷◌, ◌++◌, bytes_eq, codes, drop, length, nat_lt, take, Option, Some, None, is_some, option_map, option_and_then, Result, Ok, Err}
+use Rattle.std.specs.Prelude.{ℕ, ◌-◌, ◌==◌, ◌&&◌, ◌||◌, not, Bool, true, false, if◌then◌else◌, List, [], ◌∷◌, ◌++◌, bytes_eq, codes, drop, length, take, Option, Some, None, is_some, option_map, option_and_then, Result, Ok, Err}
 use Rattle.std.specs.Global.{Vec}
 use Rattle.std.specs.Str.{is_utf8}
 use Rattle.hex.specs.Hex.{decode_sized}
@@ -67,15 +67,12 @@ string_in text = option_and_then (passing is_utf8) (option_and_then as_str (valu
 abbrev pub digest_of_32 : List ℕ → Option (List ℕ)
 digest_of_32 digits = option_and_then (passing is_digest) (decoded (decode_sized digits 32))
 
-abbrev pub count_of : List ℕ → Option ℕ
-count_of digits = option_and_then (passing (λ n. nat_lt n (2 ^ 64))) (count_in digits)
-
 abbrev pub but_last : List ℕ → List ℕ
 but_last text = take (length text - 1) text
 
 -- an answer on a line, without the brace behind it
 abbrev pub is_answer : List ℕ → Bool
-is_answer text = is_utf8 text && not (has_newline text)
+is_answer text = not (has_newline text)
 
 abbrev pub answer_in : List ℕ → Option (List ℕ)
 answer_in text = passing is_answer (but_last text)
@@ -110,7 +107,7 @@ named_of refused _ _ _ _ _ _ = None
 
 abbrev pub named_by : Spelled → NameParts → Option Named
 named_by s p =
-    named_of p.refused (passing is_random s.name) (passing is_epoch s.epoch) (answer_in p.answer) (digest_of_32 p.digits) (count_of s.digits) (string_in p.holder)
+    named_of p.refused (passing is_random s.name) (passing is_epoch s.epoch) (answer_in p.answer) (digest_of_32 p.digits) (count_in s.digits) (string_in p.holder)
 
 abbrev pub named_in : Spelled → Option Named
 named_in s = option_and_then (named_by s) (name_parts s.rest)
@@ -122,7 +119,7 @@ name_in text = option_and_then (passing (λ e. bytes_eq (name_text e) text)) (op
 -- ---- steps
 
 abbrev pub count_first : List ℕ × List ℕ → Option ℕ
-count_first d = count_of d.0
+count_first d = count_in d.0
 
 abbrev pub position_in : List ℕ → Option ℕ
 position_in text = option_and_then (passing (λ p. bytes_eq (position_text p) text)) (option_and_then count_first (between (codes "\"step\":") 125 text))

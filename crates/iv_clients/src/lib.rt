@@ -17,7 +17,7 @@ pub use feeds::{
     next_seat, rel_read, room_for, seat_of,
 };
 pub use journal::{behind, cut_at, is_shape, is_shared, push_request, request_in};
-pub use names::Claim;
+pub use names::{Claim, holder_of};
 pub use naming::{name_in, push_name};
 pub use records::{Entry, OwnedLine, Request, push_accepted, push_named, push_step, read_record};
 pub use said::{Said, read_said};

@@ -2,7 +2,7 @@
 ghost use Rattle.std.specs.Prelude.{◌≡◌, ◌&&◌, ℕ, List, IfOk, Some, option_map, string_bytes};
 ghost use Rattle.iv_clients.specs.Names as spec;
 ghost use Rattle.iv_request.specs.Request.{passing};
-ghost use Rattle.iv_clients.specs.Names.{between, claim_in, claimed, count_in, is_between, is_epoch, is_letter, is_random, spelled_in};
+ghost use Rattle.iv_clients.specs.Names.{between, claim_in, claimed, count_in, holder_of, is_between, is_epoch, is_letter, is_random, spelled_in};
 
 use crate::journal::{behind, cut_at};
 use crate::said::with_brace;
@@ -46,6 +46,19 @@ fn is_letter(byte: u8) -> bool
         || byte == b'_'
 }
 
+/// Whose names are: a role's and a user's.
+///
+/// # Errors
+/// `AllocError` where a growth of memory was refused.
+pub fn holder_of(alloc: Global, role: &str, user: &str) -> Result<String, AllocError>
+    ensures { IfOk result (λ holder. string_bytes holder ≡ holder_of role.now user.now) }
+{
+    let mut holder = String::from_str(alloc, role)?;
+    holder.push_str("/")?;
+    holder.push_str(user)?;
+    Ok(holder)
+}
+
 /// Whether a text may be a name.
 fn is_random(name: &[u8]) -> bool
     ensures { result ≡ is_random name.now }
@@ -69,7 +82,7 @@ pub(crate) fn between<'a>(text: &'a [u8], prefix: &[u8], byte: u8) -> Option<(&'
     cut_at(rest, byte)
 }
 
-/// The number of a place.
+/// The number of 64 bits of a place or a position.
 pub(crate) fn count_in(
     alloc: Global,
     text: &[u8],

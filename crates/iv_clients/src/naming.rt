@@ -9,7 +9,7 @@ ghost use Rattle.iv_request.specs.Documents.{value_data};
 ghost use Rattle.iv_request.specs.Request.{passing};
 ghost use Rattle.iv_clients.specs.Journal.{answer_key, name_text};
 ghost use Rattle.iv_clients.specs.Names.{place_text};
-ghost use Rattle.iv_clients.specs.Parsed.{answer_in, answered_in, but_last, count_of, cut_quote, digest_of_32, name_in, name_parts, named_by, string_in};
+ghost use Rattle.iv_clients.specs.Parsed.{answer_in, answered_in, but_last, cut_quote, digest_of_32, name_in, name_parts, named_by, string_in};
 
 use crate::journal::{behind, has_newline};
 use crate::names::{Spelled, between, count_in, epoch_in, random_in, spelled_in};
@@ -94,7 +94,7 @@ pub fn push_name(alloc: Global, text: &mut Vec<u8>, name: &Named) -> Result<(), 
     push_holder(alloc, text, &name.ask.holder)?;
     push_digest(text, &name.ask.digest)?;
     text.extend_from_slice(answer_key(name.refused))?;
-    text.extend_from_slice(name.answer.as_bytes())?;
+    text.extend_from_slice(&name.answer)?;
     text.extend_from_slice(b"}")?;
     Ok(())
 }
@@ -162,20 +162,6 @@ fn digest_in(digits: &[u8]) -> Option<[u8; 32]>
     }
 }
 
-/// The number of 64 bits of a place or a position.
-pub(crate) fn count_of(
-    alloc: Global,
-    digits: &[u8],
-    scratch: &mut Scratch,
-) -> Result<Option<u64>, AllocError>
-    ensures { IfOk result (λ o. o ≡ count_of digits.now) }
-{
-    match count_in(alloc, digits, scratch)? {
-        None => Ok(None),
-        Some(count) => Ok(Some(count)),
-    }
-}
-
 /// All but the last byte.
 fn but_last(text: &[u8]) -> &[u8]
     ensures { result.now ≡ but_last text.now }
@@ -183,17 +169,15 @@ fn but_last(text: &[u8]) -> &[u8]
     &text[..text.len().saturating_sub(1)]
 }
 
-/// An answer on a line, without the brace behind it, as text.
-fn answer_in(text: &[u8]) -> Option<&str>
+/// An answer on a line, without the brace behind it.
+fn answer_in(text: &[u8]) -> Option<&[u8]>
     ensures { option_map (λ answer. answer.now) result ≡ answer_in text.now }
 {
     let answer = but_last(text);
     if has_newline(answer) {
-        return None;
-    }
-    match str::from_utf8(answer) {
-        Ok(answer) => Some(answer),
-        Err(_) => None,
+        None
+    } else {
+        Some(answer)
     }
 }
 
@@ -288,16 +272,18 @@ fn named_by(
     let Some(digest) = digest_in(parts.digits) else {
         return Ok(None);
     };
-    let Some(count) = count_of(alloc, spelled.digits, scratch)? else {
+    let Some(count) = count_in(alloc, spelled.digits, scratch)? else {
         return Ok(None);
     };
     let Some(holder) = string_in(alloc, parts.holder, scratch)? else {
         return Ok(None);
     };
+    let mut bytes = Vec::new(alloc);
+    bytes.extend_from_slice(answer)?;
     Ok(Some(Named {
         ask: ask_with(alloc, holder, name, epoch, count, digest)?,
         refused: parts.refused,
-        answer: String::from_str(alloc, answer)?,
+        answer: bytes,
     }))
 }
 

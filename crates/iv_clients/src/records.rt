@@ -10,8 +10,8 @@ ghost use Rattle.iv_clients.specs.Parsed.{act_plain, no_entry, part, position_in
 ghost use Rattle.iv_clients.specs.Views.{text_of};
 
 use crate::journal::{has_newline, is_shared, push_request, request_in};
-use crate::names::between;
-use crate::naming::{count_of, name_in, push_name};
+use crate::names::{between, count_in};
+use crate::naming::{name_in, push_name};
 use itoa::Buffer;
 use iv_command::Act;
 use iv_journal::Line;
@@ -261,7 +261,7 @@ fn position_in(alloc: Global, text: &[u8], scratch: &mut Scratch) -> Result<Opti
     let Some((digits, _)) = between(text, b"\"step\":", b'}') else {
         return Ok(None);
     };
-    let Some(position) = count_of(alloc, digits, scratch)? else {
+    let Some(position) = count_in(alloc, digits, scratch)? else {
         return Ok(None);
     };
     let mut again = Vec::new(alloc);
