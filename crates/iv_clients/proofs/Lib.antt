@@ -3,3 +3,8 @@ pub mod Cutting
 pub mod Naming
 pub mod Lines
 pub mod Slots
+pub mod Cuts
+pub mod Spelling
+pub mod Rereading
+pub mod Recording
+pub mod Claiming

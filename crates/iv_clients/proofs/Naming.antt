@@ -1,6 +1,6 @@
 -- Names are ASCII, and so UTF-8.
 use Rattle.std.proofs.Common.{◌≡◌, ◌⊎◌, inl, inr, ℕ, zero, suc, ◌<◌, Bool, true, false, cond, List, [], ◌∷◌, Some, None, refl, ap, ◌∙◌, sym, arith}
-use Rattle.std.specs.Prelude.{◌&&◌, option_and_then}
+use Rattle.std.specs.Prelude.{◌&&◌, ◌||◌, option_and_then}
 use Rattle.std.specs.List.{list_all, slice_index}
 use Rattle.std.specs.Str.{IsAscii, IsUtf8}
 use Rattle.std.proofs.lemmas.Bool.Decides.{nat_tests}
@@ -9,6 +9,8 @@ use Rattle.iv_rows.specs.Names.{is_further, is_name}
 use Rattle.hex.specs.declared.error.FromHexError.{FromHexError}
 use Rattle.hex.specs.declared.error.FromHexError.TheVariants.{OutOfMemory}
 use Rattle.std.specs.Prelude.{Result, Err}
+use Rattle.iv_request.specs.Request.{passing}
+use Rattle.iv_clients.specs.Names.{is_between, is_epoch, is_letter, is_random}
 use Rattle.iv_clients.specs.Tokens.{decoded, role_in}
 use Rattle.iv_clients.specs.Parsed.{request_in, request_parts, named_request}
 
@@ -47,3 +49,32 @@ no_role role h = by (is_name role) refl
 pub no_digest : (x : Result (List ℕ) FromHexError) (e : FromHexError) → (e ≡ OutOfMemory → ⊥) → (e ≡ OutOfMemory) ⊎ (x ≡ Err e) → None ≡ decoded x
 no_digest x e h (inl k) = absurd (h k)
 no_digest x e h (inr k) = sym (ap decoded k)
+
+-- ---- names of requests
+
+letter_ascii : (b : ℕ) → is_letter b ≡ true → b < 128
+letter_ascii b h = grind (arith, nat_tests)
+
+epoch_ascii : (b : ℕ) → (is_between 48 57 b || is_between 97 102 b) ≡ true → b < 128
+epoch_ascii b h = grind (arith, nat_tests)
+
+ascii_by : (t : ℕ → Bool) → ((b : ℕ) → t b ≡ true → b < 128) → (bs : List ℕ) → list_all t bs ≡ true → IsAscii bs
+ascii_by t f [] h = λ i. omega arith
+ascii_by t f (b ∷ bs) h = λ i. at i (and_both (t b) (list_all t bs) h).0 (λ j. ascii_by t f bs (and_both (t b) (list_all t bs) h).1 j)
+  where
+    at : (i : ℕ) → t b ≡ true → ((j : ℕ) → slice_index bs j < 128) → slice_index (b ∷ bs) i < 128
+    at zero e more = f b e
+    at (suc i) e more = more i
+
+no_pass : (t : List ℕ → Bool) (text : List ℕ) → (t text ≡ true → IsUtf8 text) → ¬ (IsUtf8 text) → None ≡ passing t text
+no_pass t text f h = by (t text) refl
+  where
+    by : (b : Bool) → t text ≡ b → None ≡ cond b (Some text) None
+    by true k = absurd (h (f k))
+    by false k = refl
+
+pub no_random : (name : List ℕ) → ¬ (IsUtf8 name) → None ≡ passing is_random name
+no_random name h = no_pass is_random name (λ k. IsUtf8-from_ascii name (ascii_by is_letter letter_ascii name (and_both _ _ k).1)) h
+
+pub no_epoch : (epoch : List ℕ) → ¬ (IsUtf8 epoch) → None ≡ passing is_epoch epoch
+no_epoch epoch h = no_pass is_epoch epoch (λ k. IsUtf8-from_ascii epoch (ascii_by (λ b. is_between 48 57 b || is_between 97 102 b) epoch_ascii epoch (and_both _ _ k).1)) h

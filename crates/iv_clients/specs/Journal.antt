@@ -1,6 +1,7 @@
 -- The journal: what was accepted of what changes what is shared, with who made it, by which name, and in which step.
-use Rattle.std.specs.Prelude.{◌≡◌, ◌≢◌, ℕ, ◌==◌, ◌||◌, Bool, true, false, if◌then◌else◌, List, [], ◌∷◌, ◌++◌, drop, map, filter, flat_map, length, bytes_eq, codes, decimal, nat_lt, Option, Some, None, option_map, option_and_then, unwrap_or}
-use Rattle.std.specs.List.{AllByRecursion, list_any}
+use Rattle.std.specs.Prelude.{◌≡◌, ◌≢◌, ℕ, ◌==◌, ◌&&◌, ◌||◌, Bool, true, false, if◌then◌else◌, List, [], ◌∷◌, ◌++◌, drop, map, filter, flat_map, length, bytes_eq, codes, decimal, nat_lt, Option, Some, None, option_map, option_and_then, unwrap_or}
+use Rattle.std.specs.List.{AllByRecursion, list_all, list_any}
+use Rattle.std.specs.Str.{is_utf8}
 use Rattle.hex.specs.Hex.{encode_lower}
 use Rattle.serde_json.specs.Data.{Data, string}
 use Rattle.serde_json.specs.Written.{compact_text}
@@ -15,7 +16,7 @@ use Rattle.iv_journal.specs.Journal.{Line}
 use Rattle.iv_once.specs.Names.{Named}
 pub use Rattle.iv_steps.specs.Steps.{is_shared}
 use Rattle.iv_clients.specs.Bounds.{most_said}
-use Rattle.iv_clients.specs.Names.{Claim, claim_in, is_epoch, is_random, place_text}
+use Rattle.iv_clients.specs.Names.{Claim, claim_in, is_count, is_epoch, is_random, place_text}
 use Rattle.iv_clients.specs.Tokens.{behind, cut_at}
 
 -- ---- messages
@@ -165,14 +166,20 @@ pub record IsRequest (q : Request) : Type 0 where
   pub line : has_newline q.line ≡ false
   pub asks : message_of q.line ≡ request None q.act
 
--- a name as clients say one, and an answer on a line
+abbrev pub is_digest : List ℕ → Bool
+is_digest digest = (length digest == 32) && list_all (λ b. nat_lt b 256) digest
+
+-- a name as clients say one, a holder as text, and an answer on a line
 pub record IsNamed (e : Named) : Type 0 where
   pub name : is_random e.ask.name ≡ true
   pub epoch : is_epoch e.ask.at.epoch ≡ true
-  pub digest : length e.ask.digest ≡ 32
+  pub count : is_count e.ask.at.count ≡ true
+  pub holder : is_utf8 e.ask.holder ≡ true
+  pub digest : is_digest e.ask.digest ≡ true
   pub line : has_newline e.answer ≡ false
 
 pub record IsEntry (e : Entry) : Type 0 where
   pub requests : AllByRecursion IsRequest e.requests
   pub names : AllByRecursion IsNamed e.names
+  pub position : if_some e.position true is_count ≡ true
   pub some : texts_of e ≢ []

@@ -6,3 +6,5 @@ pub mod Feeds
 pub mod Clients
 pub mod Parsed
 pub mod Kept
+pub mod Views
+pub mod Laws

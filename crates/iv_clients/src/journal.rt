@@ -2,7 +2,7 @@
 ghost use Rattle.std.specs.Prelude.{◌≡◌, ◌==◌, if◌then◌else◌, ◌++◌, ℕ, List, Option, Some, IfOk, IfSome, OnOk, option_map, string_bytes, true};
 ghost use Rattle.iv_rows.specs.Names.{is_name};
 ghost use Rattle.iv_command.specs.Views.{act_of};
-ghost use Rattle.iv_clients.specs.Journal.{is_shape, is_shared};
+ghost use Rattle.iv_clients.specs.Journal.{has_newline, is_shape, is_shared};
 ghost use Rattle.iv_clients.specs.Tokens.{behind, cut_at};
 ghost use Rattle.iv_clients.specs.Parsed.{request_in, request_parts, text_of_request};
 
@@ -25,6 +25,13 @@ pub fn is_shape(act: &Act) -> bool
     ensures { result ≡ is_shape (act_of act.now) }
 {
     is_shared(act) && !matches!(act, Act::Write { .. })
+}
+
+/// Whether there is a newline.
+pub(crate) fn has_newline(text: &[u8]) -> bool
+    ensures { result ≡ has_newline text.now }
+{
+    text.iter().any(|byte| *byte == b'\n')
 }
 
 /// Appends the text of a request.

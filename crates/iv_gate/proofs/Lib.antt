@@ -32,7 +32,6 @@ pub mod Needing
 pub mod Stepping
 pub mod Replaying
 pub mod Requesting
-pub mod Rereading
 pub mod Holding
 pub mod Leading
 pub mod Showing

@@ -9,7 +9,8 @@ use Rattle.iv_message.specs.Told.{granted}
 use Rattle.iv_clients.specs.Clients.{own_lines}
 use Rattle.iv_clients.specs.Journal.{Entry, Request, position_of}
 use Rattle.iv_clients.specs.Names.{limits}
-use Rattle.iv_once.specs.Names.{Ask, Known, Named, find_named, learned, named, own_of}
+use Rattle.iv_once.specs.Names as once
+use Rattle.iv_once.specs.Names.{Ask, Known, Named, learned, named}
 use Rattle.iv_steps.specs.Steps.{Fact, first_refused, shared, stepped}
 use Rattle.iv_gate.specs.Gate.{Gate, Log, entered, has_some, informs, known_of, settles, went_on}
 
@@ -43,10 +44,9 @@ position g = position_of g.head.position g.entries
 abbrev pub settled_at : Gate → ℕ
 settled_at g = position_of g.head.position (take g.kept g.entries)
 
--- no entry that is kept of its holder bears the name, and all that are behind its place are kept
+-- it has no answer yet
 abbrev pub is_new : Known → Ask → Bool
-is_new k a = let o = own_of k a.holder in
-    not (is_some (find_named a.name o.recent)) && (nat_le a.at.count o.count && nat_le o.count (a.at.count + limits.names))
+is_new k a = once.is_new limits k a
 
 abbrev pub first_known : ℕ → List Named → Known → Option Fault
 first_known n [] k = None

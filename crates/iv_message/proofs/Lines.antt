@@ -176,5 +176,5 @@ told_line (made role line) = made_line role line
 told_line alive = text_line (object (member (codes "alive") (boolean true) no_members))
 told_line (placed at) = text_line (object (member (codes "at") (string at) (member (codes "names") (natural most_names) no_members)))
 told_line (answered id again at answer) = answered_line id again at answer
-told_line (undecided id number) = text_line (with_id id (member (codes "undecided") (natural number) no_members))
-told_line (denied id number) = text_line (with_id id (member (codes "error") (natural number) no_members))
+told_line (undecided id n) = text_line (with_id id (member (codes "undecided") (natural n) no_members))
+told_line (denied id n) = text_line (with_id id (member (codes "error") (natural n) no_members))
