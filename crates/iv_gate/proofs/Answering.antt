@@ -130,8 +130,8 @@ closes_at g m c text id own d h k = by (followed_by c.subs own) refl k
 
 -- behind a message that closes a number it has it no more
 closes_own : (g : Gate) (e : Event) (m : ℕ) (c d : Client) (text : List ℕ) (id : Option Data) (own : ℕ) → g.dead ≡ false → client_at g.clients m ≡ Some c → client_at (next g e).clients m ≡ Some d → IsOwn m c e text
-    → said_by text ≡ request id (unsubscribe own) → is_own own d.subs ≡ false
-closes_own g e m c d text id own live a b u s = marked (client_at (settles did).clients m) refl there
+    → said_by text ≡ request id (unsubscribe own) → may_have (claim_said text) (unsubscribe own) ≡ true → is_own own d.subs ≡ false
+closes_own g e m c d text id own live a b u s w = marked (client_at (settles did).clients m) refl there
   where
     h : Gate
     h = asked g m text
@@ -145,13 +145,14 @@ closes_own g e m c d text id own live a b u s = marked (client_at (settles did).
     marked : (o : Option Client) → client_at (settles did).clients m ≡ o → option_map (answered c) o ≡ Some d → is_own own d.subs ≡ false
     marked None f k = absurd (some_is_none d (sym k))
     marked (Some x) f k = subst (λ (y : Client). is_own own y.subs ≡ false) (one_some (answered c x) d k)
-        (closes_at h m c text id own x (at_same m (saying text) g.clients ∙ ap (option_map (saying text)) a) (ap (λ z. client_at (settles (done_for h m c text z)).clients m) (sym s) ∙ f))
+        (closes_at h m c text id own x (at_same m (saying text) g.clients ∙ ap (option_map (saying text)) a)
+        (sym (ap (λ t. client_at (settles (cond t (closes h m c id own) (tells h m (unasked id (unknown (codes "once")))))).clients m) w) ∙ (ap (λ z. client_at (settles (done_for h m c text z)).clients m) (sym s) ∙ f)))
 
 -- ---- an invariant of clients, by what happens to them
 
--- where it closes a number by the text, it has it no more
+-- where it closes a number by the text, which has no name, it has it no more
 abbrev pub Closes : List ℕ → Client → Type 0
-Closes text d = (id : Option Data) (own : ℕ) → said_by text ≡ request id (unsubscribe own) → is_own own d.subs ≡ false
+Closes text d = (id : Option Data) (own : ℕ) → said_by text ≡ request id (unsubscribe own) → may_have (claim_said text) (unsubscribe own) ≡ true → is_own own d.subs ≡ false
 
 -- how a client comes to be what it is behind an event
 pub record Came (P : Client → Type 0) : Type 0 where

@@ -1,6 +1,6 @@
 -- What a client takes is bounded, whatever happens.
 use Rattle.std.proofs.Common.{◌≡◌, ℕ, zero, suc, ◌+◌, ◌≤◌, Bool, true, false, cond, not, ◌||◌, List, [], ◌∷◌, ◌++◌, length, map, Option, Some, None, option_map, set, refl, ap, ◌∙◌, sym, subst, subst₂, arith}
-use Rattle.std.specs.Prelude.{◌==◌, ◌&&◌, count_by, filter, nat_lt}
+use Rattle.std.specs.Prelude.{◌==◌, ◌&&◌, count_by, filter, nat_lt, is_some}
 use Rattle.std.specs.List.{list_any}
 use Rattle.std.proofs.lemmas.Bool.{false≢true, eqb-true, eqb-false, ltb-true}
 use Rattle.std.proofs.lemmas.Bool.Decides.{nat_tests}
@@ -12,7 +12,7 @@ use Rattle.iv_message.specs.Told.{Told, settled}
 use Rattle.iv_clients.specs.Bounds.{most_piled, most_requests, most_subs, most_waiting}
 use Rattle.iv_clients.specs.Clients.{Client, Shown, Slots, Sub, answered, at_all, at_client, beating, by_others, checked, client_at, dropping, fresh, handing, is_slow, may_say, opens, released, saying, settling, staying, telling, text_shown, told_one, waiting}
 use Rattle.iv_clients.specs.Feeds.{ends_in, is_of_role}
-use Rattle.iv_clients.specs.Journal.{Entry, said_by}
+use Rattle.iv_clients.specs.Journal.{Entry, said_by, shape_for}
 use Rattle.iv_clients.specs.Tokens.{Token}
 use Rattle.iv_clients.proofs.Slots.{at_every, at_other, at_same, nobody, one_some}
 use Rattle.iv_gate.specs.Events.{Event, presented, message, gone, known, ticked, synced, handed, failed, happens, next, arrived, forgave}
@@ -21,7 +21,7 @@ use Rattle.iv_gate.specs.Laws.{IsBounded}
 use Rattle.iv_gate.specs.Restoring.{Restores, gate_at_start}
 use Rattle.iv_gate.specs.Runs.{Runs, begins, goes_on, begins_again}
 use Rattle.iv_gate.proofs.Calm.{all_rested_last, all_swept_last, with_last}
-use Rattle.iv_gate.proofs.Doing.{all_done}
+use Rattle.iv_gate.proofs.Doing.{all_done, fewer_left}
 use Rattle.iv_gate.proofs.News.{done_bounded, done_last}
 use Rattle.iv_gate.proofs.Joining.{and_both, own_moved}
 use Rattle.iv_gate.proofs.Lasting.{Starts, runs_sound}
@@ -32,7 +32,7 @@ use Rattle.iv_gate.proofs.Signs.{Mark, Sign, mark_of, marks_in}
 use Rattle.iv_gate.proofs.Sound.{Adds, IsSoundGate, Seer, Sounds, own_left, seer, seer_telling}
 use Rattle.iv_gate.proofs.Summing.{AreOwn, neither}
 use Rattle.iv_gate.proofs.Touching.{alive as is_alive, came_as, came_sign, rests, said_slots, touched, went_sign, takes_slots}
-use Rattle.iv_gate.proofs.Walking.{Kit, Later, to_done}
+use Rattle.iv_gate.proofs.Walking.{Kit, Later, to_done, landed_client, step_told, takes_at}
 use Rattle.iv_gate.specs.Arriving.{fault_of, is_behind, landed, entry_of, fact_of, takes}
 use Rattle.iv_steps.specs.Steps.{stepped}
 use Rattle.iv_gate.proofs.Arrived.{step_led}
@@ -229,6 +229,18 @@ one_bounded m j f slots c d k t b h = by (m == j) refl
         subst Bounded (one_some (f c) d (sym (ap (λ i. client_at (at_client i f slots) j) same ∙ (at_same j f slots ∙ ap (option_map f) t)) ∙ h)) (k c b)
     by false e = subst Bounded (one_some c d (sym t ∙ (sym (at_other m j f slots (eqb-false m j e)) ∙ h))) b
 
+-- a step
+bounded_landed : (g : Gate) (e : Entry) (o : Outcome) (c : Client) → Bounded c → Bounded (landed_client g e o c)
+bounded_landed g e o c b =
+    let es = g.entries ++ e ∷ [] in let ts = step_told g o c in let z = staying o.lines (telling es ts c) in let more = shape_for z.role (e ∷ []) in
+    let first = slim_telling es ts c in let p = λ (s : Sub). not (ends_in o.lines s.feed) in
+    let subs : (telling es more z).subs ≡ filter (λ (s : Sub). not (ends_in o.lines s.feed)) c.subs =
+    ap (λ (v : Seer). v.subs) (seer_telling es more z) ∙ ap (λ (v : Seer). filter p v.subs) (seer_telling es ts c) in
+    let given : (telling es more z).given ≡ c.given = ap (λ (v : Seer). v.given) (seer_telling es more z) ∙ ap (λ (v : Seer). v.given) (seer_telling es ts c) in
+    let few : length (filter p c.subs) ≤ most_subs = let l = fewer_left p c.subs in let n = b.subs in omega (arith, l, n) in
+    bounded_settled es (telling es more z) (bounded_slim c (telling es more z) (slim_then c z (telling es more z) (record { sendable = first.sendable; asked = first.asked; dropped = first.dropped }) (slim_telling es more z))
+    (subst (λ (xs : List Sub). length xs ≤ most_subs) (sym subs) few) (subst₂ AreOwn (sym given) (sym subs) (own_left c.given p c.subs b.own)) b)
+
 happens_bounded : Sounds → (g : Gate) (e : Event) → IsSoundGate g → (j : ℕ) (c d : Client) → client_at g.clients j ≡ Some c → Bounded c → client_at (happens g e).clients j ≡ Some d → Bounded d
 happens_bounded sounds g (presented m token) b j c d t x k = subst Bounded (came_stays g b m token j c d t k) x
 happens_bounded sounds g (message m text) b j c d t x k = said_bounded sounds g b m text j c d t x k
@@ -237,6 +249,8 @@ happens_bounded sounds g (known tokens) b j c d t x k = subst Bounded (every_is 
 happens_bounded sounds g ticked b j c d t x k = subst Bounded (every_is (beating g.entries) g.clients j c d t k) (record { gone = x.gone; subs = x.subs; own = x.own; asked = x.asked })
 happens_bounded sounds g synced b j c d t x k = subst Bounded (every_is released g.clients j c d t k) (bounded_released c x)
 happens_bounded sounds g (handed m) b j c d t x k = one_bounded m j handing g.clients c d bounded_handing t x k
+happens_bounded sounds g (arrived s) b j c d t x k = takes_at Bounded g s j c d t k x (λ o e. bounded_landed g (entry_of s) o c x)
+happens_bounded sounds g forgave b j c d t x k = subst Bounded (one_some c d (sym t ∙ k)) x
 happens_bounded sounds g failed b j c d t x k = subst Bounded (one_some c d (sym t ∙ k)) x
 
 abbrev AllBounded : Gate → Type 0

@@ -95,6 +95,18 @@ done_has g c text s id own e h = by (is_own own c.subs) refl
     by true k = k
     by false k = absurd (test k (may_have (claim_said text) (unsubscribe own)) reply)
 
+-- and where the message has no name
+done_may : (g : Gate) (c : Client) (text : List ℕ) (s : Message) (id : Option Data) (own : ℕ) → s ≡ request id (unsubscribe own) → said_reply g c text s ≡ replied id done → may_have (claim_said text) (unsubscribe own) ≡ true
+done_may g c text s id own e h = by (may_have (claim_said text) (unsubscribe own)) refl (sym (ap (λ z. said_reply g c text z) e) ∙ h)
+  where
+    never : unasked id (unknown (codes "once")) ≡ replied id done → ⊥
+    never k = cc
+
+    by : (b : Bool) → may_have (claim_said text) (unsubscribe own) ≡ b
+        → cond b (replied id (cond (is_some (followed_by c.subs own)) done (refused unknown_subscription))) (unasked id (unknown (codes "once"))) ≡ replied id done → may_have (claim_said text) (unsubscribe own) ≡ true
+    by true k r = k
+    by false k r = absurd (never r)
+
 answers_shut : (g : Gate) (m : ℕ) (c : Client) (text : List ℕ) (d : Client) → OwnAnswer g m c text d → Closes text d → IsShut c → IsShut d
 answers_shut g m c text d x n a = record {
   answered = answers_answered g m c text d x a.answered;
@@ -136,7 +148,7 @@ answers_shut g m c text d x n a = record {
 
     -- the message closes it
     new : (own : ℕ) (id : Option Data) → said_by text ≡ request id (unsubscribe own) → t ≡ replied id done → (own ≤ d.given) × (is_own own d.subs ≡ false)
-    new own id s e = (later own (a.given own (done_has (asked g m text) c text (said_by text) id own s e)), n id own s)
+    new own id s e = (later own (a.given own (done_has (asked g m text) c text (said_by text) id own s e)), n id own s (done_may (asked g m text) c text (said_by text) id own s e))
 
     all : replies (told d) ≡ replies (told c) ++ t ∷ []
     all = ap replies x.text ∙ replies_of (told c) x.before x.others t x.started x.alone (said_is (asked g m text) c text (said_by text))

@@ -36,7 +36,7 @@ use Rattle.iv_gate.proofs.Running.{all_so, found_all}
 use Rattle.iv_gate.proofs.Sound.{Adds, IsFeed, IsFollowing, IsSoundClient, IsSoundGate, Sounds, any_more, seer}
 use Rattle.iv_gate.proofs.Still.{found_each}
 use Rattle.iv_gate.proofs.Summing.{AreOwn, both, differs_back, neither, same_self}
-use Rattle.iv_steps.specs.Steps.{Fact}
+use Rattle.iv_steps.specs.Steps.{Fact, stepped}
 use Rattle.iv_machine.specs.Sound.{IsSoundState}
 use Rattle.iv_steps.specs.Laws.{IsStep, IsTold}
 use Rattle.iv_gate.specs.Arriving.{Step, entry_of, fact_of, newly}
@@ -125,9 +125,9 @@ hears_followed adds sounds g e b m c d x y own h = by (next_all sounds g e b m c
         absurd (false≢true (sym (outcome_of_none g (next g e) o (grants_of g.machine a.command c.role) (entries_of a.request a.name (reply_to g a.command)) c d own a.by
         (grants_of_none own (is_accepted (reply_in o.lines)) (granted_by o.state.frame a.command.act c.role)) f) ∙ h))
 
-    stepped : (s : Step) (a : IsToldStep g (next g e) s c d) → (t : Bool) → list_any (λ (z : Sub). own == z.own) c.subs ≡ t → (is_some (followed_by c.subs own) ≡ true) ⊎ ((c.given < own) × (own ≤ d.given))
-    stepped s a true f = inl (followed_any own c.subs ∙ f)
-    stepped s a false f =
+    by_step : (s : Step) (a : IsToldStep g (next g e) s c d) → (t : Bool) → list_any (λ (z : Sub). own == z.own) c.subs ≡ t → (is_some (followed_by c.subs own) ≡ true) ⊎ ((c.given < own) × (own ≤ d.given))
+    by_step s a true f = inl (followed_any own c.subs ∙ f)
+    by_step s a false f =
         let names = newly g.machine.frame a.outcome.state.frame c.role in
         absurd (false≢true (sym (outcome_of_none g (next g e) a.outcome (map granted names) (entry_of s ∷ []) c d own a.by (grants_of_none own true names) f) ∙ h))
 
@@ -146,7 +146,7 @@ hears_followed adds sounds g e b m c d x y own h = by (next_all sounds g e b m c
     by : HearsBy g e c d → (is_some (followed_by c.subs own) ≡ true) ⊎ ((c.given < own) × (own ≤ d.given))
     by (heard n a) = by_event a
     by (untaken n k same) = absurd (false≢true (sym (ap (list_any (is_told_of own)) (told_now c d [] (ap told (sym same) ∙ sym (append-nil (told c))))) ∙ h))
-    by (taken s q a) = stepped s a (list_any (λ (z : Sub). own == z.own) c.subs) refl
+    by (taken s q a) = by_step s a (list_any (λ (z : Sub). own == z.own) c.subs) refl
 
 -- ---- the lines of a command that changes what is shared
 

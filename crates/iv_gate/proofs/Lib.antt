@@ -56,6 +56,7 @@ pub mod Settling
 pub mod Tables
 pub mod Together
 pub mod Answered
+pub mod Spending
 pub mod Arrived
 pub mod Choosing
 pub mod Computing

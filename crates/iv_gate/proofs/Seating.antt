@@ -1,6 +1,6 @@
 -- Which sessions there are behind an event.
 use Rattle.std.proofs.Common.{◌≡◌, ℕ, Bool, true, false, not, cond, List, [], ◌∷◌, ◌++◌, length, map, set, Option, Some, None, option_map, refl, ap, ◌∙◌, sym, subst}
-use Rattle.std.specs.Prelude.{◌==◌, ◌&&◌, filter, find, nat_lt, codes}
+use Rattle.std.specs.Prelude.{◌==◌, ◌&&◌, filter, find, nat_lt, codes, is_some}
 use Rattle.serde_json.specs.Data.{Data}
 use Rattle.iv_rows.specs.Options.{if_some}
 use Rattle.iv_access.specs.Rights.{Name}
@@ -13,7 +13,7 @@ use Rattle.iv_clients.specs.Feeds.{Feed, Seat, feed_for, feed_of, has_room, is_o
 use Rattle.iv_clients.specs.Journal.{said_by, Request, claim_said}
 use Rattle.iv_clients.proofs.Slots.{some_is_none}
 use Rattle.iv_gate.specs.Events.{Event, presented, message, gone, known, ticked, synced, handed, failed, happens, next, arrived, forgave}
-use Rattle.iv_gate.specs.Gate.{Gate, acts, all_rested, all_swept, begun_for, closes, done_for, feed_begun, hears, in_session, is_needed, joined, joined_by, joins, ran, reads, reads_first, reply_to, done_in, rested, token_for, said, seated, settles, shut, subscribes, swept, tells, went, with_session, shares, may_have}
+use Rattle.iv_gate.specs.Gate.{Gate, acts, all_rested, all_swept, begun_for, closes, done_for, feed_begun, hears, in_session, is_needed, joined, joined_by, joins, ran, reads, reads_first, reply_to, rested, token_for, said, seated, settles, shut, subscribes, swept, tells, went, with_session, shares, may_have}
 use Rattle.iv_gate.specs.Needed.{AreSeatsBehind, left, begun}
 use Rattle.iv_gate.specs.Replies.{AreFull}
 use Rattle.iv_gate.proofs.Few.{none_full}

@@ -344,11 +344,11 @@ module _ (g : Gate) (e : Event) (b : IsSoundGate g) (m : ℕ) (c d : Client) (x 
 
   -- a number that is open, or is not
   pub of_outcome : ((s : Sub) → find (λ (y : Sub). own == y.own) c.subs ≡ Some s → Texts g c d own) → Texts g c d own
-  of_outcome open = by (list_any (λ (y : Sub). own == y.own) c.subs) refl
+  of_outcome each = by (list_any (λ (y : Sub). own == y.own) c.subs) refl
     where
       by : (t : Bool) → list_any (λ (y : Sub). own == y.own) c.subs ≡ t → Texts g c d own
       by false t = silent (of_lines ∙ lines_none own g.feeds o.lines c.subs t)
-      by true t = let s = find_there own c.subs t in open s.sub s.is
+      by true t = let s = find_there own c.subs t in each s.sub s.is
 
   pub of_nothing : (s : Sub) → find (λ (y : Sub). own == y.own) c.subs ≡ Some s → flat_map (λ l. own_line g.feeds l s) o.lines ≡ [] → Texts g c d own
   of_nothing s f none = silent (of_lines ∙ (lines_one own c.given g.feeds o.lines s c.subs sound.own f ∙ none))

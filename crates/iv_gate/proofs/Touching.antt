@@ -306,7 +306,7 @@ takes_sign g s = by (is_some (fault_of g s)) (is_behind g s) (stepped (map fact_
     by false false None = same (marks g)
     by false false (Some o) = sign_landed g (entry_of s) o
 
-takes_slots : (g : Gate) (s : Step) → marks_in (takes g s).clients ≡ marks_in g.clients
+pub takes_slots : (g : Gate) (s : Step) → marks_in (takes g s).clients ≡ marks_in g.clients
 takes_slots g s = ap (λ (x : Sign). x.slots) (takes_sign g s)
 
 -- who stays

@@ -1,6 +1,6 @@
 -- A fact of clients that each step keeps, through all that an event does.
-use Rattle.std.proofs.Common.{◌≡◌, ℕ, Bool, true, false, List, [], ◌∷◌, Option, Some, option_map, refl, ap, ◌∙◌, subst, cond}
-use Rattle.std.specs.Prelude.{◌==◌, ◌++◌, is_some, map}
+use Rattle.std.proofs.Common.{◌≡◌, ℕ, Bool, true, false, List, [], ◌∷◌, Option, Some, option_map, refl, ap, ◌∙◌, subst, cond, sym}
+use Rattle.std.specs.Prelude.{◌==◌, ◌++◌, is_some, map, None}
 use Rattle.std.specs.List.{AllByRecursion}
 use Rattle.std.proofs.lemmas.Bool.{eqb-true, eqb-false}
 use Rattle.serde_json.specs.Data.{Data}
@@ -13,7 +13,7 @@ use Rattle.iv_clients.specs.Clients.{Client, Slots, at_all, at_client, client_at
 use Rattle.iv_clients.specs.Feeds.{Seat}
 use Rattle.iv_clients.specs.Journal.{Entry, Request, shape_for}
 use Rattle.iv_once.specs.Names.{Ask}
-use Rattle.iv_clients.proofs.Slots.{at_every, at_other, at_same}
+use Rattle.iv_clients.proofs.Slots.{at_every, at_other, at_same, one_some}
 use Rattle.iv_gate.specs.Gate.{Gate, all_rested, all_swept, done_for, entered, entries_of, in_session, ran, replies_to, reply_to, reply_told, done_in, settles, informs, tells, told_of, with_session, went_on}
 use Rattle.iv_gate.proofs.Shaping.{all_made}
 use Rattle.iv_gate.proofs.Stepping.{Steps, request_of, step_all_rested, step_all_swept, step_done, step_with}
@@ -44,6 +44,28 @@ Leads R old new = (j : ℕ) (c : Client) → client_at old j ≡ Some c → Late
 -- what a client is told of a step, but for the shape and that this is all
 abbrev pub step_told : Gate → Outcome → Client → List Told
 step_told g o c = own_lines g.feeds o.lines c.subs ++ map granted (newly g.machine.frame o.state.frame c.role)
+
+-- the client that it leads to
+abbrev pub landed_client : Gate → Entry → Outcome → Client → Client
+landed_client g e o c = let es = g.entries ++ e ∷ [] in let z = staying o.lines (telling es (step_told g o c) c) in settling es (telling es (shape_for z.role (e ∷ [])) z)
+
+pub landed_at : (g : Gate) (e : Entry) (o : Outcome) (j : ℕ) (c : Client) → client_at g.clients j ≡ Some c → client_at (landed g e o).clients j ≡ Some (landed_client g e o c)
+landed_at g e o j c t =
+    let es = g.entries ++ e ∷ [] in
+    let first : Client → Client = λ (x : Client). staying o.lines (telling es (step_told g o x) x) in
+    let shapes : Client → Client = λ (x : Client). telling es (shape_for x.role (e ∷ [])) x in
+    at_every (settling es) (at_all shapes (at_all first g.clients)) j ∙ ap (option_map (settling es)) (at_every shapes (at_all first g.clients) j ∙ ap (option_map shapes) (at_every first g.clients j ∙ ap (option_map first) t))
+
+-- whatever comes of a step, a client stays as it is, or is told of it
+pub takes_at : (P : Client → Type 0) (g : Gate) (s : Step) (j : ℕ) (c d : Client) → client_at g.clients j ≡ Some c → client_at (takes g s).clients j ≡ Some d → P c
+    → ((o : Outcome) → stepped (map fact_of s.requests) g.machine ≡ Some o → P (landed_client g (entry_of s) o c)) → P d
+takes_at P g s j c d t k same led = by (is_some (fault_of g s)) (is_behind g s) (stepped (map fact_of s.requests) g.machine) refl k
+  where
+    by : (x y : Bool) (o : Option Outcome) → stepped (map fact_of s.requests) g.machine ≡ o → client_at (cond x (record g { dead = true }) (cond y g (if_some o g (landed g (entry_of s))))).clients j ≡ Some d → P d
+    by true y o e i = subst P (one_some c d (sym t ∙ i)) same
+    by false true o e i = subst P (one_some c d (sym t ∙ i)) same
+    by false false None e i = subst P (one_some c d (sym t ∙ i)) same
+    by false false (Some o) e i = subst P (one_some (landed_client g (entry_of s) o c) d (sym (landed_at g (entry_of s) o j c t) ∙ i)) (led o e)
 
 module _ (m : ℕ) (R : ℕ → Client → Client → Type 0) (kit : Kit m R) where
   pub to_same : (slots : Slots) → Leads R slots slots

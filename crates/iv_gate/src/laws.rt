@@ -156,4 +156,6 @@ pub fn gateways_hold_always()
     events_touch_their_clients();
     sessions_and_feeds_are_the_machines();
     sessions_are_begun_by_need();
+    names::names_are_once();
+    names::refusals_are_few();
 }
