@@ -219,16 +219,19 @@ either_way reads g lines = by (far reads (length lines) g lines [] lines refl (l
       where
         none : (x ∷ xs) ≡ [] → ⊥
         none k = cc k
-    stopped es (x ∷ xs) a l (inr s) = inr (length (journal_of es), record {
-      entries = es;
-      gate = led g es l.state;
-      rest = x ∷ xs;
-      all = a;
-      leads = l.on;
-      behind = refl;
-      some = less (length (journal_of es)) (length xs) (length lines) (ap length a ∙ length-append (journal_of es) (x ∷ xs));
-      bad = s;
-    })
+    stopped es (x ∷ xs) a l (inr s) = inr (
+      length (journal_of es),
+      record {
+        entries = es;
+        gate = led g es l.state;
+        rest = x ∷ xs;
+        all = a;
+        leads = l.on;
+        behind = refl;
+        some = less (length (journal_of es)) (length xs) (length lines) (ap length a ∙ length-append (journal_of es) (x ∷ xs));
+        bad = s;
+      },
+    )
 
     by : IsLed g lines → ((h : Gate) × Restores g lines h) ⊎ ((place : ℕ) × IsDamagedAt g lines place)
     by l = stopped l.entries l.rest l.all l.leads l.stops
