@@ -2,18 +2,16 @@
 use Rattle.std.proofs.Common.{◌≡◌, ℕ, zero, suc, ◌+◌, ◌<◌, ◌%◌, Bool, true, false, cond, not, ◌||◌, List, [], ◌∷◌, ◌++◌, length, map, Option, Some, None, option_map, is_some, take, refl, ap, ◌∙◌, sym, subst, arith, append-nil}
 use Rattle.std.specs.Prelude.{◌==◌, ◌&&◌, ◌-◌, ◌/◌, ◌^◌, nat_lt, unwrap_or}
 use Rattle.std.specs.Int.{to_be_bytes, w32}
-use Rattle.std.specs.List.{AllByRecursion, list_all, list_any, slice_index}
+use Rattle.std.specs.List.{AllByRecursion, list_all, slice_index}
 use Rattle.std.proofs.lemmas.Bool.{eq-eqb, eqb-true, false≢true, lt-ltb, ltb-true}
 use Rattle.std.proofs.lemmas.Bool.Decides.{nat_tests}
 use Rattle.std.proofs.lemmas.List.Folds.{list_all-append}
 use Rattle.sha2.specs.Sha256.{digest_bytes, final_hash, initial_hash_256, sha256}
 use Rattle.sha2.proofs.Facts256.{length-sha256}
-use Rattle.serde_json.specs.Data.{Data, object}
-use Rattle.serde_json.specs.Written.{compact_text}
+use Rattle.serde_json.specs.Data.{Data}
 use Rattle.iv_rows.specs.Names.{is_name}
 use Rattle.iv_rows.specs.Options.{if_some}
 use Rattle.iv_machine.specs.Act.{Act, begin, finish, create_role, create_table, create_view, grant, revoke, grant_role, revoke_role, row_security, create_policy, drop_policy, subscribe, unsubscribe, write, Refusal, Reply}
-use Rattle.iv_lines.specs.Texts.{reply_members}
 use Rattle.iv_message.specs.Lines.{IsLine, is_clean}
 use Rattle.iv_message.specs.Message.{Message, no_json, too_long, no_object, no_request, request}
 use Rattle.iv_message.specs.Told.{Told, replied, told_text}
@@ -21,11 +19,11 @@ use Rattle.iv_once.specs.Names.{Ask, Known, Named, Verdict, carry, again, anothe
 use Rattle.iv_steps.specs.Steps.{first_refused, shared}
 use Rattle.iv_clients.specs.Clients.{Client}
 use Rattle.iv_clients.specs.Journal.{Entry, IsEntry, IsNamed, IsRequest, Request, claim_said, has_newline, is_digest, is_shared, line_said, names_in, position_of, said_by}
-use Rattle.iv_clients.specs.Laws.{ClaimsAreWell, HoldersAreText, IsClaim}
+use Rattle.iv_clients.specs.Laws.{ClaimsAreWell, HoldersAreText}
 use Rattle.iv_clients.specs.Names.{Claim, limits}
 use Rattle.iv_clients.proofs.Cuts.{last_off}
 use Rattle.iv_gate.specs.Arriving.{Fault, Step, entry_of, fact_of, fault_of, first_known, gap, is_behind, is_log, is_new, not_accepted, not_new, other_log, position}
-use Rattle.iv_gate.specs.Gate.{Gate, answer_text, asked_by, came, went, entries_of, is_accepted, known_at, known_by, known_of, may_have, names_of}
+use Rattle.iv_gate.specs.Gate.{Gate, answer_text, asked_by, came, went, entries_of, is_accepted, known_at, known_of, may_have, names_of}
 use Rattle.iv_gate.specs.Restoring.{are_rising}
 use Rattle.iv_gate.proofs.Answered.{carried_new, known_more}
 use Rattle.iv_gate.proofs.Damage.{both_so, names_append}

@@ -10,7 +10,7 @@ use Rattle.iv_machine.specs.State.{State}
 use Rattle.iv_once.specs.Names.{Known, Named, learned, named}
 use Rattle.iv_journal.specs.Journal.{Line}
 use Rattle.iv_steps.specs.Steps.{Fact, all_carried, carried}
-use Rattle.iv_clients.specs.Journal.{Entry, IsEntry, Request, journal_of, names_in, record_of, requests_in, texts_of}
+use Rattle.iv_clients.specs.Journal.{Entry, IsEntry, journal_of, names_in, record_of, requests_in, texts_of}
 use Rattle.iv_clients.specs.Laws.{Begins, ReadsBack}
 use Rattle.iv_clients.specs.Names.{limits}
 use Rattle.iv_clients.specs.Parsed.{record_in}

@@ -1,16 +1,15 @@
 -- Text shows entries that are accepted, and none that is not on disk once it may be sent.
-use Rattle.std.proofs.Common.{◌≡◌, ℕ, zero, suc, ◌<◌, ◌≤◌, Bool, true, false, cond, not, is_some, ◌||◌, List, [], ◌∷◌, ◌++◌, drop, take, length, map, set, Option, Some, None, option_map, refl, ap, ◌∙◌, sym, subst, arith, append-nil, length-append}
-use Rattle.std.specs.Prelude.{◌==◌, ◌&&◌, nat_lt, option_and_then}
+use Rattle.std.proofs.Common.{◌≡◌, ℕ, zero, suc, ◌≤◌, Bool, true, false, cond, is_some, ◌||◌, List, [], ◌∷◌, ◌++◌, drop, take, length, map, set, Option, Some, None, option_map, refl, ap, ◌∙◌, sym, subst, arith, append-nil, length-append}
+use Rattle.std.specs.Prelude.{◌==◌, ◌&&◌, option_and_then}
 use Rattle.std.specs.List.{AllByRecursion}
 use Rattle.std.proofs.Math.Seq.{take-length}
-use Rattle.std.proofs.lemmas.Bool.{eqb-true, eqb-false, false≢true, ltb-true}
-use Rattle.std.proofs.lemmas.List.{drop-append-le, take-append-drop, take-append-le}
+use Rattle.std.proofs.lemmas.Bool.{eqb-true, eqb-false}
+use Rattle.std.proofs.lemmas.List.{take-append-drop, take-append-le}
 use Rattle.serde_json.specs.Data.{Data}
 use Rattle.sha2.specs.Sha256.{sha256}
 use Rattle.iv_rows.specs.Names.{is_name}
 use Rattle.iv_rows.specs.Options.{if_some}
-use Rattle.iv_access.specs.Rights.{Name}
-use Rattle.iv_machine.specs.Act.{Command, refused}
+use Rattle.iv_machine.specs.Act.{Command, Reply, refused}
 use Rattle.iv_machine.specs.Machine.{Outcome, step}
 use Rattle.iv_message.specs.Told.{Told, alive, settled}
 use Rattle.iv_clients.specs.Clients.{Client, Shown, Slots, answered, may_say, at_all, at_client, beating, checked, client_at, closing, dropping, following, fresh, handing, is_free, is_slow, moved, opens, released, saying, settling, staying, telling, told_one, greeting}
@@ -22,7 +21,7 @@ use Rattle.iv_clients.specs.Tokens.{Token, token_of}
 use Rattle.iv_clients.proofs.Slots.{at_every, at_other, at_same, nobody, one_some, set_other, some_is_none}
 use Rattle.iv_gate.specs.Arriving.{Step, entry_of, fact_of, fault_of, first_known, is_behind, landed, takes}
 use Rattle.iv_gate.specs.Events.{Event, presented, message, gone, known, ticked, synced, handed, arrived, forgave, failed, IsWell, happens, hands, knowing, next, on_disk, ticking}
-use Rattle.iv_gate.specs.Gate.{Gate, Head, at_text, hears, known_at, came, done_in, entered, entries_of, has_session, in_session, informs, ran, replies_to, reply_to, reply_told, said, settles, tells, token_for, told_of, went, went_on}
+use Rattle.iv_gate.specs.Gate.{Gate, Head, at_text, hears, known_at, came, done_in, entered, entries_of, has_session, in_session, informs, ran, replies_to, reply_to, reply_told, said, tells, token_for, told_of, went, went_on}
 use Rattle.iv_gate.specs.Laws.{IsFront, SentIsKept}
 use Rattle.iv_gate.specs.Restoring.{Restores, are_rising, gate_at_start}
 use Rattle.iv_gate.specs.Runs.{LeavesOnDisk, Runs, begins, goes_on, begins_again}
