@@ -10,8 +10,8 @@ ghost use Rattle.iv_clients.specs.Parsed.{act_plain, no_entry, part, position_in
 ghost use Rattle.iv_clients.specs.Views.{text_of};
 
 use crate::journal::{has_newline, is_shared, push_request, request_in};
+use crate::named::{name_in, push_name};
 use crate::names::{between, count_in};
-use crate::naming::{name_in, push_name};
 use itoa::Buffer;
 use iv_command::Act;
 use iv_journal::Line;
@@ -328,13 +328,14 @@ impl Entry {
         ensures { IfOk result (λ o. option_map {U = spec.Entry × List LineSpec} (λ count. (self.new, drop count lines.now)) o ≡ record_from self.old lines.now) }
     {
         for at in 0..lines.len() {
-            let Some(text) = text_in(alloc, lines[at].text, scratch)? else {
+            let line = &lines[at];
+            let Some(text) = text_in(alloc, line.text, scratch)? else {
                 return Ok(None);
             };
             if !self.add(text)? {
                 return Ok(None);
             }
-            if lines[at].is_last {
+            if line.is_last {
                 return Ok(Some(at + 1));
             }
         }
