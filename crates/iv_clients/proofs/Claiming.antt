@@ -12,7 +12,7 @@ use Rattle.iv_clients.specs.Laws.{ClaimsAreWell, HoldersAreText, IsClaim}
 use Rattle.iv_clients.specs.Names.{Claim, Spelled, claim_in, claimed, count_in, is_count, is_epoch, is_random, spelled_in}
 use Rattle.iv_clients.specs.Tokens.{behind}
 use Rattle.iv_clients.proofs.Cuts.{both_true, found, passed}
-use Rattle.iv_clients.proofs.Naming.{name_is_utf8}
+use Rattle.iv_clients.proofs.Calling.{name_is_utf8}
 use Rattle.iv_clients.proofs.Slots.{one_some, some_is_none}
 
 claimed_well : (s : Spelled) (p : Claim × List ℕ) → claimed s ≡ Some p → IsClaim p.0

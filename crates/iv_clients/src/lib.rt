@@ -5,8 +5,8 @@ mod clients;
 mod feeds;
 mod journal;
 pub mod laws;
-mod named;
 mod names;
+mod naming;
 mod records;
 mod said;
 mod tokens;
@@ -17,8 +17,8 @@ pub use feeds::{
     next_seat, rel_read, room_for, seat_of,
 };
 pub use journal::{behind, cut_at, is_shape, is_shared, push_request, request_in};
-pub use named::{name_in, push_name};
 pub use names::{Claim, holder_of};
+pub use naming::{name_in, push_name};
 pub use records::{Entry, OwnedLine, Request, push_accepted, push_named, push_step, read_record};
 pub use said::{Said, read_said};
 pub use tokens::{Token, TokensFault, read_tokens, role_opened, token_of};

@@ -10,8 +10,8 @@ ghost use Rattle.iv_clients.specs.Parsed.{act_plain, no_entry, part, position_in
 ghost use Rattle.iv_clients.specs.Views.{text_of};
 
 use crate::journal::{has_newline, is_shared, push_request, request_in};
-use crate::named::{name_in, push_name};
 use crate::names::{between, count_in};
+use crate::naming::{name_in, push_name};
 use itoa::Buffer;
 use iv_command::Act;
 use iv_journal::Line;
