@@ -398,7 +398,7 @@ restored_held cap tokens most head sent journal h r a = subst (IsHeld []) (sym r
   clients = λ m c e. absurd (nobody most m c e);
 })
 
-same_entries : ReadsBack → (es fs : List Entry) → AllByRecursion IsEntry es → AllByRecursion IsEntry fs → journal_of es ≡ journal_of fs → es ≡ fs
+pub same_entries : ReadsBack → (es fs : List Entry) → AllByRecursion IsEntry es → AllByRecursion IsEntry fs → journal_of es ≡ journal_of fs → es ≡ fs
 same_entries reads es fs w v h = by (compare reads es fs [] [] w v (append-nil (journal_of es) ∙ (h ∙ sym (append-nil (journal_of fs)))))
   where
     by : Compared es fs [] [] → es ≡ fs
