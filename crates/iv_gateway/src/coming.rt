@@ -11,11 +11,11 @@ ghost use Rattle.iv_gateway.specs.Views.{IsAlive};
 
 use crate::gateway::Gateway;
 use crate::shaping::greeting;
+use itoa::Buffer;
 use iv_clients::{Token, holder_of, token_of};
 use iv_hall::Hall;
 use iv_once::Names;
 use iv_rows::name_ok;
-use itoa::Buffer;
 use sha2::{Digest, Sha256};
 use std::alloc::{AllocError, Global};
 
@@ -49,11 +49,7 @@ fn presented(
 }
 
 /// Where the names of a holder stand.
-pub(crate) fn place_text(
-    alloc: Global,
-    names: &Names,
-    holder: &str,
-) -> Result<String, AllocError>
+pub(crate) fn place_text(alloc: Global, names: &Names, holder: &str) -> Result<String, AllocError>
     ensures { let o = own_of (names_of names.now).known holder.now in IfOk result (λ at. string_bytes at ≡ place_text (record { epoch = o.epoch; count = o.count })) }
 {
     let mut at = String::from_str(alloc, names.epoch(holder))?;

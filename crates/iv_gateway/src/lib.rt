@@ -18,6 +18,7 @@ mod opening;
 mod restoring;
 mod seats;
 mod shaping;
+mod sharing;
 mod subscribing;
 mod sweeping;
 mod telling;

@@ -57,12 +57,7 @@ fn push_shape_for(text: &mut Vec<u8>, role: &str, shape: &[u8]) -> Result<(), Al
 }
 
 /// What a client of a role is told as it comes in, by the text of the shape.
-pub fn greeting(
-    alloc: Global,
-    role: &str,
-    at: &str,
-    shape: &[u8],
-) -> Result<Vec<u8>, AllocError>
+pub fn greeting(alloc: Global, role: &str, at: &str, shape: &[u8]) -> Result<Vec<u8>, AllocError>
     ensures { IfOk result (λ text. text.items ≡ greeting_text role.now at.now shape.now) }
 {
     let mut text = Vec::new(alloc);
