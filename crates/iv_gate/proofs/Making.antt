@@ -1,29 +1,24 @@
--- The entries that make the shape lead, without the others, to the same roles, memberships, rights, relations and policies.
-use Rattle.std.proofs.Common.{◌≡◌, ℕ, Bool, true, false, cond, List, [], ◌∷◌, Some, None, option_map, refl, ap, ◌∙◌, sym, subst}
+-- The requests that make the shape lead, without the others, to the same roles, memberships, rights, relations and policies.
+use Rattle.std.proofs.Common.{◌≡◌, ℕ, Bool, true, false, cond, List, [], ◌∷◌, map, Option, Some, None, is_some, option_map, refl, ap, ◌∙◌, sym, subst}
 use Rattle.std.specs.Prelude.{filter, option_and_then}
-use Rattle.std.specs.List.{AllByRecursion}
 use Rattle.std.proofs.lemmas.Bool.{false≢true}
 use Rattle.iv_algebra.specs.Plans.{Lists}
 use Rattle.iv_bind.specs.Catalogs.{CatalogEntry}
 use Rattle.iv_access.specs.Access.{role_number}
 use Rattle.iv_access.specs.Rights.{Rights}
-use Rattle.iv_machine.specs.Act.{Act, begin, finish, create_role, create_table, create_view, grant, revoke, grant_role, revoke_role, row_security, create_policy, drop_policy, subscribe, unsubscribe, write}
+use Rattle.iv_machine.specs.Act.{Act, begin, finish, create_role, create_table, create_view, grant, revoke, grant_role, revoke_role, row_security, create_policy, drop_policy, subscribe, unsubscribe, write, Refusal}
 use Rattle.iv_machine.specs.Changing.{after}
-use Rattle.iv_machine.specs.Machine.{settled}
+use Rattle.iv_machine.specs.Machine.{outcome, settled, step}
 use Rattle.iv_machine.specs.Refusing.{refusal}
 use Rattle.iv_machine.specs.State.{State, start}
-use Rattle.iv_clients.specs.Bounds.{entry_session}
-use Rattle.iv_clients.specs.Journal.{Entry, IsEntry, is_shape, is_shared}
-use Rattle.iv_clients.proofs.Slots.{one_some}
+use Rattle.iv_clients.specs.Journal.{Request, is_shape, is_shared, requests_in}
+use Rattle.iv_clients.proofs.Slots.{one_some, some_is_none}
+use Rattle.iv_steps.specs.Steps.{Fact, all_carried, carried, passed, shared}
+use Rattle.iv_gate.specs.Arriving.{fact_of}
 use Rattle.iv_gate.specs.Gate.{Gate, in_session}
-use Rattle.iv_gate.specs.Laws.{MakesShape, shared}
-use Rattle.iv_gate.specs.Restoring.{all_replayed, passed, replayed}
-use Rattle.iv_gate.specs.Runs.{Runs}
-use Rattle.iv_gate.proofs.Holding.{runs_held}
-use Rattle.iv_gate.proofs.Lasting.{Starts}
-use Rattle.iv_gate.proofs.Leading.{runs_led}
-use Rattle.iv_gate.proofs.Replaying.{IsQuiet, alone, is_left, left, passes, quiet_replayed, start_quiet, state_of, then_of, was_led}
-use Rattle.iv_gate.proofs.Sound.{Adds, Sounds}
+use Rattle.iv_gate.specs.Laws.{LeadsBack, MakesShape}
+use Rattle.iv_gate.proofs.Lasting.{bound}
+use Rattle.iv_gate.proofs.Replaying.{alone, changed, finishes, left, passes, state_of}
 
 -- ---- states of one shape
 
@@ -32,143 +27,207 @@ pub record SameShape (s t : State) : Type 0 where
   pub rights : s.frame.rights ≡ t.frame.rights
   pub catalog : s.frame.catalog ≡ t.frame.catalog
 
--- a quiet state of the same shape has these parts
-shape_parts : (s t : State) → SameShape s t → IsQuiet t → t ≡ state_of s.frame.cap s.frame.rights s.frame.catalog [] [] t.frame.last t.rows
-shape_parts s t same quiet =
-    ap (λ z. state_of z t.frame.rights t.frame.catalog t.frame.sessions t.frame.subscriptions t.frame.last t.rows) (sym same.cap)
-    ∙ (ap (λ z. state_of s.frame.cap z t.frame.catalog t.frame.sessions t.frame.subscriptions t.frame.last t.rows) (sym same.rights)
-    ∙ (ap (λ z. state_of s.frame.cap s.frame.rights z t.frame.sessions t.frame.subscriptions t.frame.last t.rows) (sym same.catalog)
-    ∙ (ap (λ z. state_of s.frame.cap s.frame.rights s.frame.catalog z t.frame.subscriptions t.frame.last t.rows) quiet.sessions
-    ∙ ap (λ z. state_of s.frame.cap s.frame.rights s.frame.catalog [] z t.frame.last t.rows) quiet.subscriptions)))
-
--- ---- one entry
+-- ---- one request
 
 -- what makes the shape is accepted by the shape alone, whatever the rows are
-still_made : (cap : ℕ) (R : Rights) (C : List CatalogEntry) (role last later : ℕ) (T U : Lists) (act : Act) → is_shape act ≡ true
-    → refusal (alone cap R C role last T) entry_session act ≡ None → refusal (alone cap R C role later U) entry_session act ≡ None
-still_made cap R C role last later T U (begin name) x h = absurd (false≢true x)
-still_made cap R C role last later T U finish x h = absurd (false≢true x)
-still_made cap R C role last later T U (subscribe rel) x h = absurd (false≢true x)
-still_made cap R C role last later T U (unsubscribe k) x h = absurd (false≢true x)
-still_made cap R C role last later T U (write entries) x h = absurd (false≢true x)
-still_made cap R C role last later T U (create_role name) x h = h
-still_made cap R C role last later T U (create_table name owner columns) x h = h
-still_made cap R C role last later T U (create_view name owner query) x h = h
-still_made cap R C role last later T U (grant rel privileges to) x h = h
-still_made cap R C role last later T U (revoke rel privileges to) x h = h
-still_made cap R C role last later T U (grant_role group to) x h = h
-still_made cap R C role last later T U (revoke_role group to) x h = h
-still_made cap R C role last later T U (row_security rel enable force) x h = h
-still_made cap R C role last later T U (create_policy p) x h = h
-still_made cap R C role last later T U (drop_policy rel name) x h = h
+still_made : (cap : ℕ) (R : Rights) (C : List CatalogEntry) (role : ℕ) (T U : Lists) (act : Act) → is_shape act ≡ true → refusal (alone cap R C role 0 T) 1 act ≡ None → refusal (alone cap R C role 0 U) 1 act ≡ None
+still_made cap R C role T U (begin name) x h = absurd (false≢true x)
+still_made cap R C role T U finish x h = absurd (false≢true x)
+still_made cap R C role T U (subscribe rel) x h = absurd (false≢true x)
+still_made cap R C role T U (unsubscribe k) x h = absurd (false≢true x)
+still_made cap R C role T U (write entries) x h = absurd (false≢true x)
+still_made cap R C role T U (create_role name) x h = h
+still_made cap R C role T U (create_table name owner columns) x h = h
+still_made cap R C role T U (create_view name owner query) x h = h
+still_made cap R C role T U (grant rel privileges to) x h = h
+still_made cap R C role T U (revoke rel privileges to) x h = h
+still_made cap R C role T U (grant_role group to) x h = h
+still_made cap R C role T U (revoke_role group to) x h = h
+still_made cap R C role T U (row_security rel enable force) x h = h
+still_made cap R C role T U (create_policy p) x h = h
+still_made cap R C role T U (drop_policy rel name) x h = h
 
 -- and changes it in the same way
-same_made : (cap : ℕ) (R : Rights) (C : List CatalogEntry) (role last later : ℕ) (T U : Lists) (act : Act) → is_shape act ≡ true → SameShape (left cap R C role last T act) (left cap R C role later U act)
-same_made cap R C role last later T U (begin name) x = absurd (false≢true x)
-same_made cap R C role last later T U finish x = absurd (false≢true x)
-same_made cap R C role last later T U (subscribe rel) x = absurd (false≢true x)
-same_made cap R C role last later T U (unsubscribe k) x = absurd (false≢true x)
-same_made cap R C role last later T U (write entries) x = absurd (false≢true x)
-same_made cap R C role last later T U (create_role name) x = record { cap = refl; rights = refl; catalog = refl }
-same_made cap R C role last later T U (create_table name owner columns) x = record { cap = refl; rights = refl; catalog = refl }
-same_made cap R C role last later T U (create_view name owner query) x = record { cap = refl; rights = refl; catalog = refl }
-same_made cap R C role last later T U (grant rel privileges to) x = record { cap = refl; rights = refl; catalog = refl }
-same_made cap R C role last later T U (revoke rel privileges to) x = record { cap = refl; rights = refl; catalog = refl }
-same_made cap R C role last later T U (grant_role group to) x = record { cap = refl; rights = refl; catalog = refl }
-same_made cap R C role last later T U (revoke_role group to) x = record { cap = refl; rights = refl; catalog = refl }
-same_made cap R C role last later T U (row_security rel enable force) x = record { cap = refl; rights = refl; catalog = refl }
-same_made cap R C role last later T U (create_policy p) x = record { cap = refl; rights = refl; catalog = refl }
-same_made cap R C role last later T U (drop_policy rel name) x = record { cap = refl; rights = refl; catalog = refl }
+same_made : (cap : ℕ) (R : Rights) (C : List CatalogEntry) (role : ℕ) (T U : Lists) (act : Act) → is_shape act ≡ true → SameShape (left cap R C role 0 T act) (left cap R C role 0 U act)
+same_made cap R C role T U (begin name) x = absurd (false≢true x)
+same_made cap R C role T U finish x = absurd (false≢true x)
+same_made cap R C role T U (subscribe rel) x = absurd (false≢true x)
+same_made cap R C role T U (unsubscribe k) x = absurd (false≢true x)
+same_made cap R C role T U (write entries) x = absurd (false≢true x)
+same_made cap R C role T U (create_role name) x = record { cap = refl; rights = refl; catalog = refl }
+same_made cap R C role T U (create_table name owner columns) x = record { cap = refl; rights = refl; catalog = refl }
+same_made cap R C role T U (create_view name owner query) x = record { cap = refl; rights = refl; catalog = refl }
+same_made cap R C role T U (grant rel privileges to) x = record { cap = refl; rights = refl; catalog = refl }
+same_made cap R C role T U (revoke rel privileges to) x = record { cap = refl; rights = refl; catalog = refl }
+same_made cap R C role T U (grant_role group to) x = record { cap = refl; rights = refl; catalog = refl }
+same_made cap R C role T U (revoke_role group to) x = record { cap = refl; rights = refl; catalog = refl }
+same_made cap R C role T U (row_security rel enable force) x = record { cap = refl; rights = refl; catalog = refl }
+same_made cap R C role T U (create_policy p) x = record { cap = refl; rights = refl; catalog = refl }
+same_made cap R C role T U (drop_policy rel name) x = record { cap = refl; rights = refl; catalog = refl }
 
 -- what does not make it changes nothing of it
-not_made : (cap : ℕ) (R : Rights) (C : List CatalogEntry) (role last later : ℕ) (T U : Lists) (act : Act) → is_shared act ≡ true → is_shape act ≡ false → SameShape (left cap R C role last T act) (state_of cap R C [] [] later U)
-not_made cap R C role last later T U (write entries) y x = record { cap = refl; rights = refl; catalog = refl }
-not_made cap R C role last later T U (begin name) y x = absurd (false≢true y)
-not_made cap R C role last later T U finish y x = absurd (false≢true y)
-not_made cap R C role last later T U (subscribe rel) y x = absurd (false≢true y)
-not_made cap R C role last later T U (unsubscribe k) y x = absurd (false≢true y)
-not_made cap R C role last later T U (create_role name) y x = absurd (false≢true (sym x))
-not_made cap R C role last later T U (create_table name owner columns) y x = absurd (false≢true (sym x))
-not_made cap R C role last later T U (create_view name owner query) y x = absurd (false≢true (sym x))
-not_made cap R C role last later T U (grant rel privileges to) y x = absurd (false≢true (sym x))
-not_made cap R C role last later T U (revoke rel privileges to) y x = absurd (false≢true (sym x))
-not_made cap R C role last later T U (grant_role group to) y x = absurd (false≢true (sym x))
-not_made cap R C role last later T U (revoke_role group to) y x = absurd (false≢true (sym x))
-not_made cap R C role last later T U (row_security rel enable force) y x = absurd (false≢true (sym x))
-not_made cap R C role last later T U (create_policy p) y x = absurd (false≢true (sym x))
-not_made cap R C role last later T U (drop_policy rel name) y x = absurd (false≢true (sym x))
+not_made : (cap : ℕ) (R : Rights) (C : List CatalogEntry) (role : ℕ) (T U : Lists) (act : Act) → is_shared act ≡ true → is_shape act ≡ false → SameShape (left cap R C role 0 T act) (state_of cap R C [] [] 0 U)
+not_made cap R C role T U (write entries) y x = record { cap = refl; rights = refl; catalog = refl }
+not_made cap R C role T U (begin name) y x = absurd (false≢true y)
+not_made cap R C role T U finish y x = absurd (false≢true y)
+not_made cap R C role T U (subscribe rel) y x = absurd (false≢true y)
+not_made cap R C role T U (unsubscribe k) y x = absurd (false≢true y)
+not_made cap R C role T U (create_role name) y x = absurd (false≢true (sym x))
+not_made cap R C role T U (create_table name owner columns) y x = absurd (false≢true (sym x))
+not_made cap R C role T U (create_view name owner query) y x = absurd (false≢true (sym x))
+not_made cap R C role T U (grant rel privileges to) y x = absurd (false≢true (sym x))
+not_made cap R C role T U (revoke rel privileges to) y x = absurd (false≢true (sym x))
+not_made cap R C role T U (grant_role group to) y x = absurd (false≢true (sym x))
+not_made cap R C role T U (revoke_role group to) y x = absurd (false≢true (sym x))
+not_made cap R C role T U (row_security rel enable force) y x = absurd (false≢true (sym x))
+not_made cap R C role T U (create_policy p) y x = absurd (false≢true (sym x))
+not_made cap R C role T U (drop_policy rel name) y x = absurd (false≢true (sym x))
 
--- a replay from t led to the shape of u, and nobody is left of it
-record HasMade (t u : State) (e : Entry) : Type 0 where
+-- nobody is left of it
+bare : (cap : ℕ) (R : Rights) (C : List CatalogEntry) (role : ℕ) (T : Lists) (act : Act) → is_shared act ≡ true → left cap R C role 0 T act ≡ shared (left cap R C role 0 T act)
+bare cap R C role T (begin name) y = absurd (false≢true y)
+bare cap R C role T finish y = absurd (false≢true y)
+bare cap R C role T (subscribe rel) y = absurd (false≢true y)
+bare cap R C role T (unsubscribe k) y = absurd (false≢true y)
+bare cap R C role T (create_role name) y = refl
+bare cap R C role T (create_table name owner columns) y = refl
+bare cap R C role T (create_view name owner query) y = refl
+bare cap R C role T (grant rel privileges to) y = refl
+bare cap R C role T (revoke rel privileges to) y = refl
+bare cap R C role T (grant_role group to) y = refl
+bare cap R C role T (revoke_role group to) y = refl
+bare cap R C role T (row_security rel enable force) y = refl
+bare cap R C role T (create_policy p) y = refl
+bare cap R C role T (drop_policy rel name) y = refl
+bare cap R C role T (write entries) y = refl
+
+shared_too : (act : Act) → is_shape act ≡ true → is_shared act ≡ true
+shared_too (write entries) x = absurd (false≢true x)
+shared_too _ x = x
+
+-- what is passed is accepted, and changed
+pub record IsPassed (act : Act) (s t : State) : Type 0 where
+  pub accepted : refusal s 1 act ≡ None
+  pub state : changed s (in_session 1 act) ≡ t
+
+passed_is : (act : Act) (s t : State) → passed act s ≡ Some t → IsPassed act s t
+passed_is act s t h = by (refusal s 1 act) refl h
+  where
+    by : (o : Option Refusal) → refusal s 1 act ≡ o → cond (is_some o) None (Some (step s (in_session 1 act)).state) ≡ Some t → IsPassed act s t
+    by None e i = record { accepted = e; state = sym (ap (λ o. (outcome s (in_session 1 act) o).state) e) ∙ one_some (step s (in_session 1 act)).state t i }
+    by (Some r) e i = absurd (some_is_none t (sym i))
+
+-- where a fact led from a machine with nobody there
+record WasCarried (s u : State) (f : Fact) : Type 0 where
+  shared_act : is_shared f.act ≡ true
+  begun : refusal (shared s) 1 (begin f.role) ≡ None
+  acted : refusal (alone s.frame.cap s.frame.rights s.frame.catalog (role_number s.frame.rights f.role) 0 s.rows) 1 f.act ≡ None
+  ended : left s.frame.cap s.frame.rights s.frame.catalog (role_number s.frame.rights f.role) 0 s.rows f.act ≡ u
+
+was_carried : (s u : State) (f : Fact) → carried f (shared s) ≡ Some u → WasCarried s u f
+was_carried s u f h = by (is_shared f.act) refl h
+  where
+    by : (b : Bool) → is_shared f.act ≡ b → cond b (option_and_then (passed finish) (option_and_then (passed f.act) (passed (begin f.role) (shared s)))) None ≡ Some u → WasCarried s u f
+    by false y e = absurd (some_is_none u (sym e))
+    by true y e = bound (option_and_then (passed f.act) (passed (begin f.role) (shared s))) (passed finish) u (WasCarried s u f) e (λ w p q.
+        bound (passed (begin f.role) (shared s)) (passed f.act) w (WasCarried s u f) p (λ v a b.
+        whole v w (passed_is (begin f.role) (shared s) v a) (passed_is f.act v w b) (passed_is finish w u q)))
+      where
+        role : ℕ
+        role = role_number s.frame.rights f.role
+
+        mid : State
+        mid = alone s.frame.cap s.frame.rights s.frame.catalog (role_number s.frame.rights f.role) 0 s.rows
+
+        whole : (v w : State) → IsPassed (begin f.role) (shared s) v → IsPassed f.act v w → IsPassed finish w u → WasCarried s u f
+        whole v w x z k = record {
+          shared_act = y;
+          begun = x.accepted;
+          acted = subst (λ c. refusal c 1 f.act ≡ None) (sym x.state) z.accepted;
+          ended = ap (λ c. changed (changed c (in_session 1 f.act)) (in_session 1 finish)) x.state ∙ (ap (λ c. changed c (in_session 1 finish)) z.state ∙ k.state);
+        }
+
+-- a machine of the same shape, with nobody there
+shape_parts : (s t : State) → SameShape s t → shared t ≡ state_of s.frame.cap s.frame.rights s.frame.catalog [] [] 0 t.rows
+shape_parts s t m = λ i. state_of (sym m.cap i) (sym m.rights i) (sym m.catalog i) [] [] 0 t.rows
+
+record HasMade (t u : State) (f : Fact) : Type 0 where
   end : State
-  replays : replayed t e ≡ Some end
+  leads : carried f (shared t) ≡ Some end
   same : SameShape u end
-  quiet : IsQuiet end
+  alone : end ≡ shared end
 
-one_makes : (s t u : State) (e : Entry) → IsQuiet s → IsQuiet t → SameShape s t → is_shared e.act ≡ true → is_shape e.act ≡ true → replayed s e ≡ Some u → HasMade t u e
-one_makes s t u e p q m y x h =
-    let cap = s.frame.cap in let R = s.frame.rights in let C = s.frame.catalog in let role = role_number R e.role in
-    let w = was_led s u e p h in
-    let from = state_of s.frame.cap s.frame.rights s.frame.catalog [] [] t.frame.last t.rows in
-    let mid = alone s.frame.cap s.frame.rights s.frame.catalog (role_number s.frame.rights e.role) t.frame.last t.rows in
-    let acted = settled e.act (after mid entry_session e.act) in
-    let l = is_left cap R C role t.frame.last t.rows e.act y in
-    let end = left s.frame.cap s.frame.rights s.frame.catalog (role_number s.frame.rights e.role) t.frame.last t.rows e.act in
-    let one : passed from (in_session entry_session (begin e.role)) ≡ Some mid = passes from (in_session entry_session (begin e.role)) w.begun in
-    let two : passed mid (in_session entry_session e.act) ≡ Some acted =
-    passes mid (in_session entry_session e.act) (still_made cap R C role s.frame.last t.frame.last s.rows t.rows e.act x w.acted) in
-    let three : passed acted (in_session entry_session finish) ≡ Some end = passes acted (in_session entry_session finish) l.finishes in
-    let made : HasMade from u e = record {
+one_makes : (s t u : State) (f : Fact) → SameShape s t → is_shape f.act ≡ true → carried f (shared s) ≡ Some u → HasMade t u f
+one_makes s t u f m x h =
+    let cap = s.frame.cap in let R = s.frame.rights in let C = s.frame.catalog in let role = role_number R f.role in let y = shared_too f.act x in
+    let w = was_carried s u f h in
+    let from = state_of cap R C [] [] 0 t.rows in let mid = alone cap R C role 0 t.rows in let acted = settled f.act (after mid 1 f.act) in let end = left cap R C role 0 t.rows f.act in
+    let one : passed (begin f.role) from ≡ Some mid = passes from (begin f.role) w.begun in
+    let two : passed f.act mid ≡ Some acted = passes mid f.act (still_made cap R C role s.rows t.rows f.act x w.acted) in
+    let three : passed finish acted ≡ Some end = passes acted finish (finishes cap R C role 0 t.rows f.act y) in
+    record {
       end = end;
-      replays = ap (option_and_then (λ a. option_and_then (λ b. passed b (in_session entry_session finish)) (passed a (in_session entry_session e.act)))) one
-          ∙ (ap (option_and_then (λ b. passed b (in_session entry_session finish))) two ∙ three);
-      same = subst (λ z. SameShape z end) (sym w.ended) (same_made cap R C role s.frame.last t.frame.last s.rows t.rows e.act x);
-      quiet = l.quiet;
-    } in
-    subst (λ z. HasMade z u e) (sym (shape_parts s t m q)) made
+      leads = ap (carried f) (shape_parts s t m)
+          ∙ (ap (λ b. cond b (option_and_then (passed finish) (option_and_then (passed f.act) (passed (begin f.role) from))) None) y
+          ∙ (ap (λ o. option_and_then (passed finish) (option_and_then (passed f.act) o)) one ∙ (ap (option_and_then (passed finish)) two ∙ three)));
+      same = subst (λ z. SameShape z end) w.ended (same_made cap R C role s.rows t.rows f.act x);
+      alone = bare cap R C role t.rows f.act y;
+    }
 
-none_makes : (s t u : State) (e : Entry) → IsQuiet s → IsQuiet t → SameShape s t → is_shared e.act ≡ true → is_shape e.act ≡ false → replayed s e ≡ Some u → SameShape u t
-none_makes s t u e p q m y x h =
-    subst (λ z. SameShape u z) (sym (shape_parts s t m q))
-    (subst (λ z. SameShape z (state_of s.frame.cap s.frame.rights s.frame.catalog [] [] t.frame.last t.rows)) (sym (was_led s u e p h).ended)
-    (not_made s.frame.cap s.frame.rights s.frame.catalog (role_number s.frame.rights e.role) s.frame.last t.frame.last s.rows t.rows e.act y x))
+none_makes : (s t u : State) (f : Fact) → SameShape s t → is_shape f.act ≡ false → carried f (shared s) ≡ Some u → SameShape u t
+none_makes s t u f m x h =
+    let w = was_carried s u f h in let role = role_number s.frame.rights f.role in
+    let n = subst (λ z. SameShape z (state_of s.frame.cap s.frame.rights s.frame.catalog [] [] 0 t.rows)) w.ended (not_made s.frame.cap s.frame.rights s.frame.catalog role s.rows t.rows f.act w.shared_act x) in
+    record { cap = n.cap ∙ m.cap; rights = n.rights ∙ m.rights; catalog = n.catalog ∙ m.catalog }
+
+led_bare : (s u : State) (f : Fact) → carried f (shared s) ≡ Some u → u ≡ shared u
+led_bare s u f h =
+    let w = was_carried s u f h in
+    subst (λ z. z ≡ shared z) w.ended (bare s.frame.cap s.frame.rights s.frame.catalog (role_number s.frame.rights f.role) s.rows f.act w.shared_act)
 
 -- ---- all of them
 
-record AllMake (t u : State) (es : List Entry) : Type 0 where
+record AllMake (t u : State) (fs : List Fact) : Type 0 where
   end : State
-  replays : all_replayed t (filter (λ (e : Entry). is_shape e.act) es) ≡ Some end
+  leads : all_carried (filter (λ (f : Fact). is_shape f.act) fs) (shared t) ≡ Some end
   same : SameShape u end
+  alone : end ≡ shared end
 
-all_make : (s t u : State) (es : List Entry) → AllByRecursion IsEntry es → IsQuiet s → IsQuiet t → SameShape s t → all_replayed s es ≡ Some u → AllMake t u es
-all_make s t u [] w p q m h = record { end = t; replays = refl; same = subst (λ z. SameShape z t) (one_some s u h) m }
-all_make s t u (e ∷ es) w p q m h =
-    let a = then_of (replayed s e) (λ v. all_replayed v es) u h in
-    by a.mid a.one (is_shape e.act) refl (λ v k n. all_make a.mid v u es w.1 (quiet_replayed s a.mid e w.0.shared p a.one) k n a.two)
+all_make : (s t u : State) (fs : List Fact) → SameShape s t → all_carried fs (shared s) ≡ Some u → AllMake t u fs
+all_make s t u [] m h = record { end = shared t; leads = refl; same = subst (λ z. SameShape z (shared t)) (one_some (shared s) u h) (record { cap = m.cap; rights = m.rights; catalog = m.catalog }); alone = refl }
+all_make s t u (f ∷ fs) m h = bound (carried f (shared s)) (all_carried fs) u (AllMake t u (f ∷ fs)) h (λ v p q.
+    by v p (is_shape f.act) refl (λ r n. all_make v r u fs n (ap (all_carried fs) (sym (led_bare s v f p)) ∙ q)))
   where
-    by : (mid : State) → replayed s e ≡ Some mid → (b : Bool) → is_shape e.act ≡ b → ((v : State) → IsQuiet v → SameShape mid v → AllMake v u es) → AllMake t u (e ∷ es)
-    by mid g true x more =
-        let l = one_makes s t mid e p q m w.0.shared x g in let r = more l.end l.quiet l.same in
+    rest : List Fact
+    rest = filter (λ (x : Fact). is_shape x.act) fs
+
+    by : (v : State) → carried f (shared s) ≡ Some v → (b : Bool) → is_shape f.act ≡ b → ((r : State) → SameShape v r → AllMake r u fs) → AllMake t u (f ∷ fs)
+    by v p true x more =
+        let l = one_makes s t v f m x p in let r = more l.end l.same in
         record {
           end = r.end;
-          replays = ap (λ b. all_replayed t (cond b (e ∷ filter (λ (d : Entry). is_shape d.act) es) (filter (λ (d : Entry). is_shape d.act) es))) x
-              ∙ (ap (option_and_then (λ v. all_replayed v (filter (λ (d : Entry). is_shape d.act) es))) l.replays ∙ r.replays);
+          leads = ap (λ b. all_carried (cond b (f ∷ rest) rest) (shared t)) x ∙ (ap (option_and_then (all_carried rest)) l.leads ∙ (ap (all_carried rest) l.alone ∙ r.leads));
           same = r.same;
+          alone = r.alone;
         }
-    by mid g false x more =
-        let r = more t q (none_makes s t mid e p q m w.0.shared x g) in
-        record {
-          end = r.end;
-          replays = ap (λ b. all_replayed t (cond b (e ∷ filter (λ (d : Entry). is_shape d.act) es) (filter (λ (d : Entry). is_shape d.act) es))) x ∙ r.replays;
-          same = r.same;
-        }
+    by v p false x more = let r = more t (none_makes s t v f m x p) in record { end = r.end; leads = ap (λ b. all_carried (cond b (f ∷ rest) rest) (shared t)) x ∙ r.leads; same = r.same; alone = r.alone }
 
-same_frame : (s t : State) → SameShape s t → (shared s).frame ≡ (shared t).frame
-same_frame s t a = λ i. record { cap = a.cap i; rights = a.rights i; catalog = a.catalog i; sessions = []; subscriptions = []; last = 0 }
+facts_of : (qs : List Request) → map fact_of (filter (λ (q : Request). is_shape q.act) qs) ≡ filter (λ (f : Fact). is_shape f.act) (map fact_of qs)
+facts_of [] = refl
+facts_of (q ∷ qs) = by (is_shape q.act) (facts_of qs)
+  where
+    by : (b : Bool) → map fact_of (filter (λ (x : Request). is_shape x.act) qs) ≡ filter (λ (f : Fact). is_shape f.act) (map fact_of qs)
+        → map fact_of (cond b (q ∷ filter (λ (x : Request). is_shape x.act) qs) (filter (λ (x : Request). is_shape x.act) qs))
+        ≡ cond b (fact_of q ∷ filter (λ (f : Fact). is_shape f.act) (map fact_of qs)) (filter (λ (f : Fact). is_shape f.act) (map fact_of qs))
+    by true h = ap (λ z. fact_of q ∷ z) h
+    by false h = h
 
-pub runs_make : Adds → Starts → Sounds → (cap : ℕ) (g : Gate) → Runs cap g → MakesShape cap g
-runs_make adds starts sounds cap g r =
-    let l = runs_led adds starts sounds cap g r in
-    let m = all_make (start cap) (start cap) l.end g.entries (runs_held cap g r).well (start_quiet cap) (start_quiet cap) (record { cap = refl; rights = refl; catalog = refl }) l.replays in
-    ap (option_map (λ s. (shared s).frame)) m.replays
-    ∙ ap Some (sym (same_frame g.machine m.end (record { cap = l.same.cap ∙ m.same.cap; rights = l.same.rights ∙ m.same.rights; catalog = l.same.catalog ∙ m.same.catalog })))
+pub makes_shape : (cap : ℕ) (g : Gate) → LeadsBack cap g → MakesShape cap g
+makes_shape cap g l =
+    let m = all_make (start cap) (start cap) (shared g.machine) (map fact_of (requests_in g.entries)) (record { cap = refl; rights = refl; catalog = refl }) l in
+    ap (λ fs. option_map (λ (s : State). s.frame) (all_carried fs (start cap))) (facts_of (requests_in g.entries))
+    ∙ (ap (option_map (λ (s : State). s.frame)) m.leads
+    ∙ ap Some (ap (λ (s : State). s.frame) m.alone ∙ same_frame m.end m.same))
+  where
+    same_frame : (s : State) → SameShape (shared g.machine) s → (shared s).frame ≡ (shared g.machine).frame
+    same_frame s a = λ i. record { cap = sym a.cap i; rights = sym a.rights i; catalog = sym a.catalog i; sessions = []; subscriptions = []; last = 0 }

@@ -72,7 +72,7 @@ changed s k = settled k.act (after s k.session k.act)
 pub accepted_state : (s : State) (k : Command) → refusal s k.session k.act ≡ None → (step s k).state ≡ changed s k
 accepted_state s k h = ap (λ o. (outcome s k o).state) h
 
-passes : (s : State) (act : Act) → refusal s 1 act ≡ None → passed act s ≡ Some (changed s (in_session 1 act))
+pub passes : (s : State) (act : Act) → refusal s 1 act ≡ None → passed act s ≡ Some (changed s (in_session 1 act))
 passes s act h = ap (λ o. cond (is_some o) None (Some (step s (in_session 1 act)).state)) h ∙ ap Some (accepted_state s (in_session 1 act) h)
 
 pub refused_state : (s : State) (k : Command) → is_accepted (reply_in (step s k).lines) ≡ false → (step s k).state ≡ s
@@ -166,7 +166,7 @@ still_accepted cap R C ss es last later T n role act x acts h =
     (rows_tests cap R C ss es last later T n role act x (later_none (frame_refusal s.frame n act) (rows_refusal s n act) h))
 
 -- where a request leads that is carried out alone
-abbrev left : ℕ → Rights → List CatalogEntry → ℕ → ℕ → Lists → Act → State
+abbrev pub left : ℕ → Rights → List CatalogEntry → ℕ → ℕ → Lists → Act → State
 left cap R C role last T act = settled finish (after (settled act (after (alone cap R C role last T) 1 act)) 1 finish)
 
 -- what is shared is changed alike
@@ -189,7 +189,7 @@ left_is_shared cap R C ss es last T n role (drop_policy rel name) x = refl
 left_is_shared cap R C ss es last T n role (write entries) x = refl
 
 -- the session can be finished
-finishes : (cap : ℕ) (R : Rights) (C : List CatalogEntry) (role last : ℕ) (T : Lists) (act : Act) → is_shared act ≡ true
+pub finishes : (cap : ℕ) (R : Rights) (C : List CatalogEntry) (role last : ℕ) (T : Lists) (act : Act) → is_shared act ≡ true
     → refusal (settled act (after (alone cap R C role last T) 1 act)) 1 finish ≡ None
 finishes cap R C role last T (begin name) x = absurd (false≢true x)
 finishes cap R C role last T finish x = absurd (false≢true x)
