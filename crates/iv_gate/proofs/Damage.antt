@@ -129,7 +129,7 @@ some_lines e w = by (texts_of e) w.some
     by (t ∷ []) h = omega arith
     by (t ∷ u ∷ us) h = omega arith
 
-no_lines : (e : Entry) (es : List Entry) (more : List Line) → IsEntry e → [] ≡ journal_of (e ∷ es) ++ more → ⊥
+pub no_lines : (e : Entry) (es : List Entry) (more : List Line) → IsEntry e → [] ≡ journal_of (e ∷ es) ++ more → ⊥
 no_lines e es more w h =
     none (length (lines_of e)) (length (journal_of es ++ more)) (some_lines e w)
     (ap length (h ∙ journal_first e es more) ∙ length-append (lines_of e) (journal_of es ++ more))
@@ -263,7 +263,7 @@ no_further g es fs h rest s f more stops l a b =
     let x = front_leads g h (es ++ f ∷ []) more on in
     stops f (journal_of more ++ s) (led g (es ++ f ∷ []) x.state) (b ∙ (journal_first f more s ∙ sym (journal_one f (journal_of more ++ s)))) x.on
 
-entry_there : (es fs : List Entry) (e : Entry) (more : List Entry) → fs ≡ es ++ e ∷ more → AllByRecursion IsEntry fs → IsEntry e
+pub entry_there : (es fs : List Entry) (e : Entry) (more : List Entry) → fs ≡ es ++ e ∷ more → AllByRecursion IsEntry fs → IsEntry e
 entry_there es fs e more a w = (behind_all IsEntry es (e ∷ more) (subst (AllByRecursion IsEntry) a w)).0
 
 restored_once : ReadsBack → (g : Gate) (lines : List Line) (h i : Gate) → Restores g lines h → Restores g lines i → h ≡ i

@@ -32,6 +32,7 @@ pub mod Needing
 pub mod Stepping
 pub mod Replaying
 pub mod Requesting
+pub mod Booking
 pub mod Holding
 pub mod Leading
 pub mod Showing

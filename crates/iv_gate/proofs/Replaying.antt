@@ -15,6 +15,7 @@ use Rattle.iv_machine.specs.Machine.{outcome, reply_to, settled, step}
 use Rattle.iv_machine.specs.Refusing.{entries_present, first, frame_refusal, or_else, refusal, rows_refusal, session_test, test, tests_by}
 use Rattle.iv_machine.specs.State.{State, Frame, Session, Subscription, actor, is_within, start}
 use Rattle.iv_clients.specs.Journal.{Request, is_shared}
+use Rattle.iv_clients.proofs.Cuts.{found}
 use Rattle.iv_clients.proofs.Slots.{one_some, some_is_none}
 use Rattle.iv_gate.specs.Gate.{in_session, is_accepted, reply_in}
 use Rattle.iv_gate.specs.Replies.{ActsAs}
@@ -207,6 +208,10 @@ finishes cap R C role last T (create_policy p) x = refl
 finishes cap R C role last T (drop_policy rel name) x = refl
 finishes cap R C role last T (write entries) x = refl
 
+-- and nobody is left
+pub left_bare : (cap : ℕ) (R : Rights) (C : List CatalogEntry) (role : ℕ) (T : Lists) (act : Act) → is_shared act ≡ true → left cap R C role 0 T act ≡ shared (left cap R C role 0 T act)
+left_bare cap R C role T act x = let e = left_is_shared cap R C [] [] 0 T 1 role act x in e ∙ ap shared (sym e)
+
 -- ---- one request
 
 -- a session is begun for a role that is known
@@ -242,3 +247,39 @@ request_leads s n q a x y =
 -- what is shared stays by what does not change it
 pub shared_same : (s t : State) → SameShared s t → shared s ≡ shared t
 shared_same s t a = λ i. record { frame = record { cap = a.cap i; rights = a.rights i; catalog = a.catalog i; sessions = []; subscriptions = []; last = 0 }; rows = a.rows i }
+
+-- ---- what was carried out
+
+record WasPassed (act : Act) (s t : State) : Type 0 where
+  accepted : refusal s 1 act ≡ None
+  is : t ≡ changed s (in_session 1 act)
+
+was_passed : (act : Act) (s t : State) → passed act s ≡ Some t → WasPassed act s t
+was_passed act s t h = by (refusal s 1 act) refl h
+  where
+    by : (o : Option Refusal) → refusal s 1 act ≡ o → cond (is_some o) None (Some (step s (in_session 1 act)).state) ≡ Some t → WasPassed act s t
+    by None e k = record { accepted = e; is = sym (one_some (step s (in_session 1 act)).state t k) ∙ accepted_state s (in_session 1 act) e }
+    by (Some r) e k = absurd (some_is_none t (sym k))
+
+-- what a request that was carried out where nobody is had accepted, and where it led
+pub record WasLed (s t : State) (q : Request) : Type 0 where
+  pub shared : is_shared q.act ≡ true
+  pub begun : refusal (state_of s.frame.cap s.frame.rights s.frame.catalog [] [] 0 s.rows) 1 (begin q.role) ≡ None
+  pub acted : refusal (alone s.frame.cap s.frame.rights s.frame.catalog (role_number s.frame.rights q.role) 0 s.rows) 1 q.act ≡ None
+  pub ended : t ≡ left s.frame.cap s.frame.rights s.frame.catalog (role_number s.frame.rights q.role) 0 s.rows q.act
+
+pub was_led : (s t : State) (q : Request) → carried (fact_of q) (shared s) ≡ Some t → WasLed s t q
+was_led s t q h = by (is_shared q.act) refl h
+  where
+    by : (b : Bool) → is_shared q.act ≡ b → cond b (option_and_then (passed finish) (option_and_then (passed q.act) (passed (begin q.role) (shared s)))) None ≡ Some t → WasLed s t q
+    by false e k = absurd (some_is_none t (sym k))
+    by true e k =
+        let R = s.frame.rights in let role = role_number R q.role in
+        let u = alone s.frame.cap R s.frame.catalog role 0 s.rows in
+        let last = found (passed finish) (option_and_then (passed q.act) (passed (begin q.role) (shared s))) t k in
+        let mid = found (passed q.act) (passed (begin q.role) (shared s)) last.of last.there in
+        let one = was_passed (begin q.role) (shared s) mid.of mid.there in
+        let begun : mid.of ≡ u = one.is in
+        let two = was_passed q.act u last.of (ap (passed q.act) (sym begun) ∙ mid.is) in
+        let three = was_passed finish (changed u (in_session 1 q.act)) t (ap (passed finish) (sym two.is) ∙ last.is) in
+        record { shared = e; begun = one.accepted; acted = two.accepted; ended = three.is }

@@ -6,10 +6,17 @@ ghost use Rattle.iv_gate.specs.Laws.{NamesAreOnce};
 ghost use Rattle.iv_gate.specs.Replies.{refused_by};
 ghost use Rattle.iv_gate.specs.Runs.{Runs};
 
+use iv_clients::laws::{names_are_texts, records_are_read_back};
+use iv_message::laws::told_texts_are_lines;
+
 /// In whatever runs, over restarts, at most one entry of a holder's bears a name with its place, in the whole journal.
 pub fn names_are_once()
     ensures { (cap : ℕ) (g : Gate) → Runs cap g → NamesAreOnce g }
-{}
+{
+    records_are_read_back();
+    names_are_texts();
+    told_texts_are_lines();
+}
 
 /// In whatever runs, over restarts, where no log is followed, no more names of a holder's were refused and are not forgiven than it may add.
 pub fn refusals_are_few()
