@@ -1,19 +1,18 @@
 -- Names that clients say are such as the journal has them, and so is whose they are.
-use Rattle.std.proofs.Common.{◌≡◌, ℕ, Bool, true, false, cond, List, [], ◌∷◌, ◌++◌, Option, Some, None, option_map, refl, ap, sym, subst}
+use Rattle.std.proofs.Common.{◌≡◌, ℕ, Bool, true, false, cond, List, [], ◌∷◌, ◌++◌, Option, Some, None, option_map, refl, sym, subst}
 use Rattle.std.specs.Prelude.{◌&&◌, codes, option_and_then}
 use Rattle.std.specs.Str.{IsUtf8, chars, is_utf8}
 use Rattle.std.proofs.lemmas.Str.{IsUtf8-append, IsUtf8-from_is_utf8, is_utf8-from_IsUtf8}
 use Rattle.iv_rows.specs.Options.{if_some}
-use Rattle.iv_request.specs.Request.{passing}
 use Rattle.serde_json.specs.Find.{as_number, as_u64}
 use Rattle.iv_message.specs.Message.{id_in}
 use Rattle.iv_request.specs.Reading.{value_of}
-use Rattle.iv_clients.specs.Journal.{claim_said, id_parts}
+use Rattle.iv_clients.specs.Journal.{id_parts}
 use Rattle.iv_clients.specs.Laws.{ClaimsAreWell, HoldersAreText, IsClaim}
 use Rattle.iv_clients.specs.Names.{Claim, Spelled, claim_in, claimed, count_in, is_count, is_epoch, is_random, spelled_in}
 use Rattle.iv_clients.specs.Tokens.{behind}
 use Rattle.iv_clients.proofs.Cuts.{both_true, found, passed}
-use Rattle.iv_clients.proofs.Naming.{name_is_utf8}
+use Rattle.iv_clients.proofs.Calling.{name_is_utf8}
 use Rattle.iv_clients.proofs.Slots.{one_some, some_is_none}
 
 claimed_well : (s : Spelled) (p : Claim × List ℕ) → claimed s ≡ Some p → IsClaim p.0

@@ -1,6 +1,6 @@
 pub mod Counting
 pub mod Cutting
-pub mod Naming
+pub mod Calling
 pub mod Lines
 pub mod Slots
 pub mod Cuts

@@ -1,8 +1,7 @@
 -- The record of an entry is read back, whatever stands behind it, and nothing else is read.
-use Rattle.std.proofs.Common.{◌≡◌, ℕ, suc, Bool, true, false, cond, not, ◌||◌, ◌==◌, List, [], ◌∷◌, ◌++◌, length, map, Option, Some, None, refl, ap, ◌∙◌, sym, subst, append_assoc, append-nil}
-use Rattle.std.specs.Prelude.{◌≢◌, is_some, option_and_then}
+use Rattle.std.proofs.Common.{◌≡◌, ℕ, Bool, true, false, cond, List, [], ◌∷◌, ◌++◌, map, Option, Some, None, refl, ap, ◌∙◌, sym, subst, append_assoc, append-nil}
+use Rattle.std.specs.Prelude.{◌≢◌, option_and_then}
 use Rattle.std.specs.List.{AllByRecursion}
-use Rattle.std.proofs.lemmas.Bool.{false≢true}
 use Rattle.std.proofs.lemmas.List.{map-append}
 use Rattle.iv_rows.specs.Options.{if_some}
 use Rattle.iv_once.specs.Names.{Named}

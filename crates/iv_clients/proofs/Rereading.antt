@@ -1,7 +1,7 @@
 -- Each text of the journal is read back, and nothing else is read.
-use Rattle.std.proofs.Common.{◌≡◌, ℕ, suc, Bool, true, false, cond, not, ◌||◌, ◌&&◌, ◌==◌, List, [], ◌∷◌, ◌++◌, drop, length, Option, Some, None, option_map, refl, ap, ◌∙◌, sym, subst, append_assoc}
+use Rattle.std.proofs.Common.{◌≡◌, ℕ, Bool, true, false, cond, not, ◌||◌, ◌&&◌, ◌==◌, List, [], ◌∷◌, ◌++◌, drop, length, Option, Some, None, option_map, refl, ap, ◌∙◌, sym, subst, append_assoc}
 use Rattle.std.specs.Prelude.{bytes_eq, codes, decimal, option_and_then}
-use Rattle.std.specs.List.{list_all, list_any}
+use Rattle.std.specs.List.{list_all}
 use Rattle.std.specs.Str.{is_utf8}
 use Rattle.std.proofs.lemmas.Bool.{eqb-true, false≢true}
 use Rattle.std.proofs.lemmas.Slice.Eq.{bytes_eq-Decides}
@@ -19,8 +19,8 @@ use Rattle.iv_once.specs.Names.{Named}
 use Rattle.iv_request.specs.Reading.{value_of}
 use Rattle.iv_request.specs.Request.{passing}
 use Rattle.iv_clients.specs.Journal.{IsNamed, IsRequest, Request, answer_key, begins_object, has_newline, is_digest, is_shared, name_text, position_text, request_text}
-use Rattle.iv_clients.specs.Names.{Spelled, behind_count, behind_epoch, behind_name, between, count_in, is_between, is_count, is_epoch, is_letter, is_random, place_text, spelled_in}
-use Rattle.iv_clients.specs.Parsed.{NameParts, Text, of_request, of_name, of_position, act_plain, answer_in, answered_in, behind_digest, behind_holder, but_last, count_first, cut_quote, digest_of_32, is_answer, is_asked, name_in, name_parts, named_by, named_in, named_of, named_request, position_in, request_by, request_in, request_parts, request_read, string_in, text_in}
+use Rattle.iv_clients.specs.Names.{Spelled, behind_count, behind_epoch, behind_name, between, count_in, is_between, is_count, is_epoch, is_letter, is_random, spelled_in}
+use Rattle.iv_clients.specs.Parsed.{NameParts, Text, of_request, of_name, of_position, act_plain, answer_in, behind_digest, behind_holder, but_last, count_first, cut_quote, digest_of_32, is_answer, is_asked, name_in, name_parts, named_by, named_in, named_of, named_request, position_in, request_by, request_in, request_parts, request_read, string_in, text_in}
 use Rattle.iv_clients.specs.Tokens.{behind, cut_at, decoded}
 use Rattle.iv_clients.proofs.Cuts.{HasNo, Passes, behind_is, both_true, cut_is, cut_there, found, last_off, let_pass, none_passes, passed, passes, string_cut}
 use Rattle.iv_clients.proofs.Slots.{one_some, some_is_none}

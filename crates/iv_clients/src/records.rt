@@ -184,15 +184,16 @@ pub fn push_step(
 pub fn push_accepted(
     alloc: Global,
     lines: &mut Vec<OwnedLine>,
-    request: &Request,
-    name: Option<&Named>,
+    role: &str,
+    line: &[u8],
+    name: &Option<Named>,
 ) -> Result<(), AllocError>
-    ensures { OnOk result (lines.new.items ≡ lines.old.items ++ record_of (request_text request.now ∷ if_some (option_map (λ n. n.now) name) [] (λ n. name_text n ∷ []))) }
+    ensures { OnOk result (lines.new.items ≡ lines.old.items ++ record_of (text_of_request role.now line.now ∷ if_some name.now [] (λ n. name_text n ∷ []))) }
 {
     match name {
-        None => push_request_line(alloc, lines, true, &request.role, &request.line),
+        None => push_request_line(alloc, lines, true, role, line),
         Some(name) => {
-            push_request_line(alloc, lines, false, &request.role, &request.line)?;
+            push_request_line(alloc, lines, false, role, line)?;
             push_name_line(alloc, lines, true, name)
         }
     }
@@ -328,13 +329,14 @@ impl Entry {
         ensures { IfOk result (λ o. option_map {U = spec.Entry × List LineSpec} (λ count. (self.new, drop count lines.now)) o ≡ record_from self.old lines.now) }
     {
         for at in 0..lines.len() {
-            let Some(text) = text_in(alloc, lines[at].text, scratch)? else {
+            let line = &lines[at];
+            let Some(text) = text_in(alloc, line.text, scratch)? else {
                 return Ok(None);
             };
             if !self.add(text)? {
                 return Ok(None);
             }
-            if lines[at].is_last {
+            if line.is_last {
                 return Ok(Some(at + 1));
             }
         }

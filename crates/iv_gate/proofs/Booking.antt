@@ -2,35 +2,34 @@
 use Rattle.std.proofs.Common.{◌≡◌, ℕ, zero, suc, ◌+◌, ◌<◌, ◌%◌, Bool, true, false, cond, not, ◌||◌, List, [], ◌∷◌, ◌++◌, length, map, Option, Some, None, option_map, is_some, take, refl, ap, ◌∙◌, sym, subst, arith, append-nil}
 use Rattle.std.specs.Prelude.{◌==◌, ◌&&◌, ◌-◌, ◌/◌, ◌^◌, nat_lt, unwrap_or}
 use Rattle.std.specs.Int.{to_be_bytes, w32}
-use Rattle.std.specs.List.{AllByRecursion, list_all, list_any, slice_index}
-use Rattle.std.proofs.lemmas.Bool.{eq-eqb, false≢true, lt-ltb}
+use Rattle.std.specs.List.{AllByRecursion, list_all, slice_index}
+use Rattle.std.proofs.lemmas.Bool.{eq-eqb, eqb-true, false≢true, lt-ltb, ltb-true}
 use Rattle.std.proofs.lemmas.Bool.Decides.{nat_tests}
 use Rattle.std.proofs.lemmas.List.Folds.{list_all-append}
 use Rattle.sha2.specs.Sha256.{digest_bytes, final_hash, initial_hash_256, sha256}
 use Rattle.sha2.proofs.Facts256.{length-sha256}
-use Rattle.serde_json.specs.Data.{Data, object}
-use Rattle.serde_json.specs.Written.{compact_text}
+use Rattle.serde_json.specs.Data.{Data}
 use Rattle.iv_rows.specs.Names.{is_name}
 use Rattle.iv_rows.specs.Options.{if_some}
-use Rattle.iv_machine.specs.Act.{Act, begin, finish, create_role, create_table, create_view, grant, revoke, grant_role, revoke_role, row_security, create_policy, drop_policy, subscribe, unsubscribe, write, Reply, refused}
-use Rattle.iv_lines.specs.Texts.{reply_members}
+use Rattle.iv_machine.specs.Act.{Act, begin, finish, create_role, create_table, create_view, grant, revoke, grant_role, revoke_role, row_security, create_policy, drop_policy, subscribe, unsubscribe, write, Refusal, Reply}
 use Rattle.iv_message.specs.Lines.{IsLine, is_clean}
 use Rattle.iv_message.specs.Message.{Message, no_json, too_long, no_object, no_request, request}
 use Rattle.iv_message.specs.Told.{Told, replied, told_text}
 use Rattle.iv_once.specs.Names.{Ask, Known, Named, Verdict, carry, again, another, late, foreign, ahead, over, learned, named, verdict}
+use Rattle.iv_steps.specs.Steps.{first_refused, shared}
 use Rattle.iv_clients.specs.Clients.{Client}
 use Rattle.iv_clients.specs.Journal.{Entry, IsEntry, IsNamed, IsRequest, Request, claim_said, has_newline, is_digest, is_shared, line_said, names_in, position_of, said_by}
-use Rattle.iv_clients.specs.Laws.{ClaimsAreWell, HoldersAreText, IsClaim}
+use Rattle.iv_clients.specs.Laws.{ClaimsAreWell, HoldersAreText}
 use Rattle.iv_clients.specs.Names.{Claim, limits}
 use Rattle.iv_clients.proofs.Cuts.{last_off}
-use Rattle.iv_gate.specs.Arriving.{Step, entry_of, first_known, is_new, not_new, position}
-use Rattle.iv_gate.specs.Gate.{Gate, answer_text, asked_by, entries_of, is_accepted, known_at, known_by, known_of, may_have, names_of}
+use Rattle.iv_gate.specs.Arriving.{Fault, Step, entry_of, fact_of, fault_of, first_known, gap, is_behind, is_log, is_new, not_accepted, not_new, other_log, position}
+use Rattle.iv_gate.specs.Gate.{Gate, answer_text, asked_by, came, went, entries_of, is_accepted, known_at, known_of, may_have, names_of}
 use Rattle.iv_gate.specs.Restoring.{are_rising}
 use Rattle.iv_gate.proofs.Answered.{carried_new, known_more}
 use Rattle.iv_gate.proofs.Damage.{both_so, names_append}
 use Rattle.iv_gate.proofs.Replying.{act_added, carried_reply, decided_added, said_added, shared_added, verdict_added}
 use Rattle.iv_gate.proofs.Requesting.{request_heard}
-use Rattle.iv_gate.proofs.Stepping.{request_of}
+use Rattle.iv_gate.proofs.Stepping.{Keeps, Steps, came_keeps, request_of, went_keeps}
 
 -- ---- one list of entries behind another
 
@@ -239,3 +238,63 @@ step_more g s w n p = record {
   names = ap (λ ns. first_known 1 ns (known_of g)) (append-nil s.names) ∙ n;
   steps = (λ i. lt-ltb (position g) s.to p i && true);
 }
+
+-- ---- what adds nothing
+
+abbrev Unadded : Gate → Gate → Type 0
+Unadded g h = h.entries ≡ g.entries
+
+unadded_kit : (g : Gate) (m : ℕ) → Steps m (Keeps (Unadded g))
+unadded_kit g m = record {
+  same = λ h x. x;
+  chain = λ h i j x y z. y (x z);
+  run = λ h k e x. x;
+  settle = λ h x. x;
+  tell = λ h t e x. x;
+  seat = λ h seats x. x;
+  feed = λ h feeds x. x;
+  follow = λ h k x. x;
+  move = λ h t k x. x;
+  close = λ h own x. x;
+}
+
+pub came_adds : (g : Gate) (m : ℕ) (token : List ℕ) → (came g m token).entries ≡ g.entries
+came_adds g m token = came_keeps (Unadded g) (unadded_kit g) g m token (λ h t e x. x) refl
+
+pub went_adds : (g : Gate) (m : ℕ) → (went g m).entries ≡ g.entries
+went_adds g m = went_keeps (Unadded g) (unadded_kit g) g m (λ x. x) refl
+
+-- ---- what a step that is taken has
+
+pub record IsNext (g : Gate) (s : Step) : Type 0 where
+  pub new : first_known 1 s.names (known_of g) ≡ None
+  pub rises : position g < s.to
+  pub accepted : is_some (first_refused 1 (map fact_of s.requests) (shared g.machine)) ≡ false
+
+pub is_next : (g : Gate) (s : Step) → is_some (fault_of g s) ≡ false → is_behind g s ≡ false → IsNext g s
+is_next g s f b =
+    by (if_some g.head.log false (is_log s.log)) ((s.from == position g) && nat_lt s.from s.to) refl (first_known 1 s.names (known_of g)) refl (ap (λ t. is_some (cond t None later)) (sym b) ∙ f)
+  where
+    refusal : Option Fault
+    refusal = option_map (λ (p : ℕ × Refusal). not_accepted p.0 p.1) (first_refused 1 (map fact_of s.requests) (shared g.machine))
+
+    later : Option Fault
+    later =
+        cond (not (if_some g.head.log false (is_log s.log))) (Some other_log)
+        (cond (not ((s.from == position g) && nat_lt s.from s.to)) (Some (gap (position g))) (if_some (first_known 1 s.names (known_of g)) refusal Some))
+
+    rises : ((s.from == position g) && nat_lt s.from s.to) ≡ true → position g < s.to
+    rises e =
+        let p = both_so (s.from == position g) (nat_lt s.from s.to) e in
+        subst (λ n. n < s.to) (eqb-true s.from (position g) p.0) (ltb-true s.from s.to p.1)
+
+    none : (o : Option (ℕ × Refusal)) → is_some (option_map (λ (p : ℕ × Refusal). not_accepted p.0 p.1) o) ≡ false → is_some o ≡ false
+    none None h = refl
+    none (Some r) h = h
+
+    by : (l a : Bool) → ((s.from == position g) && nat_lt s.from s.to) ≡ a → (o : Option Fault) → first_known 1 s.names (known_of g) ≡ o
+        → is_some (cond (not l) (Some other_log) (cond (not a) (Some (gap (position g))) (if_some o refusal Some))) ≡ false → IsNext g s
+    by false a e o n k = absurd (false≢true (sym k))
+    by true false e o n k = absurd (false≢true (sym k))
+    by true true e (Some x) n k = absurd (false≢true (sym k))
+    by true true e None n k = record { new = n; rises = rises e; accepted = none (first_refused 1 (map fact_of s.requests) (shared g.machine)) k }

@@ -10,7 +10,7 @@ use Rattle.iv_machine.specs.State.{State}
 use Rattle.iv_once.specs.Names.{Known, Named, learned, named}
 use Rattle.iv_journal.specs.Journal.{Line}
 use Rattle.iv_steps.specs.Steps.{Fact, all_carried, carried}
-use Rattle.iv_clients.specs.Journal.{Entry, IsEntry, Request, journal_of, names_in, record_of, requests_in, texts_of}
+use Rattle.iv_clients.specs.Journal.{Entry, IsEntry, journal_of, names_in, record_of, requests_in, texts_of}
 use Rattle.iv_clients.specs.Laws.{Begins, ReadsBack}
 use Rattle.iv_clients.specs.Names.{limits}
 use Rattle.iv_clients.specs.Parsed.{record_in}
@@ -219,16 +219,19 @@ either_way reads g lines = by (far reads (length lines) g lines [] lines refl (l
       where
         none : (x ∷ xs) ≡ [] → ⊥
         none k = cc k
-    stopped es (x ∷ xs) a l (inr s) = inr (length (journal_of es), record {
-      entries = es;
-      gate = led g es l.state;
-      rest = x ∷ xs;
-      all = a;
-      leads = l.on;
-      behind = refl;
-      some = less (length (journal_of es)) (length xs) (length lines) (ap length a ∙ length-append (journal_of es) (x ∷ xs));
-      bad = s;
-    })
+    stopped es (x ∷ xs) a l (inr s) = inr (
+      length (journal_of es),
+      record {
+        entries = es;
+        gate = led g es l.state;
+        rest = x ∷ xs;
+        all = a;
+        leads = l.on;
+        behind = refl;
+        some = less (length (journal_of es)) (length xs) (length lines) (ap length a ∙ length-append (journal_of es) (x ∷ xs));
+        bad = s;
+      },
+    )
 
     by : IsLed g lines → ((h : Gate) × Restores g lines h) ⊎ ((place : ℕ) × IsDamagedAt g lines place)
     by l = stopped l.entries l.rest l.all l.leads l.stops

@@ -1,32 +1,31 @@
 -- Text shows entries that are accepted, and none that is not on disk once it may be sent.
-use Rattle.std.proofs.Common.{◌≡◌, ℕ, zero, suc, ◌<◌, ◌≤◌, Bool, true, false, cond, not, is_some, ◌||◌, List, [], ◌∷◌, ◌++◌, drop, take, length, map, set, Option, Some, None, option_map, refl, ap, ◌∙◌, sym, subst, arith, append-nil, length-append}
-use Rattle.std.specs.Prelude.{◌==◌, ◌&&◌, nat_lt, option_and_then}
+use Rattle.std.proofs.Common.{◌≡◌, ℕ, zero, suc, ◌≤◌, Bool, true, false, cond, is_some, ◌||◌, List, [], ◌∷◌, ◌++◌, drop, take, length, map, set, Option, Some, None, option_map, refl, ap, ◌∙◌, sym, subst, arith, append-nil, length-append}
+use Rattle.std.specs.Prelude.{◌==◌, ◌&&◌, option_and_then}
 use Rattle.std.specs.List.{AllByRecursion}
 use Rattle.std.proofs.Math.Seq.{take-length}
-use Rattle.std.proofs.lemmas.Bool.{eqb-true, eqb-false, false≢true, ltb-true}
-use Rattle.std.proofs.lemmas.List.{drop-append-le, take-append-drop, take-append-le}
+use Rattle.std.proofs.lemmas.Bool.{eqb-true, eqb-false}
+use Rattle.std.proofs.lemmas.List.{take-append-drop, take-append-le}
 use Rattle.serde_json.specs.Data.{Data}
 use Rattle.sha2.specs.Sha256.{sha256}
 use Rattle.iv_rows.specs.Names.{is_name}
 use Rattle.iv_rows.specs.Options.{if_some}
-use Rattle.iv_access.specs.Rights.{Name}
-use Rattle.iv_machine.specs.Act.{Command, refused}
+use Rattle.iv_machine.specs.Act.{Command, Reply, refused}
 use Rattle.iv_machine.specs.Machine.{Outcome, step}
 use Rattle.iv_message.specs.Told.{Told, alive, settled}
 use Rattle.iv_clients.specs.Clients.{Client, Shown, Slots, answered, may_say, at_all, at_client, beating, checked, client_at, closing, dropping, following, fresh, handing, is_free, is_slow, moved, opens, released, saying, settling, staying, telling, told_one, greeting}
 use Rattle.iv_clients.specs.Journal.{Entry, IsEntry, Request, journal_of, names_in, said_by, shape_for}
 use Rattle.iv_clients.specs.Laws.{ReadsBack}
 use Rattle.iv_once.specs.Names.{Ask}
-use Rattle.iv_steps.specs.Steps.{first_refused, shared, stepped}
+use Rattle.iv_steps.specs.Steps.{stepped}
 use Rattle.iv_clients.specs.Tokens.{Token, token_of}
 use Rattle.iv_clients.proofs.Slots.{at_every, at_other, at_same, nobody, one_some, set_other, some_is_none}
-use Rattle.iv_gate.specs.Arriving.{Fault, Step, entry_of, fact_of, fault_of, first_known, gap, is_behind, is_log, landed, not_accepted, other_log, position, takes}
+use Rattle.iv_gate.specs.Arriving.{Step, entry_of, fact_of, fault_of, first_known, is_behind, landed, takes}
 use Rattle.iv_gate.specs.Events.{Event, presented, message, gone, known, ticked, synced, handed, arrived, forgave, failed, IsWell, happens, hands, knowing, next, on_disk, ticking}
-use Rattle.iv_gate.specs.Gate.{Gate, Head, at_text, hears, known_at, known_of, came, done_in, entered, entries_of, has_session, in_session, informs, ran, replies_to, reply_to, reply_told, said, settles, tells, token_for, told_of, went, went_on}
+use Rattle.iv_gate.specs.Gate.{Gate, Head, at_text, hears, known_at, came, done_in, entered, entries_of, has_session, in_session, informs, ran, replies_to, reply_to, reply_told, said, tells, token_for, told_of, went, went_on}
 use Rattle.iv_gate.specs.Laws.{IsFront, SentIsKept}
 use Rattle.iv_gate.specs.Restoring.{Restores, are_rising, gate_at_start}
 use Rattle.iv_gate.specs.Runs.{LeavesOnDisk, Runs, begins, goes_on, begins_again}
-use Rattle.iv_gate.proofs.Booking.{IsBooked, Texts, booked_more, booked_same, said_more, step_more}
+use Rattle.iv_gate.proofs.Booking.{IsBooked, Texts, came_adds, is_next, went_adds, booked_more, booked_same, said_more, step_more}
 use Rattle.iv_gate.proofs.Damage.{Compared, compare, entry_there, longer, no_lines, same, shorter}
 use Rattle.iv_gate.proofs.Replying.{adds_said, asked, said_added}
 use Rattle.iv_gate.proofs.Growing.{assoc}
@@ -399,7 +398,7 @@ restored_held cap tokens most head sent journal h r a = subst (IsHeld []) (sym r
   clients = λ m c e. absurd (nobody most m c e);
 })
 
-same_entries : ReadsBack → (es fs : List Entry) → AllByRecursion IsEntry es → AllByRecursion IsEntry fs → journal_of es ≡ journal_of fs → es ≡ fs
+pub same_entries : ReadsBack → (es fs : List Entry) → AllByRecursion IsEntry es → AllByRecursion IsEntry fs → journal_of es ≡ journal_of fs → es ≡ fs
 same_entries reads es fs w v h = by (compare reads es fs [] [] w v (append-nil (journal_of es) ∙ (h ∙ sym (append-nil (journal_of fs)))))
   where
     by : Compared es fs [] [] → es ≡ fs
@@ -419,25 +418,7 @@ pub kept_again : ReadsBack → (g h : Gate) (disk : List Line) (start : Gate) �
 kept_again reads g h disk start w l r =
     subst (IsFront (take g.kept g.entries)) (same_entries reads (take l.0 g.entries) h.entries (all_taken IsEntry l.0 g.entries w) r.leads.well (sym l.2 ∙ r.all)) (taken_more g.kept l.0 g.entries l.1)
 
-
 -- ---- the journal
-
-abbrev Stays : Gate → Gate → Type 0
-Stays g h = (h.entries ≡ g.entries) × (h.head ≡ g.head)
-
-stays_kit : (g : Gate) (m : ℕ) → Steps m (Keeps (Stays g))
-stays_kit g m = record {
-  same = λ h x. x;
-  chain = λ h i j x y z. y (x z);
-  run = λ h k e x. x;
-  settle = λ h x. x;
-  tell = λ h t e x. x;
-  seat = λ h seats x. x;
-  feed = λ h feeds x. x;
-  follow = λ h k x. x;
-  move = λ h t k x. x;
-  close = λ h own x. x;
-}
 
 abbrev HasHead : Gate → Gate → Type 0
 HasHead g h = h.head ≡ g.head
@@ -473,35 +454,6 @@ said_booked texts g m text b k = by (client_at g.clients m) refl
     by None e = k
     by (Some c) e = heard c e (may_say c)
 
--- a step that is taken goes on from the last
-record IsNext (g : Gate) (s : Step) : Type 0 where
-  new : first_known 1 s.names (known_of g) ≡ None
-  rises : position g < s.to
-
-is_next : (g : Gate) (s : Step) → is_behind g s ≡ false → is_some (fault_of g s) ≡ false → IsNext g s
-is_next g s b f =
-    by (if_some g.head.log false (is_log s.log)) ((s.from == position g) && nat_lt s.from s.to) refl (first_known 1 s.names (known_of g)) refl (ap (λ t. is_some (cond t None (later t))) (sym b) ∙ f)
-  where
-    refusal : Option Fault
-    refusal = option_map (λ p. not_accepted p.0 p.1) (first_refused 1 (map fact_of s.requests) (shared g.machine))
-
-    later : Bool → Option Fault
-    later t =
-        cond (not (if_some g.head.log false (is_log s.log))) (Some other_log)
-        (cond (not ((s.from == position g) && nat_lt s.from s.to)) (Some (gap (position g))) (if_some (first_known 1 s.names (known_of g)) refusal Some))
-
-    rises : ((s.from == position g) && nat_lt s.from s.to) ≡ true → position g < s.to
-    rises e =
-        let p = and_both (s.from == position g) (nat_lt s.from s.to) e in
-        subst (λ n. n < s.to) (eqb-true s.from (position g) p.0) (ltb-true s.from s.to p.1)
-
-    by : (l a : Bool) → ((s.from == position g) && nat_lt s.from s.to) ≡ a → (o : Option Fault) → first_known 1 s.names (known_of g) ≡ o
-        → is_some (cond (not l) (Some other_log) (cond (not a) (Some (gap (position g))) (if_some o refusal Some))) ≡ false → IsNext g s
-    by false a e o n k = absurd (false≢true (sym k))
-    by true false e o n k = absurd (false≢true (sym k))
-    by true true e (Some x) n k = absurd (false≢true (sym k))
-    by true true e None n k = record { new = n; rises = rises e }
-
 takes_booked : (g : Gate) (s : Step) → IsEntry (entry_of s) → IsBooked g → IsBooked (takes g s)
 takes_booked g s w k = by (is_some (fault_of g s)) refl (is_behind g s) refl (stepped (map fact_of s.requests) g.machine)
   where
@@ -511,13 +463,13 @@ takes_booked g s w k = by (is_some (fault_of g s)) refl (is_behind g s) refl (st
     by false e true f o = k
     by false e false f None = k
     by false e false f (Some o) =
-        let n = is_next g s f e in booked_more g (landed g (entry_of s) o) (entry_of s ∷ []) refl refl (step_more g s w n.new n.rises) k
+        let n = is_next g s e f in booked_more g (landed g (entry_of s) o) (entry_of s ∷ []) refl refl (step_more g s w n.new n.rises) k
 
 happens_booked : Texts → (g : Gate) (e : Event) → IsWell e → IsHeld [] g → IsBooked g → IsBooked (happens g e)
 happens_booked texts g (presented m token) w b k =
-    let x = came_keeps (Stays g) (stays_kit g) g m token (λ h t e y. y) (refl, refl) in booked_same g (came g m token) x.0 x.1 k
+    booked_same g (came g m token) (came_adds g m token) (came_keeps (HasHead g) (head_kit g) g m token (λ h t e y. y) refl) k
 happens_booked texts g (message m text) w b k = said_booked texts g m text b k
-happens_booked texts g (gone m) w b k = let x = went_keeps (Stays g) (stays_kit g) g m (λ y. y) (refl, refl) in booked_same g (went g m) x.0 x.1 k
+happens_booked texts g (gone m) w b k = booked_same g (went g m) (went_adds g m) (went_keeps (HasHead g) (head_kit g) g m (λ y. y) refl) k
 happens_booked texts g (known tokens) w b k = booked_same g (knowing g tokens) refl refl k
 happens_booked texts g ticked w b k = booked_same g (ticking g) refl refl k
 happens_booked texts g synced w b k = booked_same g (on_disk g) refl refl k

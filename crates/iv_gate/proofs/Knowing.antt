@@ -2,7 +2,6 @@
 use Rattle.std.proofs.Common.{◌≡◌, ℕ, ◌+◌, Bool, true, false, cond, ◌||◌, List, [], ◌∷◌, ◌++◌, length, map, Option, Some, None, is_some, refl, ap, ◌∙◌, sym, append-nil}
 use Rattle.std.specs.Prelude.{◌==◌, ◌&&◌, bytes_eq, codes, filter, flat_map, nat_lt, not}
 use Rattle.std.specs.List.{AllByRecursion}
-use Rattle.std.proofs.lemmas.Bool.{false≢true}
 use Rattle.std.proofs.lemmas.List.Concat.{flat_map-append}
 use Rattle.std.proofs.lemmas.List.Elements.{filter-append}
 use Rattle.iv_rows.specs.Options.{if_some}
@@ -27,6 +26,7 @@ use Rattle.iv_gate.specs.Laws.{ShapeIsTold, is_made}
 use Rattle.iv_gate.specs.Replies.{added_by, place_behind}
 use Rattle.iv_gate.specs.Runs.{Runs, begins, goes_on, begins_again}
 use Rattle.iv_gate.proofs.Answering.{was_there}
+use Rattle.iv_gate.proofs.Booking.{came_adds, went_adds}
 use Rattle.iv_gate.proofs.Entering.{same_card}
 use Rattle.iv_gate.proofs.Exact.{behind_same}
 use Rattle.iv_gate.proofs.Heeding.{all_both, all_flat}
@@ -38,7 +38,7 @@ use Rattle.iv_gate.proofs.Running.{all_true}
 use Rattle.iv_gate.proofs.Shaping.{all_made, filter_none, filter_whole, shape_both, shape_in, shape_more, shape_none, told_fresh}
 use Rattle.iv_gate.proofs.Sound.{Adds, IsSoundGate, Sounds}
 use Rattle.iv_gate.proofs.Signs.{Card}
-use Rattle.iv_gate.proofs.Stepping.{Keeps, Steps, came_keeps, request_of, went_keeps}
+use Rattle.iv_gate.proofs.Stepping.{request_of}
 use Rattle.iv_gate.proofs.Touching.{is_gone, entered_by_event, rests, touched}
 
 -- ---- a command tells nothing of it
@@ -238,23 +238,6 @@ module _ (g : Gate) (full : nat_lt most_shape (length (shape_text g.entries)) �
       by true = act_text c text act
       by false = refl
 
-abbrev Unadded : Gate → Gate → Type 0
-Unadded g h = h.entries ≡ g.entries
-
-unadded_kit : (g : Gate) (m : ℕ) → Steps m (Keeps (Unadded g))
-unadded_kit g m = record {
-  same = λ h x. x;
-  chain = λ h i j x y z. y (x z);
-  run = λ h k e x. x;
-  settle = λ h x. x;
-  tell = λ h t e x. x;
-  seat = λ h seats x. x;
-  feed = λ h feeds x. x;
-  follow = λ h k x. x;
-  move = λ h t k x. x;
-  close = λ h own x. x;
-}
-
 said_bounded : (g : Gate) (m : ℕ) (text : List ℕ) → nat_lt most_shape (length (shape_text g.entries)) ≡ true → shape_text (said g m text).entries ≡ shape_text g.entries
 said_bounded g m text full = by (client_at g.clients m)
   where
@@ -275,8 +258,8 @@ shape_bounded g e none full = by g.dead
   where
     other : (f : Event) → ((s : Step) → f ≡ arrived s → ⊥) → shape_text (happens g f).entries ≡ shape_text g.entries
     other (message m text) n = said_bounded g m text full
-    other (presented m token) n = ap shape_text (came_keeps (Unadded g) (unadded_kit g) g m token (λ h t i x. x) refl)
-    other (gone m) n = ap shape_text (went_keeps (Unadded g) (unadded_kit g) g m (λ x. x) refl)
+    other (presented m token) n = ap shape_text (came_adds g m token)
+    other (gone m) n = ap shape_text (went_adds g m)
     other (known tokens) n = refl
     other ticked n = refl
     other synced n = refl

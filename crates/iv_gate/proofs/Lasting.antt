@@ -1,13 +1,13 @@
 -- Whatever happens, over restarts, clients are in step with what their feeds show.
-use Rattle.std.proofs.Common.{◌≡◌, ℕ, List, [], Some, false, length, ap, ◌∙◌, sym, subst, arith}
-use Rattle.std.specs.Prelude.{◌+◌}
+use Rattle.std.proofs.Common.{◌≡◌, ℕ, List, [], Option, Some, None, refl, false, length, ap, ◌∙◌, sym, subst, arith}
+use Rattle.std.specs.Prelude.{◌+◌, option_and_then}
 use Rattle.iv_access.specs.Rights.{Name}
 use Rattle.iv_machine.specs.Sound.{IsSoundState}
 use Rattle.iv_machine.specs.State.{start}
 use Rattle.iv_clients.specs.Clients.{Client, Shown, client_at, told}
 use Rattle.iv_clients.specs.Feeds.{seat_of}
 use Rattle.iv_clients.specs.Tokens.{Token}
-use Rattle.iv_clients.proofs.Slots.{nobody}
+use Rattle.iv_clients.proofs.Slots.{nobody, some_is_none}
 use Rattle.iv_gate.specs.Gate.{Gate, Head}
 use Rattle.iv_gate.specs.Events.{Event}
 use Rattle.iv_gate.specs.Replies.{ActsAs, AreReplied, IsAnswered, IsClient, replies}
@@ -27,6 +27,10 @@ use Rattle.iv_journal.specs.Journal.{Line}
 
 abbrev pub Starts : Type 0
 Starts = (cap : ℕ) → IsSoundState (start cap)
+
+pub bound : {X Y : Type 0} (o : Option X) (f : X → Option Y) (y : Y) (P : Type 0) → option_and_then f o ≡ Some y → ((x : X) → o ≡ Some x → f x ≡ Some y → P) → P
+bound None f y P h k = absurd (some_is_none y (sym h))
+bound (Some x) f y P h k = k x refl h
 
 restored_sound : Starts → Sounds → (cap : ℕ) (tokens : List Token) (most : ℕ) (head : Head) (sent : List Shown) (journal : List Line) (g : Gate) → Restores (gate_at_start cap tokens most head sent) journal g → IsSoundGate g
 restored_sound starts sounds cap tokens most head sent journal g r = subst IsSoundGate (sym r.leads.gate) (record {

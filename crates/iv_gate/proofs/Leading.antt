@@ -1,7 +1,6 @@
 -- The entries lead a machine with nothing to where the gateway is; so does what a crash leaves of them.
-use Rattle.std.proofs.Common.{◌≡◌, ◌⊎◌, ℕ, ◌<◌, ◌≤◌, Bool, true, false, cond, ◌||◌, List, [], ◌∷◌, ◌++◌, drop, take, length, map, Option, Some, None, option_map, is_some, refl, ap, ◌∙◌, sym, subst, append-nil}
+use Rattle.std.proofs.Common.{◌≡◌, ℕ, Bool, true, false, cond, ◌||◌, List, [], ◌∷◌, ◌++◌, drop, take, map, Option, Some, None, is_some, refl, ap, ◌∙◌, sym, subst, append-nil}
 use Rattle.std.specs.Prelude.{◌&&◌, option_and_then}
-use Rattle.std.specs.List.{AllByRecursion}
 use Rattle.std.proofs.lemmas.Bool.{false≢true}
 use Rattle.std.proofs.lemmas.List.{take-append-drop}
 use Rattle.serde_json.specs.Data.{Data}
@@ -12,14 +11,13 @@ use Rattle.iv_machine.specs.State.{State, start}
 use Rattle.iv_once.specs.Names.{Ask}
 use Rattle.iv_steps.specs.Steps.{Fact, all_carried, carried, shared, stepped}
 use Rattle.iv_clients.specs.Clients.{Shown, at_client, saying}
-use Rattle.iv_clients.specs.Journal.{Entry, Request, is_shared, journal_of, names_in, requests_in}
+use Rattle.iv_clients.specs.Journal.{Entry, Request, is_shared}
 use Rattle.iv_clients.specs.Laws.{ReadsBack}
 use Rattle.iv_clients.specs.Tokens.{Token}
-use Rattle.iv_clients.proofs.Slots.{one_some, some_is_none}
 use Rattle.iv_journal.specs.Journal.{Line}
 use Rattle.iv_gate.specs.Arriving.{Step, entry_of, fact_of, fault_of, is_behind, landed, takes}
 use Rattle.iv_gate.specs.Events.{Event, presented, message, gone, known, ticked, synced, handed, arrived, forgave, failed, happens, next}
-use Rattle.iv_gate.specs.Gate.{Gate, Head, answering, done_in, entries_of, in_session, is_accepted, ran, replies_to, reply_in}
+use Rattle.iv_gate.specs.Gate.{Gate, Head, answering, done_in, in_session, is_accepted, ran, replies_to, reply_in}
 use Rattle.iv_gate.specs.Laws.{CrashesAreSafe, LeadsBack}
 use Rattle.iv_gate.specs.Replies.{ActsAs}
 use Rattle.iv_gate.specs.Restoring.{LeadOn, Restores, gate_at_start}

@@ -60,3 +60,4 @@ pub mod Spending
 pub mod Arrived
 pub mod Choosing
 pub mod Computing
+pub mod Positions

@@ -1,7 +1,7 @@
 -- What the machine accepts among sessions and subscriptions it accepts with nobody there, and changes the same: so requests lead back.
-use Rattle.std.proofs.Common.{◌≡◌, ℕ, Bool, true, false, not, cond, List, [], ◌∷◌, ◌++◌, Option, Some, None, option_map, is_some, length, refl, ap, ◌∙◌, sym, subst}
+use Rattle.std.proofs.Common.{◌≡◌, ℕ, Bool, true, false, not, cond, List, [], ◌∷◌, Option, Some, None, option_map, is_some, length, refl, ap, ◌∙◌, sym, subst}
 use Rattle.std.specs.Prelude.{◌&&◌, option_and_then, unwrap_or}
-use Rattle.std.specs.List.{AllByRecursion, list_all}
+use Rattle.std.specs.List.{list_all}
 use Rattle.std.proofs.lemmas.Bool.{false≢true}
 use Rattle.iv_zset.specs.Limits.{within}
 use Rattle.iv_algebra.specs.Plans.{Lists}
@@ -13,7 +13,7 @@ use Rattle.iv_machine.specs.Act.{Act, begin, finish, create_role, create_table, 
 use Rattle.iv_machine.specs.Changing.{after}
 use Rattle.iv_machine.specs.Machine.{outcome, reply_to, settled, step}
 use Rattle.iv_machine.specs.Refusing.{entries_present, first, frame_refusal, or_else, refusal, rows_refusal, session_test, test, tests_by}
-use Rattle.iv_machine.specs.State.{State, Frame, Session, Subscription, actor, is_within, start}
+use Rattle.iv_machine.specs.State.{State, Frame, Session, Subscription, actor, is_within}
 use Rattle.iv_clients.specs.Journal.{Request, is_shared}
 use Rattle.iv_clients.proofs.Cuts.{found}
 use Rattle.iv_clients.proofs.Slots.{one_some, some_is_none}

@@ -1,7 +1,6 @@
 -- What is heard as a request is one that the journal may have.
 use Rattle.std.proofs.Common.{◌≡◌, ℕ, Bool, true, false, cond, ◌||◌, List, [], ◌∷◌, ◌++◌, Option, Some, None, option_map, refl, ap, ◌∙◌, sym, append_assoc}
 use Rattle.std.specs.Prelude.{◌==◌, ◌&&◌, codes, length, nat_lt, option_and_then, unwrap_or}
-use Rattle.std.specs.List.{list_any}
 use Rattle.std.proofs.lemmas.Bool.{false≢true}
 use Rattle.std.proofs.lemmas.List.Folds.{list_any-append}
 use Rattle.serde_json.specs.Data.{Data}

@@ -19,7 +19,7 @@ pub mod journal;
 use iv_machine::laws::{
     ends_are_told, lines_add_up, requests_open_what_they_name, steps_keep_sound, what_stands_lasts,
 };
-use iv_steps::laws::steps_are_told;
+use iv_steps::laws::{refusals_are_found, steps_are_told};
 
 pub mod hearing;
 pub mod names;
@@ -29,7 +29,9 @@ pub mod names;
 pub fn events_leave_their_marks()
     ensures rests { (g : Gate) (e : Event) → g.dead ≡ true → next g e ≡ g }
     ensures marks { (g : Gate) (e : Event) → IsWell e → g.dead ≡ false → LeavesMarks g e }
-{}
+{
+    refusals_are_found();
+}
 
 /// By an event a client stays as it is, but for its own message, what is handed to it, its leaving, and what drops it; who comes has
 /// presented a token that opens its role.

@@ -181,11 +181,11 @@ takes most xs ys owing telling telling' reading n h e t =
     (λ k feed there is. h.readers feed n k there (follows_same feed k (emptied k) (emptied_subs k) is))
     (told_set n xs (at_client n emptied xs) telling telling' h.only s (others_at n emptied xs))
 
-pub enters : (most : ℕ) (xs ys : Places) (owing telling telling' : Numbers) (reading : List Readers) (n : ℕ) (role : Name) (digest text : List ℕ)
+pub enters : (most : ℕ) (xs ys : Places) (owing telling telling' : Numbers) (reading : List Readers) (n : ℕ) (role : Name) (user digest text : List ℕ)
     → IsHall most xs owing telling reading → AreSet (λ m. m ≡ n) (is_told_at ys) telling telling'
-    → ys ≡ set xs n (Some (coming role digest text)) → IsHall most ys owing telling' reading
-enters most xs ys owing telling telling' reading n role digest text h t e =
-    let who = Some (coming role digest text) in let s = over (set xs n who) ys telling telling' e t in
+    → ys ≡ set xs n (Some (coming role user digest text)) → IsHall most ys owing telling' reading
+enters most xs ys owing telling telling' reading n role user digest text h t e =
+    let who = Some (coming role user digest text) in let s = over (set xs n who) ys telling telling' e t in
     hall_set most xs ys owing owing telling telling' reading reading n who h e refl t.size (same n owing.list) (λ m ne c. t.kept m ne c)
     (λ feed. same n (readers_of reading feed))
     (λ k there. ap (λ (x : Kept). x.owed) (is k there))
@@ -193,8 +193,8 @@ enters most xs ys owing telling telling' reading n role digest text h t e =
     (λ k feed there. ap (is_following feed) (is k there))
     (told_set n xs (set xs n who) telling telling' h.only s (others_put n who xs))
   where
-    is : (k : Kept) → Some (coming role digest text) ≡ Some k → k ≡ coming role digest text
-    is k x = let y : coming role digest text ≡ k = cc in sym y
+    is : (k : Kept) → Some (coming role user digest text) ≡ Some k → k ≡ coming role user digest text
+    is k x = let y : coming role user digest text ≡ k = cc in sym y
 
 pub leaves : (most : ℕ) (xs ys : Places) (owing owing' telling telling' : Numbers) (reading reading' : List Readers) (n : ℕ)
     → IsHall most xs owing telling reading → HasLeft n reading reading' → HasLost n owing owing' → HasLost n telling telling'

@@ -132,16 +132,17 @@ impl Hall {
         alloc: Global,
         client: u32,
         role: String,
+        user: String,
         digest: Vec<u8>,
         text: Vec<u8>,
     )
-        ensures { self.new ≡ slice_set self.old client (Some (coming (string_bytes role) digest.items text.items)) }
+        ensures { self.new ≡ slice_set self.old client (Some (coming (string_bytes role) (string_bytes user) digest.items text.items)) }
     {
         self.waiting = raised(self.waiting, 1, text.len());
         put_at(
             &mut self.slots,
             client,
-            Some(Client::new(alloc, role, digest, text)),
+            Some(Client::new(alloc, role, user, digest, text)),
         );
         list_one(&mut self.told, &self.slots, client);
     }

@@ -15,8 +15,8 @@ use iv_machine::laws::{
     differences_are_exact, ends_are_told, lines_add_up, requests_open_what_they_name,
     steps_keep_sound, what_stands_lasts,
 };
-use iv_steps::laws::steps_are_told;
 use iv_request::laws::requests_are_well;
+use iv_steps::laws::steps_are_told;
 
 /// In whatever runs, over restarts: the token that a client presented opens its role now, and its role has a session. Who presents a token
 /// that opens a known role comes in, where the number is free and a session is there or can be begun.

@@ -1,7 +1,8 @@
 //! Laws of the journal and the disk. Each is the contract of a function that does nothing.
 ghost use Rattle.std.specs.Prelude.{ℕ, List};
-ghost use Rattle.iv_gate.specs.Events.{Event};
+ghost use Rattle.iv_gate.specs.Events.{Event, IsWell};
 ghost use Rattle.iv_gate.specs.Gate.{Gate};
+ghost use Rattle.iv_gate.specs.Implied.{PositionsLast, PositionsRise};
 ghost use Rattle.iv_gate.specs.Laws.{AreShown, CrashesAreSafe, LeadsBack, SentIsKept};
 ghost use Rattle.iv_gate.specs.Restoring.{IsDecided};
 ghost use Rattle.iv_gate.specs.Runs.{Runs};
@@ -42,6 +43,16 @@ pub fn the_journal_leads_back()
     ends_are_told();
     requests_open_what_they_name();
     steps_are_told();
+    records_are_read_back();
+    names_are_texts();
+    told_texts_are_lines();
+}
+
+/// In whatever runs, over restarts, the log goes on, in memory and on disk; what its source was told to be on disk is there behind a crash.
+pub fn positions_rise()
+    ensures rise { (cap : ℕ) (g : Gate) (e : Event) → Runs cap g → IsWell e → PositionsRise g e }
+    ensures last { (cap : ℕ) (g : Gate) → Runs cap g → PositionsLast cap g }
+{
     records_are_read_back();
     names_are_texts();
     told_texts_are_lines();

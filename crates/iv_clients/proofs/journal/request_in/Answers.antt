@@ -1,5 +1,5 @@
 use Rattle.std.proofs.Common.{rules}
-use Rattle.iv_clients.proofs.Naming.{unnamed}
+use Rattle.iv_clients.proofs.Calling.{unnamed}
 use Rattle.iv_clients.proofs.journal.request_in.Goals as goal
 
 pub returns-in_default-from_utf8-clause-entry : goal.returns-in_default-from_utf8-clause-entry

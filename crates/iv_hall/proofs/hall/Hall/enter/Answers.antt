@@ -8,10 +8,10 @@ use Rattle.iv_hall.proofs.hall.Hall.enter.Goals as goal
 pub invariant_of-self : goal.invariant_of-self
 invariant_of-self c = (
   enters c.self.inside.most c.self.inside.slots.items _ c.self.inside.owed c.self.inside.told c.list_one.new.told c.self.inside.readers.items c.args.client
-      (string_bytes c.args.role) c.args.digest.items c.args.text.items c.self.invariant.0
+      (string_bytes c.args.role) (string_bytes c.args.user) c.args.digest.items c.args.text.items c.self.invariant.0
       (subst (λ z. AreSet (λ m. m ≡ c.args.client) (is_told_at z) c.self.inside.told c.list_one.new.told) c.deref.ensures.value c.list_one.ensures)
       (c.put_at.ensures ∙ ap (λ k. set c.self.inside.slots.items c.args.client (Some k)) c.new.ensures),
-  entered_at c.args.client c.self.inside.waiting c.raised-self-inside.result c.len.result (string_bytes c.args.role) c.args.digest.items c.args.text.items
+  entered_at c.args.client c.self.inside.waiting c.raised-self-inside.result c.len.result (string_bytes c.args.role) (string_bytes c.args.user) c.args.digest.items c.args.text.items
       c.self.inside.slots.items _ (c.put_at.ensures ∙ ap (λ k. set c.self.inside.slots.items c.args.client (Some k)) c.new.ensures)
       (c.len.ensures ∙ c.args.text.ok.0)
       c.raised-self-inside.ensures c.self.invariant.1,
