@@ -9,13 +9,15 @@ use Rattle.iv_once.specs.Names as verdicts
 use Rattle.iv_once.specs.Laws.{times, Among}
 use Rattle.iv_once.proofs.Lists.{and_both, itself, le_true, lt_false, same_bytes, same_place, some_is_none, take_less, zero_more, among_take, is_place_itself}
 use Rattle.iv_gate.specs.Gate as gates
+use Rattle.iv_gate.specs.Replies as replies
 use Rattle.iv_gate.specs.Arriving as arriving
 use Rattle.iv_gate.specs.Arriving.{first_known, is_new}
 use Rattle.iv_gate.specs.Gate.{Gate, known_by, known_of, place_of, spent_in, Head, place_at, known_at}
-use Rattle.iv_gate.specs.Replies.{count_of, place_behind, IsAnswer, IsUndecided, many, names_by, refused_often, late, ahead, another, foreign}
+use Rattle.iv_gate.specs.Replies.{count_of, place_behind, IsAnswer, IsUndecided, many, names_by, refused_often}
 use Rattle.std.proofs.lemmas.List.Elements.{Contains-append_left, Contains-append_right, Contains-push}
 use Rattle.std.proofs.lemmas.Bool.{ltb-true, false≢true}
 use Rattle.iv_once.proofs.Kept.{found}
+use Rattle.std.proofs.lemmas.List.Sums.{sum_by-cons}
 
 abbrev pub names_of : List ℕ → List Named → List Named
 names_of holder es = filter (λ e. bytes_eq e.ask.holder holder) es
@@ -223,12 +225,15 @@ known_own (e ∷ es) k holder = by (bytes_eq e.ask.holder holder) refl (known_ow
         (h.0 ∙ ap (λ (o : Own). o.epoch) (own_same e k holder q), omega (arith, n, c))
     by false q h = (h.0 ∙ ap (λ (o : Own). o.epoch) (own_other e k holder q), h.1 ∙ ap (λ (o : Own). o.count + length (names_of holder es)) (own_other e k holder q))
 
--- before the first entry a holder stands where the journal's head says, and no name is known
-own_at : (h : Head) (holder : List ℕ) → own_of (known_at h) holder ≡ record { epoch = (place_at h holder).epoch; count = (place_at h holder).count; recent = [] }
+-- a holder who stands there, of whom no name is known
+abbrev own_with : Place → Own
+own_with p = record { epoch = p.epoch; count = p.count; recent = [] }
+
+-- so it is before the first entry, where the journal's head says
+own_at : (h : Head) (holder : List ℕ) → own_of (known_at h) holder ≡ own_with (place_at h holder)
 own_at h holder = by (h.places holder)
   where
-    by : (o : Option Place) → unwrap_or (option_map (λ (p : Place). record { epoch = p.epoch; count = p.count; recent = [] }) o) (record { epoch = h.epoch; count = 0; recent = [] })
-        ≡ record { epoch = (unwrap_or o (record { epoch = h.epoch; count = 0 })).epoch; count = (unwrap_or o (record { epoch = h.epoch; count = 0 })).count; recent = [] }
+    by : (o : Option Place) → unwrap_or {T = Own} (option_map (λ (p : Place). own_with p) o) (own_with (record { epoch = h.epoch; count = 0 })) ≡ own_with (unwrap_or o (record { epoch = h.epoch; count = 0 }))
     by None = refl
     by (Some p) = refl
 
@@ -248,7 +253,7 @@ place_is g holder =
 
 pub spent_is : (es : List Named) (holder : List ℕ) → spent_by (spent_in es) holder ≡ count_by (λ (e : Named). e.refused && bytes_eq e.ask.holder holder) es
 spent_is [] holder = refl
-spent_is (e ∷ es) holder = by e.refused (bytes_eq e.ask.holder holder) refl (spent_is es holder) (spent_is es e.ask.holder)
+spent_is (e ∷ es) holder = by e.refused (bytes_eq e.ask.holder holder) refl (spent_is es holder) (spent_is es e.ask.holder) ∙ sym (sum_by-cons (λ (x : Named). cond (x.refused && bytes_eq x.ask.holder holder) 1 0) e es)
   where
     count : List ℕ → ℕ
     count h = count_by (λ (x : Named). x.refused && bytes_eq x.ask.holder h) es
@@ -355,17 +360,17 @@ again_said g a x f t =
 pub another_said : (g : Gate) (a : Ask) (x : Named) → find_named a.name (own_of (known_of g) a.holder).recent ≡ Some x → (is_place x.ask.at a.at && bytes_eq x.ask.digest a.digest) ≡ false → IsUndecided g a 101
 another_said g a x f t =
     let m = found a.name (own_of (known_of g) a.holder).recent x f in
-    another x (contains_among x (names_by g a.holder) (kept_named g a.holder x m.0)) m.1 (λ h.
+    replies.another x (contains_among x (names_by g a.holder) (kept_named g a.holder x m.0)) m.1 (λ h.
     false≢true (sym t ∙ (ap (λ (z : Ask). is_place z.at a.at && bytes_eq z.digest a.digest) h ∙ (λ i. is_place_itself a.at i && itself a.digest i))))
 
 pub foreign_said : (g : Gate) (a : Ask) → bytes_eq a.at.epoch (own_of (known_of g) a.holder).epoch ≡ false → IsUndecided g a 103
-foreign_said g a t = foreign (λ h. false≢true (sym t ∙ (ap (bytes_eq a.at.epoch) (epoch_is g a.holder ∙ sym h) ∙ itself a.at.epoch)))
+foreign_said g a t = replies.foreign (λ h. false≢true (sym t ∙ (ap (bytes_eq a.at.epoch) (epoch_is g a.holder ∙ sym h) ∙ itself a.at.epoch)))
 
 pub late_said : (g : Gate) (a : Ask) → nat_lt (a.at.count + limits.names) (own_of (known_of g) a.holder).count ≡ true → IsUndecided g a 102
-late_said g a t = late (subst (λ n. a.at.count + 64 < n) (count_is g a.holder) (ltb-true (a.at.count + 64) (own_of (known_of g) a.holder).count t))
+late_said g a t = replies.late (subst (λ n. a.at.count + 64 < n) (count_is g a.holder) (ltb-true (a.at.count + 64) (own_of (known_of g) a.holder).count t))
 
 pub ahead_said : (g : Gate) (a : Ask) → nat_lt (own_of (known_of g) a.holder).count a.at.count ≡ true → IsUndecided g a 104
-ahead_said g a t = ahead (subst (λ n. n < a.at.count) (count_is g a.holder) (ltb-true (own_of (known_of g) a.holder).count a.at.count t))
+ahead_said g a t = replies.ahead (subst (λ n. n < a.at.count) (count_is g a.holder) (ltb-true (own_of (known_of g) a.holder).count a.at.count t))
 
 pub over_said : (g : Gate) (a : Ask) → is_over (gates.names_of g) a.holder ≡ true → IsUndecided g a 104
 over_said g a t = by (nat_le limits.refusals spent) (nat_le limits.holders (known_of g).holders) ((known_of g).owns a.holder) refl refl refl t
@@ -374,7 +379,7 @@ over_said g a t = by (nat_le limits.refusals spent) (nat_le limits.holders (know
     spent = spent_by (spent_in (names_in (drop g.forgiven g.entries))) a.holder
 
     none : (known_of g).owns a.holder ≡ None → count_of g a.holder ≡ 0
-    none e = sym (count_is g a.holder) ∙ ap (λ o. (unwrap_or o (record { epoch = (known_of g).epoch; count = 0; recent = [] })).count) e
+    none e = sym (count_is g a.holder) ∙ ap (λ o. (unwrap_or {T = Own} o (record { epoch = (known_of g).epoch; count = 0; recent = [] })).count) e
 
     by : (r h : Bool) (o : Option Own) → nat_le limits.refusals spent ≡ r → nat_le limits.holders (known_of g).holders ≡ h → (known_of g).owns a.holder ≡ o → (r || (h && not (is_some o))) ≡ true → IsUndecided g a 104
     by true h o e f k u = refused_often (subst (λ n. limits.refusals ≤ n) (spent_is (names_in (drop g.forgiven g.entries)) a.holder) (le_true limits.refusals spent e))

@@ -22,7 +22,7 @@ use Rattle.iv_message.specs.Told.{Told, replied, denied, unasked, undecided, ans
 use Rattle.iv_clients.specs.Bounds.{most_feeds, most_seats, most_subs}
 use Rattle.iv_clients.specs.Clients.{Client, Slots, client_at}
 use Rattle.iv_clients.specs.Feeds.{Feed, Seat, feed_for, is_begun, next_seat, room_for, seat_of, without_feed, without_seat}
-use Rattle.iv_clients.specs.Journal.{said_by, Request, claim_said, names_in}
+use Rattle.iv_clients.specs.Journal.{said_by, Request, claim_said, names_in, Entry}
 use Rattle.iv_clients.proofs.Slots.{some_is_none}
 use Rattle.iv_gate.specs.Events.{Event}
 use Rattle.iv_gate.specs.Gate.{Gate, begun_for, in_session, is_accepted, reply_in, reply_to, seated, has_shape_room, Log, answer_text, answering, asked_by, entered, entries_of, may_have, names_of, place_at, place_of}

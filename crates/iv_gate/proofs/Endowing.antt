@@ -8,7 +8,7 @@ use Rattle.iv_access.specs.Laws.{GrantsGive}
 use Rattle.iv_access.specs.Privileges.{role_of}
 use Rattle.iv_access.specs.Rights.{Name}
 use Rattle.iv_machine.specs.Act.{begin, finish, Line, reply, change, ended, Act}
-use Rattle.iv_machine.specs.Machine.{difference, outcome, step}
+use Rattle.iv_machine.specs.Machine.{difference, outcome, step, Outcome}
 use Rattle.iv_machine.specs.Refusing.{refusal}
 use Rattle.iv_machine.specs.State.{Frame, State, start}
 use Rattle.iv_machine.specs.Well.{is_well_act}

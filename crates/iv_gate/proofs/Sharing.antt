@@ -8,7 +8,7 @@ use Rattle.iv_rows.specs.Options.{if_some}
 use Rattle.iv_access.specs.Rights.{Name}
 use Rattle.iv_machine.specs.Act.{Act, begin, finish, create_role, create_table, create_view, grant, revoke, grant_role, revoke_role, row_security, create_policy, drop_policy, subscribe, unsubscribe, write, Command, Line, Refusal, subscribed, refused, no_session, unknown_subscription}
 use Rattle.iv_machine.specs.Changing.{after, after_sessions, after_subscriptions, insert_subscription, opened_by}
-use Rattle.iv_machine.specs.Machine.{ending_by, line_for, outcome, settled, step, ending}
+use Rattle.iv_machine.specs.Machine.{ending_by, line_for, outcome, settled, step, ending, Outcome}
 use Rattle.iv_machine.specs.Reached.{AreGiven, AreNumbersUnique, AreUnique}
 use Rattle.iv_machine.specs.Refusing.{has_subscription, or_else, refusal, test}
 use Rattle.iv_machine.specs.State.{Frame, Session, State, Subscription, is_open, session_of, subscription_of}

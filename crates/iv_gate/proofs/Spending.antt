@@ -92,11 +92,11 @@ one_name g q a r true w s n holder = by (bytes_eq a.holder holder) refl (not (is
     less = subst (λ k. k < 64) (spent_is (names_in (drop g.forgiven g.entries)) a.holder)
         (le_false 64 (spent_by (spent_in (names_in (drop g.forgiven g.entries))) a.holder) (neither (nat_le 64 (spent_by (spent_in (names_in (drop g.forgiven g.entries))) a.holder)) _ w).0)
 
-    by : (d : Bool) → bytes_eq a.holder holder ≡ d → (x : Bool) → before holder + (cond (x && bytes_eq a.holder holder) 1 0 + 0) ≤ 64
+    by : (d : Bool) → bytes_eq a.holder holder ≡ d → (x : Bool) → before holder + (0 + cond (x && bytes_eq a.holder holder) 1 0) ≤ 64
     by true e true =
         let here : before holder < 64 = subst (λ h. before h < 64) (same_bytes a.holder holder e) less in
-        subst (λ t. before holder + (cond (true && t) 1 0 + 0) ≤ 64) (sym e) (omega (arith, here))
-    by false e true = let l = s.spent n holder in subst (λ t. before holder + (cond (true && t) 1 0 + 0) ≤ 64) (sym e) (omega (arith, l))
+        subst (λ t. before holder + (0 + cond (true && t) 1 0) ≤ 64) (sym e) (omega (arith, here))
+    by false e true = let l = s.spent n holder in subst (λ t. before holder + (0 + cond (true && t) 1 0) ≤ 64) (sym e) (omega (arith, l))
     by d e false = let l = s.spent n holder in omega (arith, l)
 
 module _ (g : Gate) (s : IsSpent (view g)) where

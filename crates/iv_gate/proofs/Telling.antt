@@ -14,7 +14,7 @@ use Rattle.iv_access.specs.Rights.{Name}
 use Rattle.iv_machine.specs.Act.{Act, Line, reply, change, ended, Refusal}
 use Rattle.iv_machine.specs.Changing.{after}
 use Rattle.iv_machine.specs.Lines.{IsDifference}
-use Rattle.iv_machine.specs.Machine.{difference, ending_by, line_for, lines_told, outcome, reply_to, settled, step, weight, ending}
+use Rattle.iv_machine.specs.Machine.{difference, ending_by, line_for, lines_told, outcome, reply_to, settled, step, weight, ending, Outcome}
 use Rattle.iv_machine.specs.Reached.{AreUnique}
 use Rattle.iv_machine.specs.Refusing.{refusal}
 use Rattle.iv_access.specs.Access.{role_number}

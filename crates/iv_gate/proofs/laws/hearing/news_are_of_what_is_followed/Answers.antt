@@ -1,7 +1,6 @@
-use Rattle.iv_gate.specs.Events.{next}
-use Rattle.iv_gate.specs.Runs.{goes_on}
 use Rattle.iv_gate.proofs.Heeding.{ends_for_cause, hears_followed}
-use Rattle.iv_gate.proofs.Lasting.{runs_sound}
+use Rattle.iv_gate.proofs.Lasting.{runs_even, runs_sound}
+use Rattle.iv_gate.proofs.Serving.{next_sound}
 use Rattle.iv_gate.proofs.Telling.{tells_apart}
 use Rattle.iv_gate.proofs.Together.{tells_changes}
 use Rattle.iv_gate.proofs.Sound.{Sounds}
@@ -27,4 +26,4 @@ returns-clause-changes c =
     let laws : Sounds = record { sound = c.steps_keep_sound.ensures.step; lasts = c.what_stands_lasts.ensures; ends = c.ends_are_told.ensures; begins = opens.session; subscribes = opens.subscription; told = c.steps_are_told.ensures } in
     let adds = c.lines_add_up.ensures in let start = c.steps_keep_sound.ensures.start in let exact = c.differences_are_exact.ensures in
     λ cap g e r. let b = runs_sound adds start laws cap g r in
-    tells_changes g e (tells_apart adds laws exact.is exact.only g e b (runs_sound adds start laws cap (next g e) (goes_on g e r))) (ends_for_cause laws g e b)
+    tells_changes g e (tells_apart adds laws exact.is exact.only g e b (next_sound adds laws g e (runs_even cap g r) b)) (ends_for_cause laws g e b)
