@@ -8,19 +8,21 @@ use Rattle.iv_access.specs.Rights.{Name}
 use Rattle.iv_machine.specs.declared.Cause.{Cause}
 use Rattle.iv_machine.specs.Machine.{Outcome, difference}
 use Rattle.iv_message.specs.Told.{Told, over}
-use Rattle.iv_clients.specs.Clients.{Client, Shown, all_shown, client_at, followed_by, handing, may_say, saying, told}
+use Rattle.iv_clients.specs.Clients.{Client, Shown, all_shown, client_at, followed_by, fresh, handing, may_say, saying, told}
 use Rattle.iv_clients.specs.Journal.{IsRequest, Request, is_shared, said_by}
+use Rattle.iv_clients.specs.Names.{holder_of, place_text}
 use Rattle.iv_steps.specs.Laws.{RefusalsAreFound}
 use Rattle.iv_steps.specs.Steps.{stepped}
 use Rattle.iv_clients.proofs.Slots.{one_some}
 use Rattle.iv_gate.specs.Arriving.{Step, entry_of, fact_of, fault_of, is_behind}
 use Rattle.iv_gate.specs.Events.{Event, presented, message, gone, known, ticked, synced, handed, arrived, forgave, failed, IsWell, happens, next}
-use Rattle.iv_gate.specs.Gate.{Gate, hears}
+use Rattle.iv_gate.specs.Gate.{Gate, hears, place_of}
 use Rattle.iv_gate.specs.Implied.{EndsForCause}
 use Rattle.iv_gate.specs.Laws.{AddsOnly, AreShown, HasMarks, LeavesMarks, marked}
-use Rattle.iv_gate.specs.Replies.{ByClient, IsClient, added_by, heard_by, is_opened, told_by}
+use Rattle.iv_gate.specs.Replies.{ByClient, IsClient, added_by, heard_by, is_opened, place_behind, told_by}
 use Rattle.iv_gate.specs.Seen.{IsEnd, TellsDifference, hindrance, is_told_of, read_by}
-use Rattle.iv_gate.specs.Touched.{AreTouched, StaysItself, itself_behind}
+use Rattle.iv_gate.specs.Touched.{AreTouched, IsNewcomer, StaysItself, itself_behind}
+use Rattle.iv_gate.proofs.Answered.{place_is}
 use Rattle.iv_gate.proofs.Answering.{drop_text, follows_none, heard_is, not_followed, other_hears, own_answer}
 use Rattle.iv_gate.proofs.Booking.{came_adds, is_next, went_adds}
 use Rattle.iv_gate.proofs.Growing.{drop_front, map_front}
@@ -30,7 +32,7 @@ use Rattle.iv_gate.proofs.Showing.{IsShownBy, are_shown}
 use Rattle.iv_gate.proofs.Signs.{Marks, Sign, card, marks}
 use Rattle.iv_gate.proofs.Summing.{same_self}
 use Rattle.iv_gate.proofs.Telling.{TellsApart}
-use Rattle.iv_gate.proofs.Touching.{IsKept as KeepsCard, card_behind, entered_by_event, is_gone, marked_by_event, marks_behind, rests, taken_by, takes_sign, touched}
+use Rattle.iv_gate.proofs.Touching.{IsKept as KeepsCard, IsNewcomer as Comes, card_behind, entered_by_event, is_gone, marked_by_event, marks_behind, rests, taken_by, takes_sign, touched}
 
 -- ---- marks
 
@@ -164,9 +166,20 @@ not_gone m (arrived s) h = refl
 not_gone m forgave h = refl
 not_gone m failed h = refl
 
+-- a newcomer is told where its names stand before it comes, which is where they stand behind it
+newcomer : (g : Gate) (e : Event) (m : ℕ) (d : Client) → g.dead ≡ false → Comes g e m d → IsNewcomer g e m d
+newcomer g e m d live x =
+    let holder = holder_of x.token.role x.token.user in
+    let head : (next g e).head ≡ g.head = ap (λ (z : Event). (next g z).head) x.event ∙ ap (λ (z : Gate). z.head) (has_marks g (presented m x.text) live) in
+    let entries : (next g e).entries ≡ g.entries =
+    ap (λ (z : Event). (next g z).entries) x.event ∙ (ap (λ (z : Gate). z.entries) (awake g (presented m x.text) live) ∙ came_adds g m x.text) in
+    let place : place_text (place_of (next g e) holder) ≡ place_behind g holder 0 =
+    place_is (next g e) holder ∙ (λ i. place_behind (record g { head = head i; entries = entries i }) holder 0) in
+    record { text = x.text; token = x.token; event = x.event; opened = x.opened; is = x.is ∙ ap (fresh (next g e).entries x.token) place }
+
 pub touches : (g : Gate) (e : Event) → g.dead ≡ false → AreTouched g e
 touches g e live = let t = touched g e live in
-    record { stays = λ m c h n. keeps g e m c (t.stays m c h (not_gone m e n)); leaves = λ m n. t.leaves m (ap (is_gone m) n ∙ same_self m); comes = λ m d h k. let x = t.comes m d h k in record { text = x.text; token = x.token; event = x.event; opened = x.opened; is = x.is } }
+    record { stays = λ m c h n. keeps g e m c (t.stays m c h (not_gone m e n)); leaves = λ m n. t.leaves m (ap (is_gone m) n ∙ same_self m); comes = λ m d h k. newcomer g e m d live (t.comes m d h k) }
 
 -- ---- what is shown
 
