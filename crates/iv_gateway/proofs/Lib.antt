@@ -5,6 +5,7 @@ pub mod Seated
 pub mod Swept
 pub mod Gone
 pub mod Alive
+pub mod Entered
 pub mod Came
 pub mod Closed
 pub mod Agreeing

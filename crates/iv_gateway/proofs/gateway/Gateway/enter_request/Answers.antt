@@ -27,7 +27,7 @@ returns-in_ok-extend_from_slice c = λ g e b s r l t.
     let accepted : is_accepted (reply_in (map line_of c.args.lines.now)) ≡ true = sym c.is_accepted.ensures ∙ c.if-is_accepted.true in
     let text : c.push_entry.new.pending.items ≡ c.args.self.now.pending.items ++ entry_text e =
     c.in_ok-push_entry.ensures ∙ (λ i. c.args.self.now.pending.items ++ text_of_entry (sym r i) (sym l i)) in
-    subst (λ a. IsAlive (entered g e a) (record c.args.self.now { pending = c.push_entry.new.pending; shape = c.extend_from_slice.new.self })) (sym accepted)
+    subst (λ a. IsAlive (entered g e a) (record c.args.self.now { names = c.push_entry.new.names; log = c.push_entry.new.log; position = c.push_entry.new.position; settled = c.push_entry.new.settled; forgiven = c.push_entry.new.forgiven; pending = c.push_entry.new.pending; shape = c.extend_from_slice.new.self })) (sym accepted)
     (record {
       tokens = b.tokens;
       machine = b.machine;

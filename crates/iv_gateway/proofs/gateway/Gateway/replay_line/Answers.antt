@@ -37,4 +37,4 @@ returns-in_ok-is_accepted-in-Some-act_plain c = λ g b w.
     asked g c.args.line.now _ _ (string_bytes c.in-Some.role) c.in-Some.text.items (act_of c.in-Some-act_plain.act) _ _ shape entry
     (ap act_plain (sym message) ∙ (sym c.act_plain.ensures.act ∙ ap (option_map act_of) c.in-Some-act_plain.is)) name w
     (c.in_ok-is_accepted-in-Some-act_plain.ensures g c.in-Some.text.items
-    (record { tokens = b.tokens; machine = b.machine; seats = b.seats; feeds = b.feeds; clients = b.clients; pending = b.pending; shape = b.shape }))
+    (record { tokens = b.tokens; machine = b.machine; seats = b.seats; feeds = b.feeds; clients = b.clients; names = b.names; log = b.log; position = b.position; settled = b.settled; forgiven = b.forgiven; pending = b.pending; shape = b.shape }))
