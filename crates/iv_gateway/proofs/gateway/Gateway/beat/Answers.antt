@@ -11,7 +11,12 @@ returns c = λ g b. record {
   machine = b.machine;
   seats = b.seats;
   feeds = b.feeds;
-  names = b.names; log = b.log; position = b.position; settled = b.settled; forgiven = b.forgiven; pending = b.pending;
+  names = b.names;
+  log = b.log;
+  position = b.position;
+  settled = b.settled;
+  forgiven = b.forgiven;
+  pending = b.pending;
   shape = b.shape;
   clients = c.in_ok-beat.ensures
       ∙ (ap (λ z. at_all (holding_beat z) c.args.self.now.clients) (c.deref.ensures.value

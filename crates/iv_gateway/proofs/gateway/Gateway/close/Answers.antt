@@ -22,7 +22,12 @@ returns-in_ok-sweep-in-Some c = λ g x b e.
       machine = b.machine;
       seats = b.seats;
       feeds = b.feeds;
-      names = b.names; log = b.log; position = b.position; settled = b.settled; forgiven = b.forgiven; pending = b.pending;
+      names = b.names;
+      log = b.log;
+      position = b.position;
+      settled = b.settled;
+      forgiven = b.forgiven;
+      pending = b.pending;
       shape = b.shape;
       clients = c.close.ensures ∙ (ap (at_client c.args.client (keeping_closed c.args.own)) b.clients
           ∙ keeps_at c.args.client (closing c.args.own) (keeping_closed c.args.own) (λ k. refl) g.clients);

@@ -27,7 +27,12 @@ returns c = λ g b.
       machine = told.machine;
       seats = told.seats;
       feeds = told.feeds;
-      names = told.names; log = told.log; position = told.position; settled = told.settled; forgiven = told.forgiven; pending = told.pending;
+      names = told.names;
+      log = told.log;
+      position = told.position;
+      settled = told.settled;
+      forgiven = told.forgiven;
+      pending = told.pending;
       shape = told.shape;
       clients = c.in_ok-follow.ensures ∙ (ap (at_client c.args.client (keeping_new c.args.number)) told.clients
           ∙ keeps_at c.args.client (following c.args.number) (keeping_new c.args.number) (λ k. refl)

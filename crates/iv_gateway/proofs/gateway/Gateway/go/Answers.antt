@@ -23,7 +23,12 @@ returns-in_ok-settle_told-in-Some c = λ g b.
       machine = b.machine;
       seats = b.seats;
       feeds = b.feeds;
-      names = b.names; log = b.log; position = b.position; settled = b.settled; forgiven = b.forgiven; pending = b.pending;
+      names = b.names;
+      log = b.log;
+      position = b.position;
+      settled = b.settled;
+      forgiven = b.forgiven;
+      pending = b.pending;
       shape = b.shape;
       clients = c.leave.ensures ∙ (ap (λ z. set z c.args.client None) b.clients ∙ keeps_set c.args.client None g.clients);
     } in

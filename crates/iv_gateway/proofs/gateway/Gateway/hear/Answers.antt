@@ -25,7 +25,12 @@ returns c = λ g k b grants.
       tokens = b.gate.tokens;
       machine = b.gate.machine;
       seats = b.gate.seats;
-      names = b.gate.names; log = b.gate.log; position = b.gate.position; settled = b.gate.settled; forgiven = b.gate.forgiven; pending = b.gate.pending;
+      names = b.gate.names;
+      log = b.gate.log;
+      position = b.gate.position;
+      settled = b.gate.settled;
+      forgiven = b.gate.forgiven;
+      pending = b.gate.pending;
       shape = b.gate.shape;
       feeds = c.drop_ended.ensures ∙ (ap (feeds_left ls) b.gate.feeds ∙ ap (λ z. feeds_left z g.feeds) b.lines);
       clients = c.stay.ensures

@@ -18,7 +18,12 @@ returns c = λ g k b there is.
       machine = b.machine;
       seats = b.seats;
       feeds = b.feeds;
-      names = b.names; log = b.log; position = b.position; settled = b.settled; forgiven = b.forgiven; pending = b.pending;
+      names = b.names;
+      log = b.log;
+      position = b.position;
+      settled = b.settled;
+      forgiven = b.forgiven;
+      pending = b.pending;
       shape = b.shape;
       clients = c.in_ok-ask.ensures ∙ (ap (at_client c.args.client asking) b.clients
           ∙ keeps_at c.args.client (saying c.args.text.now) asking (λ d. refl) g.clients);
@@ -35,7 +40,12 @@ returns c = λ g k b there is.
       machine = told.machine;
       seats = told.seats;
       feeds = told.feeds;
-      names = told.names; log = told.log; position = told.position; settled = told.settled; forgiven = told.forgiven; pending = told.pending;
+      names = told.names;
+      log = told.log;
+      position = told.position;
+      settled = told.settled;
+      forgiven = told.forgiven;
+      pending = told.pending;
       shape = told.shape;
       clients = c.answered.ensures ∙ stands_answered g c.args.client k c.args.text.now c.speaker.inside.brought _ there (brought ∙ ap (λ s. s.brought) is)
           told.clients;

@@ -24,7 +24,12 @@ returns-in_ok-shut-in-Some c = λ g b.
       machine = b.machine;
       seats = b.seats;
       feeds = b.feeds;
-      names = b.names; log = b.log; position = b.position; settled = b.settled; forgiven = b.forgiven; pending = b.pending;
+      names = b.names;
+      log = b.log;
+      position = b.position;
+      settled = b.settled;
+      forgiven = b.forgiven;
+      pending = b.pending;
       shape = b.shape;
       clients = c.in_ok-redirect-in-Some.ensures ∙ (ap (at_client c.args.client (keeping_moved new older)) b.clients
           ∙ keeps_at c.args.client (moved new older) (keeping_moved new older) (λ k. refl) g.clients);

@@ -17,7 +17,12 @@ returns-then-not-self c = λ g b.
       machine = a.machine;
       seats = a.seats;
       feeds = a.feeds;
-      names = a.names; log = a.log; position = a.position; settled = a.settled; forgiven = a.forgiven; pending = a.pending;
+      names = a.names;
+      log = a.log;
+      position = a.position;
+      settled = a.settled;
+      forgiven = a.forgiven;
+      pending = a.pending;
       shape = a.shape;
       clients = c.check.ensures ∙ (ap (λ z. at_all (checking z) c.args.self.now.clients) c.deref.ensures.value
           ∙ (ap (at_all (checking c.args.tokens.items)) a.clients ∙ keeps_all (checked c.args.tokens.items) (checking c.args.tokens.items)

@@ -33,6 +33,11 @@ returns c = λ g line b.
       seats = acted.gate.seats;
       feeds = acted.gate.feeds;
       clients = acted.gate.clients;
-      names = acted.gate.names; log = acted.gate.log; position = acted.gate.position; settled = acted.gate.settled; forgiven = acted.gate.forgiven; pending = acted.gate.pending;
+      names = acted.gate.names;
+      log = acted.gate.log;
+      position = acted.gate.position;
+      settled = acted.gate.settled;
+      forgiven = acted.gate.forgiven;
+      pending = acted.gate.pending;
       shape = acted.gate.shape;
     }))

@@ -16,7 +16,12 @@ returns c = λ g b.
       machine = b.machine;
       feeds = b.feeds;
       clients = b.clients;
-      names = b.names; log = b.log; position = b.position; settled = b.settled; forgiven = b.forgiven; pending = b.pending;
+      names = b.names;
+      log = b.log;
+      position = b.position;
+      settled = b.settled;
+      forgiven = b.forgiven;
+      pending = b.pending;
       shape = b.shape;
       seats =
           c.drop_seat.ensures ∙ ap (without_seat c.seat.inside.session) b.seats;

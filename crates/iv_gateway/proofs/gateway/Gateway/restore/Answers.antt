@@ -14,6 +14,11 @@ returns-in-Ok-clause-restored c = λ g b.
       seats = w.gate.seats;
       feeds = w.gate.feeds;
       clients = w.gate.clients;
-      names = w.gate.names; log = w.gate.log; position = w.gate.position; settled = w.gate.settled; forgiven = w.gate.forgiven; pending = w.gate.pending;
+      names = w.gate.names;
+      log = w.gate.log;
+      position = w.gate.position;
+      settled = w.gate.settled;
+      forgiven = w.gate.forgiven;
+      pending = w.gate.pending;
       shape = w.gate.shape;
     })

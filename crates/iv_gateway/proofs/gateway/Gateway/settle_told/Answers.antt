@@ -9,7 +9,12 @@ returns c = λ g b. record {
   machine = b.machine;
   seats = b.seats;
   feeds = b.feeds;
-  names = b.names; log = b.log; position = b.position; settled = b.settled; forgiven = b.forgiven; pending = b.pending;
+  names = b.names;
+  log = b.log;
+  position = b.position;
+  settled = b.settled;
+  forgiven = b.forgiven;
+  pending = b.pending;
   shape = b.shape;
   clients = c.in_ok-settle.ensures ∙ stands_settled g.entries g.clients c.args.self.now.clients c.deref.result.now
       (c.deref.ensures.value ∙ (c.in_ok-push_settled.ensures ∙ ap (λ z. z ++ told_text settled) c.new-text.ensures.items)) b.clients;

@@ -15,7 +15,12 @@ returns c = λ g f b s k.
       machine = b.machine;
       seats = b.seats;
       clients = b.clients;
-      names = b.names; log = b.log; position = b.position; settled = b.settled; forgiven = b.forgiven; pending = b.pending;
+      names = b.names;
+      log = b.log;
+      position = b.position;
+      settled = b.settled;
+      forgiven = b.forgiven;
+      pending = b.pending;
       shape = b.shape;
       feeds =
           c.drop_feed.ensures ∙ ap (without_feed c.args.number) b.feeds;

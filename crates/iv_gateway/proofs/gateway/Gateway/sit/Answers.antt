@@ -31,7 +31,12 @@ returns c = λ g b.
               machine = run.gate.machine;
               feeds = run.gate.feeds;
               clients = run.gate.clients;
-              names = run.gate.names; log = run.gate.log; position = run.gate.position; settled = run.gate.settled; forgiven = run.gate.forgiven; pending = run.gate.pending;
+              names = run.gate.names;
+              log = run.gate.log;
+              position = run.gate.position;
+              settled = run.gate.settled;
+              forgiven = run.gate.forgiven;
+              pending = run.gate.pending;
               shape = run.gate.shape;
               seats = c.in_ok-push.ensures.items ∙ ap (λ z. z ++ record { session = c.in-Some.session; role = string_bytes c.args.role } ∷ []) run.gate.seats;
             };
@@ -55,7 +60,12 @@ returns-then-not-is_accepted c = λ g b.
         seats = run.gate.seats;
         feeds = run.gate.feeds;
         clients = run.gate.clients;
-        names = run.gate.names; log = run.gate.log; position = run.gate.position; settled = run.gate.settled; forgiven = run.gate.forgiven; pending = run.gate.pending;
+        names = run.gate.names;
+        log = run.gate.log;
+        position = run.gate.position;
+        settled = run.gate.settled;
+        forgiven = run.gate.forgiven;
+        pending = run.gate.pending;
         shape = run.gate.shape;
         machine = subst (λ z. IsBehind z c.run.new.self.engine) (refused_leaves g.machine (in_session c.in-Some.session (begin (string_bytes c.args.role)))
             rejected) run.gate.machine;

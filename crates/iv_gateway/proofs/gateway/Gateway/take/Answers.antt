@@ -19,7 +19,12 @@ returns-clause-gate c = λ g b.
       machine = a.machine;
       seats = a.seats;
       feeds = a.feeds;
-      names = a.names; log = a.log; position = a.position; settled = a.settled; forgiven = a.forgiven; pending = a.pending;
+      names = a.names;
+      log = a.log;
+      position = a.position;
+      settled = a.settled;
+      forgiven = a.forgiven;
+      pending = a.pending;
       shape = a.shape;
       clients = c.take.ensures.hall ∙ (ap (at_client c.args.client emptied) a.clients
           ∙ keeps_at c.args.client handing emptied (kept_handing c.told_texts_are_lines.ensures) g.clients);

@@ -8,7 +8,12 @@ returns c = λ g t b e. record {
   machine = b.machine;
   seats = b.seats;
   feeds = b.feeds;
-  names = b.names; log = b.log; position = b.position; settled = b.settled; forgiven = b.forgiven; pending = b.pending;
+  names = b.names;
+  log = b.log;
+  position = b.position;
+  settled = b.settled;
+  forgiven = b.forgiven;
+  pending = b.pending;
   shape = b.shape;
   clients = c.in_ok-hold.ensures ∙ stands_told g.entries g.clients c.args.self.now.clients c.args.client t c.args.text.now e b.clients;
 }
