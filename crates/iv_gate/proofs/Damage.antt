@@ -174,23 +174,23 @@ reads_this reads g es rest e more h a l = ap record_in (a ∙ journal_one e more
 -- `fuel` bounds the lines
 far : ReadsBack → (fuel : ℕ) (g : Gate) (lines : List Line) (es : List Entry) (rest : List Line) → lines ≡ journal_of es ++ rest → Leads g es → length rest ≤ fuel → IsLed g lines
 far reads zero g lines es [] a l n = record { entries = es; rest = []; all = a; leads = l; stops = inl refl }
-far reads zero g lines es (x ∷ xs) a l n = absurd (let no : ⊥ = omega (arith, n) in no)
+far reads zero g lines es (x ∷ xs) a l n = absurd (let none : ⊥ = omega (arith, n) in none)
 far reads (suc fuel) g lines es rest a l n = by (record_in rest) refl (λ fs more b m k. far reads fuel g lines fs more b m k)
   where
     fewer : (i j k : ℕ) → 0 < i → k ≡ i + j → k ≤ suc fuel → j ≤ fuel
     fewer i j k h e m = omega (arith, h, e, m)
 
     other : (x : Entry) (later : List Line) → record_in rest ≡ Some (x, later) → Never g (es ++ x ∷ []) → Stops g es rest
-    other x later r no e more h b m =
+    other x later r bad e more h b m =
         let same = one_some {X = Entry × List Line} (e, more) (x, later) (sym (reads_this reads g es rest e more h b m) ∙ r) in
-        no h (subst (λ z. LeadOn g (es ++ z ∷ []) h) (ap (λ (z : Entry × List Line). z.0) same) m)
+        bad h (subst (λ z. LeadOn g (es ++ z ∷ []) h) (ap (λ (z : Entry × List Line). z.0) same) m)
 
     one : (x : Entry) (later : List Line) → record_in rest ≡ Some (x, later) → Begins rest x later
         → ((fs : List Entry) (more : List Line) → lines ≡ journal_of fs ++ more → Leads g fs → length more ≤ fuel → IsLed g lines) → Leads g (es ++ x ∷ []) ⊎ Never g (es ++ x ∷ []) → IsLed g lines
     one x later r b on (inl m) =
         on (es ++ x ∷ []) later (a ∙ (ap (λ z. journal_of es ++ z) b.lines ∙ journal_pushed es x later)) m
         (fewer (length (lines_of x)) (length later) (length rest) (some_lines x b.entry) (ap length b.lines ∙ length-append (lines_of x) later) n)
-    one x later r b on (inr no) = record { entries = es; rest = rest; all = a; leads = l; stops = inr (other x later r no) }
+    one x later r b on (inr bad) = record { entries = es; rest = rest; all = a; leads = l; stops = inr (other x later r bad) }
 
     by : (o : Option (Entry × List Line)) → record_in rest ≡ o
         → ((fs : List Entry) (more : List Line) → lines ≡ journal_of fs ++ more → Leads g fs → length more ≤ fuel → IsLed g lines) → IsLed g lines

@@ -228,7 +228,7 @@ shown_read g b m c own k x h = look c.subs (b.clients m c x.there x.stays).follo
 
 -- ---- what an event tells of a number
 
-data Texts (g : Gate) (c d : Client) (own : ℕ) : Type 0 where
+pub data Texts (g : Gate) (c d : Client) (own : ℕ) : Type 0 where
   silent : filter (is_told_of own) (told_by c d) ≡ [] → Texts g c d own
   differs : (xs ys : List (List Cell)) → filter (is_told_of own) (told_by c d) ≡ change_told own (difference xs ys) → is_some (followed_by d.subs own) ≡ true → Texts g c d own
   ends_so : (rel : Name) (why : Cause) → filter (is_told_of own) (told_by c d) ≡ over own rel why (difference (read_by g c own) []) ∷ [] → followed_by d.subs own ≡ None → Texts g c d own

@@ -98,7 +98,7 @@ adds_only found g (arrived s) w live =
     by false e true k o h = refl
     by false e false k (Some x) h = refl
     by false e false k None h = absurd (false≢true (sym (ap is_some h) ∙ step_taken found g s w.0.requests e k))
-adds_only found g (message m text) w live h = none_added g (message m text) (ap (λ (x : Gate). x.entries) (awake g (message m text) live) ∙ by (client_at g.clients m) h)
+adds_only found g (message m text) w live = λ h. none_added g (message m text) (ap (λ (x : Gate). x.entries) (awake g (message m text) live) ∙ by (client_at g.clients m) h)
   where
     heard_not : (c : Client) (t : Bool) → t ≡ false → (cond t (hears g m c text) g).entries ≡ g.entries
     heard_not c true e = absurd (false≢true (sym e))

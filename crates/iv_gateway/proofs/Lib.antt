@@ -10,8 +10,6 @@ pub mod Came
 pub mod Closed
 pub mod Agreeing
 pub mod Said
-pub mod Reread
-pub mod Replayed
 pub mod Granted
 pub mod Shaped
 pub mod Subscribed

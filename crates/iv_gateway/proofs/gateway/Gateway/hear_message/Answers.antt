@@ -29,9 +29,9 @@ returns c = λ g k b there is.
           ∙ keeps_at c.args.client (saying c.args.text.now) asking (λ d. refl) g.clients);
     } in
     let done : IsAlive (done_for (asked g c.args.client c.args.text.now) c.args.client k c.args.text.now (said_by c.args.text.now)) c.answer.new.self =
-    subst (λ z. IsAlive (done_for (asked g c.args.client c.args.text.now) c.args.client k c.args.text.now z) c.answer.new.self) c.in_ok-message.ensures.message
+    subst (λ z. IsAlive (done_for (asked g c.args.client c.args.text.now) c.args.client k c.args.text.now z) c.answer.new.self) c.in_ok-said.ensures.message
     (c.in_ok-answer.ensures (asked g c.args.client c.args.text.now) k c.args.text.now counted (there_saying g c.args.client k c.args.text.now there) is
-    (sym (c.deref.ensures.value ∙ c.in_ok-message.ensures.line))) in
+    (sym c.in_ok-said.ensures.line) (sym c.in_ok-said.ensures.claim)) in
     let told : IsAlive (did g c.args.client k c.args.text.now) c.settle_told.new.self =
     c.in_ok-settle_told.ensures (done_for (asked g c.args.client c.args.text.now) c.args.client k c.args.text.now (said_by c.args.text.now)) done in
     let brought : c.speaker.inside.brought ≡ c.args.speaker.now.brought = search rules in
