@@ -110,15 +110,15 @@ of_act text q p x act m t =
         role = ap (λ (z : Request). is_name z.role) (sym same) ∙ x.name;
         shared = tests.0;
         brace = ap (λ (z : Request). begins_object z.line) (sym same) ∙ ap begins_object x.brace;
-        line = no (has_newline q.line) tests.1;
+        line = turned (has_newline q.line) tests.1;
         asks = ap (λ (z : Request). message_of z.line) (sym same) ∙ (m ∙ ap (λ (z : Request). request None z.act) same);
       };
       text = x.is ∙ (ap (λ z. codes "\"as\":\"" ++ (p.0 ++ (codes "\"," ++ drop 1 z))) (sym x.brace) ∙ ap request_text same);
     }
   where
-    no : (b : Bool) → not b ≡ true → b ≡ false
-    no true h = absurd (false≢true h)
-    no false h = refl
+    turned : (b : Bool) → not b ≡ true → b ≡ false
+    turned true h = absurd (false≢true h)
+    turned false h = refl
 
 of_parts : (text : List ℕ) (q : Request) (p : Name × List ℕ) → IsPart text p → request_by p.0 p.1 ≡ Some q → IsTextOf text q
 of_parts text q p x k =
@@ -225,14 +225,14 @@ name_sound text e h =
         count = (passed is_count (option_and_then as_u64 (option_and_then as_number (option_and_then id_in (value_of s.of.digits)))) e.ask.at.count t.count).passes;
         holder = (passed is_utf8 (option_and_then as_str (value_of (34 ∷ (q.of.holder ++ 34 ∷ [])))) e.ask.holder t.holder).passes;
         digest = (passed is_digest (decoded (decode_sized q.of.digits 32)) e.ask.digest t.digest).passes;
-        line = no (has_newline e.answer) (passes is_answer (but_last q.of.answer) e.answer t.answer).passes;
+        line = turned (has_newline e.answer) (passes is_answer (but_last q.of.answer) e.answer t.answer).passes;
       };
       text = sym ((bytes_eq-Decides (name_text e) text).0 p.passes);
     }
   where
-    no : (b : Bool) → not b ≡ true → b ≡ false
-    no true k = absurd (false≢true k)
-    no false k = refl
+    turned : (b : Bool) → not b ≡ true → b ≡ false
+    turned true k = absurd (false≢true k)
+    turned false k = refl
 
 -- ---- positions
 

@@ -220,10 +220,10 @@ comes_own g e m c d x y own h = by g.dead refl
     by false q = live q (heard_by m c e) refl
 
 first_in : {X : Type 0} (p : X → Bool) (ts : List X) (x : X) → filter p ts ≡ x ∷ [] → Contains ts x
-first_in p [] x h = absurd (no h)
+first_in p [] x h = absurd (never h)
   where
-    no : {X : Type 0} {y : X} → [] ≡ y ∷ [] → ⊥
-    no e = false≢true (ap some_there e)
+    never : {X : Type 0} {y : X} → [] ≡ y ∷ [] → ⊥
+    never e = false≢true (ap some_there e)
       where
         some_there : {Y : Type 0} → List Y → Bool
         some_there [] = false
