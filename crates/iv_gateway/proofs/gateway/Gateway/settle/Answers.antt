@@ -13,7 +13,7 @@ returns-then-self-clause-torn g c = (0, nothing_more _)
 pub returns-in-Err-clause-torn : goal.returns-in-Err-clause-torn
 returns-in-Err-clause-torn g c = let t = c.in-Err.ensures.torn in (
   t.0,
-  subst (λ z. g.J.Journal.kept c.append.new.self ≡ option_map (λ ls. ls ++ take t.0 z) (g.J.Journal.kept c.args.journal.now)) c.deref.ensures.value t.1.1,
+  subst (λ z. g.J.Journal.kept c.append.new.self ≡ option_map (λ ls. ls ++ take t.0 z) (g.J.Journal.kept c.args.journal.now)) c.deref.ensures.value t.2,
 )
 
 pub returns-in-Err-release-clause-torn : goal.returns-in-Err-release-clause-torn
