@@ -40,6 +40,7 @@ pub record IsAlive (g : Gate) (x : Gateway) : Type 0 where
   pub log : x.log ≡ g.head.log
   pub position : x.position ≡ position g
   pub settled : x.settled ≡ settled_at g
+  pub forgiven : g.forgiven ≤ length g.entries
   pub pending : IsPending g.kept g.entries x.pending.items
   pub shape : x.shape.items ≡ shape_text g.entries
 

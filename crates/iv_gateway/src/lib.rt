@@ -23,6 +23,6 @@ mod subscribing;
 mod sweeping;
 mod telling;
 
-pub use gateway::{Gateway, GatewayFault};
+pub use gateway::{Gateway, GatewayFault, Head, Log};
 pub use journal::{Journal, JournalFault};
 pub use restoring::RestoreFault;
