@@ -13,17 +13,16 @@ use Rattle.iv_message.specs.Told.{Told, changed, over, granted, made, settled, t
 use Rattle.iv_clients.specs.Clients.{Client, Sub, client_at, fresh, may_say, own_line, own_lines, told}
 use Rattle.iv_clients.specs.Feeds.{Feed, rel_read, seat_of}
 use Rattle.iv_clients.specs.Journal.{Entry, Request, claim_said, is_shape, is_shared, requests_in, said_by, shape_for, shape_of}
-use Rattle.iv_clients.specs.Names.{Claim, holder_of}
+use Rattle.iv_clients.specs.Names.{Claim}
 use Rattle.iv_clients.specs.Tokens.{Token}
 use Rattle.iv_once.specs.Names.{Ask, Verdict, carry, again, another, late, foreign, ahead, verdict}
-use Rattle.iv_once.specs.Names as once
 use Rattle.iv_clients.proofs.Slots.{one_some, some_is_none}
 use Rattle.iv_gate.specs.Arriving.{Step, entry_of, newly}
 use Rattle.iv_gate.specs.Events.{Event, presented, message, gone, known, ticked, synced, handed, arrived, forgave, failed, happens, next}
-use Rattle.iv_gate.specs.Gate.{Gate, answering, asked_by, entries_of, granted_by, has_shape_room, hears, in_session, is_accepted, may_have, most_shape, names_of, reply_in, reply_to, said, shape_text}
+use Rattle.iv_gate.specs.Gate.{Gate, answering, asked_by, at_text, entries_of, granted_by, has_shape_room, hears, in_session, is_accepted, may_have, most_shape, names_of, reply_in, reply_to, said, shape_text}
 use Rattle.iv_gate.specs.Implied.{ShapeIsBounded}
 use Rattle.iv_gate.specs.Laws.{ShapeIsTold, is_made}
-use Rattle.iv_gate.specs.Replies.{added_by, place_behind}
+use Rattle.iv_gate.specs.Replies.{added_by}
 use Rattle.iv_gate.specs.Runs.{Runs, begins, goes_on, begins_again}
 use Rattle.iv_gate.proofs.Answering.{was_there}
 use Rattle.iv_gate.proofs.Booking.{came_adds, went_adds}
@@ -139,7 +138,7 @@ next_shape sounds g e b a m d x = by g.dead refl
     there : g.dead ≡ false → (o : Option Client) → client_at g.clients m ≡ o → filter is_made (told d) ≡ shape_for d.role (next g e).entries
     there live None h =
         let n = (touched g e live).comes m d h x.there in
-        let at = place_behind g (holder_of n.token.role n.token.user) 0 in
+        let at = at_text (next g e) n.token in
         ap (λ (c : Client). filter is_made (told c)) n.is ∙ (greeting_shape (next g e).entries n.token at ∙ ap (λ (c : Client). shape_for c.role (next g e).entries) (sym n.is))
     there live (Some c) h =
         let stays = was_there g e m c d live h x in let more = entered_by_event g e live in
@@ -204,7 +203,7 @@ module _ (g : Gate) (full : nat_lt most_shape (length (shape_text g.entries)) �
   verdict_text q a late = refl
   verdict_text q a foreign = refl
   verdict_text q a ahead = refl
-  verdict_text q a once.over = refl
+  verdict_text q a _ = refl
 
   shared_text : (c : Client) (q : Request) (claim : Option Claim) → shape_text (shared_added g c q claim) ≡ []
   shared_text c q None = decided_text q None
