@@ -7,4 +7,5 @@ pub mod Cuts
 pub mod Spelling
 pub mod Rereading
 pub mod Recording
+pub mod Filling
 pub mod Claiming

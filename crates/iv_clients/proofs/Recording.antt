@@ -1,6 +1,7 @@
 -- The record of an entry is read back, whatever stands behind it, and nothing else is read.
-use Rattle.std.proofs.Common.{◌≡◌, ℕ, Bool, true, false, cond, List, [], ◌∷◌, ◌++◌, map, Option, Some, None, refl, ap, ◌∙◌, sym, subst, append_assoc, append-nil}
-use Rattle.std.specs.Prelude.{◌≢◌, option_and_then}
+use Rattle.std.proofs.Common.{◌≡◌, ℕ, suc, arith, length, Bool, true, false, cond, List, [], ◌∷◌, ◌++◌, map, Option, Some, None, refl, ap, ◌∙◌, sym, subst, append_assoc, append-nil}
+use Rattle.std.specs.Prelude.{◌≢◌, ◌==◌, option_and_then}
+use Rattle.std.proofs.lemmas.Bool.{ne_eqb}
 use Rattle.std.specs.List.{AllByRecursion}
 use Rattle.std.proofs.lemmas.List.{map-append}
 use Rattle.iv_rows.specs.Options.{if_some}
@@ -105,6 +106,9 @@ record IsFront (e : Entry) : Type 0 where
   names : AllByRecursion IsNamed e.names
   position : IsPosition e.position
 
+suc_not : (n : ℕ) → (suc n == 0) ≡ false
+suc_not n = ne_eqb (suc n) 0 (λ e. let none : ⊥ = omega (arith, e) in none)
+
 -- one text more was read
 record IsMore (e f : Entry) (t : List ℕ) : Type 0 where
   front : IsFront f
@@ -116,7 +120,8 @@ more_of e f g t h m = subst (λ z. IsMore e z t) (one_some f g h) m
 request_more : (qs : List Request) (ns : List Named) (p : Option ℕ) (q : Request) (g : Entry) → IsFront (made qs ns p) → IsRequest q → with_text (made qs ns p) (of_request q) ≡ Some g
     → IsMore (made qs ns p) g (request_text q)
 request_more qs ns (Some n) q g a w h = absurd (some_is_none g (sym h))
-request_more qs (m ∷ ms) None q g a w h = absurd (some_is_none g (sym h))
+request_more qs (m ∷ ms) None q g a w h =
+    absurd (some_is_none g (sym (sym (ap (λ b. cond b (Some (made (qs ++ q ∷ []) (m ∷ ms) None)) None) (suc_not (length ms))) ∙ h)))
 request_more qs [] None q g a w h = more_of (made qs [] None) (made (qs ++ q ∷ []) [] None) g (request_text q) h (record {
   front = record { requests = all_pushed IsRequest qs q a.requests w; names = tt; position = refl };
   texts = append-nil (map request_text (qs ++ q ∷ [])) ∙ (map-append request_text qs (q ∷ []) ∙ ap (λ z. z ++ request_text q ∷ []) (sym (append-nil (map request_text qs))));

@@ -1,5 +1,5 @@
 -- For contracts of the code: what texts of the journal, its records, and the lines of a file of tokens are read as.
-use Rattle.std.specs.Prelude.{ℕ, ◌-◌, ◌==◌, ◌&&◌, ◌||◌, not, Bool, true, false, if◌then◌else◌, List, [], ◌∷◌, ◌++◌, bytes_eq, codes, drop, length, take, Option, Some, None, is_some, option_map, option_and_then, Result, Ok, Err}
+use Rattle.std.specs.Prelude.{ℕ, ◌-◌, ◌==◌, ◌&&◌, not, Bool, true, false, if◌then◌else◌, List, [], ◌∷◌, ◌++◌, bytes_eq, codes, drop, length, take, Option, Some, None, is_some, option_map, option_and_then, Result, Ok, Err}
 use Rattle.std.specs.Global.{Vec}
 use Rattle.std.specs.Str.{is_utf8}
 use Rattle.hex.specs.Hex.{decode_sized}
@@ -133,12 +133,14 @@ pub data Text : Type 0 where
 abbrev pub text_in : List ℕ → Option Text
 text_in text = if_some (request_read text) (if_some (name_in text) (option_map of_position (position_in text)) (λ e. Some (of_name e))) (λ q. Some (of_request q))
 
--- one text more of an entry: first come requests, then names, then the position
+-- one text more of an entry that has no position yet: first come requests, then names, then the position
+abbrev pub added : Entry → Text → Option Entry
+added e (of_request q) = if length e.names == 0 then Some (record { requests = e.requests ++ q ∷ []; names = e.names; position = e.position }) else None
+added e (of_name n) = Some (record { requests = e.requests; names = e.names ++ n ∷ []; position = e.position })
+added e (of_position p) = Some (record { requests = e.requests; names = e.names; position = Some p })
+
 abbrev pub with_text : Entry → Text → Option Entry
-with_text e (of_request q) =
-    if is_some e.position || not (length e.names == 0) then None else Some (record { requests = e.requests ++ q ∷ []; names = e.names; position = e.position })
-with_text e (of_name n) = if is_some e.position then None else Some (record { requests = e.requests; names = e.names ++ n ∷ []; position = e.position })
-with_text e (of_position p) = if is_some e.position then None else Some (record { requests = e.requests; names = e.names; position = Some p })
+with_text e t = if is_some e.position then None else added e t
 
 -- the rest of a record of which an entry is what was read, and the lines behind it
 abbrev pub record_from : Entry → List Line → Option (Entry × List Line)
