@@ -18,7 +18,7 @@ pub use feeds::{
 };
 pub use journal::{behind, cut_at, is_shape, is_shared, push_request, request_in};
 pub use names::{Claim, holder_of};
-pub use naming::{name_in, push_name};
+pub use naming::{is_answer_text, name_in, push_name};
 pub use records::{Entry, OwnedLine, Request, push_accepted, push_named, push_step, read_record};
 pub use said::{Said, read_said};
 pub use tokens::{Token, TokensFault, read_tokens, role_opened, token_of};

@@ -1,18 +1,21 @@
 //! The texts of a journal that are names: `push_name` writes one, `name_in` reads it.
-ghost use Rattle.std.specs.Prelude.{◌≡◌, ◌++◌, ◌∷◌, [], Bool, false, IfOk, OnOk, List, ℕ, bytes_eq, codes, option_and_then, option_map, string_bytes};
+ghost use Rattle.std.specs.Prelude.{◌≡◌, ◌++◌, ◌&&◌, ◌∷◌, [], Bool, false, is_some, length, nat_le, IfOk, OnOk, List, ℕ, bytes_eq, codes, option_and_then, option_map, string_bytes};
 ghost use Rattle.std.specs.Str.{is_utf8};
 ghost use Rattle.hex.specs.Hex.{encode_lower};
 ghost use Rattle.serde_json.specs.Data.{string};
-ghost use Rattle.serde_json.specs.Find.{as_str};
+ghost use Rattle.serde_json.specs.Find.{as_object, as_str};
 ghost use Rattle.serde_json.specs.Written.{compact_text};
 ghost use Rattle.iv_request.specs.Documents.{value_data};
+ghost use Rattle.iv_request.specs.Reading.{value_of};
 ghost use Rattle.iv_request.specs.Request.{passing};
+ghost use Rattle.iv_clients.specs.Bounds.{most_said};
 ghost use Rattle.iv_clients.specs.Journal.{answer_key, name_text};
 ghost use Rattle.iv_clients.specs.Names.{place_text};
 ghost use Rattle.iv_clients.specs.Parsed.{answer_in, answered_in, but_last, cut_quote, digest_of_32, name_in, name_parts, named_by, string_in};
 
 use crate::journal::{behind, has_newline};
 use crate::names::{Spelled, between, count_in, epoch_in, random_in, spelled_in};
+use crate::said::MOST_SAID;
 use hex::{decode_to_slice, encode_to_slice};
 use itoa::Buffer;
 use iv_message::quoted;
@@ -148,6 +151,33 @@ fn string_in(
     match read_value(alloc, &quoted, scratch)? {
         None => Ok(None),
         Some(value) => str_of(alloc, &value),
+    }
+}
+
+/// Whether a value is an object.
+fn is_object(value: &Json<'_>) -> bool
+    ensures { result ≡ is_some (as_object (value_data value.now)) }
+{
+    matches!(value, Json::Object(_))
+}
+
+/// Whether an answer is a JSON object, and no longer than a message may be: so it is told, and so a step may have it.
+///
+/// # Errors
+/// As of `push_name`.
+pub fn is_answer_text(
+    alloc: Global,
+    answer: &[u8],
+    scratch: &mut Scratch,
+) -> Result<bool, AllocError>
+    ensures { IfOk result (λ is. is ≡ (nat_le (length answer.now) most_said && is_some (option_and_then as_object (value_of answer.now)))) }
+{
+    if answer.len() > MOST_SAID {
+        return Ok(false);
+    }
+    match read_value(alloc, answer, scratch)? {
+        None => Ok(false),
+        Some(value) => Ok(is_object(&value)),
     }
 }
 

@@ -13,7 +13,7 @@ use json::Scratch;
 use std::alloc::{AllocError, Global};
 
 /// The most bytes of a message.
-const MOST_SAID: usize = 65_463;
+pub(crate) const MOST_SAID: usize = 65_463;
 
 fn is_blank(byte: u8) -> bool
     ensures { result ≡ is_blank byte }
