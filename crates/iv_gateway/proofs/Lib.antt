@@ -6,6 +6,7 @@ pub mod Swept
 pub mod Gone
 pub mod Alive
 pub mod Entered
+pub mod Replayed
 pub mod Came
 pub mod Closed
 pub mod Agreeing
