@@ -18,7 +18,7 @@ use Rattle.iv_gateway.specs.declared.gateway.Gateway.{Gateway}
 
 -- ---- where names stand
 
-abbrev placed_in : Names → List ℕ → List ℕ
+abbrev pub placed_in : Names → List ℕ → List ℕ
 placed_in n holder = let o = own_of n.known holder in place_text (record { epoch = o.epoch; count = o.count })
 
 -- as the code has it, and as the gateway does

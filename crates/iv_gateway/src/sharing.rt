@@ -121,14 +121,14 @@ impl Gateway {
         &mut self,
         asked: &Asked<'_>,
         name: Option<Named>,
-        is_accepted: bool,
+        accepted: bool,
         made: &[u8],
     ) -> Result<(), AllocError>
         ensures { OnOk result ((g : Gate) (act : Act) (by : Option Ask) (r : Reply) → IsAlive g self.old → is_shared act ≡ true
-            → is_accepted ≡ is_accepted r → name ≡ option_map (λ a. record { ask = a; refused = not (is_accepted r); answer = answer_text r }) by
+            → accepted ≡ is_accepted r → name ≡ option_map (λ a. record { ask = a; refused = not (is_accepted r); answer = answer_text r }) by
             → made.now ≡ made_of asked.now act by r → IsAlive (entered g (entries_of (request_of asked.now act) by r)) self.new) }
     {
-        if is_accepted {
+        if accepted {
             push_accepted(self.alloc, &mut self.pending, asked.role, asked.line, &name)?;
         } else if let Some(named) = &name {
             push_named(self.alloc, &mut self.pending, named)?;
@@ -245,10 +245,12 @@ impl Gateway {
         ensures { OnOk result ((g : Gate) → IsAlive g self.old
             → IsAlive (decides g asked.now.client asked.now.id (request_of asked.now (act_of act)) name) self.new) }
     {
-        match (&self.log, &name) {
-            (None, _) => self.carry(asked, name, act),
-            (Some(_), None) => self.deny(asked, 100),
-            (Some(_), Some(_)) => self.leave(asked, 100),
+        if self.log.is_none() {
+            return self.carry(asked, name, act);
+        }
+        match name {
+            None => self.deny(asked, 100),
+            Some(_) => self.leave(asked, 100),
         }
     }
 
