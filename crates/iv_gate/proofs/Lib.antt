@@ -61,3 +61,4 @@ pub mod Arrived
 pub mod Choosing
 pub mod Computing
 pub mod Positions
+pub mod Past

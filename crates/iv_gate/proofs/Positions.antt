@@ -66,7 +66,7 @@ kept_more g (handed m) k = omega arith
 kept_more g forgave k = omega arith
 kept_more g failed k = omega arith
 
-head_stays : (g : Gate) (e : Event) → (marks_behind g e).head ≡ g.head
+pub head_stays : (g : Gate) (e : Event) → (marks_behind g e).head ≡ g.head
 head_stays g (arrived s) = by (is_some (fault_of g s))
   where
     by : (b : Bool) → (cond b (record (marks g) { dead = true }) (marks g)).head ≡ g.head

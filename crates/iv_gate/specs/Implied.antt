@@ -1,11 +1,11 @@
 -- What the laws imply, in other words; nobody has to believe it beside them.
-use Rattle.std.specs.Prelude.{◌≡◌, ◌≢◌, ◌⊎◌, ◌≤◌, ◌<◌, ◌+◌, ◌||◌, ℕ, not, true, List, Contains, filter, length, nat_lt, Some, is_some, ℤ}
+use Rattle.std.specs.Prelude.{◌≡◌, ◌≢◌, ◌⊎◌, ◌≤◌, ◌<◌, ◌+◌, ℕ, true, List, Contains, length, nat_lt, Some, is_some, ℤ}
 use Rattle.std.specs.List.{AllByRecursion, list_any}
 use Rattle.iv_rows.specs.Cell.{Cell}
 use Rattle.iv_access.specs.Rights.{Name}
 use Rattle.iv_machine.specs.declared.Cause.{Cause}
 use Rattle.iv_message.specs.Told.{granted, over}
-use Rattle.iv_clients.specs.Clients.{Client, client_at, followed_by, is_followed}
+use Rattle.iv_clients.specs.Clients.{Client, followed_by, is_followed}
 use Rattle.iv_clients.specs.Feeds.{rel_read}
 use Rattle.iv_clients.specs.Names.{limits}
 use Rattle.iv_clients.specs.Tokens.{Token}
@@ -14,7 +14,6 @@ use Rattle.iv_once.specs.Names.{Ask}
 use Rattle.iv_gate.specs.Arriving.{Step, position, settled_at}
 use Rattle.iv_gate.specs.Events.{Event, arrived, next}
 use Rattle.iv_gate.specs.Gate.{Gate, has_some, most_shape, place_at, shape_text}
-use Rattle.iv_gate.specs.Laws.{is_made, is_word}
 use Rattle.iv_gate.specs.Replies.{ByClient, count_of, told_by}
 use Rattle.iv_gate.specs.Restoring.{Restores, gate_at_start}
 use Rattle.iv_gate.specs.Runs.{LeavesOnDisk}
@@ -60,14 +59,6 @@ PositionsRise g e = (position g ≤ position (next g e)) × (settled_at g ≤ se
 abbrev pub PositionsLast : (cap : ℕ) → Gate → Type 0
 PositionsLast cap g = (disk : List Line) (tokens : List Token) (most : ℕ) (h : Gate) → LeavesOnDisk g disk
     → Restores (gate_at_start cap tokens most g.head g.sent) disk h → (settled_at g ≤ settled_at h) × (settled_at h ≤ position g)
-
--- of a step each client is told what its two states say: another step that leads to the same state tells it the same, but for the requests
--- that make the shape, and that this is all
-abbrev pub TellsNoneBetween : Gate → Type 0
-TellsNoneBetween g = (s t : Step) → (next g (arrived s)).machine ≡ (next g (arrived t)).machine → (m : ℕ) (c d e : Client)
-    → client_at g.clients m ≡ Some c
-    → client_at (next g (arrived s)).clients m ≡ Some d → client_at (next g (arrived t)).clients m ≡ Some e
-    → filter (λ x. not (is_made x || is_word x)) (told_by c d) ≡ filter (λ x. not (is_made x || is_word x)) (told_by c e)
 
 -- ---- names
 
