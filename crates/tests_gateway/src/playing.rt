@@ -3,15 +3,17 @@
 //!
 //! `come N TOKEN`: who presents the token is client N. `say N TEXT`: client N sends the message. `go N`: client N goes. `tokens NAME..`:
 //! these tokens are known from now on. `tick`: all are told that the line is alive. `sync`: the journal is synced, and each client that is listed
-//! as told takes what it may be sent, one line each behind its number. `journal`: the journal's lines. `tear TEXT`: the journal ends with the text.
-//! `spoil TEXT`: the journal has the line. `restart`: another gateway begins from the journal. `viewd REL`: what viewd answers to the
+//! as told takes what it may be sent, one line each behind its number. `journal`: the journal's lines, parts behind `+`. `tear TEXT`: the journal
+//! has the part of a record. `spoil TEXT`: the journal has the record. `restart`: another gateway begins from the journal. `viewd REL`: what viewd answers to the
 //! journal's entries as lines of its own, and then to a subscribe to the relation by the administrator.
 ghost use Rattle.std.specs.Prelude.{None};
 
 use crate::viewd::answers;
-use iv_clients::{Token, read_tokens};
+use iv_clients::{OwnedLine, Token, read_tokens};
 use iv_engine::Engine;
-use iv_gateway::{Gateway, Journal, JournalFault, RestoreFault};
+use iv_gateway::{Gateway, Head, Journal, JournalFault, RestoreFault};
+use iv_journal::Line;
+use iv_once::{LIMITS, Names};
 use std::alloc::{AllocError, Global};
 use std::mem;
 
@@ -30,17 +32,60 @@ const ALL: &str = "admin mia bob leo";
 /// How many clients there may be.
 const MOST: u32 = 4;
 
+/// The epoch of names.
+const EPOCH: &str = "0123456789abcdef0123456789abcdef";
+
 /// A journal in memory.
 #[derive(Drop)]
 pub struct Kept {
-    pub bytes: Vec<u8>,
+    pub alloc: Global,
+    pub lines: Vec<OwnedLine>,
+}
+
+impl Kept {
+    /// One without a line.
+    pub fn new(alloc: Global) -> Kept {
+        Kept {
+            alloc,
+            lines: Vec::new(alloc),
+        }
+    }
+
+    fn push(&mut self, is_last: bool, text: &[u8]) -> Result<(), AllocError> {
+        let mut copy = Vec::new(self.alloc);
+        copy.extend_from_slice(text)?;
+        self.lines.push(OwnedLine {
+            is_last,
+            text: copy,
+        })
+    }
+
+    fn push_all(&mut self, lines: &[OwnedLine]) -> Result<(), AllocError> {
+        for line in lines {
+            self.push(line.is_last, &line.text)?;
+        }
+        Ok(())
+    }
+
+    /// The requests, as JSON objects, one a line.
+    fn requests(&self) -> Result<Vec<u8>, AllocError> {
+        let mut bytes = Vec::new(self.alloc);
+        for line in &self.lines {
+            if line.text.starts_with(b"\"as\":") {
+                bytes.push(b'{')?;
+                bytes.extend_from_slice(&line.text)?;
+                bytes.push(b'\n')?;
+            }
+        }
+        Ok(bytes)
+    }
 }
 
 impl Journal for Kept {
     ghost kept = { λ _. None };
 
-    fn append(&mut self, bytes: &[u8]) -> Result<(), JournalFault> {
-        match self.bytes.extend_from_slice(bytes) {
+    fn append(&mut self, lines: &[OwnedLine]) -> Result<(), JournalFault> {
+        match self.push_all(lines) {
             Ok(()) => Ok(()),
             Err(_) => Err(JournalFault),
         }
@@ -84,7 +129,12 @@ fn tokens_of(alloc: Global, names: &str) -> Result<Vec<Token>, AllocError> {
 pub fn new_gateway(alloc: Global) -> Result<Gateway, AllocError> {
     let tokens = tokens_of(alloc, ALL)?;
     let engine = Engine::new(alloc, 1_024)?;
-    Gateway::new(alloc, engine, tokens, MOST)
+    let head = Head {
+        names: Names::new(alloc, LIMITS, EPOCH)?,
+        log: None,
+        position: 0,
+    };
+    Gateway::new(alloc, engine, tokens, MOST, head)
 }
 
 /// Writes a text.
@@ -150,24 +200,46 @@ fn sync(play: &mut Play) -> Result<(), AllocError> {
     Ok(())
 }
 
-/// Has another gateway begin from the journal, and cuts the journal where its entries end.
+/// Restores from the journal's lines.
+fn restore(play: &mut Play) -> Result<Result<(), RestoreFault>, AllocError> {
+    let mut lines = Vec::new(play.alloc);
+    for line in &play.journal.lines {
+        lines.push(Line {
+            is_last: line.is_last,
+            text: &line.text,
+        })?;
+    }
+    Ok(play.gateway.restore(&lines))
+}
+
+/// Has another gateway begin from the journal.
 fn restart(play: &mut Play) -> Result<(), AllocError> {
     let gateway = new_gateway(play.alloc)?;
     drop(mem::replace(&mut play.gateway, gateway));
-    match play.gateway.restore(&play.journal.bytes) {
-        Ok(kept) => {
-            play.journal.bytes.truncate(kept);
+    let place = match restore(play)? {
+        Ok(()) => {
             push(play, "restored to ")?;
-            push_number(play, kept)?;
-            push(play, "\n")
+            play.journal.lines.len()
         }
         Err(RestoreFault::Damaged(place)) => {
             push(play, "damaged at ")?;
-            push_number(play, place)?;
-            push(play, "\n")
+            place
         }
-        Err(_) => Err(AllocError),
+        Err(_) => return Err(AllocError),
+    };
+    push_number(play, place)?;
+    push(play, "\n")
+}
+
+/// Writes the journal's lines.
+fn push_journal(play: &mut Play) -> Result<(), AllocError> {
+    for line in &play.journal.lines {
+        play.text
+            .extend_from_slice(if line.is_last { b"| " } else { b"+ " })?;
+        play.text.extend_from_slice(&line.text)?;
+        play.text.push(b'\n')?;
     }
+    Ok(())
 }
 
 /// A client's number, and what stands behind it.
@@ -220,21 +292,14 @@ fn happen(play: &mut Play, word: &str, text: &str) -> Result<(), AllocError> {
             play.gateway.know(tokens);
             Ok(())
         }
-        "journal" => {
-            let mut bytes = Vec::new(play.alloc);
-            bytes.extend_from_slice(&play.journal.bytes)?;
-            push_lines(play, "| ", &bytes)
-        }
+        "journal" => push_journal(play),
         "viewd" => {
-            let told = answers(play.alloc, &play.journal.bytes, text)?;
+            let requests = play.journal.requests()?;
+            let told = answers(play.alloc, &requests, text)?;
             push_lines(play, "viewd ", &told)
         }
-        "tear" => play.journal.bytes.extend_from_slice(text.as_bytes()),
-        "spoil" => {
-            play.journal.bytes.extend_from_slice(text.as_bytes())?;
-            play.journal.bytes.push(b'\n')?;
-            Ok(())
-        }
+        "tear" => play.journal.push(false, text.as_bytes()),
+        "spoil" => play.journal.push(true, text.as_bytes()),
         _ => {
             let (client, text) = numbered(text)?;
             happen_to(play, word, client, text)
@@ -261,9 +326,7 @@ pub fn played(alloc: Global, conversation: &str) -> Result<Vec<u8>, AllocError> 
     let mut play = Play {
         alloc,
         gateway,
-        journal: Kept {
-            bytes: Vec::new(alloc),
-        },
+        journal: Kept::new(alloc),
         text: Vec::new(alloc),
     };
     match play_all(&mut play, conversation) {

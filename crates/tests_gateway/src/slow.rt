@@ -78,9 +78,7 @@ fn syncs_until_dropped(
 }
 
 fn syncs_anew(alloc: Global) -> Result<u32, AllocError> {
-    let mut journal = Kept {
-        bytes: Vec::new(alloc),
-    };
+    let mut journal = Kept::new(alloc);
     let mut gateway = new_gateway(alloc)?;
     let is_begun = begin(&mut gateway, &mut journal);
     let count = if is_begun {
@@ -107,9 +105,7 @@ fn heard(gateway: &mut Gateway, journal: &mut Kept) -> (u32, bool) {
 }
 
 fn heard_anew(alloc: Global) -> Result<(u32, bool), AllocError> {
-    let mut journal = Kept {
-        bytes: Vec::new(alloc),
-    };
+    let mut journal = Kept::new(alloc);
     let mut gateway = new_gateway(alloc)?;
     let is_begun = begin(&mut gateway, &mut journal);
     let counts = heard(&mut gateway, &mut journal);
@@ -136,9 +132,7 @@ fn counted(gateway: &mut Gateway, journal: &mut Kept) -> (u64, u64, u64) {
 }
 
 fn counted_anew(alloc: Global) -> Result<(u64, u64, u64), AllocError> {
-    let mut journal = Kept {
-        bytes: Vec::new(alloc),
-    };
+    let mut journal = Kept::new(alloc);
     let mut gateway = new_gateway(alloc)?;
     let is_begun = begin(&mut gateway, &mut journal);
     let counts = counted(&mut gateway, &mut journal);
