@@ -44,7 +44,7 @@ unfolding is_utf8 chars
 no_text = IsUtf8-from_is_utf8 [] refl
 
 slash_text : IsUtf8 (47 ∷ [])
-unfolding is_utf8 chars
+unfolding is_utf8 chars lib.Utf8.encode
 slash_text = IsUtf8-from_is_utf8 (47 ∷ []) refl
 
 text_of : (user : List ℕ) → IsUtf8 (cond (is_utf8 user) user [])

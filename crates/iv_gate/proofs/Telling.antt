@@ -299,7 +299,7 @@ module _ (g : Gate) (e : Event) (b : IsSoundGate g) (m : ℕ) (c d : Client) (x 
       → ends_in o.lines s.feed ≡ ends_in (flat_map (line_for g.machine now ends) g.machine.frame.subscriptions) s.feed
       → ((y : Subscription) (why : Cause) → subscription_of g.machine.frame.subscriptions y.number ≡ Some y → ends y ≡ Some why → ends_in o.lines y.number ≡ true → shown now y.number ≡ [])
       → Texts g c d own
-  of_sub s f now ends lines ended gone = by (ends x0) refl
+  of_sub s f now ends lines over_so gone = by (ends x0) refl
     where
       y : IsOwn g c s
       y = found_sub (IsOwn g c) (λ (w : Sub). own == w.own) c.subs s (own_each g c sound) f
@@ -326,13 +326,13 @@ module _ (g : Gate) (e : Event) (b : IsSoundGate g) (m : ℕ) (c d : Client) (x 
 
       by : (z : Option Cause) → ends x0 ≡ z → Texts g c d own
       by None q =
-          let goes : ends_in o.lines s.feed ≡ false = ended ∙ not_ended g.machine now ends g.feeds s s.feed g.machine.frame.subscriptions x0 b.state.numbers.unique found q in
+          let goes : ends_in o.lines s.feed ≡ false = over_so ∙ not_ended g.machine now ends g.feeds s s.feed g.machine.frame.subscriptions x0 b.state.numbers.unique found q in
           differs (shown g.machine x0.number) (shown now x0.number)
           (texts ∙ (ap (λ z. text_of g.feeds s x0.number z (difference (shown g.machine x0.number) (shown now x0.number))) q ∙ ap (λ i. change_told i (difference (shown g.machine x0.number) (shown now x0.number))) (sym same)))
           (ap (λ z. is_some (followed_by z own)) a.subs ∙ ap (λ z. is_some (option_map (λ (w : Sub). w.feed) z))
           (find_left (λ (w : Sub). own == w.own) (λ (w : Sub). not (ends_in o.lines w.feed)) c.subs s f (ap not goes)))
       by (Some why) q =
-          let over_now : ends_in o.lines s.feed ≡ true = ended ∙ ended_told s.feed g.machine now ends g.machine.frame.subscriptions x0 found (ap is_some q) in
+          let over_now : ends_in o.lines s.feed ≡ true = over_so ∙ ended_told s.feed g.machine now ends g.machine.frame.subscriptions x0 found (ap is_some q) in
           let none : shown now x0.number ≡ [] = gone x0 why fd.found q (ap (ends_in o.lines) (sym number) ∙ over_now) in
           let was : shown g.machine x0.number ≡ read_by g c own =
           ap (shown g.machine) (sym number) ∙ shown_read g b m c own s.feed x (ap (option_map (λ (w : Sub). w.feed)) f) in
