@@ -1,5 +1,5 @@
 -- Numbers, strings and digests as the journal spells them are read back.
-use Rattle.std.proofs.Common.{◌≡◌, ℕ, zero, suc, ◌<◌, ◌/◌, ◌%◌, ◌^◌, Bool, true, false, cond, ◌==◌, ◌||◌, List, [], ◌∷◌, length, Some, None, option_map, refl, ap, ◌∙◌, sym, arith}
+use Rattle.std.proofs.Common.{◌≡◌, ℕ, zero, suc, ◌<◌, ◌/◌, ◌%◌, ◌^◌, Bool, true, false, cond, ◌==◌, ◌||◌, List, [], ◌∷◌, length, Some, None, option_map, refl, ap, ◌∙◌, ◌≤◌, sym, append-nil, arith}
 use Rattle.std.specs.Prelude.{decimal, nat_lt, option_and_then}
 use Rattle.std.specs.Fmt.{digits, digits_onto, digit_glyph}
 use Rattle.std.specs.List.{list_all, slice_index}
@@ -14,16 +14,17 @@ use Rattle.hex.proofs.HexLemmas.{decode_of-encode_lower, decode_of-ok, decode_si
 use Rattle.json.specs.Token as token
 use Rattle.json.specs.Json as json
 use Rattle.json.specs.Lex.{tokens}
+use Rattle.json.specs.Tree.{depth, json_tokens}
 use Rattle.json.specs.Print.{ArePrintable, escape, quoted}
 use Rattle.json.proofs.Printed.Decimals.{IsNumber-decimal}
 use Rattle.json.proofs.Printed.Tokens.{tokens-print}
+use Rattle.json.proofs.Printed.Trees.{value-json_tokens}
 use Rattle.json.proofs.Printed.Utf8.{IsUtf8-quoted}
 use Rattle.serde_json.specs.Data.{number, string, unsigned}
 use Rattle.serde_json.specs.Find.{as_number, as_str, as_u64}
-use Rattle.serde_json.specs.Read.{read}
+use Rattle.serde_json.specs.Read.{max_depth, of_json, read}
 use Rattle.serde_json.proofs.Numbers.{number_of-decimal}
 use Rattle.serde_json.proofs.Texts.{print-outline}
-use Rattle.serde_json.proofs.Writing.{read_back}
 use Rattle.iv_message.specs.Message.{id_in}
 use Rattle.iv_request.specs.Reading.{value_of}
 use Rattle.iv_request.specs.Request.{passing}
@@ -32,6 +33,12 @@ use Rattle.iv_clients.specs.Names.{count_in, is_count}
 use Rattle.iv_clients.specs.Parsed.{digest_of_32, string_in}
 use Rattle.iv_clients.specs.Tokens.{decoded}
 use Rattle.iv_clients.proofs.Cuts.{HasNo, both_true, let_pass, none_passes}
+
+-- a text of the tokens of a value is read as that
+read_one : (text : List ℕ) (j : json.Json) → tokens text ≡ json_tokens j → depth j ≤ max_depth → read text ≡ of_json j
+read_one text j same shallow =
+    ap (λ ts. option_and_then of_json (option_and_then (λ (p : json.Json × List token.Token). json.if_last p.0 p.1) (json.value max_depth ts))) (same ∙ sym (append-nil (json_tokens j)))
+    ∙ ap (λ o. option_and_then of_json (option_and_then (λ (p : json.Json × List token.Token). json.if_last p.0 p.1) o)) (value-json_tokens j max_depth [] shallow)
 
 -- ---- numbers
 
@@ -43,7 +50,7 @@ read_number : (n : ℕ) → n < 2 ^ 64 → read (decimal n) ≡ Some (number (un
 read_number n h =
     let ts = token.number (decimal n) ∷ [] in
     let same : tokens (decimal n) ≡ ts = ap tokens (sym (print-outline (number (unsigned n)))) ∙ tokens-print ts (printable_number n h) in
-    read_back (number (unsigned n)) ts (decimal n) (json.number (decimal n), refl, ap (λ o. option_map number o) (number_of-decimal n h), omega arith, refl) same (omega arith)
+    read_one (decimal n) (json.number (decimal n)) same (omega arith) ∙ ap (option_map number) (number_of-decimal n h)
 
 value_of_number : (n : ℕ) → n < 2 ^ 64 → value_of (decimal n) ≡ Some (number (unsigned n))
 value_of_number n h =
@@ -90,7 +97,7 @@ read_string : (s : List ℕ) → read (quoted s) ≡ Some (string s)
 read_string s =
     let ts = token.string s ∷ [] in
     let same : tokens (quoted s) ≡ ts = ap tokens (sym (print-outline (string s))) ∙ tokens-print ts (printable_string s) in
-    read_back (string s) ts (quoted s) (json.string s, refl, refl, omega arith, refl) same (omega arith)
+    read_one (quoted s) (json.string s) same (omega arith)
 
 value_of_string : (s : List ℕ) → is_utf8 s ≡ true → value_of (quoted s) ≡ Some (string s)
 value_of_string s h = ap (λ b. cond b (read (quoted s)) None) (is_utf8-from_IsUtf8 (quoted s) (IsUtf8-quoted s (IsUtf8-from_is_utf8 s h))) ∙ read_string s

@@ -1,7 +1,8 @@
 //! `read_said`: what a client says, by which name, and the line that its entry has, which is without its id and its name.
-ghost use Rattle.std.specs.Prelude.{◌≡◌, ◌∷◌, IfOk, codes, Some, None, true, option_map};
+ghost use Rattle.std.specs.Prelude.{◌≡◌, ◌∷◌, ℕ, List, Option, IfOk, codes, Some, None, true, option_map};
 ghost use Rattle.iv_clients.specs.Journal.{Parts, begins_object, claim_said, first_id, id_in_front, is_blank, line_said, not_request, parts_of, said_by, said_in, unindented, with_front};
 ghost use Rattle.iv_rows.specs.Options.{if_some};
+ghost use Rattle.iv_clients.specs.Names as spec;
 ghost use Rattle.iv_clients.specs.Names.{claim_in};
 ghost use Rattle.iv_message.specs.Message.{is_well_message, wrong};
 ghost use Rattle.iv_message.specs.Seen.{id_data, said_of, why_of};
@@ -166,7 +167,8 @@ fn named_parts(
     line: Vec<u8>,
     scratch: &mut Scratch,
 ) -> Result<(Option<Claim>, Vec<u8>), AllocError>
-    ensures { IfOk result (λ p. (p.0, p.1.items) ≡ if_some (claim_in line.items) (None, line.items) (λ q. (Some q.0, q.1))) }
+    ensures { IfOk result (λ p. ◌≡◌ {A = Option spec.Claim × List ℕ} (p.0, p.1.items)
+        (if_some {B = Option spec.Claim × List ℕ} (claim_in line.items) (None, line.items) (λ q. (Some q.0, q.1)))) }
 {
     match claim_in(alloc, &line, scratch)? {
         Some((claim, rest)) => Ok((Some(claim), rest)),
