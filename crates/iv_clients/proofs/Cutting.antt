@@ -1,6 +1,7 @@
 -- Where bytes are cut.
 use Rattle.std.proofs.Common.{◌≡◌, ℕ, suc, ◌+◌, ◌≤◌, Bool, true, false, cond, List, [], ◌∷◌, ◌++◌, length, Option, Some, None, option_map, refl, ap, ◌∙◌, sym, arith, append_assoc, append-nil}
-use Rattle.std.specs.Prelude.{◌==◌}
+use Rattle.std.specs.Prelude.{◌==◌, ◌&&◌, not}
+use Rattle.iv_clients.specs.Parsed.{cut_quote}
 use Rattle.iv_clients.specs.Tokens.{cut_at}
 
 abbrev pub before : List ℕ → List ℕ × List ℕ → List ℕ × List ℕ
@@ -21,6 +22,18 @@ cut_later b x xs rest all h e = sym (before_more xs x (cut_at b rest)) ∙ (ap (
 -- it is
 pub cut_here : (b x : ℕ) (xs rest : List ℕ) (all : Option (List ℕ × List ℕ)) → (x == b) ≡ true → option_map (before xs) (cut_at b (x ∷ rest)) ≡ all → Some (xs, rest) ≡ all
 cut_here b x xs rest all h e = ap (λ z. Some (z, rest)) (sym (append-nil xs)) ∙ (ap (λ z. option_map (before xs) (cond z (Some ([], rest)) (option_map {U = List ℕ × List ℕ} (λ p. (x ∷ p.0, p.1)) (cut_at b rest)))) (sym h) ∙ e)
+
+-- so it is of quotation marks
+pub quote_later : (e : Bool) (x : ℕ) (xs rest : List ℕ) (all : Option (List ℕ × List ℕ)) → (not e && (x == 34)) ≡ false → option_map (before xs) (cut_quote e (x ∷ rest)) ≡ all
+    → option_map (before (xs ++ x ∷ [])) (cut_quote (not e && (x == 92)) rest) ≡ all
+quote_later e x xs rest all h k =
+    sym (before_more xs x (cut_quote (not e && (x == 92)) rest))
+    ∙ (ap (λ z. option_map (before xs) (cond z (Some ([], rest)) (option_map {U = List ℕ × List ℕ} (λ p. (x ∷ p.0, p.1)) (cut_quote (not e && (x == 92)) rest)))) (sym h) ∙ k)
+
+pub quote_here : (e : Bool) (x : ℕ) (xs rest : List ℕ) (all : Option (List ℕ × List ℕ)) → (not e && (x == 34)) ≡ true → option_map (before xs) (cut_quote e (x ∷ rest)) ≡ all → Some (xs, rest) ≡ all
+quote_here e x xs rest all h k =
+    ap (λ z. Some (z, rest)) (sym (append-nil xs))
+    ∙ (ap (λ z. option_map (before xs) (cond z (Some ([], rest)) (option_map {U = List ℕ × List ℕ} (λ p. (x ∷ p.0, p.1)) (cut_quote (not e && (x == 92)) rest)))) (sym h) ∙ k)
 
 same_pair : (a b : List ℕ × List ℕ) → Some a ≡ Some b → a ≡ b
 same_pair a b h = cc

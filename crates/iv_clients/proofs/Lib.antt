@@ -1,5 +1,11 @@
 pub mod Counting
 pub mod Cutting
-pub mod Naming
+pub mod Calling
 pub mod Lines
 pub mod Slots
+pub mod Cuts
+pub mod Spelling
+pub mod Rereading
+pub mod Recording
+pub mod Filling
+pub mod Claiming

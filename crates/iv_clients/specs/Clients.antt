@@ -4,11 +4,11 @@ use Rattle.std.specs.List.{list_any}
 use Rattle.iv_rows.specs.Options.{if_some}
 use Rattle.iv_access.specs.Rights.{Name}
 use Rattle.iv_machine.specs.Act.{Line, reply, change, ended}
-use Rattle.iv_message.specs.Told.{Told, welcome, changed, over, settled, alive, told_text}
+use Rattle.iv_message.specs.Told.{Told, welcome, placed, changed, over, settled, alive, told_text}
 use Rattle.iv_clients.specs.Bounds.{most_requests, most_waiting, most_piled}
 use Rattle.iv_clients.specs.Feeds.{Feed, ends_in, rel_read}
 use Rattle.iv_clients.specs.Journal.{Entry, shape_for}
-use Rattle.iv_clients.specs.Tokens.{Token, role_opened}
+use Rattle.iv_clients.specs.Tokens.{Token, token_of}
 
 -- what a client is told, with the entries that its text may show, and whether it comes of the client's own token or message
 pub record Shown : Type 0 where
@@ -21,12 +21,13 @@ pub record Sub : Type 0 where
   pub own : ℕ
   pub feed : ℕ
 
--- `digest` is the SHA-256 of the token that it presented. `given` is the last of its own numbers; `subs` has those that are open.
+-- `user` holds its token, and `digest` is the SHA-256 of that. `given` is the last of its own numbers; `subs` has those that are open.
 -- `unsynced` waits for the journal; `sendable` may be handed to its socket. `asked` counts its messages since text was handed to it.
 -- `owed`: in this event it was told something, and not that this is all. `dropped`: it is to go. The code has no memory of the rest: its
 -- messages, and what was handed to it, message by message.
 pub record Client : Type 0 where
   pub role : Name
+  pub user : List ℕ
   pub digest : List ℕ
   pub given : ℕ
   pub subs : List Sub
@@ -38,18 +39,18 @@ pub record Client : Type 0 where
   pub messages : List (List ℕ)
   pub handed : List (List Shown)
 
--- what a client that comes in is told: its role, the shape if it is an administrator, and that this is all
-abbrev pub greeting : List Entry → Name → List Told
-greeting es role = welcome role ∷ (shape_for role es ++ settled ∷ [])
+-- what a client that comes in is told: its role, where its holder's names stand, the shape if it is an administrator, and that this is all
+abbrev pub greeting : List Entry → Name → (at : List ℕ) → List Told
+greeting es role at = welcome role ∷ placed at ∷ (shape_for role es ++ settled ∷ [])
 
 -- a client that was told nothing
-abbrev pub untold : Name → List ℕ → Client
-untold role d =
-    record { role = role; digest = d; given = 0; subs = []; unsynced = []; sendable = []; asked = 0; owed = false; dropped = false; messages = []; handed = [] }
+abbrev pub untold : Token → Client
+untold t =
+    record { role = t.role; user = t.user; digest = t.digest; given = 0; subs = []; unsynced = []; sendable = []; asked = 0; owed = false; dropped = false; messages = []; handed = [] }
 
 -- a client that comes in, when these entries are accepted: it is told its greeting, which comes of its own token
-abbrev pub fresh : List Entry → Name → List ℕ → Client
-fresh es role digest = record (untold role digest) { unsynced = map (λ t. record { told = t; entries = es; answers = true }) (greeting es role) }
+abbrev pub fresh : List Entry → Token → (at : List ℕ) → Client
+fresh es t at = record (untold t) { unsynced = map (λ t. record { told = t; entries = es; answers = true }) (greeting es t.role at) }
 
 -- all that it was told, in order
 abbrev pub all_shown : Client → List Shown
@@ -155,9 +156,9 @@ released c = if c.dropped || is_slow c then dropping c else record c { unsynced 
 abbrev pub handing : Client → Client
 handing c = if length c.sendable == 0 then c else record c { sendable = []; asked = 0; handed = c.handed ++ c.sendable ∷ [] }
 
--- its token opens its role
+-- its token opens its role, and is its user's
 abbrev pub opens : List Token → Client → Bool
-opens tokens c = if_some (role_opened tokens c.digest) false (bytes_eq c.role)
+opens tokens c = if_some (token_of tokens c.digest) false (λ t. bytes_eq c.role t.role && bytes_eq c.user t.user)
 
 -- whose token does not is to go
 abbrev pub checked : List Token → Client → Client

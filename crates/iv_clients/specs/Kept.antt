@@ -8,11 +8,12 @@ use Rattle.iv_message.specs.Told.{Told, told_text}
 use Rattle.iv_clients.specs.Bounds.{most_piled, most_requests, most_waiting}
 use Rattle.iv_clients.specs.Clients.{Client, Slots, Sub, by_others, moved_sub, text_shown}
 use Rattle.iv_clients.specs.Feeds.{ends_in}
-use Rattle.iv_clients.specs.Tokens.{Token, role_opened}
+use Rattle.iv_clients.specs.Tokens.{Token, token_of}
 
 -- text is kept as bytes, and what others brought is counted: `brought` of what is unsynced, `piled` of what is sendable
 pub record Kept : Type 0 where
   pub role : Name
+  pub user : List ℕ
   pub digest : List ℕ
   pub given : ℕ
   pub subs : List Sub
@@ -27,6 +28,7 @@ pub record Kept : Type 0 where
 abbrev pub kept : Client → Kept
 kept c = record {
   role = c.role;
+  user = c.user;
   digest = c.digest;
   given = c.given;
   subs = c.subs;
@@ -45,9 +47,10 @@ Places = List (Option Kept)
 abbrev pub kept_slots : Slots → Places
 kept_slots slots = map (option_map kept) slots
 
-abbrev pub coming : Name → List ℕ → List ℕ → Kept
-coming role digest text = record {
+abbrev pub coming : (role : Name) → (user digest text : List ℕ) → Kept
+coming role user digest text = record {
   role = role;
+  user = user;
   digest = digest;
   given = 0;
   subs = [];
@@ -132,4 +135,4 @@ abbrev pub emptied : Kept → Kept
 emptied k = if length k.sendable == 0 then k else record k { sendable = []; asked = 0; piled = 0 }
 
 abbrev pub checking : List Token → Kept → Kept
-checking tokens k = if if_some (role_opened tokens k.digest) false (bytes_eq k.role) then k else letting_go k
+checking tokens k = if if_some (token_of tokens k.digest) false (λ t. bytes_eq k.role t.role && bytes_eq k.user t.user) then k else letting_go k

@@ -6,14 +6,18 @@ use Rattle.hex.specs.declared.error.FromHexError.{FromHexError}
 use Rattle.iv_rows.specs.Names.{is_name}
 use Rattle.iv_access.specs.Rights.{Name}
 
--- the SHA-256 of a token, and the role that it opens
+-- the SHA-256 of a token, the role that it opens, and who holds it; of a token without a holder no text
 pub record Token : Type 0 where
   pub digest : List ℕ
   pub role : Name
+  pub user : List ℕ
+
+abbrev pub token_of : List Token → List ℕ → Option Token
+token_of tokens digest = find (λ t. bytes_eq t.digest digest) tokens
 
 -- the role that the token of a digest opens
 abbrev pub role_opened : List Token → List ℕ → Option Name
-role_opened tokens digest = option_map (λ t. t.role) (find (λ t. bytes_eq t.digest digest) tokens)
+role_opened tokens digest = option_map (λ t. t.role) (token_of tokens digest)
 
 -- ---- the file: lines of TOML, `[tokens]` and then `"DIGEST" = "role"`
 
@@ -45,7 +49,7 @@ role_in role = if is_name role then Some role else None
 
 -- a digest has 32 bytes
 abbrev pub token_with : Name → List ℕ → Option Token
-token_with role digest = if length digest == 32 then Some (record { digest = digest; role = role }) else None
+token_with role digest = if length digest == 32 then Some (record { digest = digest; role = role; user = [] }) else None
 
 abbrev pub token_in : List ℕ → Option Token
 token_in line = option_and_then (λ (p : List ℕ × List ℕ).

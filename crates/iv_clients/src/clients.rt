@@ -6,7 +6,7 @@ ghost use Rattle.iv_clients.specs.Feeds.{ends_in};
 ghost use Rattle.iv_clients.specs.Kept.{asking, checking, coming, emptied, holding, holding_beat, holding_owed, is_following, is_told, keeping_closed, keeping_moved, keeping_new, keeping_on, letting_go, may_ask, releasing, answering};
 
 use crate::feeds::ends_in;
-use crate::tokens::{Token, role_opened};
+use crate::tokens::{Token, token_of};
 use iv_command::Line;
 use std::alloc::{AllocError, Global};
 use std::marker::Model;
@@ -68,6 +68,8 @@ impl Sub {
 pub struct Client {
     /// The role that its token opens.
     role: String,
+    /// Whom its token says, if it says anyone: else no text.
+    user: String,
     /// The SHA-256 digest of its token, in bytes.
     digest: Vec<u8>,
     /// The last number of a subscription that it was given.
@@ -96,7 +98,7 @@ impl Model for Client {
 
     ghost Value = { Kept };
 
-    ghost view = { λ c. record { role = string_bytes c.role; digest = c.digest.items; given = c.given; subs = c.subs.items; unsynced = c.unsynced.items; sendable = c.sendable.items; asked = c.asked; brought = c.brought; piled = c.piled; owed = c.owed; dropped = c.dropped } };
+    ghost view = { λ c. record { role = string_bytes c.role; user = string_bytes c.user; digest = c.digest.items; given = c.given; subs = c.subs.items; unsynced = c.unsynced.items; sendable = c.sendable.items; asked = c.asked; brought = c.brought; piled = c.piled; owed = c.owed; dropped = c.dropped } };
 }
 
 /// What followed one feed follows another.
@@ -124,11 +126,12 @@ fn drop_ended_in(subs: &mut Vec<Sub>, lines: &[Line])
 
 impl Client {
     /// A client who comes in, and the text that it is told of its token.
-    pub fn new(alloc: Global, role: String, digest: Vec<u8>, text: Vec<u8>) -> Client
-        ensures { result ≡ coming (string_bytes role) digest.items text.items }
+    pub fn new(alloc: Global, role: String, user: String, digest: Vec<u8>, text: Vec<u8>) -> Client
+        ensures { result ≡ coming (string_bytes role) (string_bytes user) digest.items text.items }
     {
         Client {
             role,
+            user,
             digest,
             given: 0,
             subs: Vec::new(alloc),
@@ -147,6 +150,13 @@ impl Client {
         ensures { result.now ≡ self.now.role }
     {
         self.role.as_str()
+    }
+
+    /// Who holds its token: no text where that is not said.
+    pub fn user(&self) -> &str
+        ensures { result.now ≡ self.now.user }
+    {
+        self.user.as_str()
     }
 
     /// The SHA-256 of its token.
@@ -361,9 +371,10 @@ impl Client {
     pub fn check(&mut self, tokens: &[Token])
         ensures { self.new ≡ checking tokens.now self.old }
     {
-        let opens = match role_opened(tokens, &self.digest) {
+        let opens = match token_of(tokens, &self.digest) {
             None => false,
-            Some(role) => self.role.as_str() == role,
+            Some(token) => self.role.as_str() == token.role.as_str()
+                && self.user.as_str() == token.user.as_str(),
         };
         if !opens {
             self.let_go();

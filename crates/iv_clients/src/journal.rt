@@ -1,10 +1,10 @@
-//! The lines of a journal: `push_entry` writes an entry, `entry_in` reads it; `cut_at` cuts bytes.
+//! The texts of a journal: `push_request` writes a request, `request_in` reads it; `cut_at` cuts bytes.
 ghost use Rattle.std.specs.Prelude.{◌≡◌, ◌==◌, if◌then◌else◌, ◌++◌, ℕ, List, Option, Some, IfOk, IfSome, OnOk, option_map, string_bytes, true};
 ghost use Rattle.iv_rows.specs.Names.{is_name};
 ghost use Rattle.iv_command.specs.Views.{act_of};
-ghost use Rattle.iv_clients.specs.Journal.{is_shape, is_shared};
+ghost use Rattle.iv_clients.specs.Journal.{has_newline, is_shape, is_shared};
 ghost use Rattle.iv_clients.specs.Tokens.{behind, cut_at};
-ghost use Rattle.iv_clients.specs.Parsed.{entry_in, entry_parts, text_of_entry};
+ghost use Rattle.iv_clients.specs.Parsed.{request_in, request_parts, text_of_request};
 
 use iv_command::Act;
 use iv_rows::name_ok;
@@ -27,15 +27,21 @@ pub fn is_shape(act: &Act) -> bool
     is_shared(act) && !matches!(act, Act::Write { .. })
 }
 
-/// Appends the line of an entry.
-pub fn push_entry(pending: &mut Vec<u8>, role: &str, line: &[u8]) -> Result<(), AllocError>
-    ensures { OnOk result (pending.new.items ≡ pending.old.items ++ text_of_entry role.now line.now) }
+/// Whether there is a newline.
+pub(crate) fn has_newline(text: &[u8]) -> bool
+    ensures { result ≡ has_newline text.now }
 {
-    pending.extend_from_slice(b"{\"as\":\"")?;
-    pending.extend_from_slice(role.as_bytes())?;
-    pending.extend_from_slice(b"\",")?;
-    pending.extend_from_slice(line.get(1..).unwrap_or(&[]))?;
-    pending.push(b'\n')?;
+    text.iter().any(|byte| *byte == b'\n')
+}
+
+/// Appends the text of a request.
+pub fn push_request(text: &mut Vec<u8>, role: &str, line: &[u8]) -> Result<(), AllocError>
+    ensures { OnOk result (text.new.items ≡ text.old.items ++ text_of_request role.now line.now) }
+{
+    text.extend_from_slice(b"\"as\":\"")?;
+    text.extend_from_slice(role.as_bytes())?;
+    text.extend_from_slice(b"\",")?;
+    text.extend_from_slice(line.get(1..).unwrap_or(&[]))?;
     Ok(())
 }
 
@@ -62,22 +68,22 @@ pub fn behind<'a>(bytes: &'a [u8], prefix: &[u8]) -> Option<&'a [u8]>
     if front == prefix { Some(rest) } else { None }
 }
 
-/// The role of a line, and the message after it without its brace.
-fn entry_parts(line: &[u8]) -> Option<(&[u8], &[u8])>
-    ensures { option_map (λ p. (p.0.now, p.1.now)) result ≡ entry_parts line.now }
+/// The role of a text, and the message after it without its brace.
+fn request_parts(line: &[u8]) -> Option<(&[u8], &[u8])>
+    ensures { option_map (λ p. (p.0.now, p.1.now)) result ≡ request_parts line.now }
 {
-    let rest = behind(line, b"{\"as\":\"")?;
+    let rest = behind(line, b"\"as\":\"")?;
     let (role, rest) = cut_at(rest, b'"')?;
     let rest = behind(rest, b",")?;
     Some((role, rest))
 }
 
-/// The role and the message of a line that is an entry.
-pub fn entry_in(alloc: Global, line: &[u8]) -> Result<Option<(String, Vec<u8>)>, AllocError>
-    ensures entry { IfOk result (λ o. option_map (λ p. (string_bytes p.0, p.1.items)) o ≡ entry_in line.now) }
+/// The role and the message of a text that is a request.
+pub fn request_in(alloc: Global, line: &[u8]) -> Result<Option<(String, Vec<u8>)>, AllocError>
+    ensures entry { IfOk result (λ o. option_map (λ p. (string_bytes p.0, p.1.items)) o ≡ request_in line.now) }
     ensures name { IfOk result (λ o. IfSome o (λ p. is_name (string_bytes p.0) ≡ true)) }
 {
-    let Some((role, rest)) = entry_parts(line) else {
+    let Some((role, rest)) = request_parts(line) else {
         return Ok(None);
     };
     let Ok(role) = str::from_utf8(role) else {

@@ -1,16 +1,20 @@
-//! `read_said`: what a client says, and the line that its entry has, which is without its id.
-ghost use Rattle.std.specs.Prelude.{◌≡◌, ◌∷◌, IfOk, codes, Some, None, true, option_map};
-ghost use Rattle.iv_clients.specs.Journal.{Parts, begins_object, first_id, id_in_front, is_blank, line_said, not_request, parts_of, said_by, said_in, unindented, with_front};
+//! `read_said`: what a client says, by which name, and the line that its entry has, which is without its id and its name.
+ghost use Rattle.std.specs.Prelude.{◌≡◌, ◌∷◌, ℕ, List, Option, IfOk, codes, Some, None, true, option_map};
+ghost use Rattle.iv_clients.specs.Journal.{Parts, begins_object, claim_said, first_id, id_in_front, is_blank, line_said, not_request, parts_of, said_by, said_in, unindented, with_front};
+ghost use Rattle.iv_rows.specs.Options.{if_some};
+ghost use Rattle.iv_clients.specs.Names as spec;
+ghost use Rattle.iv_clients.specs.Names.{claim_in};
 ghost use Rattle.iv_message.specs.Message.{is_well_message, wrong};
 ghost use Rattle.iv_message.specs.Seen.{id_data, said_of, why_of};
 
 use crate::journal::{behind, cut_at};
+use crate::names::{Claim, claim_in};
 use iv_message::{Id, Message, Why, on_one_line, read_id, read_message};
 use json::Scratch;
 use std::alloc::{AllocError, Global};
 
 /// The most bytes of a message.
-const MOST_SAID: usize = 65_463;
+pub(crate) const MOST_SAID: usize = 65_463;
 
 fn is_blank(byte: u8) -> bool
     ensures { result ≡ is_blank byte }
@@ -41,7 +45,7 @@ fn begins_object(text: &[u8]) -> bool
 }
 
 /// A text after a brace.
-fn with_brace(alloc: Global, rest: &[u8]) -> Result<Vec<u8>, AllocError>
+pub(crate) fn with_brace(alloc: Global, rest: &[u8]) -> Result<Vec<u8>, AllocError>
     ensures { IfOk result (λ line. line.items ≡ 123 ∷ rest.now) }
 {
     let mut line = Vec::new(alloc);
@@ -157,24 +161,56 @@ fn said_in(
     }
 }
 
-/// What a client says, and the line that its entry has.
+/// The name in front of a line, if there is one, and the line without it.
+fn named_parts(
+    alloc: Global,
+    line: Vec<u8>,
+    scratch: &mut Scratch,
+) -> Result<(Option<Claim>, Vec<u8>), AllocError>
+    ensures { IfOk result (λ p. ◌≡◌ {A = Option spec.Claim × List ℕ} (p.0, p.1.items)
+        (if_some {B = Option spec.Claim × List ℕ} (claim_in line.items) (None, line.items) (λ q. (Some q.0, q.1)))) }
+{
+    match claim_in(alloc, &line, scratch)? {
+        Some((claim, rest)) => Ok((Some(claim), rest)),
+        None => Ok((None, line)),
+    }
+}
+
+/// What a client says: the message, its name if it has one, and the line that its entry has.
+#[derive(Drop)]
+pub struct Said {
+    /// The message, with its id.
+    pub message: Message,
+    /// Its name.
+    pub claim: Option<Claim>,
+    /// The line, without its id and its name.
+    pub line: Vec<u8>,
+}
+
+/// Reads what a client says.
 ///
 /// # Errors
 /// `AllocError` if a growth of memory was refused.
-pub fn read_said(
-    alloc: Global,
-    text: &[u8],
-    scratch: &mut Scratch,
-) -> Result<(Message, Vec<u8>), AllocError>
-    ensures message { IfOk result (λ s. said_of s.0 ≡ said_by text.now) }
-    ensures well { IfOk result (λ s. is_well_message (said_of s.0) ≡ true) }
-    ensures line { IfOk result (λ s. s.1.items ≡ line_said text.now) }
+pub fn read_said(alloc: Global, text: &[u8], scratch: &mut Scratch) -> Result<Said, AllocError>
+    ensures message { IfOk result (λ s. said_of s.message ≡ said_by text.now) }
+    ensures well { IfOk result (λ s. is_well_message (said_of s.message) ≡ true) }
+    ensures claim { IfOk result (λ s. s.claim ≡ claim_said text.now) }
+    ensures line { IfOk result (λ s. s.line.items ≡ line_said text.now) }
 {
     let all = on_one_line(alloc, text)?;
-    let (front, line) = parts_of(alloc, unindented(&all), scratch)?;
+    let (front, rest) = parts_of(alloc, unindented(&all), scratch)?;
+    let (claim, line) = named_parts(alloc, rest, scratch)?;
     if text.len() > MOST_SAID {
-        return Ok((Message::TooLong, line));
+        return Ok(Said {
+            message: Message::TooLong,
+            claim,
+            line,
+        });
     }
     let message = said_in(alloc, front, &line, scratch)?;
-    Ok((message, line))
+    Ok(Said {
+        message,
+        claim,
+        line,
+    })
 }

@@ -1,6 +1,6 @@
 //! `role_opened`: which role a token opens; `read_tokens`: the tokens of a file.
-ghost use Rattle.std.specs.Prelude.{◌≡◌, ◌⊎◌, ◌∷◌, if◌then◌else◌, ℕ, List, [], None, Some, Err, IfOk, option_map, find, bytes_eq, true, false};
-ghost use Rattle.iv_clients.specs.Tokens.{Token, are_apart, digest_in, has_digest, is_no_token, lines_of, role_in, role_opened, token_in, token_parts, tokens_in, tokens_of};
+ghost use Rattle.std.specs.Prelude.{◌≡◌, ◌⊎◌, ◌∷◌, if◌then◌else◌, ℕ, List, [], None, Some, Err, IfOk, option_map, true, false};
+ghost use Rattle.iv_clients.specs.Tokens.{Token, are_apart, digest_in, has_digest, is_no_token, lines_of, role_in, role_opened, token_in, token_of, token_parts, tokens_in, tokens_of};
 ghost use Rattle.iv_clients.specs.Parsed.{behind_tokens, tokens_read};
 
 use crate::journal::{behind, cut_at};
@@ -9,13 +9,15 @@ use iv_rows::name_ok;
 use std::alloc::{AllocError, Global};
 use std::marker::Model;
 
-/// The SHA-256 of a token, and the role that it opens.
+/// The SHA-256 of a token, the role that it opens, and who holds it.
 #[derive(Drop)]
 pub struct Token {
     /// 32 bytes.
     pub digest: Vec<u8>,
     /// The role's name.
     pub role: String,
+    /// Who holds it: no text where that is not said.
+    pub user: String,
 }
 
 impl Model for Token {
@@ -24,12 +26,12 @@ impl Model for Token {
 
     ghost Value = { Token };
 
-    ghost view = { λ t. record { digest = t.digest.items; role = string_bytes t.role } };
+    ghost view = { λ t. record { digest = t.digest.items; role = string_bytes t.role; user = string_bytes t.user } };
 }
 
 /// The first token that has a digest.
-fn token_of<'a>(tokens: &'a [Token], digest: &[u8]) -> Option<&'a Token>
-    ensures { option_map (λ t. t.now) result ≡ find (λ t. bytes_eq t.digest digest.now) tokens.now }
+pub fn token_of<'a>(tokens: &'a [Token], digest: &[u8]) -> Option<&'a Token>
+    ensures { option_map (λ t. t.now) result ≡ token_of tokens.now digest.now }
 {
     tokens
         .iter()
@@ -114,7 +116,11 @@ fn token_in(alloc: Global, line: &[u8]) -> Result<Option<Token>, AllocError>
         return Ok(None);
     }
     let role = String::from_str(alloc, role)?;
-    Ok(Some(Token { digest, role }))
+    Ok(Some(Token {
+        digest,
+        role,
+        user: String::new(alloc),
+    }))
 }
 
 /// Whether a line names the table, is a remark, or nothing.

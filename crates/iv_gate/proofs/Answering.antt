@@ -1,6 +1,6 @@
 -- Each client is welcomed and answered, and what it closes or is told to end is over.
 use Rattle.std.proofs.Common.{◌≡◌, ℕ, zero, suc, ◌+◌, ◌⊎◌, inl, inr, Bool, true, false, cond, ◌||◌, List, [], ◌∷◌, ◌++◌, length, drop, Option, Some, None, option_map, refl, ap, ◌∙◌, sym, subst, append-nil, arith}
-use Rattle.std.specs.Prelude.{◌==◌, ◌&&◌, Contains, filter, find, nat_lt, slice_get}
+use Rattle.std.specs.Prelude.{◌==◌, ◌&&◌, Contains, filter, find, nat_lt, slice_get, codes, is_some}
 use Rattle.std.specs.List.{list_any}
 use Rattle.std.proofs.lemmas.Bool.{false≢true, eqb-true}
 use Rattle.std.proofs.lemmas.List.{length-append}
@@ -9,25 +9,29 @@ use Rattle.serde_json.specs.Data.{Data}
 use Rattle.iv_rows.specs.Columns.{Column}
 use Rattle.iv_rows.specs.Options.{if_some}
 use Rattle.iv_access.specs.Rights.{Name}
-use Rattle.iv_machine.specs.Act.{Act, begin, finish, create_role, create_table, create_view, grant, revoke, grant_role, revoke_role, row_security, create_policy, drop_policy, subscribe, unsubscribe, write, Reply, done, subscribed, refused, no_session, too_many, unknown_subscription, limit}
+use Rattle.iv_machine.specs.Act.{Act, begin, finish, create_role, create_table, create_view, grant, revoke, grant_role, revoke_role, row_security, create_policy, drop_policy, subscribe, unsubscribe, write, Reply, done, subscribed, refused, too_many, unknown_subscription}
 use Rattle.iv_machine.specs.State.{State}
-use Rattle.iv_message.specs.Message.{Message, no_json, too_long, no_object, no_request, request}
-use Rattle.iv_message.specs.Told.{Told, welcome, replied, opened, settled}
+use Rattle.iv_message.specs.Message.{Message, no_json, too_long, no_object, no_request, request, unknown}
+use Rattle.iv_message.specs.Told.{Told, welcome, replied, opened, settled, placed, unasked}
 use Rattle.iv_clients.specs.Bounds.{most_subs}
 use Rattle.iv_clients.specs.Clients.{Client, Sub, answered, at_client, client_at, closing, followed_by, fresh, may_say, saying, told, told_one}
-use Rattle.iv_clients.specs.Feeds.{Feed, feed_for, room_for, seat_of}
-use Rattle.iv_clients.specs.Journal.{Entry, said_by, shape_for}
+use Rattle.iv_clients.specs.Feeds.{Feed, feed_for, room_for}
+use Rattle.iv_clients.specs.Journal.{Entry, said_by, shape_for, Request, claim_said}
 use Rattle.iv_clients.proofs.Slots.{at_same, one_some, some_is_none}
-use Rattle.iv_gate.specs.Events.{Event, presented, message, gone, known, ticked, synced, handed, failed, happens, next}
-use Rattle.iv_gate.specs.Gate.{Gate, begun_for, closes, done_for, hears, in_session, reply_to, seated, settles, swept, tells, has_shape_room}
+use Rattle.iv_gate.specs.Events.{Event, presented, message, gone, known, ticked, synced, handed, failed, happens, next, arrived, forgave}
+use Rattle.iv_gate.specs.Gate.{Gate, begun_for, closes, done_for, hears, seated, settles, swept, tells, asked_by, at_text, decided_elsewhere, entered, entries_of, may_have, names_of, reply_told}
 use Rattle.iv_gate.specs.Replies.{IsAnswered, IsClient, heard_by, is_opened, is_reply, reading_told, replies, told_by}
 use Rattle.iv_gate.specs.Seen.{IsClosed, has_ended, is_end_of}
 use Rattle.iv_gate.proofs.Growing.{drop_front}
 use Rattle.iv_gate.proofs.Places.{any_before, any_behind, get_last, get_more, none_opened, none_passes, replies_both, none_replied}
 use Rattle.iv_gate.proofs.Hearing.{Hears, ends_for, happens_apart, hears_same, is_own}
-use Rattle.iv_gate.proofs.Replying.{Answer, Behind, IsClosing, act_reply, asked, begun_reply, behind_settles, behind_swept, closed_own, first_reply, heard_answers, other_reply, read_reply, said_reply}
+use Rattle.iv_gate.proofs.Replying.{Answer, Behind, IsClosing, act_reply, asked, begun_reply, behind_settles, behind_swept, closed_own, first_reply, heard_answers, read_reply, said_reply, carried_reply, decided_reply, done_reply, shared_reply, verdict_reply}
 use Rattle.iv_gate.proofs.Touching.{alive as is_alive, is_gone, rests, touched}
 use Rattle.iv_gate.proofs.Shaping.{all_made, filter_none, told_fresh, test_of}
+use Rattle.iv_once.specs.Names.{Ask, Verdict, verdict, carry, again, another, late, foreign, ahead, over}
+use Rattle.iv_clients.specs.Names.{Claim}
+use Rattle.iv_clients.specs.Tokens.{Token}
+use Rattle.iv_gate.proofs.Stepping.{request_of}
 
 -- ---- what an event tells
 
@@ -52,10 +56,12 @@ heard_is m c (known tokens) text h = absurd (some_is_none text (sym h))
 heard_is m c ticked text h = absurd (some_is_none text (sym h))
 heard_is m c synced text h = absurd (some_is_none text (sym h))
 heard_is m c (handed n) text h = absurd (some_is_none text (sym h))
+heard_is m c (arrived st) text h = absurd (some_is_none text (sym h))
+heard_is m c forgave text h = absurd (some_is_none text (sym h))
 heard_is m c failed text h = absurd (some_is_none text (sym h))
 
 abbrev pub OwnAnswer : Gate → ℕ → Client → List ℕ → Client → Type 0
-OwnAnswer g m c text d = Answer (asked g m text) (said_by text) (said_reply (asked g m text) c (said_by text)) (saying text c) d
+OwnAnswer g m c text d = Answer (asked g m text) (said_by text) (said_reply (asked g m text) c text (said_by text)) (saying text c) d
 
 pub heard_next : (g : Gate) (e : Event) (m : ℕ) (c : Client) (text : List ℕ) → g.dead ≡ false → client_at g.clients m ≡ Some c → IsOwn m c e text → next g e ≡ hears g m c text
 heard_next g e m c text live h o =
@@ -75,8 +81,8 @@ other_hears g e m c d live h k s u = happens_apart g e m c d h (ap (λ (x : Gate
 pub others_told : (g : Gate) (e : Event) (m : ℕ) (c d : Client) → g.dead ≡ false → IsClient g m c → IsClient (next g e) m d → heard_by m c e ≡ None → replies (told_by c d) ≡ []
 others_told g e m c d live a b u = let x = other_hears g e m c d live a.there b.there b.stays u in ap replies (drop_text c d x.more x.text) ∙ x.quiet
 
-pub own_told : (g : Gate) (m : ℕ) (c : Client) (text : List ℕ) (d : Client) (x : OwnAnswer g m c text d) → told_by c d ≡ x.before ++ said_reply (asked g m text) c (said_by text) ∷ x.others
-own_told g m c text d x = drop_text c d (x.before ++ said_reply (asked g m text) c (said_by text) ∷ x.others) x.text
+pub own_told : (g : Gate) (m : ℕ) (c : Client) (text : List ℕ) (d : Client) (x : OwnAnswer g m c text d) → told_by c d ≡ x.before ++ said_reply (asked g m text) c text (said_by text) ∷ x.others
+own_told g m c text d x = drop_text c d (x.before ++ said_reply (asked g m text) c text (said_by text) ∷ x.others) x.text
 
 -- ---- what is closed is followed no more
 
@@ -124,8 +130,8 @@ closes_at g m c text id own d h k = by (followed_by c.subs own) refl k
 
 -- behind a message that closes a number it has it no more
 closes_own : (g : Gate) (e : Event) (m : ℕ) (c d : Client) (text : List ℕ) (id : Option Data) (own : ℕ) → g.dead ≡ false → client_at g.clients m ≡ Some c → client_at (next g e).clients m ≡ Some d → IsOwn m c e text
-    → said_by text ≡ request id (unsubscribe own) → is_own own d.subs ≡ false
-closes_own g e m c d text id own live a b u s = marked (client_at (settles did).clients m) refl there
+    → said_by text ≡ request id (unsubscribe own) → may_have (claim_said text) (unsubscribe own) ≡ true → is_own own d.subs ≡ false
+closes_own g e m c d text id own live a b u s w = marked (client_at (settles did).clients m) refl there
   where
     h : Gate
     h = asked g m text
@@ -139,17 +145,18 @@ closes_own g e m c d text id own live a b u s = marked (client_at (settles did).
     marked : (o : Option Client) → client_at (settles did).clients m ≡ o → option_map (answered c) o ≡ Some d → is_own own d.subs ≡ false
     marked None f k = absurd (some_is_none d (sym k))
     marked (Some x) f k = subst (λ (y : Client). is_own own y.subs ≡ false) (one_some (answered c x) d k)
-        (closes_at h m c text id own x (at_same m (saying text) g.clients ∙ ap (option_map (saying text)) a) (ap (λ z. client_at (settles (done_for h m c text z)).clients m) (sym s) ∙ f))
+        (closes_at h m c text id own x (at_same m (saying text) g.clients ∙ ap (option_map (saying text)) a)
+        (sym (ap (λ t. client_at (settles (cond t (closes h m c id own) (tells h m (unasked id (unknown (codes "once")))))).clients m) w) ∙ (ap (λ z. client_at (settles (done_for h m c text z)).clients m) (sym s) ∙ f)))
 
 -- ---- an invariant of clients, by what happens to them
 
--- where it closes a number by the text, it has it no more
+-- where it closes a number by the text, which has no name, it has it no more
 abbrev pub Closes : List ℕ → Client → Type 0
-Closes text d = (id : Option Data) (own : ℕ) → said_by text ≡ request id (unsubscribe own) → is_own own d.subs ≡ false
+Closes text d = (id : Option Data) (own : ℕ) → said_by text ≡ request id (unsubscribe own) → may_have (claim_said text) (unsubscribe own) ≡ true → is_own own d.subs ≡ false
 
 -- how a client comes to be what it is behind an event
 pub record Came (P : Client → Type 0) : Type 0 where
-  pub new : (es : List Entry) (role : Name) (digest : List ℕ) → P (fresh es role digest)
+  pub new : (es : List Entry) (t : Token) (at : List ℕ) → P (fresh es t at)
   pub hears : (c d : Client) → Hears c d → P c → P d
   pub answers : (g : Gate) (m : ℕ) (c : Client) (text : List ℕ) (d : Client) → OwnAnswer g m c text d → Closes text d → P c → P d
 
@@ -176,7 +183,7 @@ came_next P k g e before m d b = by g.dead refl
         k.answers g m c text d (own_answer g e m c d text live h b.there o) (λ id own. closes_own g e m c d text id own live h b.there o) (before m c (record { there = h; stays = s }))
 
     there : g.dead ≡ false → (o : Option Client) → client_at g.clients m ≡ o → P d
-    there live None h = let x = (touched g e live).comes m d h b.there in subst P (sym x.is) (k.new (next g e).entries d.role _)
+    there live None h = let x = (touched g e live).comes m d h b.there in subst P (sym x.is) (k.new (next g e).entries x.token (at_text (next g e) x.token))
     there live (Some c) h = heard live c h (was_there g e m c d live h b) (heard_by m c e) refl
 
     by : (t : Bool) → g.dead ≡ t → P d
@@ -206,37 +213,59 @@ read_is g c id rel = by (nat_lt (length c.subs) most_subs) (feed_for g.feeds c.r
     by true (Some f) = reading_is g.machine c id f.rel _
     by false o = refl
 
-other_is : (g : Gate) (c : Client) (id : Option Data) (act : Act) → is_reply (other_reply g c id act) ≡ true
-other_is g c id act = by (seat_of g.seats c.role)
+decided_is : (g : Gate) (id : Option Data) (q : Request) (name : Option Ask) → is_reply (decided_reply g id q name) ≡ true
+decided_is g id q name = by (is_some g.head.log)
   where
-    by : (o : Option ℕ) → is_reply (if_some o (replied id (refused no_session)) (λ n. replied id (reply_to g (in_session n act)))) ≡ true
-    by None = refl
-    by (Some n) = refl
+    elsewhere_is : (o : Option Ask) → is_reply (decided_elsewhere id o) ≡ true
+    elsewhere_is None = refl
+    elsewhere_is (Some a) = refl
 
-act_is : (g : Gate) (c : Client) (id : Option Data) (act : Act) → is_reply (act_reply g c id act) ≡ true
-act_is g c id (begin role) = refl
-act_is g c id finish = refl
-act_is g c id (subscribe rel) = read_is g c id rel
-act_is g c id (unsubscribe own) = refl
-act_is g c id (create_role name) = other_is g c id (create_role name)
-act_is g c id (create_table name owner columns) = other_is g c id (create_table name owner columns)
-act_is g c id (create_view name owner query) = other_is g c id (create_view name owner query)
-act_is g c id (grant rel privileges to) = other_is g c id (grant rel privileges to)
-act_is g c id (revoke rel privileges to) = other_is g c id (revoke rel privileges to)
-act_is g c id (grant_role group to) = other_is g c id (grant_role group to)
-act_is g c id (revoke_role group to) = other_is g c id (revoke_role group to)
-act_is g c id (row_security rel enable force) = other_is g c id (row_security rel enable force)
-act_is g c id (create_policy p) = other_is g c id (create_policy p)
-act_is g c id (drop_policy rel name) = other_is g c id (drop_policy rel name)
-act_is g c id (write entries) = other_is g c id (write entries)
+    told_is : (h : Gate) (o : Option Ask) (r : Reply) → is_reply (reply_told h id o r) ≡ true
+    told_is h None r = refl
+    told_is h (Some a) r = refl
+
+    by : (l : Bool) → is_reply (cond l (decided_elsewhere id name) (done_reply g id q name (carried_reply g q))) ≡ true
+    by true = elsewhere_is name
+    by false = told_is (entered g (entries_of q name (carried_reply g q))) name (carried_reply g q)
+
+verdict_is : (g : Gate) (id : Option Data) (q : Request) (a : Ask) (v : Verdict) → is_reply (verdict_reply g id q a v) ≡ true
+verdict_is g id q a carry = decided_is g id q (Some a)
+verdict_is g id q a (again answer) = refl
+verdict_is g id q a another = refl
+verdict_is g id q a late = refl
+verdict_is g id q a foreign = refl
+verdict_is g id q a ahead = refl
+verdict_is g id q a over = refl
+
+shared_is : (g : Gate) (c : Client) (id : Option Data) (q : Request) (claim : Option Claim) → is_reply (shared_reply g c id q claim) ≡ true
+shared_is g c id q None = decided_is g id q None
+shared_is g c id q (Some k) = let a = asked_by c q.line k in verdict_is g id q a (verdict (names_of g) a)
+
+act_is : (g : Gate) (c : Client) (id : Option Data) (text : List ℕ) (act : Act) → is_reply (act_reply g c id text act) ≡ true
+act_is g c id text (begin role) = refl
+act_is g c id text finish = refl
+act_is g c id text (subscribe rel) = read_is g c id rel
+act_is g c id text (unsubscribe own) = refl
+act_is g c id text (create_role name) = shared_is g c id (request_of c text (create_role name)) (claim_said text)
+act_is g c id text (create_table name owner columns) = shared_is g c id (request_of c text (create_table name owner columns)) (claim_said text)
+act_is g c id text (create_view name owner query) = shared_is g c id (request_of c text (create_view name owner query)) (claim_said text)
+act_is g c id text (grant rel privileges to) = shared_is g c id (request_of c text (grant rel privileges to)) (claim_said text)
+act_is g c id text (revoke rel privileges to) = shared_is g c id (request_of c text (revoke rel privileges to)) (claim_said text)
+act_is g c id text (grant_role group to) = shared_is g c id (request_of c text (grant_role group to)) (claim_said text)
+act_is g c id text (revoke_role group to) = shared_is g c id (request_of c text (revoke_role group to)) (claim_said text)
+act_is g c id text (row_security rel enable force) = shared_is g c id (request_of c text (row_security rel enable force)) (claim_said text)
+act_is g c id text (create_policy p) = shared_is g c id (request_of c text (create_policy p)) (claim_said text)
+act_is g c id text (drop_policy rel name) = shared_is g c id (request_of c text (drop_policy rel name)) (claim_said text)
+act_is g c id text (write entries) = shared_is g c id (request_of c text (write entries)) (claim_said text)
 
 -- what a message is replied is a reply
-pub said_is : (g : Gate) (c : Client) (s : Message) → is_reply (said_reply g c s) ≡ true
-said_is g c no_json = refl
-said_is g c too_long = refl
-said_is g c no_object = refl
-said_is g c (no_request id why) = refl
-said_is g c (request id act) = test_of (λ t. is_reply t ≡ true) (has_shape_room g act) (act_reply g c id act) (replied id (refused limit)) (act_is g c id act) refl
+pub said_is : (g : Gate) (c : Client) (text : List ℕ) (s : Message) → is_reply (said_reply g c text s) ≡ true
+said_is g c text no_json = refl
+said_is g c text too_long = refl
+said_is g c text no_object = refl
+said_is g c text (no_request id why) = refl
+said_is g c text (request id act) =
+    test_of (λ t. is_reply t ≡ true) (may_have (claim_said text) act) (act_reply g c id text act) (unasked id (unknown (codes "once"))) (act_is g c id text act) refl
 
 pub replies_of : (ts us vs : List Told) (t : Told) → replies us ≡ [] → replies vs ≡ [] → is_reply t ≡ true → replies (ts ++ (us ++ t ∷ vs)) ≡ replies ts ++ t ∷ []
 replies_of ts us vs t a b h =
@@ -247,18 +276,22 @@ opened_of ts us vs t a b =
     filter-append is_opened ts (us ++ t ∷ vs)
     ∙ ap (λ z. filter is_opened ts ++ z) (filter-append is_opened us (t ∷ vs) ∙ ((λ i. none_opened us a i ++ cond (is_opened t) (t ∷ none_opened vs b i) (none_opened vs b i))))
 
--- behind its welcome a client that comes in is replied nothing
-greeting_quiet : (es : List Entry) (role : Name) → replies (shape_for role es ++ settled ∷ []) ≡ []
-greeting_quiet es role = none_replied (shape_for role es) (settled ∷ []) (filter_none is_reply (shape_for role es) (all_made (λ t. is_reply t ≡ false) (λ r line. refl) role es)) refl
+-- what a client that comes in is told behind its welcome
+abbrev behind_welcome : List Entry → Name → List ℕ → List Told
+behind_welcome es role at = placed at ∷ (shape_for role es ++ settled ∷ [])
 
-greeting_opens : (es : List Entry) (role : Name) (digest : List ℕ) → filter is_opened (told (fresh es role digest)) ≡ []
-greeting_opens es role digest = ap (filter is_opened) (told_fresh es role digest) ∙ none_opened (shape_for role es ++ settled ∷ []) (greeting_quiet es role)
+-- it is no reply
+greeting_quiet : (es : List Entry) (role : Name) (at : List ℕ) → replies (behind_welcome es role at) ≡ []
+greeting_quiet es role at = none_replied (shape_for role es) (settled ∷ []) (filter_none is_reply (shape_for role es) (all_made (λ t. is_reply t ≡ false) (λ r line. refl) role es)) refl
 
-pub new_answered : (es : List Entry) (role : Name) (digest : List ℕ) → IsAnswered (fresh es role digest)
-new_answered es role digest = record {
-  welcome = (shape_for role es ++ settled ∷ [], told_fresh es role digest);
-  each = ap (λ z. length (replies z)) (told_fresh es role digest) ∙ ap (λ z. length (welcome role ∷ z)) (greeting_quiet es role);
-  given = ap length (sym (greeting_opens es role digest));
+greeting_opens : (es : List Entry) (t : Token) (at : List ℕ) → filter is_opened (told (fresh es t at)) ≡ []
+greeting_opens es t at = ap (filter is_opened) (told_fresh es t at) ∙ none_opened (behind_welcome es t.role at) (greeting_quiet es t.role at)
+
+pub new_answered : (es : List Entry) (t : Token) (at : List ℕ) → IsAnswered (fresh es t at)
+new_answered es t at = record {
+  welcome = (behind_welcome es t.role at, told_fresh es t at);
+  each = ap (λ z. length (replies z)) (told_fresh es t at) ∙ ap (λ z. length (welcome t.role ∷ z)) (greeting_quiet es t.role at);
+  given = ap length (sym (greeting_opens es t at));
 }
 
 pub hears_answered : (c d : Client) → Hears c d → IsAnswered c → IsAnswered d
@@ -277,7 +310,7 @@ answers_answered g m c text d x a = record {
 }
   where
     t : Told
-    t = said_reply (asked g m text) c (said_by text)
+    t = said_reply (asked g m text) c text (said_by text)
 
     more : List Told
     more = x.before ++ t ∷ x.others
@@ -287,7 +320,7 @@ answers_answered g m c text d x a = record {
 
     each : length (replies (told d)) ≡ 1 + length d.messages
     each = ap (λ z. length (replies z)) x.text
-        ∙ (ap length (replies_of (told c) x.before x.others t x.started x.alone (said_is (asked g m text) c (said_by text)))
+        ∙ (ap length (replies_of (told c) x.before x.others t x.started x.alone (said_is (asked g m text) c text (said_by text)))
         ∙ (length-append (replies (told c)) (t ∷ []) ∙ (plus (length (replies (told c))) (length c.messages) a.each ∙ ap (λ z. 1 + z) (sym (ap length x.messages ∙ length-append c.messages (text ∷ []))))))
 
     by : (b : Bool) → is_opened t ≡ b → cond b (c.given + 1) c.given ≡ length (filter is_opened (told c)) + length (cond b (t ∷ []) [])
@@ -328,8 +361,8 @@ ended_more c d own ts t h = ap (list_any (is_end_of own)) t ∙ any_before (is_e
 ended_now : (c d : Client) (own : ℕ) (ts : List Told) → told d ≡ told c ++ ts → ends_for own ts ≡ true → has_ended d own ≡ true
 ended_now c d own ts t h = ap (list_any (is_end_of own)) t ∙ any_behind (is_end_of own) (told c) ts h
 
-new_settled : (es : List Entry) (role : Name) (digest : List ℕ) → IsSettled (fresh es role digest)
-new_settled es role digest = (new_answered es role digest, λ id own columns k h. absurd (none_passes is_opened (told (fresh es role digest)) (opened id own columns) k refl (greeting_opens es role digest)))
+new_settled : (es : List Entry) (t : Token) (at : List ℕ) → IsSettled (fresh es t at)
+new_settled es t at = (new_answered es t at, λ id own columns k h. absurd (none_passes is_opened (told (fresh es t at)) (opened id own columns) k refl (greeting_opens es t at)))
 
 hears_settled : (c d : Client) → Hears c d → IsSettled c → IsSettled d
 hears_settled c d x a = (hears_answered c d x a.0, λ id own columns k h. by id own columns (Contains-append_cases (told c) x.more (opened id own columns) (subst (λ ts. Contains ts (opened id own columns)) x.text k)) h)
@@ -351,7 +384,7 @@ answers_settled g m c text d x a =
     (answers_answered g m c text d x a.0, λ id own columns k h. by id own columns (Contains-append_cases (told c) more (opened id own columns) (subst (λ ts. Contains ts (opened id own columns)) x.text k)) h)
   where
     t : Told
-    t = said_reply (asked g m text) c (said_by text)
+    t = said_reply (asked g m text) c text (said_by text)
 
     more : List Told
     more = x.before ++ t ∷ x.others
@@ -369,7 +402,7 @@ answers_settled g m c text d x a =
         ap (λ z. slice_get z (length c.messages)) x.messages ∙ get_last c.messages text [],
         k.asks,
         ap (λ z. slice_get (replies z) (length c.messages + 1)) x.text
-            ∙ (ap (λ z. slice_get z (length c.messages + 1)) (replies_of (told c) x.before x.others t x.started x.alone (said_is (asked g m text) c (said_by text)))
+            ∙ (ap (λ z. slice_get z (length c.messages + 1)) (replies_of (told c) x.before x.others t x.started x.alone (said_is (asked g m text) c text (said_by text)))
             ∙ (ap (λ i. slice_get (replies (told c) ++ t ∷ []) i) (sym (a.0.each ∙ plus (length c.messages))) ∙ (get_last (replies (told c)) t [] ∙ ap Some k.tells))),
       ),
     )

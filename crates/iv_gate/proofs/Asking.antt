@@ -1,23 +1,23 @@
 -- What a client asks keeps clients in step with what their feeds show.
 use Rattle.std.proofs.Common.{◌≡◌, ℕ, Bool, true, false, cond, List, [], ◌∷◌, ◌++◌, length, Option, Some, None, option_map, refl, ap, ◌∙◌, sym, subst, append-nil}
-use Rattle.std.specs.Prelude.{◌+◌, find, bytes_eq, nat_lt, option_and_then}
+use Rattle.std.specs.Prelude.{◌+◌, find, bytes_eq, nat_lt, option_and_then, codes}
 use Rattle.std.specs.List.{AllByRecursion}
 use Rattle.std.proofs.lemmas.Bool.{false≢true}
 use Rattle.serde_json.specs.Data.{Data}
 use Rattle.iv_rows.specs.Options.{if_some}
 use Rattle.iv_access.specs.Rights.{Name}
-use Rattle.iv_machine.specs.Act.{Act, begin, finish, create_role, create_table, create_view, grant, revoke, grant_role, revoke_role, row_security, create_policy, drop_policy, subscribe, unsubscribe, write, Command, Refusal, done, refused, no_session, too_many, unknown_subscription, limit}
+use Rattle.iv_machine.specs.Act.{Act, begin, finish, create_role, create_table, create_view, grant, revoke, grant_role, revoke_role, row_security, create_policy, drop_policy, subscribe, unsubscribe, write, Command, Refusal, done, refused, too_many, unknown_subscription, Reply}
 use Rattle.iv_machine.specs.Machine.{outcome, step}
 use Rattle.iv_machine.specs.Refusing.{refusal}
 use Rattle.iv_machine.specs.State.{State}
-use Rattle.iv_message.specs.Message.{Message, no_json, too_long, no_object, no_request, request}
-use Rattle.iv_message.specs.Told.{replied, fault, unasked}
+use Rattle.iv_message.specs.Message.{Message, no_json, too_long, no_object, no_request, request, unknown}
+use Rattle.iv_message.specs.Told.{replied, fault, unasked, Told}
 use Rattle.iv_clients.specs.Bounds.{most_feeds, most_subs}
 use Rattle.iv_clients.specs.Clients.{Client, at_client, client_at, closing, followed_by, staying, telling, told}
 use Rattle.iv_clients.specs.Feeds.{Feed, Seat, ends_in, feed_for, has_room, is_of_role, is_reading, load, next_seat, room_for, seat_of}
-use Rattle.iv_clients.specs.Journal.{Entry, line_said, said_by}
+use Rattle.iv_clients.specs.Journal.{Entry, said_by, Request, claim_said}
 use Rattle.iv_clients.proofs.Slots.{at_every, from, one_some, some_is_none}
-use Rattle.iv_gate.specs.Gate.{Gate, acts, begun_for, closes, done_for, entered, in_session, is_accepted, joins, ran, reads, reads_first, reply_in, reply_to, requests, seated, subscribes, swept, tells, told_of, entries_of, has_shape_room}
+use Rattle.iv_gate.specs.Gate.{Gate, acts, begun_for, closes, done_for, entered, in_session, is_accepted, joins, ran, reads, reads_first, reply_in, reply_to, done_in, seated, subscribes, swept, tells, told_of, entries_of, shares, may_have, reply_told, replies_to}
 use Rattle.iv_gate.specs.Replies.{ActsAs, replies}
 use Rattle.iv_gate.proofs.Joining.{and_both, joins_sound, same_name}
 use Rattle.iv_gate.proofs.Opening.{IsAsker, all_pushed, quiet_replied, subscribes_sound}
@@ -25,22 +25,39 @@ use Rattle.iv_gate.proofs.Places.{replies_both, told_replies}
 use Rattle.iv_gate.proofs.Running.{IsQuiet, acts_step, all_so, closes_none, closing_sound, one_sound, ran_sound, spares_all, swept_sound, tells_sound, informs_sound}
 use Rattle.iv_gate.proofs.Sound.{Adds, IsFeed, IsSoundGate, Seer, Sounds, feed_step, ran_ready, seer_telling}
 use Rattle.iv_gate.proofs.Shaping.{test_of}
+use Rattle.iv_clients.specs.Names.{Claim}
+use Rattle.iv_once.specs.Names.{Ask}
+use Rattle.iv_gate.proofs.Choosing.{shares_so, IsAside, refers, leaves, repeats}
+use Rattle.iv_gate.proofs.Stepping.{request_of}
 
 -- ---- requests of the machine
 
-entered_sound : (g : Gate) (e : Entry) (a : Bool) → IsSoundGate g → IsSoundGate (entered g e a)
-entered_sound g e a b = record { state = b.state; seats = b.seats; feeds = b.feeds; clients = b.clients }
+entered_sound : (g : Gate) (es : List Entry) → IsSoundGate g → IsSoundGate (entered g es)
+entered_sound g es b = record { state = b.state; seats = b.seats; feeds = b.feeds; clients = b.clients }
 
-requests_sound : Adds → Sounds → (g : Gate) (m : ℕ) (id : Option Data) (e : Entry) (n : ℕ) → closes_none e.act ≡ true → IsSoundGate g → IsSoundGate (requests g m id e n)
-requests_sound adds sounds g m id e n h b =
-    let k = in_session n e.act in let r = reply_to g k in let i = entered g e (is_accepted r) in
-    informs_sound (ran (tells i m (replied id r)) k) (entries_of e (is_accepted r))
-    (ran_sound adds sounds (tells i m (replied id r)) k h (tells_sound i m (replied id r) (quiet_replied id r) (entered_sound g e (is_accepted r) b)))
+quiet_told : (g : Gate) (id : Option Data) (name : Option Ask) (r : Reply) → IsQuiet (reply_told g id name r)
+quiet_told g id None r = quiet_replied id r
+quiet_told g id (Some a) r = record { weighs = λ own q. refl; goes_on = λ own. refl }
 
-other_sound : Adds → Sounds → (g : Gate) (m : ℕ) (c : Client) (id : Option Data) (text : List ℕ) (act : Act) (o : Option ℕ) → closes_none act ≡ true → IsSoundGate g
-    → IsSoundGate (if_some o (tells g m (replied id (refused no_session))) (requests g m id (record { role = c.role; line = line_said text; act = act })))
-other_sound adds sounds g m c id text act None h b = tells_sound g m (replied id (refused no_session)) (quiet_replied id (refused no_session)) b
-other_sound adds sounds g m c id text act (Some n) h b = requests_sound adds sounds g m id (record { role = c.role; line = line_said text; act = act }) n h b
+quiet_aside : (t : Told) → IsAside t → IsQuiet t
+quiet_aside _ (refers id number) = record { weighs = λ own q. refl; goes_on = λ own. refl }
+quiet_aside _ (leaves id number) = record { weighs = λ own q. refl; goes_on = λ own. refl }
+quiet_aside _ (repeats id at answer) = record { weighs = λ own q. refl; goes_on = λ own. refl }
+
+replies_sound : (g : Gate) (m : ℕ) (id : Option Data) (q : Request) (name : Option Ask) (r : Reply) → IsSoundGate g → IsSoundGate (replies_to g m id q name r)
+replies_sound g m id q name r b = let h = entered g (entries_of q name r) in tells_sound h m (reply_told h id name r) (quiet_told h id name r) (entered_sound g (entries_of q name r) b)
+
+requests_sound : Adds → Sounds → (g : Gate) (m : ℕ) (id : Option Data) (q : Request) (name : Option Ask) (n : ℕ) → closes_none q.act ≡ true → IsSoundGate g → IsSoundGate (done_in g m id q name n)
+requests_sound adds sounds g m id q name n h b =
+    let k = in_session n q.act in let r = reply_to g k in let i = replies_to g m id q name r in
+    informs_sound (ran i k) (entries_of q name r) (ran_sound adds sounds i k h (replies_sound g m id q name r b))
+
+shares_sound : Adds → Sounds → (g : Gate) (m : ℕ) (c : Client) (id : Option Data) (q : Request) (claim : Option Claim) → closes_none q.act ≡ true → IsSoundGate g → IsSoundGate (shares g m c id q claim)
+shares_sound adds sounds g m c id q claim h b = shares_so IsSoundGate g m id q (record {
+  tells = λ t a. tells_sound g m t (quiet_aside t a) b;
+  does = λ name n e. requests_sound adds sounds g m id q name n h b;
+  refuses = λ name r. replies_sound g m id q name (refused r) b;
+}) c claim
 
 -- ---- sessions
 
@@ -176,17 +193,17 @@ acts_sound adds sounds g m c id text (begin role) said same b = tells_sound g m 
 acts_sound adds sounds g m c id text finish said same b = tells_sound g m (fault 2) (quiet_fault 2) b
 acts_sound adds sounds g m c id text (subscribe rel) said same b = reads_sound adds sounds g m c id rel (λ d t. asker_of g m c id text rel d said (same d t)) b
 acts_sound adds sounds g m c id text (unsubscribe own) said same b = closes_sound adds sounds g m c id own b
-acts_sound adds sounds g m c id text (create_role name) said same b = other_sound adds sounds g m c id text (create_role name) (seat_of g.seats c.role) refl b
-acts_sound adds sounds g m c id text (create_table name owner columns) said same b = other_sound adds sounds g m c id text (create_table name owner columns) (seat_of g.seats c.role) refl b
-acts_sound adds sounds g m c id text (create_view name owner query) said same b = other_sound adds sounds g m c id text (create_view name owner query) (seat_of g.seats c.role) refl b
-acts_sound adds sounds g m c id text (grant rel privileges to) said same b = other_sound adds sounds g m c id text (grant rel privileges to) (seat_of g.seats c.role) refl b
-acts_sound adds sounds g m c id text (revoke rel privileges to) said same b = other_sound adds sounds g m c id text (revoke rel privileges to) (seat_of g.seats c.role) refl b
-acts_sound adds sounds g m c id text (grant_role group to) said same b = other_sound adds sounds g m c id text (grant_role group to) (seat_of g.seats c.role) refl b
-acts_sound adds sounds g m c id text (revoke_role group to) said same b = other_sound adds sounds g m c id text (revoke_role group to) (seat_of g.seats c.role) refl b
-acts_sound adds sounds g m c id text (row_security rel enable force) said same b = other_sound adds sounds g m c id text (row_security rel enable force) (seat_of g.seats c.role) refl b
-acts_sound adds sounds g m c id text (create_policy p) said same b = other_sound adds sounds g m c id text (create_policy p) (seat_of g.seats c.role) refl b
-acts_sound adds sounds g m c id text (drop_policy rel name) said same b = other_sound adds sounds g m c id text (drop_policy rel name) (seat_of g.seats c.role) refl b
-acts_sound adds sounds g m c id text (write entries) said same b = other_sound adds sounds g m c id text (write entries) (seat_of g.seats c.role) refl b
+acts_sound adds sounds g m c id text (create_role name) said same b = shares_sound adds sounds g m c id (request_of c text (create_role name)) (claim_said text) refl b
+acts_sound adds sounds g m c id text (create_table name owner columns) said same b = shares_sound adds sounds g m c id (request_of c text (create_table name owner columns)) (claim_said text) refl b
+acts_sound adds sounds g m c id text (create_view name owner query) said same b = shares_sound adds sounds g m c id (request_of c text (create_view name owner query)) (claim_said text) refl b
+acts_sound adds sounds g m c id text (grant rel privileges to) said same b = shares_sound adds sounds g m c id (request_of c text (grant rel privileges to)) (claim_said text) refl b
+acts_sound adds sounds g m c id text (revoke rel privileges to) said same b = shares_sound adds sounds g m c id (request_of c text (revoke rel privileges to)) (claim_said text) refl b
+acts_sound adds sounds g m c id text (grant_role group to) said same b = shares_sound adds sounds g m c id (request_of c text (grant_role group to)) (claim_said text) refl b
+acts_sound adds sounds g m c id text (revoke_role group to) said same b = shares_sound adds sounds g m c id (request_of c text (revoke_role group to)) (claim_said text) refl b
+acts_sound adds sounds g m c id text (row_security rel enable force) said same b = shares_sound adds sounds g m c id (request_of c text (row_security rel enable force)) (claim_said text) refl b
+acts_sound adds sounds g m c id text (create_policy p) said same b = shares_sound adds sounds g m c id (request_of c text (create_policy p)) (claim_said text) refl b
+acts_sound adds sounds g m c id text (drop_policy rel name) said same b = shares_sound adds sounds g m c id (request_of c text (drop_policy rel name)) (claim_said text) refl b
+acts_sound adds sounds g m c id text (write entries) said same b = shares_sound adds sounds g m c id (request_of c text (write entries)) (claim_said text) refl b
 
 -- whatever a client says
 pub done_sound : Adds → Sounds → (g : Gate) (m : ℕ) (c : Client) (text : List ℕ) (s : Message) → said_by text ≡ s → ((d : Client) → client_at g.clients m ≡ Some d → IsHeard g m c text d) → IsSoundGate g → IsSoundGate (done_for g m c text s)
@@ -195,4 +212,4 @@ done_sound adds sounds g m c text too_long said same b = tells_sound g m (fault 
 done_sound adds sounds g m c text no_object said same b = tells_sound g m (fault 2) (quiet_fault 2) b
 done_sound adds sounds g m c text (no_request id why) said same b = tells_sound g m (unasked id why) (record { weighs = λ i q. refl; goes_on = λ i. refl }) b
 done_sound adds sounds g m c text (request id act) said same b =
-    test_of IsSoundGate (has_shape_room g act) (acts g m c id text act) (tells g m (replied id (refused limit))) (acts_sound adds sounds g m c id text act said same b) (tells_sound g m (replied id (refused limit)) (quiet_replied id (refused limit)) b)
+    test_of IsSoundGate (may_have (claim_said text) act) (acts g m c id text act) (tells g m (unasked id (unknown (codes "once")))) (acts_sound adds sounds g m c id text act said same b) (tells_sound g m (unasked id (unknown (codes "once"))) (record { weighs = λ own q. refl; goes_on = λ own. refl }) b)

@@ -1,29 +1,27 @@
 -- What a client takes is bounded, whatever happens.
 use Rattle.std.proofs.Common.{◌≡◌, ℕ, zero, suc, ◌+◌, ◌≤◌, Bool, true, false, cond, not, ◌||◌, List, [], ◌∷◌, ◌++◌, length, map, Option, Some, None, option_map, set, refl, ap, ◌∙◌, sym, subst, subst₂, arith}
-use Rattle.std.specs.Prelude.{◌==◌, ◌&&◌, count_by, filter, nat_lt}
+use Rattle.std.specs.Prelude.{◌==◌, ◌&&◌, count_by, filter, nat_lt, is_some}
 use Rattle.std.specs.List.{list_any}
 use Rattle.std.proofs.lemmas.Bool.{false≢true, eqb-true, eqb-false, ltb-true}
 use Rattle.std.proofs.lemmas.Bool.Decides.{nat_tests}
 use Rattle.std.proofs.lemmas.List.Sums.{sum_by-cons}
-use Rattle.sha2.specs.Sha256.{sha256}
 use Rattle.iv_rows.specs.Options.{if_some}
-use Rattle.iv_access.specs.Rights.{Name}
 use Rattle.iv_machine.specs.Act.{Command}
-use Rattle.iv_machine.specs.Machine.{step}
+use Rattle.iv_machine.specs.Machine.{step, Outcome}
 use Rattle.iv_message.specs.Told.{Told, settled}
 use Rattle.iv_clients.specs.Bounds.{most_piled, most_requests, most_subs, most_waiting}
 use Rattle.iv_clients.specs.Clients.{Client, Shown, Slots, Sub, answered, at_all, at_client, beating, by_others, checked, client_at, dropping, fresh, handing, is_slow, may_say, opens, released, saying, settling, staying, telling, text_shown, told_one, waiting}
 use Rattle.iv_clients.specs.Feeds.{ends_in, is_of_role}
-use Rattle.iv_clients.specs.Journal.{Entry, said_by}
+use Rattle.iv_clients.specs.Journal.{Entry, said_by, shape_for}
 use Rattle.iv_clients.specs.Tokens.{Token}
 use Rattle.iv_clients.proofs.Slots.{at_every, at_other, at_same, nobody, one_some}
-use Rattle.iv_gate.specs.Events.{Event, presented, message, gone, known, ticked, synced, handed, failed, happens, next}
-use Rattle.iv_gate.specs.Gate.{Gate, all_rested, all_swept, done_for, hears, role_for, said, settles, told_of, went}
+use Rattle.iv_gate.specs.Events.{Event, presented, message, gone, known, ticked, synced, handed, failed, happens, next, arrived, forgave}
+use Rattle.iv_gate.specs.Gate.{Gate, all_rested, all_swept, done_for, hears, token_for, said, settles, told_of, went, at_text, Head}
 use Rattle.iv_gate.specs.Laws.{IsBounded}
 use Rattle.iv_gate.specs.Restoring.{Restores, gate_at_start}
 use Rattle.iv_gate.specs.Runs.{Runs, begins, goes_on, begins_again}
 use Rattle.iv_gate.proofs.Calm.{all_rested_last, all_swept_last, with_last}
-use Rattle.iv_gate.proofs.Doing.{all_done}
+use Rattle.iv_gate.proofs.Doing.{all_done, fewer_left}
 use Rattle.iv_gate.proofs.News.{done_bounded, done_last}
 use Rattle.iv_gate.proofs.Joining.{and_both, own_moved}
 use Rattle.iv_gate.proofs.Lasting.{Starts, runs_sound}
@@ -33,8 +31,12 @@ use Rattle.iv_gate.proofs.Running.{client_said, one_sound}
 use Rattle.iv_gate.proofs.Signs.{Mark, Sign, mark_of, marks_in}
 use Rattle.iv_gate.proofs.Sound.{Adds, IsSoundGate, Seer, Sounds, own_left, seer, seer_telling}
 use Rattle.iv_gate.proofs.Summing.{AreOwn, neither}
-use Rattle.iv_gate.proofs.Touching.{alive as is_alive, came_as, came_sign, rests, said_slots, touched, went_sign}
-use Rattle.iv_gate.proofs.Walking.{Kit, Later, to_done}
+use Rattle.iv_gate.proofs.Touching.{alive as is_alive, came_as, came_sign, rests, said_slots, touched, went_sign, takes_slots}
+use Rattle.iv_gate.proofs.Walking.{Kit, Later, to_done, landed_client, step_told, takes_at}
+use Rattle.iv_gate.specs.Arriving.{fault_of, is_behind, landed, entry_of, fact_of, takes}
+use Rattle.iv_steps.specs.Steps.{stepped}
+use Rattle.iv_gate.proofs.Arrived.{step_led}
+use Rattle.iv_journal.specs.Journal.{Line}
 
 -- ---- by a step
 
@@ -227,6 +229,18 @@ one_bounded m j f slots c d k t b h = by (m == j) refl
         subst Bounded (one_some (f c) d (sym (ap (λ i. client_at (at_client i f slots) j) same ∙ (at_same j f slots ∙ ap (option_map f) t)) ∙ h)) (k c b)
     by false e = subst Bounded (one_some c d (sym t ∙ (sym (at_other m j f slots (eqb-false m j e)) ∙ h))) b
 
+-- a step
+bounded_landed : (g : Gate) (e : Entry) (o : Outcome) (c : Client) → Bounded c → Bounded (landed_client g e o c)
+bounded_landed g e o c b =
+    let es = g.entries ++ e ∷ [] in let ts = step_told g o c in let z = staying o.lines (telling es ts c) in let more = shape_for z.role (e ∷ []) in
+    let first = slim_telling es ts c in let p = λ (s : Sub). not (ends_in o.lines s.feed) in
+    let subs : (telling es more z).subs ≡ filter (λ (s : Sub). not (ends_in o.lines s.feed)) c.subs =
+    ap (λ (v : Seer). v.subs) (seer_telling es more z) ∙ ap (λ (v : Seer). filter p v.subs) (seer_telling es ts c) in
+    let given : (telling es more z).given ≡ c.given = ap (λ (v : Seer). v.given) (seer_telling es more z) ∙ ap (λ (v : Seer). v.given) (seer_telling es ts c) in
+    let few : length (filter p c.subs) ≤ most_subs = let l = fewer_left p c.subs in let n = b.subs in omega (arith, l, n) in
+    bounded_settled es (telling es more z) (bounded_slim c (telling es more z) (slim_then c z (telling es more z) (record { sendable = first.sendable; asked = first.asked; dropped = first.dropped }) (slim_telling es more z))
+    (subst (λ (xs : List Sub). length xs ≤ most_subs) (sym subs) few) (subst₂ AreOwn (sym given) (sym subs) (own_left c.given p c.subs b.own)) b)
+
 happens_bounded : Sounds → (g : Gate) (e : Event) → IsSoundGate g → (j : ℕ) (c d : Client) → client_at g.clients j ≡ Some c → Bounded c → client_at (happens g e).clients j ≡ Some d → Bounded d
 happens_bounded sounds g (presented m token) b j c d t x k = subst Bounded (came_stays g b m token j c d t k) x
 happens_bounded sounds g (message m text) b j c d t x k = said_bounded sounds g b m text j c d t x k
@@ -235,6 +249,8 @@ happens_bounded sounds g (known tokens) b j c d t x k = subst Bounded (every_is 
 happens_bounded sounds g ticked b j c d t x k = subst Bounded (every_is (beating g.entries) g.clients j c d t k) (record { gone = x.gone; subs = x.subs; own = x.own; asked = x.asked })
 happens_bounded sounds g synced b j c d t x k = subst Bounded (every_is released g.clients j c d t k) (bounded_released c x)
 happens_bounded sounds g (handed m) b j c d t x k = one_bounded m j handing g.clients c d bounded_handing t x k
+happens_bounded sounds g (arrived s) b j c d t x k = takes_at Bounded g s j c d t k x (λ o e. bounded_landed g (entry_of s) o c x)
+happens_bounded sounds g forgave b j c d t x k = subst Bounded (one_some c d (sym t ∙ k)) x
 happens_bounded sounds g failed b j c d t x k = subst Bounded (one_some c d (sym t ∙ k)) x
 
 abbrev AllBounded : Gate → Type 0
@@ -253,13 +269,13 @@ next_bounded sounds g e b a j d h = by g.dead refl
     by true q = a j d (ap (λ (x : Gate). client_at x.clients j) (sym (rests g e q)) ∙ h)
     by false q = who q (client_at g.clients j) refl
 
-restored_bounded : (cap : ℕ) (tokens : List Token) (most : ℕ) (sent : List Shown) (journal : List ℕ) (g : Gate) → Restores (gate_at_start cap tokens most sent) journal g → AllBounded g
-restored_bounded cap tokens most sent journal g r m c h = absurd (nobody most m c (ap (λ (x : Gate). client_at x.clients m) (sym r.gate) ∙ h))
+restored_bounded : (cap : ℕ) (tokens : List Token) (most : ℕ) (head : Head) (sent : List Shown) (journal : List Line) (g : Gate) → Restores (gate_at_start cap tokens most head sent) journal g → AllBounded g
+restored_bounded cap tokens most head sent journal g r m c h = absurd (nobody most m c (ap (λ (x : Gate). client_at x.clients m) (sym r.leads.gate) ∙ h))
 
 runs_bounded : Adds → Starts → Sounds → (cap : ℕ) (g : Gate) → Runs cap g → AllBounded g
-runs_bounded adds starts sounds cap _ (begins tokens most journal g r) = restored_bounded cap tokens most [] journal g r
-runs_bounded adds starts sounds cap _ (goes_on h e r) = next_bounded sounds h e (runs_sound adds starts sounds cap h r) (runs_bounded adds starts sounds cap h r)
-runs_bounded adds starts sounds cap _ (begins_again h disk tokens most i r l x) = restored_bounded cap tokens most h.sent disk i x
+runs_bounded adds starts sounds cap _ (begins tokens most head journal g r) = restored_bounded cap tokens most head [] journal g r
+runs_bounded adds starts sounds cap _ (goes_on h e w r) = next_bounded sounds h e (runs_sound adds starts sounds cap h r) (runs_bounded adds starts sounds cap h r)
+runs_bounded adds starts sounds cap _ (begins_again h disk tokens most i r l x) = restored_bounded cap tokens most h.head h.sent disk i x
 
 -- ---- behind a sync
 
@@ -309,12 +325,12 @@ by_marks : (old new : Slots) (ms : List (Option Mark)) → marks_in new ≡ ms �
 by_marks old new ms e l = sym (marks_length new) ∙ (ap length e ∙ l)
 
 happens_places : (g : Gate) (e : Event) → length (happens g e).clients ≡ length g.clients
-happens_places g (presented m token) = by (role_for g m token)
+happens_places g (presented m token) = by (token_for g m token)
   where
-    by : (o : Option Name) → length (if_some o g (came_as g m token)).clients ≡ length g.clients
+    by : (o : Option Token) → length (if_some o g (came_as g m)).clients ≡ length g.clients
     by None = refl
-    by (Some role) = by_marks g.clients (came_as g m token role).clients (set (marks_in g.clients) m (Some (mark_of (fresh g.entries role (sha256 token))))) (ap (λ (x : Sign). x.slots) (came_sign g m token role))
-        (set_length (marks_in g.clients) m (Some (mark_of (fresh g.entries role (sha256 token)))) ∙ marks_length g.clients)
+    by (Some t) = let x = Some (mark_of (fresh g.entries t (at_text g t))) in
+        by_marks g.clients (came_as g m t).clients (set (marks_in g.clients) m x) (ap (λ (x : Sign). x.slots) (came_sign g m t)) (set_length (marks_in g.clients) m x ∙ marks_length g.clients)
 happens_places g (message m text) = by_marks g.clients (said g m text).clients _ (said_slots g m text) (by (client_at g.clients m))
   where
     test_by : (c : Client) (b : Bool) → length (cond b (marks_in (at_client m (saying text) g.clients)) (marks_in g.clients)) ≡ length g.clients
@@ -333,6 +349,8 @@ happens_places g (known tokens) = all_length (checked tokens) g.clients
 happens_places g ticked = all_length (beating g.entries) g.clients
 happens_places g synced = all_length released g.clients
 happens_places g (handed m) = at_length m handing g.clients
+happens_places g (arrived s) = by_marks g.clients (takes g s).clients (marks_in g.clients) (takes_slots g s) (marks_length g.clients)
+happens_places g forgave = refl
 happens_places g failed = refl
 
 pub places_stay : (g : Gate) (e : Event) → length (next g e).clients ≡ length g.clients
@@ -345,11 +363,11 @@ places_stay g e = by g.dead
 -- ---- numbers of the machine's subscriptions
 
 happens_last : Sounds → (g : Gate) (e : Event) → IsSoundGate g → (happens g e).machine.frame.last ≤ 1 + g.machine.frame.last
-happens_last sounds g (presented m token) b = by (role_for g m token)
+happens_last sounds g (presented m token) b = by (token_for g m token)
   where
-    by : (o : Option Name) → (if_some o g (came_as g m token)).machine.frame.last ≤ 1 + g.machine.frame.last
+    by : (o : Option Token) → (if_some o g (came_as g m)).machine.frame.last ≤ 1 + g.machine.frame.last
     by None = omega arith
-    by (Some role) = let l = with_last g role in omega (arith, l)
+    by (Some t) = let l = with_last g t.role in omega (arith, l)
 happens_last sounds g (message m text) b = by (client_at g.clients m)
   where
     test_by : (c : Client) (t : Bool) → (cond t (hears g m c text) g).machine.frame.last ≤ 1 + g.machine.frame.last
@@ -379,6 +397,15 @@ happens_last sounds g (known tokens) b = omega arith
 happens_last sounds g ticked b = omega arith
 happens_last sounds g synced b = omega arith
 happens_last sounds g (handed m) b = omega arith
+happens_last sounds g (arrived s) b = by (is_some (fault_of g s)) (is_behind g s) (stepped (map fact_of s.requests) g.machine) refl
+  where
+    by : (x y : Bool) (o : Option Outcome) → stepped (map fact_of s.requests) g.machine ≡ o
+        → (cond x (record g { dead = true }) (cond y g (if_some o g (landed g (entry_of s))))).machine.frame.last ≤ 1 + g.machine.frame.last
+    by true y o e = omega arith
+    by false true o e = omega arith
+    by false false None e = omega arith
+    by false false (Some o) e = let l = (step_led sounds (map fact_of s.requests) g.machine o e).last in omega (arith, l)
+happens_last sounds g forgave b = omega arith
 happens_last sounds g failed b = omega arith
 
 pub last_stays : Sounds → (g : Gate) (e : Event) → IsSoundGate g → (next g e).machine.frame.last ≤ 1 + g.machine.frame.last

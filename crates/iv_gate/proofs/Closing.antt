@@ -1,16 +1,15 @@
 -- What a client closed it follows no more, for ever.
 use Rattle.std.proofs.Common.{◌≡◌, ◌≤◌, ℕ, zero, suc, ◌+◌, ◌⊎◌, inl, inr, Bool, true, false, cond, List, [], ◌∷◌, ◌++◌, length, Option, Some, is_some, refl, ap, ◌∙◌, sym, subst, append-nil, arith}
-use Rattle.std.specs.Prelude.{slice_get}
+use Rattle.std.specs.Prelude.{slice_get, codes}
 use Rattle.std.proofs.lemmas.Bool.{false≢true}
 use Rattle.serde_json.specs.Data.{Data}
-use Rattle.iv_access.specs.Rights.{Name}
 use Rattle.iv_machine.specs.Act.{done, refused, unknown_subscription, unsubscribe}
-use Rattle.iv_message.specs.Message.{Message, request}
-use Rattle.iv_message.specs.Told.{Told, replied}
-use Rattle.iv_clients.specs.Clients.{Client, fresh, told}
-use Rattle.iv_clients.specs.Journal.{Entry, said_by}
+use Rattle.iv_message.specs.Message.{Message, request, unknown}
+use Rattle.iv_message.specs.Told.{Told, replied, unasked}
+use Rattle.iv_clients.specs.Clients.{Client, fresh, told, followed_by}
+use Rattle.iv_clients.specs.Journal.{Entry, said_by, claim_said}
 use Rattle.iv_clients.proofs.Slots.{some_is_none}
-use Rattle.iv_gate.specs.Gate.{Gate}
+use Rattle.iv_gate.specs.Gate.{Gate, may_have}
 use Rattle.iv_gate.specs.Replies.{IsAnswered, is_opened, replies}
 use Rattle.iv_gate.specs.Runs.{Runs}
 use Rattle.iv_gate.specs.Seen.{IsClosed, StaysClosed}
@@ -19,6 +18,7 @@ use Rattle.iv_gate.proofs.Hearing.{Hears, is_own}
 use Rattle.iv_gate.proofs.Lasting.{runs_keep}
 use Rattle.iv_gate.proofs.Places.{replies_both}
 use Rattle.iv_gate.proofs.Replying.{asked, had_before, said_reply}
+use Rattle.iv_clients.specs.Tokens.{Token}
 
 -- ---- lists
 
@@ -49,14 +49,14 @@ record IsShut (c : Client) : Type 0 where
   given : (own : ℕ) → is_own own c.subs ≡ true → own ≤ c.given
   shut : (own : ℕ) → IsClosed c own → (own ≤ c.given) × (is_own own c.subs ≡ false)
 
-new_shut : (es : List Entry) (role : Name) (digest : List ℕ) → IsShut (fresh es role digest)
-new_shut es role digest = record {
-  answered = new_answered es role digest;
+new_shut : (es : List Entry) (t : Token) (at : List ℕ) → IsShut (fresh es t at)
+new_shut es t at = record {
+  answered = new_answered es t at;
   given = λ own h. absurd (false≢true h);
   shut = λ own k. absurd (nothing own k);
 }
   where
-    nothing : (own : ℕ) → IsClosed (fresh es role digest) own → ⊥
+    nothing : (own : ℕ) → IsClosed (fresh es t at) own → ⊥
     nothing own (place, id, (text, there, asks, reply)) = some_is_none text (sym there)
 
 hears_shut : (c d : Client) → Hears c d → IsShut c → IsShut d
@@ -74,15 +74,38 @@ hears_shut c d x a = record {
         (place, id, (text, ap (λ z. slice_get z place) (sym x.messages) ∙ there, asks, ap (λ z. slice_get z (place + 1)) (sym same) ∙ reply))
 
 -- the reply says that it is done where the client has the number
-done_has : (g : Gate) (c : Client) (s : Message) (id : Option Data) (own : ℕ) → s ≡ request id (unsubscribe own) → said_reply g c s ≡ replied id done → is_own own c.subs ≡ true
-done_has g c s id own e h = by (is_own own c.subs) refl
+done_has : (g : Gate) (c : Client) (text : List ℕ) (s : Message) (id : Option Data) (own : ℕ) → s ≡ request id (unsubscribe own) → said_reply g c text s ≡ replied id done → is_own own c.subs ≡ true
+done_has g c text s id own e h = by (is_own own c.subs) refl
   where
     no : replied id (refused unknown_subscription) ≡ replied id done → ⊥
     no k = cc
 
+    never : unasked id (unknown (codes "once")) ≡ replied id done → ⊥
+    never k = cc
+
+    reply : said_reply g c text (request id (unsubscribe own)) ≡ replied id done
+    reply = sym (ap (λ z. said_reply g c text z) e) ∙ h
+
+    test : is_own own c.subs ≡ false → (b : Bool)
+        → cond b (replied id (cond (is_some (followed_by c.subs own)) done (refused unknown_subscription))) (unasked id (unknown (codes "once"))) ≡ replied id done → ⊥
+    test k true r = no (sym (ap (λ o. replied id (cond (is_some o) done (refused unknown_subscription))) (not_followed c.subs own k)) ∙ r)
+    test k false r = never r
+
     by : (t : Bool) → is_own own c.subs ≡ t → is_own own c.subs ≡ true
     by true k = k
-    by false k = absurd (no (sym (ap (λ z. said_reply g c z) e ∙ ap (λ o. replied id (cond (is_some o) done (refused unknown_subscription))) (not_followed c.subs own k)) ∙ h))
+    by false k = absurd (test k (may_have (claim_said text) (unsubscribe own)) reply)
+
+-- and where the message has no name
+done_may : (g : Gate) (c : Client) (text : List ℕ) (s : Message) (id : Option Data) (own : ℕ) → s ≡ request id (unsubscribe own) → said_reply g c text s ≡ replied id done → may_have (claim_said text) (unsubscribe own) ≡ true
+done_may g c text s id own e h = by (may_have (claim_said text) (unsubscribe own)) refl (sym (ap (λ z. said_reply g c text z) e) ∙ h)
+  where
+    never : unasked id (unknown (codes "once")) ≡ replied id done → ⊥
+    never k = cc
+
+    by : (b : Bool) → may_have (claim_said text) (unsubscribe own) ≡ b
+        → cond b (replied id (cond (is_some (followed_by c.subs own)) done (refused unknown_subscription))) (unasked id (unknown (codes "once"))) ≡ replied id done → may_have (claim_said text) (unsubscribe own) ≡ true
+    by true k r = k
+    by false k r = absurd (never r)
 
 answers_shut : (g : Gate) (m : ℕ) (c : Client) (text : List ℕ) (d : Client) → OwnAnswer g m c text d → Closes text d → IsShut c → IsShut d
 answers_shut g m c text d x n a = record {
@@ -92,7 +115,7 @@ answers_shut g m c text d x n a = record {
 }
   where
     t : Told
-    t = said_reply (asked g m text) c (said_by text)
+    t = said_reply (asked g m text) c text (said_by text)
 
     more : (b : Bool) (n k : ℕ) → n ≤ k → n ≤ cond b (k + 1) k
     more true n k h = omega (arith, h)
@@ -125,10 +148,10 @@ answers_shut g m c text d x n a = record {
 
     -- the message closes it
     new : (own : ℕ) (id : Option Data) → said_by text ≡ request id (unsubscribe own) → t ≡ replied id done → (own ≤ d.given) × (is_own own d.subs ≡ false)
-    new own id s e = (later own (a.given own (done_has (asked g m text) c (said_by text) id own s e)), n id own s)
+    new own id s e = (later own (a.given own (done_has (asked g m text) c text (said_by text) id own s e)), n id own s (done_may (asked g m text) c text (said_by text) id own s e))
 
     all : replies (told d) ≡ replies (told c) ++ t ∷ []
-    all = ap replies x.text ∙ replies_of (told c) x.before x.others t x.started x.alone (said_is (asked g m text) c (said_by text))
+    all = ap replies x.text ∙ replies_of (told c) x.before x.others t x.started x.alone (said_is (asked g m text) c text (said_by text))
 
     plus : (i j k : ℕ) → k ≡ 1 + j → i + 1 ≡ k → i ≡ j
     plus i j k e f = omega (arith, e, f)

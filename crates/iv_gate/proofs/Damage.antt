@@ -1,308 +1,302 @@
 -- Each journal either restores or is damaged at one place.
-use Rattle.std.proofs.Common.{◌≡◌, ◌⊎◌, inl, inr, ℕ, zero, suc, ◌+◌, ◌≤◌, Bool, true, false, cond, ◌||◌, List, [], ◌∷◌, ◌++◌, drop, take, length, Option, Some, None, option_map, refl, ap, ◌∙◌, sym, subst, arith, length-append}
-use Rattle.std.specs.Prelude.{◌==◌, bytes_eq, codes, option_and_then}
+use Rattle.std.proofs.Common.{◌≡◌, ◌⊎◌, inl, inr, ℕ, zero, suc, ◌+◌, ◌<◌, ◌≤◌, Bool, true, false, cond, List, [], ◌∷◌, ◌++◌, length, map, Option, Some, None, refl, ap, ◌∙◌, sym, subst, arith, append-nil, append_assoc, length-append}
+use Rattle.std.specs.Prelude.{◌&&◌, nat_lt, option_and_then, unwrap_or}
 use Rattle.std.specs.List.{AllByRecursion}
 use Rattle.std.proofs.lemmas.Bool.{false≢true}
-use Rattle.std.proofs.lemmas.List.{take-append-drop}
-use Rattle.std.proofs.lemmas.Slice.Eq.{bytes_eq-Decides}
-use Rattle.iv_rows.specs.Names.{is_name}
-use Rattle.iv_machine.specs.Act.{Act}
+use Rattle.std.proofs.lemmas.List.{map-append}
+use Rattle.std.proofs.lemmas.List.Concat.{flat_map-append}
+use Rattle.iv_rows.specs.Options.{if_some}
 use Rattle.iv_machine.specs.State.{State}
-use Rattle.iv_message.specs.Message.{Message, no_json, too_long, no_object, no_request, request, message_of}
-use Rattle.iv_clients.specs.Journal.{Entry, IsEntry, begins_object, entry_text, has_newline, is_shared, journal_of}
-use Rattle.iv_clients.specs.Parsed.{entry_in, entry_parts, named_entry}
-use Rattle.iv_clients.specs.Tokens.{behind, cut_at}
+use Rattle.iv_once.specs.Names.{Known, Named, learned, named}
+use Rattle.iv_journal.specs.Journal.{Line}
+use Rattle.iv_steps.specs.Steps.{Fact, all_carried, carried}
+use Rattle.iv_clients.specs.Journal.{Entry, IsEntry, journal_of, names_in, record_of, requests_in, texts_of}
+use Rattle.iv_clients.specs.Laws.{Begins, ReadsBack}
+use Rattle.iv_clients.specs.Names.{limits}
+use Rattle.iv_clients.specs.Parsed.{record_in}
 use Rattle.iv_clients.proofs.Slots.{one_some, some_is_none}
-use Rattle.iv_gate.specs.Gate.{Gate}
-use Rattle.iv_gate.specs.Restoring.{IsBadLine, IsDamagedAt, IsDecided, LeadTo, Restores, all_replayed, is_torn, replayed}
-use Rattle.iv_gate.proofs.Requesting.{cut_is, is_plain}
-use Rattle.iv_gate.proofs.Growing.{assoc}
-use Rattle.iv_gate.proofs.Replaying.{then_of}
-use Rattle.iv_gate.proofs.Rereading.{entry_of_line, has_one, journal_first, line_of, line_of_one, same_act, same_cut, same_line, text_is_line, torn_is_one}
-use Rattle.iv_gate.proofs.Summing.{neither}
+use Rattle.iv_gate.specs.Arriving.{Fault, fact_of, first_known, is_new, not_new, position}
+use Rattle.iv_gate.specs.Gate.{Gate, known_of}
+use Rattle.iv_gate.specs.Restoring.{IsDamagedAt, IsDecided, LeadOn, Restores, are_rising}
 
--- ---- a line is some entry's, or no entry's
+-- ---- fronts of what leads on
 
-record IsLineOf (line : List ℕ) (e : Entry) : Type 0 where
-  well : IsEntry e
-  text : entry_text e ≡ line ++ 10 ∷ []
+abbrev pub facts_of : List Entry → List Fact
+facts_of es = map fact_of (requests_in es)
 
-abbrev Line : List ℕ → Type 0
-Line line = ((e : Entry) × IsLineOf line e) ⊎ ((e : Entry) → IsEntry e → entry_text e ≡ line ++ 10 ∷ [] → ⊥)
+pub facts_append : (es fs : List Entry) → facts_of (es ++ fs) ≡ facts_of es ++ facts_of fs
+facts_append es fs = ap (map fact_of) (flat_map-append (λ (e : Entry). e.requests) es fs) ∙ map-append fact_of (requests_in es) (requests_in fs)
 
--- what its text says is its line
-text_says : (line : List ℕ) (e : Entry) → has_newline line ≡ false → IsEntry e → entry_text e ≡ line ++ 10 ∷ [] → line ≡ line_of e
-text_says line e n w h = (same_cut line (line_of e) [] [] n (line_of_one e w) (sym h ∙ text_is_line e)).left
+pub names_append : (es fs : List Entry) → names_in (es ++ fs) ≡ names_in es ++ names_in fs
+names_append es fs = flat_map-append (λ (e : Entry). e.names) es fs
 
-record IsBehind (prefix bytes rest : List ℕ) : Type 0 where
-  is : bytes ≡ prefix ++ rest
-
-is_behind : (prefix bytes rest : List ℕ) → behind prefix bytes ≡ Some rest → IsBehind prefix bytes rest
-is_behind prefix bytes rest h = by (bytes_eq (take (length prefix) bytes) prefix) refl h
+pub carried_append : (s : State) (xs ys : List Fact) → all_carried (xs ++ ys) s ≡ option_and_then (all_carried ys) (all_carried xs s)
+carried_append s [] ys = refl
+carried_append s (x ∷ xs) ys = by (carried x s) (λ u. carried_append u xs ys)
   where
-    by : (t : Bool) → bytes_eq (take (length prefix) bytes) prefix ≡ t → cond t (Some (drop (length prefix) bytes)) None ≡ Some rest → IsBehind prefix bytes rest
-    by true e k = record {
-      is = sym (take-append-drop (length prefix) bytes)
-          ∙ (λ i. (bytes_eq-Decides (take (length prefix) bytes) prefix).0 e i ++ one_some (drop (length prefix) bytes) rest k i);
+    by : (o : Option State) → ((u : State) → all_carried (xs ++ ys) u ≡ option_and_then (all_carried ys) (all_carried xs u))
+        → option_and_then (all_carried (xs ++ ys)) o ≡ option_and_then (all_carried ys) (option_and_then (all_carried xs) o)
+    by None more = refl
+    by (Some u) more = more u
+
+pub record IsLedBy (fs : List Fact) (s : State) : Type 0 where
+  pub state : State
+  pub carries : all_carried fs s ≡ Some state
+
+pub front_carried : (s t : State) (xs ys : List Fact) → all_carried (xs ++ ys) s ≡ Some t → IsLedBy xs s
+front_carried s t xs ys h = by (all_carried xs s) refl (sym (carried_append s xs ys) ∙ h)
+  where
+    by : (o : Option State) → all_carried xs s ≡ o → option_and_then (all_carried ys) o ≡ Some t → IsLedBy xs s
+    by None e k = absurd (some_is_none t (sym k))
+    by (Some u) e k = record { state = u; carries = e }
+
+pub front_new : (n : ℕ) (xs ys : List Named) (k : Known) → first_known n (xs ++ ys) k ≡ None → first_known n xs k ≡ None
+front_new n [] ys k h = refl
+front_new n (x ∷ xs) ys k h = by (is_new k x.ask) h (front_new (n + 1) xs ys (learned limits (named x) k))
+  where
+    by : (b : Bool) → cond b (first_known (n + 1) (xs ++ ys) (learned limits (named x) k)) (Some (not_new n)) ≡ None
+        → (first_known (n + 1) (xs ++ ys) (learned limits (named x) k) ≡ None → first_known (n + 1) xs (learned limits (named x) k) ≡ None)
+        → cond b (first_known (n + 1) xs (learned limits (named x) k)) (Some (not_new n)) ≡ None
+    by true e more = more e
+    by false e more = absurd (some_is_none (not_new n) e)
+
+pub both_so : (b c : Bool) → (b && c) ≡ true → (b ≡ true) × (c ≡ true)
+both_so true c h = (refl, h)
+both_so false c h = absurd (false≢true h)
+
+pub front_rising : (p : ℕ) (es fs : List Entry) → are_rising p (es ++ fs) ≡ true → are_rising p es ≡ true
+front_rising p [] fs h = refl
+front_rising p (e ∷ es) fs h =
+    let b = both_so (if_some e.position true (nat_lt p)) (are_rising (unwrap_or e.position p) (es ++ fs)) h in
+    (λ i. b.0 i && front_rising (unwrap_or e.position p) es fs b.1 i)
+
+pub front_all : {X : Type 0} (P : X → Type 0) (xs ys : List X) → AllByRecursion P (xs ++ ys) → AllByRecursion P xs
+front_all P [] ys w = tt
+front_all P (x ∷ xs) ys w = (w.0, front_all P xs ys w.1)
+
+pub behind_all : {X : Type 0} (P : X → Type 0) (xs ys : List X) → AllByRecursion P (xs ++ ys) → AllByRecursion P ys
+behind_all P [] ys w = w
+behind_all P (x ∷ xs) ys w = behind_all P xs ys w.1
+
+pub push_all : {X : Type 0} (P : X → Type 0) (xs : List X) (x : X) → AllByRecursion P xs → P x → AllByRecursion P (xs ++ x ∷ [])
+push_all P [] x w p = (p, tt)
+push_all P (y ∷ ys) x w p = (w.0, push_all P ys x w.1 p)
+
+-- where entries lead
+abbrev pub led : Gate → List Entry → State → Gate
+led g es s = record g { machine = s; entries = es; kept = length es; forgiven = length es }
+
+pub record Leads (g : Gate) (es : List Entry) : Type 0 where
+  pub state : State
+  pub on : LeadOn g es (led g es state)
+
+pub front_leads : (g h : Gate) (es fs : List Entry) → LeadOn g (es ++ fs) h → Leads g es
+front_leads g h es fs l =
+    let c = front_carried g.machine l.state (facts_of es) (facts_of fs) (ap (λ xs. all_carried xs g.machine) (sym (facts_append es fs)) ∙ l.accepted) in
+    record {
+      state = c.state;
+      on = record {
+        state = c.state;
+        well = front_all IsEntry es fs l.well;
+        accepted = c.carries;
+        names = front_new 1 (names_in es) (names_in fs) (known_of g) (ap (λ xs. first_known 1 xs (known_of g)) (sym (names_append es fs)) ∙ l.names);
+        steps = front_rising (position g) es fs l.steps;
+        gate = refl;
+      };
     }
-    by false e k = absurd (some_is_none rest (sym k))
 
-cut_none : (xs : List ℕ) → cut_at 10 xs ≡ None → has_newline xs ≡ false
-cut_none [] h = refl
-cut_none (x ∷ xs) h = by (x == 10) (cut_at 10 xs) h (λ e. cut_none xs e)
+-- ---- one record more
+
+abbrev pub lines_of : Entry → List Line
+lines_of e = record_of (texts_of e)
+
+pub journal_one : (e : Entry) (more : List Line) → journal_of (e ∷ []) ++ more ≡ lines_of e ++ more
+journal_one e more = ap (λ z. z ++ more) (append-nil (lines_of e))
+
+pub journal_first : (e : Entry) (es : List Entry) (more : List Line) → journal_of (e ∷ es) ++ more ≡ lines_of e ++ (journal_of es ++ more)
+journal_first e es more = append_assoc (lines_of e) (journal_of es) more
+
+pub journal_pushed : (es : List Entry) (e : Entry) (more : List Line) → journal_of es ++ (lines_of e ++ more) ≡ journal_of (es ++ e ∷ []) ++ more
+journal_pushed es e more =
+    sym (append_assoc (journal_of es) (lines_of e) more)
+    ∙ ap (λ z. z ++ more) (ap (λ z. journal_of es ++ z) (sym (append-nil (lines_of e))) ∙ sym (flat_map-append lines_of es (e ∷ [])))
+
+some_lines : (e : Entry) → IsEntry e → 0 < length (lines_of e)
+some_lines e w = by (texts_of e) w.some
   where
-    by : (t : Bool) (o : Option (List ℕ × List ℕ)) → cond t (Some ([], xs)) (option_map {U = List ℕ × List ℕ} (λ q. (x ∷ q.0, q.1)) o) ≡ None → (o ≡ None → has_newline xs ≡ false)
-        → (t || has_newline xs) ≡ false
-    by true o k more = absurd (some_is_none {X = List ℕ × List ℕ} ([], xs) k)
-    by false None k more = more refl
-    by false (Some q) k more = absurd (some_is_none {X = List ℕ × List ℕ} (x ∷ q.0, q.1) k)
+    by : (ts : List (List ℕ)) → (ts ≡ [] → ⊥) → 0 < length (record_of ts)
+    by [] h = absurd (h refl)
+    by (t ∷ []) h = omega arith
+    by (t ∷ u ∷ us) h = omega arith
 
-cut_first : (xs : List ℕ) (p : List ℕ × List ℕ) → cut_at 10 xs ≡ Some p → has_newline p.0 ≡ false
-cut_first [] p h = absurd (some_is_none p (sym h))
-cut_first (x ∷ xs) p h = by (x == 10) refl (cut_at 10 xs) h (λ q e. cut_first xs q e)
+pub no_lines : (e : Entry) (es : List Entry) (more : List Line) → IsEntry e → [] ≡ journal_of (e ∷ es) ++ more → ⊥
+no_lines e es more w h =
+    none (length (lines_of e)) (length (journal_of es ++ more)) (some_lines e w)
+    (ap length (h ∙ journal_first e es more) ∙ length-append (lines_of e) (journal_of es ++ more))
   where
-    by : (t : Bool) → (x == 10) ≡ t → (o : Option (List ℕ × List ℕ)) → cond t (Some ([], xs)) (option_map {U = List ℕ × List ℕ} (λ q. (x ∷ q.0, q.1)) o) ≡ Some p
-        → ((q : List ℕ × List ℕ) → o ≡ Some q → has_newline q.0 ≡ false) → has_newline p.0 ≡ false
-    by true e o k more = ap (λ (z : List ℕ × List ℕ). has_newline z.0) (sym (one_some {X = List ℕ × List ℕ} ([], xs) p k))
-    by false e None k more = absurd (some_is_none p (sym k))
-    by false e (Some q) k more = ap (λ (z : List ℕ × List ℕ). has_newline z.0) (sym (one_some {X = List ℕ × List ℕ} (x ∷ q.0, q.1) p k)) ∙ (λ i. e i || more q refl i)
+    none : (a b : ℕ) → 0 < a → 0 ≡ a + b → ⊥
+    none a b h k = omega (arith, h, k)
 
-record HasParts (line : List ℕ) (p : List ℕ × List ℕ) : Type 0 where
-  is : line ≡ codes "{\"as\":\"" ++ (p.0 ++ (codes "\"," ++ p.1))
+pub read_one : ReadsBack → (e : Entry) (more : List Line) → IsEntry e → record_in (lines_of e ++ more) ≡ Some (e, more)
+read_one reads e more w = (reads (lines_of e ++ more) e more).1 (record { entry = w; lines = refl })
 
-has_parts : (line : List ℕ) (p : List ℕ × List ℕ) → entry_parts line ≡ Some p → HasParts line p
-has_parts line p h = first (behind (codes "{\"as\":\"") line) refl h
+abbrev Never : Gate → List Entry → Type 0
+Never g es = (h : Gate) → LeadOn g es h → ⊥
+
+tries : (g : Gate) (es : List Entry) → AllByRecursion IsEntry es → Leads g es ⊎ Never g es
+tries g es w = by (all_carried (facts_of es) g.machine) refl (first_known 1 (names_in es) (known_of g)) refl (are_rising (position g) es) refl
   where
-    third : (rest : List ℕ) (q : List ℕ × List ℕ) → line ≡ codes "{\"as\":\"" ++ rest → rest ≡ q.0 ++ 34 ∷ q.1 → (o : Option (List ℕ)) → behind (codes ",") q.1 ≡ o
-        → option_map {U = List ℕ × List ℕ} (λ text. (q.0, text)) o ≡ Some p → HasParts line p
-    third rest q a b None e k = absurd (some_is_none p (sym k))
-    third rest q a b (Some text) e k =
-        let x = is_behind (codes ",") q.1 text e in
-        record {
-          is = a ∙ (ap (λ z. codes "{\"as\":\"" ++ z) (b ∙ ap (λ z. q.0 ++ 34 ∷ z) x.is)
-              ∙ ap (λ (z : List ℕ × List ℕ). codes "{\"as\":\"" ++ (z.0 ++ (codes "\"," ++ z.1))) (one_some {X = List ℕ × List ℕ} (q.0, text) p k));
-        }
+    by : (o : Option State) → all_carried (facts_of es) g.machine ≡ o → (f : Option Fault) → first_known 1 (names_in es) (known_of g) ≡ f → (t : Bool) → are_rising (position g) es ≡ t
+        → Leads g es ⊎ Never g es
+    by None a f b t c = inr (λ h l. some_is_none l.state (sym l.accepted ∙ a))
+    by (Some s) a (Some f) b t c = inr (λ h l. some_is_none f (sym b ∙ l.names))
+    by (Some s) a None b false c = inr (λ h l. false≢true (sym c ∙ l.steps))
+    by (Some s) a None b true c = inl (record { state = s; on = record { state = s; well = w; accepted = a; names = b; steps = c; gate = refl } })
 
-    second : (rest : List ℕ) → line ≡ codes "{\"as\":\"" ++ rest → (o : Option (List ℕ × List ℕ)) → cut_at 34 rest ≡ o
-        → option_and_then (λ (q : List ℕ × List ℕ). option_map {U = List ℕ × List ℕ} (λ text. (q.0, text)) (behind (codes ",") q.1)) o ≡ Some p → HasParts line p
-    second rest a None e k = absurd (some_is_none p (sym k))
-    second rest a (Some q) e k = third rest q a (cut_is 34 rest q e) (behind (codes ",") q.1) refl k
+-- ---- where lines lead
 
-    first : (o : Option (List ℕ)) → behind (codes "{\"as\":\"") line ≡ o
-        → option_and_then (λ rest. option_and_then (λ (q : List ℕ × List ℕ). option_map {U = List ℕ × List ℕ} (λ text. (q.0, text)) (behind (codes ",") q.1)) (cut_at 34 rest)) o ≡ Some p → HasParts line p
-    first None e k = absurd (some_is_none p (sym k))
-    first (Some rest) e k = second rest (is_behind (codes "{\"as\":\"") line rest e).is (cut_at 34 rest) refl k
+-- no record stands here that leads on
+abbrev Stops : Gate → List Entry → List Line → Type 0
+Stops g es rest = (e : Entry) (more : List Line) (h : Gate) → rest ≡ journal_of (e ∷ []) ++ more → LeadOn g (es ++ e ∷ []) h → ⊥
 
--- no line of an entry is read as nothing
-unread : (line : List ℕ) → has_newline line ≡ false → entry_in line ≡ None → Line line
-unread line n h = inr (λ e w t. some_is_none {X = List ℕ × List ℕ} (e.role, e.line) (sym (entry_of_line e w) ∙ (ap entry_in (sym (text_says line e n w t)) ∙ h)))
+record IsLed (g : Gate) (lines : List Line) : Type 0 where
+  entries : List Entry
+  rest : List Line
+  all : lines ≡ journal_of entries ++ rest
+  leads : Leads g entries
+  stops : (rest ≡ []) ⊎ Stops g entries rest
 
--- an entry of the line has the role and the message that are read
-read_as : (line : List ℕ) (p : List ℕ × List ℕ) (e : Entry) → has_newline line ≡ false → entry_in line ≡ Some p → IsEntry e → entry_text e ≡ line ++ 10 ∷ [] → p ≡ (e.role, e.line)
-read_as line p e n h w t = one_some {X = List ℕ × List ℕ} p (e.role, e.line) (sym h ∙ (ap entry_in (text_says line e n w t) ∙ entry_of_line e w))
+-- of records that lead on the last is read as it was written
+reads_this : ReadsBack → (g : Gate) (es : List Entry) (rest : List Line) (e : Entry) (more : List Line) (h : Gate) → rest ≡ journal_of (e ∷ []) ++ more → LeadOn g (es ++ e ∷ []) h
+    → record_in rest ≡ Some (e, more)
+reads_this reads g es rest e more h a l = ap record_in (a ∙ journal_one e more) ∙ read_one reads e more (behind_all IsEntry es (e ∷ []) l.well).0
 
-record IsNamed (line : List ℕ) (p : List ℕ × List ℕ) : Type 0 where
-  rest : List ℕ
-  name : is_name p.0 ≡ true
-  brace : p.1 ≡ 123 ∷ rest
-  is : line ≡ codes "{\"as\":\"" ++ (p.0 ++ (codes "\"," ++ rest))
-
-is_named : (line : List ℕ) (p : List ℕ × List ℕ) → entry_in line ≡ Some p → IsNamed line p
-is_named line p h = by (entry_parts line) refl h
+-- `fuel` bounds the lines
+far : ReadsBack → (fuel : ℕ) (g : Gate) (lines : List Line) (es : List Entry) (rest : List Line) → lines ≡ journal_of es ++ rest → Leads g es → length rest ≤ fuel → IsLed g lines
+far reads zero g lines es [] a l n = record { entries = es; rest = []; all = a; leads = l; stops = inl refl }
+far reads zero g lines es (x ∷ xs) a l n = absurd (let none : ⊥ = omega (arith, n) in none)
+far reads (suc fuel) g lines es rest a l n = by (record_in rest) refl (λ fs more b m k. far reads fuel g lines fs more b m k)
   where
-    test : (q : List ℕ × List ℕ) → entry_parts line ≡ Some q → (t : Bool) → is_name q.0 ≡ t → cond t (Some (q.0, 123 ∷ q.1)) None ≡ Some p → IsNamed line p
-    test q e true name k =
-        subst (IsNamed line) (one_some {X = List ℕ × List ℕ} (q.0, 123 ∷ q.1) p k) (record { rest = q.1; name = name; brace = refl; is = (has_parts line q e).is })
-    test q e false name k = absurd (some_is_none p (sym k))
+    fewer : (i j k : ℕ) → 0 < i → k ≡ i + j → k ≤ suc fuel → j ≤ fuel
+    fewer i j k h e m = omega (arith, h, e, m)
 
-    by : (o : Option (List ℕ × List ℕ)) → entry_parts line ≡ o → option_and_then named_entry o ≡ Some p → IsNamed line p
-    by None e k = absurd (some_is_none p (sym k))
-    by (Some q) e k = test q e (is_name q.0) refl k
+    other : (x : Entry) (later : List Line) → record_in rest ≡ Some (x, later) → Never g (es ++ x ∷ []) → Stops g es rest
+    other x later r bad e more h b m =
+        let same = one_some {X = Entry × List Line} (e, more) (x, later) (sym (reads_this reads g es rest e more h b m) ∙ r) in
+        bad h (subst (λ z. LeadOn g (es ++ z ∷ []) h) (ap (λ (z : Entry × List Line). z.0) same) m)
 
--- no newline stands behind a role
-none_last : (role rest : List ℕ) → has_newline (codes "{\"as\":\"" ++ (role ++ (codes "\"," ++ rest))) ≡ false → has_newline rest ≡ false
-none_last role rest h = behind_role role h
+    one : (x : Entry) (later : List Line) → record_in rest ≡ Some (x, later) → Begins rest x later
+        → ((fs : List Entry) (more : List Line) → lines ≡ journal_of fs ++ more → Leads g fs → length more ≤ fuel → IsLed g lines) → Leads g (es ++ x ∷ []) ⊎ Never g (es ++ x ∷ []) → IsLed g lines
+    one x later r b on (inl m) =
+        on (es ++ x ∷ []) later (a ∙ (ap (λ z. journal_of es ++ z) b.lines ∙ journal_pushed es x later)) m
+        (fewer (length (lines_of x)) (length later) (length rest) (some_lines x b.entry) (ap length b.lines ∙ length-append (lines_of x) later) n)
+    one x later r b on (inr bad) = record { entries = es; rest = rest; all = a; leads = l; stops = inr (other x later r bad) }
+
+    by : (o : Option (Entry × List Line)) → record_in rest ≡ o
+        → ((fs : List Entry) (more : List Line) → lines ≡ journal_of fs ++ more → Leads g fs → length more ≤ fuel → IsLed g lines) → IsLed g lines
+    by None r on = record {
+      entries = es;
+      rest = rest;
+      all = a;
+      leads = l;
+      stops = inr (λ e more h b m. some_is_none {X = Entry × List Line} (e, more) (sym (reads_this reads g es rest e more h b m) ∙ r));
+    }
+    by (Some (x, later)) r on =
+        let b = (reads rest x later).0 r in one x later r b on (tries g (es ++ x ∷ []) (push_all IsEntry es x l.on.well b.entry))
+
+leads_nowhere : (g : Gate) → Leads g []
+leads_nowhere g = record { state = g.machine; on = record { state = g.machine; well = tt; accepted = refl; names = refl; steps = refl; gate = refl } }
+
+either_way : ReadsBack → (g : Gate) (lines : List Line) → ((h : Gate) × Restores g lines h) ⊎ ((place : ℕ) × IsDamagedAt g lines place)
+either_way reads g lines = by (far reads (length lines) g lines [] lines refl (leads_nowhere g) (let n : length lines ≤ length lines = omega arith in n))
   where
-    behind_role : (xs : List ℕ) → has_newline (xs ++ (codes "\"," ++ rest)) ≡ false → has_newline rest ≡ false
-    behind_role [] k = k
-    behind_role (x ∷ xs) k = behind_role xs (neither (x == 10) (has_newline (xs ++ (codes "\"," ++ rest))) k).1
+    less : (i j k : ℕ) → k ≡ i + suc j → i < k
+    less i j k h = omega (arith, h)
 
-read_line : (line : List ℕ) (p : List ℕ × List ℕ) → has_newline line ≡ false → entry_in line ≡ Some p → Line line
-read_line line p n h = by (message_of p.1) refl
-  where
-    x : IsNamed line p
-    x = is_named line p h
-
-    never : (s : Message) → message_of p.1 ≡ s → ((act : Act) → s ≡ request None act → is_shared act ≡ true → ⊥) → Line line
-    never s e f = inr (λ a w t. f a.act (sym e ∙ (ap (λ (z : List ℕ × List ℕ). message_of z.1) (read_as line p a n h w t) ∙ w.asks)) w.shared)
-
-    shared : (act : Act) → message_of p.1 ≡ request None act → (t : Bool) → is_shared act ≡ t → Line line
-    shared act e true s = inl (
-      record { role = p.0; line = p.1; act = act },
+    stopped : (es : List Entry) (rest : List Line) → lines ≡ journal_of es ++ rest → Leads g es → (rest ≡ []) ⊎ Stops g es rest → ((h : Gate) × Restores g lines h) ⊎ ((place : ℕ) × IsDamagedAt g lines place)
+    stopped es [] a l s = inl (led g es l.state, record { all = a ∙ append-nil (journal_of es); leads = l.on })
+    stopped es (x ∷ xs) a l (inl h) = absurd (none h)
+      where
+        none : (x ∷ xs) ≡ [] → ⊥
+        none k = cc k
+    stopped es (x ∷ xs) a l (inr s) = inr (
+      length (journal_of es),
       record {
-        well = record {
-          role = x.name;
-          shared = s;
-          brace = ap begins_object x.brace;
-          line = ap has_newline x.brace ∙ none_last p.0 x.rest (ap has_newline (sym x.is) ∙ n);
-          asks = e;
-        };
-        text = text_is_line (record { role = p.0; line = p.1; act = act })
-            ∙ ap (λ z. z ++ 10 ∷ []) (ap (λ z. codes "{\"as\":\"" ++ (p.0 ++ (codes "\"," ++ drop 1 z))) x.brace ∙ sym x.is);
+        entries = es;
+        gate = led g es l.state;
+        rest = x ∷ xs;
+        all = a;
+        leads = l.on;
+        behind = refl;
+        some = less (length (journal_of es)) (length xs) (length lines) (ap length a ∙ length-append (journal_of es) (x ∷ xs));
+        bad = s;
       },
     )
-    shared act e false s = never (request None act) e (λ a k y. false≢true (sym s ∙ (ap is_shared (same_act act a k) ∙ y)))
 
-    by : (s : Message) → message_of p.1 ≡ s → Line line
-    by no_json e = never no_json e (λ a k y. false≢true (ap is_plain k))
-    by too_long e = never too_long e (λ a k y. false≢true (ap is_plain k))
-    by no_object e = never no_object e (λ a k y. false≢true (ap is_plain k))
-    by (no_request id why) e = never (no_request id why) e (λ a k y. false≢true (ap is_plain k))
-    by (request (Some id) act) e = never (request (Some id) act) e (λ a k y. false≢true (ap is_plain k))
-    by (request None act) e = shared act e (is_shared act) refl
-
-decide_line : (line : List ℕ) → has_newline line ≡ false → Line line
-decide_line line n = by (entry_in line) refl
-  where
-    by : (o : Option (List ℕ × List ℕ)) → entry_in line ≡ o → Line line
-    by None e = unread line n e
-    by (Some p) e = read_line line p n e
-
--- ---- where bytes lead
-
--- there is no entry that is accepted
-abbrev Stops : State → List ℕ → Type 0
-Stops s rest = (has_newline rest ≡ false) ⊎ IsBadLine s rest
-
-record IsLedTo (s : State) (bytes : List ℕ) : Type 0 where
-  entries : List Entry
-  rest : List ℕ
-  state : State
-  leads : LeadTo s bytes entries rest state
-  stops : Stops state rest
-
-at_once : (s : State) (bytes : List ℕ) → Stops s bytes → IsLedTo s bytes
-at_once s bytes h = record { entries = []; rest = bytes; state = s; leads = record { text = refl; well = tt; accepted = refl }; stops = h }
-
-one_entry : (s t : State) (line later bytes : List ℕ) (e : Entry) → bytes ≡ line ++ 10 ∷ later → has_newline line ≡ false → IsLineOf line e → replayed s e ≡ Some t → IsLedTo t later → IsLedTo s bytes
-one_entry s t line later bytes e h n x r l = record {
-  entries = e ∷ l.entries;
-  rest = l.rest;
-  state = l.state;
-  leads = record {
-    text = h ∙ (sym (assoc line (10 ∷ []) later) ∙ (ap (λ z. z ++ later) (sym x.text) ∙ (ap (λ z. entry_text e ++ z) l.leads.text ∙ sym (assoc (entry_text e) (journal_of l.entries) l.rest))));
-    well = (x.well, l.leads.well);
-    accepted = ap (option_and_then (λ u. all_replayed u l.entries)) r ∙ l.leads.accepted;
-  };
-  stops = l.stops;
-}
-
-shorter : (n a b : ℕ) → a + suc b ≤ suc n → b ≤ n
-shorter n a b h = omega (arith, h)
-
--- `fuel` bounds the bytes
-leads_to : (fuel : ℕ) (s : State) (bytes : List ℕ) → length bytes ≤ fuel → IsLedTo s bytes
-leads_to zero s [] h = at_once s [] (inl refl)
-leads_to zero s (b ∷ bytes) h = absurd (let no : ⊥ = omega (arith, h) in no)
-leads_to (suc n) s bytes h = by (cut_at 10 bytes) refl (λ t p k. leads_to n t p k)
-  where
-    size : (p : List ℕ × List ℕ) → cut_at 10 bytes ≡ Some p → length p.1 ≤ n
-    size p e = shorter n (length p.0) (length p.1) (subst (λ z. z ≤ suc n) (ap length (cut_is 10 bytes p e) ∙ length-append p.0 (10 ∷ p.1)) h)
-
-    run : (p : List ℕ × List ℕ) → cut_at 10 bytes ≡ Some p → (e : Entry) → IsLineOf p.0 e → (o : Option State) → replayed s e ≡ o
-        → ((t : State) (later : List ℕ) → length later ≤ n → IsLedTo t later) → IsLedTo s bytes
-    run p e x w None r more = at_once s bytes (inr (record {
-      line = p.0;
-      rest = p.1;
-      text = cut_is 10 bytes p e;
-      whole = cut_first bytes p e;
-      none = λ f v t. ap (replayed s) (same_line f x v w.well (sym (text_says p.0 f (cut_first bytes p e) v t) ∙ text_says p.0 x (cut_first bytes p e) w.well w.text)) ∙ r;
-    }))
-    run p e x w (Some t) r more = one_entry s t p.0 p.1 bytes x (cut_is 10 bytes p e) (cut_first bytes p e) w r (more t p.1 (size p e))
-
-    line : (p : List ℕ × List ℕ) → cut_at 10 bytes ≡ Some p → Line p.0 → ((t : State) (later : List ℕ) → length later ≤ n → IsLedTo t later) → IsLedTo s bytes
-    line p e (inl x) more = run p e x.0 x.1 (replayed s x.0) refl more
-    line p e (inr none) more = at_once s bytes (inr (record { line = p.0; rest = p.1; text = cut_is 10 bytes p e; whole = cut_first bytes p e; none = λ f v t. absurd (none f v t) }))
-
-    by : (o : Option (List ℕ × List ℕ)) → cut_at 10 bytes ≡ o → ((t : State) (later : List ℕ) → length later ≤ n → IsLedTo t later) → IsLedTo s bytes
-    by None e more = at_once s bytes (inl (cut_none bytes e))
-    by (Some p) e more = line p e (decide_line p.0 (cut_first bytes p e)) more
+    by : IsLed g lines → ((h : Gate) × Restores g lines h) ⊎ ((place : ℕ) × IsDamagedAt g lines place)
+    by l = stopped l.entries l.rest l.all l.leads l.stops
 
 -- ---- once alone
 
-record IsSameEnd (es fs : List Entry) (r q : List ℕ) (t u : State) : Type 0 where
-  entries : es ≡ fs
-  rest : r ≡ q
-  state : t ≡ u
+-- two readings of one journal
+pub data Compared (es fs : List Entry) (r s : List Line) : Type 0 where
+  same : es ≡ fs → r ≡ s → Compared es fs r s
+  shorter : (f : Entry) (more : List Entry) → fs ≡ es ++ f ∷ more → r ≡ journal_of (f ∷ more) ++ s → Compared es fs r s
+  longer : (e : Entry) (more : List Entry) → es ≡ fs ++ e ∷ more → s ≡ journal_of (e ∷ more) ++ r → Compared es fs r s
 
--- where it stops no entry goes on
-no_more : (s t : State) (rest bytes : List ℕ) (e : Entry) (es : List Entry) → Stops s rest → rest ≡ journal_of (e ∷ es) ++ bytes → AllByRecursion IsEntry (e ∷ es) → all_replayed s (e ∷ es) ≡ Some t → ⊥
-no_more s t rest bytes e es (inl n) h w r =
-    false≢true (sym n ∙ (ap has_newline (h ∙ journal_first e es bytes) ∙ has_one (line_of e) (journal_of es ++ bytes)))
-no_more s t rest bytes e es (inr b) h w r =
-    let c = same_cut b.line (line_of e) b.rest (journal_of es ++ bytes) b.whole (line_of_one e w.0) (sym b.text ∙ (h ∙ journal_first e es bytes)) in
-    let one = then_of (replayed s e) (λ u. all_replayed u es) t r in
-    some_is_none one.mid (sym one.one ∙ b.none e w.0 (text_is_line e ∙ ap (λ z. z ++ 10 ∷ []) (sym c.left)))
-
-same_end : (s t u : State) (es fs : List Entry) (r q : List ℕ) → AllByRecursion IsEntry es → AllByRecursion IsEntry fs → all_replayed s es ≡ Some t → all_replayed s fs ≡ Some u → Stops t r → Stops u q
-    → journal_of es ++ r ≡ journal_of fs ++ q → IsSameEnd es fs r q t u
-same_end s t u [] [] r q w x a b m n h = record { entries = refl; rest = h; state = one_some t u (sym a ∙ b) }
-same_end s t u [] (f ∷ fs) r q w x a b m n h = absurd (no_more s u r q f fs (subst (λ z. Stops z r) (sym (one_some s t a)) m) h x b)
-same_end s t u (e ∷ es) [] r q w x a b m n h = absurd (no_more s t q r e es (subst (λ z. Stops z q) (sym (one_some s u b)) n) (sym h) w a)
-same_end s t u (e ∷ es) (f ∷ fs) r q w x a b m n h =
-    let c = same_cut (line_of e) (line_of f) (journal_of es ++ r) (journal_of fs ++ q) (line_of_one e w.0) (line_of_one f x.0) (sym (journal_first e es r) ∙ (h ∙ journal_first f fs q)) in
-    let same : e ≡ f = same_line e f w.0 x.0 c.left in
-    let one = then_of (replayed s e) (λ z. all_replayed z es) t a in
-    let two = then_of (replayed s f) (λ z. all_replayed z fs) u b in
-    let mid : two.mid ≡ one.mid = one_some two.mid one.mid (sym two.one ∙ (ap (replayed s) (sym same) ∙ one.one)) in
-    let more = same_end one.mid t u es fs r q w.1 x.1 one.two (subst (λ z. all_replayed z fs ≡ Some u) mid two.two) m n c.right in
-    record { entries = (λ i. same i ∷ more.entries i); rest = more.rest; state = more.state }
-
-same_led : (s t u : State) (bytes : List ℕ) (es fs : List Entry) (r q : List ℕ) → LeadTo s bytes es r t → LeadTo s bytes fs q u → Stops t r → Stops u q → IsSameEnd es fs r q t u
-same_led s t u bytes es fs r q x y m n = same_end s t u es fs r q x.well y.well x.accepted y.accepted m n (sym x.text ∙ y.text)
-
--- ---- journals
-
-damage_stops : (s : State) (rest : List ℕ) → ((has_newline rest ≡ false) × (is_torn rest ≡ false)) ⊎ IsBadLine s rest → Stops s rest
-damage_stops s rest (inl x) = inl x.0
-damage_stops s rest (inr b) = inr b
-
-not_torn : (s : State) (rest : List ℕ) → ((has_newline rest ≡ false) × (is_torn rest ≡ false)) ⊎ IsBadLine s rest → is_torn rest ≡ true → ⊥
-not_torn s rest (inl x) h = false≢true (sym x.1 ∙ h)
-not_torn s rest (inr b) h = false≢true (sym (torn_is_one rest h) ∙ (ap has_newline b.text ∙ has_one b.line b.rest))
-
-either_way : (g : Gate) (journal : List ℕ) → ((h : Gate) × Restores g journal h) ⊎ ((place : ℕ) × IsDamagedAt g journal place)
-either_way g journal = by (leads_to (length journal) g.machine journal (let n : length journal ≤ length journal = omega arith in n))
+pub compare : ReadsBack → (es fs : List Entry) (r s : List Line) → AllByRecursion IsEntry es → AllByRecursion IsEntry fs → journal_of es ++ r ≡ journal_of fs ++ s → Compared es fs r s
+compare reads [] [] r s w v h = same refl h
+compare reads [] (f ∷ fs) r s w v h = shorter f fs refl h
+compare reads (e ∷ es) [] r s w v h = longer e es refl (sym h)
+compare reads (e ∷ es) (f ∷ fs) r s w v h =
+    let one : record_in (journal_of (e ∷ es) ++ r) ≡ Some (e, journal_of es ++ r) = ap record_in (journal_first e es r) ∙ read_one reads e (journal_of es ++ r) w.0 in
+    let two : record_in (journal_of (f ∷ fs) ++ s) ≡ Some (f, journal_of fs ++ s) = ap record_in (journal_first f fs s) ∙ read_one reads f (journal_of fs ++ s) v.0 in
+    let pair = one_some {X = Entry × List Line} (e, journal_of es ++ r) (f, journal_of fs ++ s) (sym one ∙ (ap record_in h ∙ two)) in
+    more_of (ap (λ (z : Entry × List Line). z.0) pair) (compare reads es fs r s w.1 v.1 (ap (λ (z : Entry × List Line). z.1) pair))
   where
-    damaged : (l : IsLedTo g.machine journal) → ((has_newline l.rest ≡ false) × (is_torn l.rest ≡ false)) ⊎ IsBadLine l.state l.rest
-        → ((h : Gate) × Restores g journal h) ⊎ ((place : ℕ) × IsDamagedAt g journal place)
-    damaged l b = inr (length (journal_of l.entries), record { entries = l.entries; rest = l.rest; state = l.state; leads = l.leads; behind = refl; bad = b })
+    more_of : e ≡ f → Compared es fs r s → Compared (e ∷ es) (f ∷ fs) r s
+    more_of k (same a b) = same (λ i. k i ∷ a i) b
+    more_of k (shorter g more a b) = shorter g more (λ i. sym k i ∷ a i) b
+    more_of k (longer g more a b) = longer g more (λ i. k i ∷ a i) b
 
-    last : (l : IsLedTo g.machine journal) → has_newline l.rest ≡ false → (t : Bool) → is_torn l.rest ≡ t → ((h : Gate) × Restores g journal h) ⊎ ((place : ℕ) × IsDamagedAt g journal place)
-    last l n true e = inl (record g { machine = l.state; entries = l.entries; kept = length l.entries }, record { state = l.state; torn = l.rest; leads = l.leads; cut = e; gate = refl })
-    last l n false e = damaged l (inl (n, e))
+-- where a journal is damaged, no other reading of it goes on
+no_further : (g : Gate) (es fs : List Entry) (h : Gate) (rest s : List Line) (f : Entry) (more : List Entry) → Stops g es rest → LeadOn g fs h → fs ≡ es ++ f ∷ more → rest ≡ journal_of (f ∷ more) ++ s → ⊥
+no_further g es fs h rest s f more stops l a b =
+    let on : LeadOn g ((es ++ f ∷ []) ++ more) h = subst (λ z. LeadOn g z h) (a ∙ sym (append_assoc es (f ∷ []) more)) l in
+    let x = front_leads g h (es ++ f ∷ []) more on in
+    stops f (journal_of more ++ s) (led g (es ++ f ∷ []) x.state) (b ∙ (journal_first f more s ∙ sym (journal_one f (journal_of more ++ s)))) x.on
 
-    stopped : (l : IsLedTo g.machine journal) → Stops l.state l.rest → ((h : Gate) × Restores g journal h) ⊎ ((place : ℕ) × IsDamagedAt g journal place)
-    stopped l (inl n) = last l n (is_torn l.rest) refl
-    stopped l (inr b) = damaged l (inr b)
+pub entry_there : (es fs : List Entry) (e : Entry) (more : List Entry) → fs ≡ es ++ e ∷ more → AllByRecursion IsEntry fs → IsEntry e
+entry_there es fs e more a w = (behind_all IsEntry es (e ∷ more) (subst (AllByRecursion IsEntry) a w)).0
 
-    by : IsLedTo g.machine journal → ((h : Gate) × Restores g journal h) ⊎ ((place : ℕ) × IsDamagedAt g journal place)
-    by l = stopped l l.stops
+restored_once : ReadsBack → (g : Gate) (lines : List Line) (h i : Gate) → Restores g lines h → Restores g lines i → h ≡ i
+restored_once reads g lines h i x y = by (compare reads h.entries i.entries [] [] x.leads.well y.leads.well (append-nil (journal_of h.entries) ∙ (sym x.all ∙ (y.all ∙ sym (append-nil (journal_of i.entries))))))
+  where
+    by : Compared h.entries i.entries [] [] → h ≡ i
+    by (same a b) =
+        let state : x.leads.state ≡ y.leads.state = one_some x.leads.state y.leads.state (sym x.leads.accepted ∙ (ap (λ es. all_carried (facts_of es) g.machine) a ∙ y.leads.accepted)) in
+        x.leads.gate ∙ ((λ k. led g (a k) (state k)) ∙ sym y.leads.gate)
+    by (shorter f more a b) = absurd (no_lines f more [] (entry_there h.entries i.entries f more a y.leads.well) b)
+    by (longer e more a b) = absurd (no_lines e more [] (entry_there i.entries h.entries e more a x.leads.well) b)
 
-restored_once : (g : Gate) (journal : List ℕ) (h i : Gate) → Restores g journal h → Restores g journal i → h ≡ i
-restored_once g journal h i x y =
-    let e = same_led g.machine x.state y.state journal h.entries i.entries x.torn y.torn x.leads y.leads (inl (torn_is_one x.torn x.cut)) (inl (torn_is_one y.torn y.cut)) in
-    x.gate ∙ ((λ k. record g { machine = e.state k; entries = e.entries k; kept = length (e.entries k) }) ∙ sym y.gate)
+damaged_once : ReadsBack → (g : Gate) (lines : List Line) (p q : ℕ) → IsDamagedAt g lines p → IsDamagedAt g lines q → p ≡ q
+damaged_once reads g lines p q x y = by (compare reads x.entries y.entries x.rest y.rest x.leads.well y.leads.well (sym x.all ∙ y.all))
+  where
+    by : Compared x.entries y.entries x.rest y.rest → p ≡ q
+    by (same a b) = x.behind ∙ (ap (λ z. length (journal_of z)) a ∙ sym y.behind)
+    by (shorter f more a b) = absurd (no_further g x.entries y.entries y.gate x.rest y.rest f more x.bad y.leads a b)
+    by (longer e more a b) = absurd (no_further g y.entries x.entries x.gate y.rest x.rest e more y.bad x.leads a b)
 
-damaged_once : (g : Gate) (journal : List ℕ) (p q : ℕ) → IsDamagedAt g journal p → IsDamagedAt g journal q → p ≡ q
-damaged_once g journal p q x y =
-    let e = same_led g.machine x.state y.state journal x.entries y.entries x.rest y.rest x.leads y.leads (damage_stops x.state x.rest x.bad) (damage_stops y.state y.rest y.bad) in
-    x.behind ∙ (ap (λ z. length (journal_of z)) e.entries ∙ sym y.behind)
+never_both : ReadsBack → (g : Gate) (lines : List Line) (h : Gate) (place : ℕ) → Restores g lines h → IsDamagedAt g lines place → ⊥
+never_both reads g lines h place x y = by (compare reads y.entries h.entries y.rest [] y.leads.well x.leads.well (sym y.all ∙ (x.all ∙ sym (append-nil (journal_of h.entries)))))
+  where
+    itself : (n m : ℕ) → n ≡ m → n < m → ⊥
+    itself n m h k = omega (arith, h, k)
 
-never_both : (g : Gate) (journal : List ℕ) (h : Gate) (place : ℕ) → Restores g journal h → IsDamagedAt g journal place → ⊥
-never_both g journal h place x y =
-    let e = same_led g.machine x.state y.state journal h.entries y.entries x.torn y.rest x.leads y.leads (inl (torn_is_one x.torn x.cut)) (damage_stops y.state y.rest y.bad) in
-    not_torn y.state y.rest y.bad (ap is_torn (sym e.rest) ∙ x.cut)
+    by : Compared y.entries h.entries y.rest [] → ⊥
+    by (same a b) = itself place (length lines) (y.behind ∙ (ap length (sym (append-nil (journal_of y.entries)) ∙ ap (λ z. journal_of y.entries ++ z) (sym b)) ∙ ap length (sym y.all))) y.some
+    by (shorter f more a b) = no_further g y.entries h.entries h y.rest [] f more y.bad x.leads a b
+    by (longer e more a b) = no_lines e more y.rest (entry_there h.entries y.entries e more a y.leads.well) b
 
-pub journal_is_decided : (g : Gate) (journal : List ℕ) → IsDecided g journal
-journal_is_decided g journal = record { either = either_way g journal; one_gate = restored_once g journal; one_place = damaged_once g journal; not_both = never_both g journal }
+pub journal_is_decided : ReadsBack → (g : Gate) (lines : List Line) → IsDecided g lines
+journal_is_decided reads g lines = record { either = either_way reads g lines; one_gate = restored_once reads g lines; one_place = damaged_once reads g lines; not_both = never_both reads g lines }

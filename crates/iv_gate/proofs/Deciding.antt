@@ -1,6 +1,6 @@
 -- What a client is replied is the machine's reply in a session of its role, or the refusal that is said.
-use Rattle.std.proofs.Common.{◌≡◌, ◌⊎◌, inl, inr, ℕ, zero, suc, ◌<◌, ◌≤◌, Bool, true, false, not, cond, ◌||◌, List, [], ◌∷◌, ◌++◌, length, Option, Some, None, is_some, refl, ap, ◌∙◌, sym, subst, arith}
-use Rattle.std.specs.Prelude.{◌==◌, count_by, filter, find, nat_le, nat_lt, option_and_then}
+use Rattle.std.proofs.Common.{◌≡◌, ◌⊎◌, inl, inr, ℕ, zero, suc, ◌<◌, ◌≤◌, Bool, true, false, not, cond, ◌||◌, List, [], ◌∷◌, ◌++◌, length, Option, Some, None, is_some, refl, ap, ◌∙◌, sym, subst, arith, length-append}
+use Rattle.std.specs.Prelude.{◌==◌, count_by, filter, find, nat_le, nat_lt, option_and_then, ◌&&◌, ◌+◌, bytes_eq, codes, drop}
 use Rattle.std.specs.List.{AllByRecursion, list_any}
 use Rattle.std.proofs.lemmas.Bool.{false≢true, eqb-true}
 use Rattle.std.proofs.lemmas.Bool.Decides.{nat_tests}
@@ -17,26 +17,35 @@ use Rattle.iv_machine.specs.Machine.{outcome, settled, step}
 use Rattle.iv_machine.specs.Reached.{AreUnique}
 use Rattle.iv_machine.specs.Refusing.{or_else, refusal, test}
 use Rattle.iv_machine.specs.State.{Session, State, Subscription, is_open, session_of}
-use Rattle.iv_message.specs.Message.{Message, no_json, too_long, no_object, no_request, request}
-use Rattle.iv_message.specs.Told.{Told, replied}
+use Rattle.iv_message.specs.Message.{Message, no_json, too_long, no_object, no_request, request, unknown}
+use Rattle.iv_message.specs.Told.{Told, replied, denied, unasked, undecided, answered}
 use Rattle.iv_clients.specs.Bounds.{most_feeds, most_seats, most_subs}
-use Rattle.iv_clients.specs.Clients.{Client, Slots}
+use Rattle.iv_clients.specs.Clients.{Client, Slots, client_at}
 use Rattle.iv_clients.specs.Feeds.{Feed, Seat, feed_for, is_begun, next_seat, room_for, seat_of, without_feed, without_seat}
-use Rattle.iv_clients.specs.Journal.{said_by}
+use Rattle.iv_clients.specs.Journal.{said_by, Request, claim_said, names_in, Entry}
 use Rattle.iv_clients.proofs.Slots.{some_is_none}
 use Rattle.iv_gate.specs.Events.{Event}
-use Rattle.iv_gate.specs.Gate.{Gate, begun_for, in_session, is_accepted, reply_in, reply_to, seated, has_shape_room}
-use Rattle.iv_gate.specs.Replies.{ActsAs, AreReplied, IsFull, IsReadingReply, IsReplyTo, IsReplyToAct, IsMachineReply, reading_told}
-use Rattle.iv_gate.proofs.Answering.{heard_is, others_told, own_answer, own_told}
+use Rattle.iv_gate.specs.Gate.{Gate, begun_for, in_session, is_accepted, reply_in, reply_to, seated, has_shape_room, Log, answer_text, answering, asked_by, entered, entries_of, may_have, names_of, place_at, place_of}
+use Rattle.iv_gate.specs.Replies.{ActsAs, AreReplied, IsFull, IsReadingReply, IsReplyTo, IsReplyToAct, reading_told, IsNamedReply, IsReplyToShared, IsSharedReply, added_by, count_of, elsewhere, is_repeated, names_by, place_behind, is_done, is_left}
+use Rattle.iv_gate.proofs.Answering.{heard_is, others_told, own_answer, own_told, heard_next, IsOwn}
 use Rattle.iv_gate.proofs.Asking.{begun_accepted, feed_acts, new_seat_acts, room_acts, seat_of_acts}
 use Rattle.iv_gate.proofs.Beginning.{begins_quietly, begun_state}
 use Rattle.iv_gate.proofs.Few.{feeds_in, one_less, shorter, none_full}
 use Rattle.iv_gate.proofs.Keeping.{IsKept}
 use Rattle.iv_gate.proofs.Machine.{find_passes}
-use Rattle.iv_gate.proofs.Replying.{act_reply, asked, begun_reply, first_reply, other_reply, read_reply, said_reply}
+use Rattle.iv_gate.proofs.Replying.{act_reply, asked, begun_reply, first_reply, read_reply, said_reply, act_added, adds_said, carried_reply, decided_added, decided_reply, done_reply, said_added, shared_added, shared_reply, verdict_added, verdict_reply}
 use Rattle.iv_gate.proofs.Sharing.{IsFed, numbers_in, role_there, seats_in}
 use Rattle.iv_gate.proofs.Sound.{IsSoundGate, Sounds, left_of}
 use Rattle.iv_gate.proofs.Summing.{neither}
+use Rattle.iv_once.specs.Names.{Ask, Verdict, verdict, Named}
+use Rattle.iv_clients.specs.Names.{Claim, place_text}
+use Rattle.iv_gate.proofs.Answered.{again_said, ahead_said, another_said, foreign_said, has_to_wait, is_again, is_ahead, is_another, is_carried, is_foreign, is_late, late_said, over_said, place_is, Reason, reason_of}
+use Rattle.std.proofs.lemmas.Slice.Eq.{bytes_eq-Decides}
+use Rattle.iv_gate.proofs.Growing.{drop_front}
+use Rattle.std.proofs.lemmas.List.Elements.{filter-append}
+use Rattle.std.proofs.lemmas.List.Concat.{flat_map-append}
+use Rattle.iv_steps.specs.Steps.{is_shared}
+use Rattle.iv_gate.proofs.Stepping.{request_of}
 
 -- ---- a session's subscriptions are feeds of it
 
@@ -260,56 +269,142 @@ read_true sounds g c id rel seat b k = test (nat_lt (length c.subs) most_subs) r
     test true e = by (feed_for g.feeds c.role rel) refl
     test false e = inl (inl (at_least most_subs (length c.subs) e), refl)
 
+-- ---- the reply to a request that changes what is shared
+
+carried_true : (g : Gate) (c : Client) (q : Request) → q.role ≡ c.role → is_some (seat_of g.seats c.role) ≡ true → IsSoundGate g → IsSharedReply g c q.act (carried_reply g q)
+carried_true g c q role seat b = by (has_shape_room g q.act) refl (seat_of g.seats q.role) refl
+  where
+    by : (t : Bool) → has_shape_room g q.act ≡ t → (o : Option ℕ) → seat_of g.seats q.role ≡ o
+        → IsSharedReply g c q.act (cond t (if_some o (refused no_session) (λ n. reply_to g (in_session n q.act))) (refused limit))
+    by true e None f = absurd (false≢true (sym (ap is_some f) ∙ (ap (λ r. is_some (seat_of g.seats r)) role ∙ seat)))
+    by true e (Some n) f = inl (e, (n, subst (ActsAs g.machine n) role (seat_of_acts g b q.role n f), refl))
+    by false e o f = inr (e, refl)
+
+-- its name stands one further
+place_more : (g : Gate) (q : Request) (a : Ask) (r : Reply) → is_shared q.act ≡ true → place_text (place_of (entered g (entries_of q (Some a) r)) a.holder) ≡ place_behind g a.holder 1
+place_more g q a r h =
+    place_is (entered g (entries_of q (Some a) r)) a.holder
+    ∙ (let n : count_of (entered g (entries_of q (Some a) r)) a.holder + 0 ≡ count_of g a.holder + 1 = omega (arith, more) in
+    λ i. place_text (record { epoch = (place_at g.head a.holder).epoch; count = n i }))
+  where
+    e : Entry
+    e = record { requests = cond (is_accepted r) (q ∷ []) []; names = answering (Some a) r; position = None }
+
+    one : entries_of q (Some a) r ≡ record { requests = cond (is_accepted r) (q ∷ []) []; names = answering (Some a) r; position = None } ∷ []
+    one = ap (λ t. cond (t && (is_accepted r || true)) (e ∷ []) []) h ∙ by (is_accepted r)
+      where
+        by : (t : Bool) → cond (true && (t || true)) (e ∷ []) [] ≡ e ∷ []
+        by true = refl
+        by false = refl
+
+    names : names_by (entered g (entries_of q (Some a) r)) a.holder ≡ names_by g a.holder ++ record { ask = a; refused = not (is_accepted r); answer = answer_text r } ∷ []
+    names = ap (λ es. filter (λ (x : Named). bytes_eq x.ask.holder a.holder) (names_in (g.entries ++ es))) one
+        ∙ (ap (filter (λ (x : Named). bytes_eq x.ask.holder a.holder)) (flat_map-append (λ (x : Entry). x.names) g.entries (e ∷ []))
+        ∙ (filter-append (λ (x : Named). bytes_eq x.ask.holder a.holder) (names_in g.entries) (answering (Some a) r ++ [])
+        ∙ ap (λ t. names_by g a.holder ++ cond t (record { ask = a; refused = not (is_accepted r); answer = answer_text r } ∷ []) []) ((bytes_eq-Decides a.holder a.holder).1 refl)))
+
+    more : length (names_by (entered g (entries_of q (Some a) r)) a.holder) ≡ length (names_by g a.holder) + 1
+    more = ap length names ∙ length-append (names_by g a.holder) (record { ask = a; refused = not (is_accepted r); answer = answer_text r } ∷ [])
+
+-- where a log is followed, and where none is
+log_none : (o : Option Log) → is_some o ≡ false → o ≡ None
+log_none None h = refl
+log_none (Some l) h = absurd (false≢true (sym h))
+
+named_true : (g : Gate) (c : Client) (id : Option Data) (q : Request) (a : Ask) → q.role ≡ c.role → is_shared q.act ≡ true → is_some (seat_of g.seats c.role) ≡ true → IsSoundGate g
+    → IsNamedReply g c id q a (decided_reply g id q (Some a)) (decided_added g q (Some a))
+named_true g c id q a role shared seat b = by (is_some g.head.log) refl
+  where
+    r : Reply
+    r = carried_reply g q
+
+    by : (t : Bool) → is_some g.head.log ≡ t → IsNamedReply g c id q a (cond t (undecided id 100) (done_reply g id q (Some a) (carried_reply g q))) (cond t [] (entries_of q (Some a) (carried_reply g q)))
+    by true e = is_left 100 (elsewhere e)
+    by false e = subst (λ at. IsNamedReply g c id q a (answered id false at (answer_text (carried_reply g q))) (entries_of q (Some a) (carried_reply g q))) (sym (place_more g q a r shared))
+        (is_done r (log_none g.head.log e) (carried_true g c q role seat b))
+
+verdict_true : (g : Gate) (c : Client) (id : Option Data) (q : Request) (a : Ask) (v : Verdict) → Reason (names_of g) a v → q.role ≡ c.role → is_shared q.act ≡ true → is_some (seat_of g.seats c.role) ≡ true → IsSoundGate g
+    → IsNamedReply g c id q a (verdict_reply g id q a v) (verdict_added g q a v)
+verdict_true g c id q a _ (is_carried w) role shared seat b = named_true g c id q a role shared seat b
+verdict_true g c id q a _ (is_again x f t) role shared seat b =
+    subst (λ at. IsNamedReply g c id q a (answered id true at x.answer) []) (sym (place_is g a.holder)) (is_repeated x.answer (again_said g a x f t))
+verdict_true g c id q a _ (is_another x f t) role shared seat b = is_left 101 (another_said g a x f t)
+verdict_true g c id q a _ (is_late t) role shared seat b = is_left 102 (late_said g a t)
+verdict_true g c id q a _ (is_foreign t) role shared seat b = is_left 103 (foreign_said g a t)
+verdict_true g c id q a _ (is_ahead t) role shared seat b = is_left 104 (ahead_said g a t)
+verdict_true g c id q a _ (has_to_wait t) role shared seat b = is_left 104 (over_said g a t)
+
+shared_true : (g : Gate) (c : Client) (id : Option Data) (q : Request) (claim : Option Claim) → q.role ≡ c.role → is_shared q.act ≡ true → is_some (seat_of g.seats c.role) ≡ true → IsSoundGate g
+    → IsReplyToShared g c id q claim (shared_reply g c id q claim) (shared_added g c q claim)
+shared_true g c id q (Some k) role shared seat b = let a = asked_by c q.line k in verdict_true g c id q a (verdict (names_of g) a) (reason_of (names_of g) a) role shared seat b
+shared_true g c id q None role shared seat b = by (is_some g.head.log) refl
+  where
+    by : (t : Bool) → is_some g.head.log ≡ t
+        → IsReplyToShared g c id q None (cond t (denied id 100) (done_reply g id q None (carried_reply g q))) (cond t [] (entries_of q None (carried_reply g q)))
+    by true e = inl (e, refl, refl)
+    by false e = inr (carried_reply g q, log_none g.head.log e, carried_true g c q role seat b, refl, refl)
+
 -- ---- the reply to a message
 
-other_true : (g : Gate) (c : Client) (id : Option Data) (act : Act) → is_some (seat_of g.seats c.role) ≡ true → IsSoundGate g → (r : Reply) × IsMachineReply g.machine c.role act r × (other_reply g c id act ≡ replied id r)
-other_true g c id act seat b = by (seat_of g.seats c.role) refl seat
-  where
-    by : (o : Option ℕ) → seat_of g.seats c.role ≡ o → is_some o ≡ true
-        → (r : Reply) × IsMachineReply g.machine c.role act r × (if_some o (replied id (refused no_session)) (λ n. replied id (reply_to g (in_session n act))) ≡ replied id r)
-    by None e h = absurd (false≢true h)
-    by (Some n) e h = (reply_to g (in_session n act), (n, seat_of_acts g b c.role n e, refl), refl)
+module _ (sounds : Sounds) (g : Gate) (slots : Slots) (c : Client) (seat : is_some (seat_of g.seats c.role) ≡ true) (b : IsSoundGate g) (k : IsKept g) where
+  abbrev h : Gate
+  h = record g { clients = slots }
 
-act_true : Sounds → (g : Gate) (slots : Slots) (c : Client) (id : Option Data) (act : Act) → is_some (seat_of g.seats c.role) ≡ true → IsSoundGate g → IsKept g → IsReplyToAct g c id act (act_reply (record g { clients = slots }) c id act)
-act_true sounds g slots c id (begin role) seat b k = refl
-act_true sounds g slots c id finish seat b k = refl
-act_true sounds g slots c id (subscribe rel) seat b k = read_true sounds g c id rel seat b k
-act_true sounds g slots c id (unsubscribe own) seat b k = refl
-act_true sounds g slots c id (create_role name) seat b k = other_true g c id (create_role name) seat b
-act_true sounds g slots c id (create_table name owner columns) seat b k = other_true g c id (create_table name owner columns) seat b
-act_true sounds g slots c id (create_view name owner query) seat b k = other_true g c id (create_view name owner query) seat b
-act_true sounds g slots c id (grant rel privileges to) seat b k = other_true g c id (grant rel privileges to) seat b
-act_true sounds g slots c id (revoke rel privileges to) seat b k = other_true g c id (revoke rel privileges to) seat b
-act_true sounds g slots c id (grant_role group to) seat b k = other_true g c id (grant_role group to) seat b
-act_true sounds g slots c id (revoke_role group to) seat b k = other_true g c id (revoke_role group to) seat b
-act_true sounds g slots c id (row_security rel enable force) seat b k = other_true g c id (row_security rel enable force) seat b
-act_true sounds g slots c id (create_policy p) seat b k = other_true g c id (create_policy p) seat b
-act_true sounds g slots c id (drop_policy rel name) seat b k = other_true g c id (drop_policy rel name) seat b
-act_true sounds g slots c id (write entries) seat b k = other_true g c id (write entries) seat b
+  other_true : (id : Option Data) (text : List ℕ) (act : Act) → is_shared act ≡ true
+      → IsReplyToShared g c id (request_of c text act) (claim_said text) (shared_reply (record g { clients = slots }) c id (request_of c text act) (claim_said text))
+      (shared_added (record g { clients = slots }) c (request_of c text act) (claim_said text))
+  other_true id text act s = shared_true g c id (request_of c text act) (claim_said text) refl s seat b
 
-said_true : Sounds → (g : Gate) (slots : Slots) (c : Client) (s : Message) → is_some (seat_of g.seats c.role) ≡ true → IsSoundGate g → IsKept g → IsReplyTo g c s (said_reply (record g { clients = slots }) c s)
-said_true sounds g slots c no_json seat b k = refl
-said_true sounds g slots c too_long seat b k = refl
-said_true sounds g slots c no_object seat b k = refl
-said_true sounds g slots c (no_request id why) seat b k = refl
-said_true sounds g slots c (request id act) seat b k = by (has_shape_room g act) refl
-  where
-    by : (t : Bool) → has_shape_room g act ≡ t → IsReplyTo g c (request id act) (cond t (act_reply (record g { clients = slots }) c id act) (replied id (refused limit)))
-    by true e = inl (e, act_true sounds g slots c id act seat b k)
-    by false e = inr (e, refl)
+  act_true : (id : Option Data) (text : List ℕ) (act : Act) → IsReplyToAct g c id text act (act_reply (record g { clients = slots }) c id text act) (act_added (record g { clients = slots }) c text act)
+  act_true id text (begin role) = (refl, refl)
+  act_true id text finish = (refl, refl)
+  act_true id text (subscribe rel) = (refl, read_true sounds g c id rel seat b k)
+  act_true id text (unsubscribe own) = (refl, refl)
+  act_true id text (create_role name) = other_true id text (create_role name) refl
+  act_true id text (create_table name owner columns) = other_true id text (create_table name owner columns) refl
+  act_true id text (create_view name owner query) = other_true id text (create_view name owner query) refl
+  act_true id text (grant rel privileges to) = other_true id text (grant rel privileges to) refl
+  act_true id text (revoke rel privileges to) = other_true id text (revoke rel privileges to) refl
+  act_true id text (grant_role group to) = other_true id text (grant_role group to) refl
+  act_true id text (revoke_role group to) = other_true id text (revoke_role group to) refl
+  act_true id text (row_security rel enable force) = other_true id text (row_security rel enable force) refl
+  act_true id text (create_policy p) = other_true id text (create_policy p) refl
+  act_true id text (drop_policy rel name) = other_true id text (drop_policy rel name) refl
+  act_true id text (write entries) = other_true id text (write entries) refl
+
+  pub said_true : (text : List ℕ) (s : Message) → IsReplyTo g c text s (said_reply (record g { clients = slots }) c text s) (said_added (record g { clients = slots }) c text s)
+  said_true text no_json = (refl, refl)
+  said_true text too_long = (refl, refl)
+  said_true text no_object = (refl, refl)
+  said_true text (no_request id why) = (refl, refl)
+  said_true text (request id act) = by (may_have (claim_said text) act) refl
+    where
+      by : (t : Bool) → may_have (claim_said text) act ≡ t
+          → IsReplyTo g c text (request id act) (cond t (act_reply (record g { clients = slots }) c id text act) (unasked id (unknown (codes "once")))) (cond t (act_added (record g { clients = slots }) c text act) [])
+      by true e = inl (e, act_true id text act)
+      by false e = inr (e, refl, refl)
 
 -- ---- by an event
+
+-- what a message that is heard adds is what its reply says
+added_true : (g : Gate) (e : Event) (m : ℕ) (c : Client) (text : List ℕ) → g.dead ≡ false → client_at g.clients m ≡ Some c → IsOwn m c e text
+    → added_by g e ≡ said_added (asked g m text) c text (said_by text)
+added_true g e m c text live t o =
+    ap (drop (length g.entries)) (ap (λ (x : Gate). x.entries) (heard_next g e m c text live t o) ∙ adds_said (asked g m text) m c text (said_by text))
+    ∙ drop_front g.entries (said_added (asked g m text) c text (said_by text))
 
 -- a client is told first the reply to its message, and others are told none
 pub are_replied : Sounds → (g : Gate) (e : Event) → IsSoundGate g → IsKept g → g.dead ≡ false → AreReplied g e
 are_replied sounds g e b k live = record {
   own = λ m c d x y text u.
-      let a = own_answer g e m c d text live x.there y.there (heard_is m c e text u) in
+      let o = heard_is m c e text u in
+      let a = own_answer g e m c d text live x.there y.there o in
       let seat = k.shared.seated c.role (role_there g.clients m c x.there) in (
-        said_reply (asked g m text) c (said_by text),
+        said_reply (asked g m text) c text (said_by text),
         a.others,
-        own_told g m c text d a ∙ ap (λ z. z ++ said_reply (asked g m text) c (said_by text) ∷ a.others) (a.first (begins_quietly (asked g m text) b.state)),
-        said_true sounds g (asked g m text).clients c (said_by text) seat b k,
+        own_told g m c text d a ∙ ap (λ z. z ++ said_reply (asked g m text) c text (said_by text) ∷ a.others) (a.first (begins_quietly (asked g m text) b.state)),
+        subst (IsReplyTo g c text (said_by text) (said_reply (asked g m text) c text (said_by text))) (sym (added_true g e m c text live x.there o))
+            (said_true sounds g (asked g m text).clients c seat b k text (said_by text)),
         a.alone,
       );
   others = λ m c d x y u. others_told g e m c d live x y u;

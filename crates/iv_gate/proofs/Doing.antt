@@ -1,29 +1,34 @@
 -- What is done for a message: its client is told one thing, a command is run, or a subscription is opened.
-use Rattle.std.proofs.Common.{◌≡◌, ℕ, zero, suc, ◌+◌, ◌≤◌, Bool, true, false, cond, not, List, [], ◌∷◌, ◌++◌, length, map, Option, Some, None, refl, ap, ◌∙◌, sym, subst, arith}
-use Rattle.std.specs.Prelude.{◌==◌, ◌&&◌, filter, nat_lt}
+use Rattle.std.proofs.Common.{◌≡◌, ℕ, zero, suc, ◌+◌, ◌≤◌, Bool, true, false, cond, not, List, [], ◌∷◌, ◌++◌, length, map, Option, Some, None, refl, ap, ◌∙◌, sym, subst, arith, append-nil, ◌||◌}
+use Rattle.std.specs.Prelude.{◌==◌, ◌&&◌, filter, nat_lt, codes, is_some}
 use Rattle.std.specs.List.{AllByRecursion, list_any}
 use Rattle.std.proofs.lemmas.Bool.{ltb-true}
 use Rattle.serde_json.specs.Data.{Data}
 use Rattle.iv_rows.specs.Options.{if_some}
 use Rattle.iv_access.specs.Rights.{Name}
-use Rattle.iv_machine.specs.Act.{Act, begin, finish, create_role, create_table, create_view, grant, revoke, grant_role, revoke_role, row_security, create_policy, drop_policy, subscribe, unsubscribe, write, Refusal, Reply, done, subscribed, refused, no_session, too_many, unknown_subscription, limit}
+use Rattle.iv_machine.specs.Act.{Act, begin, finish, create_role, create_table, create_view, grant, revoke, grant_role, revoke_role, row_security, create_policy, drop_policy, subscribe, unsubscribe, write, Refusal, Reply, done, subscribed, refused, too_many, unknown_subscription}
 use Rattle.iv_machine.specs.Machine.{outcome}
 use Rattle.iv_machine.specs.Refusing.{refusal}
 use Rattle.iv_machine.specs.Sound.{IsSoundState}
 use Rattle.iv_machine.specs.State.{State}
-use Rattle.iv_message.specs.Message.{Message, no_json, too_long, no_object, no_request, request}
-use Rattle.iv_message.specs.Told.{Told, changed, over, granted, replied, fault, unasked}
+use Rattle.iv_message.specs.Message.{Message, no_json, too_long, no_object, no_request, request, unknown}
+use Rattle.iv_message.specs.Told.{Told, changed, over, granted, replied, fault, unasked, denied, undecided, answered}
 use Rattle.iv_clients.specs.Bounds.{most_subs}
 use Rattle.iv_clients.specs.Clients.{Client, Slots, Sub, at_client, closing, followed_by, is_followed, moved, moved_sub, told, told_one}
-use Rattle.iv_clients.specs.Feeds.{Feed, feed_for, feed_of, is_reading, room_for, seat_of}
-use Rattle.iv_clients.specs.Journal.{Entry, is_shared, line_said, said_by}
-use Rattle.iv_gate.specs.Gate.{Gate, acts, begun_for, closes, done_for, feed_begun, in_session, joined, joined_by, joins, ran, reads, reads_first, reply_to, requests, seated, shut, subscribes, swept, tells, has_shape_room}
+use Rattle.iv_clients.specs.Feeds.{Feed, feed_for, feed_of, is_reading, room_for}
+use Rattle.iv_clients.specs.Journal.{Entry, is_shared, said_by, Request, claim_said, requests_in}
+use Rattle.iv_gate.specs.Gate.{Gate, acts, begun_for, closes, done_for, feed_begun, in_session, joined, joined_by, joins, ran, reads, reads_first, reply_to, done_in, seated, shut, subscribes, swept, tells, answering, entered, entries_of, may_have, replies_to, reply_told, shares, is_accepted}
 use Rattle.iv_gate.proofs.Calm.{ran_alone, seated_still, shut_clients, shut_last, swept_clients, swept_last}
 use Rattle.iv_gate.proofs.Joining.{any_moved}
 use Rattle.iv_gate.proofs.Opening.{reply_of_none, reply_of_some}
 use Rattle.iv_gate.proofs.Sound.{Seer, Sounds, seer_one}
 use Rattle.iv_gate.specs.Laws.{is_made, is_word}
 use Rattle.iv_gate.proofs.Shaping.{test_of}
+use Rattle.iv_once.specs.Names.{Ask}
+use Rattle.iv_clients.specs.Names.{Claim}
+use Rattle.iv_gate.proofs.Choosing.{IsAside, leaves, refers, repeats, shares_so}
+use Rattle.std.proofs.lemmas.List.Concat.{flat_map-append}
+use Rattle.iv_gate.proofs.Stepping.{request_of}
 
 -- ---- texts
 
@@ -85,7 +90,8 @@ pub record HasAnswered (g : Gate) (m : ℕ) (h : Gate) : Type 0 where
   pub fewer : (c : Client) → length (change c).subs ≤ length c.subs
   pub owed : (c : Client) → (change c).owed ≡ true
   pub last : h.machine.frame.last ≡ g.machine.frame.last
-  pub entries : h.entries ≡ g.entries
+  -- a name that was refused may have joined the journal, and no request
+  pub entries : requests_in h.entries ≡ requests_in g.entries
   pub clients : h.clients ≡ at_client m change g.clients
 
 -- some message asks it
@@ -94,7 +100,7 @@ IsSaid act = (text : List ℕ) × (id : Option Data) × (said_by text ≡ reques
 
 pub data IsDone (g : Gate) (m : ℕ) (c : Client) (h : Gate) : Type 0 where
   answers : HasAnswered g m h → IsDone g m c h
-  asks : (id : Option Data) (e : Entry) (n : ℕ) → is_shared e.act ≡ true → IsSaid e.act → h ≡ requests g m id e n → IsDone g m c h
+  asks : (id : Option Data) (q : Request) (name : Option Ask) (n : ℕ) → is_shared q.act ≡ true → IsSaid q.act → h ≡ done_in g m id q name n → IsDone g m c h
   opens : HasRead g m c h → IsDone g m c h
 
 at_same_all : (m : ℕ) (slots : Slots) → at_client m (λ c. c) slots ≡ slots
@@ -131,6 +137,54 @@ telling_done g m c t calm plain unmade = answers (record {
   entries = refl;
   clients = refl;
 })
+
+-- a refusal adds no request to the journal
+pub refused_asks_none : (es : List Entry) (q : Request) (name : Option Ask) (r : Refusal) → requests_in (es ++ entries_of q name (refused r)) ≡ requests_in es
+refused_asks_none es q name r = flat_map-append (λ (e : Entry). e.requests) es (entries_of q name (refused r)) ∙ (ap (λ z. requests_in es ++ z) (by (is_shared q.act && is_some name)) ∙ append-nil (requests_in es))
+  where
+    by : (b : Bool) → requests_in (cond b (record { requests = []; names = answering name (refused r); position = None } ∷ []) []) ≡ []
+    by true = refl
+    by false = refl
+
+-- what is accepted adds its request, and nothing else does
+pub requests_entered : (q : Request) (name : Option Ask) (r : Reply) → is_shared q.act ≡ true → requests_in (entries_of q name r) ≡ cond (is_accepted r) (q ∷ []) []
+requests_entered q name r h =
+    ap (λ b. requests_in (cond (b && (is_accepted r || is_some name)) (record { requests = cond (is_accepted r) (q ∷ []) []; names = answering name r; position = None } ∷ []) [])) h
+    ∙ by (is_accepted r) (is_some name)
+  where
+    by : (a n : Bool) → requests_in (cond (true && (a || n)) (record { requests = cond a (q ∷ []) []; names = answering name r; position = None } ∷ []) []) ≡ cond a (q ∷ []) []
+    by true n = refl
+    by false true = refl
+    by false false = refl
+
+pub calm_reply : (g : Gate) (id : Option Data) (name : Option Ask) (r : Reply) → is_news (reply_told g id name r) ≡ false
+calm_reply g id None r = refl
+calm_reply g id (Some a) r = refl
+
+pub plain_reply : (g : Gate) (id : Option Data) (name : Option Ask) (r : Reply) → is_word (reply_told g id name r) ≡ false
+plain_reply g id None r = refl
+plain_reply g id (Some a) r = refl
+
+pub unmade_reply : (g : Gate) (id : Option Data) (name : Option Ask) (r : Reply) → is_made (reply_told g id name r) ≡ false
+unmade_reply g id None r = refl
+unmade_reply g id (Some a) r = refl
+
+refusing_done : (g : Gate) (m : ℕ) (c : Client) (id : Option Data) (q : Request) (name : Option Ask) (r : Refusal) → IsDone g m c (replies_to g m id q name (refused r))
+refusing_done g m c id q name r =
+    let h = entered g (entries_of q name (refused r)) in let t = reply_told h id name (refused r) in
+    answers (record {
+      text = t;
+      calm = calm_reply h id name (refused r);
+      plain = plain_reply h id name (refused r);
+      unmade = unmade_reply h id name (refused r);
+      change = told_one h.entries t;
+      told = λ x. told_more h.entries t x;
+      fewer = λ x. omega arith;
+      owed = λ x. refl;
+      last = refl;
+      entries = refused_asks_none g.entries q name r;
+      clients = refl;
+    })
 
 pub fewer_left : (p : Sub → Bool) (xs : List Sub) → length (filter p xs) ≤ length xs
 fewer_left p [] = omega arith
@@ -224,7 +278,7 @@ module _ (sounds : Sounds) (g : Gate) (m : ℕ) (c : Client) where
             fewer = λ x. omega arith;
             owed = λ x. refl;
             last = ap (λ o. (outcome i.machine (in_session n (subscribe rel)) o).state.frame.last) e ∙ last;
-            entries = entries;
+            entries = ap requests_in entries;
             clients = refused_clients i m id n rel x e ∙ ap (at_client m (told_one i.entries t)) clients;
           })))
 
@@ -273,31 +327,38 @@ module _ (sounds : Sounds) (g : Gate) (m : ℕ) (c : Client) where
         fewer = λ x. fewer_left (λ (s : Sub). not (own == s.own)) x.subs;
         owed = λ x. refl;
         last = swept_last (tells h m (replied id done)) k;
-        entries = swept_entries (tells h m (replied id done)) k;
+        entries = ap requests_in (swept_entries (tells h m (replied id done)) k);
         clients = swept_clients (tells h m (replied id done)) k b ∙ at_twice m (told_one g.entries (replied id done)) (closing own) g.clients;
       })
 
-  other_done : (id : Option Data) (text : List ℕ) (act : Act) (o : Option ℕ) → is_shared act ≡ true → IsSaid act
-      → IsDone g m c (if_some o (tells g m (replied id (refused no_session))) (requests g m id (record { role = c.role; line = line_said text; act = act })))
-  other_done id text act None h said = telling_done g m c (replied id (refused no_session)) refl refl refl
-  other_done id text act (Some n) h said = asks id (record { role = c.role; line = line_said text; act = act }) n h said refl
+  shares_done : (id : Option Data) (q : Request) (claim : Option Claim) → is_shared q.act ≡ true → IsSaid q.act → IsDone g m c (shares g m c id q claim)
+  shares_done id q claim h said = shares_so (IsDone g m c) g m id q (record {
+    tells = λ t a. aside_done t a;
+    does = λ name n e. asks id q name n h said refl;
+    refuses = λ name r. refusing_done g m c id q name r;
+  }) c claim
+    where
+      aside_done : (t : Told) → IsAside t → IsDone g m c (tells g m t)
+      aside_done _ (refers i n) = telling_done g m c (denied i n) refl refl refl
+      aside_done _ (leaves i n) = telling_done g m c (undecided i n) refl refl refl
+      aside_done _ (repeats i at answer) = telling_done g m c (answered i true at answer) refl refl refl
 
   acts_done : (id : Option Data) (text : List ℕ) (act : Act) → IsSoundState g.machine → IsSaid act → IsDone g m c (acts g m c id text act)
   acts_done id text (begin role) b said = telling_done g m c (fault 2) refl refl refl
   acts_done id text finish b said = telling_done g m c (fault 2) refl refl refl
   acts_done id text (subscribe rel) b said = reads_done id rel b
   acts_done id text (unsubscribe own) b said = closes_done id own b
-  acts_done id text (create_role name) b said = other_done id text (create_role name) (seat_of g.seats c.role) refl said
-  acts_done id text (create_table name owner columns) b said = other_done id text (create_table name owner columns) (seat_of g.seats c.role) refl said
-  acts_done id text (create_view name owner query) b said = other_done id text (create_view name owner query) (seat_of g.seats c.role) refl said
-  acts_done id text (grant rel privileges to) b said = other_done id text (grant rel privileges to) (seat_of g.seats c.role) refl said
-  acts_done id text (revoke rel privileges to) b said = other_done id text (revoke rel privileges to) (seat_of g.seats c.role) refl said
-  acts_done id text (grant_role group to) b said = other_done id text (grant_role group to) (seat_of g.seats c.role) refl said
-  acts_done id text (revoke_role group to) b said = other_done id text (revoke_role group to) (seat_of g.seats c.role) refl said
-  acts_done id text (row_security rel enable force) b said = other_done id text (row_security rel enable force) (seat_of g.seats c.role) refl said
-  acts_done id text (create_policy p) b said = other_done id text (create_policy p) (seat_of g.seats c.role) refl said
-  acts_done id text (drop_policy rel name) b said = other_done id text (drop_policy rel name) (seat_of g.seats c.role) refl said
-  acts_done id text (write entries) b said = other_done id text (write entries) (seat_of g.seats c.role) refl said
+  acts_done id text (create_role name) b said = shares_done id (request_of c text (create_role name)) (claim_said text) refl said
+  acts_done id text (create_table name owner columns) b said = shares_done id (request_of c text (create_table name owner columns)) (claim_said text) refl said
+  acts_done id text (create_view name owner query) b said = shares_done id (request_of c text (create_view name owner query)) (claim_said text) refl said
+  acts_done id text (grant rel privileges to) b said = shares_done id (request_of c text (grant rel privileges to)) (claim_said text) refl said
+  acts_done id text (revoke rel privileges to) b said = shares_done id (request_of c text (revoke rel privileges to)) (claim_said text) refl said
+  acts_done id text (grant_role group to) b said = shares_done id (request_of c text (grant_role group to)) (claim_said text) refl said
+  acts_done id text (revoke_role group to) b said = shares_done id (request_of c text (revoke_role group to)) (claim_said text) refl said
+  acts_done id text (row_security rel enable force) b said = shares_done id (request_of c text (row_security rel enable force)) (claim_said text) refl said
+  acts_done id text (create_policy p) b said = shares_done id (request_of c text (create_policy p)) (claim_said text) refl said
+  acts_done id text (drop_policy rel name) b said = shares_done id (request_of c text (drop_policy rel name)) (claim_said text) refl said
+  acts_done id text (write entries) b said = shares_done id (request_of c text (write entries)) (claim_said text) refl said
 
   pub all_done : (text : List ℕ) (s : Message) → IsSoundState g.machine → said_by text ≡ s → IsDone g m c (done_for g m c text s)
   all_done text no_json b e = telling_done g m c (fault 1) refl refl refl
@@ -305,5 +366,5 @@ module _ (sounds : Sounds) (g : Gate) (m : ℕ) (c : Client) where
   all_done text no_object b e = telling_done g m c (fault 2) refl refl refl
   all_done text (no_request id why) b e = telling_done g m c (unasked id why) refl refl refl
   all_done text (request id act) b e =
-      test_of (IsDone g m c) (has_shape_room g act) (acts g m c id text act) (tells g m (replied id (refused limit))) (acts_done id text act b (text, id, e))
-      (telling_done g m c (replied id (refused limit)) refl refl refl)
+      test_of (IsDone g m c) (may_have (claim_said text) act) (acts g m c id text act) (tells g m (unasked id (unknown (codes "once")))) (acts_done id text act b (text, id, e))
+      (telling_done g m c (unasked id (unknown (codes "once"))) refl refl refl)

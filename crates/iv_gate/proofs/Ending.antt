@@ -1,6 +1,6 @@
 -- What a command ends is open no more, and shows nothing; what it does not end is told no end.
-use Rattle.std.proofs.Common.{◌≡◌, ℕ, Bool, true, false, cond, ◌||◌, List, [], ◌∷◌, Option, Some, None, is_some, refl, ap, ◌∙◌, sym, subst, inl, inr}
-use Rattle.std.specs.Prelude.{◌⊎◌, ◌==◌, ◌&&◌, flat_map, Contains}
+use Rattle.std.proofs.Common.{◌≡◌, ℕ, Bool, true, false, cond, not, ◌||◌, List, [], ◌∷◌, Option, Some, None, is_some, option_map, refl, ap, ◌∙◌, sym, subst, inl, inr}
+use Rattle.std.specs.Prelude.{◌⊎◌, ◌==◌, ◌&&◌, filter, flat_map, Contains}
 use Rattle.std.specs.List.{AllByRecursion, list_any}
 use Rattle.std.proofs.lemmas.Bool.{false≢true, eqb-true}
 use Rattle.std.proofs.lemmas.List.Elements.{All-contains, All-from_recursion, Contains-append_left, Contains-append_right, Contains-push}
@@ -8,11 +8,14 @@ use Rattle.iv_rows.specs.Options.{if_some}
 use Rattle.iv_zset.specs.Weights.{Weighed}
 use Rattle.iv_machine.specs.Act.{Command, Line, reply, change, ended}
 use Rattle.iv_machine.specs.Lasting.{EndsAreTold, IsToldEnd}
-use Rattle.iv_machine.specs.Machine.{difference, line_for, lines_told, step}
+use Rattle.iv_machine.specs.Machine.{Outcome, difference, ending, line_for, lines_told, step}
 use Rattle.iv_machine.specs.Reached.{AreUnique}
 use Rattle.iv_machine.specs.State.{State, Subscription, shown, subscription_of, view_shown}
 use Rattle.iv_machine.specs.declared.Cause.{Cause}
+use Rattle.iv_machine.proofs.RunSums.{shows_nothing}
+use Rattle.iv_machine.proofs.UniqueNumbers.{has_number, none_kept}
 use Rattle.iv_clients.specs.Feeds.{ends_in, is_end}
+use Rattle.iv_steps.specs.Steps.{Fact, all_carried, among, looked_at, shared, stepped}
 use Rattle.iv_gate.proofs.Places.{any_of_both}
 use Rattle.iv_gate.proofs.Summing.{neither, same_self}
 
@@ -101,3 +104,33 @@ ended_none s k j e h = let t = told_to j (step s k).lines h in e.told t.0 j t.1
 
 pub ended_shows_none : (s : State) (k : Command) (j : ℕ) → EndsAreTold s k → ends_in (step s k).lines j ≡ true → shown (step s k).state j ≡ []
 ended_shows_none s k j e h = ap (λ o. if_some o [] (view_shown (step s k).state)) (ended_none s k j e h)
+
+-- ---- a step
+
+-- what ends is open no more
+gone : (ends : Subscription → Option Cause) (es : List Subscription) (k : ℕ) (x : Subscription) → AreUnique es → subscription_of es k ≡ Some x → is_some (ends x) ≡ true
+    → has_number k (filter (λ e. not (is_some (ends e))) es) ≡ false
+gone ends [] k x u h w = refl
+gone ends (e ∷ es) k x u h w = by (k == e.number) (is_some (ends e)) refl refl h (λ f. gone ends es k x u.1 f w)
+  where
+    left : List Subscription
+    left = filter (λ y. not (is_some (ends y))) es
+
+    by : (b d : Bool) → (k == e.number) ≡ b → is_some (ends e) ≡ d → cond b (Some e) (subscription_of es k) ≡ Some x → (subscription_of es k ≡ Some x → has_number k left ≡ false)
+        → has_number k (cond (not d) (e ∷ left) left) ≡ false
+    by true true q v f more = none_kept k (λ y. not (is_some (ends y))) es (ap (λ i. has_number i es) (eqb-true k e.number q) ∙ u.0)
+    by true false q v f more = let same : e ≡ x = cc in absurd (false≢true (sym v ∙ (ap (λ y. is_some (ends y)) same ∙ w)))
+    by false true q v f more = more f
+    by false false q v f more = (λ i. q i || more f i)
+
+pub step_over : (fs : List Fact) (s : State) (o : Outcome) → AreUnique s.frame.subscriptions → stepped fs s ≡ Some o → (k : ℕ) → ends_in o.lines k ≡ true → shown o.state k ≡ []
+step_over fs s o u h k e = by (all_carried fs (shared s)) h
+  where
+    over : (t : State) → ends_in (looked_at s (among s t)).lines k ≡ true → shown (looked_at s (among s t)).state k ≡ []
+    over t f =
+        let now = among s t in let new = (looked_at s now).state in let x = find_ended k s new (ending now) s.frame.subscriptions u f in
+        shows_nothing new k (gone (ending now) s.frame.subscriptions k x.subscription u x.found x.ended)
+
+    by : (t : Option State) → option_map (λ v. looked_at s (among s v)) t ≡ Some o → shown o.state k ≡ []
+    by None f = cc
+    by (Some t) f = let same : looked_at s (among s t) ≡ o = cc in subst (λ (z : Outcome). ends_in z.lines k ≡ true → shown z.state k ≡ []) same (over t) e

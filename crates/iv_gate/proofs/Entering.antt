@@ -1,6 +1,6 @@
 -- Whatever happens, each client's token opens its role, its role has a session, and who may come in does.
-use Rattle.std.proofs.Common.{◌≡◌, ◌⊎◌, inl, inr, ℕ, ◌<◌, Bool, true, false, cond, not, ◌||◌, List, [], ◌∷◌, ◌++◌, length, Option, Some, None, is_some, refl, ap, ◌∙◌, sym, subst, arith}
-use Rattle.std.specs.Prelude.{◌==◌, ◌&&◌, bytes_eq, option_and_then}
+use Rattle.std.proofs.Common.{◌≡◌, ◌⊎◌, inl, inr, ℕ, ◌<◌, Bool, true, false, cond, ◌||◌, List, [], ◌∷◌, ◌++◌, length, Option, Some, None, is_some, refl, ap, ◌∙◌, sym, subst, arith}
+use Rattle.std.specs.Prelude.{◌==◌, ◌&&◌, bytes_eq, option_and_then, option_map}
 use Rattle.std.proofs.lemmas.Bool.{false≢true, or_right}
 use Rattle.sha2.specs.Sha256.{sha256}
 use Rattle.iv_rows.specs.Names.{is_name}
@@ -10,23 +10,25 @@ use Rattle.iv_access.specs.Rights.{Name}
 use Rattle.iv_clients.specs.Bounds.{most_seats}
 use Rattle.iv_clients.specs.Clients.{Client, client_at, is_free, may_say, opens, saying}
 use Rattle.iv_clients.specs.Feeds.{seat_of}
-use Rattle.iv_clients.specs.Tokens.{role_opened}
+use Rattle.iv_clients.specs.Tokens.{role_opened, token_of, Token}
 use Rattle.iv_clients.proofs.Slots.{one_some, some_is_none}
-use Rattle.iv_gate.specs.Events.{Event, presented, message, known, handed, next}
-use Rattle.iv_gate.specs.Gate.{Gate, begun_for, has_session, role_for}
+use Rattle.iv_gate.specs.Events.{Event, presented, message, known, handed, next, arrived}
+use Rattle.iv_gate.specs.Gate.{Gate, begun_for, has_session, token_for}
 use Rattle.iv_gate.specs.Replies.{IsClient}
 use Rattle.iv_gate.specs.Runs.{Runs, begins, goes_on, begins_again}
 use Rattle.iv_gate.specs.Touched.{ActsByToken, LetsIn, drops}
 use Rattle.iv_gate.proofs.Deciding.{all_begun}
-use Rattle.iv_gate.proofs.Joining.{same_name}
+use Rattle.iv_gate.proofs.Joining.{same_name, and_both}
 use Rattle.iv_gate.proofs.Keeping.{IsKept}
 use Rattle.iv_gate.proofs.Lasting.{Starts, restored_empty, runs_kept, runs_sound}
 use Rattle.iv_gate.proofs.Sharing.{role_there}
-use Rattle.iv_gate.proofs.Signs.{Card, Marks, card}
+use Rattle.iv_gate.proofs.Signs.{Card, Marks, card, marks}
 use Rattle.iv_gate.proofs.Sound.{Adds, IsSoundGate, Sounds}
 use Rattle.iv_gate.proofs.Still.{not_not}
 use Rattle.iv_gate.proofs.Summing.{neither}
 use Rattle.iv_gate.proofs.Touching.{card_behind, is_gone, marks_behind, alive, came_as, came_is, marked_by_event, rests, touched}
+use Rattle.iv_gate.specs.Arriving.{fault_of}
+use Rattle.iv_gate.proofs.Machine.{find_passes}
 
 -- ---- tokens
 
@@ -45,13 +47,24 @@ same_card m c (handed n) = by (n == m) (length c.sendable == 0)
     by false d = (refl, refl)
 same_card m c _ = (refl, refl)
 
-opens_is : (o : Option Name) (role : Name) → if_some o false (bytes_eq role) ≡ true → o ≡ Some role
-opens_is None role h = absurd (false≢true h)
-opens_is (Some r) role h = ap Some (sym (same_name role r h))
+opens_is : (o : Option Token) (role : Name) (user : List ℕ) → if_some o false (λ (t : Token). bytes_eq role t.role && bytes_eq user t.user) ≡ true → option_map (λ (t : Token). t.role) o ≡ Some role
+opens_is None role user h = absurd (false≢true h)
+opens_is (Some t) role user h = ap Some (sym (same_name role t.role (and_both (bytes_eq role t.role) (bytes_eq user t.user) h).0))
 
 still_opens : (g : Gate) (e : Event) (c : Client) → drops c e ≡ false → role_opened g.tokens c.digest ≡ Some c.role → role_opened (marks_behind g e).tokens c.digest ≡ Some c.role
-still_opens g (known tokens) c d h = opens_is (role_opened tokens c.digest) c.role (not_not (opens tokens c) d)
+still_opens g (known tokens) c d h = opens_is (token_of tokens c.digest) c.role c.user (not_not (opens tokens c) d)
+still_opens g (arrived s) c d h = by (is_some (fault_of g s))
+  where
+    by : (b : Bool) → role_opened (cond b (record (marks g) { dead = true }) (marks g)).tokens c.digest ≡ Some c.role
+    by true = h
+    by false = h
 still_opens g _ c d h = h
+
+-- a token that is found is found by its own digest
+by_digest : (tokens : List Token) (digest : List ℕ) (t : Token) → token_of tokens digest ≡ Some t → role_opened tokens t.digest ≡ Some t.role
+by_digest tokens digest t h =
+    let same : t.digest ≡ digest = same_name t.digest digest (find_passes (λ (x : Token). bytes_eq x.digest digest) tokens t h) in
+    ap (λ d. role_opened tokens d) same ∙ ap (option_map (λ (x : Token). x.role)) h
 
 -- the token of each client that is not to go opens its role
 abbrev pub AreOpened : Gate → Type 0
@@ -76,7 +89,7 @@ module _ (g : Gate) (e : Event) (live : g.dead ≡ false) (s : AreOpened g) wher
       by None t false n =
           let x = (touched g e live).comes m d t h in
           let tokens : (next g e).tokens ≡ g.tokens = tokens_now ∙ ap (λ y. (marks_behind g y).tokens) x.event in
-          (λ i. role_opened (tokens i) (ap (λ (y : Client). y.digest) x.is i)) ∙ x.opened
+          (λ i. role_opened (tokens i) (ap (λ (y : Client). y.digest) x.is i)) ∙ (by_digest g.tokens (sha256 x.text) x.token x.opened ∙ ap (λ (y : Client). Some y.role) (sym x.is))
 
 next_opened : (g : Gate) (e : Event) → AreOpened g → AreOpened (next g e)
 next_opened g e s = by g.dead refl
@@ -86,9 +99,9 @@ next_opened g e s = by g.dead refl
     by false t = live_opened g e t s
 
 runs_opened : (cap : ℕ) (g : Gate) → Runs cap g → AreOpened g
-runs_opened cap _ (begins tokens most journal g r) = λ m c h live. absurd (restored_empty cap tokens most [] journal g r m c h)
-runs_opened cap _ (goes_on h e r) = next_opened h e (runs_opened cap h r)
-runs_opened cap _ (begins_again h disk tokens most i r l x) = λ m c y live. absurd (restored_empty cap tokens most h.sent disk i x m c y)
+runs_opened cap _ (begins tokens most head journal g r) = λ m c h live. absurd (restored_empty cap tokens most head [] journal g r m c h)
+runs_opened cap _ (goes_on h e w r) = next_opened h e (runs_opened cap h r)
+runs_opened cap _ (begins_again h disk tokens most i r l x) = λ m c y live. absurd (restored_empty cap tokens most h.head h.sent disk i x m c y)
 
 pub acts_by_token : Adds → Starts → Sounds → (cap : ℕ) (g : Gate) (m : ℕ) (c : Client) → Runs cap g → IsClient g m c → ActsByToken g c
 acts_by_token adds starts sounds cap g m c r x =
@@ -111,8 +124,8 @@ pub record MayCome (g : Gate) (m : ℕ) (token : List ℕ) (role : Name) : Type 
   pub free : is_free m g.clients ≡ true
   pub session : (is_some (seat_of g.seats role) ≡ true) ⊎ (length g.seats < most_seats)
 
-may_have : (g : Gate) (m : ℕ) (token : List ℕ) (role : Name) → IsSoundGate g → IsKept g → MayCome g m token role → has_session g role ≡ true
-may_have g m token role b k a = by a.session
+session_for : (g : Gate) (m : ℕ) (token : List ℕ) (role : Name) → IsSoundGate g → IsKept g → MayCome g m token role → has_session g role ≡ true
+session_for g m token role b k a = by a.session
   where
     by : (is_some (seat_of g.seats role) ≡ true) ⊎ (length g.seats < most_seats) → has_session g role ≡ true
     by (inl e) = ap (λ b. b || is_some (begun_for g role)) e
@@ -120,13 +133,19 @@ may_have g m token role b k a = by a.session
 
 lets_in : (g : Gate) → g.dead ≡ false → IsSoundGate g → IsKept g → (m : ℕ) (token : List ℕ) (role : Name) → MayCome g m token role
     → is_some (client_at (next g (presented m token)).clients m) ≡ true
-lets_in g live b k m token role a =
-    let session = may_have g m token role b k a in
-    let opens_it : role_for g m token ≡ Some role =
-    ap (option_and_then (λ r. cond (is_name r && (is_free m g.clients && has_session g r)) (Some r) None)) a.opened
-    ∙ (λ i. cond (a.name i && (a.free i && session i)) (Some role) None) in
-    ap (λ (x : Gate). is_some (client_at x.clients m)) (alive g (presented m token) live)
-    ∙ (ap (λ o. is_some (client_at (if_some o g (came_as g m token)).clients m)) opens_it ∙ ap is_some (came_is g m token role a.free))
+lets_in g live b k m token role a = by (token_of g.tokens (sha256 token)) refl a.opened
+  where
+    by : (o : Option Token) → token_of g.tokens (sha256 token) ≡ o → option_map (λ (t : Token). t.role) o ≡ Some role → is_some (client_at (next g (presented m token)).clients m) ≡ true
+    by None e f = absurd (some_is_none role (sym f))
+    by (Some t) e f =
+        let same : t.role ≡ role = one_some t.role role f in
+        let name : is_name t.role ≡ true = ap is_name same ∙ a.name in
+        let session : has_session g t.role ≡ true = ap (has_session g) same ∙ session_for g m token role b k a in
+        let opens_it : token_for g m token ≡ Some t =
+        ap (option_and_then (λ (r : Token). cond (is_name r.role && (is_free m g.clients && has_session g r.role)) (Some r) None)) e
+        ∙ (λ i. cond (name i && (a.free i && session i)) (Some t) None) in
+        ap (λ (x : Gate). is_some (client_at x.clients m)) (alive g (presented m token) live)
+        ∙ (ap (λ o. is_some (client_at (if_some o g (came_as g m)).clients m)) opens_it ∙ ap is_some (came_is g m t a.free))
 
 pub comes_in : Adds → Starts → Sounds → (cap : ℕ) (g : Gate) → Runs cap g → g.dead ≡ false → LetsIn g
 comes_in adds starts sounds cap g r live m token role o n k f s =

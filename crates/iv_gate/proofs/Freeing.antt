@@ -1,27 +1,26 @@
 -- Each event leads from a gateway whose feeds are followed, by clients of their roles, to another, and so does whatever happens.
 use Rattle.std.proofs.Common.{◌≡◌, ℕ, ◌+◌, Bool, true, false, not, cond, ◌||◌, List, [], ◌∷◌, ◌++◌, length, map, set, Option, Some, None, option_map, refl, ap, ◌∙◌, sym, subst, arith, ◌≤◌, ◌⊎◌, inl, inr}
-use Rattle.std.specs.Prelude.{◌==◌, ◌&&◌, bytes_eq, filter, find, nat_lt}
+use Rattle.std.specs.Prelude.{◌==◌, ◌&&◌, bytes_eq, filter, find, nat_lt, codes, is_some}
 use Rattle.std.specs.List.{AllByRecursion, list_any}
 use Rattle.std.proofs.lemmas.Bool.{false≢true, eqb-true, or_left, or_right}
-use Rattle.sha2.specs.Sha256.{sha256}
 use Rattle.serde_json.specs.Data.{Data}
 use Rattle.iv_rows.specs.Options.{if_some}
 use Rattle.iv_access.specs.Rights.{Name}
-use Rattle.iv_machine.specs.Act.{Act, begin, finish, create_role, create_table, create_view, grant, revoke, grant_role, revoke_role, row_security, create_policy, drop_policy, subscribe, unsubscribe, write, Command, Refusal, Reply, done, subscribed, refused, no_session, too_many, unknown_subscription, limit}
+use Rattle.iv_machine.specs.Act.{Act, begin, finish, create_role, create_table, create_view, grant, revoke, grant_role, revoke_role, row_security, create_policy, drop_policy, subscribe, unsubscribe, write, Command, Refusal, Reply, done, subscribed, refused, too_many, unknown_subscription}
 use Rattle.iv_machine.specs.Changing.{after}
-use Rattle.iv_machine.specs.Machine.{step}
+use Rattle.iv_machine.specs.Machine.{step, Outcome}
 use Rattle.iv_machine.specs.Refusing.{refusal}
 use Rattle.iv_machine.specs.State.{State, Subscription, subscription_of}
-use Rattle.iv_message.specs.Message.{Message, no_json, too_long, no_object, no_request, request}
+use Rattle.iv_message.specs.Message.{Message, no_json, too_long, no_object, no_request, request, unknown}
 use Rattle.iv_message.specs.Told.{Told, replied, opened, fault, unasked, settled}
 use Rattle.iv_clients.specs.Bounds.{most_subs}
 use Rattle.iv_clients.specs.Clients.{Client, Shown, Slots, Sub, answered, at_all, at_client, beating, checked, client_at, closing, dropping, followed_by, following, fresh, handing, is_followed, is_slow, may_say, moved, moved_sub, opens, released, saying, settling, staying, telling, told_one}
 use Rattle.iv_clients.specs.Feeds.{Feed, Seat, feed_for, feed_of, is_of_role, is_reading, room_for, seat_of, without_seat}
-use Rattle.iv_clients.specs.Journal.{Entry, line_said, said_by, shape_for}
+use Rattle.iv_clients.specs.Journal.{Entry, said_by, shape_for, Request, claim_said}
 use Rattle.iv_clients.specs.Tokens.{Token}
 use Rattle.iv_clients.proofs.Slots.{at_every, at_same, free_none, from, nobody, one_some, some_is_none}
-use Rattle.iv_gate.specs.Events.{Event, presented, message, gone, known, ticked, synced, handed, failed, happens, next}
-use Rattle.iv_gate.specs.Gate.{Gate, acts, all_rested, all_swept, begun_for, closes, columns_in, done_for, entered, feed_begun, hears, in_session, is_accepted, is_needed, joined, joined_by, joins, next_own, ran, reads, reads_first, reply_to, requests, rested, role_for, said, seated, settles, shut, subscribes, swept, tells, told_of, went, with_session, informs, entries_of, has_shape_room}
+use Rattle.iv_gate.specs.Events.{Event, presented, message, gone, known, ticked, synced, handed, failed, happens, next, forgave, arrived}
+use Rattle.iv_gate.specs.Gate.{Gate, acts, all_rested, all_swept, begun_for, closes, columns_in, done_for, entered, feed_begun, hears, in_session, is_needed, joined, joined_by, joins, next_own, ran, reads, reads_first, reply_to, done_in, rested, token_for, said, seated, settles, shut, subscribes, swept, tells, told_of, went, with_session, informs, entries_of, shares, may_have, reply_told, at_text, replies_to, Head, went_on}
 use Rattle.iv_gate.specs.Implied.{ReadsForClients}
 use Rattle.iv_gate.specs.Restoring.{Restores, gate_at_start}
 use Rattle.iv_gate.specs.Runs.{Runs, begins, goes_on, begins_again}
@@ -37,9 +36,17 @@ use Rattle.iv_gate.proofs.Serving.{AreEven, IsEven, put_one, says_stays}
 use Rattle.iv_gate.proofs.Sharing.{IsFed, one_role}
 use Rattle.iv_gate.proofs.Sound.{Adds, IsFeed, IsSoundGate, Sounds, any_more, filter_all, seer, seer_telling, Seer}
 use Rattle.iv_gate.proofs.Summing.{AreOwn, both, differs_back, is_back, neither, same_self}
-use Rattle.iv_gate.proofs.Touching.{came_as, opens_role, test_same}
-use Rattle.iv_gate.proofs.Using.{ran_using, AreFit, AreFollowed, Fits, IsUsing, fit_all, fit_one, followed_all, followed_by_one, followed_left, followed_one, followed_put, follows, follows_fewer, none_but, ran_subscribe, shrinks_same, shut_using}
+use Rattle.iv_gate.proofs.Touching.{came_as, opens_token, test_same}
+use Rattle.iv_gate.proofs.Using.{ran_using, AreFit, AreFollowed, Fits, IsUsing, fit_all, fit_one, followed_all, followed_by_one, followed_left, followed_one, followed_put, follows, follows_fewer, none_but, ran_subscribe, shrinks_same, shut_using, went_using}
 use Rattle.iv_gate.proofs.Shaping.{test_of}
+use Rattle.iv_clients.specs.Names.{Claim}
+use Rattle.iv_once.specs.Names.{Ask}
+use Rattle.iv_gate.proofs.Choosing.{shares_so}
+use Rattle.iv_gate.proofs.Stepping.{request_of}
+use Rattle.iv_journal.specs.Journal.{Line}
+use Rattle.iv_steps.specs.Steps.{Fact, stepped}
+use Rattle.iv_gate.specs.Arriving.{Step, entry_of, fact_of, fault_of, is_behind, landed, takes}
+use Rattle.iv_gate.proofs.Walking.{step_told}
 
 -- ---- clients that follow what they did
 
@@ -83,16 +90,17 @@ using_informs g es a = using_all none_but g (λ c. telling g.entries (shape_for 
 
 -- ---- requests of the machine
 
-using_requests : (g : Gate) (m : ℕ) (id : Option Data) (e : Entry) (n : ℕ) → IsUsing none_but g → IsUsing none_but (requests g m id e n)
-using_requests g m id e n a =
-    let k = in_session n e.act in let r = reply_to g k in let i = entered g e (is_accepted r) in
-    using_informs (ran (tells i m (replied id r)) k) (entries_of e (is_accepted r))
-    (ran_using none_but (tells i m (replied id r)) k (using_tells none_but i m (replied id r) (record { followed = a.followed; fit = a.fit })))
+using_replies : (g : Gate) (m : ℕ) (id : Option Data) (q : Request) (name : Option Ask) (r : Reply) → IsUsing none_but g → IsUsing none_but (replies_to g m id q name r)
+using_replies g m id q name r a = let h = entered g (entries_of q name r) in using_tells none_but h m (reply_told h id name r) (record { followed = a.followed; fit = a.fit })
 
-using_other : (g : Gate) (m : ℕ) (c : Client) (id : Option Data) (text : List ℕ) (act : Act) (o : Option ℕ) → IsUsing none_but g
-    → IsUsing none_but (if_some o (tells g m (replied id (refused no_session))) (requests g m id (record { role = c.role; line = line_said text; act = act })))
-using_other g m c id text act None a = using_tells none_but g m (replied id (refused no_session)) a
-using_other g m c id text act (Some n) a = using_requests g m id (record { role = c.role; line = line_said text; act = act }) n a
+using_requests : (g : Gate) (m : ℕ) (id : Option Data) (q : Request) (name : Option Ask) (n : ℕ) → IsUsing none_but g → IsUsing none_but (done_in g m id q name n)
+using_requests g m id q name n a =
+    let k = in_session n q.act in let r = reply_to g k in let i = replies_to g m id q name r in
+    using_informs (ran i k) (entries_of q name r) (ran_using none_but i k (using_replies g m id q name r a))
+
+using_shares : (g : Gate) (m : ℕ) (c : Client) (id : Option Data) (q : Request) (claim : Option Claim) → IsUsing none_but g → IsUsing none_but (shares g m c id q claim)
+using_shares g m c id q claim a = shares_so (IsUsing none_but) g m id q
+    (record { tells = λ t x. using_tells none_but g m t a; does = λ name n e. using_requests g m id q name n a; refuses = λ name r. using_replies g m id q name (refused r) a }) c claim
 
 -- ---- subscribing
 
@@ -421,17 +429,17 @@ using_acts adds sounds g m c id text (begin role) d given t w r s o b a = using_
 using_acts adds sounds g m c id text finish d given t w r s o b a = using_tells none_but g m (fault 2) a
 using_acts adds sounds g m c id text (subscribe rel) d given t w r s o b a = using_reads adds sounds g m c id rel d t (asker_of g m c id text rel d w r) b a
 using_acts adds sounds g m c id text (unsubscribe own) d given t w r s o b a = using_closes g m c id own given (λ x e. ap (λ (y : Client). y.subs) (one_some x d (sym e ∙ t)) ∙ s) o a
-using_acts adds sounds g m c id text (create_role name) d given t w r s o b a = using_other g m c id text (create_role name) (seat_of g.seats c.role) a
-using_acts adds sounds g m c id text (create_table name owner columns) d given t w r s o b a = using_other g m c id text (create_table name owner columns) (seat_of g.seats c.role) a
-using_acts adds sounds g m c id text (create_view name owner query) d given t w r s o b a = using_other g m c id text (create_view name owner query) (seat_of g.seats c.role) a
-using_acts adds sounds g m c id text (grant rel privileges to) d given t w r s o b a = using_other g m c id text (grant rel privileges to) (seat_of g.seats c.role) a
-using_acts adds sounds g m c id text (revoke rel privileges to) d given t w r s o b a = using_other g m c id text (revoke rel privileges to) (seat_of g.seats c.role) a
-using_acts adds sounds g m c id text (grant_role group to) d given t w r s o b a = using_other g m c id text (grant_role group to) (seat_of g.seats c.role) a
-using_acts adds sounds g m c id text (revoke_role group to) d given t w r s o b a = using_other g m c id text (revoke_role group to) (seat_of g.seats c.role) a
-using_acts adds sounds g m c id text (row_security rel enable force) d given t w r s o b a = using_other g m c id text (row_security rel enable force) (seat_of g.seats c.role) a
-using_acts adds sounds g m c id text (create_policy p) d given t w r s o b a = using_other g m c id text (create_policy p) (seat_of g.seats c.role) a
-using_acts adds sounds g m c id text (drop_policy rel name) d given t w r s o b a = using_other g m c id text (drop_policy rel name) (seat_of g.seats c.role) a
-using_acts adds sounds g m c id text (write entries) d given t w r s o b a = using_other g m c id text (write entries) (seat_of g.seats c.role) a
+using_acts adds sounds g m c id text (create_role name) d given t w r s o b a = using_shares g m c id (request_of c text (create_role name)) (claim_said text) a
+using_acts adds sounds g m c id text (create_table name owner columns) d given t w r s o b a = using_shares g m c id (request_of c text (create_table name owner columns)) (claim_said text) a
+using_acts adds sounds g m c id text (create_view name owner query) d given t w r s o b a = using_shares g m c id (request_of c text (create_view name owner query)) (claim_said text) a
+using_acts adds sounds g m c id text (grant rel privileges to) d given t w r s o b a = using_shares g m c id (request_of c text (grant rel privileges to)) (claim_said text) a
+using_acts adds sounds g m c id text (revoke rel privileges to) d given t w r s o b a = using_shares g m c id (request_of c text (revoke rel privileges to)) (claim_said text) a
+using_acts adds sounds g m c id text (grant_role group to) d given t w r s o b a = using_shares g m c id (request_of c text (grant_role group to)) (claim_said text) a
+using_acts adds sounds g m c id text (revoke_role group to) d given t w r s o b a = using_shares g m c id (request_of c text (revoke_role group to)) (claim_said text) a
+using_acts adds sounds g m c id text (row_security rel enable force) d given t w r s o b a = using_shares g m c id (request_of c text (row_security rel enable force)) (claim_said text) a
+using_acts adds sounds g m c id text (create_policy p) d given t w r s o b a = using_shares g m c id (request_of c text (create_policy p)) (claim_said text) a
+using_acts adds sounds g m c id text (drop_policy rel name) d given t w r s o b a = using_shares g m c id (request_of c text (drop_policy rel name)) (claim_said text) a
+using_acts adds sounds g m c id text (write entries) d given t w r s o b a = using_shares g m c id (request_of c text (write entries)) (claim_said text) a
 
 using_done : Adds → Sounds → (g : Gate) (m : ℕ) (c : Client) (text : List ℕ) (x : Message) (d : Client) (given : ℕ) → client_at g.clients m ≡ Some d → said_by text ≡ x → IsHeard g m c text d → d.subs ≡ c.subs → AreOwn given c.subs
     → IsSoundGate g → IsUsing none_but g → IsUsing none_but (done_for g m c text x)
@@ -440,7 +448,7 @@ using_done adds sounds g m c text too_long d given t w r s o b a = using_tells n
 using_done adds sounds g m c text no_object d given t w r s o b a = using_tells none_but g m (fault 2) a
 using_done adds sounds g m c text (no_request id why) d given t w r s o b a = using_tells none_but g m (unasked id why) a
 using_done adds sounds g m c text (request id act) d given t w r s o b a =
-    test_of (IsUsing none_but) (has_shape_room g act) (acts g m c id text act) (tells g m (replied id (refused limit))) (using_acts adds sounds g m c id text act d given t w r s o b a) (using_tells none_but g m (replied id (refused limit)) a)
+    test_of (IsUsing none_but) (may_have (claim_said text) act) (acts g m c id text act) (tells g m (unasked id (unknown (codes "once")))) (using_acts adds sounds g m c id text act d given t w r s o b a) (using_tells none_but g m (unasked id (unknown (codes "once"))) a)
 
 not_dropped : (d : Bool) (e : Bool) → (not d && e) ≡ true → d ≡ false
 not_dropped true e h = absurd (false≢true h)
@@ -486,14 +494,14 @@ using_with g role m e a = by (seat_of g.seats role)
     by None = further (begun_for g role)
     by (Some n) = (a, e)
 
-using_came : (g : Gate) (m : ℕ) (token : List ℕ) (role : Name) → role_for g m token ≡ Some role → IsUsing none_but g → IsUsing none_but (came_as g m token role)
-using_came g m token role e a =
-    let h = with_session g role in let p = using_with g role m (free_none m g.clients (opens_role g m token role e).free) a in
-    let who = Some (fresh h.entries role (sha256 token)) in
+using_came : (g : Gate) (m : ℕ) (token : List ℕ) (t : Token) → token_for g m token ≡ Some t → IsUsing none_but g → IsUsing none_but (came_as g m t)
+using_came g m token t e a =
+    let h = with_session g t.role in let p = using_with g t.role m (free_none m g.clients (opens_token g m token t e).free) a in
+    let who = Some (fresh h.entries t (at_text h t)) in
     record {
       followed = all_so {P = λ (f : Feed). none_but f.number ≡ false → is_followed f.number h.clients ≡ true} {Q = λ (f : Feed). none_but f.number ≡ false → is_followed f.number (set h.clients m who) ≡ true}
           (λ f v w. followed_put f.number m who h.clients p.1 (v w)) h.feeds p.0.followed;
-      fit = put_one (Fits h.machine.frame.last h.feeds) m who h.clients (λ c i k t. absurd (false≢true (ap (λ (x : Client). follows k x.subs) (one_some (fresh h.entries role (sha256 token)) c i) ∙ t))) p.0.fit;
+      fit = put_one (Fits h.machine.frame.last h.feeds) m who h.clients (λ c i k z. absurd (false≢true (ap (λ (x : Client). follows k x.subs) (one_some (fresh h.entries t (at_text h t)) c i) ∙ z))) p.0.fit;
     }
 
 not_among : (j : ℕ) (xs : List Sub) → but_of (map (λ (s : Sub). s.feed) xs) j ≡ false → follows j xs ≡ false
@@ -515,16 +523,34 @@ using_went g m a = by (client_at g.clients m) refl
           fit = put_one (Fits g.machine.frame.last g.feeds) m None g.clients (λ d i. absurd (some_is_none d (sym i))) a.fit;
         })))
 
+-- ---- a step
+
+using_landed : Sounds → (g : Gate) (e : Entry) (fs : List Fact) (o : Outcome) → stepped fs g.machine ≡ Some o → IsSoundGate g → IsUsing none_but g → IsUsing none_but (landed g e o)
+using_landed sounds g e fs o h b a =
+    let now = entered g (e ∷ []) in let behind = went_on now o (step_told g o) in let same = (sounds.told fs g.machine o b.state h).last in
+    using_settles (informs behind (e ∷ [])) (using_informs behind (e ∷ []) (went_using none_but now o (step_told g o) (omega (arith, same)) (record { followed = a.followed; fit = a.fit })))
+
+using_takes : Sounds → (g : Gate) (x : Step) → IsSoundGate g → IsUsing none_but g → IsUsing none_but (takes g x)
+using_takes sounds g x b a = by (is_some (fault_of g x)) (is_behind g x) (stepped (map fact_of x.requests) g.machine) refl
+  where
+    by : (d p : Bool) (o : Option Outcome) → stepped (map fact_of x.requests) g.machine ≡ o → IsUsing none_but (cond d (record g { dead = true }) (cond p g (if_some o g (landed g (entry_of x)))))
+    by true p o e = record { followed = a.followed; fit = a.fit }
+    by false true o e = a
+    by false false None e = a
+    by false false (Some o) e = using_landed sounds g (entry_of x) (map fact_of x.requests) o e b a
+
 -- ---- each event, and whatever happens
 
 happens_using : Adds → Sounds → (g : Gate) (e : Event) → AreEven g → IsSoundGate g → IsUsing none_but g → IsUsing none_but (happens g e)
-happens_using adds sounds g (presented m token) even b a = some_using (role_for g m token) g (came_as g m token) a (λ role e. using_came g m token role e a)
+happens_using adds sounds g (presented m token) even b a = some_using (token_for g m token) g (came_as g m) a (λ t e. using_came g m token t e a)
 happens_using adds sounds g (message m text) even b a = using_said adds sounds g m text even b a
 happens_using adds sounds g (gone m) even b a = using_went g m a
 happens_using adds sounds g (known tokens) even b a = let x = using_all none_but g (checked tokens) (checked_subs tokens) (checked_role tokens) a in record { followed = x.followed; fit = x.fit }
 happens_using adds sounds g ticked even b a = using_all none_but g (beating g.entries) (λ c. refl) (λ c. refl) a
 happens_using adds sounds g synced even b a = let x = using_all none_but g released released_subs released_role a in record { followed = x.followed; fit = x.fit }
 happens_using adds sounds g (handed m) even b a = let x = using_one none_but g m handing handing_subs handing_role a in record { followed = x.followed; fit = x.fit }
+happens_using adds sounds g (arrived x) even b a = using_takes sounds g x b a
+happens_using adds sounds g forgave even b a = record { followed = a.followed; fit = a.fit }
 happens_using adds sounds g failed even b a = record { followed = a.followed; fit = a.fit }
 
 next_using : Adds → Sounds → (g : Gate) (e : Event) → AreEven g → IsSoundGate g → IsUsing none_but g → IsUsing none_but (next g e)
@@ -534,16 +560,16 @@ next_using adds sounds g e even b a = by g.dead
     by true = a
     by false = happens_using adds sounds g e even b a
 
-restored_using : (cap : ℕ) (tokens : List Token) (most : ℕ) (sent : List Shown) (journal : List ℕ) (g : Gate) → Restores (gate_at_start cap tokens most sent) journal g → IsUsing none_but g
-restored_using cap tokens most sent journal g r = subst (IsUsing none_but) (sym r.gate) (record {
+restored_using : (cap : ℕ) (tokens : List Token) (most : ℕ) (head : Head) (sent : List Shown) (journal : List Line) (g : Gate) → Restores (gate_at_start cap tokens most head sent) journal g → IsUsing none_but g
+restored_using cap tokens most head sent journal g r = subst (IsUsing none_but) (sym r.leads.gate) (record {
   followed = tt;
   fit = λ m c h. absurd (nobody most m c h);
 })
 
 pub runs_using : Adds → Starts → Sounds → (cap : ℕ) (g : Gate) → Runs cap g → IsUsing none_but g
-runs_using adds starts sounds cap _ (begins tokens most journal g r) = restored_using cap tokens most [] journal g r
-runs_using adds starts sounds cap _ (goes_on h e r) = next_using adds sounds h e (runs_even cap h r) (runs_sound adds starts sounds cap h r) (runs_using adds starts sounds cap h r)
-runs_using adds starts sounds cap _ (begins_again h disk tokens most i r l x) = restored_using cap tokens most h.sent disk i x
+runs_using adds starts sounds cap _ (begins tokens most head journal g r) = restored_using cap tokens most head [] journal g r
+runs_using adds starts sounds cap _ (goes_on h e w r) = next_using adds sounds h e (runs_even cap h r) (runs_sound adds starts sounds cap h r) (runs_using adds starts sounds cap h r)
+runs_using adds starts sounds cap _ (begins_again h disk tokens most i r l x) = restored_using cap tokens most h.head h.sent disk i x
 
 -- each subscription of the machine is a feed that some client follows
 pub reads_for_clients : Adds → Starts → Sounds → (cap : ℕ) (g : Gate) → Runs cap g → ReadsForClients g

@@ -29,7 +29,7 @@ use Rattle.iv_machine.specs.Well.{is_grantee, is_well_act}
 use Rattle.iv_message.specs.Message.{Message, no_json, too_long, no_object, no_request, request, is_well_message, message_of, message_of_value, most_bytes, on_one_line}
 use Rattle.iv_message.proofs.Meaning.{ReadsWell, value_well}
 use Rattle.iv_clients.specs.Bounds.{most_said}
-use Rattle.iv_clients.specs.Journal.{Parts, begins_object, not_request, parts_of, said_by, said_in, unindented, with_front}
+use Rattle.iv_clients.specs.Journal.{Parts, begins_object, not_request, said_by, said_in, with_front, id_parts, line_said}
 use Rattle.iv_request.specs.Reading.{value_of}
 use Rattle.iv_gate.specs.Gate.{granted_by, has_some, is_member}
 use Rattle.iv_gate.proofs.Joining.{and_both, bytes_self}
@@ -63,13 +63,13 @@ pub said_well : ReadsWell → (text : List ℕ) → is_well_message (said_by tex
 said_well h text = by (nat_lt most_said (length text))
   where
     p : Parts
-    p = parts_of (unindented (on_one_line text))
+    p = ((id_parts text).0, line_said text)
 
     object : (b : Bool) → is_well_message (cond b (with_front p.0 (message_of p.1)) (not_request (message_of p.1))) ≡ true
     object true = front_well p.0 (message_of p.1) (text_well h p.1)
     object false = not_well (message_of p.1)
 
-    by : (b : Bool) → is_well_message (cond b too_long (said_in (parts_of (unindented (on_one_line text))))) ≡ true
+    by : (b : Bool) → is_well_message (cond b too_long (said_in ((id_parts text).0, line_said text))) ≡ true
     by true = refl
     by false = object (begins_object p.1)
 

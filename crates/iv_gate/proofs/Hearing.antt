@@ -1,31 +1,31 @@
 -- What a client is told by what is no message of its own that is heard: nothing that is a reply.
-use Rattle.std.proofs.Common.{◌≡◌, ℕ, ◌⊎◌, inl, inr, Bool, true, false, not, cond, ◌||◌, List, [], ◌∷◌, ◌++◌, length, map, set, Option, Some, None, option_map, refl, ap, ◌∙◌, sym, subst, append-nil}
+use Rattle.std.proofs.Common.{◌≡◌, ℕ, ◌⊎◌, inl, inr, Bool, true, false, not, cond, ◌||◌, List, [], ◌∷◌, ◌++◌, length, map, set, Option, Some, None, option_map, refl, ap, ◌∙◌, sym, subst, append-nil, suc, arith}
 use Rattle.std.specs.Prelude.{◌==◌, ◌&&◌, filter, flat_map}
 use Rattle.std.specs.List.{list_any, AllByRecursion}
 use Rattle.std.proofs.lemmas.Bool.{false≢true, eqb-true, eqb-false}
 use Rattle.std.proofs.lemmas.List.Concat.{flat_map-append}
-use Rattle.sha2.specs.Sha256.{sha256}
 use Rattle.iv_rows.specs.Options.{if_some}
 use Rattle.iv_access.specs.Rights.{Name}
 use Rattle.iv_machine.specs.Act.{begin, Command, Line, reply, change, ended}
-use Rattle.iv_machine.specs.Machine.{step}
-use Rattle.iv_message.specs.Told.{Told, over, settled, made, alive}
+use Rattle.iv_machine.specs.Machine.{step, Outcome}
+use Rattle.iv_message.specs.Told.{Told, over, settled, made, alive, granted}
 use Rattle.iv_clients.specs.Clients.{Client, Shown, Slots, Sub, all_shown, answered, at_all, at_client, beating, checked, client_at, dropping, fresh, handing, is_slow, may_say, moved, opens, own_line, own_lines, released, saying, settling, staying, telling, told, told_one}
 use Rattle.iv_clients.specs.Feeds.{Feed, ends_in, is_end, is_of_role, rel_read}
 use Rattle.iv_clients.specs.Journal.{Entry, said_by}
 use Rattle.iv_clients.specs.Tokens.{Token}
 use Rattle.iv_clients.proofs.Slots.{at_every, at_other, at_same, not_free, one_some, set_other, some_is_none}
-use Rattle.iv_gate.specs.Events.{Event, presented, message, gone, known, ticked, synced, handed, failed, happens}
-use Rattle.iv_gate.specs.Gate.{Gate, all_rested, all_swept, done_for, hears, in_session, role_for, said, seated, settles, told_of, went, with_session}
+use Rattle.iv_gate.specs.Events.{Event, presented, message, gone, known, ticked, synced, handed, failed, happens, arrived, forgave}
+use Rattle.iv_gate.specs.Gate.{Gate, all_rested, all_swept, done_for, hears, in_session, token_for, said, seated, settles, told_of, went, with_session, at_text, granted_by, is_accepted, reply_to}
 use Rattle.iv_gate.specs.Replies.{heard_by, is_reply, replies}
 use Rattle.iv_gate.specs.Seen.{is_end_of}
 use Rattle.iv_gate.proofs.Growing.{assoc}
 use Rattle.iv_gate.proofs.Joining.{any_moved}
-use Rattle.iv_gate.proofs.Places.{any_before, any_behind, none_replied, or_true, told_replies}
+use Rattle.iv_gate.proofs.Places.{any_before, any_behind, none_replied, or_true, grants_reply, lines_reply}
 use Rattle.iv_gate.proofs.Sound.{Seer, any_left, seer, seer_one, seer_telling}
 use Rattle.iv_gate.proofs.Summing.{is_back, neither}
-use Rattle.iv_gate.proofs.Touching.{came_as, leaves_at, opens_role}
-use Rattle.iv_gate.proofs.Walking.{Kit, Later, to_all_rested, to_all_swept, to_done, to_settles, to_then, to_with}
+use Rattle.iv_gate.proofs.Touching.{came_as, leaves_at, opens_token}
+use Rattle.iv_gate.proofs.Walking.{Kit, Later, to_all_rested, to_all_swept, to_done, to_settles, to_then, to_with, step_told, to_takes}
+use Rattle.iv_gate.specs.Arriving.{Step, entry_of, newly, takes}
 
 -- ---- numbers of a client
 
@@ -177,30 +177,37 @@ hears_rest es c = by c.owed
     by true = let x = hears_one es settled c refl in record { more = x.more; text = x.text; quiet = x.quiet; role = refl; messages = refl; given = refl; none = x.none; lost = x.lost }
     by false = hears_same c
 
-pub hears_ran : (c : Client) (g : Gate) (k : Command) → Hears c (staying (step g.machine k).lines (telling g.entries (told_of g k.act (step g.machine k) c) c))
-hears_ran c g k = record {
+hears_outcome : (feeds : List Feed) (ls : List Line) (es : List Entry) (grants : List Told) (c : Client) → replies grants ≡ [] → Hears c (staying ls (telling es (own_lines feeds ls c.subs ++ grants) c))
+hears_outcome feeds ls es grants c none = record {
   more = ts;
   text = ap (λ (v : Seer). v.told) same;
-  quiet = told_replies g k.act (step g.machine k) c;
+  quiet = none_replied (own_lines feeds ls c.subs) grants (lines_reply feeds ls c.subs) none;
   role = ap (λ (v : Seer). v.role) same;
   messages = ap (λ (v : Seer). v.messages) same;
   given = ap (λ (v : Seer). v.given) same;
   none = λ own h. left own ∙ any_left own (λ x. not (ends_in ls x.feed)) c.subs h;
-  lost = λ own h e. any_before (is_end_of own) (own_lines g.feeds ls c.subs) _
-      (lines_end own g.feeds ls c.subs (taken_away own (λ x. ends_in ls x.feed) c.subs h (sym (left own) ∙ e)));
+  lost = λ own h e. any_before (is_end_of own) (own_lines feeds ls c.subs) grants
+      (lines_end own feeds ls c.subs (taken_away own (λ x. ends_in ls x.feed) c.subs h (sym (left own) ∙ e)));
 }
   where
-    ls : List Line
-    ls = (step g.machine k).lines
-
     ts : List Told
-    ts = told_of g k.act (step g.machine k) c
+    ts = own_lines feeds ls c.subs ++ grants
 
-    same : seer (telling g.entries ts c) ≡ record (seer c) { told = told c ++ ts }
-    same = seer_telling g.entries ts c
+    same : seer (telling es ts c) ≡ record (seer c) { told = told c ++ ts }
+    same = seer_telling es ts c
 
-    left : (own : ℕ) → is_own own (filter (λ x. not (ends_in ls x.feed)) (telling g.entries ts c).subs) ≡ is_own own (filter (λ x. not (ends_in ls x.feed)) c.subs)
+    left : (own : ℕ) → is_own own (filter (λ x. not (ends_in ls x.feed)) (telling es ts c).subs) ≡ is_own own (filter (λ x. not (ends_in ls x.feed)) c.subs)
     left own = ap (λ (v : Seer). is_own own (filter (λ x. not (ends_in ls x.feed)) v.subs)) same
+
+pub hears_ran : (c : Client) (g : Gate) (k : Command) → Hears c (staying (step g.machine k).lines (telling g.entries (told_of g k.act (step g.machine k) c) c))
+hears_ran c g k = hears_outcome g.feeds (step g.machine k).lines g.entries _ c (by (is_accepted (reply_to g k)))
+  where
+    by : (b : Bool) → replies (cond b (map granted (granted_by (step g.machine k).state.frame k.act c.role)) []) ≡ []
+    by true = grants_reply (granted_by (step g.machine k).state.frame k.act c.role)
+    by false = refl
+
+pub hears_stepped : (c : Client) (g : Gate) (es : List Entry) (o : Outcome) → Hears c (staying o.lines (telling es (step_told g o c) c))
+hears_stepped c g es o = hears_outcome g.feeds o.lines es (map granted (newly g.machine.frame o.state.frame c.role)) c (grants_reply (newly g.machine.frame o.state.frame c.role))
 
 pub hears_move : (c : Client) (t k : ℕ) → Hears c (moved t k c)
 hears_move c t k = hears_alike c (moved t k c) refl refl refl refl (λ own. any_moved t k own c.subs)
@@ -230,17 +237,17 @@ same_client slots j c d h k = subst (Hears c) (one_some c d (sym h ∙ k)) (hear
 apart_of : (m : ℕ) (slots : Slots) (j : ℕ) (c d : Client) → (m ≡ j → ⊥) → Later (Apart m) slots j c → client_at slots j ≡ Some d → Hears c d
 apart_of m slots j c d n p h = subst (Hears c) (one_some p.now d (sym p.there ∙ h)) (p.so n)
 
-came_apart : (g : Gate) (m : ℕ) (token : List ℕ) (j : ℕ) (c d : Client) (o : Option Name) → role_for g m token ≡ o → client_at g.clients j ≡ Some c
-    → client_at (if_some o g (came_as g m token)).clients j ≡ Some d → Hears c d
+came_apart : (g : Gate) (m : ℕ) (token : List ℕ) (j : ℕ) (c d : Client) (o : Option Token) → token_for g m token ≡ o → client_at g.clients j ≡ Some c
+    → client_at (if_some o g (came_as g m)).clients j ≡ Some d → Hears c d
 came_apart g m token j c d None e h k = same_client g.clients j c d h k
-came_apart g m token j c d (Some role) e h k =
-    let i = with_session g role in
-    let p = to_with m (Apart m) (apart m) g role j c h in
-    let there : client_at (came_as g m token role).clients j ≡ Some p.now = set_other m j (Some (fresh i.entries role (sha256 token))) i.clients ne ∙ p.there in
+came_apart g m token j c d (Some t) e h k =
+    let i = with_session g t.role in
+    let p = to_with m (Apart m) (apart m) g t.role j c h in
+    let there : client_at (came_as g m t).clients j ≡ Some p.now = set_other m j (Some (fresh i.entries t (at_text i t))) i.clients ne ∙ p.there in
     subst (Hears c) (one_some p.now d (sym there ∙ k)) (p.so ne)
   where
     ne : m ≡ j → ⊥
-    ne same = false≢true (sym (not_free m c g.clients (ap (client_at g.clients) same ∙ h)) ∙ (opens_role g m token role e).free)
+    ne same = false≢true (sym (not_free m c g.clients (ap (client_at g.clients) same ∙ h)) ∙ (opens_token g m token t e).free)
 
 heard_apart : (g : Gate) (m : ℕ) (text : List ℕ) (j : ℕ) (c d b : Client) → (m ≡ j → ⊥) → client_at g.clients j ≡ Some c → client_at (hears g m b text).clients j ≡ Some d → Hears c d
 heard_apart g m text j c d b ne h k =
@@ -285,6 +292,12 @@ went_apart g m j c d ne h k = by (client_at g.clients m) k
     by None x = same_client g.clients j c d h x
     by (Some b) x = gone_as b x
 
+takes_apart : (g : Gate) (s : Step) (j : ℕ) (c d : Client) → client_at g.clients j ≡ Some c → client_at (takes g s).clients j ≡ Some d → Hears c d
+takes_apart g s j c d h k =
+    let other : suc j ≡ j → ⊥ = λ e. omega (arith, e) in
+    apart_of (suc j) (takes g s).clients j c d other
+    (to_takes (suc j) (Apart (suc j)) (apart (suc j)) g s (λ o e i x n. hears_stepped x g (g.entries ++ entry_of s ∷ []) o) j c h) k
+
 is_dropped : (c d : Client) → dropping c ≡ d → d.dropped ≡ false → Hears c d
 is_dropped c d e s = absurd (false≢true (sym s ∙ sym (ap (λ (x : Client). x.dropped) e)))
 
@@ -327,7 +340,7 @@ handed_apart g m j c d h k = by (m == j) refl
 
 -- by whatever is no message of its own that is heard
 pub happens_apart : (g : Gate) (e : Event) (j : ℕ) (c d : Client) → client_at g.clients j ≡ Some c → client_at (happens g e).clients j ≡ Some d → d.dropped ≡ false → heard_by j c e ≡ None → Hears c d
-happens_apart g (presented m token) j c d h k s u = came_apart g m token j c d (role_for g m token) refl h k
+happens_apart g (presented m token) j c d h k s u = came_apart g m token j c d (token_for g m token) refl h k
 happens_apart g (message m text) j c d h k s u = said_apart g m text j c d u h k
 happens_apart g (gone m) j c d h k s u = by (m == j) refl
   where
@@ -340,6 +353,8 @@ happens_apart g ticked j c d h k s u =
     subst (Hears c) (every_made (beating g.entries) g.clients j c d h k) (record { more = x.more; text = x.text; quiet = x.quiet; role = refl; messages = refl; given = refl; none = x.none; lost = x.lost })
 happens_apart g synced j c d h k s u = released_apart c d (every_made released g.clients j c d h k) s
 happens_apart g (handed m) j c d h k s u = handed_apart g m j c d h k
+happens_apart g (arrived x) j c d h k s u = takes_apart g x j c d h k
+happens_apart g forgave j c d h k s u = same_client g.clients j c d h k
 happens_apart g failed j c d h k s u = same_client g.clients j c d h k
 
 -- ---- a session is begun
@@ -359,7 +374,7 @@ began_same g c = record { hears = hears_same c; first = λ q. refl }
 
 -- a session is begun for it
 pub seated_began : (g : Gate) (n : ℕ) (role : Name) (m : ℕ) (c : Client) → client_at g.clients m ≡ Some c → Later (λ j x y. Began g x y) (seated g n role).clients m c
-unfolding hears_ran
+unfolding hears_ran hears_outcome
 seated_began g n role m c e =
     let h = record g { seats = g.seats ++ record { session = n; role = role } ∷ [] } in let k = in_session n (begin role) in
     let f : Client → Client = λ d. staying (step h.machine k).lines (telling h.entries (told_of h k.act (step h.machine k) d) d) in

@@ -1,9 +1,9 @@
 -- By an event a client is told of numbers that it follows, and of ends for their cause.
-use Rattle.std.proofs.Common.{◌≡◌, ◌⊎◌, inl, inr, ℕ, ◌+◌, ◌<◌, ◌≤◌, Bool, true, false, cond, not, ◌||◌, List, [], ◌∷◌, ◌++◌, length, map, ℤ, Option, Some, None, is_some, option_map, refl, ap, ◌∙◌, sym, subst, arith}
+use Rattle.std.proofs.Common.{◌≡◌, ◌⊎◌, inl, inr, ℕ, ◌+◌, ◌<◌, ◌≤◌, Bool, true, false, cond, not, ◌||◌, List, [], ◌∷◌, ◌++◌, length, map, ℤ, Option, Some, None, is_some, option_map, refl, ap, ◌∙◌, sym, subst, arith, append-nil}
 use Rattle.std.specs.Prelude.{◌==◌, filter, find, flat_map, Contains, unwrap_or}
 use Rattle.std.specs.List.{AllByRecursion, list_any}
 use Rattle.std.proofs.lemmas.Bool.{false≢true, eqb-true}
-use Rattle.std.proofs.lemmas.List.Elements.{All-contains, All-from_recursion}
+use Rattle.std.proofs.lemmas.List.Elements.{All-contains, All-from_recursion, recursion_from_All}
 use Rattle.iv_rows.specs.Cell.{Cell}
 use Rattle.iv_rows.specs.Options.{if_some}
 use Rattle.iv_bind.specs.Catalogs.{named}
@@ -13,29 +13,34 @@ use Rattle.iv_access.specs.Rights.{Name}
 use Rattle.iv_machine.specs.Act.{Act, finish, subscribe, unsubscribe, write, Command, Line, reply, change, ended, Refusal}
 use Rattle.iv_machine.specs.Changing.{after}
 use Rattle.iv_machine.specs.Lasting.{Lasts}
-use Rattle.iv_machine.specs.Machine.{difference, ending, ending_by, first_cause, line_for, lines_told, outcome, settled, step}
+use Rattle.iv_machine.specs.Machine.{difference, ending, ending_by, first_cause, line_for, lines_told, outcome, settled, step, Outcome}
 use Rattle.iv_machine.specs.Reached.{AreUnique}
 use Rattle.iv_machine.specs.Refusing.{refusal}
 use Rattle.iv_machine.specs.State.{Session, State, Subscription, actor, is_within_for, missing_for, rel_of, session_of, shown, subscription_of, view_shown}
 use Rattle.iv_machine.specs.declared.Cause.{Cause}
 use Rattle.iv_message.specs.Told.{Told, changed, over, granted}
-use Rattle.iv_clients.specs.Clients.{Client, Sub, followed_by, own_line, own_lines}
+use Rattle.iv_clients.specs.Clients.{Client, Sub, followed_by, own_line, own_lines, told}
 use Rattle.iv_clients.specs.Feeds.{Feed, feed_of, rel_read}
-use Rattle.iv_clients.specs.Journal.{is_shared}
+use Rattle.iv_clients.specs.Journal.{is_shared, Entry}
 use Rattle.iv_clients.proofs.Slots.{one_some, some_is_none}
 use Rattle.iv_gate.specs.Events.{Event, next}
-use Rattle.iv_gate.specs.Gate.{Gate, granted_by, in_session, is_accepted, reply_in, told_of}
+use Rattle.iv_gate.specs.Gate.{Gate, granted_by, in_session, is_accepted, reply_in, entries_of, reply_to}
 use Rattle.iv_gate.specs.Replies.{told_by}
 use Rattle.iv_gate.specs.Implied.{EndsForCause, HearsFollowed, IsCaused}
 use Rattle.iv_gate.specs.Seen.{hindrance, is_told_of}
 use Rattle.iv_gate.proofs.Doing.{AreCalm, is_news}
-use Rattle.iv_gate.proofs.News.{Hears, quietly, by_command, by_contents, IsToldContents, IsToldOf}
+use Rattle.iv_gate.proofs.News.{Hears, quietly, by_command, by_contents, IsToldContents, IsToldOf, IsToldOutcome, grants_of}
 use Rattle.iv_gate.proofs.Machine.{find_passes, is_kept, not_finish, number_same, there_some}
-use Rattle.iv_gate.proofs.Noticing.{next_all, told_now}
+use Rattle.iv_gate.proofs.Noticing.{next_all, told_now, HearsBy, IsToldStep, untaken, taken, heard}
 use Rattle.iv_gate.proofs.Running.{all_so, found_all}
 use Rattle.iv_gate.proofs.Sound.{Adds, IsFeed, IsFollowing, IsSoundClient, IsSoundGate, Sounds, any_more, seer}
 use Rattle.iv_gate.proofs.Still.{found_each}
 use Rattle.iv_gate.proofs.Summing.{AreOwn, both, differs_back, neither, same_self}
+use Rattle.iv_steps.specs.Steps.{Fact, stepped}
+use Rattle.iv_machine.specs.Sound.{IsSoundState}
+use Rattle.iv_steps.specs.Laws.{IsStep, IsTold}
+use Rattle.iv_gate.specs.Arriving.{Step, entry_of, fact_of, newly}
+use Rattle.iv_gate.proofs.Arrived.{step_led, IsLed}
 
 -- ---- lists
 
@@ -102,6 +107,14 @@ grants_of_none own true (n ∷ names) = grants_of_none own true names
 any_three : (p : Told → Bool) (front news back : List Told) → list_any p front ≡ false → list_any p news ≡ false → list_any p back ≡ false → list_any p (front ++ (news ++ back)) ≡ false
 any_three p front news back f n b = any_more p front (news ++ back) ∙ (λ i. f i || (any_more p news back ∙ (λ j. n j || b j)) i)
 
+-- an outcome tells nothing of a number that is not open
+outcome_of_none : (g h : Gate) (o : Outcome) (grants : List Told) (added : List Entry) (c d : Client) (own : ℕ) → IsToldOutcome g h o grants added c d → list_any (is_told_of own) grants ≡ false
+    → list_any (λ (s : Sub). own == s.own) c.subs ≡ false → list_any (is_told_of own) (told_by c d) ≡ false
+outcome_of_none g h o grants added c d own a none f =
+    ap (list_any (is_told_of own)) (told_now c d _ a.told)
+    ∙ any_three (is_told_of own) a.front (own_lines g.feeds o.lines c.subs ++ grants) a.back (calm_none own a.front a.calm.0)
+    (any_more (is_told_of own) (own_lines g.feeds o.lines c.subs) grants ∙ (λ i. all_of_none own g.feeds o.lines c.subs f i || none i)) (calm_none own a.back a.calm.1)
+
 pub hears_followed : Adds → Sounds → (g : Gate) (e : Event) → IsSoundGate g → HearsFollowed g e
 hears_followed adds sounds g e b m c d x y own h = by (next_all sounds g e b m c d x.there x.stays y.there y.stays)
   where
@@ -109,12 +122,14 @@ hears_followed adds sounds g e b m c d x y own h = by (next_all sounds g e b m c
     command a true f = inl (followed_any own c.subs ∙ f)
     command a false f =
         let o = step g.machine a.command in
-        let lines = own_lines g.feeds o.lines c.subs in
-        let none : list_any (is_told_of own) (told_of g a.command.act o c) ≡ false =
-        any_more (is_told_of own) lines (cond (is_accepted (reply_in o.lines)) (map granted (granted_by o.state.frame a.command.act c.role)) [])
-        ∙ (λ i. all_of_none own g.feeds o.lines c.subs f i || grants_of_none own (is_accepted (reply_in o.lines)) (granted_by o.state.frame a.command.act c.role) i) in
-        absurd (false≢true (sym (ap (list_any (is_told_of own)) (told_now c d _ a.told)
-        ∙ any_three (is_told_of own) a.front (told_of g a.command.act o c) a.back (calm_none own a.front a.calm.0) none (calm_none own a.back a.calm.1)) ∙ h))
+        absurd (false≢true (sym (outcome_of_none g (next g e) o (grants_of g.machine a.command c.role) (entries_of a.request a.name (reply_to g a.command)) c d own a.by
+        (grants_of_none own (is_accepted (reply_in o.lines)) (granted_by o.state.frame a.command.act c.role)) f) ∙ h))
+
+    by_step : (s : Step) (a : IsToldStep g (next g e) s c d) → (t : Bool) → list_any (λ (z : Sub). own == z.own) c.subs ≡ t → (is_some (followed_by c.subs own) ≡ true) ⊎ ((c.given < own) × (own ≤ d.given))
+    by_step s a true f = inl (followed_any own c.subs ∙ f)
+    by_step s a false f =
+        let names = newly g.machine.frame a.outcome.state.frame c.role in
+        absurd (false≢true (sym (outcome_of_none g (next g e) a.outcome (map granted names) (entry_of s ∷ []) c d own a.by (grants_of_none own true names) f) ∙ h))
 
     newest : (a : IsToldContents c d) → (t : Bool) → (own == (c.given + 1)) ≡ t → (is_some (followed_by c.subs own) ≡ true) ⊎ ((c.given < own) × (own ≤ d.given))
     newest a true f = let same = eqb-true own (c.given + 1) f in let l = a.given in inr (omega (arith, same), omega (arith, same, l))
@@ -123,10 +138,15 @@ hears_followed adds sounds g e b m c d x y own h = by (next_all sounds g e b m c
         absurd (false≢true (sym (ap (list_any (is_told_of own)) (told_now c d _ a.told)
         ∙ any_three (is_told_of own) a.front (news ∷ []) a.back (calm_none own a.front a.calm.0) (ap (λ z. z || false) f) (calm_none own a.back a.calm.1)) ∙ h))
 
-    by : Hears g (next g e) c d → (is_some (followed_by c.subs own) ≡ true) ⊎ ((c.given < own) × (own ≤ d.given))
-    by (quietly a n) = absurd (false≢true (sym (ap (list_any (is_told_of own)) (told_now c d a.more a.told) ∙ calm_none own a.more a.calm) ∙ h))
-    by (by_command a) = command a (list_any (λ (s : Sub). own == s.own) c.subs) refl
-    by (by_contents a n) = newest a (own == (c.given + 1)) refl
+    by_event : Hears g (next g e) c d → (is_some (followed_by c.subs own) ≡ true) ⊎ ((c.given < own) × (own ≤ d.given))
+    by_event (quietly a n) = absurd (false≢true (sym (ap (list_any (is_told_of own)) (told_now c d a.more a.told) ∙ calm_none own a.more a.calm) ∙ h))
+    by_event (by_command a) = command a (list_any (λ (s : Sub). own == s.own) c.subs) refl
+    by_event (by_contents a n) = newest a (own == (c.given + 1)) refl
+
+    by : HearsBy g e c d → (is_some (followed_by c.subs own) ≡ true) ⊎ ((c.given < own) × (own ≤ d.given))
+    by (heard n a) = by_event a
+    by (untaken n k same) = absurd (false≢true (sym (ap (list_any (is_told_of own)) (told_now c d [] (ap told (sym same) ∙ sym (append-nil (told c))))) ∙ h))
+    by (taken s q a) = by_step s a (list_any (λ (z : Sub). own == z.own) c.subs) refl
 
 -- ---- the lines of a command that changes what is shared
 
@@ -265,25 +285,25 @@ grants_end g e c false names = tt
 grants_end g e c true [] = tt
 grants_end g e c true (n ∷ names) = (tt, grants_end g e c true names)
 
-module _ (g : Gate) (e : Event) (b : IsSoundGate g) (c d : Client) (a : IsToldOf g (next g e) c d) where
-  one_end : (l : Line) → IsLineOf g.machine (step g.machine a.command).state l → (s : Sub) → IsOwn g c s → AllByRecursion (IsEndTold g e c) (own_line g.feeds l s)
-  one_end (reply n r) x s o = tt
-  one_end (change n k rows) x s o = by (k == s.feed)
+module _ (g : Gate) (e : Event) (b : IsSoundGate g) (c d : Client) (o : Outcome) (grants : List Told) (added : List Entry) (a : IsToldOutcome g (next g e) o grants added c d) where
+  one_end : (l : Line) → IsLineOf g.machine o.state l → (s : Sub) → IsOwn g c s → AllByRecursion (IsEndTold g e c) (own_line g.feeds l s)
+  one_end (reply n r) x s z = tt
+  one_end (change n k rows) x s z = by (k == s.feed)
     where
       by : (t : Bool) → AllByRecursion (IsEndTold g e c) (cond t (changed s.own rows ∷ []) [])
       by true = (tt, tt)
       by false = tt
-  one_end (ended n k why rows) x s o = by (k == s.feed) refl
+  one_end (ended n k why rows) x s z = by (k == s.feed) refl
     where
       the_end : k ≡ s.feed → IsCaused g e c s.own (rel_read g.feeds k) why
       the_end same =
-          let y = o.follows in
+          let y = z.follows in
           let there : feed_of g.feeds k ≡ Some y.feed = ap (feed_of g.feeds) same ∙ y.found in
-          let number : y.feed.number ≡ k = sym (eqb-true k y.feed.number (find_passes (λ (z : Feed). k == z.number) g.feeds y.feed there)) in
-          let rel : rel_read g.feeds k ≡ y.feed.rel = ap (λ z. if_some z [] (λ (w : Feed). w.rel)) there in
+          let number : y.feed.number ≡ k = sym (eqb-true k y.feed.number (find_passes (λ (w : Feed). k == w.number) g.feeds y.feed there)) in
+          let rel : rel_read g.feeds k ≡ y.feed.rel = ap (λ w. if_some w [] (λ (f : Feed). f.rel)) there in
           record {
             feed = k;
-            followed = ap (option_map (λ (z : Sub). z.feed)) o.found ∙ ap Some (sym same);
+            followed = ap (option_map (λ (w : Sub). w.feed)) z.found ∙ ap Some (sym same);
             relation = refl;
             cause = (λ i. hindrance (a.machine i) (sym y.role i) (rel i)) ∙ x y.feed (found_all (IsFeed g.machine) g.feeds k y.feed b.feeds there) number;
           }
@@ -292,26 +312,66 @@ module _ (g : Gate) (e : Event) (b : IsSoundGate g) (c d : Client) (a : IsToldOf
       by true q = (the_end (eqb-true k s.feed q), tt)
       by false q = tt
 
-  line_ends_for : (l : Line) → IsLineOf g.machine (step g.machine a.command).state l → (xs : List Sub) → AllByRecursion (IsOwn g c) xs → AllByRecursion (IsEndTold g e c) (flat_map (own_line g.feeds l) xs)
-  line_ends_for l x xs o = all_flat (IsEndTold g e c) (own_line g.feeds l) xs (all_so (λ s p. one_end l x s p) xs o)
+  line_ends_for : (l : Line) → IsLineOf g.machine o.state l → (xs : List Sub) → AllByRecursion (IsOwn g c) xs → AllByRecursion (IsEndTold g e c) (flat_map (own_line g.feeds l) xs)
+  line_ends_for l x xs z = all_flat (IsEndTold g e c) (own_line g.feeds l) xs (all_so (λ s p. one_end l x s p) xs z)
 
-  pub ends_of_command : Sounds → IsSoundClient g.machine g.feeds (seer c) → AllByRecursion (IsEndTold g e c) (told_by c d)
-  ends_of_command sounds sound =
-      let o = step g.machine a.command in
+  pub ends_of_outcome : AllByRecursion (IsLineOf g.machine o.state) o.lines → AllByRecursion (IsEndTold g e c) grants → IsSoundClient g.machine g.feeds (seer c) → AllByRecursion (IsEndTold g e c) (told_by c d)
+  ends_of_outcome lines quiet sound =
       subst (AllByRecursion (IsEndTold g e c)) (sym (told_now c d _ a.told))
-      (all_both (IsEndTold g e c) a.front (told_of g a.command.act o c ++ a.back) (calm_ends g e c a.front a.calm.0)
-      (all_both (IsEndTold g e c) (told_of g a.command.act o c) a.back
-      (all_both (IsEndTold g e c) (own_lines g.feeds o.lines c.subs) (cond (is_accepted (reply_in o.lines)) (map granted (granted_by o.state.frame a.command.act c.role)) [])
-      (all_flat (IsEndTold g e c) (λ l. flat_map (own_line g.feeds l) c.subs) o.lines
-      (all_so (λ l x. line_ends_for l x c.subs (own_each g c sound)) o.lines (lines_are sounds g.machine a.command a.shared b.state.numbers.unique)))
-      (grants_end g e c (is_accepted (reply_in o.lines)) (granted_by o.state.frame a.command.act c.role)))
+      (all_both (IsEndTold g e c) a.front ((own_lines g.feeds o.lines c.subs ++ grants) ++ a.back) (calm_ends g e c a.front a.calm.0)
+      (all_both (IsEndTold g e c) (own_lines g.feeds o.lines c.subs ++ grants) a.back
+      (all_both (IsEndTold g e c) (own_lines g.feeds o.lines c.subs) grants
+      (all_flat (IsEndTold g e c) (λ l. flat_map (own_line g.feeds l) c.subs) o.lines (all_so (λ l x. line_ends_for l x c.subs (own_each g c sound)) o.lines lines)) quiet)
       (calm_ends g e c a.back a.calm.1)))
+
+-- ---- the lines of a step
+
+stepped_cause : (fs : List Fact) (s : State) (o : Outcome) (f : Feed) (why : Cause) → IsLed s o → IsStep fs s o → (b : IsFeed s f)
+    → ending o.state (record { session = f.session; number = f.number; rel = b.rel }) ≡ Some why → hindrance o.state f.role f.rel ≡ Some why
+stepped_cause fs s o f why l t b e =
+    let known : role_of o.state.frame.rights f.role ≡ Some b.acts.place = l.lasts.roles f.role b.acts.place b.acts.known in
+    let session : session_of o.state.frame.sessions f.session ≡ Some (record { number = f.session; role = b.acts.place }) = ap (λ ss. session_of ss f.session) l.sessions ∙ b.acts.session in
+    let entry = there_some (named s.frame.catalog f.rel) b.known in
+    let role : role_number o.state.frame.rights f.role ≡ actor o.state.frame f.session =
+    ap (λ z. unwrap_or z (length o.state.frame.rights.roles)) known ∙ sym (ap (λ z. unwrap_or (option_map (λ (x : Session). x.role) z) (length o.state.frame.rights.roles)) session) in
+    let rel : rel_of o.state.frame.catalog f.rel ≡ b.rel = number_same s.frame.catalog o.state.frame.catalog f.rel entry.0 entry.1 (l.lasts.relations f.rel entry.0 entry.1) ∙ sym b.there in
+    (λ i. first_cause (is_some (missing_for o.state.frame (role i) (rel i))) (is_within_for o.state (role i) (rel i))) ∙ e
+
+pub stepped_lines : Sounds → (fs : List Fact) (s : State) (o : Outcome) → IsSoundState s → stepped fs s ≡ Some o → AllByRecursion (IsLineOf s o.state) o.lines
+stepped_lines sounds fs s o b h = all_so {P = IsTold s o.state} {Q = IsLineOf s o.state} line_is o.lines (recursion_from_All (IsTold s o.state) o.lines made.told)
+  where
+    made : IsStep fs s o
+    made = sounds.told fs s o b h
+
+    led : IsLed s o
+    led = step_led sounds fs s o h
+
+    cause : (j : ℕ) (why : Cause) (x : Subscription) → subscription_of s.frame.subscriptions j ≡ Some x → ending o.state x ≡ Some why → (f : Feed) → IsFeed s f → f.number ≡ j → hindrance o.state f.role f.rel ≡ Some why
+    cause j why x there ends f q n =
+        let same : record { session = f.session; number = f.number; rel = q.rel } ≡ x = one_some _ x (sym q.found ∙ (ap (subscription_of s.frame.subscriptions) n ∙ there)) in
+        stepped_cause fs s o f why led made q (ap (ending o.state) same ∙ ends)
+
+    line_is : (l : Line) → IsTold s o.state l → IsLineOf s o.state l
+    line_is (reply n r) t = tt
+    line_is (change n k rows) t = tt
+    line_is (ended n k why rows) t = λ f q i. cause k why t.reader.subscription t.reader.found t.ends f q i
 
 pub ends_for_cause : Sounds → (g : Gate) (e : Event) → IsSoundGate g → EndsForCause g e
 ends_for_cause sounds g e b m c d x y own rel why rows h = of_contained (IsEndTold g e c) (told_by c d) (over own rel why rows) (by (next_all sounds g e b m c d x.there x.stays y.there y.stays)) h
   where
-    by : Hears g (next g e) c d → AllByRecursion (IsEndTold g e c) (told_by c d)
-    by (quietly a n) = subst (AllByRecursion (IsEndTold g e c)) (sym (told_now c d a.more a.told)) (calm_ends g e c a.more a.calm)
-    by (by_command a) = ends_of_command g e b c d a sounds (b.clients m c x.there x.stays)
-    by (by_contents a n) = subst (AllByRecursion (IsEndTold g e c)) (sym (told_now c d _ a.told))
+    by_event : Hears g (next g e) c d → AllByRecursion (IsEndTold g e c) (told_by c d)
+    by_event (quietly a n) = subst (AllByRecursion (IsEndTold g e c)) (sym (told_now c d a.more a.told)) (calm_ends g e c a.more a.calm)
+    by_event (by_command a) =
+        let z = step g.machine a.command in
+        ends_of_outcome g e b c d z (grants_of g.machine a.command c.role) (entries_of a.request a.name (reply_to g a.command)) a.by (lines_are sounds g.machine a.command a.shared b.state.numbers.unique)
+        (grants_end g e c (is_accepted (reply_in z.lines)) (granted_by z.state.frame a.command.act c.role)) (b.clients m c x.there x.stays)
+    by_event (by_contents a n) = subst (AllByRecursion (IsEndTold g e c)) (sym (told_now c d _ a.told))
         (all_both (IsEndTold g e c) a.front (changed (c.given + 1) (difference a.before a.after) ∷ a.back) (calm_ends g e c a.front a.calm.0) (tt, calm_ends g e c a.back a.calm.1))
+
+    by : HearsBy g e c d → AllByRecursion (IsEndTold g e c) (told_by c d)
+    by (heard n a) = by_event a
+    by (untaken n k same) = subst (AllByRecursion (IsEndTold g e c)) (sym (told_now c d [] (ap told (sym same) ∙ sym (append-nil (told c))))) tt
+    by (taken s q a) =
+        let names = newly g.machine.frame a.outcome.state.frame c.role in
+        ends_of_outcome g e b c d a.outcome (map granted names) (entry_of s ∷ []) a.by (stepped_lines sounds (map fact_of s.requests) g.machine a.outcome b.state a.leads) (grants_end g e c true names)
+        (b.clients m c x.there x.stays)

@@ -1,34 +1,40 @@
 -- Text shows entries that are accepted, and none that is not on disk once it may be sent.
-use Rattle.std.proofs.Common.{◌≡◌, ℕ, zero, suc, ◌≤◌, Bool, true, false, cond, ◌||◌, List, [], ◌∷◌, ◌++◌, drop, take, length, map, set, Option, Some, None, option_map, refl, ap, ◌∙◌, sym, subst, arith, append-nil, length-append}
+use Rattle.std.proofs.Common.{◌≡◌, ℕ, zero, suc, ◌≤◌, Bool, true, false, cond, is_some, ◌||◌, List, [], ◌∷◌, ◌++◌, drop, take, length, map, set, Option, Some, None, option_map, refl, ap, ◌∙◌, sym, subst, arith, append-nil, length-append}
 use Rattle.std.specs.Prelude.{◌==◌, ◌&&◌, option_and_then}
 use Rattle.std.specs.List.{AllByRecursion}
 use Rattle.std.proofs.Math.Seq.{take-length}
 use Rattle.std.proofs.lemmas.Bool.{eqb-true, eqb-false}
-use Rattle.std.proofs.lemmas.List.{drop-append-le, take-append-drop, take-append-le}
+use Rattle.std.proofs.lemmas.List.{take-append-drop, take-append-le}
 use Rattle.serde_json.specs.Data.{Data}
 use Rattle.sha2.specs.Sha256.{sha256}
 use Rattle.iv_rows.specs.Names.{is_name}
 use Rattle.iv_rows.specs.Options.{if_some}
-use Rattle.iv_access.specs.Rights.{Name}
-use Rattle.iv_machine.specs.Act.{Command}
-use Rattle.iv_machine.specs.Machine.{step}
-use Rattle.iv_message.specs.Told.{Told, alive, replied, settled}
-use Rattle.iv_clients.specs.Clients.{Client, Shown, Slots, answered, at_all, at_client, beating, checked, client_at, closing, dropping, following, fresh, handing, is_free, is_slow, moved, opens, released, saying, settling, staying, telling, told_one, greeting}
-use Rattle.iv_clients.specs.Journal.{Entry, IsEntry, is_shared, journal_of, line_said, shape_for}
-use Rattle.iv_clients.specs.Tokens.{Token, role_opened}
+use Rattle.iv_machine.specs.Act.{Command, Reply, refused}
+use Rattle.iv_machine.specs.Machine.{Outcome, step}
+use Rattle.iv_message.specs.Told.{Told, alive, settled}
+use Rattle.iv_clients.specs.Clients.{Client, Shown, Slots, answered, may_say, at_all, at_client, beating, checked, client_at, closing, dropping, following, fresh, handing, is_free, is_slow, moved, opens, released, saying, settling, staying, telling, told_one, greeting}
+use Rattle.iv_clients.specs.Journal.{Entry, IsEntry, Request, journal_of, names_in, said_by, shape_for}
+use Rattle.iv_clients.specs.Laws.{ReadsBack}
+use Rattle.iv_once.specs.Names.{Ask}
+use Rattle.iv_steps.specs.Steps.{stepped}
+use Rattle.iv_clients.specs.Tokens.{Token, token_of}
 use Rattle.iv_clients.proofs.Slots.{at_every, at_other, at_same, nobody, one_some, set_other, some_is_none}
-use Rattle.iv_gate.specs.Events.{Event, presented, message, gone, known, ticked, synced, handed, failed, happens, hands, knowing, next, on_disk, ticking}
-use Rattle.iv_gate.specs.Gate.{Gate, came, entered, has_session, in_session, is_accepted, ran, reply_to, requests, role_for, said, tells, told_of, went, informs, entries_of}
+use Rattle.iv_gate.specs.Arriving.{Step, entry_of, fact_of, fault_of, first_known, is_behind, landed, takes}
+use Rattle.iv_gate.specs.Events.{Event, presented, message, gone, known, ticked, synced, handed, arrived, forgave, failed, IsWell, happens, hands, knowing, next, on_disk, ticking}
+use Rattle.iv_gate.specs.Gate.{Gate, Head, at_text, hears, known_at, came, done_in, entered, entries_of, has_session, in_session, informs, ran, replies_to, reply_to, reply_told, said, tells, token_for, told_of, went, went_on}
 use Rattle.iv_gate.specs.Laws.{IsFront, SentIsKept}
-use Rattle.iv_gate.specs.Restoring.{Restores, gate_at_start}
+use Rattle.iv_gate.specs.Restoring.{Restores, are_rising, gate_at_start}
 use Rattle.iv_gate.specs.Runs.{LeavesOnDisk, Runs, begins, goes_on, begins_again}
-use Rattle.iv_gate.proofs.Requesting.{IsShort, entry_heard, entry_short}
+use Rattle.iv_gate.proofs.Booking.{IsBooked, Texts, came_adds, is_next, went_adds, booked_more, booked_same, said_more, step_more}
+use Rattle.iv_gate.proofs.Damage.{Compared, compare, entry_there, longer, no_lines, same, shorter}
+use Rattle.iv_gate.proofs.Replying.{adds_said, asked, said_added}
 use Rattle.iv_gate.proofs.Growing.{assoc}
 use Rattle.iv_gate.proofs.Joining.{and_both}
-use Rattle.iv_gate.proofs.Rereading.{front_of_bytes, torn_is_one}
 use Rattle.iv_gate.proofs.Running.{all_so}
-use Rattle.iv_gate.proofs.Stepping.{Keeps, Steps, came_keeps, said_keeps, went_keeps}
+use Rattle.iv_gate.proofs.Stepping.{Keeps, Steps, came_keeps, request_of, said_keeps, step_done, went_keeps}
+use Rattle.iv_gate.proofs.Walking.{step_told}
 use Rattle.iv_gate.proofs.Shaping.{told_itself}
+use Rattle.iv_journal.specs.Journal.{Line}
 
 -- ---- fronts
 
@@ -151,33 +157,30 @@ holding_checked kept all tokens c b = by (opens tokens c)
 pub record IsHeld (base : List Entry) (g : Gate) : Type 0 where
   pub front : IsFront base g.entries
   pub kept : g.kept ≤ length g.entries
-  pub well : AllByRecursion IsEntry g.entries
-  pub short : AllByRecursion IsShort (drop g.kept g.entries)
   pub sent : AllByRecursion (λ (s : Shown). IsFront s.entries (take g.kept g.entries)) g.sent
   pub clients : AllClients (IsHolding (take g.kept g.entries) g.entries) g.clients
 
 module _ (base : List Entry) where
-  ran_held : (g : Gate) (k : Command) → IsHeld base g → IsHeld base (ran g k)
-  ran_held g k b =
+  outcome_held : (g : Gate) (o : Outcome) (told : Client → List Told) → IsHeld base g → IsHeld base (went_on g o told)
+  outcome_held g o told b =
       let kept = take g.kept g.entries in
       record {
         front = b.front;
         kept = b.kept;
-        well = b.well;
-        short = b.short;
         sent = b.sent;
-        clients = every_client (IsHolding kept g.entries) (IsHolding kept g.entries) (λ c. staying (step g.machine k).lines (telling g.entries (told_of g k.act (step g.machine k) c) c))
-            (λ c x. let y = holding_telling kept g.entries (told_of g k.act (step g.machine k) c) c x in record { name = y.name; sendable = y.sendable; unsynced = y.unsynced })
+        clients = every_client (IsHolding kept g.entries) (IsHolding kept g.entries) (λ c. staying o.lines (telling g.entries (told c) c))
+            (λ c x. let y = holding_telling kept g.entries (told c) c x in record { name = y.name; sendable = y.sendable; unsynced = y.unsynced })
             g.clients b.clients;
       }
+
+  ran_held : (g : Gate) (k : Command) → IsHeld base g → IsHeld base (ran g k)
+  ran_held g k b = outcome_held g (step g.machine k) (told_of g k.act (step g.machine k)) b
 
   one_held : (g : Gate) (m : ℕ) (f : Client → Client)
       → ((c : Client) → IsHolding (take g.kept g.entries) g.entries c → IsHolding (take g.kept g.entries) g.entries (f c)) → IsHeld base g → IsHeld base (record g { clients = at_client m f g.clients })
   one_held g m f k b = record {
     front = b.front;
     kept = b.kept;
-    well = b.well;
-    short = b.short;
     sent = b.sent;
     clients = one_client (IsHolding (take g.kept g.entries) g.entries) m f g.clients (λ c e x. k c x) b.clients;
   }
@@ -189,8 +192,6 @@ module _ (base : List Entry) where
   put_held g m o k b = record {
     front = b.front;
     kept = b.kept;
-    well = b.well;
-    short = b.short;
     sent = b.sent;
     clients = put_client (IsHolding (take g.kept g.entries) g.entries) m o k g.clients b.clients;
   }
@@ -201,8 +202,6 @@ module _ (base : List Entry) where
       record {
         front = b.front;
         kept = b.kept;
-        well = b.well;
-        short = b.short;
         sent = b.sent;
         clients = every_client (IsHolding kept g.entries) (IsHolding kept g.entries) (λ c. telling g.entries (shape_for c.role es) c)
             (λ c x. holding_telling kept g.entries (shape_for c.role es) c x) g.clients b.clients;
@@ -216,15 +215,13 @@ module _ (base : List Entry) where
     settle = λ g b. record {
       front = b.front;
       kept = b.kept;
-      well = b.well;
-      short = b.short;
       sent = b.sent;
       clients = every_client (IsHolding (take g.kept g.entries) g.entries) (IsHolding (take g.kept g.entries) g.entries) (settling g.entries)
           (λ c x. holding_settling (take g.kept g.entries) g.entries c x) g.clients b.clients;
     };
     tell = λ g t _ b. tells_held g m t b;
-    seat = λ g seats b. record { front = b.front; kept = b.kept; well = b.well; short = b.short; sent = b.sent; clients = b.clients };
-    feed = λ g feeds b. record { front = b.front; kept = b.kept; well = b.well; short = b.short; sent = b.sent; clients = b.clients };
+    seat = λ g seats b. record { front = b.front; kept = b.kept; sent = b.sent; clients = b.clients };
+    feed = λ g feeds b. record { front = b.front; kept = b.kept; sent = b.sent; clients = b.clients };
     follow = λ g k b. one_held g m (following k) (λ c x. record { name = x.name; sendable = x.sendable; unsynced = x.unsynced }) b;
     move = λ g t k b. one_held g m (moved t k) (λ c x. record { name = x.name; sendable = x.sendable; unsynced = x.unsynced }) b;
     close = λ g own b. one_held g m (closing own) (λ c x. record { name = x.name; sendable = x.sendable; unsynced = x.unsynced }) b;
@@ -232,14 +229,12 @@ module _ (base : List Entry) where
 
   -- ---- entries
 
-  more_held : (g : Gate) (more : List Entry) → AllByRecursion IsEntry more → AllByRecursion IsShort more → IsHeld base g → IsHeld base (record g { entries = g.entries ++ more })
-  more_held g more w v b =
+  more_held : (g : Gate) (more : List Entry) → IsHeld base g → IsHeld base (record g { entries = g.entries ++ more })
+  more_held g more b =
       let same : take g.kept (g.entries ++ more) ≡ take g.kept g.entries = take-append-le g.kept g.entries more b.kept in
       record {
         front = front_then base g.entries (g.entries ++ more) b.front (more, refl);
         kept = subst (λ n. g.kept ≤ n) (sym (length-append g.entries more)) (omega (arith, b.kept));
-        well = all_more IsEntry g.entries more b.well w;
-        short = subst (AllByRecursion IsShort) (sym (drop-append-le g.kept g.entries more b.kept)) (all_more IsShort (drop g.kept g.entries) more b.short v);
         sent = subst (λ z. AllByRecursion (λ (s : Shown). IsFront s.entries z) g.sent) (sym same) b.sent;
         clients = λ m c h. let x = b.clients m c h in record {
           name = x.name;
@@ -249,17 +244,29 @@ module _ (base : List Entry) where
         };
       }
 
-  entered_held : (g : Gate) (e : Entry) (a : Bool) → IsEntry e → IsShort e → IsHeld base g → IsHeld base (entered g e a)
-  entered_held g e a w v b = by (is_shared e.act && a)
-    where
-      by : (t : Bool) → IsHeld base (record g { entries = g.entries ++ cond t (e ∷ []) [] })
-      by true = more_held g (e ∷ []) (w, tt) (v, tt) b
-      by false = more_held g [] tt tt b
+  replied_held : (g : Gate) (m : ℕ) (id : Option Data) (q : Request) (name : Option Ask) (r : Reply) → IsHeld base g → IsHeld base (replies_to g m id q name r)
+  replied_held g m id q name r b =
+      let h = entered g (entries_of q name r) in tells_held h m (reply_told h id name r) (more_held g (entries_of q name r) b)
 
-  requests_held : (g : Gate) (m : ℕ) (id : Option Data) (e : Entry) (n : ℕ) → IsEntry e → IsShort e → IsHeld base g → IsHeld base (requests g m id e n)
-  requests_held g m id e n w v b =
-      let k = in_session n e.act in let r = reply_to g k in let h = entered g e (is_accepted r) in
-      informs_held (ran (tells h m (replied id r)) k) (entries_of e (is_accepted r)) (ran_held (tells h m (replied id r)) k (tells_held h m (replied id r) (entered_held g e (is_accepted r) w v b)))
+  requests_held : (g : Gate) (m : ℕ) (id : Option Data) (q : Request) (name : Option Ask) (n : ℕ) → IsHeld base g → IsHeld base (done_in g m id q name n)
+  requests_held g m id q name n b =
+      let k = in_session n q.act in let r = reply_to g k in let h = replies_to g m id q name r in
+      informs_held (ran h k) (entries_of q name r) (ran_held h k (replied_held g m id q name r b))
+
+  -- a step is told
+  landed_held : (g : Gate) (e : Entry) (o : Outcome) → IsHeld base g → IsHeld base (landed g e o)
+  landed_held g e o b =
+      let h = entered g (e ∷ []) in let told = step_told g o in let i = went_on h o told in
+      (held_kit 0).settle (informs i (e ∷ [])) (informs_held i (e ∷ []) (outcome_held h o told (more_held g (e ∷ []) b)))
+
+  takes_held : (g : Gate) (s : Step) → IsHeld base g → IsHeld base (takes g s)
+  takes_held g s b = by (is_some (fault_of g s)) (is_behind g s) (stepped (map fact_of s.requests) g.machine)
+    where
+      by : (d p : Bool) (o : Option Outcome) → IsHeld base (cond d (record g { dead = true }) (cond p g (if_some o g (landed g (entry_of s)))))
+      by true p o = record { front = b.front; kept = b.kept; sent = b.sent; clients = b.clients }
+      by false true o = b
+      by false false None = b
+      by false false (Some o) = landed_held g (entry_of s) o b
 
   answered_held : (h : Gate) (m : ℕ) (before : Client) → AllByRecursion (λ (s : Shown). IsFront s.entries h.entries) before.unsynced → IsHeld base h → IsHeld base (record h { clients = at_client m (answered before) h.clients })
   answered_held h m before a b = one_held h m (answered before)
@@ -273,18 +280,18 @@ module _ (base : List Entry) where
 -- ---- events
 
 based : (base other : List Entry) (g : Gate) → IsFront other g.entries → IsHeld base g → IsHeld other g
-based base other g f b = record { front = f; kept = b.kept; well = b.well; short = b.short; sent = b.sent; clients = b.clients }
+based base other g f b = record { front = f; kept = b.kept; sent = b.sent; clients = b.clients }
 
-name_opened : (g : Gate) (m : ℕ) (token : List ℕ) (role : Name) → role_for g m token ≡ Some role → is_name role ≡ true
-name_opened g m token role h = by (role_opened g.tokens (sha256 token)) h
+name_opened : (g : Gate) (m : ℕ) (token : List ℕ) (t : Token) → token_for g m token ≡ Some t → is_name t.role ≡ true
+name_opened g m token t h = by (token_of g.tokens (sha256 token)) h
   where
-    test : (r : Name) (b : Bool) → (is_name r && (is_free m g.clients && has_session g r)) ≡ b → cond b (Some r) None ≡ Some role → is_name role ≡ true
-    test r true t e = ap is_name (sym (one_some r role e)) ∙ (and_both (is_name r) (is_free m g.clients && has_session g r) t).0
-    test r false t e = absurd (some_is_none role (sym e))
+    test : (r : Token) (b : Bool) → (is_name r.role && (is_free m g.clients && has_session g r.role)) ≡ b → cond b (Some r) None ≡ Some t → is_name t.role ≡ true
+    test r true x e = ap (λ (z : Token). is_name z.role) (sym (one_some r t e)) ∙ (and_both (is_name r.role) (is_free m g.clients && has_session g r.role) x).0
+    test r false x e = absurd (some_is_none t (sym e))
 
-    by : (o : Option Name) → option_and_then (λ r. cond (is_name r && (is_free m g.clients && has_session g r)) (Some r) None) o ≡ Some role → is_name role ≡ true
-    by None e = absurd (some_is_none role (sym e))
-    by (Some r) e = test r (is_name r && (is_free m g.clients && has_session g r)) refl e
+    by : (o : Option Token) → option_and_then (λ (r : Token). cond (is_name r.role && (is_free m g.clients && has_session g r.role)) (Some r) None) o ≡ Some t → is_name t.role ≡ true
+    by None e = absurd (some_is_none t (sym e))
+    by (Some r) e = test r (is_name r.role && (is_free m g.clients && has_session g r.role)) refl e
 
 itself_shows : (es : List Entry) (ts : List Told) → AllByRecursion (λ (s : Shown). IsFront s.entries es) (map (told_itself es) ts)
 itself_shows es [] = tt
@@ -292,8 +299,8 @@ itself_shows es (t ∷ ts) = (front_self es, itself_shows es ts)
 
 came_held : (g : Gate) (m : ℕ) (token : List ℕ) → IsHeld [] g → IsHeld [] (came g m token)
 came_held g m token b = came_keeps (IsHeld []) (held_kit []) g m token
-    (λ h role e x. let who = fresh h.entries role (sha256 token) in put_held [] h m (Some who)
-    (λ c same. subst (IsHolding (take h.kept h.entries) h.entries) (one_some who c same) (record { name = name_opened g m token role e; sendable = tt; unsynced = itself_shows h.entries (greeting h.entries role) })) x) b
+    (λ h t e x. let at = at_text h t in let who = fresh h.entries t at in put_held [] h m (Some who)
+    (λ c same. subst (IsHolding (take h.kept h.entries) h.entries) (one_some who c same) (record { name = name_opened g m token t e; sendable = tt; unsynced = itself_shows h.entries (greeting h.entries t.role at) })) x) b
 
 nobody_new : (Q : Client → Type 0) (c : Client) → None ≡ Some c → Q c
 nobody_new Q c e = absurd (some_is_none c (sym e))
@@ -308,8 +315,8 @@ said_held g m text b =
       says = λ x. one_held g.entries g m (saying text) (λ d z. record { name = z.name; sendable = z.sendable; unsynced = z.unsynced }) x;
       answers = λ i x. answered_held g.entries i m c
           (all_so {P = λ (s : Shown). IsFront s.entries g.entries} {Q = λ (s : Shown). IsFront s.entries i.entries} (λ s f. front_then s.entries g.entries i.entries f x.front) c.unsynced (b.clients m c e).unsynced) x;
-      asks = λ id act n t shared seat x. requests_held g.entries (record g { clients = at_client m (saying text) g.clients }) m id (record { role = c.role; line = line_said text; act = act }) n
-          (entry_heard c.role text id act (b.clients m c e).name shared t) (entry_short c.role text id act t) x;
+      asks = λ id act name n t shared seat x. requests_held g.entries (record g { clients = at_client m (saying text) g.clients }) m id (request_of c text act) name n x;
+      refuses = λ id act a r t shared x. replied_held g.entries (record g { clients = at_client m (saying text) g.clients }) m id (request_of c text act) (Some a) (refused r) x;
     }) (based [] g.entries g (front_self g.entries) b) in
     based g.entries [] h (h.entries, refl) y
 
@@ -317,8 +324,6 @@ known_held : (g : Gate) (tokens : List Token) → IsHeld [] g → IsHeld [] (kno
 known_held g tokens b = record {
   front = b.front;
   kept = b.kept;
-  well = b.well;
-  short = b.short;
   sent = b.sent;
   clients = every_client (IsHolding (take g.kept g.entries) g.entries) (IsHolding (take g.kept g.entries) g.entries) (checked tokens)
       (λ c x. holding_checked (take g.kept g.entries) g.entries tokens c x) g.clients b.clients;
@@ -328,8 +333,6 @@ ticked_held : (g : Gate) → IsHeld [] g → IsHeld [] (ticking g)
 ticked_held g b = record {
   front = b.front;
   kept = b.kept;
-  well = b.well;
-  short = b.short;
   sent = b.sent;
   clients = every_client (IsHolding (take g.kept g.entries) g.entries) (IsHolding (take g.kept g.entries) g.entries) (beating g.entries)
       (λ c x. let y = holding_one (take g.kept g.entries) g.entries alive c x in record { name = y.name; sendable = y.sendable; unsynced = y.unsynced }) g.clients b.clients;
@@ -338,18 +341,12 @@ ticked_held g b = record {
 all_kept : (es : List Entry) → take (length es) es ≡ es
 all_kept es = take-length es
 
-none_left : (es : List Entry) → AllByRecursion IsShort (drop (length es) es)
-none_left [] = tt
-none_left (e ∷ es) = none_left es
-
 synced_held : (g : Gate) → IsHeld [] g → IsHeld [] (on_disk g)
 synced_held g b =
     let f : IsFront (take g.kept g.entries) g.entries = front_taken g.kept g.entries in
     record {
       front = b.front;
       kept = omega arith;
-      well = b.well;
-      short = none_left g.entries;
       sent = subst (λ z. AllByRecursion (λ (s : Shown). IsFront s.entries z) g.sent) (sym (all_kept g.entries))
           (all_so {P = λ (s : Shown). IsFront s.entries (take g.kept g.entries)} {Q = λ (s : Shown). IsFront s.entries g.entries}
           (λ s x. front_then s.entries (take g.kept g.entries) g.entries x f) g.sent b.sent);
@@ -361,8 +358,6 @@ handed_held : (g : Gate) (m : ℕ) → IsHeld [] g → IsHeld [] (hands g m)
 handed_held g m b = record {
   front = b.front;
   kept = b.kept;
-  well = b.well;
-  short = b.short;
   sent = all_more (λ (s : Shown). IsFront s.entries (take g.kept g.entries)) g.sent (if_some (client_at g.clients m) [] (λ c. c.sendable)) b.sent
       (by (client_at g.clients m) (λ c e. (b.clients m c e).sendable));
   clients = one_client (IsHolding (take g.kept g.entries) g.entries) m handing g.clients (λ c e x. holding_handing (take g.kept g.entries) g.entries c x) b.clients;
@@ -381,7 +376,9 @@ happens_held g (known tokens) b = known_held g tokens b
 happens_held g ticked b = ticked_held g b
 happens_held g synced b = synced_held g b
 happens_held g (handed m) b = handed_held g m b
-happens_held g failed b = record { front = b.front; kept = b.kept; well = b.well; short = b.short; sent = b.sent; clients = b.clients }
+happens_held g (arrived s) b = takes_held [] g s b
+happens_held g forgave b = record { front = b.front; kept = b.kept; sent = b.sent; clients = b.clients }
+happens_held g failed b = record { front = b.front; kept = b.kept; sent = b.sent; clients = b.clients }
 
 pub next_held : (g : Gate) (e : Event) → IsHeld [] g → IsHeld [] (next g e)
 next_held g e b = by g.dead
@@ -392,29 +389,130 @@ next_held g e b = by g.dead
 
 -- ---- runs
 
-restored_held : (cap : ℕ) (tokens : List Token) (most : ℕ) (sent : List Shown) (journal : List ℕ) (h : Gate) → Restores (gate_at_start cap tokens most sent) journal h
+restored_held : (cap : ℕ) (tokens : List Token) (most : ℕ) (head : Head) (sent : List Shown) (journal : List Line) (h : Gate) → Restores (gate_at_start cap tokens most head sent) journal h
     → AllByRecursion (λ (s : Shown). IsFront s.entries h.entries) sent → IsHeld [] h
-restored_held cap tokens most sent journal h r a = subst (IsHeld []) (sym r.gate) (record {
+restored_held cap tokens most head sent journal h r a = subst (IsHeld []) (sym r.leads.gate) (record {
   front = (h.entries, refl);
   kept = omega arith;
-  well = r.leads.well;
-  short = none_left h.entries;
   sent = subst (λ z. AllByRecursion (λ (s : Shown). IsFront s.entries z) sent) (sym (all_kept h.entries)) a;
   clients = λ m c e. absurd (nobody most m c e);
 })
 
+pub same_entries : ReadsBack → (es fs : List Entry) → AllByRecursion IsEntry es → AllByRecursion IsEntry fs → journal_of es ≡ journal_of fs → es ≡ fs
+same_entries reads es fs w v h = by (compare reads es fs [] [] w v (append-nil (journal_of es) ∙ (h ∙ sym (append-nil (journal_of fs)))))
+  where
+    by : Compared es fs [] [] → es ≡ fs
+    by (same a b) = a
+    by (shorter f more a b) = absurd (no_lines f more [] (entry_there es fs f more a v) b)
+    by (longer e more a b) = absurd (no_lines e more [] (entry_there fs es e more a w) b)
+
+pub taken_more : (n m : ℕ) (es : List Entry) → n ≤ m → IsFront (take n es) (take m es)
+taken_more zero m es h = (take m es, refl)
+taken_more (suc n) zero es h = absurd (let no : ⊥ = omega (arith, h) in no)
+taken_more (suc n) (suc m) [] h = ([], refl)
+taken_more (suc n) (suc m) (e ∷ es) h = let x = taken_more n m es (omega (arith, h)) in (x.0, ap (λ z. e ∷ z) x.1)
+
 -- what is on disk leads to all that was kept
-pub kept_again : (g h : Gate) (disk : List ℕ) (start : Gate) → AllByRecursion IsEntry g.entries → LeavesOnDisk g disk → Restores start disk h → IsFront (take g.kept g.entries) h.entries
-kept_again g h disk start w l r =
-    front_of_bytes (take g.kept g.entries) h.entries (take l.0 (journal_of (drop g.kept g.entries))) r.torn (all_taken IsEntry g.kept g.entries w) r.leads.well (sym l.1 ∙ r.leads.text) (torn_is_one r.torn r.cut)
+pub kept_again : ReadsBack → (g h : Gate) (disk : List Line) (start : Gate) → AllByRecursion IsEntry g.entries → LeavesOnDisk g disk → Restores start disk h
+    → IsFront (take g.kept g.entries) h.entries
+kept_again reads g h disk start w l r =
+    subst (IsFront (take g.kept g.entries)) (same_entries reads (take l.0 g.entries) h.entries (all_taken IsEntry l.0 g.entries w) r.leads.well (sym l.2 ∙ r.all)) (taken_more g.kept l.0 g.entries l.1)
 
-pub runs_held : (cap : ℕ) (g : Gate) → Runs cap g → IsHeld [] g
-runs_held cap _ (begins tokens most journal g r) = restored_held cap tokens most [] journal g r tt
-runs_held cap _ (goes_on g e r) = next_held g e (runs_held cap g r)
-runs_held cap _ (begins_again g disk tokens most h r l x) =
-    let b = runs_held cap g r in
-    restored_held cap tokens most g.sent disk h x (all_so {P = λ (s : Shown). IsFront s.entries (take g.kept g.entries)} {Q = λ (s : Shown). IsFront s.entries h.entries}
-    (λ s f. front_then s.entries (take g.kept g.entries) h.entries f (kept_again g h disk (gate_at_start cap tokens most g.sent) b.well l x)) g.sent b.sent)
+-- ---- the journal
 
-pub sent_is_kept : (cap : ℕ) (g : Gate) → Runs cap g → SentIsKept g
-sent_is_kept cap g r = let b = runs_held cap g r in record { sent = b.sent; sendable = λ m c h. (b.clients m c h).sendable }
+abbrev HasHead : Gate → Gate → Type 0
+HasHead g h = h.head ≡ g.head
+
+head_kit : (g : Gate) (m : ℕ) → Steps m (Keeps (HasHead g))
+head_kit g m = record {
+  same = λ h x. x;
+  chain = λ h i j x y z. y (x z);
+  run = λ h k e x. x;
+  settle = λ h x. x;
+  tell = λ h t e x. x;
+  seat = λ h seats x. x;
+  feed = λ h feeds x. x;
+  follow = λ h k x. x;
+  move = λ h t k x. x;
+  close = λ h own x. x;
+}
+
+said_booked : Texts → (g : Gate) (m : ℕ) (text : List ℕ) → IsHeld [] g → IsBooked g → IsBooked (said g m text)
+said_booked texts g m text b k = by (client_at g.clients m) refl
+  where
+    head : (c : Client) → (hears g m c text).head ≡ g.head
+    head c = step_done m (Keeps (HasHead g)) (head_kit g m) (asked g m text) (HasHead g) (λ h f. f refl) c text (said_by text) (λ id act name n e s t. refl) (λ id act a r e s. refl)
+
+    heard : (c : Client) → client_at g.clients m ≡ Some c → (t : Bool) → IsBooked (cond t (hears g m c text) g)
+    heard c e false = k
+    heard c e true =
+        let i = asked g m text in let x = said_more texts i c text (b.clients m c e).name (said_by text) refl in
+        booked_more g (hears g m c text) (said_added i c text (said_by text)) (adds_said i m c text (said_by text)) (head c)
+        (record { well = x.well; names = x.names; steps = x.steps }) k
+
+    by : (o : Option Client) → client_at g.clients m ≡ o → IsBooked (if_some o g (λ c. cond (may_say c) (hears g m c text) g))
+    by None e = k
+    by (Some c) e = heard c e (may_say c)
+
+takes_booked : (g : Gate) (s : Step) → IsEntry (entry_of s) → IsBooked g → IsBooked (takes g s)
+takes_booked g s w k = by (is_some (fault_of g s)) refl (is_behind g s) refl (stepped (map fact_of s.requests) g.machine)
+  where
+    by : (d : Bool) → is_some (fault_of g s) ≡ d → (p : Bool) → is_behind g s ≡ p → (o : Option Outcome)
+        → IsBooked (cond d (record g { dead = true }) (cond p g (if_some o g (landed g (entry_of s)))))
+    by true e p f o = booked_same g (record g { dead = true }) refl refl k
+    by false e true f o = k
+    by false e false f None = k
+    by false e false f (Some o) =
+        let n = is_next g s e f in booked_more g (landed g (entry_of s) o) (entry_of s ∷ []) refl refl (step_more g s w n.new n.rises) k
+
+happens_booked : Texts → (g : Gate) (e : Event) → IsWell e → IsHeld [] g → IsBooked g → IsBooked (happens g e)
+happens_booked texts g (presented m token) w b k =
+    booked_same g (came g m token) (came_adds g m token) (came_keeps (HasHead g) (head_kit g) g m token (λ h t e y. y) refl) k
+happens_booked texts g (message m text) w b k = said_booked texts g m text b k
+happens_booked texts g (gone m) w b k = booked_same g (went g m) (went_adds g m) (went_keeps (HasHead g) (head_kit g) g m (λ y. y) refl) k
+happens_booked texts g (known tokens) w b k = booked_same g (knowing g tokens) refl refl k
+happens_booked texts g ticked w b k = booked_same g (ticking g) refl refl k
+happens_booked texts g synced w b k = booked_same g (on_disk g) refl refl k
+happens_booked texts g (handed m) w b k = booked_same g (hands g m) refl refl k
+happens_booked texts g (arrived s) w b k = takes_booked g s w.0 k
+happens_booked texts g forgave w b k = booked_same g (record g { forgiven = length g.entries }) refl refl k
+happens_booked texts g failed w b k = booked_same g (record g { dead = true }) refl refl k
+
+next_booked : Texts → (g : Gate) (e : Event) → IsWell e → IsHeld [] g → IsBooked g → IsBooked (next g e)
+next_booked texts g e w b k = by g.dead
+  where
+    by : (t : Bool) → IsBooked (cond t g (happens g e))
+    by true = k
+    by false = happens_booked texts g e w b k
+
+restored_booked : (cap : ℕ) (tokens : List Token) (most : ℕ) (head : Head) (sent : List Shown) (journal : List Line) (h : Gate) → Restores (gate_at_start cap tokens most head sent) journal h → IsBooked h
+restored_booked cap tokens most head sent journal h r =
+    let same : h.head ≡ head = ap (λ (x : Gate). x.head) r.leads.gate in
+    record {
+      well = r.leads.well;
+      names = ap (λ z. first_known 1 (names_in h.entries) (known_at z)) same ∙ r.leads.names;
+      steps = ap (λ (z : Head). are_rising z.position h.entries) same ∙ r.leads.steps;
+    }
+
+-- ---- runs
+
+pub record IsWritten (g : Gate) : Type 0 where
+  pub held : IsHeld [] g
+  pub booked : IsBooked g
+
+pub runs_written : ReadsBack → Texts → (cap : ℕ) (g : Gate) → Runs cap g → IsWritten g
+runs_written reads texts cap _ (begins tokens most head journal g r) =
+    record { held = restored_held cap tokens most head [] journal g r tt; booked = restored_booked cap tokens most head [] journal g r }
+runs_written reads texts cap _ (goes_on g e w r) =
+    let b = runs_written reads texts cap g r in record { held = next_held g e b.held; booked = next_booked texts g e w b.held b.booked }
+runs_written reads texts cap _ (begins_again g disk tokens most h r l x) =
+    let b = runs_written reads texts cap g r in let start = gate_at_start cap tokens most g.head g.sent in
+    record {
+      held = restored_held cap tokens most g.head g.sent disk h x
+          (all_so {P = λ (s : Shown). IsFront s.entries (take g.kept g.entries)} {Q = λ (s : Shown). IsFront s.entries h.entries}
+          (λ s f. front_then s.entries (take g.kept g.entries) h.entries f (kept_again reads g h disk start b.booked.well l x)) g.sent b.held.sent);
+      booked = restored_booked cap tokens most g.head g.sent disk h x;
+    }
+
+pub sent_is_kept : ReadsBack → Texts → (cap : ℕ) (g : Gate) → Runs cap g → SentIsKept g
+sent_is_kept reads texts cap g r = let b = (runs_written reads texts cap g r).held in record { sent = b.sent; sendable = λ m c h. (b.clients m c h).sendable }

@@ -1,42 +1,48 @@
 -- Whatever happens, sessions and subscriptions of the machine are those of the gateway, and each session has room for what is asked once more.
 use Rattle.std.proofs.Common.{◌≡◌, ◌⊎◌, inl, inr, ℕ, zero, suc, ◌<◌, ◌≤◌, Bool, true, false, not, cond, ◌||◌, List, [], ◌∷◌, ◌++◌, length, map, set, replicate, Option, Some, None, is_some, option_map, refl, ap, ◌∙◌, sym, subst, arith}
-use Rattle.std.specs.Prelude.{◌==◌, ◌&&◌, bytes_eq, filter, find, nat_lt, option_and_then}
+use Rattle.std.specs.Prelude.{◌==◌, ◌&&◌, bytes_eq, filter, find, nat_lt, codes}
 use Rattle.std.specs.List.{AllByRecursion, list_any}
 use Rattle.std.proofs.lemmas.Bool.{false≢true}
 use Rattle.std.proofs.lemmas.Slice.Eq.{bytes_eq-Decides}
-use Rattle.sha2.specs.Sha256.{sha256}
 use Rattle.serde_json.specs.Data.{Data}
 use Rattle.iv_rows.specs.Options.{if_some}
 use Rattle.iv_access.specs.Rights.{Name}
-use Rattle.iv_machine.specs.Act.{Act, begin, finish, create_role, create_table, create_view, grant, revoke, grant_role, revoke_role, row_security, create_policy, drop_policy, subscribe, unsubscribe, write, Command, Refusal, Reply, done, subscribed, refused, no_session, too_many, unknown_subscription, limit}
-use Rattle.iv_machine.specs.Changing.{after, after_subscriptions}
-use Rattle.iv_machine.specs.Machine.{ending_by, outcome, step}
-use Rattle.iv_machine.specs.Refusing.{refusal}
-use Rattle.iv_machine.specs.State.{State, Subscription, start}
-use Rattle.iv_message.specs.Message.{Message, no_json, too_long, no_object, no_request, request}
-use Rattle.iv_message.specs.Told.{Told, replied, fault, unasked, settled}
-use Rattle.iv_clients.specs.Bounds.{entry_session, most_feeds, most_subs}
-use Rattle.iv_clients.specs.Clients.{Client, Shown, Slots, Sub, answered, at_all, at_client, beating, checked, client_at, closing, dropping, followed_by, fresh, handing, has_role, is_followed, is_slow, may_say, moved, opens, released, saying, settling, telling, told_one}
+use Rattle.iv_machine.specs.Act.{Act, begin, finish, create_role, create_table, create_view, grant, revoke, grant_role, revoke_role, row_security, create_policy, drop_policy, subscribe, unsubscribe, write, Command, Reply, done, subscribed, refused, too_many, unknown_subscription}
+use Rattle.iv_machine.specs.Machine.{step, Outcome}
+use Rattle.iv_machine.specs.State.{State, start}
+use Rattle.iv_message.specs.Message.{Message, no_json, too_long, no_object, no_request, request, unknown}
+use Rattle.iv_message.specs.Told.{Told, replied, fault, unasked, settled, granted}
+use Rattle.iv_clients.specs.Bounds.{most_feeds, most_subs}
+use Rattle.iv_clients.specs.Clients.{Client, Shown, Slots, Sub, answered, at_all, at_client, beating, checked, client_at, closing, dropping, followed_by, fresh, handing, has_role, is_followed, is_slow, may_say, moved, opens, released, saying, settling, telling, told_one, own_lines}
 use Rattle.iv_clients.specs.Feeds.{Feed, Seat, ends_in, feed_for, feed_of, is_of_role, is_reading, room_for, seat_of, without_seat}
-use Rattle.iv_clients.specs.Journal.{Entry, IsEntry, is_shared, line_said, said_by, shape_for}
+use Rattle.iv_clients.specs.Journal.{Entry, said_by, shape_for, Request, claim_said, requests_in}
 use Rattle.iv_clients.specs.Tokens.{Token}
 use Rattle.iv_clients.proofs.Slots.{at_same, one_some, some_is_none}
-use Rattle.iv_gate.specs.Events.{Event, presented, message, gone, known, ticked, synced, handed, failed, happens, next}
-use Rattle.iv_gate.specs.Gate.{Gate, acts, all_rested, all_swept, begun_for, closes, done_for, entered, has_session, hears, in_session, is_accepted, is_needed, joined, joined_by, joins, ran, reads, reads_first, reply_in, reply_to, requests, rested, role_for, said, seated, settles, shut, subscribes, swept, tells, went, with_session, informs, entries_of, has_shape_room}
+use Rattle.iv_gate.specs.Events.{Event, presented, message, gone, known, ticked, synced, handed, failed, happens, next, arrived, forgave}
+use Rattle.iv_gate.specs.Gate.{Gate, acts, all_rested, all_swept, begun_for, closes, done_for, entered, has_session, hears, in_session, is_needed, joined, joined_by, joins, ran, reads, reads_first, reply_to, done_in, rested, token_for, said, seated, settles, shut, subscribes, swept, tells, went, with_session, informs, entries_of, at_text, shares, may_have, reply_told, replies_to, Head, went_on}
 use Rattle.iv_gate.specs.Replies.{ActsAs}
-use Rattle.iv_gate.specs.Restoring.{Restores, all_replayed, gate_at_start, passed, replayed}
-use Rattle.iv_gate.proofs.Asking.{IsHeard, accepted_by, asker_of, feed_acts, seated_sound}
+use Rattle.iv_journal.specs.Journal.{Line}
+use Rattle.iv_gate.specs.Restoring.{Restores, gate_at_start}
+use Rattle.iv_gate.proofs.Asking.{IsHeard, asker_of, feed_acts, seated_sound}
 use Rattle.iv_gate.proofs.Few.{AreFew, feeds_in, few_joins, few_less, few_subscribes, found_for, new_has_room, none_reading, room_has, shorter_by}
 use Rattle.iv_gate.proofs.Finishing.{rested_sound}
 use Rattle.iv_gate.proofs.Joining.{same_name}
 use Rattle.iv_gate.proofs.Opening.{IsAsker, subscribes_sound}
 use Rattle.iv_gate.proofs.Running.{all_so, all_swept_sound, client_said, filter_plain, found_all, one_sound, swept_sound}
 use Rattle.iv_gate.proofs.Serving.{AreEven, IsEven, put_sound, says_stays}
-use Rattle.iv_gate.proofs.Sharing.{IsAlone, IsFed, IsShared, alone_of, begun_sessions, finished_sessions, is_plain, numbers_in, plain_keeps, roles_one, seats_in, sessions_step, shared_all, shared_finished, shared_one, shared_plain, shared_seated, shared_shut, shared_subscribes, subscriptions_same}
+use Rattle.iv_gate.proofs.Sharing.{IsAlone, IsFed, IsShared, alone_of, is_plain, numbers_in, seats_in, shared_all, shared_finished, shared_one, shared_plain, shared_seated, shared_shut, shared_subscribes, shared_stepped}
 use Rattle.iv_gate.proofs.Sound.{Adds, IsFeed, IsSoundGate, Sounds, seer, seer_telling, Seer}
 use Rattle.iv_gate.proofs.Summing.{neither}
-use Rattle.iv_gate.proofs.Touching.{came_as, opens_role, test_same}
+use Rattle.iv_gate.proofs.Touching.{came_as, opens_token, test_same}
 use Rattle.iv_gate.proofs.Shaping.{test_of}
+use Rattle.iv_clients.specs.Names.{Claim}
+use Rattle.iv_once.specs.Names.{Ask}
+use Rattle.iv_gate.proofs.Choosing.{shares_so}
+use Rattle.iv_gate.proofs.Stepping.{request_of}
+use Rattle.iv_steps.specs.Steps.{Fact, stepped}
+use Rattle.iv_machine.specs.Sound.{IsSoundState}
+use Rattle.iv_gate.specs.Arriving.{Step, entry_of, fact_of, fault_of, is_behind, landed, newly, takes}
+use Rattle.iv_gate.proofs.Arrived.{led_from_start}
 
 -- what holds of a gateway besides that its clients are in step
 pub record IsKept (g : Gate) : Type 0 where
@@ -191,23 +197,18 @@ kept_closes g m c id own s b = by (followed_by c.subs own)
     by None = kept_tells g m (replied id (refused unknown_subscription)) b
     by (Some k) = sweeps k (is_followed k i.clients) (feed_of g.feeds k) refl
 
-kept_requests : (g : Gate) (m : ℕ) (id : Option Data) (e : Entry) (n : ℕ) → is_plain e.act ≡ true → IsSoundGate g → IsKept g → IsKept (requests g m id e n)
-kept_requests g m id e n p s b =
-    let k = in_session n e.act in let r = reply_to g k in let i = tells (entered g e (is_accepted r)) m (replied id r) in
-    let x = kept_tells g m (replied id r) b in
-    kept_informs (ran i k) (entries_of e (is_accepted r)) (record {
-      shared = shared_plain i k p s.state.numbers (record {
-        sessions = b.shared.sessions;
-        seated = λ role h. b.shared.seated role (sym (roles_one m (told_one (entered g e (is_accepted r)).entries (replied id r)) (λ c. refl) role g.clients) ∙ h);
-        fed = b.shared.fed;
-      });
-      few = few_less _ g.feeds b.few;
-    })
+kept_replies : (g : Gate) (m : ℕ) (id : Option Data) (q : Request) (name : Option Ask) (r : Reply) → IsKept g → IsKept (replies_to g m id q name r)
+kept_replies g m id q name r b = let h = entered g (entries_of q name r) in
+    kept_tells h m (reply_told h id name r) (record { shared = record { sessions = b.shared.sessions; seated = b.shared.seated; fed = b.shared.fed }; few = b.few })
 
-kept_other : (g : Gate) (m : ℕ) (c : Client) (id : Option Data) (text : List ℕ) (act : Act) (o : Option ℕ) → is_plain act ≡ true → IsSoundGate g → IsKept g
-    → IsKept (if_some o (tells g m (replied id (refused no_session))) (requests g m id (record { role = c.role; line = line_said text; act = act })))
-kept_other g m c id text act None p s b = kept_tells g m (replied id (refused no_session)) b
-kept_other g m c id text act (Some n) p s b = kept_requests g m id (record { role = c.role; line = line_said text; act = act }) n p s b
+kept_requests : (g : Gate) (m : ℕ) (id : Option Data) (q : Request) (name : Option Ask) (n : ℕ) → is_plain q.act ≡ true → IsSoundGate g → IsKept g → IsKept (done_in g m id q name n)
+kept_requests g m id q name n p s b =
+    let k = in_session n q.act in let r = reply_to g k in let i = replies_to g m id q name r in let x = kept_replies g m id q name r b in
+    kept_informs (ran i k) (entries_of q name r) (record { shared = shared_plain i k p s.state.numbers x.shared; few = few_less _ g.feeds b.few })
+
+kept_shares : (g : Gate) (m : ℕ) (c : Client) (id : Option Data) (q : Request) (claim : Option Claim) → is_plain q.act ≡ true → IsSoundGate g → IsKept g → IsKept (shares g m c id q claim)
+kept_shares g m c id q claim p s b = shares_so IsKept g m id q
+    (record { tells = λ t a. kept_tells g m t b; does = λ name n e. kept_requests g m id q name n p s b; refuses = λ name r. kept_replies g m id q name (refused r) b }) c claim
 
 kept_acts : Adds → Sounds → (g : Gate) (m : ℕ) (c : Client) (id : Option Data) (text : List ℕ) (act : Act) → said_by text ≡ request id act → ((d : Client) → client_at g.clients m ≡ Some d → IsHeard g m c text d)
     → IsSoundGate g → IsKept g → IsKept (acts g m c id text act)
@@ -215,17 +216,17 @@ kept_acts adds sounds g m c id text (begin role) said same s b = kept_tells g m 
 kept_acts adds sounds g m c id text finish said same s b = kept_tells g m (fault 2) b
 kept_acts adds sounds g m c id text (subscribe rel) said same s b = kept_reads adds sounds g m c id rel (λ d t. asker_of g m c id text rel d said (same d t)) s b
 kept_acts adds sounds g m c id text (unsubscribe own) said same s b = kept_closes g m c id own s b
-kept_acts adds sounds g m c id text (create_role name) said same s b = kept_other g m c id text (create_role name) (seat_of g.seats c.role) refl s b
-kept_acts adds sounds g m c id text (create_table name owner columns) said same s b = kept_other g m c id text (create_table name owner columns) (seat_of g.seats c.role) refl s b
-kept_acts adds sounds g m c id text (create_view name owner query) said same s b = kept_other g m c id text (create_view name owner query) (seat_of g.seats c.role) refl s b
-kept_acts adds sounds g m c id text (grant rel privileges to) said same s b = kept_other g m c id text (grant rel privileges to) (seat_of g.seats c.role) refl s b
-kept_acts adds sounds g m c id text (revoke rel privileges to) said same s b = kept_other g m c id text (revoke rel privileges to) (seat_of g.seats c.role) refl s b
-kept_acts adds sounds g m c id text (grant_role group to) said same s b = kept_other g m c id text (grant_role group to) (seat_of g.seats c.role) refl s b
-kept_acts adds sounds g m c id text (revoke_role group to) said same s b = kept_other g m c id text (revoke_role group to) (seat_of g.seats c.role) refl s b
-kept_acts adds sounds g m c id text (row_security rel enable force) said same s b = kept_other g m c id text (row_security rel enable force) (seat_of g.seats c.role) refl s b
-kept_acts adds sounds g m c id text (create_policy p) said same s b = kept_other g m c id text (create_policy p) (seat_of g.seats c.role) refl s b
-kept_acts adds sounds g m c id text (drop_policy rel name) said same s b = kept_other g m c id text (drop_policy rel name) (seat_of g.seats c.role) refl s b
-kept_acts adds sounds g m c id text (write entries) said same s b = kept_other g m c id text (write entries) (seat_of g.seats c.role) refl s b
+kept_acts adds sounds g m c id text (create_role name) said same s b = kept_shares g m c id (request_of c text (create_role name)) (claim_said text) refl s b
+kept_acts adds sounds g m c id text (create_table name owner columns) said same s b = kept_shares g m c id (request_of c text (create_table name owner columns)) (claim_said text) refl s b
+kept_acts adds sounds g m c id text (create_view name owner query) said same s b = kept_shares g m c id (request_of c text (create_view name owner query)) (claim_said text) refl s b
+kept_acts adds sounds g m c id text (grant rel privileges to) said same s b = kept_shares g m c id (request_of c text (grant rel privileges to)) (claim_said text) refl s b
+kept_acts adds sounds g m c id text (revoke rel privileges to) said same s b = kept_shares g m c id (request_of c text (revoke rel privileges to)) (claim_said text) refl s b
+kept_acts adds sounds g m c id text (grant_role group to) said same s b = kept_shares g m c id (request_of c text (grant_role group to)) (claim_said text) refl s b
+kept_acts adds sounds g m c id text (revoke_role group to) said same s b = kept_shares g m c id (request_of c text (revoke_role group to)) (claim_said text) refl s b
+kept_acts adds sounds g m c id text (row_security rel enable force) said same s b = kept_shares g m c id (request_of c text (row_security rel enable force)) (claim_said text) refl s b
+kept_acts adds sounds g m c id text (create_policy p) said same s b = kept_shares g m c id (request_of c text (create_policy p)) (claim_said text) refl s b
+kept_acts adds sounds g m c id text (drop_policy rel name) said same s b = kept_shares g m c id (request_of c text (drop_policy rel name)) (claim_said text) refl s b
+kept_acts adds sounds g m c id text (write entries) said same s b = kept_shares g m c id (request_of c text (write entries)) (claim_said text) refl s b
 
 -- whatever a client says
 pub kept_done : Adds → Sounds → (g : Gate) (m : ℕ) (c : Client) (text : List ℕ) (said : Message) → said_by text ≡ said → ((d : Client) → client_at g.clients m ≡ Some d → IsHeard g m c text d)
@@ -235,7 +236,7 @@ kept_done adds sounds g m c text too_long h same s b = kept_tells g m (fault 22)
 kept_done adds sounds g m c text no_object h same s b = kept_tells g m (fault 2) b
 kept_done adds sounds g m c text (no_request id why) h same s b = kept_tells g m (unasked id why) b
 kept_done adds sounds g m c text (request id act) h same s b =
-    test_of IsKept (has_shape_room g act) (acts g m c id text act) (tells g m (replied id (refused limit))) (kept_acts adds sounds g m c id text act h same s b) (kept_tells g m (replied id (refused limit)) b)
+    test_of IsKept (may_have (claim_said text) act) (acts g m c id text act) (tells g m (unasked id (unknown (codes "once")))) (kept_acts adds sounds g m c id text act h same s b) (kept_tells g m (unasked id (unknown (codes "once"))) b)
 
 -- ---- events
 
@@ -283,24 +284,24 @@ with_seat g role h = by (seat_of g.seats role) refl (begun_for g role) h
     by None e (Some n) k = seat_new g.seats (record { session = n; role = role }) role ((bytes_eq-Decides role role).1 refl)
     by None e None k = absurd (false≢true k)
 
-role_put : (slots : Slots) (m : ℕ) (es : List Entry) (role name : Name) (digest : List ℕ) → has_role name (set slots m (Some (fresh es role digest))) ≡ true → (role ≡ name) ⊎ (has_role name slots ≡ true)
-role_put [] m es role name digest h = inr h
-role_put (o ∷ os) zero es role name digest h = by (bytes_eq role name) refl h
+role_put : (slots : Slots) (m : ℕ) (es : List Entry) (t : Token) (name : Name) (at : List ℕ) → has_role name (set slots m (Some (fresh es t at))) ≡ true → (t.role ≡ name) ⊎ (has_role name slots ≡ true)
+role_put [] m es t name at h = inr h
+role_put (o ∷ os) zero es t name at h = by (bytes_eq t.role name) refl h
   where
     right : (a b : Bool) → b ≡ true → (a || b) ≡ true
     right true b k = refl
     right false b k = k
 
-    by : (b : Bool) → bytes_eq role name ≡ b → (b || has_role name os) ≡ true → (role ≡ name) ⊎ ((if_some o false (λ (c : Client). bytes_eq c.role name) || has_role name os) ≡ true)
-    by true e k = inl (same_name role name e)
+    by : (b : Bool) → bytes_eq t.role name ≡ b → (b || has_role name os) ≡ true → (t.role ≡ name) ⊎ ((if_some o false (λ (c : Client). bytes_eq c.role name) || has_role name os) ≡ true)
+    by true e k = inl (same_name t.role name e)
     by false e k = inr (right _ _ k)
-role_put (o ∷ os) (suc m) es role name digest h = by (if_some o false (λ (c : Client). bytes_eq c.role name)) h (role_put os m es role name digest)
+role_put (o ∷ os) (suc m) es t name at h = by (if_some o false (λ (c : Client). bytes_eq c.role name)) h (role_put os m es t name at)
   where
-    more : (role ≡ name) ⊎ (has_role name os ≡ true) → (role ≡ name) ⊎ (has_role name os ≡ true)
+    more : (t.role ≡ name) ⊎ (has_role name os ≡ true) → (t.role ≡ name) ⊎ (has_role name os ≡ true)
     more x = x
 
-    by : (b : Bool) → (b || has_role name (set os m (Some (fresh es role digest)))) ≡ true → (has_role name (set os m (Some (fresh es role digest))) ≡ true → (role ≡ name) ⊎ (has_role name os ≡ true))
-        → (role ≡ name) ⊎ ((b || has_role name os) ≡ true)
+    by : (b : Bool) → (b || has_role name (set os m (Some (fresh es t at)))) ≡ true → (has_role name (set os m (Some (fresh es t at))) ≡ true → (t.role ≡ name) ⊎ (has_role name os ≡ true))
+        → (t.role ≡ name) ⊎ ((b || has_role name os) ≡ true)
     by true k go = inr refl
     by false k go = go k
 
@@ -317,24 +318,24 @@ role_left (o ∷ os) (suc m) name h = by (if_some o false (λ (c : Client). byte
     by true k go = refl
     by false k go = go k
 
-kept_came : (g : Gate) (m : ℕ) (token : List ℕ) (role : Name) → role_for g m token ≡ Some role → IsSoundGate g → IsKept g → IsKept (came_as g m token role)
-kept_came g m token role e s b = placed
+kept_came : (g : Gate) (m : ℕ) (token : List ℕ) (t : Token) → token_for g m token ≡ Some t → IsSoundGate g → IsKept g → IsKept (came_as g m t)
+kept_came g m token t e s b = placed
   where
     h : Gate
-    h = with_session g role
+    h = with_session g t.role
 
     k : IsKept h
-    k = kept_with g role s b
+    k = kept_with g t.role s b
 
     put : Gate
-    put = record h { clients = set h.clients m (Some (fresh h.entries role (sha256 token))) }
+    put = record h { clients = set h.clients m (Some (fresh h.entries t (at_text h t))) }
 
-    seats : (name : Name) → (role ≡ name) ⊎ (has_role name h.clients ≡ true) → is_some (seat_of h.seats name) ≡ true
-    seats name (inl x) = subst (λ r. is_some (seat_of h.seats r) ≡ true) x (with_seat g role (opens_role g m token role e).session)
+    seats : (name : Name) → (t.role ≡ name) ⊎ (has_role name h.clients ≡ true) → is_some (seat_of h.seats name) ≡ true
+    seats name (inl x) = subst (λ r. is_some (seat_of h.seats r) ≡ true) x (with_seat g t.role (opens_token g m token t e).session)
     seats name (inr x) = k.shared.seated name x
 
     placed : IsKept put
-    placed = record { shared = record { sessions = k.shared.sessions; seated = λ name i. seats name (role_put h.clients m h.entries role name (sha256 token) i); fed = k.shared.fed }; few = k.few }
+    placed = record { shared = record { sessions = k.shared.sessions; seated = λ name i. seats name (role_put h.clients m h.entries t name (at_text h t) i); fed = k.shared.fed }; few = k.few }
 
 kept_went : Adds → Sounds → (g : Gate) (m : ℕ) → IsSoundGate g → IsKept g → IsKept (went g m)
 kept_went adds sounds g m s b = by (client_at g.clients m)
@@ -380,18 +381,38 @@ kept_as g h m s f c b = record {
   few = subst AreFew (sym f) b.few;
 }
 
-kept_happens : Adds → Sounds → (g : Gate) (e : Event) → AreEven g → IsSoundGate g → IsKept g → IsKept (happens g e)
-kept_happens adds sounds g (presented m token) even s b = by (role_for g m token) refl
+-- a step
+kept_landed : Sounds → (g : Gate) (e : Entry) (fs : List Fact) (o : Outcome) → stepped fs g.machine ≡ Some o → IsSoundGate g → IsKept g → IsKept (landed g e o)
+kept_landed sounds g e fs o h s b =
+    let now = entered g (e ∷ []) in let behind = went_on now o (λ c. own_lines g.feeds o.lines c.subs ++ map granted (newly g.machine.frame o.state.frame c.role)) in
+    kept_settles (informs behind (e ∷ [])) (kept_informs behind (e ∷ []) (record { shared = shared_stepped sounds g (e ∷ []) fs o (λ c. own_lines g.feeds o.lines c.subs ++ map granted (newly g.machine.frame o.state.frame c.role)) h s.state b.shared; few = few_less _ g.feeds b.few }))
+
+kept_takes : Sounds → (g : Gate) (x : Step) → IsSoundGate g → IsKept g → IsKept (takes g x)
+kept_takes sounds g x s b = by (is_some (fault_of g x)) (is_behind g x)
   where
-    by : (o : Option Name) → role_for g m token ≡ o → IsKept (if_some o g (came_as g m token))
+    lands : (o : Option Outcome) → stepped (map fact_of x.requests) g.machine ≡ o → IsKept (if_some o g (landed g (entry_of x)))
+    lands None h = b
+    lands (Some o) h = kept_landed sounds g (entry_of x) (map fact_of x.requests) o h s b
+
+    by : (d p : Bool) → IsKept (cond d (record g { dead = true }) (cond p g (if_some (stepped (map fact_of x.requests) g.machine) g (landed g (entry_of x)))))
+    by true p = kept_as g (record g { dead = true }) refl refl refl refl b
+    by false true = b
+    by false false = lands (stepped (map fact_of x.requests) g.machine) refl
+
+kept_happens : Adds → Sounds → (g : Gate) (e : Event) → AreEven g → IsSoundGate g → IsKept g → IsKept (happens g e)
+kept_happens adds sounds g (presented m token) even s b = by (token_for g m token) refl
+  where
+    by : (o : Option Token) → token_for g m token ≡ o → IsKept (if_some o g (came_as g m))
     by None e = b
-    by (Some role) e = kept_came g m token role e s b
+    by (Some t) e = kept_came g m token t e s b
 kept_happens adds sounds g (message m text) even s b = kept_said adds sounds g m text even s b
 kept_happens adds sounds g (gone m) even s b = kept_went adds sounds g m s b
 kept_happens adds sounds g (known tokens) even s b = kept_as (record g { clients = at_all (checked tokens) g.clients }) (happens g (known tokens)) refl refl refl refl (kept_all g (checked tokens) (checked_role tokens) b)
 kept_happens adds sounds g ticked even s b = kept_all g (beating g.entries) (λ c. refl) b
 kept_happens adds sounds g synced even s b = kept_as (record g { clients = at_all released g.clients }) (happens g synced) refl refl refl refl (kept_all g released released_role b)
 kept_happens adds sounds g (handed m) even s b = kept_as (record g { clients = at_client m handing g.clients }) (happens g (handed m)) refl refl refl refl (kept_one g m handing handing_role b)
+kept_happens adds sounds g (arrived st) even s b = kept_takes sounds g st s b
+kept_happens adds sounds g forgave even s b = kept_as g (happens g forgave) refl refl refl refl b
 kept_happens adds sounds g failed even s b = kept_as g (happens g failed) refl refl refl refl b
 
 pub kept_next : Adds → Sounds → (g : Gate) (e : Event) → AreEven g → IsSoundGate g → IsKept g → IsKept (next g e)
@@ -407,80 +428,15 @@ no_roles : (most : ℕ) (role : Name) → has_role role (replicate most None) �
 no_roles zero role = refl
 no_roles (suc n) role = no_roles n role
 
--- no session and no subscription is open where entries led
-pub record IsHung (s : State) : Type 0 where
-  pub sessions : numbers_in s.frame.sessions ≡ []
-  pub subscriptions : s.frame.subscriptions ≡ []
-
-none_opened : (s : State) (n : ℕ) (act : Act) (o : Option Refusal) → after_subscriptions s.frame n act ≡ [] → s.frame.subscriptions ≡ [] → (outcome s (in_session n act) o).state.frame.subscriptions ≡ []
-none_opened s n act (Some r) a h = h
-none_opened s n act None a h = ap (filter (λ e. not (is_some (ending_by act (after s n act) e)))) a
-
-shared_plainly : (act : Act) → is_shared act ≡ true → is_plain act ≡ true
-shared_plainly (begin role) h = absurd (false≢true h)
-shared_plainly finish h = absurd (false≢true h)
-shared_plainly (create_role name) h = refl
-shared_plainly (create_table name owner columns) h = refl
-shared_plainly (create_view name owner query) h = refl
-shared_plainly (grant rel privileges to) h = refl
-shared_plainly (revoke rel privileges to) h = refl
-shared_plainly (grant_role group to) h = refl
-shared_plainly (revoke_role group to) h = refl
-shared_plainly (row_security rel enable force) h = refl
-shared_plainly (create_policy p) h = refl
-shared_plainly (drop_policy rel name) h = refl
-shared_plainly (subscribe rel) h = absurd (false≢true h)
-shared_plainly (unsubscribe k) h = absurd (false≢true h)
-shared_plainly (write entries) h = refl
-
--- what is passed is the step, which was accepted
-pub record IsPassed (s t : State) (k : Command) : Type 0 where
-  pub accepted : refusal s k.session k.act ≡ None
-  pub state : (step s k).state ≡ t
-
-pub passed_step : (s t : State) (k : Command) → passed s k ≡ Some t → IsPassed s t k
-passed_step s t k h = by (is_accepted (reply_in (step s k).lines)) refl h
-  where
-    by : (a : Bool) → is_accepted (reply_in (step s k).lines) ≡ a → cond a (Some (step s k).state) None ≡ Some t → IsPassed s t k
-    by true e i = record { accepted = accepted_by s k (refusal s k.session k.act) e; state = one_some (step s k).state t i }
-    by false e i = absurd (some_is_none t (sym i))
-
-bound_to : {X Y : Type 0} (o : Option X) (f : X → Option Y) (y : Y) (P : Type 0) → option_and_then f o ≡ Some y → ((x : X) → o ≡ Some x → f x ≡ Some y → P) → P
-bound_to None f y P h k = absurd (some_is_none y (sym h))
-bound_to (Some x) f y P h k = k x refl h
-
-hung_replayed : (s t : State) (e : Entry) → is_shared e.act ≡ true → IsHung s → replayed s e ≡ Some t → IsHung t
-hung_replayed s t e p b h =
-    bound_to (passed s (in_session entry_session (begin e.role))) (λ u. option_and_then (λ v. passed v (in_session entry_session finish)) (passed u (in_session entry_session e.act))) t (IsHung t) h
-    (λ u i k. bound_to (passed u (in_session entry_session e.act)) (λ v. passed v (in_session entry_session finish)) t (IsHung t) k (λ v j l. whole u v (passed_step s u _ i) (passed_step u v _ j) (passed_step v t _ l)))
-  where
-    whole : (u v : State) → IsPassed s u (in_session entry_session (begin e.role)) → IsPassed u v (in_session entry_session e.act) → IsPassed v t (in_session entry_session finish) → IsHung t
-    whole u v x y z =
-        let plain = shared_plainly e.act p in
-        let us : numbers_in u.frame.sessions ≡ entry_session ∷ [] = ap (λ (w : State). numbers_in w.frame.sessions) (sym x.state)
-        ∙ (begun_sessions s entry_session e.role (refusal s entry_session (begin e.role)) x.accepted ∙ ap (λ r. r ++ entry_session ∷ []) b.sessions) in
-        let vs : numbers_in v.frame.sessions ≡ entry_session ∷ [] = ap (λ (w : State). numbers_in w.frame.sessions) (sym y.state) ∙ (ap numbers_in (sessions_step u (in_session entry_session e.act) (plain_keeps e.act plain)) ∙ us) in
-        let un : u.frame.subscriptions ≡ [] = ap (λ (w : State). w.frame.subscriptions) (sym x.state) ∙ none_opened s entry_session (begin e.role) (refusal s entry_session (begin e.role)) b.subscriptions b.subscriptions in
-        let vn : v.frame.subscriptions ≡ [] = ap (λ (w : State). w.frame.subscriptions) (sym y.state)
-        ∙ none_opened u entry_session e.act (refusal u entry_session e.act) (subscriptions_same u.frame entry_session e.act plain ∙ un) un in
-        record {
-          sessions = ap (λ (w : State). numbers_in w.frame.sessions) (sym z.state) ∙ (finished_sessions v entry_session (refusal v entry_session finish) refl ∙ ap (filter (λ i. not (entry_session == i))) vs);
-          subscriptions = ap (λ (w : State). w.frame.subscriptions) (sym z.state)
-              ∙ none_opened v entry_session finish (refusal v entry_session finish) (ap (filter (λ (x : Subscription). not (entry_session == x.session))) vn) vn;
-        }
-
-hung_all : (s t : State) (es : List Entry) → AllByRecursion IsEntry es → IsHung s → all_replayed s es ≡ Some t → IsHung t
-hung_all s t [] a b h = subst IsHung (one_some s t h) b
-hung_all s t (e ∷ es) a b h = bound_to (replayed s e) (λ u. all_replayed u es) t (IsHung t) h (λ u i k. hung_all u t es a.1 (hung_replayed s u e a.0.shared b i) k)
-
-pub kept_restored : (cap : ℕ) (tokens : List Token) (most : ℕ) (sent : List Shown) (journal : List ℕ) (g : Gate) → Restores (gate_at_start cap tokens most sent) journal g → IsKept g
-kept_restored cap tokens most sent journal g r =
-    let b = hung_all (start cap) r.state g.entries r.leads.well (record { sessions = refl; subscriptions = refl }) r.leads.accepted in
-    subst IsKept (sym r.gate) (record {
+pub kept_restored : Sounds → (cap : ℕ) → IsSoundState (start cap) → (tokens : List Token) (most : ℕ) (head : Head) (sent : List Shown) (journal : List Line) (g : Gate)
+    → Restores (gate_at_start cap tokens most head sent) journal g → IsKept g
+kept_restored sounds cap b tokens most head sent journal g r =
+    let x = led_from_start sounds cap b (map fact_of (requests_in g.entries)) r.leads.state r.leads.accepted in
+    subst IsKept (sym r.leads.gate) (record {
       shared = record {
-        sessions = b.sessions;
+        sessions = ap numbers_in x.sessions;
         seated = λ role h. absurd (false≢true (sym (no_roles most role) ∙ h));
-        fed = subst (AllByRecursion (IsFed [])) (sym b.subscriptions) tt;
+        fed = subst (AllByRecursion (IsFed [])) (sym x.subscriptions) tt;
       };
       few = record { few = λ n. omega arith; apart = tt; once = λ role rel. omega arith };
     })

@@ -1,37 +1,43 @@
 -- An administrator was told all of the shape, and nobody else any of it.
-use Rattle.std.proofs.Common.{◌≡◌, ℕ, ◌+◌, Bool, true, false, cond, List, [], ◌∷◌, ◌++◌, length, map, Option, Some, None, refl, ap, ◌∙◌, sym, append-nil}
-use Rattle.std.specs.Prelude.{◌==◌, ◌&&◌, filter, flat_map, nat_lt, not}
+use Rattle.std.proofs.Common.{◌≡◌, ℕ, ◌+◌, Bool, true, false, cond, ◌||◌, List, [], ◌∷◌, ◌++◌, length, map, Option, Some, None, is_some, refl, ap, ◌∙◌, sym, append-nil}
+use Rattle.std.specs.Prelude.{◌==◌, ◌&&◌, bytes_eq, codes, filter, flat_map, nat_lt, not}
 use Rattle.std.specs.List.{AllByRecursion}
-use Rattle.std.proofs.lemmas.Bool.{false≢true}
 use Rattle.std.proofs.lemmas.List.Concat.{flat_map-append}
 use Rattle.std.proofs.lemmas.List.Elements.{filter-append}
-use Rattle.sha2.specs.Sha256.{sha256}
 use Rattle.iv_rows.specs.Options.{if_some}
 use Rattle.iv_access.specs.Rights.{Name}
-use Rattle.iv_machine.specs.Act.{Line, reply, change, ended}
+use Rattle.iv_machine.specs.Act.{Act, begin, finish, create_role, create_table, create_view, grant, revoke, grant_role, revoke_role, row_security, create_policy, drop_policy, subscribe, unsubscribe, write, Line, reply, change, ended, Refusal, Reply, refused, limit, no_session}
 use Rattle.iv_machine.specs.Machine.{Outcome, difference, step}
 use Rattle.iv_message.specs.Message.{Message, no_json, too_long, no_object, no_request, request}
 use Rattle.iv_message.specs.Told.{Told, changed, over, granted, made, settled, told_text}
 use Rattle.iv_clients.specs.Clients.{Client, Sub, client_at, fresh, may_say, own_line, own_lines, told}
 use Rattle.iv_clients.specs.Feeds.{Feed, rel_read, seat_of}
-use Rattle.iv_clients.specs.Journal.{Entry, is_shape, is_shared, line_said, said_by, shape_for, shape_of}
+use Rattle.iv_clients.specs.Journal.{Entry, Request, claim_said, is_shape, is_shared, requests_in, said_by, shape_for, shape_of}
+use Rattle.iv_clients.specs.Names.{Claim}
+use Rattle.iv_clients.specs.Tokens.{Token}
+use Rattle.iv_once.specs.Names.{Ask, Verdict, carry, again, another, late, foreign, ahead, verdict}
 use Rattle.iv_clients.proofs.Slots.{one_some, some_is_none}
-use Rattle.iv_gate.specs.Events.{Event, presented, message, gone, known, ticked, synced, handed, failed, next}
-use Rattle.iv_gate.specs.Gate.{Gate, granted_by, has_shape_room, in_session, is_accepted, most_shape, reply_in, reply_to, shape_text, told_of}
+use Rattle.iv_gate.specs.Arriving.{Step, entry_of, newly}
+use Rattle.iv_gate.specs.Events.{Event, presented, message, gone, known, ticked, synced, handed, arrived, forgave, failed, happens, next}
+use Rattle.iv_gate.specs.Gate.{Gate, answering, asked_by, at_text, entries_of, granted_by, has_shape_room, hears, in_session, is_accepted, may_have, most_shape, names_of, reply_in, reply_to, said, shape_text}
 use Rattle.iv_gate.specs.Implied.{ShapeIsBounded}
-use Rattle.iv_gate.specs.Laws.{ShapeIsTold, entries_by, is_made, new_entries}
+use Rattle.iv_gate.specs.Laws.{ShapeIsTold, is_made}
+use Rattle.iv_gate.specs.Replies.{added_by}
 use Rattle.iv_gate.specs.Runs.{Runs, begins, goes_on, begins_again}
 use Rattle.iv_gate.proofs.Answering.{was_there}
+use Rattle.iv_gate.proofs.Booking.{came_adds, went_adds}
 use Rattle.iv_gate.proofs.Entering.{same_card}
 use Rattle.iv_gate.proofs.Exact.{behind_same}
 use Rattle.iv_gate.proofs.Heeding.{all_both, all_flat}
 use Rattle.iv_gate.proofs.Lasting.{Starts, restored_empty, runs_sound}
-use Rattle.iv_gate.proofs.News.{Hears, quietly, by_command, by_contents}
-use Rattle.iv_gate.proofs.Noticing.{next_all}
+use Rattle.iv_gate.proofs.News.{Hears, IsToldOutcome, grants_of, quietly, by_command, by_contents}
+use Rattle.iv_gate.proofs.Noticing.{HearsBy, IsToldStep, heard, untaken, taken, next_all}
+use Rattle.iv_gate.proofs.Replying.{act_added, adds_said, asked, carried_reply, decided_added, said_added, shared_added, verdict_added}
 use Rattle.iv_gate.proofs.Running.{all_true}
-use Rattle.iv_gate.proofs.Shaping.{all_made, filter_none, filter_whole, shape_both, shape_more, shape_none, told_fresh}
+use Rattle.iv_gate.proofs.Shaping.{all_made, filter_none, filter_whole, shape_both, shape_in, shape_more, shape_none, told_fresh}
 use Rattle.iv_gate.proofs.Sound.{Adds, IsSoundGate, Sounds}
 use Rattle.iv_gate.proofs.Signs.{Card}
+use Rattle.iv_gate.proofs.Stepping.{request_of}
 use Rattle.iv_gate.proofs.Touching.{is_gone, entered_by_event, rests, touched}
 
 -- ---- a command tells nothing of it
@@ -56,26 +62,41 @@ names_other : (names : List Name) → AllByRecursion IsOther (map granted names)
 names_other [] = tt
 names_other (n ∷ names) = (refl, names_other names)
 
-command_other : (g : Gate) (o : Outcome) (c : Client) (names : List Name) (t : Bool) → AllByRecursion IsOther (own_lines g.feeds o.lines c.subs ++ cond t (map granted names) [])
-command_other g o c names t =
-    all_both IsOther (own_lines g.feeds o.lines c.subs) (cond t (map granted names) [])
-    (all_flat IsOther (λ l. flat_map (own_line g.feeds l) c.subs) o.lines (all_true (λ l. all_flat IsOther (own_line g.feeds l) c.subs (all_true (λ y. line_other g.feeds l y) c.subs)) o.lines)) (by t)
-  where
-    by : (b : Bool) → AllByRecursion IsOther (cond b (map granted names) [])
-    by true = names_other names
-    by false = tt
+lines_other : (feeds : List Feed) (ls : List Line) (xs : List Sub) → AllByRecursion IsOther (own_lines feeds ls xs)
+lines_other feeds ls xs = all_flat IsOther (λ l. flat_map (own_line feeds l) xs) ls (all_true (λ l. all_flat IsOther (own_line feeds l) xs (all_true (λ y. line_other feeds l y) xs)) ls)
+
+granted_other : (b : Bool) (names : List Name) → AllByRecursion IsOther (cond b (map granted names) [])
+granted_other true names = names_other names
+granted_other false names = tt
 
 -- ---- an event
 
-module _ (g h : Gate) (c d : Client) (es : List Entry) (e : h.entries ≡ g.entries ++ es) where
-  none_new : h.entries ≡ g.entries → es ≡ []
-  none_new n = behind_same g.entries es [] (sym e ∙ (n ∙ sym (append-nil g.entries)))
+-- what is for a client of the role of requests
+abbrev shape_by : Name → List Request → List Told
+shape_by role qs = cond (bytes_eq role (codes "admin")) (shape_in qs) []
 
+requests_both : (xs ys : List Entry) → requests_in (xs ++ ys) ≡ requests_in xs ++ requests_in ys
+requests_both xs ys = flat_map-append (λ (e : Entry). e.requests) xs ys
+
+module _ (g h : Gate) (c d : Client) (es : List Entry) (e : h.entries ≡ g.entries ++ es) where
   more_of : (more : List Told) → told d ≡ told c ++ more → filter is_made more ≡ shape_for c.role es → filter is_made (told d) ≡ filter is_made (told c) ++ shape_for c.role es
   more_of more t s = ap (filter is_made) t ∙ (filter-append is_made (told c) more ∙ ap (λ z. filter is_made (told c) ++ z) s)
 
-  none_shown : h.entries ≡ g.entries → [] ≡ shape_for c.role es
-  none_shown n = sym (ap (shape_for c.role) (none_new n) ∙ shape_none c.role)
+  none_asked : requests_in h.entries ≡ requests_in g.entries → requests_in es ≡ []
+  none_asked n = behind_same (requests_in g.entries) (requests_in es) [] (sym (requests_both g.entries es) ∙ (sym (ap requests_in e) ∙ (n ∙ sym (append-nil (requests_in g.entries)))))
+
+  none_shown : requests_in h.entries ≡ requests_in g.entries → [] ≡ shape_for c.role es
+  none_shown n = sym (ap (shape_by c.role) (none_asked n) ∙ shape_none c.role)
+
+  outcome_made : (o : Outcome) (grants : List Told) (added : List Entry) → AllByRecursion IsOther grants → IsToldOutcome g h o grants added c d
+      → filter is_made (told d) ≡ filter is_made (told c) ++ shape_for c.role es
+  outcome_made o grants added k a =
+      let lines = own_lines g.feeds o.lines c.subs ++ grants in
+      let none : filter is_made lines ≡ [] = filter_none is_made lines (all_both IsOther (own_lines g.feeds o.lines c.subs) grants (lines_other g.feeds o.lines c.subs) k) in
+      more_of (a.front ++ (lines ++ a.back)) a.told
+      (filter-append is_made a.front (lines ++ a.back)
+      ∙ ((λ i. a.unmade i ++ (filter-append is_made lines a.back ∙ (λ j. none j ++ a.shape j)) i)
+      ∙ ap (shape_for c.role) (sym (behind_same g.entries es added (sym e ∙ a.entries)))))
 
   pub made_more : Hears g h c d → filter is_made (told d) ≡ filter is_made (told c) ++ shape_for c.role es
   made_more (quietly a n) = more_of a.more a.told (a.unmade ∙ none_shown n)
@@ -83,20 +104,22 @@ module _ (g h : Gate) (c d : Client) (es : List Entry) (e : h.entries ≡ g.entr
       let news = changed (c.given + 1) (difference a.before a.after) in
       more_of (a.front ++ (news ∷ a.back)) a.told (filter-append is_made a.front (news ∷ a.back) ∙ ((λ i. a.unmade.0 i ++ a.unmade.1 i) ∙ none_shown n))
   made_more (by_command a) =
-      let o = step g.machine a.command in let lines = told_of g a.command.act o c in let names = granted_by o.state.frame a.command.act c.role in
-      more_of (a.front ++ (lines ++ a.back)) a.told
-      (filter-append is_made a.front (lines ++ a.back)
-      ∙ ((λ i. a.unmade i ++ (filter-append is_made lines a.back
-      ∙ (λ j. filter_none is_made lines (command_other g o c names (is_accepted (reply_in o.lines))) j ++ a.shape j)) i)
-      ∙ ap (shape_for c.role) (sym (behind_same g.entries es (cond (is_accepted (reply_in o.lines)) (a.entry ∷ []) []) (sym e ∙ a.entries)))))
+      let o = step g.machine a.command in
+      outcome_made o (grants_of g.machine a.command c.role) (entries_of a.request a.name (reply_to g a.command)) (granted_other (is_accepted (reply_in o.lines)) (granted_by o.state.frame a.command.act c.role)) a.by
+
+  pub step_made : (s : Step) → IsToldStep g h s c d → filter is_made (told d) ≡ filter is_made (told c) ++ shape_for c.role es
+  step_made s a = outcome_made a.outcome (map granted (newly g.machine.frame a.outcome.state.frame c.role)) (entry_of s ∷ []) (names_other (newly g.machine.frame a.outcome.state.frame c.role)) a.by
+
+  pub same_made : requests_in h.entries ≡ requests_in g.entries → c ≡ d → filter is_made (told d) ≡ filter is_made (told c) ++ shape_for c.role es
+  same_made n same = more_of [] (ap told (sym same) ∙ sym (append-nil (told c))) (none_shown n)
 
 -- ---- over runs
 
-greeting_shape : (es : List Entry) (role : Name) (digest : List ℕ) → filter is_made (told (fresh es role digest)) ≡ shape_for role es
-greeting_shape es role digest =
-    ap (filter is_made) (told_fresh es role digest)
-    ∙ (filter-append is_made (shape_for role es) (settled ∷ [])
-    ∙ (append-nil (filter is_made (shape_for role es)) ∙ filter_whole is_made (shape_for role es) (all_made (λ t. is_made t ≡ true) (λ r line. refl) role es)))
+greeting_shape : (es : List Entry) (t : Token) (at : List ℕ) → filter is_made (told (fresh es t at)) ≡ shape_for t.role es
+greeting_shape es t at =
+    ap (filter is_made) (told_fresh es t at)
+    ∙ (filter-append is_made (shape_for t.role es) (settled ∷ [])
+    ∙ (append-nil (filter is_made (shape_for t.role es)) ∙ filter_whole is_made (shape_for t.role es) (all_made (λ x. is_made x ≡ true) (λ r line. refl) t.role es)))
 
 next_shape : Sounds → (g : Gate) (e : Event) → IsSoundGate g → ShapeIsTold g → ShapeIsTold (next g e)
 next_shape sounds g e b a m d x = by g.dead refl
@@ -107,24 +130,30 @@ next_shape sounds g e b a m d x = by g.dead refl
         let k = (touched g e live).stays m c h t in
         ap (λ (y : Client). y.role) (one_some d k.now (sym x.there ∙ k.there)) ∙ (ap (λ (y : Card). y.role) k.card ∙ (same_card m c e).0)
 
+    more_by : g.dead ≡ false → (c : Client) → HearsBy g e c d → filter is_made (told d) ≡ filter is_made (told c) ++ shape_for c.role (added_by g e)
+    more_by live c (heard n h) = made_more g (next g e) c d (added_by g e) (entered_by_event g e live) h
+    more_by live c (untaken n k same) = same_made g (next g e) c d (added_by g e) (entered_by_event g e live) (ap requests_in k) same
+    more_by live c (taken s q h) = step_made g (next g e) c d (added_by g e) (entered_by_event g e live) s h
+
     there : g.dead ≡ false → (o : Option Client) → client_at g.clients m ≡ o → filter is_made (told d) ≡ shape_for d.role (next g e).entries
     there live None h =
         let n = (touched g e live).comes m d h x.there in
-        ap (λ (c : Client). filter is_made (told c)) n.is ∙ greeting_shape (next g e).entries d.role (sha256 n.token)
+        let at = at_text (next g e) n.token in
+        ap (λ (c : Client). filter is_made (told c)) n.is ∙ (greeting_shape (next g e).entries n.token at ∙ ap (λ (c : Client). shape_for c.role (next g e).entries) (sym n.is))
     there live (Some c) h =
         let stays = was_there g e m c d live h x in let more = entered_by_event g e live in
-        made_more g (next g e) c d (new_entries g e) more (next_all sounds g e b m c d h stays x.there x.stays)
-        ∙ (ap (λ z. z ++ shape_for c.role (new_entries g e)) (a m c (record { there = h; stays = stays }))
-        ∙ (sym (shape_more c.role g.entries (new_entries g e)) ∙ (λ i. shape_for (sym (role_stays live c h (is_gone m e) refl) i) (sym more i))))
+        more_by live c (next_all sounds g e b m c d h stays x.there x.stays)
+        ∙ (ap (λ z. z ++ shape_for c.role (added_by g e)) (a m c (record { there = h; stays = stays }))
+        ∙ (sym (shape_more c.role g.entries (added_by g e)) ∙ (λ i. shape_for (sym (role_stays live c h (is_gone m e) refl) i) (sym more i))))
 
     by : (q : Bool) → g.dead ≡ q → filter is_made (told d) ≡ shape_for d.role (next g e).entries
     by true q = a m d (record { there = ap (λ (y : Gate). client_at y.clients m) (sym (rests g e q)) ∙ x.there; stays = x.stays }) ∙ ap (λ (y : Gate). shape_for d.role y.entries) (sym (rests g e q))
     by false q = there q (client_at g.clients m) refl
 
 pub runs_shape : Adds → Starts → Sounds → (cap : ℕ) (g : Gate) → Runs cap g → ShapeIsTold g
-runs_shape adds starts sounds cap _ (begins tokens most journal g r) = λ m c x. absurd (restored_empty cap tokens most [] journal g r m c x.there)
-runs_shape adds starts sounds cap _ (goes_on h e r) = next_shape sounds h e (runs_sound adds starts sounds cap h r) (runs_shape adds starts sounds cap h r)
-runs_shape adds starts sounds cap _ (begins_again h disk tokens most i r l y) = λ m c x. absurd (restored_empty cap tokens most h.sent disk i y m c x.there)
+runs_shape adds starts sounds cap _ (begins tokens most head journal g r) = λ m c x. absurd (restored_empty cap tokens most head [] journal g r m c x.there)
+runs_shape adds starts sounds cap _ (goes_on h e w r) = next_shape sounds h e (runs_sound adds starts sounds cap h r) (runs_shape adds starts sounds cap h r)
+runs_shape adds starts sounds cap _ (begins_again h disk tokens most i r l y) = λ m c x. absurd (restored_empty cap tokens most h.head h.sent disk i y m c x.there)
 
 -- ---- the bound
 
@@ -132,59 +161,112 @@ text_both : (es fs : List Entry) → shape_text (es ++ fs) ≡ shape_text es ++ 
 text_both es fs = ap (flat_map told_text) (shape_both es fs) ∙ flat_map-append told_text (shape_of es) (shape_of fs)
 
 -- what makes nothing of the shape adds no text
-no_text : (e : Entry) (b : Bool) → is_shape e.act ≡ false → shape_text (cond b (e ∷ []) []) ≡ []
-no_text e true x = ap (λ z. flat_map told_text (map (λ (d : Entry). made d.role d.line) (cond z (e ∷ []) []))) x
-no_text e false x = refl
+unshaped : (q : Request) (name : Option Ask) (r : Reply) → is_shape q.act ≡ false → shape_text (entries_of q name r) ≡ []
+unshaped q name r x = by (is_shared q.act) (is_accepted r) (is_some name)
+  where
+    by : (s y z : Bool) → shape_text (cond (s && (y || z)) (record { requests = cond y (q ∷ []) []; names = answering name r; position = None } ∷ []) []) ≡ []
+    by false y z = refl
+    by true false false = refl
+    by true false true = refl
+    by true true z = ap (λ t. flat_map told_text (map (λ (p : Request). made p.role p.line) (cond t (q ∷ []) []))) x
 
--- what would has no room
-no_room : (e : Entry) (x full s : Bool) → full ≡ true → shape_text (cond (x && (not (true && full) && s)) (e ∷ []) []) ≡ []
-no_room e true true s h = refl
-no_room e false true s h = refl
-no_room e x false s h = absurd (false≢true h)
+-- nor does what is refused
+refused_text : (q : Request) (name : Option Ask) (r : Refusal) → shape_text (entries_of q name (refused r)) ≡ []
+refused_text q name r = by (is_shared q.act) (is_some name)
+  where
+    by : (s z : Bool) → shape_text (cond (s && (false || z)) (record { requests = []; names = answering name (refused r); position = None } ∷ []) []) ≡ []
+    by false z = refl
+    by true false = refl
+    by true true = refl
 
 module _ (g : Gate) (full : nat_lt most_shape (length (shape_text g.entries)) ≡ true) where
-  said_no_text : (c : Client) (text : List ℕ) (s : Message) → shape_text (entries_by g c text s) ≡ []
-  said_no_text c text no_json = refl
-  said_no_text c text too_long = refl
-  said_no_text c text no_object = refl
-  said_no_text c text (no_request id why) = refl
-  said_no_text c text (request id act) = by (is_shape act) refl
+  carried_text : (q : Request) (name : Option Ask) → shape_text (entries_of q name (carried_reply g q)) ≡ []
+  carried_text q name = by (is_shape q.act) refl
     where
-      e : Entry
-      e = record { role = c.role; line = line_said text; act = act }
-
-      seated : Bool
-      seated = if_some (seat_of g.seats c.role) false (λ n. is_accepted (reply_to g (in_session n act)))
-
-      by : (b : Bool) → is_shape act ≡ b → shape_text (entries_by g c text (request id act)) ≡ []
+      by : (b : Bool) → is_shape q.act ≡ b → shape_text (entries_of q name (carried_reply g q)) ≡ []
+      by false x = unshaped q name (carried_reply g q) x
       by true x =
-          ap (λ z. shape_text (cond (is_shared act && (not (z && nat_lt most_shape (length (shape_text g.entries))) && seated)) (e ∷ []) [])) x
-          ∙ no_room e (is_shared act) (nat_lt most_shape (length (shape_text g.entries))) seated full
-      by false x = no_text e (is_shared act && (has_shape_room g act && seated)) x
+          let room : has_shape_room g q.act ≡ false = (λ i. not (x i && full i)) in
+          ap (λ b. shape_text (entries_of q name (cond b (if_some (seat_of g.seats q.role) (refused no_session) (λ n. reply_to g (in_session n q.act))) (refused limit)))) room ∙ refused_text q name limit
 
-  new_no_text : (e : Event) → shape_text (new_entries g e) ≡ []
-  new_no_text (message m text) = by (client_at g.clients m)
+  decided_text : (q : Request) (name : Option Ask) → shape_text (decided_added g q name) ≡ []
+  decided_text q name = by (is_some g.head.log)
     where
-      heard : (c : Client) (b : Bool) → shape_text (cond b (entries_by g c text (said_by text)) []) ≡ []
-      heard c true = said_no_text c text (said_by text)
-      heard c false = refl
+      by : (b : Bool) → shape_text (cond b [] (entries_of q name (carried_reply g q))) ≡ []
+      by true = refl
+      by false = carried_text q name
 
-      by : (o : Option Client) → shape_text (if_some o [] (λ c. cond (may_say c) (entries_by g c text (said_by text)) [])) ≡ []
-      by None = refl
-      by (Some c) = heard c (may_say c)
-  new_no_text (presented m token) = refl
-  new_no_text (gone m) = refl
-  new_no_text (known tokens) = refl
-  new_no_text ticked = refl
-  new_no_text synced = refl
-  new_no_text (handed m) = refl
-  new_no_text failed = refl
+  verdict_text : (q : Request) (a : Ask) (v : Verdict) → shape_text (verdict_added g q a v) ≡ []
+  verdict_text q a carry = decided_text q (Some a)
+  verdict_text q a (again answer) = refl
+  verdict_text q a another = refl
+  verdict_text q a late = refl
+  verdict_text q a foreign = refl
+  verdict_text q a ahead = refl
+  verdict_text q a _ = refl
 
-pub shape_bounded : (g : Gate) (e : Event) → ShapeIsBounded g e
-shape_bounded g e full = by g.dead refl
+  shared_text : (c : Client) (q : Request) (claim : Option Claim) → shape_text (shared_added g c q claim) ≡ []
+  shared_text c q None = decided_text q None
+  shared_text c q (Some k) = let a = asked_by c q.line k in verdict_text q a (verdict (names_of g) a)
+
+  act_text : (c : Client) (text : List ℕ) (act : Act) → shape_text (act_added g c text act) ≡ []
+  act_text c text (begin role) = refl
+  act_text c text finish = refl
+  act_text c text (subscribe rel) = refl
+  act_text c text (unsubscribe own) = refl
+  act_text c text (create_role name) = shared_text c (request_of c text (create_role name)) (claim_said text)
+  act_text c text (create_table name owner columns) = shared_text c (request_of c text (create_table name owner columns)) (claim_said text)
+  act_text c text (create_view name owner query) = shared_text c (request_of c text (create_view name owner query)) (claim_said text)
+  act_text c text (grant rel privileges to) = shared_text c (request_of c text (grant rel privileges to)) (claim_said text)
+  act_text c text (revoke rel privileges to) = shared_text c (request_of c text (revoke rel privileges to)) (claim_said text)
+  act_text c text (grant_role group to) = shared_text c (request_of c text (grant_role group to)) (claim_said text)
+  act_text c text (revoke_role group to) = shared_text c (request_of c text (revoke_role group to)) (claim_said text)
+  act_text c text (row_security rel enable force) = shared_text c (request_of c text (row_security rel enable force)) (claim_said text)
+  act_text c text (create_policy p) = shared_text c (request_of c text (create_policy p)) (claim_said text)
+  act_text c text (drop_policy rel name) = shared_text c (request_of c text (drop_policy rel name)) (claim_said text)
+  act_text c text (write entries) = shared_text c (request_of c text (write entries)) (claim_said text)
+
+  pub said_text : (c : Client) (text : List ℕ) (s : Message) → shape_text (said_added g c text s) ≡ []
+  said_text c text no_json = refl
+  said_text c text too_long = refl
+  said_text c text no_object = refl
+  said_text c text (no_request id why) = refl
+  said_text c text (request id act) = by (may_have (claim_said text) act)
+    where
+      by : (b : Bool) → shape_text (cond b (act_added g c text act) []) ≡ []
+      by true = act_text c text act
+      by false = refl
+
+said_bounded : (g : Gate) (m : ℕ) (text : List ℕ) → nat_lt most_shape (length (shape_text g.entries)) ≡ true → shape_text (said g m text).entries ≡ shape_text g.entries
+said_bounded g m text full = by (client_at g.clients m)
   where
-    by : (q : Bool) → g.dead ≡ q → shape_text (next g e).entries ≡ shape_text g.entries
-    by true q = ap (λ (x : Gate). shape_text x.entries) (rests g e q)
-    by false q =
-        ap shape_text (entered_by_event g e q)
-        ∙ (text_both g.entries (new_entries g e) ∙ (ap (λ z. shape_text g.entries ++ z) (new_no_text g full e) ∙ append-nil (shape_text g.entries)))
+    heard_by : (c : Client) (t : Bool) → shape_text (cond t (hears g m c text) g).entries ≡ shape_text g.entries
+    heard_by c false = refl
+    heard_by c true =
+        let i = asked g m text in
+        ap shape_text (adds_said i m c text (said_by text))
+        ∙ (text_both g.entries (said_added i c text (said_by text)) ∙ (ap (λ z. shape_text g.entries ++ z) (said_text i full c text (said_by text)) ∙ append-nil (shape_text g.entries)))
+
+    by : (o : Option Client) → shape_text (if_some o g (λ c. cond (may_say c) (hears g m c text) g)).entries ≡ shape_text g.entries
+    by None = refl
+    by (Some c) = heard_by c (may_say c)
+
+-- no other event adds to the journal, but a step
+pub shape_bounded : (g : Gate) (e : Event) → ShapeIsBounded g e
+shape_bounded g e none full = by g.dead
+  where
+    other : (f : Event) → ((s : Step) → f ≡ arrived s → ⊥) → shape_text (happens g f).entries ≡ shape_text g.entries
+    other (message m text) n = said_bounded g m text full
+    other (presented m token) n = ap shape_text (came_adds g m token)
+    other (gone m) n = ap shape_text (went_adds g m)
+    other (known tokens) n = refl
+    other ticked n = refl
+    other synced n = refl
+    other (handed m) n = refl
+    other (arrived s) n = absurd (n s refl)
+    other forgave n = refl
+    other failed n = refl
+
+    by : (q : Bool) → shape_text (cond q g (happens g e)).entries ≡ shape_text g.entries
+    by true = refl
+    by false = other e none

@@ -1,30 +1,29 @@
 -- Whatever happens, over restarts, clients are in step with what their feeds show.
-use Rattle.std.proofs.Common.{◌≡◌, ℕ, Bool, true, false, cond, List, [], ◌∷◌, Option, Some, None, length, refl, ap, ◌∙◌, sym, subst, arith}
+use Rattle.std.proofs.Common.{◌≡◌, ℕ, List, [], Option, Some, None, refl, false, length, ap, ◌∙◌, sym, subst, arith}
 use Rattle.std.specs.Prelude.{◌+◌, option_and_then}
 use Rattle.iv_access.specs.Rights.{Name}
-use Rattle.iv_machine.specs.Act.{begin, finish, Command}
-use Rattle.iv_machine.specs.Machine.{step}
 use Rattle.iv_machine.specs.Sound.{IsSoundState}
-use Rattle.iv_machine.specs.State.{State, start}
-use Rattle.iv_clients.specs.Bounds.{entry_session}
+use Rattle.iv_machine.specs.State.{start}
 use Rattle.iv_clients.specs.Clients.{Client, Shown, client_at, told}
 use Rattle.iv_clients.specs.Feeds.{seat_of}
-use Rattle.iv_clients.specs.Journal.{Entry}
 use Rattle.iv_clients.specs.Tokens.{Token}
-use Rattle.iv_clients.proofs.Slots.{nobody, one_some, some_is_none}
-use Rattle.iv_gate.specs.Gate.{Gate, in_session, is_accepted, reply_in}
+use Rattle.iv_clients.proofs.Slots.{nobody, some_is_none}
+use Rattle.iv_gate.specs.Gate.{Gate, Head}
 use Rattle.iv_gate.specs.Events.{Event}
 use Rattle.iv_gate.specs.Replies.{ActsAs, AreReplied, IsAnswered, IsClient, replies}
-use Rattle.iv_gate.specs.Restoring.{Restores, all_replayed, gate_at_start, passed, replayed}
+use Rattle.iv_gate.specs.Restoring.{Restores, gate_at_start}
 use Rattle.iv_gate.specs.Runs.{Runs, begins, goes_on, begins_again}
 use Rattle.iv_gate.specs.Seen.{AreOver, SeesViews}
 use Rattle.iv_gate.proofs.Answering.{Came, IsSettled, came_next, follows_none, keeps_answered, keeps_settled}
+use Rattle.iv_gate.proofs.Arrived.{led_from_start}
 use Rattle.iv_gate.proofs.Asking.{seat_of_acts}
+use Rattle.iv_gate.proofs.Damage.{facts_of}
 use Rattle.iv_gate.proofs.Deciding.{are_replied}
 use Rattle.iv_gate.proofs.Keeping.{IsKept, kept_next, kept_restored}
 use Rattle.iv_gate.proofs.Seeing.{adds_to_view, may_be_read}
 use Rattle.iv_gate.proofs.Serving.{AreEven, next_sound}
 use Rattle.iv_gate.proofs.Sound.{Adds, IsSoundGate, Sounds}
+use Rattle.iv_journal.specs.Journal.{Line}
 
 abbrev pub Starts : Type 0
 Starts = (cap : ℕ) → IsSoundState (start cap)
@@ -33,43 +32,24 @@ pub bound : {X Y : Type 0} (o : Option X) (f : X → Option Y) (y : Y) (P : Type
 bound None f y P h k = absurd (some_is_none y (sym h))
 bound (Some x) f y P h k = k x refl h
 
-passed_sound : Sounds → (s t : State) (k : Command) → IsSoundState s → passed s k ≡ Some t → IsSoundState t
-passed_sound sounds s t k b h = by (is_accepted (reply_in (step s k).lines)) h
-  where
-    by : (a : Bool) → cond a (Some (step s k).state) None ≡ Some t → IsSoundState t
-    by true e = subst IsSoundState (one_some (step s k).state t e) (sounds.sound s k b)
-    by false e = absurd (some_is_none t (sym e))
-
-replayed_sound : Sounds → (s t : State) (e : Entry) → IsSoundState s → replayed s e ≡ Some t → IsSoundState t
-replayed_sound sounds s t e b h =
-    bound (passed s (in_session entry_session (begin e.role))) (λ u. option_and_then (λ v. passed v (in_session entry_session finish)) (passed u (in_session entry_session e.act))) t (IsSoundState t) h
-    (λ u i k. bound (passed u (in_session entry_session e.act)) (λ v. passed v (in_session entry_session finish)) t (IsSoundState t) k
-    (λ v j l. passed_sound sounds v t (in_session entry_session finish)
-    (passed_sound sounds u v (in_session entry_session e.act) (passed_sound sounds s u (in_session entry_session (begin e.role)) b i) j) l))
-
-replays_sound : Sounds → (s t : State) (es : List Entry) → IsSoundState s → all_replayed s es ≡ Some t → IsSoundState t
-replays_sound sounds s t [] b h = subst IsSoundState (one_some s t h) b
-replays_sound sounds s t (e ∷ es) b h =
-    bound (replayed s e) (λ u. all_replayed u es) t (IsSoundState t) h (λ u i k. replays_sound sounds u t es (replayed_sound sounds s u e b i) k)
-
-restored_sound : Starts → Sounds → (cap : ℕ) (tokens : List Token) (most : ℕ) (sent : List Shown) (journal : List ℕ) (g : Gate) → Restores (gate_at_start cap tokens most sent) journal g → IsSoundGate g
-restored_sound starts sounds cap tokens most sent journal g r = subst IsSoundGate (sym r.gate) (record {
-  state = replays_sound sounds (start cap) r.state g.entries (starts cap) r.leads.accepted;
+restored_sound : Starts → Sounds → (cap : ℕ) (tokens : List Token) (most : ℕ) (head : Head) (sent : List Shown) (journal : List Line) (g : Gate) → Restores (gate_at_start cap tokens most head sent) journal g → IsSoundGate g
+restored_sound starts sounds cap tokens most head sent journal g r = subst IsSoundGate (sym r.leads.gate) (record {
+  state = (led_from_start sounds cap (starts cap) (facts_of g.entries) r.leads.state r.leads.accepted).sound;
   seats = tt;
   feeds = tt;
   clients = λ m c h live. absurd (nobody most m c h);
 })
 
 -- nobody is there at first
-pub restored_empty : (cap : ℕ) (tokens : List Token) (most : ℕ) (sent : List Shown) (journal : List ℕ) (g : Gate) → Restores (gate_at_start cap tokens most sent) journal g → (m : ℕ) (c : Client)
+pub restored_empty : (cap : ℕ) (tokens : List Token) (most : ℕ) (head : Head) (sent : List Shown) (journal : List Line) (g : Gate) → Restores (gate_at_start cap tokens most head sent) journal g → (m : ℕ) (c : Client)
     → client_at g.clients m ≡ Some c → ⊥
-restored_empty cap tokens most sent journal g r m c h = nobody most m c (ap (λ (x : Gate). client_at x.clients m) (sym r.gate) ∙ h)
+restored_empty cap tokens most head sent journal g r m c h = nobody most m c (ap (λ (x : Gate). client_at x.clients m) (sym r.leads.gate) ∙ h)
 
 -- what holds of each client, by what happens to it
 pub runs_keep : (P : Client → Type 0) → Came P → (cap : ℕ) (g : Gate) → Runs cap g → (m : ℕ) (c : Client) → IsClient g m c → P c
-runs_keep P k cap _ (begins tokens most journal g r) m c x = absurd (restored_empty cap tokens most [] journal g r m c x.there)
-runs_keep P k cap _ (goes_on h e r) m c x = came_next P k h e (runs_keep P k cap h r) m c x
-runs_keep P k cap _ (begins_again h disk tokens most i r l y) m c x = absurd (restored_empty cap tokens most h.sent disk i y m c x.there)
+runs_keep P k cap _ (begins tokens most head journal g r) m c x = absurd (restored_empty cap tokens most head [] journal g r m c x.there)
+runs_keep P k cap _ (goes_on h e w r) m c x = came_next P k h e (runs_keep P k cap h r) m c x
+runs_keep P k cap _ (begins_again h disk tokens most i r l y) m c x = absurd (restored_empty cap tokens most h.head h.sent disk i y m c x.there)
 
 pub runs_even : (cap : ℕ) (g : Gate) → Runs cap g → AreEven g
 runs_even cap g r m c x = even (length (replies (told c))) (length c.messages) (runs_keep IsAnswered keeps_answered cap g r m c x).each
@@ -78,14 +58,14 @@ runs_even cap g r m c x = even (length (replies (told c))) (length c.messages) (
     even n k e = omega (arith, e)
 
 pub runs_sound : Adds → Starts → Sounds → (cap : ℕ) (g : Gate) → Runs cap g → IsSoundGate g
-runs_sound adds starts sounds cap _ (begins tokens most journal g r) = restored_sound starts sounds cap tokens most [] journal g r
-runs_sound adds starts sounds cap _ (goes_on h e r) = next_sound adds sounds h e (runs_even cap h r) (runs_sound adds starts sounds cap h r)
-runs_sound adds starts sounds cap _ (begins_again h disk tokens most i r l x) = restored_sound starts sounds cap tokens most h.sent disk i x
+runs_sound adds starts sounds cap _ (begins tokens most head journal g r) = restored_sound starts sounds cap tokens most head [] journal g r
+runs_sound adds starts sounds cap _ (goes_on h e w r) = next_sound adds sounds h e (runs_even cap h r) (runs_sound adds starts sounds cap h r)
+runs_sound adds starts sounds cap _ (begins_again h disk tokens most i r l x) = restored_sound starts sounds cap tokens most h.head h.sent disk i x
 
 pub runs_kept : Adds → Starts → Sounds → (cap : ℕ) (g : Gate) → Runs cap g → IsKept g
-runs_kept adds starts sounds cap _ (begins tokens most journal g r) = kept_restored cap tokens most [] journal g r
-runs_kept adds starts sounds cap _ (goes_on h e r) = kept_next adds sounds h e (runs_even cap h r) (runs_sound adds starts sounds cap h r) (runs_kept adds starts sounds cap h r)
-runs_kept adds starts sounds cap _ (begins_again h disk tokens most i r l x) = kept_restored cap tokens most h.sent disk i x
+runs_kept adds starts sounds cap _ (begins tokens most head journal g r) = kept_restored sounds cap (starts cap) tokens most head [] journal g r
+runs_kept adds starts sounds cap _ (goes_on h e w r) = kept_next adds sounds h e (runs_even cap h r) (runs_sound adds starts sounds cap h r) (runs_kept adds starts sounds cap h r)
+runs_kept adds starts sounds cap _ (begins_again h disk tokens most i r l x) = kept_restored sounds cap (starts cap) tokens most h.head h.sent disk i x
 
 pub runs_replied : Adds → Starts → Sounds → (cap : ℕ) (g : Gate) (e : Event) → Runs cap g → g.dead ≡ false → AreReplied g e
 runs_replied adds starts sounds cap g e r live = are_replied sounds g e (runs_sound adds starts sounds cap g r) (runs_kept adds starts sounds cap g r) live

@@ -1,76 +1,95 @@
 -- The entries lead a machine with nothing to where the gateway is; so does what a crash leaves of them.
-use Rattle.std.proofs.Common.{◌≡◌, ℕ, Bool, true, false, cond, List, [], ◌∷◌, ◌++◌, drop, take, length, Option, Some, option_map, refl, ap, ◌∙◌, sym, subst, append-nil}
+use Rattle.std.proofs.Common.{◌≡◌, ℕ, Bool, true, false, cond, ◌||◌, List, [], ◌∷◌, ◌++◌, drop, take, map, Option, Some, None, is_some, refl, ap, ◌∙◌, sym, subst, append-nil}
 use Rattle.std.specs.Prelude.{◌&&◌, option_and_then}
-use Rattle.std.specs.List.{AllByRecursion}
 use Rattle.std.proofs.lemmas.Bool.{false≢true}
 use Rattle.std.proofs.lemmas.List.{take-append-drop}
-use Rattle.std.proofs.lemmas.List.Concat.{flat_map-append}
 use Rattle.serde_json.specs.Data.{Data}
-use Rattle.iv_machine.specs.Act.{Command}
-use Rattle.iv_machine.specs.Machine.{step}
+use Rattle.iv_rows.specs.Options.{if_some}
+use Rattle.iv_machine.specs.Act.{Command, Reply, refused}
+use Rattle.iv_machine.specs.Machine.{Outcome, step}
 use Rattle.iv_machine.specs.State.{State, start}
+use Rattle.iv_once.specs.Names.{Ask}
+use Rattle.iv_steps.specs.Steps.{Fact, all_carried, carried, shared, stepped}
 use Rattle.iv_clients.specs.Clients.{Shown, at_client, saying}
-use Rattle.iv_clients.specs.Journal.{Entry, IsEntry, entry_text, is_shared, journal_of, line_said}
+use Rattle.iv_clients.specs.Journal.{Entry, Request, is_shared}
+use Rattle.iv_clients.specs.Laws.{ReadsBack}
 use Rattle.iv_clients.specs.Tokens.{Token}
-use Rattle.iv_gate.specs.Events.{Event, presented, message, gone, known, ticked, synced, handed, failed, happens, next}
-use Rattle.iv_gate.specs.Gate.{Gate, in_session, is_accepted, ran, reply_in, requests}
-use Rattle.iv_gate.specs.Laws.{CrashesAreSafe, LeadsBack, shared}
+use Rattle.iv_journal.specs.Journal.{Line}
+use Rattle.iv_gate.specs.Arriving.{Step, entry_of, fact_of, fault_of, is_behind, landed, takes}
+use Rattle.iv_gate.specs.Events.{Event, presented, message, gone, known, ticked, synced, handed, arrived, forgave, failed, happens, next}
+use Rattle.iv_gate.specs.Gate.{Gate, Head, answering, done_in, in_session, is_accepted, ran, replies_to, reply_in}
+use Rattle.iv_gate.specs.Laws.{CrashesAreSafe, LeadsBack}
 use Rattle.iv_gate.specs.Replies.{ActsAs}
-use Rattle.iv_gate.specs.Restoring.{Restores, all_replayed, gate_at_start}
+use Rattle.iv_gate.specs.Restoring.{LeadOn, Restores, gate_at_start}
 use Rattle.iv_gate.specs.Runs.{Runs, begins, goes_on, begins_again}
+use Rattle.iv_gate.proofs.Arrived.{led_from_start}
 use Rattle.iv_gate.proofs.Asking.{seat_of_acts}
-use Rattle.iv_gate.proofs.Requesting.{IsShort}
-use Rattle.iv_gate.proofs.Growing.{assoc}
-use Rattle.iv_gate.proofs.Holding.{all_dropped, runs_held}
+use Rattle.iv_gate.proofs.Booking.{IsBooked, Texts}
+use Rattle.iv_gate.proofs.Damage.{carried_append, facts_append, facts_of, front_leads, led}
+use Rattle.iv_gate.proofs.Holding.{front_taken, runs_written, taken_more}
 use Rattle.iv_gate.proofs.Lasting.{Starts, runs_sound}
-use Rattle.iv_gate.proofs.Replaying.{SameShared, HasLed, IsQuiet, all_quiet, all_same, entry_leads, plain_same, refused_state, replayed_append, replayed_one, same_then, start_quiet, then_of}
-use Rattle.iv_gate.proofs.Rereading.{cut_bytes}
+use Rattle.iv_gate.proofs.Replaying.{plain_same, refused_state, request_leads, shared_same}
 use Rattle.iv_gate.proofs.Sound.{Adds, IsSoundGate, Sounds}
-use Rattle.iv_gate.proofs.Stepping.{Keeps, Steps, came_keeps, said_keeps, went_keeps}
+use Rattle.iv_gate.proofs.Stepping.{Keeps, Steps, came_keeps, request_of, said_keeps, went_keeps}
 
--- the entries lead from the start to all that is shared in the state, and nobody is left of it
-pub record LeadsTo (cap : ℕ) (es : List Entry) (s : State) : Type 0 where
-  pub end : State
-  pub replays : all_replayed (start cap) es ≡ Some end
-  pub same : SameShared s end
-  pub quiet : IsQuiet end
+-- the entries lead a machine with nothing to all that is shared in the state
+abbrev LeadTo : (cap : ℕ) → List Entry → State → Type 0
+LeadTo cap es s = all_carried (facts_of es) (start cap) ≡ Some (shared s)
 
 abbrev pub IsLed : ℕ → Gate → Type 0
-IsLed cap g = LeadsTo cap g.entries g.machine
+IsLed cap g = LeadTo cap g.entries g.machine
 
 -- ---- one entry more
 
-one_more : (cap : ℕ) (es : List Entry) (s t : State) (e : Entry) (l : LeadsTo cap es s) → HasLed l.end t e → LeadsTo cap (es ++ e ∷ []) t
-one_more cap es s t e l h = record {
-  end = h.end;
-  replays = replayed_append (start cap) es (e ∷ []) ∙ (ap (option_and_then (λ u. all_replayed u (e ∷ []))) l.replays ∙ (replayed_one l.end e ∙ h.replays));
-  same = h.same;
-  quiet = h.quiet;
-}
+facts_one : (e : Entry) → facts_of (e ∷ []) ≡ map fact_of e.requests
+facts_one e = ap (map fact_of) (append-nil e.requests)
 
-none_more : (cap : ℕ) (es : List Entry) (s t : State) → SameShared t s → LeadsTo cap es s → LeadsTo cap (es ++ []) t
-none_more cap es s t same l = record {
-  end = l.end;
-  replays = ap (all_replayed (start cap)) (append-nil es) ∙ l.replays;
-  same = same_then t s l.end same l.same;
-  quiet = l.quiet;
-}
+entry_more : (cap : ℕ) (es : List Entry) (e : Entry) (s t : State) → all_carried (map fact_of e.requests) (shared s) ≡ Some (shared t) → LeadTo cap es s → LeadTo cap (es ++ e ∷ []) t
+entry_more cap es e s t h l =
+    ap (λ fs. all_carried fs (start cap)) (facts_append es (e ∷ []) ∙ ap (λ fs. facts_of es ++ fs) (facts_one e))
+    ∙ (carried_append (start cap) (facts_of es) (map fact_of e.requests) ∙ (ap (option_and_then (all_carried (map fact_of e.requests))) l ∙ h))
 
-requests_led : (cap : ℕ) (g : Gate) (m : ℕ) (id : Option Data) (e : Entry) (n : ℕ) → ActsAs g.machine n e.role → is_shared e.act ≡ true → IsLed cap g → IsLed cap (requests g m id e n)
-requests_led cap g m id e n acts shared l = by (is_shared e.act) (is_accepted (reply_in (step g.machine (in_session n e.act)).lines)) shared refl
+none_more : (cap : ℕ) (es : List Entry) (s t : State) → shared s ≡ shared t → LeadTo cap es s → LeadTo cap (es ++ []) t
+none_more cap es s t same l = ap (λ z. all_carried (facts_of z) (start cap)) (append-nil es) ∙ (l ∙ ap Some same)
+
+one_carried : (f : Fact) (s t : State) → carried f s ≡ Some t → all_carried (f ∷ []) s ≡ Some t
+one_carried f s t h = ap (option_and_then (all_carried [])) h
+
+-- a request that is done, by its reply
+requests_led : (cap : ℕ) (g : Gate) (m : ℕ) (id : Option Data) (q : Request) (name : Option Ask) (n : ℕ) → ActsAs g.machine n q.role → is_shared q.act ≡ true → IsLed cap g
+    → IsLed cap (done_in g m id q name n)
+requests_led cap g m id q name n acts x l = by (is_shared q.act) x (is_accepted (reply_in behind.lines)) refl name
   where
-    by : (x y : Bool) → x ≡ true → is_accepted (reply_in (step g.machine (in_session n e.act)).lines) ≡ y
-        → LeadsTo cap (g.entries ++ cond (x && y) (e ∷ []) []) (step g.machine (in_session n e.act)).state
-    by true true x y = one_more cap g.entries g.machine (step g.machine (in_session n e.act)).state e l (entry_leads g.machine l.end n e acts l.same l.quiet shared y)
-    by true false x y =
-        none_more cap g.entries g.machine (step g.machine (in_session n e.act)).state
-        (subst (λ z. SameShared z g.machine) (sym (refused_state g.machine (in_session n e.act) y)) (all_same g.machine)) l
-    by false y x z = absurd (false≢true x)
+    behind : Outcome
+    behind = step g.machine (in_session n q.act)
+
+    entry : Bool → Option Ask → Entry
+    entry y o = record { requests = cond y (q ∷ []) []; names = answering o (reply_in behind.lines); position = None }
+
+    stays : is_accepted (reply_in behind.lines) ≡ false → shared g.machine ≡ shared behind.state
+    stays y = ap shared (sym (refused_state g.machine (in_session n q.act) y))
+
+    by : (s : Bool) → s ≡ true → (y : Bool) → is_accepted (reply_in behind.lines) ≡ y → (o : Option Ask) → LeadTo cap (g.entries ++ cond (s && (y || is_some o)) (entry y o ∷ []) []) behind.state
+    by false h y e o = absurd (false≢true h)
+    by true h true e o =
+        entry_more cap g.entries (entry true o) g.machine behind.state
+        (one_carried (fact_of q) (shared g.machine) (shared behind.state) (request_leads g.machine n q acts x e)) l
+    by true h false e None = none_more cap g.entries g.machine behind.state (stays e) l
+    by true h false e (Some a) = entry_more cap g.entries (entry false (Some a)) g.machine behind.state (ap Some (stays e)) l
+
+-- a name that is refused
+refused_led : (cap : ℕ) (g : Gate) (m : ℕ) (id : Option Data) (q : Request) (a : Ask) (r : Reply) → is_accepted r ≡ false → IsLed cap g → IsLed cap (replies_to g m id q (Some a) r)
+refused_led cap g m id q a r h l = by (is_shared q.act) (is_accepted r) h
+  where
+    by : (s y : Bool) → y ≡ false → LeadTo cap (g.entries ++ cond (s && (y || true)) (record { requests = cond y (q ∷ []) []; names = answering (Some a) r; position = None } ∷ []) []) g.machine
+    by s true e = absurd (false≢true (sym e))
+    by false false e = none_more cap g.entries g.machine g.machine refl l
+    by true false e = entry_more cap g.entries (record { requests = []; names = answering (Some a) r; position = None }) g.machine g.machine refl l
 
 -- ---- each step
 
 ran_led : (cap : ℕ) (g : Gate) (k : Command) → is_shared k.act ≡ false → IsLed cap g → IsLed cap (ran g k)
-ran_led cap g k h l = record { end = l.end; replays = l.replays; same = same_then (step g.machine k).state g.machine l.end (plain_same g.machine k h) l.same; quiet = l.quiet }
+ran_led cap g k h l = l ∙ ap Some (sym (shared_same (step g.machine k).state g.machine (plain_same g.machine k h)))
 
 led_kit : (cap m : ℕ) → Steps m (Keeps (IsLed cap))
 led_kit cap m = record {
@@ -86,87 +105,74 @@ led_kit cap m = record {
   close = λ g own l. l;
 }
 
-happens_led : (cap : ℕ) (g : Gate) (e : Event) → IsSoundGate g → IsLed cap g → IsLed cap (happens g e)
-happens_led cap g (presented m token) b l = came_keeps (IsLed cap) (led_kit cap) g m token (λ h role e x. x) l
-happens_led cap g (message m text) b l = said_keeps (IsLed cap) (led_kit cap) g m text (λ c e. record {
+landed_led : Sounds → (cap : ℕ) (g : Gate) (s : Step) (o : Outcome) → stepped (map fact_of s.requests) g.machine ≡ Some o → IsSoundGate g → IsLed cap g → IsLed cap (landed g (entry_of s) o)
+landed_led sounds cap g s o h b l = entry_more cap g.entries (entry_of s) g.machine o.state (sounds.told (map fact_of s.requests) g.machine o b.state h).shared l
+
+takes_led : Sounds → (cap : ℕ) (g : Gate) (s : Step) → IsSoundGate g → IsLed cap g → IsLed cap (takes g s)
+takes_led sounds cap g s b l = by (is_some (fault_of g s)) (is_behind g s) (stepped (map fact_of s.requests) g.machine) refl
+  where
+    by : (d p : Bool) (o : Option Outcome) → stepped (map fact_of s.requests) g.machine ≡ o → IsLed cap (cond d (record g { dead = true }) (cond p g (if_some o g (landed g (entry_of s)))))
+    by true p o e = l
+    by false true o e = l
+    by false false None e = l
+    by false false (Some o) e = landed_led sounds cap g s o e b l
+
+happens_led : Sounds → (cap : ℕ) (g : Gate) (e : Event) → IsSoundGate g → IsLed cap g → IsLed cap (happens g e)
+happens_led sounds cap g (presented m token) b l = came_keeps (IsLed cap) (led_kit cap) g m token (λ h t e x. x) l
+happens_led sounds cap g (message m text) b l = said_keeps (IsLed cap) (led_kit cap) g m text (λ c e. record {
   says = λ x. x;
   answers = λ h x. x;
-  asks = λ id act n t shared seat x. requests_led cap (record g { clients = at_client m (saying text) g.clients }) m id (record { role = c.role; line = line_said text; act = act }) n
+  asks = λ id act name n t shared seat x. requests_led cap (record g { clients = at_client m (saying text) g.clients }) m id (request_of c text act) name n
       (seat_of_acts g b c.role n seat) shared x;
+  refuses = λ id act a r t shared x. refused_led cap (record g { clients = at_client m (saying text) g.clients }) m id (request_of c text act) a (refused r) refl x;
 }) l
-happens_led cap g (gone m) b l = went_keeps (IsLed cap) (led_kit cap) g m (λ x. x) l
-happens_led cap g (known tokens) b l = l
-happens_led cap g ticked b l = l
-happens_led cap g synced b l = l
-happens_led cap g (handed m) b l = l
-happens_led cap g failed b l = l
+happens_led sounds cap g (gone m) b l = went_keeps (IsLed cap) (led_kit cap) g m (λ x. x) l
+happens_led sounds cap g (known tokens) b l = l
+happens_led sounds cap g ticked b l = l
+happens_led sounds cap g synced b l = l
+happens_led sounds cap g (handed m) b l = l
+happens_led sounds cap g (arrived s) b l = takes_led sounds cap g s b l
+happens_led sounds cap g forgave b l = l
+happens_led sounds cap g failed b l = l
 
-next_led : (cap : ℕ) (g : Gate) (e : Event) → IsSoundGate g → IsLed cap g → IsLed cap (next g e)
-next_led cap g e b l = by g.dead
+next_led : Sounds → (cap : ℕ) (g : Gate) (e : Event) → IsSoundGate g → IsLed cap g → IsLed cap (next g e)
+next_led sounds cap g e b l = by g.dead
   where
     by : (t : Bool) → IsLed cap (cond t g (happens g e))
     by true = l
-    by false = happens_led cap g e b l
+    by false = happens_led sounds cap g e b l
 
 -- ---- runs
 
-restored_led : (cap : ℕ) (tokens : List Token) (most : ℕ) (sent : List Shown) (journal : List ℕ) (h : Gate) → Restores (gate_at_start cap tokens most sent) journal h → IsLed cap h
-restored_led cap tokens most sent journal h r = record {
-  end = r.state;
-  replays = r.leads.accepted;
-  same = subst (λ z. SameShared z r.state) (sym (ap (λ (x : Gate). x.machine) r.gate)) (all_same r.state);
-  quiet = all_quiet (start cap) r.state h.entries r.leads.well (start_quiet cap) r.leads.accepted;
-}
+restored_led : Starts → Sounds → (cap : ℕ) (tokens : List Token) (most : ℕ) (head : Head) (sent : List Shown) (journal : List Line) (h : Gate)
+    → Restores (gate_at_start cap tokens most head sent) journal h → IsLed cap h
+restored_led starts sounds cap tokens most head sent journal h r =
+    let b = led_from_start sounds cap (starts cap) (facts_of h.entries) r.leads.state r.leads.accepted in
+    let quiet : r.leads.state ≡ shared r.leads.state = (λ i. record r.leads.state { frame = record r.leads.state.frame { sessions = b.sessions i; subscriptions = b.subscriptions i; last = b.last i } }) in
+    r.leads.accepted ∙ ap Some (quiet ∙ ap (λ (x : Gate). shared x.machine) (sym r.leads.gate))
 
 pub runs_led : Adds → Starts → Sounds → (cap : ℕ) (g : Gate) → Runs cap g → IsLed cap g
-runs_led adds starts sounds cap _ (begins tokens most journal g r) = restored_led cap tokens most [] journal g r
-runs_led adds starts sounds cap _ (goes_on g e r) = next_led cap g e (runs_sound adds starts sounds cap g r) (runs_led adds starts sounds cap g r)
-runs_led adds starts sounds cap _ (begins_again g disk tokens most h r l x) = restored_led cap tokens most g.sent disk h x
-
-shared_same : (s t : State) → SameShared s t → shared s ≡ shared t
-shared_same s t a = λ i. record { frame = record { cap = a.cap i; rights = a.rights i; catalog = a.catalog i; sessions = []; subscriptions = []; last = 0 }; rows = a.rows i }
+runs_led adds starts sounds cap _ (begins tokens most head journal g r) = restored_led starts sounds cap tokens most head [] journal g r
+runs_led adds starts sounds cap _ (goes_on g e w r) = next_led sounds cap g e (runs_sound adds starts sounds cap g r) (runs_led adds starts sounds cap g r)
+runs_led adds starts sounds cap _ (begins_again g disk tokens most h r l x) = restored_led starts sounds cap tokens most g.head g.sent disk h x
 
 pub leads_back : Adds → Starts → Sounds → (cap : ℕ) (g : Gate) → Runs cap g → LeadsBack cap g
-leads_back adds starts sounds cap g r =
-    let l = runs_led adds starts sounds cap g r in
-    ap (option_map shared) l.replays ∙ ap Some (sym (shared_same g.machine l.end l.same))
+leads_back adds starts sounds cap g r = runs_led adds starts sounds cap g r
 
 -- ---- crashes
 
-well_front : (es fs gs : List Entry) → es ≡ fs ++ gs → AllByRecursion IsEntry es → AllByRecursion IsEntry fs
-well_front es [] gs e w = tt
-well_front es (f ∷ fs) gs e w = let x : AllByRecursion IsEntry (f ∷ (fs ++ gs)) = subst (AllByRecursion IsEntry) e w in (x.0, well_front (fs ++ gs) fs gs refl x.1)
-
-is_safe : (cap : ℕ) (g : Gate) (s : State) → AllByRecursion IsEntry g.entries → AllByRecursion IsShort (drop g.kept g.entries) → all_replayed (start cap) g.entries ≡ Some s
-    → CrashesAreSafe cap g
-is_safe cap g s w v h disk tokens most l =
-    let start_gate = gate_at_start cap tokens most g.sent in
-    let kept = take g.kept g.entries in
-    let c = cut_bytes (drop g.kept g.entries) (all_dropped IsEntry g.kept g.entries w) v l.0 in
-    let again = kept ++ c.whole in
-    let all : g.entries ≡ (take g.kept g.entries ++ c.whole) ++ c.later =
-    sym (take-append-drop g.kept g.entries) ∙ (ap (λ z. take g.kept g.entries ++ z) c.front ∙ sym (assoc (take g.kept g.entries) c.whole c.later)) in
-    let r = then_of (all_replayed (start cap) again) (λ u. all_replayed u c.later) s
-    (sym (replayed_append (start cap) again c.later) ∙ (ap (all_replayed (start cap)) (sym all) ∙ h)) in (
-      record start_gate { machine = r.mid; entries = again; kept = length again },
-      record {
-        state = r.mid;
-        torn = c.torn;
-        leads = record {
-          text = l.1 ∙ (ap (λ z. journal_of (take g.kept g.entries) ++ z) c.text
-              ∙ (sym (assoc (journal_of (take g.kept g.entries)) (journal_of c.whole) c.torn) ∙ ap (λ z. z ++ c.torn) (sym (flat_map-append entry_text (take g.kept g.entries) c.whole))));
-          well = well_front g.entries again c.later all w;
-          accepted = r.one;
-        };
-        cut = c.is;
-        gate = refl;
-      },
-      (c.whole, refl),
-      (c.later, all),
+is_safe : (cap : ℕ) (g : Gate) → IsBooked g → IsLed cap g → CrashesAreSafe cap g
+is_safe cap g b h disk tokens most l =
+    let begun = gate_at_start cap tokens most g.head g.sent in
+    let on : LeadOn begun (take l.0 g.entries ++ drop l.0 g.entries) (led begun (take l.0 g.entries ++ drop l.0 g.entries) (shared g.machine)) =
+    subst (λ es. LeadOn begun es (led begun es (shared g.machine))) (sym (take-append-drop l.0 g.entries))
+    (record { state = shared g.machine; well = b.well; accepted = h; names = b.names; steps = b.steps; gate = refl }) in
+    let x = front_leads begun (led begun (take l.0 g.entries ++ drop l.0 g.entries) (shared g.machine)) (take l.0 g.entries) (drop l.0 g.entries) on in (
+      led begun (take l.0 g.entries) x.state,
+      record { all = l.2; leads = x.on },
+      taken_more g.kept l.0 g.entries l.1,
+      front_taken l.0 g.entries,
     )
 
-pub crashes_are_safe : Adds → Starts → Sounds → (cap : ℕ) (g : Gate) → Runs cap g → CrashesAreSafe cap g
-crashes_are_safe adds starts sounds cap g r =
-    let l = runs_led adds starts sounds cap g r in
-    let b = runs_held cap g r in
-    is_safe cap g l.end b.well b.short l.replays
+pub crashes_are_safe : ReadsBack → Texts → Adds → Starts → Sounds → (cap : ℕ) (g : Gate) → Runs cap g → CrashesAreSafe cap g
+crashes_are_safe reads texts adds starts sounds cap g r = is_safe cap g (runs_written reads texts cap g r).booked (runs_led adds starts sounds cap g r)

@@ -32,7 +32,7 @@ pub mod Needing
 pub mod Stepping
 pub mod Replaying
 pub mod Requesting
-pub mod Rereading
+pub mod Booking
 pub mod Holding
 pub mod Leading
 pub mod Showing
@@ -55,3 +55,10 @@ pub mod Telling
 pub mod Settling
 pub mod Tables
 pub mod Together
+pub mod Answered
+pub mod Spending
+pub mod Arrived
+pub mod Choosing
+pub mod Computing
+pub mod Positions
+pub mod Past

@@ -1,7 +1,6 @@
--- The entries that make the shape lead, without the others, to the same roles, memberships, rights, relations and policies.
-use Rattle.std.proofs.Common.{◌≡◌, ℕ, Bool, true, false, cond, List, [], ◌∷◌, Some, None, option_map, refl, ap, ◌∙◌, sym, subst}
+-- The requests that make the shape lead, without the others, to the same roles, memberships, rights, relations and policies.
+use Rattle.std.proofs.Common.{◌≡◌, ℕ, Bool, true, false, cond, List, [], ◌∷◌, map, Some, None, option_map, refl, ap, ◌∙◌, sym, subst}
 use Rattle.std.specs.Prelude.{filter, option_and_then}
-use Rattle.std.specs.List.{AllByRecursion}
 use Rattle.std.proofs.lemmas.Bool.{false≢true}
 use Rattle.iv_algebra.specs.Plans.{Lists}
 use Rattle.iv_bind.specs.Catalogs.{CatalogEntry}
@@ -12,17 +11,17 @@ use Rattle.iv_machine.specs.Changing.{after}
 use Rattle.iv_machine.specs.Machine.{settled}
 use Rattle.iv_machine.specs.Refusing.{refusal}
 use Rattle.iv_machine.specs.State.{State, start}
-use Rattle.iv_clients.specs.Bounds.{entry_session}
-use Rattle.iv_clients.specs.Journal.{Entry, IsEntry, is_shape, is_shared}
+use Rattle.iv_steps.specs.Steps.{Fact, all_carried, carried, passed, shared}
+use Rattle.iv_clients.specs.Journal.{Request, is_shape, is_shared, requests_in}
+use Rattle.iv_clients.proofs.Cuts.{found}
 use Rattle.iv_clients.proofs.Slots.{one_some}
-use Rattle.iv_gate.specs.Gate.{Gate, in_session}
-use Rattle.iv_gate.specs.Laws.{MakesShape, shared}
-use Rattle.iv_gate.specs.Restoring.{all_replayed, passed, replayed}
+use Rattle.iv_gate.specs.Arriving.{fact_of}
+use Rattle.iv_gate.specs.Gate.{Gate}
+use Rattle.iv_gate.specs.Laws.{MakesShape}
 use Rattle.iv_gate.specs.Runs.{Runs}
-use Rattle.iv_gate.proofs.Holding.{runs_held}
 use Rattle.iv_gate.proofs.Lasting.{Starts}
 use Rattle.iv_gate.proofs.Leading.{runs_led}
-use Rattle.iv_gate.proofs.Replaying.{IsQuiet, alone, is_left, left, passes, quiet_replayed, start_quiet, state_of, then_of, was_led}
+use Rattle.iv_gate.proofs.Replaying.{alone, finishes, left, left_bare, passes, state_of, was_led}
 use Rattle.iv_gate.proofs.Sound.{Adds, Sounds}
 
 -- ---- states of one shape
@@ -32,20 +31,11 @@ pub record SameShape (s t : State) : Type 0 where
   pub rights : s.frame.rights ≡ t.frame.rights
   pub catalog : s.frame.catalog ≡ t.frame.catalog
 
--- a quiet state of the same shape has these parts
-shape_parts : (s t : State) → SameShape s t → IsQuiet t → t ≡ state_of s.frame.cap s.frame.rights s.frame.catalog [] [] t.frame.last t.rows
-shape_parts s t same quiet =
-    ap (λ z. state_of z t.frame.rights t.frame.catalog t.frame.sessions t.frame.subscriptions t.frame.last t.rows) (sym same.cap)
-    ∙ (ap (λ z. state_of s.frame.cap z t.frame.catalog t.frame.sessions t.frame.subscriptions t.frame.last t.rows) (sym same.rights)
-    ∙ (ap (λ z. state_of s.frame.cap s.frame.rights z t.frame.sessions t.frame.subscriptions t.frame.last t.rows) (sym same.catalog)
-    ∙ (ap (λ z. state_of s.frame.cap s.frame.rights s.frame.catalog z t.frame.subscriptions t.frame.last t.rows) quiet.sessions
-    ∙ ap (λ z. state_of s.frame.cap s.frame.rights s.frame.catalog [] z t.frame.last t.rows) quiet.subscriptions)))
-
--- ---- one entry
+-- ---- one request
 
 -- what makes the shape is accepted by the shape alone, whatever the rows are
 still_made : (cap : ℕ) (R : Rights) (C : List CatalogEntry) (role last later : ℕ) (T U : Lists) (act : Act) → is_shape act ≡ true
-    → refusal (alone cap R C role last T) entry_session act ≡ None → refusal (alone cap R C role later U) entry_session act ≡ None
+    → refusal (alone cap R C role last T) 1 act ≡ None → refusal (alone cap R C role later U) 1 act ≡ None
 still_made cap R C role last later T U (begin name) x h = absurd (false≢true x)
 still_made cap R C role last later T U finish x h = absurd (false≢true x)
 still_made cap R C role last later T U (subscribe rel) x h = absurd (false≢true x)
@@ -98,77 +88,88 @@ not_made cap R C role last later T U (row_security rel enable force) y x = absur
 not_made cap R C role last later T U (create_policy p) y x = absurd (false≢true (sym x))
 not_made cap R C role last later T U (drop_policy rel name) y x = absurd (false≢true (sym x))
 
--- a replay from t led to the shape of u, and nobody is left of it
-record HasMade (t u : State) (e : Entry) : Type 0 where
+-- carried out from t it led to the shape of u, and nobody is left
+record HasMade (t u : State) (q : Request) : Type 0 where
   end : State
-  replays : replayed t e ≡ Some end
+  carries : carried (fact_of q) t ≡ Some end
   same : SameShape u end
-  quiet : IsQuiet end
+  bare : end ≡ shared end
 
-one_makes : (s t u : State) (e : Entry) → IsQuiet s → IsQuiet t → SameShape s t → is_shared e.act ≡ true → is_shape e.act ≡ true → replayed s e ≡ Some u → HasMade t u e
-one_makes s t u e p q m y x h =
-    let cap = s.frame.cap in let R = s.frame.rights in let C = s.frame.catalog in let role = role_number R e.role in
-    let w = was_led s u e p h in
-    let from = state_of s.frame.cap s.frame.rights s.frame.catalog [] [] t.frame.last t.rows in
-    let mid = alone s.frame.cap s.frame.rights s.frame.catalog (role_number s.frame.rights e.role) t.frame.last t.rows in
-    let acted = settled e.act (after mid entry_session e.act) in
-    let l = is_left cap R C role t.frame.last t.rows e.act y in
-    let end = left s.frame.cap s.frame.rights s.frame.catalog (role_number s.frame.rights e.role) t.frame.last t.rows e.act in
-    let one : passed from (in_session entry_session (begin e.role)) ≡ Some mid = passes from (in_session entry_session (begin e.role)) w.begun in
-    let two : passed mid (in_session entry_session e.act) ≡ Some acted =
-    passes mid (in_session entry_session e.act) (still_made cap R C role s.frame.last t.frame.last s.rows t.rows e.act x w.acted) in
-    let three : passed acted (in_session entry_session finish) ≡ Some end = passes acted (in_session entry_session finish) l.finishes in
-    let made : HasMade from u e = record {
+one_makes : (s t u : State) (q : Request) → SameShape s t → is_shape q.act ≡ true → carried (fact_of q) (shared s) ≡ Some u → HasMade (shared t) u q
+one_makes s t u q m x h =
+    let cap = s.frame.cap in let R = s.frame.rights in let C = s.frame.catalog in let role = role_number R q.role in
+    let w = was_led s u q h in
+    let from = state_of cap R C [] [] 0 t.rows in
+    let mid = alone cap R C role 0 t.rows in
+    let acted = settled q.act (after mid 1 q.act) in
+    let end = left cap R C role 0 t.rows q.act in
+    let one : passed (begin q.role) from ≡ Some mid = passes from (begin q.role) w.begun in
+    let two : passed q.act mid ≡ Some acted = passes mid q.act (still_made cap R C role 0 0 s.rows t.rows q.act x w.acted) in
+    let three : passed finish acted ≡ Some end = passes acted finish (finishes cap R C role 0 t.rows q.act w.shared) in
+    let made : HasMade from u q = record {
       end = end;
-      replays = ap (option_and_then (λ a. option_and_then (λ b. passed b (in_session entry_session finish)) (passed a (in_session entry_session e.act)))) one
-          ∙ (ap (option_and_then (λ b. passed b (in_session entry_session finish))) two ∙ three);
-      same = subst (λ z. SameShape z end) (sym w.ended) (same_made cap R C role s.frame.last t.frame.last s.rows t.rows e.act x);
-      quiet = l.quiet;
+      carries = ap (λ b. cond b (option_and_then (passed finish) (option_and_then (passed q.act) (passed (begin q.role) from))) None) w.shared
+          ∙ (ap (λ o. option_and_then (passed finish) (option_and_then (passed q.act) o)) one ∙ (ap (option_and_then (passed finish)) two ∙ three));
+      same = subst (λ z. SameShape z end) (sym w.ended) (same_made cap R C role 0 0 s.rows t.rows q.act x);
+      bare = left_bare cap R C role t.rows q.act w.shared;
     } in
-    subst (λ z. HasMade z u e) (sym (shape_parts s t m q)) made
+    let there : from ≡ shared t = (λ i. state_of (m.cap i) (m.rights i) (m.catalog i) [] [] 0 t.rows) in
+    subst (λ z. HasMade z u q) there made
 
-none_makes : (s t u : State) (e : Entry) → IsQuiet s → IsQuiet t → SameShape s t → is_shared e.act ≡ true → is_shape e.act ≡ false → replayed s e ≡ Some u → SameShape u t
-none_makes s t u e p q m y x h =
-    subst (λ z. SameShape u z) (sym (shape_parts s t m q))
-    (subst (λ z. SameShape z (state_of s.frame.cap s.frame.rights s.frame.catalog [] [] t.frame.last t.rows)) (sym (was_led s u e p h).ended)
-    (not_made s.frame.cap s.frame.rights s.frame.catalog (role_number s.frame.rights e.role) s.frame.last t.frame.last s.rows t.rows e.act y x))
+none_makes : (s t u : State) (q : Request) → SameShape s t → is_shape q.act ≡ false → carried (fact_of q) (shared s) ≡ Some u → SameShape u t
+none_makes s t u q m x h =
+    let w = was_led s u q h in
+    let n : SameShape u (state_of s.frame.cap s.frame.rights s.frame.catalog [] [] 0 t.rows) =
+    subst (λ z. SameShape z (state_of s.frame.cap s.frame.rights s.frame.catalog [] [] 0 t.rows)) (sym w.ended)
+    (not_made s.frame.cap s.frame.rights s.frame.catalog (role_number s.frame.rights q.role) 0 0 s.rows t.rows q.act w.shared x) in
+    record { cap = n.cap ∙ m.cap; rights = n.rights ∙ m.rights; catalog = n.catalog ∙ m.catalog }
 
 -- ---- all of them
 
-record AllMake (t u : State) (es : List Entry) : Type 0 where
-  end : State
-  replays : all_replayed t (filter (λ (e : Entry). is_shape e.act) es) ≡ Some end
-  same : SameShape u end
+abbrev shapes : List Request → List Fact
+shapes qs = map fact_of (filter (λ (q : Request). is_shape q.act) qs)
 
-all_make : (s t u : State) (es : List Entry) → AllByRecursion IsEntry es → IsQuiet s → IsQuiet t → SameShape s t → all_replayed s es ≡ Some u → AllMake t u es
-all_make s t u [] w p q m h = record { end = t; replays = refl; same = subst (λ z. SameShape z t) (one_some s u h) m }
-all_make s t u (e ∷ es) w p q m h =
-    let a = then_of (replayed s e) (λ v. all_replayed v es) u h in
-    by a.mid a.one (is_shape e.act) refl (λ v k n. all_make a.mid v u es w.1 (quiet_replayed s a.mid e w.0.shared p a.one) k n a.two)
+record AllMake (t u : State) (qs : List Request) : Type 0 where
+  end : State
+  carries : all_carried (shapes qs) (shared t) ≡ Some end
+  same : SameShape u end
+  bare : end ≡ shared end
+
+all_make : (s t u : State) (qs : List Request) → SameShape s t → all_carried (map fact_of qs) (shared s) ≡ Some u → AllMake t u qs
+all_make s t u [] m h = record {
+  end = shared t;
+  carries = refl;
+  same = subst (λ z. SameShape z (shared t)) (one_some (shared s) u h) (record { cap = m.cap; rights = m.rights; catalog = m.catalog });
+  bare = refl;
+}
+all_make s t u (q ∷ qs) m h =
+    let f = found (all_carried (map fact_of qs)) (carried (fact_of q) (shared s)) u h in
+    let w = was_led s f.of q f.there in
+    let bare : f.of ≡ shared f.of =
+    w.ended ∙ (left_bare s.frame.cap s.frame.rights s.frame.catalog (role_number s.frame.rights q.role) s.rows q.act w.shared ∙ ap shared (sym w.ended)) in
+    by f.of f.there (is_shape q.act) refl (λ v n. all_make f.of v u qs n (ap (all_carried (map fact_of qs)) (sym bare) ∙ f.is))
   where
-    by : (mid : State) → replayed s e ≡ Some mid → (b : Bool) → is_shape e.act ≡ b → ((v : State) → IsQuiet v → SameShape mid v → AllMake v u es) → AllMake t u (e ∷ es)
+    by : (mid : State) → carried (fact_of q) (shared s) ≡ Some mid → (b : Bool) → is_shape q.act ≡ b → ((v : State) → SameShape mid v → AllMake v u qs) → AllMake t u (q ∷ qs)
     by mid g true x more =
-        let l = one_makes s t mid e p q m w.0.shared x g in let r = more l.end l.quiet l.same in
+        let l = one_makes s t mid q m x g in let r = more l.end l.same in
         record {
           end = r.end;
-          replays = ap (λ b. all_replayed t (cond b (e ∷ filter (λ (d : Entry). is_shape d.act) es) (filter (λ (d : Entry). is_shape d.act) es))) x
-              ∙ (ap (option_and_then (λ v. all_replayed v (filter (λ (d : Entry). is_shape d.act) es))) l.replays ∙ r.replays);
+          carries = ap (λ b. all_carried (map fact_of (cond b (q ∷ filter (λ (z : Request). is_shape z.act) qs) (filter (λ (z : Request). is_shape z.act) qs))) (shared t)) x
+              ∙ (ap (option_and_then (all_carried (shapes qs))) l.carries ∙ (ap (all_carried (shapes qs)) l.bare ∙ r.carries));
           same = r.same;
+          bare = r.bare;
         }
     by mid g false x more =
-        let r = more t q (none_makes s t mid e p q m w.0.shared x g) in
+        let r = more t (none_makes s t mid q m x g) in
         record {
           end = r.end;
-          replays = ap (λ b. all_replayed t (cond b (e ∷ filter (λ (d : Entry). is_shape d.act) es) (filter (λ (d : Entry). is_shape d.act) es))) x ∙ r.replays;
+          carries = ap (λ b. all_carried (map fact_of (cond b (q ∷ filter (λ (z : Request). is_shape z.act) qs) (filter (λ (z : Request). is_shape z.act) qs))) (shared t)) x ∙ r.carries;
           same = r.same;
+          bare = r.bare;
         }
-
-same_frame : (s t : State) → SameShape s t → (shared s).frame ≡ (shared t).frame
-same_frame s t a = λ i. record { cap = a.cap i; rights = a.rights i; catalog = a.catalog i; sessions = []; subscriptions = []; last = 0 }
 
 pub runs_make : Adds → Starts → Sounds → (cap : ℕ) (g : Gate) → Runs cap g → MakesShape cap g
 runs_make adds starts sounds cap g r =
-    let l = runs_led adds starts sounds cap g r in
-    let m = all_make (start cap) (start cap) l.end g.entries (runs_held cap g r).well (start_quiet cap) (start_quiet cap) (record { cap = refl; rights = refl; catalog = refl }) l.replays in
-    ap (option_map (λ s. (shared s).frame)) m.replays
-    ∙ ap Some (sym (same_frame g.machine m.end (record { cap = l.same.cap ∙ m.same.cap; rights = l.same.rights ∙ m.same.rights; catalog = l.same.catalog ∙ m.same.catalog })))
+    let m = all_make (start cap) (start cap) (shared g.machine) (requests_in g.entries) (record { cap = refl; rights = refl; catalog = refl }) (runs_led adds starts sounds cap g r) in
+    let frame : m.end.frame ≡ (shared g.machine).frame = ap (λ (z : State). z.frame) m.bare ∙ (λ i. record { cap = sym m.same.cap i; rights = sym m.same.rights i; catalog = sym m.same.catalog i; sessions = []; subscriptions = []; last = 0 }) in
+    ap (option_map (λ (s : State). s.frame)) m.carries ∙ ap Some frame

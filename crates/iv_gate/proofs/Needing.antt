@@ -3,7 +3,6 @@ use Rattle.std.proofs.Common.{◌≡◌, ℕ, zero, suc, Bool, true, false, not,
 use Rattle.std.specs.Prelude.{◌==◌, bytes_eq, filter}
 use Rattle.std.specs.List.{AllByRecursion, list_any}
 use Rattle.std.proofs.lemmas.Bool.{false≢true, eqb-true, or_left, or_right}
-use Rattle.sha2.specs.Sha256.{sha256}
 use Rattle.iv_rows.specs.Options.{if_some}
 use Rattle.iv_access.specs.Rights.{Name}
 use Rattle.iv_machine.specs.Act.{finish}
@@ -12,8 +11,8 @@ use Rattle.iv_machine.specs.Sound.{IsSoundState}
 use Rattle.iv_clients.specs.Clients.{Client, Slots, Sub, client_at, fresh, has_role, is_followed, settling}
 use Rattle.iv_clients.specs.Feeds.{Feed, Seat, is_of_role, without_seat}
 use Rattle.iv_clients.proofs.Slots.{one_some, one_there, some_is_none}
-use Rattle.iv_gate.specs.Events.{Event, presented, message, gone, known, ticked, synced, handed, failed, next}
-use Rattle.iv_gate.specs.Gate.{Gate, all_rested, all_swept, in_session, is_needed, ran, rested, role_for, settles}
+use Rattle.iv_gate.specs.Events.{Event, presented, message, gone, known, ticked, synced, handed, failed, next, arrived, forgave}
+use Rattle.iv_gate.specs.Gate.{Gate, all_rested, all_swept, in_session, is_needed, ran, rested, token_for, settles, at_text}
 use Rattle.iv_gate.specs.Replies.{ActsAs}
 use Rattle.iv_gate.specs.Runs.{Runs, begins, goes_on, begins_again}
 use Rattle.iv_gate.proofs.Calm.{all_swept_clients, ran_still}
@@ -29,8 +28,9 @@ use Rattle.iv_gate.proofs.Serving.{put_sound}
 use Rattle.iv_gate.proofs.Sharing.{IsAlone, alone_of, one_role, role_there, roles_all}
 use Rattle.iv_gate.proofs.Sound.{Adds, IsFeed, IsSoundGate, Sounds, filter_all}
 use Rattle.iv_gate.proofs.Summing.{both, same_self}
-use Rattle.iv_gate.proofs.Touching.{alive, came_as, came_is, is_gone, opens_role, rests, touched}
+use Rattle.iv_gate.proofs.Touching.{alive, came_as, came_is, is_gone, opens_token, rests, touched}
 use Rattle.iv_gate.proofs.Using.{IsUsing, none_but, or_both}
+use Rattle.iv_clients.specs.Tokens.{Token}
 
 -- each session is of a role that some client is of
 abbrev pub AreNeeded : Gate → Type 0
@@ -228,11 +228,10 @@ other_needed : (g : Gate) (e : Event) → g.dead ≡ false → ((m : ℕ) → is
 other_needed g e live n w a = all_behind (IsOfSome g e) g (next g e).seats (next_behind (IsOfSome g e) g e w)
     (all_so {P = λ (s : Seat). has_role s.role g.clients ≡ true} {Q = λ (s : Seat). has_role s.role (next g e).clients ≡ true} (λ s h. role_lasts g e live n s.role h) g.seats a)
 
-newcomer : (g : Gate) (m : ℕ) (token : List ℕ) → g.dead ≡ false → (role : Name) → role_for g m token ≡ Some role → IsOfSome g (presented m token) role
-newcomer g m token live role e =
-    let is : next g (presented m token) ≡ came_as g m token role = alive g (presented m token) live ∙ ap (λ o. if_some o g (came_as g m token)) e in
-    subst (λ (x : Gate). has_role role x.clients ≡ true) (sym is)
-    (of_role (came_as g m token role).clients m (fresh (came_as g m token role).entries role (sha256 token)) role (came_is g m token role (opens_role g m token role e).free) refl)
+newcomer : (g : Gate) (m : ℕ) (token : List ℕ) → g.dead ≡ false → (t : Token) → token_for g m token ≡ Some t → IsOfSome g (presented m token) t.role
+newcomer g m token live t e =
+    let h = came_as g m t in let is : next g (presented m token) ≡ h = alive g (presented m token) live ∙ ap (λ o. if_some o g (came_as g m)) e in
+    subst (λ (x : Gate). has_role t.role x.clients ≡ true) (sym is) (of_role h.clients m (fresh h.entries t (at_text h t)) t.role (came_is g m t (opens_token g m token t e).free) refl)
 
 next_needed : Adds → Sounds → (g : Gate) (e : Event) → IsSoundGate g → IsSoundGate (next g e) → IsUsing none_but (next g e) → AreNeeded g → AreNeeded (next g e)
 next_needed adds sounds g e b c u a = by g.dead refl
@@ -255,6 +254,8 @@ next_needed adds sounds g e b c u a = by g.dead refl
     live_by live ticked x s v = other_needed g ticked live (λ j. refl) tt a
     live_by live synced x s v = other_needed g synced live (λ j. refl) tt a
     live_by live (handed m) x s v = other_needed g (handed m) live (λ j. refl) tt a
+    live_by live (arrived st) x s v = other_needed g (arrived st) live (λ j. refl) tt a
+    live_by live forgave x s v = other_needed g forgave live (λ j. refl) tt a
     live_by live failed x s v = other_needed g failed live (λ j. refl) tt a
 
     by : (t : Bool) → g.dead ≡ t → AreNeeded (next g e)
@@ -262,8 +263,8 @@ next_needed adds sounds g e b c u a = by g.dead refl
     by false t = live_by t e refl c u
 
 pub runs_needed : Adds → Starts → Sounds → (cap : ℕ) (g : Gate) → Runs cap g → AreNeeded g
-runs_needed adds starts sounds cap _ (begins tokens most journal g r) = subst AreNeeded (sym r.gate) tt
-runs_needed adds starts sounds cap _ (goes_on h e r) =
-    next_needed adds sounds h e (runs_sound adds starts sounds cap h r) (runs_sound adds starts sounds cap (next h e) (goes_on h e r)) (runs_using adds starts sounds cap (next h e) (goes_on h e r))
+runs_needed adds starts sounds cap _ (begins tokens most head journal g r) = subst AreNeeded (sym r.leads.gate) tt
+runs_needed adds starts sounds cap _ (goes_on h e w r) =
+    next_needed adds sounds h e (runs_sound adds starts sounds cap h r) (runs_sound adds starts sounds cap (next h e) (goes_on h e w r)) (runs_using adds starts sounds cap (next h e) (goes_on h e w r))
     (runs_needed adds starts sounds cap h r)
-runs_needed adds starts sounds cap _ (begins_again h disk tokens most i r l x) = subst AreNeeded (sym x.gate) tt
+runs_needed adds starts sounds cap _ (begins_again h disk tokens most i r l x) = subst AreNeeded (sym x.leads.gate) tt

@@ -1,6 +1,6 @@
 -- What a client is told by a message: nothing of what is read, or what one command of the machine tells.
 use Rattle.std.proofs.Common.{◌≡◌, ℕ, ◌+◌, ◌≤◌, Bool, true, false, cond, not, ◌||◌, List, [], ◌∷◌, ◌++◌, length, map, ℤ, Option, Some, None, option_map, refl, ap, ◌∙◌, sym, subst, arith, append-nil}
-use Rattle.std.specs.Prelude.{◌==◌, ◌&&◌, filter, flat_map}
+use Rattle.std.specs.Prelude.{◌==◌, filter, flat_map}
 use Rattle.std.specs.List.{AllByRecursion, list_any}
 use Rattle.std.proofs.lemmas.Bool.{false≢true, eqb-true, eqb-false}
 use Rattle.std.proofs.lemmas.List.{length-append}
@@ -9,16 +9,16 @@ use Rattle.serde_json.specs.Data.{Data}
 use Rattle.iv_rows.specs.Cell.{Cell}
 use Rattle.iv_machine.specs.Act.{subscribe, Command, reply, change, Reply, subscribed}
 use Rattle.iv_machine.specs.Changing.{opened_by}
-use Rattle.iv_machine.specs.Machine.{difference, lines_told, step}
+use Rattle.iv_machine.specs.Machine.{difference, lines_told, step, Outcome}
 use Rattle.iv_machine.specs.Sound.{IsSoundState}
-use Rattle.iv_machine.specs.State.{Subscription, shown}
-use Rattle.iv_message.specs.Told.{Told, changed, granted, replied, opened}
+use Rattle.iv_machine.specs.State.{Subscription, shown, State}
+use Rattle.iv_message.specs.Told.{Told, changed, granted, opened}
 use Rattle.iv_clients.specs.Bounds.{most_subs}
 use Rattle.iv_clients.specs.Clients.{Client, Slots, Sub, at_client, client_at, following, own_line, own_lines, staying, telling, told, told_one}
 use Rattle.iv_clients.specs.Feeds.{Feed, ends_in}
-use Rattle.iv_clients.specs.Journal.{Entry, is_shared, shape_for}
+use Rattle.iv_clients.specs.Journal.{Entry, is_shared, shape_for, Request, requests_in}
 use Rattle.iv_clients.proofs.Slots.{at_every, at_other, at_same}
-use Rattle.iv_gate.specs.Gate.{Gate, columns_in, entered, feed_begun, in_session, is_accepted, next_own, ran, reply_in, reply_to, requests, tells, told_of, entries_of}
+use Rattle.iv_gate.specs.Gate.{Gate, columns_in, entered, feed_begun, in_session, is_accepted, next_own, ran, reply_in, reply_to, done_in, told_of, entries_of, granted_by, replies_to, reply_told}
 use Rattle.iv_gate.proofs.Calm.{no_lines, last_step}
 use Rattle.iv_gate.proofs.Growing.{assoc}
 use Rattle.iv_gate.proofs.Opening.{above_given, feed_given}
@@ -27,9 +27,11 @@ use Rattle.iv_gate.proofs.Sound.{IsFollowing, IsSoundClient, IsSoundGate, Seer, 
 use Rattle.iv_gate.proofs.Still.{subscribed_lines}
 use Rattle.iv_gate.proofs.Summing.{differs_back, same_self}
 use Rattle.iv_gate.proofs.Walking.{Later}
-use Rattle.iv_gate.proofs.Doing.{AreCalm, HasAnswered, HasRead, IsDone, IsSaid, answers, asks, opens, fewer_left, is_news, less_one, told_more}
+use Rattle.iv_gate.proofs.Doing.{AreCalm, HasAnswered, HasRead, IsDone, IsSaid, answers, asks, opens, fewer_left, is_news, less_one, told_more, calm_reply, unmade_reply}
 use Rattle.iv_gate.specs.Laws.{is_made}
 use Rattle.iv_gate.proofs.Shaping.{all_made, filter_whole}
+use Rattle.iv_once.specs.Names.{Ask}
+use Rattle.iv_access.specs.Rights.{Name}
 
 -- ---- what one client is told by it
 
@@ -39,22 +41,31 @@ pub record IsCalm (c d : Client) : Type 0 where
   pub calm : AreCalm more
   pub unmade : filter is_made more ≡ []
 
--- the lines of one command, which changes what is shared, and behind them what it makes of the shape
+-- what one outcome of the machine tells, which changes what is shared, with what is granted by it; and behind that what entries make of the shape
+pub record IsToldOutcome (g h : Gate) (o : Outcome) (grants : List Told) (added : List Entry) (c d : Client) : Type 0 where
+  pub machine : h.machine ≡ o.state
+  pub entries : h.entries ≡ g.entries ++ added
+  pub front : List Told
+  pub back : List Told
+  pub told : told d ≡ told c ++ (front ++ ((own_lines g.feeds o.lines c.subs ++ grants) ++ back))
+  pub calm : AreCalm front × AreCalm back
+  pub unmade : filter is_made front ≡ []
+  pub shape : filter is_made back ≡ shape_for c.role added
+  pub subs : d.subs ≡ filter (λ s. not (ends_in o.lines s.feed)) c.subs
+
+-- what a command grants
+abbrev pub grants_of : State → Command → Name → List Told
+grants_of s k role = let o = step s k in cond (is_accepted (reply_in o.lines)) (map granted (granted_by o.state.frame k.act role)) []
+
+-- of a command
 pub record IsToldOf (g h : Gate) (c d : Client) : Type 0 where
   pub command : Command
   pub shared : is_shared command.act ≡ true
   pub said : IsSaid command.act
-  pub machine : h.machine ≡ (step g.machine command).state
-  pub entry : Entry
-  pub asks : entry.act ≡ command.act
-  pub entries : h.entries ≡ g.entries ++ cond (is_accepted (reply_in (step g.machine command).lines)) (entry ∷ []) []
-  pub front : List Told
-  pub back : List Told
-  pub told : told d ≡ told c ++ (front ++ (told_of g command.act (step g.machine command) c ++ back))
-  pub calm : AreCalm front × AreCalm back
-  pub unmade : filter is_made front ≡ []
-  pub shape : filter is_made back ≡ shape_for c.role (cond (is_accepted (reply_in (step g.machine command).lines)) (entry ∷ []) [])
-  pub subs : d.subs ≡ filter (λ s. not (ends_in (step g.machine command).lines s.feed)) c.subs
+  pub request : Request
+  pub name : Option Ask
+  pub asks : request.act ≡ command.act
+  pub by : IsToldOutcome g h (step g.machine command) (grants_of g.machine command c.role) (entries_of request name (reply_to g command)) c d
 
 -- the contents of what it reads by its next number
 pub record IsToldContents (c d : Client) : Type 0 where
@@ -70,9 +81,9 @@ pub record IsToldContents (c d : Client) : Type 0 where
   pub some : difference before after ≡ [] → ⊥
 
 pub data Hears (g h : Gate) (c d : Client) : Type 0 where
-  quietly : IsCalm c d → h.entries ≡ g.entries → Hears g h c d
+  quietly : IsCalm c d → requests_in h.entries ≡ requests_in g.entries → Hears g h c d
   by_command : IsToldOf g h c d → Hears g h c d
-  by_contents : IsToldContents c d → h.entries ≡ g.entries → Hears g h c d
+  by_contents : IsToldContents c d → requests_in h.entries ≡ requests_in g.entries → Hears g h c d
 
 abbrev is_filled : {X : Type 0} → List X → Bool
 is_filled [] = false
@@ -196,7 +207,7 @@ module _ (g : Gate) (m : ℕ) (a0 : Client) (h : Gate) (r : HasRead g m a0 h) wh
           ∙ (assoc (told x) (text ∷ []) (news_of (x.given + 1) rows) ∙ ap (λ z. told x ++ (text ∷ news_of (x.given + 1) z)) e)))
 
       by : (o : List (List Cell × ℤ)) → rows ≡ o → Hears g h x now
-      by [] e = quietly (record { more = text ∷ []; told = told_now [] e; calm = (refl, tt); unmade = refl }) (r.behind.entries ∙ r.entries)
+      by [] e = quietly (record { more = text ∷ []; told = told_now [] e; calm = (refl, tt); unmade = refl }) (ap requests_in (r.behind.entries ∙ r.entries))
       by (p ∷ ps) e = by_contents (record {
         before = shown i.machine t;
         after = shown (step i.machine k).state t;
@@ -210,14 +221,14 @@ module _ (g : Gate) (m : ℕ) (a0 : Client) (h : Gate) (r : HasRead g m a0 h) wh
         follows = r.behind.owns (x.given + 1) (hears (opening x))
             ∙ (ap (list_any (λ (s : Sub). (x.given + 1) == s.own)) (hears_subs (opening x))
             ∙ (any_more (λ (s : Sub). (x.given + 1) == s.own) x.subs (record { own = x.given + 1; feed = t } ∷ []) ∙ found_last (list_any (λ (s : Sub). (x.given + 1) == s.own) x.subs)));
-      }) (r.behind.entries ∙ r.entries)
+      }) (ap requests_in (r.behind.entries ∙ r.entries))
         where
           found_last : (d : Bool) → (d || (((x.given + 1) == (x.given + 1)) || false)) ≡ true
           found_last true = refl
           found_last false = ap (λ z. z || false) (same_self (x.given + 1))
 
   other : IsSoundGate g → (x : Client) → IsSoundClient g.machine g.feeds (seer x) → Hears g h x (hears x)
-  other b x a = quietly (nothing x (hears x) (hears_told x ∙ (ap (λ z. told x ++ z) (others_silent h0.feeds rows e0 r.session (subscribed t) x.subs (apart b x a)) ∙ append-nil (told x)))) (r.behind.entries ∙ r.entries)
+  other b x a = quietly (nothing x (hears x) (hears_told x ∙ (ap (λ z. told x ++ z) (others_silent h0.feeds rows e0 r.session (subscribed t) x.subs (apart b x a)) ∙ append-nil (told x)))) (ap requests_in (r.behind.entries ∙ r.entries))
 
   -- who is there behind it
   pub subscribe_there : (P : Client → Client → Type 0) (j : ℕ) (x : Client) → client_at g.clients j ≡ Some x → (m ≡ j → P x (r.behind.change (hears (opening x)))) → ((m ≡ j → ⊥) → P x (hears x))
@@ -268,106 +279,130 @@ module _ (g : Gate) (m : ℕ) (a0 : Client) (h : Gate) (r : HasRead g m a0 h) wh
       omega (arith, many, l, is))
       (λ ne. subst (λ (z : List Sub). length z ≤ most_subs) (sym (hears_subs x)) few)
 
+-- ---- an outcome that all hear
+
+-- the lines, what is granted, and what it makes of the shape, behind what it was told in front
+module _ (g h : Gate) (o : Outcome) (added : List Entry) (machine : h.machine ≡ o.state) (entries : h.entries ≡ g.entries ++ added) (es fs : List Entry) where
+  abbrev pub hears_whole : (Client → List Told) → Client → Client
+  hears_whole grants y = let z = staying o.lines (telling es (own_lines g.feeds o.lines y.subs ++ grants y) y) in telling fs (shape_for z.role added) z
+
+  pub told_whole : (grants : Client → List Told) (front : List Told) (x y : Client) → grants y ≡ grants x → AreCalm front → filter is_made front ≡ [] → told y ≡ told x ++ front → y.subs ≡ x.subs → y.role ≡ x.role
+      → IsToldOutcome g h o (grants x) added x (hears_whole grants y)
+  told_whole grants front x y same c unmade t subs role = record {
+    machine = machine;
+    entries = entries;
+    front = front;
+    back = back;
+    told = ap (λ (v : Seer). v.told) (seer_telling fs back z)
+        ∙ (ap (λ w. w ++ back) lines
+        ∙ (assoc (told x) (front ++ (own_lines g.feeds o.lines x.subs ++ grants x)) back
+        ∙ ap (λ w. told x ++ w) (assoc front (own_lines g.feeds o.lines x.subs ++ grants x) back)));
+    calm = (c, all_made (λ u. is_news u ≡ false) (λ r line. refl) z.role added);
+    unmade = unmade;
+    shape = filter_whole is_made back (all_made (λ u. is_made u ≡ true) (λ r line. refl) z.role added) ∙ ap (λ r. shape_for r added) (z_role ∙ role);
+    subs = ap (λ (v : Seer). v.subs) (seer_telling fs back z)
+        ∙ (ap (λ (v : Seer). filter (λ w. not (ends_in o.lines w.feed)) v.subs) (seer_telling es ts y) ∙ ap (filter (λ w. not (ends_in o.lines w.feed))) subs);
+  }
+    where
+      ts : List Told
+      ts = own_lines g.feeds o.lines y.subs ++ grants y
+
+      z : Client
+      z = staying o.lines (telling es (own_lines g.feeds o.lines y.subs ++ grants y) y)
+
+      back : List Told
+      back = shape_for (staying o.lines (telling es (own_lines g.feeds o.lines y.subs ++ grants y) y)).role added
+
+      z_role : (staying o.lines (telling es (own_lines g.feeds o.lines y.subs ++ grants y) y)).role ≡ y.role
+      z_role = ap (λ (v : Seer). v.role) (seer_telling es ts y)
+
+      lines : told (staying o.lines (telling es (own_lines g.feeds o.lines y.subs ++ grants y) y)) ≡ told x ++ (front ++ (own_lines g.feeds o.lines x.subs ++ grants x))
+      lines =
+          ap (λ (v : Seer). v.told) (seer_telling es ts y)
+          ∙ ((λ i. t i ++ (own_lines g.feeds o.lines (subs i) ++ same i)) ∙ assoc (told x) front (own_lines g.feeds o.lines x.subs ++ grants x))
+
 -- ---- a request
 
-module _ (g : Gate) (m : ℕ) (id : Option Data) (e : Entry) (n : ℕ) (s : is_shared e.act ≡ true) (said : IsSaid e.act) where
+module _ (g : Gate) (m : ℕ) (id : Option Data) (q : Request) (name : Option Ask) (n : ℕ) (s : is_shared q.act ≡ true) (said : IsSaid q.act) where
   abbrev asking : Command
-  asking = in_session n e.act
-
-  abbrev before : Gate
-  before = tells (entered g e (is_accepted (reply_to g (in_session n e.act)))) m (replied id (reply_to g (in_session n e.act)))
-
-  abbrev hears_lines : Client → Client
-  hears_lines x = staying (step g.machine asking).lines (telling before.entries (told_of before asking.act (step g.machine asking) x) x)
+  asking = in_session n q.act
 
   abbrev making : List Entry
-  making = entries_of e (is_accepted (reply_to g (in_session n e.act)))
+  making = entries_of q name (reply_to g (in_session n q.act))
 
-  -- and an administrator the request, if it makes the shape
+  abbrev before : Gate
+  before = replies_to g m id q name (reply_to g (in_session n q.act))
+
+  abbrev text : Told
+  text = reply_told (entered g (entries_of q name (reply_to g (in_session n q.act)))) id name (reply_to g (in_session n q.act))
+
   abbrev hears_all : Client → Client
-  hears_all x = telling before.entries (shape_for (hears_lines x).role making) (hears_lines x)
-
-  command_told : (front : List Told) (x y : Client) → told y ≡ told x ++ front → y.subs ≡ x.subs → y.role ≡ x.role → told (hears_lines y) ≡ told x ++ (front ++ told_of g asking.act (step g.machine asking) x)
-  command_told front x y h subs role =
-      ap (λ (v : Seer). v.told) (seer_telling before.entries (told_of before asking.act (step g.machine asking) y) y)
-      ∙ ((λ i. h i ++ (own_lines g.feeds (step g.machine asking).lines (subs i)
-      ++ cond (is_accepted (reply_in (step g.machine asking).lines)) (map granted (Rattle.iv_gate.specs.Gate.granted_by (step g.machine asking).state.frame asking.act (role i))) []))
-      ∙ assoc (told x) front (told_of g asking.act (step g.machine asking) x))
-
-  lines_role : (y : Client) → (hears_lines y).role ≡ y.role
-  lines_role y = ap (λ (v : Seer). v.role) (seer_telling before.entries (told_of before asking.act (step g.machine asking) y) y)
+  hears_all x = let k = in_session n q.act in let es = g.entries ++ entries_of q name (reply_to g k) in let z = staying (step g.machine k).lines (telling es (told_of g k.act (step g.machine k) x) x) in
+      telling es (shape_for z.role (entries_of q name (reply_to g k))) z
 
   -- by what it was told in front
-  one_hears : (front : List Told) (x y : Client) → AreCalm front → filter is_made front ≡ [] → told y ≡ told x ++ front → y.subs ≡ x.subs → y.role ≡ x.role → Hears g (requests g m id e n) x (hears_all y)
+  one_hears : (front : List Told) (x y : Client) → AreCalm front → filter is_made front ≡ [] → told y ≡ told x ++ front → y.subs ≡ x.subs → y.role ≡ x.role → Hears g (done_in g m id q name n) x (hears_all y)
   one_hears front x y c unmade h subs role = by_command (record {
-    command = in_session n e.act;
+    command = in_session n q.act;
     shared = s;
     said = said;
-    machine = refl;
-    entry = e;
+    request = q;
+    name = name;
     asks = refl;
-    entries = ap (λ b. g.entries ++ cond (b && is_accepted (reply_in (step g.machine asking).lines)) (e ∷ []) []) s;
-    front = front;
-    back = shape_for (hears_lines y).role making;
-    told = ap (λ (v : Seer). v.told) (seer_telling before.entries (shape_for (hears_lines y).role making) (hears_lines y))
-        ∙ (ap (λ z. z ++ shape_for (hears_lines y).role making) (command_told front x y h subs role)
-        ∙ (assoc (told x) (front ++ told_of g asking.act (step g.machine asking) x) (shape_for (hears_lines y).role making)
-        ∙ ap (λ z. told x ++ z) (assoc front (told_of g asking.act (step g.machine asking) x) (shape_for (hears_lines y).role making))));
-    calm = (c, all_made (λ t. is_news t ≡ false) (λ r line. refl) (hears_lines y).role making);
-    unmade = unmade;
-    shape = filter_whole is_made (shape_for (hears_lines y).role making) (all_made (λ t. is_made t ≡ true) (λ r line. refl) (hears_lines y).role making)
-        ∙ ((λ i. shape_for ((lines_role y ∙ role) i) making)
-        ∙ ap (λ b. shape_for x.role (cond (b && is_accepted (reply_in (step g.machine asking).lines)) (e ∷ []) [])) s);
-    subs = ap (λ (v : Seer). v.subs) (seer_telling before.entries (shape_for (hears_lines y).role making) (hears_lines y))
-        ∙ (ap (λ (v : Seer). filter (λ z. not (ends_in (step g.machine asking).lines z.feed)) v.subs) (seer_telling before.entries (told_of before asking.act (step g.machine asking) y) y)
-        ∙ ap (filter (λ z. not (ends_in (step g.machine asking).lines z.feed))) subs);
+    by = told_whole g (done_in g m id q name n) (step g.machine (in_session n q.act)) (entries_of q name (reply_to g (in_session n q.act))) refl refl
+        (g.entries ++ entries_of q name (reply_to g (in_session n q.act))) (g.entries ++ entries_of q name (reply_to g (in_session n q.act)))
+        (λ w. grants_of g.machine (in_session n q.act) w.role) front x y (ap (grants_of g.machine (in_session n q.act)) role) c unmade h subs role;
   })
 
   pub request_there : (P : Client → Client → Type 0) (j : ℕ) (x : Client) → client_at g.clients j ≡ Some x
-      → (m ≡ j → P x (hears_all (told_one before.entries (replied id (reply_to g (in_session n e.act))) x))) → ((m ≡ j → ⊥) → P x (hears_all x))
-      → Later (λ i c d. P c d) (requests g m id e n).clients j x
+      → (m ≡ j → P x (hears_all (told_one (g.entries ++ entries_of q name (reply_to g (in_session n q.act))) text x))) → ((m ≡ j → ⊥) → P x (hears_all x))
+      → Later (λ i c d. P c d) (done_in g m id q name n).clients j x
   request_there P j x t this others = by (m == j) refl
     where
-      text : Told
-      text = replied id (reply_to g (in_session n e.act))
-
       es : List Entry
-      es = before.entries
+      es = g.entries ++ entries_of q name (reply_to g (in_session n q.act))
 
-      heard : (y : Client) → client_at before.clients j ≡ Some y → client_at (requests g m id e n).clients j ≡ Some (hears_all y)
+      hears_lines : Client → Client
+      hears_lines y = staying (step g.machine (in_session n q.act)).lines (telling es (told_of g q.act (step g.machine (in_session n q.act)) y) y)
+
+      heard : (y : Client) → client_at before.clients j ≡ Some y → client_at (done_in g m id q name n).clients j ≡ Some (hears_all y)
       heard y h =
-          at_every (λ c. telling before.entries (shape_for c.role making) c) (ran before asking).clients j
-          ∙ ap (option_map (λ c. telling before.entries (shape_for c.role making) c)) (at_every hears_lines before.clients j ∙ ap (option_map hears_lines) h)
+          at_every (λ c. telling es (shape_for c.role making) c) (ran before asking).clients j
+          ∙ ap (option_map (λ c. telling es (shape_for c.role making) c)) (at_every hears_lines before.clients j ∙ ap (option_map hears_lines) h)
 
-      by : (d : Bool) → (m == j) ≡ d → Later (λ i c y. P c y) (requests g m id e n).clients j x
-      by true q =
-          let same = eqb-true m j q in
+      by : (d : Bool) → (m == j) ≡ d → Later (λ i c y. P c y) (done_in g m id q name n).clients j x
+      by true e =
+          let same = eqb-true m j e in
           let first : client_at before.clients j ≡ Some (told_one es text x) =
           ap (λ i. client_at (at_client i (told_one es text) g.clients) j) same ∙ (at_same j (told_one es text) g.clients ∙ ap (option_map (told_one es text)) t) in
           record { now = hears_all (told_one es text x); there = heard (told_one es text x) first; so = this same }
-      by false q = record {
+      by false e = record {
         now = hears_all x;
-        there = heard x (at_other m j (told_one es text) g.clients (eqb-false m j q) ∙ t);
-        so = others (eqb-false m j q);
+        there = heard x (at_other m j (told_one es text) g.clients (eqb-false m j e) ∙ t);
+        so = others (eqb-false m j e);
       }
 
-  heard_request : (j : ℕ) (x : Client) → client_at g.clients j ≡ Some x → Later (λ i c d. Hears g (requests g m id e n) c d) (requests g m id e n).clients j x
+  heard_request : (j : ℕ) (x : Client) → client_at g.clients j ≡ Some x → Later (λ i c d. Hears g (done_in g m id q name n) c d) (done_in g m id q name n).clients j x
   heard_request j x t =
-      let text = replied id (reply_to g (in_session n e.act)) in
-      request_there (Hears g (requests g m id e n)) j x t (λ same. one_hears (text ∷ []) x (told_one before.entries text x) (refl, tt) refl (told_more before.entries text x) refl refl)
+      let h = entered g (entries_of q name (reply_to g (in_session n q.act))) in let r = reply_to g (in_session n q.act) in
+      request_there (Hears g (done_in g m id q name n)) j x t
+      (λ same. one_hears (text ∷ []) x (told_one (g.entries ++ entries_of q name r) text x) (calm_reply h id name r, tt) (ap (λ b. cond b (text ∷ []) []) (unmade_reply h id name r))
+      (told_more (g.entries ++ entries_of q name r) text x) refl refl)
       (λ ne. one_hears [] x x tt refl (sym (append-nil (told x))) refl refl)
 
   fewer_heard : (x : Client) → length (hears_all x).subs ≤ length x.subs
-  fewer_heard x = subst (λ (z : List Sub). length z ≤ length x.subs)
-      (sym (ap (λ (v : Seer). v.subs) (seer_telling before.entries (shape_for (hears_lines x).role making) (hears_lines x))
-      ∙ ap (λ (v : Seer). filter (λ s. not (ends_in (step g.machine asking).lines s.feed)) v.subs) (seer_telling before.entries (told_of before asking.act (step g.machine asking) x) x)))
-      (fewer_left (λ s. not (ends_in (step g.machine asking).lines s.feed)) x.subs)
+  fewer_heard x =
+      let k = in_session n q.act in let es = g.entries ++ entries_of q name (reply_to g k) in
+      let z = staying (step g.machine k).lines (telling es (told_of g k.act (step g.machine k) x) x) in
+      subst (λ (w : List Sub). length w ≤ length x.subs)
+      (sym (ap (λ (v : Seer). v.subs) (seer_telling es (shape_for z.role (entries_of q name (reply_to g k))) z)
+      ∙ ap (λ (v : Seer). filter (λ s. not (ends_in (step g.machine k).lines s.feed)) v.subs) (seer_telling es (told_of g k.act (step g.machine k) x) x)))
+      (fewer_left (λ s. not (ends_in (step g.machine k).lines s.feed)) x.subs)
 
-  bounded_request : (j : ℕ) (x : Client) → client_at g.clients j ≡ Some x → length x.subs ≤ most_subs → Later (λ i c d. length d.subs ≤ most_subs) (requests g m id e n).clients j x
+  bounded_request : (j : ℕ) (x : Client) → client_at g.clients j ≡ Some x → length x.subs ≤ most_subs → Later (λ i c d. length d.subs ≤ most_subs) (done_in g m id q name n).clients j x
   bounded_request j x t few =
-      let text = replied id (reply_to g (in_session n e.act)) in
       request_there (λ c d. length d.subs ≤ most_subs) j x t
-      (λ same. let l = fewer_heard (told_one before.entries text x) in omega (arith, l, few)) (λ ne. let l = fewer_heard x in omega (arith, l, few))
+      (λ same. let l = fewer_heard (told_one (g.entries ++ entries_of q name (reply_to g (in_session n q.act))) text x) in omega (arith, l, few)) (λ ne. let l = fewer_heard x in omega (arith, l, few))
 
 -- ---- any message
 
@@ -390,8 +425,8 @@ heard_answer g m h a j x t = by (m == j) refl
 
 pub heard_done : (g : Gate) (m : ℕ) (a : Client) (h : Gate) → IsSoundGate g → IsDone g m a h → (j : ℕ) (x : Client) → client_at g.clients j ≡ Some x → x.dropped ≡ false → Later (λ n c d. Hears g h c d) h.clients j x
 heard_done g m c h b (answers a) j x t live = heard_answer g m h a j x t
-heard_done g m c h b (asks id e n s said same) j x t live =
-    subst (λ i. Later (λ n y d. Hears g i y d) i.clients j x) (sym same) (heard_request g m id e n s said j x t)
+heard_done g m c h b (asks id q name n s said same) j x t live =
+    subst (λ i. Later (λ n y d. Hears g i y d) i.clients j x) (sym same) (heard_request g m id q name n s said j x t)
 heard_done g m c h b (opens r) j x t live = heard_subscribe g m c h r b j x t live
 
 -- ---- how many it follows
@@ -410,14 +445,14 @@ done_bounded g m a h b (answers r) j x t asker few = by (m == j) refl
           so = omega (arith, l, few);
         }
     by false q = record { now = x; there = ap (λ z. client_at z j) r.clients ∙ (at_other m j r.change g.clients (eqb-false m j q) ∙ t); so = few }
-done_bounded g m a h b (asks id e n s said same) j x t asker few =
-    subst (λ i. Later (λ n c d. length d.subs ≤ most_subs) i.clients j x) (sym same) (bounded_request g m id e n s said j x t few)
+done_bounded g m a h b (asks id q name n s said same) j x t asker few =
+    subst (λ i. Later (λ n c d. length d.subs ≤ most_subs) i.clients j x) (sym same) (bounded_request g m id q name n s said j x t few)
 done_bounded g m a h b (opens r) j x t asker few = bounded_subscribe g m a h r j x t asker few
 
 -- ---- numbers of the machine's subscriptions
 
 pub done_last : (g : Gate) (m : ℕ) (a : Client) (h : Gate) → IsDone g m a h → h.machine.frame.last ≤ 1 + g.machine.frame.last
 done_last g m a h (answers r) = let l = r.last in omega (arith, l)
-done_last g m a h (asks id e n s said same) = subst (λ (i : Gate). i.machine.frame.last ≤ 1 + g.machine.frame.last) (sym same) (last_step g.machine n e.act)
+done_last g m a h (asks id q name n s said same) = subst (λ (i : Gate). i.machine.frame.last ≤ 1 + g.machine.frame.last) (sym same) (last_step g.machine n q.act)
 done_last g m a h (opens r) =
     let l = last_step r.first.machine r.session (subscribe r.rel) in let first = r.last in let behind = r.behind.last in omega (arith, l, first, behind)

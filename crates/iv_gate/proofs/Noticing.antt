@@ -1,66 +1,71 @@
 -- What a client is told by an event: nothing of what is read, or what one command of the machine tells.
 use Rattle.std.proofs.Common.{◌≡◌, ℕ, ◌+◌, ◌≤◌, Bool, true, false, cond, ◌||◌, List, [], ◌∷◌, ◌++◌, length, drop, map, set, Option, Some, None, option_map, refl, ap, ◌∙◌, sym, subst, append-nil}
-use Rattle.std.specs.Prelude.{◌==◌, filter, flat_map}
+use Rattle.std.specs.Prelude.{◌==◌, filter, flat_map, is_some}
 use Rattle.std.specs.List.{list_any}
 use Rattle.std.proofs.lemmas.Bool.{false≢true, eqb-true, eqb-false}
 use Rattle.std.proofs.lemmas.List.Concat.{flat_map-append}
-use Rattle.sha2.specs.Sha256.{sha256}
 use Rattle.iv_rows.specs.Options.{if_some}
-use Rattle.iv_access.specs.Rights.{Name}
-use Rattle.iv_machine.specs.Machine.{difference, step}
+use Rattle.iv_machine.specs.Machine.{difference, step, Outcome}
 use Rattle.iv_machine.specs.Sound.{IsSoundState}
-use Rattle.iv_message.specs.Told.{Told, alive, changed, settled}
-use Rattle.iv_clients.specs.Clients.{Client, Shown, Slots, Sub, answered, at_all, at_client, beating, checked, client_at, dropping, fresh, handing, is_slow, may_say, opens, released, saying, settling, told, told_one}
+use Rattle.iv_message.specs.Told.{Told, alive, changed, settled, granted}
+use Rattle.iv_clients.specs.Clients.{Client, Shown, Slots, Sub, answered, at_all, at_client, beating, checked, client_at, dropping, fresh, handing, is_slow, may_say, opens, released, saying, settling, told, told_one, own_lines, staying, telling}
 use Rattle.iv_clients.specs.Feeds.{is_of_role}
-use Rattle.iv_clients.specs.Journal.{Entry, said_by}
+use Rattle.iv_clients.specs.Journal.{Entry, said_by, requests_in, shape_for}
 use Rattle.iv_clients.specs.Tokens.{Token}
 use Rattle.iv_clients.proofs.Slots.{at_every, at_other, at_same, not_free, one_some, set_other, some_is_none}
-use Rattle.iv_gate.specs.Events.{Event, presented, message, gone, known, ticked, synced, handed, failed, happens, next}
-use Rattle.iv_gate.specs.Gate.{Gate, all_rested, all_swept, done_for, hears, role_for, said, settles, told_of, with_session}
+use Rattle.iv_gate.specs.Events.{Event, presented, message, gone, known, ticked, synced, handed, failed, happens, next, arrived, forgave}
+use Rattle.iv_gate.specs.Gate.{Gate, all_rested, all_swept, done_for, hears, token_for, said, settles, with_session, at_text, entries_of, reply_to}
 use Rattle.iv_gate.specs.Replies.{told_by}
 use Rattle.iv_gate.proofs.Calm.{all_rested_clients, all_swept_clients, sound_kit, with_clients}
 use Rattle.iv_gate.proofs.Growing.{Grown, assoc, drop_front, grows}
 use Rattle.iv_gate.proofs.Doing.{all_done, both_calm, told_more}
-use Rattle.iv_gate.proofs.News.{Hears, quietly, by_command, by_contents, IsCalm, heard_done, nothing, one_calm}
+use Rattle.iv_gate.proofs.News.{Hears, quietly, by_command, by_contents, IsCalm, heard_done, nothing, one_calm, IsToldOutcome, grants_of, told_whole}
 use Rattle.iv_gate.proofs.Running.{client_said, one_sound}
 use Rattle.iv_gate.proofs.Serving.{told_answered}
 use Rattle.iv_gate.proofs.Signs.{Sign}
 use Rattle.iv_gate.proofs.Sitting.{at_all_swept}
 use Rattle.iv_gate.proofs.Sound.{IsSoundGate, Sounds, seer}
-use Rattle.iv_gate.proofs.Touching.{alive as is_alive, came_as, came_sign, leaves_at, opens_role, rests, went_sign}
+use Rattle.iv_gate.proofs.Touching.{alive as is_alive, came_as, came_sign, leaves_at, opens_token, rests, went_sign}
 use Rattle.iv_gate.proofs.Walking.{Later, to_done, to_settles, to_then}
 use Rattle.iv_gate.specs.Laws.{is_made}
 use Rattle.std.proofs.lemmas.List.Elements.{filter-append}
+use Rattle.iv_gate.specs.Arriving.{Step, entry_of, fact_of, fault_of, is_behind, landed, newly, takes}
+use Rattle.iv_steps.specs.Steps.{stepped}
 
 -- ---- one step and the next
 
 -- calm text behind it
+calm_behind : (g h i : Gate) (o : Outcome) (grants : List Told) (added : List Entry) (c z y : Client) → i.machine ≡ h.machine → i.entries ≡ h.entries → IsCalm z y → y.subs ≡ z.subs
+    → IsToldOutcome g h o grants added c z → IsToldOutcome g i o grants added c y
+calm_behind g h i o grants added c z y machine entries m subs a = record {
+  machine = machine ∙ a.machine;
+  entries = entries ∙ a.entries;
+  front = a.front;
+  back = a.back ++ m.more;
+  told = m.told ∙ (ap (λ x. x ++ m.more) a.told ∙ (assoc (told c) (a.front ++ ((own_lines g.feeds o.lines c.subs ++ grants) ++ a.back)) m.more
+      ∙ ap (λ x. told c ++ x) (assoc a.front ((own_lines g.feeds o.lines c.subs ++ grants) ++ a.back) m.more ∙ ap (λ x. a.front ++ x) (assoc (own_lines g.feeds o.lines c.subs ++ grants) a.back m.more))));
+  calm = (a.calm.0, both_calm a.back m.more a.calm.1 m.calm);
+  unmade = a.unmade;
+  shape = filter-append is_made a.back m.more ∙ ((λ i. a.shape i ++ m.unmade i) ∙ append-nil _);
+  subs = subs ∙ a.subs;
+}
+
 after_calm : (g h i : Gate) (c z y : Client) → i.machine ≡ h.machine → i.entries ≡ h.entries → IsCalm z y → y.subs ≡ z.subs → y.given ≡ z.given → Hears g h c z → Hears g i c y
 after_calm g h i c z y machine entries m subs given (quietly a n) = quietly (record {
   more = a.more ++ m.more;
   told = m.told ∙ (ap (λ x. x ++ m.more) a.told ∙ assoc (told c) a.more m.more);
   calm = both_calm a.more m.more a.calm m.calm;
   unmade = filter-append is_made a.more m.more ∙ (λ i. a.unmade i ++ m.unmade i);
-}) (entries ∙ n)
-after_calm g h i c z y machine entries m subs given (by_command a) =
-    let news = told_of g a.command.act (step g.machine a.command) c in
-    by_command (record {
-      command = a.command;
-      shared = a.shared;
-      said = a.said;
-      machine = machine ∙ a.machine;
-      entry = a.entry;
-      asks = a.asks;
-      entries = entries ∙ a.entries;
-      front = a.front;
-      back = a.back ++ m.more;
-      told = m.told ∙ (ap (λ x. x ++ m.more) a.told ∙ (assoc (told c) (a.front ++ (news ++ a.back)) m.more
-          ∙ ap (λ x. told c ++ x) (assoc a.front (news ++ a.back) m.more ∙ ap (λ x. a.front ++ x) (assoc news a.back m.more))));
-      calm = (a.calm.0, both_calm a.back m.more a.calm.1 m.calm);
-      unmade = a.unmade;
-      shape = filter-append is_made a.back m.more ∙ ((λ i. a.shape i ++ m.unmade i) ∙ append-nil _);
-      subs = subs ∙ a.subs;
-    })
+}) (ap requests_in entries ∙ n)
+after_calm g h i c z y machine entries m subs given (by_command a) = by_command (record {
+  command = a.command;
+  shared = a.shared;
+  said = a.said;
+  request = a.request;
+  name = a.name;
+  asks = a.asks;
+  by = calm_behind g h i (step g.machine a.command) (grants_of g.machine a.command c.role) (entries_of a.request a.name (reply_to g a.command)) c z y machine entries m subs a.by;
+})
 after_calm g h i c z y machine entries m subs given (by_contents a n) =
     let news = changed (c.given + 1) (difference a.before a.after) in
     by_contents (record {
@@ -74,7 +79,7 @@ after_calm g h i c z y machine entries m subs given (by_contents a n) =
       given = subst (λ x. c.given + 1 ≤ x) (sym given) a.given;
       follows = ap (list_any (λ (x : Sub). (c.given + 1) == x.own)) subs ∙ a.follows;
       some = a.some;
-    }) (entries ∙ n)
+    }) (ap requests_in entries ∙ n)
 
 settled_calm : (es : List Entry) (c : Client) → IsCalm c (settling es c)
 settled_calm es c = by c.owed
@@ -97,17 +102,10 @@ said_hears g slots h text c z (by_command a) = by_command (record {
   command = a.command;
   shared = a.shared;
   said = a.said;
-  machine = a.machine;
-  entry = a.entry;
+  request = a.request;
+  name = a.name;
   asks = a.asks;
-  entries = a.entries;
-  front = a.front;
-  back = a.back;
-  told = a.told;
-  calm = a.calm;
-  unmade = a.unmade;
-  shape = a.shape;
-  subs = a.subs;
+  by = record { machine = a.by.machine; entries = a.by.entries; front = a.by.front; back = a.by.back; told = a.by.told; calm = a.by.calm; unmade = a.by.unmade; shape = a.by.shape; subs = a.by.subs };
 })
 said_hears g slots h text c z (by_contents a n) = by_contents (record {
   before = a.before;
@@ -128,17 +126,10 @@ other_hears g slots h c z (by_command a) = by_command (record {
   command = a.command;
   shared = a.shared;
   said = a.said;
-  machine = a.machine;
-  entry = a.entry;
+  request = a.request;
+  name = a.name;
   asks = a.asks;
-  entries = a.entries;
-  front = a.front;
-  back = a.back;
-  told = a.told;
-  calm = a.calm;
-  unmade = a.unmade;
-  shape = a.shape;
-  subs = a.subs;
+  by = record { machine = a.by.machine; entries = a.by.entries; front = a.by.front; back = a.by.back; told = a.by.told; calm = a.by.calm; unmade = a.by.unmade; shape = a.by.shape; subs = a.by.subs };
 })
 other_hears g slots h c z (by_contents a n) = by_contents a n
 
@@ -201,7 +192,7 @@ module _ (sounds : Sounds) (g : Gate) (b : IsSoundGate g) (m : ℕ) (text : List
           (after_calm g (did a) (hears g m a text) c p.now (settling es p.now) refl refl (settled_calm es p.now) rest.0 rest.1 (other_hears g asked.clients (did a) c p.now p.so))
 
 same_hears : (g h : Gate) (slots : Slots) (j : ℕ) (c d : Client) → h.entries ≡ g.entries → client_at slots j ≡ Some c → client_at slots j ≡ Some d → Hears g h c d
-same_hears g h slots j c d n s k = quietly (nothing c d (ap told (one_some d c (sym k ∙ s)))) n
+same_hears g h slots j c d n s k = quietly (nothing c d (ap told (one_some d c (sym k ∙ s)))) (ap requests_in n)
 
 same_slot : (slots : Slots) (j : ℕ) (c d : Client) → client_at slots j ≡ Some c → client_at slots j ≡ Some d → c ≡ d
 same_slot slots j c d s k = one_some c d (sym s ∙ k)
@@ -223,18 +214,18 @@ said_all sounds g b m text j c d t live k = by (client_at g.clients m) refl k
 
 -- where another comes, it stays as it is
 pub came_stays : (g : Gate) → IsSoundGate g → (m : ℕ) (token : List ℕ) (j : ℕ) (c d : Client) → client_at g.clients j ≡ Some c → client_at (happens g (presented m token)).clients j ≡ Some d → c ≡ d
-came_stays g b m token j c d t k = by (role_for g m token) refl k
+came_stays g b m token j c d t k = by (token_for g m token) refl k
   where
-    by : (o : Option Name) → role_for g m token ≡ o → client_at (if_some o g (came_as g m token)).clients j ≡ Some d → c ≡ d
+    by : (o : Option Token) → token_for g m token ≡ o → client_at (if_some o g (came_as g m)).clients j ≡ Some d → c ≡ d
     by None e x = same_slot g.clients j c d t x
-    by (Some role) e x =
-        let i = with_session g role in
-        let there : client_at (came_as g m token role).clients j ≡ Some c =
-        set_other m j (Some (fresh i.entries role (sha256 token))) i.clients ne ∙ (ap (λ z. client_at z j) (with_clients g role b.state) ∙ t) in
+    by (Some s) e x =
+        let i = with_session g s.role in
+        let there : client_at (came_as g m s).clients j ≡ Some c =
+        set_other m j (Some (fresh i.entries s (at_text i s))) i.clients ne ∙ (ap (λ z. client_at z j) (with_clients g s.role b.state) ∙ t) in
         one_some c d (sym there ∙ x)
       where
         ne : m ≡ j → ⊥
-        ne one = false≢true (sym (not_free m c g.clients (ap (client_at g.clients) one ∙ t)) ∙ (opens_role g m token role e).free)
+        ne one = false≢true (sym (not_free m c g.clients (ap (client_at g.clients) one ∙ t)) ∙ (opens_token g m token s e).free)
 
 -- where another goes, it stays as it is, or is told that this is all
 pub went_turns : Sounds → (g : Gate) → IsSoundGate g → (m j : ℕ) (c d : Client) → client_at g.clients j ≡ Some c → client_at (happens g (gone m)).clients j ≡ Some d
@@ -299,39 +290,116 @@ handed_all g h m j c d n t k = by (m == j) refl
   where
     by : (b : Bool) → (m == j) ≡ b → Hears g h c d
     by true e = quietly (nothing c d (told_handing c d (one_some (handing c) d
-        (ap (option_map handing) (sym t) ∙ (sym (at_same j handing g.clients) ∙ (ap (λ i. client_at (at_client i handing g.clients) j) (sym (eqb-true m j e)) ∙ k)))))) n
+        (ap (option_map handing) (sym t) ∙ (sym (at_same j handing g.clients) ∙ (ap (λ i. client_at (at_client i handing g.clients) j) (sym (eqb-true m j e)) ∙ k)))))) (ap requests_in n)
     by false e = same_hears g h g.clients j c d n t (sym (at_other m j handing g.clients (eqb-false m j e)) ∙ k)
 
 -- ---- each event
 
-came_entries : (g : Gate) (m : ℕ) (token : List ℕ) → (happens g (presented m token)).entries ≡ g.entries
-came_entries g m token = by (role_for g m token)
-  where
-    by : (o : Option Name) → (if_some o g (came_as g m token)).entries ≡ g.entries
-    by None = refl
-    by (Some role) = ap (λ (x : Sign). x.entries) (came_sign g m token role)
+abbrev is_step : Event → Bool
+is_step (arrived s) = true
+is_step _ = false
 
-happens_all : Sounds → (g : Gate) (e : Event) → IsSoundGate g → (j : ℕ) (c d : Client) → client_at g.clients j ≡ Some c → c.dropped ≡ false → client_at (happens g e).clients j ≡ Some d → d.dropped ≡ false
+apart_step : (e : Event) (s : Step) → is_step e ≡ false → e ≡ arrived s → ⊥
+apart_step e s n h = false≢true (sym n ∙ ap is_step h)
+
+came_entries : (g : Gate) (m : ℕ) (token : List ℕ) → (happens g (presented m token)).entries ≡ g.entries
+came_entries g m token = by (token_for g m token)
+  where
+    by : (o : Option Token) → (if_some o g (came_as g m)).entries ≡ g.entries
+    by None = refl
+    by (Some t) = ap (λ (x : Sign). x.entries) (came_sign g m t)
+
+happens_all : Sounds → (g : Gate) (e : Event) → ((s : Step) → e ≡ arrived s → ⊥) → IsSoundGate g → (j : ℕ) (c d : Client) → client_at g.clients j ≡ Some c → c.dropped ≡ false → client_at (happens g e).clients j ≡ Some d → d.dropped ≡ false
     → Hears g (happens g e) c d
-happens_all sounds g (presented m token) b j c d t live k s =
-    let h = happens g (presented m token) in let same = came_entries g m token in quietly (nothing c d (ap told (sym (came_stays g b m token j c d t k)))) same
-happens_all sounds g (message m text) b j c d t live k s = said_all sounds g b m text j c d t live k
-happens_all sounds g (gone m) b j c d t live k s =
-    let h = happens g (gone m) in let same = ap (λ (x : Sign). x.entries) (went_sign g m) in went_turns sounds g b m j c d t k (Hears g h c d) (λ e. quietly (nothing c d (ap told (sym e))) same) (λ es e. subst (Hears g h c) e (quietly (settled_calm es c) same))
-happens_all sounds g (known tokens) b j c d t live k s = quietly (nothing c d (told_checked tokens c d (every_is (checked tokens) g.clients j c d t k) s)) refl
-happens_all sounds g ticked b j c d t live k s =
+happens_all sounds g (presented m token) o b j c d t live k s =
+    let h = happens g (presented m token) in let same = came_entries g m token in quietly (nothing c d (ap told (sym (came_stays g b m token j c d t k)))) (ap requests_in same)
+happens_all sounds g (message m text) o b j c d t live k s = said_all sounds g b m text j c d t live k
+happens_all sounds g (gone m) o b j c d t live k s =
+    let h = happens g (gone m) in let same = ap (λ (x : Sign). requests_in x.entries) (went_sign g m) in
+    went_turns sounds g b m j c d t k (Hears g h c d) (λ e. quietly (nothing c d (ap told (sym e))) same) (λ es e. subst (Hears g h c) e (quietly (settled_calm es c) same))
+happens_all sounds g (known tokens) o b j c d t live k s = quietly (nothing c d (told_checked tokens c d (every_is (checked tokens) g.clients j c d t k) s)) refl
+happens_all sounds g ticked o b j c d t live k s =
     subst (Hears g (happens g ticked) c) (every_is (beating g.entries) g.clients j c d t k) (quietly (record { more = alive ∷ []; told = told_more g.entries alive c; calm = one_calm alive refl; unmade = refl }) refl)
-happens_all sounds g synced b j c d t live k s = quietly (nothing c d (told_released c d (every_is released g.clients j c d t k) s)) refl
-happens_all sounds g (handed m) b j c d t live k s = handed_all g (happens g (handed m)) m j c d refl t k
-happens_all sounds g failed b j c d t live k s = same_hears g (happens g failed) g.clients j c d refl t k
+happens_all sounds g synced o b j c d t live k s = quietly (nothing c d (told_released c d (every_is released g.clients j c d t k) s)) refl
+happens_all sounds g (handed m) o b j c d t live k s = handed_all g (happens g (handed m)) m j c d refl t k
+happens_all sounds g (arrived x) o b j c d t live k s = absurd (o x refl)
+happens_all sounds g forgave o b j c d t live k s = same_hears g (happens g forgave) g.clients j c d refl t k
+happens_all sounds g failed o b j c d t live k s = same_hears g (happens g failed) g.clients j c d refl t k
+
+-- ---- a step
+
+-- what it leads to is told
+pub record IsToldStep (g h : Gate) (s : Step) (c d : Client) : Type 0 where
+  pub outcome : Outcome
+  pub leads : stepped (map fact_of s.requests) g.machine ≡ Some outcome
+  pub by : IsToldOutcome g h outcome (map granted (newly g.machine.frame outcome.state.frame c.role)) (entry_of s ∷ []) c d
+
+landed_all : (g : Gate) (e : Entry) (o : Outcome) (j : ℕ) (c d : Client) → client_at g.clients j ≡ Some c → client_at (landed g e o).clients j ≡ Some d
+    → IsToldOutcome g (landed g e o) o (map granted (newly g.machine.frame o.state.frame c.role)) (e ∷ []) c d
+landed_all g e o j c d t k =
+    let es = g.entries ++ e ∷ [] in
+    let grants : Client → List Told = λ (x : Client). map granted (newly g.machine.frame o.state.frame x.role) in
+    let first : Client → Client = λ (x : Client). staying o.lines (telling es (own_lines g.feeds o.lines x.subs ++ grants x) x) in
+    let shapes : Client → Client = λ (x : Client). telling es (shape_for x.role (e ∷ [])) x in
+    let there : client_at (landed g e o).clients j ≡ Some (settling es (shapes (first c))) =
+    at_every (settling es) (at_all shapes (at_all first g.clients)) j ∙ ap (option_map (settling es)) (at_every shapes (at_all first g.clients) j ∙ ap (option_map shapes) (at_every first g.clients j ∙ ap (option_map first) t)) in
+    subst (IsToldOutcome g (landed g e o) o (grants c) (e ∷ []) c) (one_some (settling es (shapes (first c))) d (sym there ∙ k))
+    (calm_behind g (landed g e o) (landed g e o) o (grants c) (e ∷ []) c (shapes (first c)) (settling es (shapes (first c))) refl refl (settled_calm es (shapes (first c))) (settled_same es (shapes (first c))).0
+    (told_whole g (landed g e o) o (e ∷ []) refl refl es es grants [] c c refl tt refl (sym (append-nil (told c))) refl refl))
+
+-- by an event that is no step, by a step, or where nothing happens
+pub data HearsBy (g : Gate) (e : Event) (c d : Client) : Type 0 where
+  heard : ((s : Step) → e ≡ arrived s → ⊥) → Hears g (next g e) c d → HearsBy g e c d
+  untaken : (next g e).machine ≡ g.machine → (next g e).entries ≡ g.entries → c ≡ d → HearsBy g e c d
+  taken : (s : Step) → e ≡ arrived s → IsToldStep g (next g e) s c d → HearsBy g e c d
+
+data TakesBy (g : Gate) (s : Step) (h : Gate) (c d : Client) : Type 0 where
+  passes : h.machine ≡ g.machine → h.entries ≡ g.entries → c ≡ d → TakesBy g s h c d
+  lands : IsToldStep g h s c d → TakesBy g s h c d
+
+takes_all : (g : Gate) (s : Step) (j : ℕ) (c d : Client) → client_at g.clients j ≡ Some c → client_at (takes g s).clients j ≡ Some d → TakesBy g s (takes g s) c d
+takes_all g s j c d t k = by (is_some (fault_of g s)) (is_behind g s) (stepped (map fact_of s.requests) g.machine) refl k
+  where
+    by : (x y : Bool) (o : Option Outcome) → stepped (map fact_of s.requests) g.machine ≡ o → let h = cond x (record g { dead = true }) (cond y g (if_some o g (landed g (entry_of s)))) in
+        client_at h.clients j ≡ Some d → TakesBy g s h c d
+    by true y o e i = passes refl refl (same_slot g.clients j c d t i)
+    by false true o e i = passes refl refl (same_slot g.clients j c d t i)
+    by false false None e i = passes refl refl (same_slot g.clients j c d t i)
+    by false false (Some o) e i = lands (record { outcome = o; leads = e; by = landed_all g (entry_of s) o j c d t i })
 
 pub next_all : Sounds → (g : Gate) (e : Event) → IsSoundGate g → (j : ℕ) (c d : Client) → client_at g.clients j ≡ Some c → c.dropped ≡ false → client_at (next g e).clients j ≡ Some d → d.dropped ≡ false
-    → Hears g (next g e) c d
+    → HearsBy g e c d
 next_all sounds g e b j c d t live k s = by g.dead refl
   where
-    by : (q : Bool) → g.dead ≡ q → Hears g (next g e) c d
-    by true q = same_hears g (next g e) g.clients j c d (ap (λ (x : Gate). x.entries) (rests g e q)) t (ap (λ (x : Gate). client_at x.clients j) (sym (rests g e q)) ∙ k)
-    by false q = subst (λ x. Hears g x c d) (sym (is_alive g e q)) (happens_all sounds g e b j c d t live (ap (λ (x : Gate). client_at x.clients j) (sym (is_alive g e q)) ∙ k) s)
+    awake : g.dead ≡ false → client_at (happens g e).clients j ≡ Some d
+    awake q = ap (λ (x : Gate). client_at x.clients j) (sym (is_alive g e q)) ∙ k
+
+    other : g.dead ≡ false → ((x : Step) → e ≡ arrived x → ⊥) → HearsBy g e c d
+    other q o = heard o (subst (λ x. Hears g x c d) (sym (is_alive g e q)) (happens_all sounds g e o b j c d t live (awake q) s))
+
+    step_by : g.dead ≡ false → (x : Step) → e ≡ arrived x → (h : Gate) → next g e ≡ h → TakesBy g x h c d → HearsBy g e c d
+    step_by q x f h same (passes m n z) = untaken (ap (λ (i : Gate). i.machine) same ∙ m) (ap (λ (i : Gate). i.entries) same ∙ n) z
+    step_by q x f h same (lands a) = taken x f (record { outcome = a.outcome; leads = a.leads; by = subst (λ i. IsToldOutcome g i a.outcome (map granted (newly g.machine.frame a.outcome.state.frame c.role)) (entry_of x ∷ []) c d) (sym same) a.by })
+
+    live_by : g.dead ≡ false → (f : Event) → e ≡ f → HearsBy g e c d
+    live_by q (presented m token) f = other q (λ x i. apart_step (presented m token) x refl (sym f ∙ i))
+    live_by q (message m text) f = other q (λ x i. apart_step (message m text) x refl (sym f ∙ i))
+    live_by q (gone m) f = other q (λ x i. apart_step (gone m) x refl (sym f ∙ i))
+    live_by q (known tokens) f = other q (λ x i. apart_step (known tokens) x refl (sym f ∙ i))
+    live_by q ticked f = other q (λ x i. apart_step ticked x refl (sym f ∙ i))
+    live_by q synced f = other q (λ x i. apart_step synced x refl (sym f ∙ i))
+    live_by q (handed m) f = other q (λ x i. apart_step (handed m) x refl (sym f ∙ i))
+    live_by q (arrived x) f =
+        let same : next g e ≡ takes g x = is_alive g e q ∙ ap (happens g) f in
+        step_by q x f (takes g x) same (takes_all g x j c d t (ap (λ (i : Gate). client_at i.clients j) (sym same) ∙ k))
+    live_by q forgave f = other q (λ x i. apart_step forgave x refl (sym f ∙ i))
+    live_by q failed f = other q (λ x i. apart_step failed x refl (sym f ∙ i))
+
+    by : (q : Bool) → g.dead ≡ q → HearsBy g e c d
+    by true q =
+        let same = rests g e q in
+        untaken (ap (λ (x : Gate). x.machine) same) (ap (λ (x : Gate). x.entries) same) (same_slot g.clients j c d t (ap (λ (x : Gate). client_at x.clients j) (sym same) ∙ k))
+    by false q = live_by q e refl
 
 pub told_now : (c d : Client) (more : List Told) → told d ≡ told c ++ more → told_by c d ≡ more
 told_now c d more e = ap (drop (length (told c))) e ∙ drop_front (told c) more

@@ -7,7 +7,7 @@ use Rattle.std.proofs.lemmas.List.Elements.{filter-append}
 use Rattle.iv_access.specs.Rights.{Name}
 use Rattle.iv_machine.specs.Act.{Act, Line, reply, change, ended}
 use Rattle.iv_machine.specs.Machine.{Outcome}
-use Rattle.iv_message.specs.Told.{Told, welcome, replied, opened, fault, unasked, changed, over, settled, granted, made, alive}
+use Rattle.iv_message.specs.Told.{Told, welcome, replied, opened, fault, unasked, changed, over, settled, granted, made, alive, placed, answered, undecided, denied}
 use Rattle.iv_clients.specs.Clients.{Client, Sub, own_line, own_lines}
 use Rattle.iv_clients.specs.Feeds.{Feed, rel_read}
 use Rattle.iv_gate.specs.Gate.{Gate, granted_by, is_accepted, reply_in, told_of}
@@ -71,11 +71,11 @@ subs_reply : (feeds : List Feed) (l : Line) (xs : List Sub) → replies (flat_ma
 subs_reply feeds l [] = refl
 subs_reply feeds l (x ∷ xs) = none_replied (own_line feeds l x) (flat_map (own_line feeds l) xs) (line_replies feeds l x) (subs_reply feeds l xs)
 
-lines_reply : (feeds : List Feed) (ls : List Line) (xs : List Sub) → replies (own_lines feeds ls xs) ≡ []
+pub lines_reply : (feeds : List Feed) (ls : List Line) (xs : List Sub) → replies (own_lines feeds ls xs) ≡ []
 lines_reply feeds [] xs = refl
 lines_reply feeds (l ∷ ls) xs = none_replied (flat_map (own_line feeds l) xs) (own_lines feeds ls xs) (subs_reply feeds l xs) (lines_reply feeds ls xs)
 
-grants_reply : (names : List Name) → replies (map granted names) ≡ []
+pub grants_reply : (names : List Name) → replies (map granted names) ≡ []
 grants_reply [] = refl
 grants_reply (n ∷ names) = grants_reply names
 
@@ -100,6 +100,10 @@ opens_reply settled h = refl
 opens_reply (granted rel) h = refl
 opens_reply (made role line) h = refl
 opens_reply alive h = refl
+opens_reply (placed at) h = refl
+opens_reply (answered id again at answer) h = refl
+opens_reply (undecided id number) h = refl
+opens_reply (denied id number) h = refl
 
 cons_none : {X : Type 0} (x : X) (xs : List X) → x ∷ xs ≡ [] → ⊥
 cons_none x xs h = cc

@@ -1,6 +1,6 @@
 -- A client is replied once to its own message that is heard.
-use Rattle.std.proofs.Common.{◌≡◌, ℕ, ◌+◌, ◌⊎◌, inl, inr, Bool, true, false, not, cond, ◌||◌, List, [], ◌∷◌, ◌++◌, length, Option, Some, None, is_some, option_map, refl, ap, ◌∙◌, sym, subst}
-use Rattle.std.specs.Prelude.{◌==◌, ◌&&◌, if◌then◌else◌, filter, nat_lt}
+use Rattle.std.proofs.Common.{◌≡◌, ℕ, ◌+◌, ◌⊎◌, inl, inr, Bool, true, false, not, cond, ◌||◌, List, [], ◌∷◌, ◌++◌, length, Option, Some, None, is_some, option_map, refl, ap, ◌∙◌, sym, subst, append-nil}
+use Rattle.std.specs.Prelude.{◌==◌, ◌&&◌, if◌then◌else◌, filter, nat_lt, codes}
 use Rattle.std.proofs.lemmas.Bool.{false≢true, eqb-true}
 use Rattle.serde_json.specs.Data.{Data}
 use Rattle.iv_rows.specs.Columns.{Column}
@@ -8,14 +8,15 @@ use Rattle.iv_rows.specs.Options.{if_some}
 use Rattle.iv_access.specs.Rights.{Name}
 use Rattle.iv_machine.specs.Act.{Act, begin, finish, create_role, create_table, create_view, grant, revoke, grant_role, revoke_role, row_security, create_policy, drop_policy, subscribe, unsubscribe, write, Command, Reply, done, subscribed, refused, no_session, too_many, unknown_subscription, limit}
 use Rattle.iv_machine.specs.Machine.{step}
-use Rattle.iv_message.specs.Message.{Message, no_json, too_long, no_object, no_request, request}
-use Rattle.iv_message.specs.Told.{Told, replied, opened, fault, unasked}
+use Rattle.iv_message.specs.Message.{Message, no_json, too_long, no_object, no_request, request, unknown}
+use Rattle.iv_message.specs.Told.{Told, replied, opened, fault, unasked, undecided}
+use Rattle.iv_message.specs.Told as texts
 use Rattle.iv_clients.specs.Bounds.{most_subs}
 use Rattle.iv_clients.specs.Clients.{Client, Slots, Sub, answered, at_all, at_client, client_at, closing, followed_by, following, is_followed, moved, saying, settling, staying, telling, told, told_one}
 use Rattle.iv_clients.specs.Feeds.{Feed, feed_for, feed_of, is_reading, room_for, seat_of, without_feed}
-use Rattle.iv_clients.specs.Journal.{Entry, line_said, said_by, shape_for}
+use Rattle.iv_clients.specs.Journal.{Entry, said_by, shape_for, Request, claim_said}
 use Rattle.iv_clients.proofs.Slots.{at_every, at_same, one_some}
-use Rattle.iv_gate.specs.Gate.{Gate, acts, begun_for, closes, columns_in, done_for, entered, feed_begun, hears, in_session, is_accepted, joined, joined_by, joins, next_own, ran, reads, reads_first, reply_to, requests, seated, settles, shut, subscribes, swept, tells, told_of, informs, entries_of, has_shape_room}
+use Rattle.iv_gate.specs.Gate.{Gate, acts, begun_for, closes, columns_in, done_for, entered, feed_begun, hears, in_session, joined, joined_by, joins, next_own, ran, reads, reads_first, reply_to, done_in, seated, settles, shut, subscribes, swept, tells, told_of, informs, entries_of, has_shape_room, asked_by, by_verdict, decided_elsewhere, decides, may_have, names_of, place_of, replies_to, reply_told, shares}
 use Rattle.iv_gate.specs.Replies.{is_opened, reading_told, replies, is_reply}
 use Rattle.iv_gate.specs.Seen.{is_end_of}
 use Rattle.iv_gate.proofs.Growing.{Grown, assoc, grows}
@@ -26,6 +27,9 @@ use Rattle.iv_gate.proofs.Sound.{Seer, any_left, seer_one}
 use Rattle.iv_gate.proofs.Summing.{neither, same_self}
 use Rattle.iv_gate.proofs.Walking.{Later, to_done, to_settles, to_then}
 use Rattle.iv_gate.proofs.Shaping.{all_made}
+use Rattle.iv_once.specs.Names.{Ask, verdict, Verdict, carry, again, another, late, foreign, ahead, over}
+use Rattle.iv_clients.specs.Names.{Claim, place_text}
+use Rattle.iv_gate.proofs.Stepping.{Steps, request_of, step_closes, step_reads}
 
 -- ---- its own message
 
@@ -271,22 +275,137 @@ abbrev pub read_reply : Gate → Client → Option Data → Name → Told
 read_reply g c id rel = if nat_lt (length c.subs) most_subs then if_some (feed_for g.feeds c.role rel) (first_reply g c id c.role rel) (λ f. begun_reply g c id f.session f.rel)
     else replied id (refused too_many)
 
-abbrev pub other_reply : Gate → Client → Option Data → Act → Told
-other_reply g c id act = if_some (seat_of g.seats c.role) (replied id (refused no_session)) (λ n. replied id (reply_to g (in_session n act)))
+-- the machine's reply to a request that changes what is shared, or the refusal
+abbrev pub carried_reply : Gate → Request → Reply
+carried_reply g q = if has_shape_room g q.act then if_some (seat_of g.seats q.role) (refused no_session) (λ n. reply_to g (in_session n q.act)) else refused limit
 
-abbrev pub act_reply : Gate → Client → Option Data → Act → Told
-act_reply g c id (begin role) = fault 2
-act_reply g c id finish = fault 2
-act_reply g c id (subscribe rel) = read_reply g c id rel
-act_reply g c id (unsubscribe own) = replied id (if is_some (followed_by c.subs own) then done else refused unknown_subscription)
-act_reply g c id act = other_reply g c id act
+abbrev pub done_reply : Gate → Option Data → Request → Option Ask → Reply → Told
+done_reply g id q name r = reply_told (entered g (entries_of q name r)) id name r
 
-abbrev pub said_reply : Gate → Client → Message → Told
-said_reply g c no_json = fault 1
-said_reply g c too_long = fault 22
-said_reply g c no_object = fault 2
-said_reply g c (no_request id why) = unasked id why
-said_reply g c (request id act) = cond (has_shape_room g act) (act_reply g c id act) (replied id (refused limit))
+abbrev pub decided_reply : Gate → Option Data → Request → Option Ask → Told
+decided_reply g id q name = if is_some g.head.log then decided_elsewhere id name else done_reply g id q name (carried_reply g q)
+
+abbrev pub verdict_reply : Gate → Option Data → Request → Ask → Verdict → Told
+verdict_reply g id q a carry = decided_reply g id q (Some a)
+verdict_reply g id q a (again answer) = texts.answered id true (place_text (place_of g a.holder)) answer
+verdict_reply g id q a another = undecided id 101
+verdict_reply g id q a late = undecided id 102
+verdict_reply g id q a foreign = undecided id 103
+verdict_reply g id q a _ = undecided id 104
+
+abbrev pub shared_reply : Gate → Client → Option Data → Request → Option Claim → Told
+shared_reply g c id q claim = if_some claim (decided_reply g id q None) (λ k. let a = asked_by c q.line k in verdict_reply g id q a (verdict (names_of g) a))
+
+abbrev pub act_reply : Gate → Client → Option Data → List ℕ → Act → Told
+act_reply g c id text (begin role) = fault 2
+act_reply g c id text finish = fault 2
+act_reply g c id text (subscribe rel) = read_reply g c id rel
+act_reply g c id text (unsubscribe own) = replied id (if is_some (followed_by c.subs own) then done else refused unknown_subscription)
+act_reply g c id text act = shared_reply g c id (request_of c text act) (claim_said text)
+
+abbrev pub said_reply : Gate → Client → List ℕ → Message → Told
+said_reply g c text no_json = fault 1
+said_reply g c text too_long = fault 22
+said_reply g c text no_object = fault 2
+said_reply g c text (no_request id why) = unasked id why
+said_reply g c text (request id act) = cond (may_have (claim_said text) act) (act_reply g c id text act) (unasked id (unknown (codes "once")))
+
+-- ---- what it adds to the journal
+
+abbrev pub decided_added : Gate → Request → Option Ask → List Entry
+decided_added g q name = if is_some g.head.log then [] else entries_of q name (carried_reply g q)
+
+abbrev pub verdict_added : Gate → Request → Ask → Verdict → List Entry
+verdict_added g q a carry = decided_added g q (Some a)
+verdict_added g q a _ = []
+
+abbrev pub shared_added : Gate → Client → Request → Option Claim → List Entry
+shared_added g c q claim = if_some claim (decided_added g q None) (λ k. let a = asked_by c q.line k in verdict_added g q a (verdict (names_of g) a))
+
+abbrev pub act_added : Gate → Client → List ℕ → Act → List Entry
+act_added g c text (begin role) = []
+act_added g c text finish = []
+act_added g c text (subscribe rel) = []
+act_added g c text (unsubscribe own) = []
+act_added g c text act = shared_added g c (request_of c text act) (claim_said text)
+
+abbrev pub said_added : Gate → Client → List ℕ → Message → List Entry
+said_added g c text (request id act) = cond (may_have (claim_said text) act) (act_added g c text act) []
+said_added g c text _ = []
+
+-- what reads and closes adds nothing
+abbrev Unentered : Gate → Gate → Type 0
+Unentered g h = h.entries ≡ g.entries
+
+unentered_kit : (m : ℕ) → Steps m Unentered
+unentered_kit m = record {
+  same = λ g. refl;
+  chain = λ g h i x y. y ∙ x;
+  run = λ g k e. refl;
+  settle = λ g. refl;
+  tell = λ g t e. refl;
+  seat = λ g seats. refl;
+  feed = λ g feeds. refl;
+  follow = λ g k. refl;
+  move = λ g t k. refl;
+  close = λ g own. refl;
+}
+
+nothing_added : (g h : Gate) → h.entries ≡ g.entries → h.entries ≡ g.entries ++ []
+nothing_added g h e = e ∙ sym (append-nil g.entries)
+
+module _ (g : Gate) (m : ℕ) (c : Client) (id : Option Data) where
+  adds_decided : (q : Request) (name : Option Ask) → (decides g m id q name).entries ≡ g.entries ++ decided_added g q name
+  adds_decided q name = by (is_some g.head.log) (has_shape_room g q.act) (seat_of g.seats q.role)
+    where
+      by : (l b : Bool) (o : Option ℕ)
+          → (cond l (tells g m (decided_elsewhere id name)) (cond b (if_some o (replies_to g m id q name (refused no_session)) (done_in g m id q name)) (replies_to g m id q name (refused limit)))).entries
+          ≡ g.entries ++ cond l [] (entries_of q name (cond b (if_some o (refused no_session) (λ n. reply_to g (in_session n q.act))) (refused limit)))
+      by true b o = sym (append-nil g.entries)
+      by false true None = refl
+      by false true (Some n) = refl
+      by false false o = refl
+
+  adds_verdict : (q : Request) (a : Ask) (v : Verdict) → (by_verdict g m id q a v).entries ≡ g.entries ++ verdict_added g q a v
+  adds_verdict q a carry = adds_decided q (Some a)
+  adds_verdict q a (again answer) = sym (append-nil g.entries)
+  adds_verdict q a another = sym (append-nil g.entries)
+  adds_verdict q a late = sym (append-nil g.entries)
+  adds_verdict q a foreign = sym (append-nil g.entries)
+  adds_verdict q a ahead = sym (append-nil g.entries)
+  adds_verdict q a over = sym (append-nil g.entries)
+
+  adds_shared : (q : Request) (claim : Option Claim) → (shares g m c id q claim).entries ≡ g.entries ++ shared_added g c q claim
+  adds_shared q None = adds_decided q None
+  adds_shared q (Some k) = let a = asked_by c q.line k in adds_verdict q a (verdict (names_of g) a)
+
+  adds_act : (text : List ℕ) (act : Act) → (acts g m c id text act).entries ≡ g.entries ++ act_added g c text act
+  adds_act text (begin role) = sym (append-nil g.entries)
+  adds_act text finish = sym (append-nil g.entries)
+  adds_act text (subscribe rel) = nothing_added g (reads g m c id rel) (step_reads m Unentered (unentered_kit m) g c id rel)
+  adds_act text (unsubscribe own) = nothing_added g (closes g m c id own) (step_closes m Unentered (unentered_kit m) g c id own)
+  adds_act text (create_role name) = adds_shared (request_of c text (create_role name)) (claim_said text)
+  adds_act text (create_table name owner columns) = adds_shared (request_of c text (create_table name owner columns)) (claim_said text)
+  adds_act text (create_view name owner query) = adds_shared (request_of c text (create_view name owner query)) (claim_said text)
+  adds_act text (grant rel privileges to) = adds_shared (request_of c text (grant rel privileges to)) (claim_said text)
+  adds_act text (revoke rel privileges to) = adds_shared (request_of c text (revoke rel privileges to)) (claim_said text)
+  adds_act text (grant_role group to) = adds_shared (request_of c text (grant_role group to)) (claim_said text)
+  adds_act text (revoke_role group to) = adds_shared (request_of c text (revoke_role group to)) (claim_said text)
+  adds_act text (row_security rel enable force) = adds_shared (request_of c text (row_security rel enable force)) (claim_said text)
+  adds_act text (create_policy p) = adds_shared (request_of c text (create_policy p)) (claim_said text)
+  adds_act text (drop_policy rel name) = adds_shared (request_of c text (drop_policy rel name)) (claim_said text)
+  adds_act text (write entries) = adds_shared (request_of c text (write entries)) (claim_said text)
+
+pub adds_said : (g : Gate) (m : ℕ) (c : Client) (text : List ℕ) (s : Message) → (done_for g m c text s).entries ≡ g.entries ++ said_added g c text s
+adds_said g m c text no_json = sym (append-nil g.entries)
+adds_said g m c text too_long = sym (append-nil g.entries)
+adds_said g m c text no_object = sym (append-nil g.entries)
+adds_said g m c text (no_request id why) = sym (append-nil g.entries)
+adds_said g m c text (request id act) = by (may_have (claim_said text) act)
+  where
+    by : (b : Bool) → (cond b (acts g m c id text act) (tells g m (unasked id (unknown (codes "once"))))).entries ≡ g.entries ++ cond b (act_added g c text act) []
+    by true = adds_act g m c id text act
+    by false = sym (append-nil g.entries)
 
 -- ---- the walk
 
@@ -377,48 +496,82 @@ module _ (g : Gate) (m : ℕ) (c : Client) (text : List ℕ) where
             so = answer_closed g g.entries id own (saying text c);
           }) (behind_swept m (tells h m (replied id done)) k)
 
-  answers_other : (s : Message) (id : Option Data) (act : Act) → client_at g.clients m ≡ Some (saying text c)
-      → Answers g s (other_reply g c id act) m (saying text c)
-      (if_some (seat_of g.seats c.role) (tells g m (replied id (refused no_session))) (requests g m id (record { role = c.role; line = line_said text; act = act }))).clients
-  answers_other s id act e = by (seat_of g.seats c.role)
+  -- a request that changes what is shared
+  answers_replied : (s : Message) (id : Option Data) (q : Request) (name : Option Ask) (r : Reply) → client_at g.clients m ≡ Some (saying text c)
+      → Answers g s (done_reply g id q name r) m (saying text c) (replies_to g m id q name r).clients
+  answers_replied s id q name r e =
+      let h = entered g (entries_of q name r) in answers_tells g h s (reply_told h id name r) m (saying text c) (saying text c) (began_same g (saying text c)) (opens_none h name) e
     where
-      by : (o : Option ℕ) → Answers g s (if_some o (replied id (refused no_session)) (λ n. replied id (reply_to g (in_session n act)))) m (saying text c)
-          (if_some o (tells g m (replied id (refused no_session))) (requests g m id (record { role = c.role; line = line_said text; act = act }))).clients
-      by None = answers_plain g s (replied id (refused no_session)) m (saying text c) refl e
-      by (Some n) =
-          let k = in_session n act in let r = reply_to g k in let h = entered g (record { role = c.role; line = line_said text; act = act }) (is_accepted r) in
-          let i = tells h m (replied id r) in let more = entries_of (record { role = c.role; line = line_said text; act = act }) (is_accepted r) in
-          answers_then g s (replied id r) m (saying text c) i.clients (informs (ran i k) more).clients
-          (answers_tells g h s (replied id r) m (saying text c) (saying text c) (began_same g (saying text c)) refl e)
-          (behind_then m i.clients (ran i k).clients (informs (ran i k) more).clients (behind_ran m i k) (behind_informs m (ran i k) more))
+      opens_none : (h : Gate) (o : Option Ask) → is_opened (reply_told h id o r) ≡ false
+      opens_none h None = refl
+      opens_none h (Some a) = refl
 
-  answers_acts : (id : Option Data) (act : Act) → client_at g.clients m ≡ Some (saying text c) → Answers g (request id act) (act_reply g c id act) m (saying text c) (acts g m c id text act).clients
+  answers_does : (s : Message) (id : Option Data) (q : Request) (name : Option Ask) (n : ℕ) → client_at g.clients m ≡ Some (saying text c)
+      → Answers g s (done_reply g id q name (reply_to g (in_session n q.act))) m (saying text c) (done_in g m id q name n).clients
+  answers_does s id q name n e =
+      let k = in_session n q.act in let r = reply_to g k in let i = replies_to g m id q name r in let more = entries_of q name r in
+      answers_then g s (done_reply g id q name r) m (saying text c) i.clients (informs (ran i k) more).clients (answers_replied s id q name r e)
+      (behind_then m i.clients (ran i k).clients (informs (ran i k) more).clients (behind_ran m i k) (behind_informs m (ran i k) more))
+
+  answers_decided : (s : Message) (id : Option Data) (q : Request) (name : Option Ask) → client_at g.clients m ≡ Some (saying text c)
+      → Answers g s (decided_reply g id q name) m (saying text c) (decides g m id q name).clients
+  answers_decided s id q name e = by (is_some g.head.log) (has_shape_room g q.act) (seat_of g.seats q.role)
+    where
+      aside : (o : Option Ask) → is_opened (decided_elsewhere id o) ≡ false
+      aside None = refl
+      aside (Some a) = refl
+
+      by : (l b : Bool) (o : Option ℕ)
+          → Answers g s (cond l (decided_elsewhere id name) (done_reply g id q name (cond b (if_some o (refused no_session) (λ n. reply_to g (in_session n q.act))) (refused limit)))) m (saying text c)
+          (cond l (tells g m (decided_elsewhere id name)) (cond b (if_some o (replies_to g m id q name (refused no_session)) (done_in g m id q name)) (replies_to g m id q name (refused limit)))).clients
+      by true b o = answers_plain g s (decided_elsewhere id name) m (saying text c) (aside name) e
+      by false true None = answers_replied s id q name (refused no_session) e
+      by false true (Some n) = answers_does s id q name n e
+      by false false o = answers_replied s id q name (refused limit) e
+
+  answers_verdict : (s : Message) (id : Option Data) (q : Request) (a : Ask) (v : Verdict) → client_at g.clients m ≡ Some (saying text c)
+      → Answers g s (verdict_reply g id q a v) m (saying text c) (by_verdict g m id q a v).clients
+  answers_verdict s id q a carry e = answers_decided s id q (Some a) e
+  answers_verdict s id q a (again answer) e = answers_plain g s (texts.answered id true (place_text (place_of g a.holder)) answer) m (saying text c) refl e
+  answers_verdict s id q a another e = answers_plain g s (undecided id 101) m (saying text c) refl e
+  answers_verdict s id q a late e = answers_plain g s (undecided id 102) m (saying text c) refl e
+  answers_verdict s id q a foreign e = answers_plain g s (undecided id 103) m (saying text c) refl e
+  answers_verdict s id q a ahead e = answers_plain g s (undecided id 104) m (saying text c) refl e
+  answers_verdict s id q a over e = answers_plain g s (undecided id 104) m (saying text c) refl e
+
+  answers_shared : (s : Message) (id : Option Data) (q : Request) (claim : Option Claim) → client_at g.clients m ≡ Some (saying text c)
+      → Answers g s (shared_reply g c id q claim) m (saying text c) (shares g m c id q claim).clients
+  answers_shared s id q None e = answers_decided s id q None e
+  answers_shared s id q (Some k) e = let a = asked_by c q.line k in answers_verdict s id q a (verdict (names_of g) a) e
+
+  answers_acts : (id : Option Data) (act : Act) → client_at g.clients m ≡ Some (saying text c) → Answers g (request id act) (act_reply g c id text act) m (saying text c) (acts g m c id text act).clients
   answers_acts id (begin role) e = answers_plain g (request id (begin role)) (fault 2) m (saying text c) refl e
   answers_acts id finish e = answers_plain g (request id finish) (fault 2) m (saying text c) refl e
   answers_acts id (subscribe rel) e = answers_reads (request id (subscribe rel)) id rel e
   answers_acts id (unsubscribe own) e = answers_closes id own e
-  answers_acts id (create_role name) e = answers_other (request id (create_role name)) id (create_role name) e
-  answers_acts id (create_table name owner columns) e = answers_other (request id (create_table name owner columns)) id (create_table name owner columns) e
-  answers_acts id (create_view name owner query) e = answers_other (request id (create_view name owner query)) id (create_view name owner query) e
-  answers_acts id (grant rel privileges to) e = answers_other (request id (grant rel privileges to)) id (grant rel privileges to) e
-  answers_acts id (revoke rel privileges to) e = answers_other (request id (revoke rel privileges to)) id (revoke rel privileges to) e
-  answers_acts id (grant_role group to) e = answers_other (request id (grant_role group to)) id (grant_role group to) e
-  answers_acts id (revoke_role group to) e = answers_other (request id (revoke_role group to)) id (revoke_role group to) e
-  answers_acts id (row_security rel enable force) e = answers_other (request id (row_security rel enable force)) id (row_security rel enable force) e
-  answers_acts id (create_policy p) e = answers_other (request id (create_policy p)) id (create_policy p) e
-  answers_acts id (drop_policy rel name) e = answers_other (request id (drop_policy rel name)) id (drop_policy rel name) e
-  answers_acts id (write entries) e = answers_other (request id (write entries)) id (write entries) e
+  answers_acts id (create_role name) e = answers_shared (request id (create_role name)) id (request_of c text (create_role name)) (claim_said text) e
+  answers_acts id (create_table name owner columns) e = answers_shared (request id (create_table name owner columns)) id (request_of c text (create_table name owner columns)) (claim_said text) e
+  answers_acts id (create_view name owner query) e = answers_shared (request id (create_view name owner query)) id (request_of c text (create_view name owner query)) (claim_said text) e
+  answers_acts id (grant rel privileges to) e = answers_shared (request id (grant rel privileges to)) id (request_of c text (grant rel privileges to)) (claim_said text) e
+  answers_acts id (revoke rel privileges to) e = answers_shared (request id (revoke rel privileges to)) id (request_of c text (revoke rel privileges to)) (claim_said text) e
+  answers_acts id (grant_role group to) e = answers_shared (request id (grant_role group to)) id (request_of c text (grant_role group to)) (claim_said text) e
+  answers_acts id (revoke_role group to) e = answers_shared (request id (revoke_role group to)) id (request_of c text (revoke_role group to)) (claim_said text) e
+  answers_acts id (row_security rel enable force) e = answers_shared (request id (row_security rel enable force)) id (request_of c text (row_security rel enable force)) (claim_said text) e
+  answers_acts id (create_policy p) e = answers_shared (request id (create_policy p)) id (request_of c text (create_policy p)) (claim_said text) e
+  answers_acts id (drop_policy rel name) e = answers_shared (request id (drop_policy rel name)) id (request_of c text (drop_policy rel name)) (claim_said text) e
+  answers_acts id (write entries) e = answers_shared (request id (write entries)) id (request_of c text (write entries)) (claim_said text) e
 
-  answers_done : (s : Message) → client_at g.clients m ≡ Some (saying text c) → Answers g s (said_reply g c s) m (saying text c) (done_for g m c text s).clients
+  answers_done : (s : Message) → client_at g.clients m ≡ Some (saying text c) → Answers g s (said_reply g c text s) m (saying text c) (done_for g m c text s).clients
   answers_done no_json e = answers_plain g no_json (fault 1) m (saying text c) refl e
   answers_done too_long e = answers_plain g too_long (fault 22) m (saying text c) refl e
   answers_done no_object e = answers_plain g no_object (fault 2) m (saying text c) refl e
   answers_done (no_request id why) e = answers_plain g (no_request id why) (unasked id why) m (saying text c) refl e
-  answers_done (request id act) e = by (has_shape_room g act)
+  answers_done (request id act) e = by (may_have (claim_said text) act)
     where
-      by : (b : Bool) → Answers g (request id act) (cond b (act_reply g c id act) (replied id (refused limit))) m (saying text c) (cond b (acts g m c id text act) (tells g m (replied id (refused limit)))).clients
+      by : (b : Bool) → Answers g (request id act) (cond b (act_reply g c id text act) (unasked id (unknown (codes "once")))) m (saying text c)
+          (cond b (acts g m c id text act) (tells g m (unasked id (unknown (codes "once"))))).clients
       by true = answers_acts id act e
-      by false = answers_plain g (request id act) (replied id (refused limit)) m (saying text c) refl e
+      by false = answers_plain g (request id act) (unasked id (unknown (codes "once"))) m (saying text c) refl e
 
 -- ---- a message that is heard
 
@@ -451,9 +604,9 @@ answer_marked g s t b c d x a = record {
 }
 
 pub heard_answers : (g : Gate) (m : ℕ) (c : Client) (text : List ℕ) → client_at g.clients m ≡ Some c
-    → Answers (asked g m text) (said_by text) (said_reply (asked g m text) c (said_by text)) m (saying text c) (hears g m c text).clients
+    → Answers (asked g m text) (said_by text) (said_reply (asked g m text) c text (said_by text)) m (saying text c) (hears g m c text).clients
 heard_answers g m c text e =
-    let h = asked g m text in let s = said_by text in let t = said_reply h c s in let did = done_for h m c text s in
+    let h = asked g m text in let s = said_by text in let t = said_reply h c text s in let did = done_for h m c text s in
     let there : client_at h.clients m ≡ Some (saying text c) = at_same m (saying text) g.clients ∙ ap (option_map (saying text)) e in
     let p = answers_then h s t m (saying text c) did.clients (settles did).clients (answers_done h m c text s there) (behind_settles m did) in
     record {

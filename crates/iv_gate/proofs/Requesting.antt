@@ -1,34 +1,51 @@
--- What is heard as a request is an entry.
-use Rattle.std.proofs.Common.{◌≡◌, ℕ, suc, ◌+◌, ◌≤◌, Bool, true, false, cond, ◌||◌, List, [], ◌∷◌, ◌++◌, drop, take, length, map, Option, Some, None, option_map, refl, ap, ◌∙◌, sym, subst, arith, length-append}
-use Rattle.std.specs.Prelude.{◌==◌, bytes_eq, codes, nat_lt, option_and_then, unwrap_or}
-use Rattle.std.specs.List.{list_any}
-use Rattle.std.proofs.lemmas.Bool.{false≢true, eqb-true}
-use Rattle.std.proofs.lemmas.Bool.Decides.{nat_tests}
-use Rattle.std.proofs.lemmas.List.{take-append-drop}
+-- What is heard as a request is one that the journal may have.
+use Rattle.std.proofs.Common.{◌≡◌, ℕ, Bool, true, false, cond, ◌||◌, List, [], ◌∷◌, ◌++◌, Option, Some, None, option_map, refl, ap, ◌∙◌, sym, append_assoc}
+use Rattle.std.specs.Prelude.{◌==◌, ◌&&◌, codes, length, nat_lt, option_and_then, unwrap_or}
+use Rattle.std.proofs.lemmas.Bool.{false≢true}
 use Rattle.std.proofs.lemmas.List.Folds.{list_any-append}
 use Rattle.serde_json.specs.Data.{Data}
 use Rattle.iv_rows.specs.Names.{is_name}
+use Rattle.iv_rows.specs.Options.{if_some}
 use Rattle.iv_access.specs.Rights.{Name}
 use Rattle.iv_machine.specs.Act.{Act}
 use Rattle.iv_request.specs.Reading.{value_of}
 use Rattle.iv_message.specs.Message.{Message, no_json, too_long, no_object, no_request, request, id_in, message_of, on_one_line}
 use Rattle.iv_clients.specs.Bounds.{most_said}
-use Rattle.iv_clients.specs.Journal.{Entry, IsEntry, Parts, begins_object, has_newline, is_blank, is_shared, line_said, not_request, parts_of, said_by, said_in, unindented, with_brace, with_front}
-use Rattle.iv_clients.specs.Tokens.{cut_at}
+use Rattle.iv_clients.specs.Journal.{IsRequest, Parts, begins_object, has_newline, id_in_front, id_parts, is_blank, is_shared, line_said, not_request, parts_of, said_by, said_in, unindented, with_brace, with_front}
+use Rattle.iv_clients.specs.Names.{Claim, Spelled, behind_count, behind_epoch, behind_name, between, claim_in, claimed, count_in, is_epoch, is_random, spelled_in}
+use Rattle.iv_clients.specs.Tokens.{behind, cut_at}
+use Rattle.iv_clients.proofs.Cuts.{behind_is, cut_is, found}
 use Rattle.iv_clients.proofs.Slots.{one_some, some_is_none}
-use Rattle.iv_gate.proofs.Growing.{assoc}
 use Rattle.iv_gate.proofs.Summing.{neither}
 
--- ---- no newline
+-- ---- ends of texts
 
--- a front of what has no such byte has none
-pub none_in_front : (p : ℕ → Bool) (n : ℕ) (xs : List ℕ) → list_any p xs ≡ false → list_any p (take n xs) ≡ false
-none_in_front p n xs h =
-    (neither (list_any p (take n xs)) (list_any p (drop n xs)) (sym (list_any-append p (take n xs) (drop n xs)) ∙ (ap (list_any p) (take-append-drop n xs) ∙ h))).0
+-- the text ends so
+record EndsIn (text rest : List ℕ) : Type 0 where
+  front : List ℕ
+  is : text ≡ front ++ rest
 
-pub none_behind : (p : ℕ → Bool) (n : ℕ) (xs : List ℕ) → list_any p xs ≡ false → list_any p (drop n xs) ≡ false
-none_behind p n xs h =
-    (neither (list_any p (take n xs)) (list_any p (drop n xs)) (sym (list_any-append p (take n xs) (drop n xs)) ∙ (ap (list_any p) (take-append-drop n xs) ∙ h))).1
+ends_itself : (text : List ℕ) → EndsIn text text
+ends_itself text = record { front = []; is = refl }
+
+ends_then : (a b c : List ℕ) → EndsIn a b → EndsIn b c → EndsIn a c
+ends_then a b c x y = record { front = x.front ++ y.front; is = x.is ∙ (ap (λ z. x.front ++ z) y.is ∙ sym (append_assoc x.front y.front c)) }
+
+behind_ends : (prefix text rest : List ℕ) → behind prefix text ≡ Some rest → EndsIn text rest
+behind_ends prefix text rest h = record { front = prefix; is = behind_is prefix text rest h }
+
+cut_ends : (b : ℕ) (text : List ℕ) (p : List ℕ × List ℕ) → cut_at b text ≡ Some p → EndsIn text p.1
+cut_ends b text p h = record { front = p.0 ++ b ∷ []; is = cut_is b text p h ∙ sym (append_assoc p.0 (b ∷ []) p.1) }
+
+between_ends : (prefix : List ℕ) (b : ℕ) (text : List ℕ) (p : List ℕ × List ℕ) → between prefix b text ≡ Some p → EndsIn text p.1
+between_ends prefix b text p h =
+    let f = found (cut_at b) (behind prefix text) p h in ends_then text f.of p.1 (behind_ends prefix text f.of f.there) (cut_ends b f.of p f.is)
+
+one_in_end : (text rest : List ℕ) → EndsIn text rest → has_newline text ≡ false → has_newline rest ≡ false
+one_in_end text rest e h =
+    (neither (has_newline e.front) (has_newline rest) (sym (list_any-append (λ b. b == 10) e.front rest) ∙ (ap has_newline (sym e.is) ∙ h))).1
+
+-- ---- what is left of a message
 
 on_one : (text : List ℕ) → has_newline (on_one_line text) ≡ false
 on_one [] = refl
@@ -46,87 +63,75 @@ unindented_on_one (b ∷ text) h = by (is_blank b) (unindented_on_one text (neit
     by true more = more
     by false more = h
 
-pub cut_is : (b : ℕ) (xs : List ℕ) (p : List ℕ × List ℕ) → cut_at b xs ≡ Some p → xs ≡ p.0 ++ b ∷ p.1
-cut_is b [] p h = absurd (some_is_none p (sym h))
-cut_is b (x ∷ xs) p h = by (x == b) refl (cut_at b xs) h (λ q e. cut_is b xs q e)
+-- it is all of the line, or a brace and an end of the line
+data IsLeft (line left : List ℕ) : Type 0 where
+  all : left ≡ line → IsLeft line left
+  an_end : (rest : List ℕ) → EndsIn line rest → left ≡ 123 ∷ rest → IsLeft line left
+
+one_left : (line left : List ℕ) → IsLeft line left → has_newline line ≡ false → has_newline left ≡ false
+one_left line left (all e) h = ap has_newline e ∙ h
+one_left line left (an_end rest x e) h = ap has_newline e ∙ one_in_end line rest x h
+
+without_id : (line : List ℕ) → IsLeft line (parts_of line).1
+without_id line = by (id_in_front line) refl
   where
-    by : (t : Bool) → (x == b) ≡ t → (o : Option (List ℕ × List ℕ)) → cond t (Some ([], xs)) (option_map {U = List ℕ × List ℕ} (λ q. (x ∷ q.0, q.1)) o) ≡ Some p
-        → ((q : List ℕ × List ℕ) → o ≡ Some q → xs ≡ q.0 ++ b ∷ q.1) → x ∷ xs ≡ p.0 ++ b ∷ p.1
-    by true e o k more = ap (λ z. z ∷ xs) (eqb-true x b e) ∙ ap (λ (z : List ℕ × List ℕ). z.0 ++ b ∷ z.1) (one_some {X = List ℕ × List ℕ} ([], xs) p k)
-    by false e None k more = absurd (some_is_none p (sym k))
-    by false e (Some q) k more = ap (λ z. x ∷ z) (more q refl) ∙ ap (λ (z : List ℕ × List ℕ). z.0 ++ b ∷ z.1) (one_some {X = List ℕ × List ℕ} (x ∷ q.0, q.1) p k)
+    back : (p : Parts) → id_in_front line ≡ Some p → IsLeft line p.1
+    back p h =
+        let f = found (λ (q : List ℕ × List ℕ). option_map {U = Parts} (with_brace q.1) (option_and_then id_in (value_of q.0))) (option_and_then (cut_at 44) (behind (codes "{\"id\":") line)) p h in
+        let c = found (cut_at 44) (behind (codes "{\"id\":") line) f.of f.there in
+        last f.of (ends_then line c.of f.of.1 (behind_ends (codes "{\"id\":") line c.of c.there) (cut_ends 44 c.of f.of c.is)) (option_and_then id_in (value_of f.of.0)) f.is
+      where
+        last : (q : List ℕ × List ℕ) → EndsIn line q.1 → (o : Option Data) → option_map {U = Parts} (with_brace q.1) o ≡ Some p → IsLeft line p.1
+        last q e None k = absurd (some_is_none p (sym k))
+        last q e (Some id) k = an_end q.1 e (ap (λ (z : Parts). z.1) (sym (one_some {X = Parts} (Some id, 123 ∷ q.1) p k)))
 
--- what is left of a line is all of it, or a brace and what stands behind a comma
-data IsPart (line part : List ℕ) : Type 0 where
-  all : part ≡ line → IsPart line part
-  behind_comma : (front rest : List ℕ) → line ≡ front ++ 44 ∷ rest → part ≡ 123 ∷ rest → IsPart line part
+    by : (o : Option Parts) → id_in_front line ≡ o → IsLeft line (unwrap_or o (None, line)).1
+    by None h = all refl
+    by (Some p) h = back p h
 
-is_part : (line : List ℕ) → IsPart line (parts_of line).1
-is_part line = by (bytes_eq (take 6 line) (codes "{\"id\":"))
+spelled_ends : (text : List ℕ) (s : Spelled) → spelled_in text ≡ Some s → EndsIn text s.rest
+spelled_ends text s h =
+    let n = found behind_name (between (codes "\"once\":\"") 34 text) s h in
+    let e = found (behind_epoch n.of.0) (between (codes ",\"at\":\"") 46 n.of.1) s n.is in
+    let c = found (behind_count n.of.0 e.of.0) (cut_at 34 e.of.1) s e.is in
+    ends_then text n.of.1 s.rest (between_ends (codes "\"once\":\"") 34 text n.of n.there)
+    (ends_then n.of.1 e.of.1 s.rest (between_ends (codes ",\"at\":\"") 46 n.of.1 e.of e.there)
+    (ends_then e.of.1 c.of.1 s.rest (cut_ends 34 e.of.1 c.of c.there) (last n.of.0 e.of.0 c.of (behind (codes ",") c.of.1) refl c.is)))
   where
-    third : (p : List ℕ × List ℕ) → line ≡ (take 6 line ++ p.0) ++ 44 ∷ p.1 → (o : Option Data) → IsPart line (unwrap_or (option_map {U = Parts} (with_brace p.1) o) (None, line)).1
-    third p e None = all refl
-    third p e (Some id) = behind_comma (take 6 line ++ p.0) p.1 e refl
+    last : (name epoch : List ℕ) (c : List ℕ × List ℕ) (o : Option (List ℕ)) → behind (codes ",") c.1 ≡ o
+        → option_map {U = Spelled} (λ rest. record { name = name; epoch = epoch; digits = c.0; rest = rest }) o ≡ Some s → EndsIn c.1 s.rest
+    last name epoch c None e k = absurd (some_is_none s (sym k))
+    last name epoch c (Some rest) e k =
+        let same = ap (λ (z : Spelled). z.rest) (one_some (record { name = name; epoch = epoch; digits = c.0; rest = rest }) s k) in
+        behind_ends (codes ",") c.1 s.rest (e ∙ ap Some same)
 
-    second : (o : Option (List ℕ × List ℕ)) → ((p : List ℕ × List ℕ) → o ≡ Some p → line ≡ (take 6 line ++ p.0) ++ 44 ∷ p.1)
-        → IsPart line (unwrap_or (option_and_then (λ (p : List ℕ × List ℕ). option_map {U = Parts} (with_brace p.1) (option_and_then id_in (value_of p.0))) o) (None, line)).1
-    second None f = all refl
-    second (Some p) f = third p (f p refl) (option_and_then id_in (value_of p.0))
-
-    by : (t : Bool) → IsPart line (unwrap_or (option_and_then (λ (p : List ℕ × List ℕ). option_map {U = Parts} (with_brace p.1) (option_and_then id_in (value_of p.0)))
-        (option_and_then (cut_at 44) (cond t (Some (drop 6 line)) None))) (None, line)).1
-    by false = all refl
-    by true = second (cut_at 44 (drop 6 line))
-        (λ p e. sym (take-append-drop 6 line) ∙ (ap (λ z. take 6 line ++ z) (cut_is 44 (drop 6 line) p e) ∙ sym (assoc (take 6 line) p.0 (44 ∷ p.1))))
-
-part_on_one : (line part : List ℕ) → IsPart line part → has_newline line ≡ false → has_newline part ≡ false
-part_on_one line part (all e) h = ap has_newline e ∙ h
-part_on_one line part (behind_comma front rest e f) h =
-    ap has_newline f ∙ (neither (list_any (λ b. b == 10) front) (has_newline rest) (sym (list_any-append (λ b. b == 10) front (44 ∷ rest)) ∙ (ap has_newline (sym e) ∙ h))).1
-
-part_length : (line part : List ℕ) → IsPart line part → length part ≤ length line
-part_length line part (all e) = subst (λ z. length z ≤ length line) (sym e) (omega arith)
-part_length line part (behind_comma front rest e f) =
-    let size : length line ≡ length front + suc (length rest) = ap length e ∙ length-append front (44 ∷ rest) in
-    subst (λ z. length z ≤ length line) (sym f) (fits (length front) (length rest) (length line) size)
+claimed_rest : (s : Spelled) (p : Claim × List ℕ) → claimed s ≡ Some p → p.1 ≡ 123 ∷ s.rest
+claimed_rest s p h = by (is_random s.name && is_epoch s.epoch) (count_in s.digits) h
   where
-    fits : (a b n : ℕ) → n ≡ a + suc b → suc b ≤ n
-    fits a b n h = omega (arith, h)
+    by : (t : Bool) (o : Option ℕ) → cond t (option_map {U = Claim × List ℕ} (λ count. (record { name = s.name; at = record { epoch = s.epoch; count = count } }, 123 ∷ s.rest)) o) None ≡ Some p
+        → p.1 ≡ 123 ∷ s.rest
+    by false o k = absurd (some_is_none p (sym k))
+    by true None k = absurd (some_is_none p (sym k))
+    by true (Some n) k = ap (λ (z : Claim × List ℕ). z.1) (sym (one_some {X = Claim × List ℕ} (record { name = s.name; at = record { epoch = s.epoch; count = n } }, 123 ∷ s.rest) p k))
+
+without_name : (line : List ℕ) (p : Claim × List ℕ) → claim_in line ≡ Some p → IsLeft line p.1
+without_name line p h =
+    let f = found claimed (option_and_then spelled_in (behind (codes "{") line)) p h in
+    let g = found spelled_in (behind (codes "{") line) f.of f.there in
+    an_end f.of.rest (ends_then line g.of f.of.rest (behind_ends (codes "{") line g.of g.there) (spelled_ends g.of f.of g.is)) (claimed_rest f.of p f.is)
 
 pub line_on_one : (text : List ℕ) → has_newline (line_said text) ≡ false
-line_on_one text = part_on_one (unindented (on_one_line text)) (line_said text) (is_part (unindented (on_one_line text))) (unindented_on_one (on_one_line text) (on_one text))
-
-map_length : (f : ℕ → ℕ) (xs : List ℕ) → length (map f xs) ≡ length xs
-map_length f [] = refl
-map_length f (x ∷ xs) = ap suc (map_length f xs)
-
-unindented_length : (text : List ℕ) → length (unindented text) ≤ length text
-unindented_length [] = let n : 0 ≤ 0 = omega arith in n
-unindented_length (b ∷ text) = by (is_blank b) (unindented_length text)
+line_on_one text = by (claim_in (id_parts text).1) refl
   where
-    by : (t : Bool) → length (unindented text) ≤ length text → length (cond t (unindented text) (b ∷ text)) ≤ suc (length text)
-    by true h = omega (arith, h)
-    by false h = omega arith
+    before : has_newline (id_parts text).1 ≡ false
+    before = one_left (unindented (on_one_line text)) (id_parts text).1 (without_id (unindented (on_one_line text))) (unindented_on_one (on_one_line text) (on_one text))
 
-line_length : (text : List ℕ) → length (line_said text) ≤ length text
-line_length text =
-    let one : length (line_said text) ≤ length (unindented (on_one_line text)) = part_length (unindented (on_one_line text)) (line_said text) (is_part (unindented (on_one_line text))) in
-    let two : length (unindented (on_one_line text)) ≤ length (on_one_line text) = unindented_length (on_one_line text) in
-    let three : length (on_one_line text) ≡ length text = map_length (λ b. cond (b == 10) 32 b) text in
-    chained (length (line_said text)) (length (unindented (on_one_line text))) (length (on_one_line text)) (length text) one two three
-  where
-    chained : (a b c d : ℕ) → a ≤ b → b ≤ c → c ≡ d → a ≤ d
-    chained a b c d h k e = omega (arith, h, k, e)
+    by : (o : Option (Claim × List ℕ)) → claim_in (id_parts text).1 ≡ o
+        → has_newline (if_some {B = Option Claim × List ℕ} o (None, (id_parts text).1) (λ p. (Some p.0, p.1))).1 ≡ false
+    by None h = before
+    by (Some p) h = one_left (id_parts text).1 p.1 (without_name (id_parts text).1 p h) before
 
 -- ---- what is asked
-
-abbrev pub is_plain : Message → Bool
-is_plain (request None act) = true
-is_plain (request (Some id) act) = false
-is_plain no_json = false
-is_plain too_long = false
-is_plain no_object = false
-is_plain (no_request id why) = false
 
 abbrev is_asked_by : Message → Bool
 is_asked_by (request id act) = true
@@ -136,7 +141,7 @@ is_asked_by no_object = false
 is_asked_by (no_request id why) = false
 
 -- the act that is asked; of no request another
-abbrev pub act_asked : Act → Message → Act
+abbrev act_asked : Act → Message → Act
 act_asked act (request id a) = a
 act_asked act no_json = act
 act_asked act too_long = act
@@ -161,33 +166,22 @@ asked_not (request i a) id act h = false≢true (ap is_asked_by h)
 record IsAsked (line : List ℕ) (act : Act) : Type 0 where
   brace : begins_object line ≡ true
   asks : message_of line ≡ request None act
-  short : length line ≤ most_said
 
 is_asked : (text : List ℕ) (id : Option Data) (act : Act) → said_by text ≡ request id act → IsAsked (line_said text) act
-is_asked text id act h = by (nat_lt most_said (length text)) refl h
+is_asked text id act h = by (nat_lt most_said (length text)) h
   where
-    in_brace : length (line_said text) ≤ most_said → (t : Bool) → begins_object (line_said text) ≡ t → cond t (with_front (parts_of (unindented (on_one_line text))).0 (message_of (line_said text))) (not_request (message_of (line_said text))) ≡ request id act
-        → IsAsked (line_said text) act
-    in_brace n true e k = record { short = n; brace = e; asks = asked_in_front (parts_of (unindented (on_one_line text))).0 (message_of (line_said text)) id act k }
-    in_brace n false e k = absurd (asked_not (message_of (line_said text)) id act k)
+    in_brace : (t : Bool) → begins_object (line_said text) ≡ t
+        → cond t (with_front (id_parts text).0 (message_of (line_said text))) (not_request (message_of (line_said text))) ≡ request id act → IsAsked (line_said text) act
+    in_brace true e k = record { brace = e; asks = asked_in_front (id_parts text).0 (message_of (line_said text)) id act k }
+    in_brace false e k = absurd (asked_not (message_of (line_said text)) id act k)
 
-    fits : (a b : ℕ) → nat_lt most_said b ≡ false → a ≤ b → a ≤ most_said
-    fits a b h k = grind (arith, nat_tests)
+    by : (t : Bool) → cond t too_long (said_in ((id_parts text).0, line_said text)) ≡ request id act → IsAsked (line_said text) act
+    by true k = absurd (false≢true (ap is_asked_by k))
+    by false k = in_brace (begins_object (line_said text)) refl k
 
-    by : (t : Bool) → nat_lt most_said (length text) ≡ t → cond t too_long (said_in (parts_of (unindented (on_one_line text)))) ≡ request id act → IsAsked (line_said text) act
-    by true e k = absurd (false≢true (ap is_asked_by k))
-    by false e k = in_brace (fits (length (line_said text)) (length text) e (line_length text)) (begins_object (line_said text)) refl k
-
--- the line of an entry that was heard is no longer than a message may be
-abbrev pub IsShort : Entry → Type 0
-IsShort e = length e.line ≤ most_said
-
--- a request that changes what is shared is an entry of a role with a name
-pub entry_heard : (role : Name) (text : List ℕ) (id : Option Data) (act : Act) → is_name role ≡ true → is_shared act ≡ true → said_by text ≡ request id act
-    → IsEntry (record { role = role; line = line_said text; act = act })
-entry_heard role text id act name shared h =
+-- a request that changes what is shared, of a role with a name
+pub request_heard : (role : Name) (text : List ℕ) (id : Option Data) (act : Act) → is_name role ≡ true → is_shared act ≡ true → said_by text ≡ request id act
+    → IsRequest (record { role = role; line = line_said text; act = act })
+request_heard role text id act name shared h =
     let a = is_asked text id act h in
     record { role = name; shared = shared; brace = a.brace; line = line_on_one text; asks = a.asks }
-
-pub entry_short : (role : Name) (text : List ℕ) (id : Option Data) (act : Act) → said_by text ≡ request id act → IsShort (record { role = role; line = line_said text; act = act })
-entry_short role text id act h = (is_asked text id act h).short

@@ -211,8 +211,9 @@ settles_sound g b = every_sound g (settling g.entries) (λ m c h live. settling_
 quiet_made : (role line : List ℕ) → IsQuiet (made role line)
 quiet_made role line = record { weighs = λ own q. refl; goes_on = λ own. refl }
 
-pub quiet_greeting : (es : List Entry) (role : Name) → AllByRecursion IsQuiet (greeting es role)
-quiet_greeting es role = all_greeting IsQuiet (λ r. record { weighs = λ own q. refl; goes_on = λ own. refl }) quiet_made quiet_settled es role
+pub quiet_greeting : (es : List Entry) (role : Name) (at : List ℕ) → AllByRecursion IsQuiet (greeting es role at)
+quiet_greeting es role at =
+    all_greeting IsQuiet (λ r. record { weighs = λ own q. refl; goes_on = λ own. refl }) (λ a. record { weighs = λ own q. refl; goes_on = λ own. refl }) quiet_made quiet_settled es role at
 
 pub client_told_all : (s : State) (feeds : List Feed) (ts : List Told) (v : Seer) → AllByRecursion IsQuiet ts → IsSoundClient s feeds v → IsSoundClient s feeds (record v { told = v.told ++ ts })
 client_told_all s feeds [] v a b = subst (λ z. IsSoundClient s feeds (record v { told = z })) (sym (append-nil v.told)) b

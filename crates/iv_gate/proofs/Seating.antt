@@ -1,24 +1,31 @@
 -- Which sessions there are behind an event.
 use Rattle.std.proofs.Common.{◌≡◌, ℕ, Bool, true, false, not, cond, List, [], ◌∷◌, ◌++◌, length, map, set, Option, Some, None, option_map, refl, ap, ◌∙◌, sym, subst}
-use Rattle.std.specs.Prelude.{◌==◌, ◌&&◌, filter, find, nat_lt}
+use Rattle.std.specs.Prelude.{◌==◌, ◌&&◌, filter, find, nat_lt, codes, is_some}
 use Rattle.serde_json.specs.Data.{Data}
 use Rattle.iv_rows.specs.Options.{if_some}
 use Rattle.iv_access.specs.Rights.{Name}
-use Rattle.iv_machine.specs.Act.{Act, begin, finish, create_role, create_table, create_view, grant, revoke, grant_role, revoke_role, row_security, create_policy, drop_policy, subscribe, unsubscribe, write, Reply, done, subscribed, refused, no_session, too_many, unknown_subscription, limit}
-use Rattle.iv_message.specs.Message.{Message, no_json, too_long, no_object, no_request, request}
-use Rattle.iv_message.specs.Told.{replied}
+use Rattle.iv_machine.specs.Act.{Act, begin, finish, create_role, create_table, create_view, grant, revoke, grant_role, revoke_role, row_security, create_policy, drop_policy, subscribe, unsubscribe, write, Reply, done, subscribed, refused, too_many, unknown_subscription}
+use Rattle.iv_message.specs.Message.{Message, no_json, too_long, no_object, no_request, request, unknown}
+use Rattle.iv_message.specs.Told.{replied, unasked}
 use Rattle.iv_clients.specs.Bounds.{most_feeds, most_subs}
 use Rattle.iv_clients.specs.Clients.{Client, at_client, client_at, closing, followed_by, is_followed, may_say, moved, saying}
 use Rattle.iv_clients.specs.Feeds.{Feed, Seat, feed_for, feed_of, has_room, is_of_role, is_reading, load, room_for, seat_of, without_seat}
-use Rattle.iv_clients.specs.Journal.{line_said, said_by}
+use Rattle.iv_clients.specs.Journal.{said_by, Request, claim_said}
 use Rattle.iv_clients.proofs.Slots.{some_is_none}
-use Rattle.iv_gate.specs.Events.{Event, presented, message, gone, known, ticked, synced, handed, failed, happens, next}
-use Rattle.iv_gate.specs.Gate.{Gate, acts, all_rested, all_swept, begun_for, closes, done_for, feed_begun, hears, in_session, is_needed, joined, joined_by, joins, ran, reads, reads_first, reply_to, requests, rested, role_for, said, seated, settles, shut, subscribes, swept, tells, went, with_session, has_shape_room}
+use Rattle.iv_gate.specs.Events.{Event, presented, message, gone, known, ticked, synced, handed, failed, happens, next, arrived, forgave}
+use Rattle.iv_gate.specs.Gate.{Gate, acts, all_rested, all_swept, begun_for, closes, done_for, feed_begun, hears, in_session, is_needed, joined, joined_by, joins, ran, reads, reads_first, reply_to, rested, token_for, said, seated, settles, shut, subscribes, swept, tells, went, with_session, shares, may_have}
 use Rattle.iv_gate.specs.Needed.{AreSeatsBehind, left, begun}
 use Rattle.iv_gate.specs.Replies.{AreFull}
 use Rattle.iv_gate.proofs.Few.{none_full}
 use Rattle.iv_gate.proofs.Touching.{came_as}
 use Rattle.iv_gate.proofs.Shaping.{test_of}
+use Rattle.iv_clients.specs.Tokens.{Token}
+use Rattle.iv_gate.specs.Arriving.{Step, fault_of, is_behind, landed, entry_of, fact_of, takes}
+use Rattle.iv_steps.specs.Steps.{stepped}
+use Rattle.iv_machine.specs.Machine.{Outcome}
+use Rattle.iv_clients.specs.Names.{Claim}
+use Rattle.iv_gate.proofs.Choosing.{shares_so}
+use Rattle.iv_gate.proofs.Stepping.{request_of}
 
 all_stay : {X : Type 0} (xs : List X) → filter (λ x. true) xs ≡ xs
 all_stay [] = refl
@@ -31,7 +38,7 @@ pub data IsBehind (R : Name → Type 0) (g : Gate) : List Seat → Type 0 where
 
 -- whom a session may be begun for by the event: who comes, and who says something
 abbrev pub AreFor : (Name → Type 0) → Gate → Event → Type 0
-AreFor R g (presented m token) = (role : Name) → role_for g m token ≡ Some role → R role
+AreFor R g (presented m token) = (t : Token) → token_for g m token ≡ Some t → R t.role
 AreFor R g (message m text) = (c : Client) → client_at g.clients m ≡ Some c → R c.role
 AreFor R g _ = Unit {0}
 
@@ -79,9 +86,8 @@ closes_same g m c id own =
     some_same (followed_by c.subs own) g (tells g m (replied id (refused unknown_subscription))) (λ k. swept (tells (record g { clients = at_client m (closing own) g.clients }) m (replied id done)) k)
     refl (λ k. swept_same (tells (record g { clients = at_client m (closing own) g.clients }) m (replied id done)) k)
 
-other_same : (g : Gate) (m : ℕ) (c : Client) (id : Option Data) (text : List ℕ) (act : Act) (o : Option ℕ)
-    → (if_some o (tells g m (replied id (refused no_session))) (requests g m id (record { role = c.role; line = line_said text; act = act }))).seats ≡ g.seats
-other_same g m c id text act o = some_same o g (tells g m (replied id (refused no_session))) (requests g m id (record { role = c.role; line = line_said text; act = act })) refl (λ n. refl)
+same_shares : (g : Gate) (m : ℕ) (c : Client) (id : Option Data) (q : Request) (claim : Option Claim) → (shares g m c id q claim).seats ≡ g.seats
+same_shares g m c id q claim = shares_so (λ (h : Gate). h.seats ≡ g.seats) g m id q (record { tells = λ t a. refl; does = λ name n e. refl; refuses = λ name r. refl }) c claim
 
 -- ---- who comes, and who goes
 
@@ -158,17 +164,17 @@ module _ (R : Name → Type 0) where
   acts_behind g m c id text finish w = same g
   acts_behind g m c id text (subscribe rel) w = reads_behind g m c id rel w
   acts_behind g m c id text (unsubscribe own) w = by_same g (closes g m c id own).seats (closes_same g m c id own)
-  acts_behind g m c id text (create_role name) w = by_same g _ (other_same g m c id text (create_role name) (seat_of g.seats c.role))
-  acts_behind g m c id text (create_table name owner columns) w = by_same g _ (other_same g m c id text (create_table name owner columns) (seat_of g.seats c.role))
-  acts_behind g m c id text (create_view name owner query) w = by_same g _ (other_same g m c id text (create_view name owner query) (seat_of g.seats c.role))
-  acts_behind g m c id text (grant rel privileges to) w = by_same g _ (other_same g m c id text (grant rel privileges to) (seat_of g.seats c.role))
-  acts_behind g m c id text (revoke rel privileges to) w = by_same g _ (other_same g m c id text (revoke rel privileges to) (seat_of g.seats c.role))
-  acts_behind g m c id text (grant_role group to) w = by_same g _ (other_same g m c id text (grant_role group to) (seat_of g.seats c.role))
-  acts_behind g m c id text (revoke_role group to) w = by_same g _ (other_same g m c id text (revoke_role group to) (seat_of g.seats c.role))
-  acts_behind g m c id text (row_security rel enable force) w = by_same g _ (other_same g m c id text (row_security rel enable force) (seat_of g.seats c.role))
-  acts_behind g m c id text (create_policy p) w = by_same g _ (other_same g m c id text (create_policy p) (seat_of g.seats c.role))
-  acts_behind g m c id text (drop_policy rel name) w = by_same g _ (other_same g m c id text (drop_policy rel name) (seat_of g.seats c.role))
-  acts_behind g m c id text (write entries) w = by_same g _ (other_same g m c id text (write entries) (seat_of g.seats c.role))
+  acts_behind g m c id text (create_role name) w = by_same g _ (same_shares g m c id (request_of c text (create_role name)) (claim_said text))
+  acts_behind g m c id text (create_table name owner columns) w = by_same g _ (same_shares g m c id (request_of c text (create_table name owner columns)) (claim_said text))
+  acts_behind g m c id text (create_view name owner query) w = by_same g _ (same_shares g m c id (request_of c text (create_view name owner query)) (claim_said text))
+  acts_behind g m c id text (grant rel privileges to) w = by_same g _ (same_shares g m c id (request_of c text (grant rel privileges to)) (claim_said text))
+  acts_behind g m c id text (revoke rel privileges to) w = by_same g _ (same_shares g m c id (request_of c text (revoke rel privileges to)) (claim_said text))
+  acts_behind g m c id text (grant_role group to) w = by_same g _ (same_shares g m c id (request_of c text (grant_role group to)) (claim_said text))
+  acts_behind g m c id text (revoke_role group to) w = by_same g _ (same_shares g m c id (request_of c text (revoke_role group to)) (claim_said text))
+  acts_behind g m c id text (row_security rel enable force) w = by_same g _ (same_shares g m c id (request_of c text (row_security rel enable force)) (claim_said text))
+  acts_behind g m c id text (create_policy p) w = by_same g _ (same_shares g m c id (request_of c text (create_policy p)) (claim_said text))
+  acts_behind g m c id text (drop_policy rel name) w = by_same g _ (same_shares g m c id (request_of c text (drop_policy rel name)) (claim_said text))
+  acts_behind g m c id text (write entries) w = by_same g _ (same_shares g m c id (request_of c text (write entries)) (claim_said text))
 
   done_behind : (g : Gate) (m : ℕ) (c : Client) (text : List ℕ) (x : Message) → R c.role → IsBehind R g (done_for g m c text x).seats
   done_behind g m c text no_json w = same g
@@ -176,7 +182,7 @@ module _ (R : Name → Type 0) where
   done_behind g m c text no_object w = same g
   done_behind g m c text (no_request id why) w = same g
   done_behind g m c text (request id act) w =
-      test_of (λ (h : Gate). IsBehind R g h.seats) (has_shape_room g act) (acts g m c id text act) (tells g m (replied id (refused limit))) (acts_behind g m c id text act w) (same g)
+      test_of (λ (h : Gate). IsBehind R g h.seats) (may_have (claim_said text) act) (acts g m c id text act) (tells g m (unasked id (unknown (codes "once")))) (acts_behind g m c id text act w) (same g)
 
   -- of two gateways with the same sessions and feeds
   like : (g h : Gate) (xs : List Seat) → h.seats ≡ g.seats → h.feeds ≡ g.feeds → IsBehind R h xs → IsBehind R g xs
@@ -207,9 +213,9 @@ module _ (R : Name → Type 0) where
       by None e = one_more e (begun_for g role)
       by (Some n) e = same g
 
-  came_behind : (g : Gate) (m : ℕ) (token : List ℕ) (o : Option Name) → ((role : Name) → o ≡ Some role → R role) → IsBehind R g (if_some o g (came_as g m token)).seats
-  came_behind g m token None w = same g
-  came_behind g m token (Some role) w = with_behind g role (w role refl)
+  came_behind : (g : Gate) (m : ℕ) (o : Option Token) → ((t : Token) → o ≡ Some t → R t.role) → IsBehind R g (if_some o g (came_as g m)).seats
+  came_behind g m None w = same g
+  came_behind g m (Some t) w = with_behind g t.role (w t refl)
 
   went_behind : (g : Gate) (m : ℕ) → IsBehind R g (went g m).seats
   went_behind g m = by (client_at g.clients m)
@@ -220,14 +226,25 @@ module _ (R : Name → Type 0) where
           let h = all_swept (record g { clients = set g.clients m None }) (map (λ s. s.feed) c.subs) in let a = all_rested_left h (filter (is_of_role c.role) h.seats) in
           subst (IsBehind R g) (sym (a.1 ∙ ap (filter a.0) (all_swept_same (record g { clients = set g.clients m None }) (map (λ s. s.feed) c.subs)))) (stayed a.0)
 
+  takes_behind : (g : Gate) (s : Step) → IsBehind R g (takes g s).seats
+  takes_behind g s = by (is_some (fault_of g s)) (is_behind g s) (stepped (map fact_of s.requests) g.machine)
+    where
+      by : (b d : Bool) (o : Option Outcome) → IsBehind R g (cond b (record g { dead = true }) (cond d g (if_some o g (landed g (entry_of s))))).seats
+      by true d o = same g
+      by false true o = same g
+      by false false None = same g
+      by false false (Some o) = same g
+
   happens_behind : (g : Gate) (e : Event) → AreFor R g e → IsBehind R g (happens g e).seats
-  happens_behind g (presented m token) w = came_behind g m token (role_for g m token) w
+  happens_behind g (presented m token) w = came_behind g m (token_for g m token) w
   happens_behind g (message m text) w = said_behind g m text w
   happens_behind g (gone m) w = went_behind g m
   happens_behind g (known tokens) w = same g
   happens_behind g ticked w = same g
   happens_behind g synced w = same g
   happens_behind g (handed m) w = same g
+  happens_behind g (arrived s) w = takes_behind g s
+  happens_behind g forgave w = same g
   happens_behind g failed w = same g
 
   pub next_behind : (g : Gate) (e : Event) → AreFor R g e → IsBehind R g (next g e).seats
@@ -251,6 +268,8 @@ for_any g (known tokens) = tt
 for_any g ticked = tt
 for_any g synced = tt
 for_any g (handed m) = tt
+for_any g (arrived s) = tt
+for_any g forgave = tt
 for_any g failed = tt
 
 pub begins_as_needed : (g : Gate) (e : Event) → AreSeatsBehind g (next g e).seats

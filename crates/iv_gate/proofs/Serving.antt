@@ -2,7 +2,6 @@
 use Rattle.std.proofs.Common.{◌≡◌, ℕ, zero, suc, Bool, true, false, cond, not, List, [], ◌∷◌, ◌++◌, length, drop, map, set, Option, Some, None, option_map, refl, ap, ◌∙◌, sym, subst}
 use Rattle.std.specs.Prelude.{◌==◌, ◌+◌, ◌&&◌, filter, nat_lt}
 use Rattle.std.proofs.lemmas.Bool.{false≢true, eqb-true, eqb-false}
-use Rattle.sha2.specs.Sha256.{sha256}
 use Rattle.iv_rows.specs.Options.{if_some}
 use Rattle.iv_access.specs.Rights.{Name}
 use Rattle.iv_clients.specs.Bounds.{most_requests, most_waiting}
@@ -10,8 +9,8 @@ use Rattle.iv_clients.specs.Clients.{Client, Shown, Slots, answered, at_client, 
 use Rattle.iv_clients.specs.Feeds.{is_of_role, seat_of}
 use Rattle.iv_clients.specs.Journal.{said_by, Entry}
 use Rattle.iv_clients.proofs.Slots.{at_same, one_some, set_other, some_is_none}
-use Rattle.iv_gate.specs.Events.{Event, presented, message, gone, known, ticked, synced, handed, failed, happens, next}
-use Rattle.iv_gate.specs.Gate.{Gate, all_rested, all_swept, begun_for, done_for, hears, role_for, said, seated, settles, went, with_session}
+use Rattle.iv_gate.specs.Events.{Event, presented, message, gone, known, ticked, synced, handed, failed, happens, next, arrived, forgave}
+use Rattle.iv_gate.specs.Gate.{Gate, all_rested, all_swept, begun_for, done_for, hears, token_for, said, seated, settles, went, with_session, at_text}
 use Rattle.iv_gate.specs.Replies.{IsClient, replies}
 use Rattle.iv_gate.proofs.Asking.{IsHeard, done_sound, seated_sound}
 use Rattle.iv_gate.proofs.Finishing.{all_rested_sound}
@@ -21,6 +20,8 @@ use Rattle.iv_gate.proofs.Sound.{Adds, IsSoundClient, IsSoundGate, Sounds, seer,
 use Rattle.iv_gate.proofs.Touching.{came_as}
 use Rattle.iv_gate.proofs.Walking.{to_done, to_settles, to_then}
 use Rattle.iv_gate.proofs.Shaping.{told_fresh}
+use Rattle.iv_clients.specs.Tokens.{Token}
+use Rattle.iv_gate.proofs.Arrived.{takes_sound}
 
 some_sound : {X : Type 0} (o : Option X) (h : Gate) (f : X → Gate) → IsSoundGate h → ((x : X) → o ≡ Some x → IsSoundGate (f x)) → IsSoundGate (if_some o h f)
 some_sound None h f a b = a
@@ -48,20 +49,20 @@ put_sound g m o k b = record {
   clients = put_one (λ c. c.dropped ≡ false → IsSoundClient g.machine g.feeds (seer c)) m o g.clients (λ c e live. k c e) b.clients;
 }
 
-fresh_sound : (g : Gate) (es : List Entry) (role : Name) (digest : List ℕ) → IsSoundClient g.machine g.feeds (seer (fresh es role digest))
-fresh_sound g es role digest =
-    let nothing : Seer = record { role = role; given = 0; subs = []; told = []; messages = [] } in
-    subst (λ z. IsSoundClient g.machine g.feeds (record { role = role; given = 0; subs = []; told = z; messages = [] })) (sym (told_fresh es role digest))
-    (client_told_all g.machine g.feeds (greeting es role) nothing (quiet_greeting es role) (record { own = tt; follows = tt; later = λ own q h. refl; unended = λ own h. refl; spent = λ own h e q. refl }))
+fresh_sound : (g : Gate) (es : List Entry) (t : Token) (at : List ℕ) → IsSoundClient g.machine g.feeds (seer (fresh es t at))
+fresh_sound g es t at =
+    let nothing : Seer = record { role = t.role; given = 0; subs = []; told = []; messages = [] } in
+    subst (λ z. IsSoundClient g.machine g.feeds (record { role = t.role; given = 0; subs = []; told = z; messages = [] })) (sym (told_fresh es t at))
+    (client_told_all g.machine g.feeds (greeting es t.role at) nothing (quiet_greeting es t.role at) (record { own = tt; follows = tt; later = λ own q h. refl; unended = λ own h. refl; spent = λ own h e q. refl }))
 
 with_sound : Adds → Sounds → (g : Gate) (role : Name) → IsSoundGate g → IsSoundGate (with_session g role)
 with_sound adds sounds g role b = some_sound (seat_of g.seats role) (if_some (begun_for g role) g (λ n. seated g n role)) (λ n. g)
     (some_sound (begun_for g role) g (λ n. seated g n role) b (λ n e. seated_sound adds sounds g role n e b)) (λ n e. b)
 
-came_sound : Adds → Sounds → (g : Gate) (m : ℕ) (token : List ℕ) (role : Name) → IsSoundGate g → IsSoundGate (came_as g m token role)
-came_sound adds sounds g m token role b =
-    let h = with_session g role in let who = fresh h.entries role (sha256 token) in
-    put_sound h m (Some who) (λ c e. subst (λ x. IsSoundClient h.machine h.feeds (seer x)) (one_some who c e) (fresh_sound h h.entries role (sha256 token))) (with_sound adds sounds g role b)
+came_sound : Adds → Sounds → (g : Gate) (m : ℕ) (t : Token) → IsSoundGate g → IsSoundGate (came_as g m t)
+came_sound adds sounds g m t b =
+    let h = with_session g t.role in let who = fresh h.entries t (at_text h t) in
+    put_sound h m (Some who) (λ c e. subst (λ x. IsSoundClient h.machine h.feeds (seer x)) (one_some who c e) (fresh_sound h h.entries t (at_text h t))) (with_sound adds sounds g t.role b)
 
 went_sound : Adds → Sounds → (g : Gate) (m : ℕ) → IsSoundGate g → IsSoundGate (went g m)
 went_sound adds sounds g m b = by (client_at g.clients m)
@@ -149,13 +150,15 @@ said_sound adds sounds g m text even b = some_sound (client_at g.clients m) g (�
 -- ---- each event
 
 happens_sound : Adds → Sounds → (g : Gate) (e : Event) → AreEven g → IsSoundGate g → IsSoundGate (happens g e)
-happens_sound adds sounds g (presented m token) even b = some_sound (role_for g m token) g (came_as g m token) b (λ role e. came_sound adds sounds g m token role b)
+happens_sound adds sounds g (presented m token) even b = some_sound (token_for g m token) g (came_as g m) b (λ t e. came_sound adds sounds g m t b)
 happens_sound adds sounds g (message m text) even b = said_sound adds sounds g m text even b
 happens_sound adds sounds g (gone m) even b = went_sound adds sounds g m b
 happens_sound adds sounds g (known tokens) even b = knowing_sound g tokens b
 happens_sound adds sounds g ticked even b = ticking_sound g b
 happens_sound adds sounds g synced even b = on_disk_sound g b
 happens_sound adds sounds g (handed m) even b = hands_sound g m b
+happens_sound adds sounds g (arrived s) even b = takes_sound sounds g s b
+happens_sound adds sounds g forgave even b = record { state = b.state; seats = b.seats; feeds = b.feeds; clients = b.clients }
 happens_sound adds sounds g failed even b = record { state = b.state; seats = b.seats; feeds = b.feeds; clients = b.clients }
 
 pub next_sound : Adds → Sounds → (g : Gate) (e : Event) → AreEven g → IsSoundGate g → IsSoundGate (next g e)

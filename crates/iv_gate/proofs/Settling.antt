@@ -1,26 +1,26 @@
 -- What an event tells a client ends by one word that this is all.
 use Rattle.std.proofs.Common.{◌≡◌, ℕ, ◌⊎◌, inl, inr, Bool, true, false, cond, ◌||◌, List, [], ◌∷◌, ◌++◌, length, map, Option, Some, None, option_map, refl, ap, ◌∙◌, sym, subst, append-nil}
-use Rattle.std.specs.Prelude.{◌+◌, ◌==◌, flat_map}
+use Rattle.std.specs.Prelude.{◌+◌, ◌==◌, flat_map, is_some}
 use Rattle.std.specs.List.{list_any}
 use Rattle.std.proofs.lemmas.Bool.{false≢true, eqb-true, eqb-false}
 use Rattle.iv_rows.specs.Options.{if_some}
 use Rattle.iv_access.specs.Rights.{Name}
 use Rattle.iv_machine.specs.Act.{Command, Line, reply, change, ended, subscribe, subscribed}
 use Rattle.iv_machine.specs.Machine.{Outcome, step}
-use Rattle.iv_message.specs.Told.{Told, alive, changed, granted, opened, over, replied, settled}
-use Rattle.iv_clients.specs.Clients.{Client, Sub, answered, at_client, beating, checked, client_at, dropping, following, handing, is_slow, may_say, opens, own_line, own_lines, released, saying, settling, staying, telling, told, told_one}
+use Rattle.iv_message.specs.Told.{Told, alive, changed, granted, opened, over, settled}
+use Rattle.iv_clients.specs.Clients.{Client, Sub, answered, at_client, beating, checked, client_at, dropping, following, handing, is_slow, may_say, opens, own_line, own_lines, released, saying, settling, staying, telling, told, told_one, at_all}
 use Rattle.iv_clients.specs.Feeds.{Feed, rel_read}
 use Rattle.iv_clients.specs.Journal.{Entry, said_by, shape_for}
 use Rattle.iv_clients.specs.Tokens.{Token}
 use Rattle.iv_clients.proofs.Slots.{at_every, at_other, at_same, one_some}
-use Rattle.iv_gate.specs.Events.{Event, presented, message, gone, known, ticked, synced, handed, failed, happens, next}
-use Rattle.iv_gate.specs.Gate.{Gate, columns_in, done_for, entered, feed_begun, granted_by, hears, in_session, is_accepted, next_own, reply_in, reply_to, said, settles, tells, told_of, entries_of}
+use Rattle.iv_gate.specs.Events.{Event, presented, message, gone, known, ticked, synced, handed, failed, happens, next, arrived, forgave}
+use Rattle.iv_gate.specs.Gate.{Gate, columns_in, done_for, entered, feed_begun, granted_by, hears, in_session, is_accepted, next_own, reply_in, reply_to, said, settles, told_of, entries_of, reply_told}
 use Rattle.iv_gate.specs.Laws.{IsSettledBy, is_word}
 use Rattle.iv_gate.specs.Replies.{ByClient, told_by}
 use Rattle.iv_gate.specs.Runs.{Runs, begins, goes_on, begins_again}
 use Rattle.iv_gate.proofs.Growing.{assoc}
 use Rattle.iv_gate.proofs.Lasting.{Starts, restored_empty, runs_sound}
-use Rattle.iv_gate.proofs.Doing.{HasAnswered, IsDone, answers, asks, opens as reads_more, all_done, told_more}
+use Rattle.iv_gate.proofs.Doing.{HasAnswered, IsDone, answers, asks, opens as reads_more, all_done, told_more, plain_reply}
 use Rattle.iv_gate.proofs.News.{request_there, subscribe_there}
 use Rattle.iv_gate.proofs.Noticing.{came_stays, every_is, told_checked, told_handing, told_now, told_released, went_turns}
 use Rattle.iv_gate.proofs.Places.{any_of_both, or_true}
@@ -28,8 +28,10 @@ use Rattle.iv_gate.proofs.Replying.{asked, grown_by}
 use Rattle.iv_gate.proofs.Serving.{told_answered}
 use Rattle.iv_gate.proofs.Sound.{Adds, IsSoundGate, Seer, Sounds, or_none, seer_telling}
 use Rattle.iv_gate.proofs.Touching.{alive as is_alive, rests, touched, test_same}
-use Rattle.iv_gate.proofs.Walking.{Later}
+use Rattle.iv_gate.proofs.Walking.{Later, step_told}
 use Rattle.iv_gate.proofs.Shaping.{all_made, any_none}
+use Rattle.iv_gate.specs.Arriving.{Step, entry_of, fact_of, fault_of, is_behind, landed, newly, takes}
+use Rattle.iv_steps.specs.Steps.{stepped}
 
 -- ---- what a command tells
 
@@ -113,6 +115,14 @@ owes_ran g k c = let ts = told_of g k.act (step g.machine k) c in record {
   owed = owed_telling g.entries ts c;
 }
 
+owes_stepped : (g : Gate) (es : List Entry) (o : Outcome) (c : Client) → Owes c (staying o.lines (telling es (step_told g o c) c))
+owes_stepped g es o c = record {
+  more = step_told g o c;
+  text = ap (λ (v : Seer). v.told) (seer_telling es (step_told g o c) c);
+  plain = no_words (own_lines g.feeds o.lines c.subs) _ (lines_words g.feeds o.lines c.subs) (grants_words (newly g.machine.frame o.state.frame c.role));
+  owed = owed_telling es (step_told g o c) c;
+}
+
 owes_shape : (es more : List Entry) (c : Client) → Owes c (telling es (shape_for c.role more) c)
 owes_shape es more c = record {
   more = shape_for c.role more;
@@ -138,16 +148,15 @@ answer_owes g m h a j x t = by (m == j) refl
 
 done_owes : (g : Gate) (m : ℕ) (a : Client) (h : Gate) → IsDone g m a h → (j : ℕ) (x : Client) → client_at g.clients j ≡ Some x → Later (λ n c d. Owes c d) h.clients j x
 done_owes g m a h (answers r) j x t = answer_owes g m h r j x t
-done_owes g m a h (asks id e n s heard same) j x t =
-    let text = replied id (reply_to g (in_session n e.act)) in
-    let before = tells (entered g e (is_accepted (reply_to g (in_session n e.act)))) m text in
-    let first = told_one before.entries text x in
-    let hears : Client → Client = λ c. staying (step g.machine (in_session n e.act)).lines (telling before.entries (told_of before e.act (step g.machine (in_session n e.act)) c) c) in
-    let more = entries_of e (is_accepted (reply_to g (in_session n e.act))) in
-    let all : (c : Client) → Owes c (telling before.entries (shape_for (hears c).role more) (hears c)) =
-    λ c. owes_then c (hears c) _ (owes_ran before (in_session n e.act) c) (owes_shape before.entries more (hears c)) in
+done_owes g m a h (asks id q name n s heard same) j x t =
+    let k = in_session n q.act in let r = reply_to g k in let more = entries_of q name r in let before = entered g more in let es = g.entries ++ more in
+    let text = reply_told before id name r in
+    let first = told_one es text x in
+    let hears : Client → Client = λ c. staying (step g.machine k).lines (telling es (told_of g k.act (step g.machine k) c) c) in
+    let all : (c : Client) → Owes c (telling es (shape_for (hears c).role more) (hears c)) =
+    λ c. owes_then c (hears c) _ (owes_ran before k c) (owes_shape es more (hears c)) in
     subst (λ (i : Gate). Later (λ n c d. Owes c d) i.clients j x) (sym same)
-    (request_there g m id e n s heard Owes j x t (λ own. owes_then x first _ (owes_one text x first refl (told_more before.entries text x) refl) (all first)) (λ ne. all x))
+    (request_there g m id q name n s heard Owes j x t (λ own. owes_then x first _ (owes_one text x first (plain_reply before id name r) (told_more es text x) refl) (all first)) (λ ne. all x))
 done_owes g m a h (reads_more r) j x t =
     let i = r.first in let k = in_session r.session (subscribe r.rel) in let n = i.machine.frame.last + 1 in
     let h0 = feed_begun i m r.id r.session r.role r.rel (subscribed n) in
@@ -286,6 +295,36 @@ by_message m text c d x = record { told = λ s. by (subst (λ z. (z ≡ []) ⊎ 
     by (inl n) = inl n
     by (inr a) = inr (a.first, a.more, a.all, a.plain)
 
+-- a step
+landed_ends : (g : Gate) (e : Entry) (o : Outcome) (j : ℕ) (c d : Client) → client_at g.clients j ≡ Some c → c.owed ≡ false → client_at (landed g e o).clients j ≡ Some d → Ends c d
+landed_ends g e o j c d t none k =
+    let es = g.entries ++ e ∷ [] in
+    let first : Client → Client = λ (x : Client). staying o.lines (telling es (step_told g o x) x) in
+    let shapes : Client → Client = λ (x : Client). telling es (shape_for x.role (e ∷ [])) x in
+    let there : client_at (landed g e o).clients j ≡ Some (settling es (shapes (first c))) =
+    at_every (settling es) (at_all shapes (at_all first g.clients)) j ∙ ap (option_map (settling es)) (at_every shapes (at_all first g.clients) j ∙ ap (option_map shapes) (at_every first g.clients j ∙ ap (option_map first) t)) in
+    subst (Ends c) (one_some (settling es (shapes (first c))) d (sym there ∙ k))
+    (ends_settled es c (shapes (first c)) none (owes_then c (first c) (shapes (first c)) (owes_stepped g es o c) (owes_shape es (e ∷ []) (first c))))
+
+by_step : (s : Step) (c d : Client) → Ends c d → IsTold (arrived s) c d
+by_step s c d x = record { told = λ stays. by (subst (λ z. (z ≡ []) ⊎ EndsSettled z) (sym (told_now c d x.more x.text)) x.ends); owed = x.owed }
+  where
+    by : (told_by c d ≡ []) ⊎ EndsSettled (told_by c d) → IsSettledBy (arrived s) (told_by c d)
+    by (inl n) = inl n
+    by (inr a) = inr (a.first, a.more, a.all, a.plain)
+
+takes_told : (g : Gate) (s : Step) (j : ℕ) (c d : Client) → client_at g.clients j ≡ Some c → c.owed ≡ false → client_at (takes g s).clients j ≡ Some d → IsTold (arrived s) c d
+takes_told g s j c d t none k = by (is_some (fault_of g s)) (is_behind g s) (stepped (map fact_of s.requests) g.machine) k
+  where
+    same : client_at g.clients j ≡ Some d → IsTold (arrived s) c d
+    same i = still_told (arrived s) c d (inl refl) (one_some c d (sym t ∙ i)) none
+
+    by : (x y : Bool) (o : Option Outcome) → client_at (cond x (record g { dead = true }) (cond y g (if_some o g (landed g (entry_of s))))).clients j ≡ Some d → IsTold (arrived s) c d
+    by true y o i = same i
+    by false true o i = same i
+    by false false None i = same i
+    by false false (Some o) i = by_step s c d (landed_ends g (entry_of s) o j c d t none i)
+
 happens_told : Sounds → (g : Gate) (e : Event) → IsSoundGate g → (j : ℕ) (c d : Client) → client_at g.clients j ≡ Some c → c.owed ≡ false → client_at (happens g e).clients j ≡ Some d → IsTold e c d
 happens_told sounds g (presented m token) b j c d t o k =
     still_told (presented m token) c d refl (came_stays g b m token j c d t k) o
@@ -308,6 +347,8 @@ happens_told sounds g (handed m) b j c d t o k = by (m == j) refl
         let e = one_some (handing c) d (ap (option_map handing) (sym t) ∙ (sym (at_same j handing g.clients) ∙ (ap (λ i. client_at (at_client i handing g.clients) j) (sym (eqb-true m j q)) ∙ k))) in
         is_told (handed m) c d refl (λ s. told_handing c d e) (ap (λ (x : Client). x.owed) (sym e) ∙ owed_handing c) o
     by false q = still_told (handed m) c d refl (one_some c d (sym t ∙ (sym (at_other m j handing g.clients (eqb-false m j q)) ∙ k))) o
+happens_told sounds g (arrived x) b j c d t o k = takes_told g x j c d t o k
+happens_told sounds g forgave b j c d t o k = still_told forgave c d refl (one_some c d (sym t ∙ k)) o
 happens_told sounds g failed b j c d t o k = still_told failed c d refl (one_some c d (sym t ∙ k)) o
 
 -- ---- over runs
@@ -330,9 +371,9 @@ next_owes sounds g e b a j d k = by g.dead refl
     by false q = there q (client_at g.clients j) refl
 
 runs_owe : Adds → Starts → Sounds → (cap : ℕ) (g : Gate) → Runs cap g → OwesNothing g
-runs_owe adds starts sounds cap _ (begins tokens most journal g r) m c x = absurd (restored_empty cap tokens most [] journal g r m c x)
-runs_owe adds starts sounds cap _ (goes_on h e r) m c x = next_owes sounds h e (runs_sound adds starts sounds cap h r) (runs_owe adds starts sounds cap h r) m c x
-runs_owe adds starts sounds cap _ (begins_again h disk tokens most i r l y) m c x = absurd (restored_empty cap tokens most h.sent disk i y m c x)
+runs_owe adds starts sounds cap _ (begins tokens most head journal g r) m c x = absurd (restored_empty cap tokens most head [] journal g r m c x)
+runs_owe adds starts sounds cap _ (goes_on h e w r) m c x = next_owes sounds h e (runs_sound adds starts sounds cap h r) (runs_owe adds starts sounds cap h r) m c x
+runs_owe adds starts sounds cap _ (begins_again h disk tokens most i r l y) m c x = absurd (restored_empty cap tokens most h.head h.sent disk i y m c x)
 
 pub runs_settle : Adds → Starts → Sounds → (cap : ℕ) (g : Gate) (e : Event) → Runs cap g → g.dead ≡ false → ByClient g e (λ m c d. IsSettledBy e (told_by c d))
 runs_settle adds starts sounds cap g e r live m c d x y =

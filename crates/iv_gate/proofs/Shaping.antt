@@ -3,35 +3,41 @@ use Rattle.std.proofs.Common.{◌≡◌, ℕ, Bool, true, false, cond, ◌||◌,
 use Rattle.std.specs.Prelude.{bytes_eq, codes, filter}
 use Rattle.std.specs.List.{AllByRecursion, list_any}
 use Rattle.std.proofs.lemmas.List.{map-append}
+use Rattle.std.proofs.lemmas.List.Concat.{flat_map-append}
 use Rattle.std.proofs.lemmas.List.Elements.{filter-append}
 use Rattle.iv_access.specs.Rights.{Name}
-use Rattle.iv_message.specs.Told.{Told, made, settled, welcome}
+use Rattle.iv_message.specs.Told.{Told, made, placed, settled, welcome}
 use Rattle.iv_clients.specs.Clients.{Shown, fresh, greeting, told}
-use Rattle.iv_clients.specs.Journal.{Entry, is_shape, shape_for, shape_of}
+use Rattle.iv_clients.specs.Journal.{Entry, Request, is_shape, requests_in, shape_for, shape_of}
+use Rattle.iv_clients.specs.Tokens.{Token}
 
 -- ---- the shape
 
+abbrev pub shape_in : List Request → List Told
+shape_in qs = map (λ (q : Request). made q.role q.line) (filter (λ (q : Request). is_shape q.act) qs)
+
 module _ (P : Told → Type 0) (k : (role line : List ℕ) → P (made role line)) where
-  all_of : (es : List Entry) → AllByRecursion P (shape_of es)
+  all_of : (qs : List Request) → AllByRecursion P (shape_in qs)
   all_of [] = tt
-  all_of (e ∷ es) = by (is_shape e.act) (all_of es)
+  all_of (q ∷ qs) = by (is_shape q.act) (all_of qs)
     where
-      by : (b : Bool) → AllByRecursion P (shape_of es)
-          → AllByRecursion P (map (λ (x : Entry). made x.role x.line) (cond b (e ∷ filter (λ (x : Entry). is_shape x.act) es) (filter (λ (x : Entry). is_shape x.act) es)))
-      by true rest = (k e.role e.line, rest)
+      by : (b : Bool) → AllByRecursion P (shape_in qs)
+          → AllByRecursion P (map (λ (x : Request). made x.role x.line) (cond b (q ∷ filter (λ (x : Request). is_shape x.act) qs) (filter (λ (x : Request). is_shape x.act) qs)))
+      by true rest = (k q.role q.line, rest)
       by false rest = rest
 
   pub all_made : (role : Name) (es : List Entry) → AllByRecursion P (shape_for role es)
   all_made role es = by (bytes_eq role (codes "admin"))
     where
       by : (b : Bool) → AllByRecursion P (cond b (shape_of es) [])
-      by true = all_of es
+      by true = all_of (requests_in es)
       by false = tt
 
 pub shape_both : (es fs : List Entry) → shape_of (es ++ fs) ≡ shape_of es ++ shape_of fs
 shape_both es fs =
-    ap (map (λ (x : Entry). made x.role x.line)) (filter-append (λ (x : Entry). is_shape x.act) es fs)
-    ∙ map-append (λ (x : Entry). made x.role x.line) (filter (λ (x : Entry). is_shape x.act) es) (filter (λ (x : Entry). is_shape x.act) fs)
+    ap shape_in (flat_map-append (λ (e : Entry). e.requests) es fs)
+    ∙ (ap (map (λ (x : Request). made x.role x.line)) (filter-append (λ (x : Request). is_shape x.act) (requests_in es) (requests_in fs))
+    ∙ map-append (λ (x : Request). made x.role x.line) (filter (λ (x : Request). is_shape x.act) (requests_in es)) (filter (λ (x : Request). is_shape x.act) (requests_in fs)))
 
 pub shape_more : (role : Name) (es fs : List Entry) → shape_for role (es ++ fs) ≡ shape_for role es ++ shape_for role fs
 shape_more role es fs = by (bytes_eq role (codes "admin"))
@@ -63,8 +69,9 @@ any_none p (t ∷ ts) a = (λ i. a.0 i || list_any p ts) ∙ any_none p ts a.1
 
 -- ---- who comes in
 
-pub all_greeting : (P : Told → Type 0) → ((role : Name) → P (welcome role)) → ((role line : List ℕ) → P (made role line)) → P settled → (es : List Entry) (role : Name) → AllByRecursion P (greeting es role)
-all_greeting P w k s es role = (w role, with_last (shape_for role es) (all_made P k role es))
+pub all_greeting : (P : Told → Type 0) → ((role : Name) → P (welcome role)) → ((at : List ℕ) → P (placed at)) → ((role line : List ℕ) → P (made role line)) → P settled
+    → (es : List Entry) (role : Name) (at : List ℕ) → AllByRecursion P (greeting es role at)
+all_greeting P w l k s es role at = (w role, (l at, with_last (shape_for role es) (all_made P k role es)))
   where
     with_last : (ts : List Told) → AllByRecursion P ts → AllByRecursion P (ts ++ settled ∷ [])
     with_last [] a = (s, tt)
@@ -78,8 +85,8 @@ told_all_itself : (es : List Entry) (ts : List Told) → map (λ (s : Shown). s.
 told_all_itself es [] = refl
 told_all_itself es (t ∷ ts) = ap (λ z. t ∷ z) (told_all_itself es ts)
 
-pub told_fresh : (es : List Entry) (role : Name) (digest : List ℕ) → told (fresh es role digest) ≡ greeting es role
-told_fresh es role digest = told_all_itself es (greeting es role)
+pub told_fresh : (es : List Entry) (t : Token) (at : List ℕ) → told (fresh es t at) ≡ greeting es t.role at
+told_fresh es t at = told_all_itself es (greeting es t.role at)
 
 -- ---- where a test leads
 

@@ -8,7 +8,7 @@ use Rattle.iv_rows.specs.Options.{if_some}
 use Rattle.iv_access.specs.Rights.{Name}
 use Rattle.iv_machine.specs.Act.{Act, begin, finish, create_role, create_table, create_view, grant, revoke, grant_role, revoke_role, row_security, create_policy, drop_policy, subscribe, unsubscribe, write, Command, Line, Refusal, subscribed, refused, no_session, unknown_subscription}
 use Rattle.iv_machine.specs.Changing.{after, after_sessions, after_subscriptions, insert_subscription, opened_by}
-use Rattle.iv_machine.specs.Machine.{ending_by, line_for, outcome, settled, step}
+use Rattle.iv_machine.specs.Machine.{ending_by, line_for, outcome, settled, step, ending, Outcome}
 use Rattle.iv_machine.specs.Reached.{AreGiven, AreNumbersUnique, AreUnique}
 use Rattle.iv_machine.specs.Refusing.{has_subscription, or_else, refusal, test}
 use Rattle.iv_machine.specs.State.{Frame, Session, State, Subscription, is_open, session_of, subscription_of}
@@ -20,7 +20,7 @@ use Rattle.iv_message.specs.Told.{Told, replied, opened}
 use Rattle.iv_clients.specs.Clients.{Client, Slots, at_all, at_client, client_at, following, has_role, staying, telling, told_one}
 use Rattle.iv_clients.specs.Feeds.{Feed, Seat, ends_in, feed_of, feeds_left, is_of_role, seat_of, without_feed, without_seat}
 use Rattle.iv_clients.proofs.Slots.{one_some, some_is_none}
-use Rattle.iv_gate.specs.Gate.{Gate, begun_for, columns_in, feed_begun, in_session, next_own, ran, seated, shut, subscribes, tells, told_of}
+use Rattle.iv_gate.specs.Gate.{Gate, begun_for, columns_in, feed_begun, in_session, next_own, ran, seated, shut, subscribes, tells, told_of, entered, went_on}
 use Rattle.iv_gate.specs.Replies.{ActsAs}
 use Rattle.iv_gate.proofs.Asking.{begun_accepted}
 use Rattle.iv_gate.proofs.Ending.{find_ended}
@@ -29,8 +29,11 @@ use Rattle.iv_gate.proofs.Joining.{bytes_self, same_name}
 use Rattle.iv_gate.proofs.Machine.{find_left, find_passes, if_some_there}
 use Rattle.iv_gate.proofs.Opening.{above_given, reply_of_none, reply_of_some}
 use Rattle.iv_gate.proofs.Running.{all_so, filter_plain}
-use Rattle.iv_gate.proofs.Sound.{IsFeed, Seer, filter_all, left_of, seer_telling}
+use Rattle.iv_gate.proofs.Sound.{IsFeed, Seer, filter_all, left_of, seer_telling, Sounds}
 use Rattle.iv_gate.proofs.Summing.{both, same_self}
+use Rattle.iv_clients.specs.Journal.{Entry}
+use Rattle.iv_steps.specs.Steps.{Fact, all_carried, among, looked_at, shared, stepped}
+use Rattle.iv_machine.specs.Sound.{IsSoundState}
 
 -- the subscription is a feed, in its session
 pub record IsFed (feeds : List Feed) (e : Subscription) : Type 0 where
@@ -224,6 +227,28 @@ shared_seated g n role e u b =
       seated = λ r i. seat_more g.seats _ r (b.seated r (sym (ran_roles h k r) ∙ i));
       fed = fed_step g.machine k g.feeds u (λ i. b.fed) (λ r i. b.fed);
     }
+
+-- what a step does not end stays fed
+fed_looked : (s t : State) (feeds : List Feed) → AreUnique s.frame.subscriptions → AllByRecursion (IsFed feeds) s.frame.subscriptions
+    → AllByRecursion (IsFed (feeds_left (looked_at s (among s t)).lines feeds)) (looked_at s (among s t)).state.frame.subscriptions
+fed_looked s t feeds u a =
+    let now = among s t in let new = (looked_at s now).state in let es = s.frame.subscriptions in let ls = flat_map (line_for s new (ending now)) es in
+    filter_all (IsFed (feeds_left ls feeds)) (λ e. is_some (ending now e)) es
+    (both {P = λ e. subscription_of es e.number ≡ Some e} {Q = IsFed feeds} {R = λ e. is_some (ending now e) ≡ false → IsFed (feeds_left ls feeds) e}
+    (λ e h b stays. fed_left s new (ending now) feeds es e u h b stays) es (all_found es u) a)
+
+pub shared_stepped : Sounds → (g : Gate) (es : List Entry) (fs : List Fact) (o : Outcome) (ts : Client → List Told) → stepped fs g.machine ≡ Some o → IsSoundState g.machine → IsShared g
+    → IsShared (went_on (entered g es) o ts)
+shared_stepped sounds g es fs o ts h s b = record {
+  sessions = ap numbers_in (sounds.told fs g.machine o s h).sessions ∙ b.sessions;
+  seated = λ role j. b.seated role (sym (roles_all (λ c. staying o.lines (telling (g.entries ++ es) (ts c) c)) (λ c. ap (λ (v : Seer). v.role) (seer_telling (g.entries ++ es) (ts c) c)) role g.clients) ∙ j);
+  fed = by (all_carried fs (shared g.machine)) h;
+}
+  where
+    by : (t : Option State) → option_map (λ u. looked_at g.machine (among g.machine u)) t ≡ Some o → AllByRecursion (IsFed (feeds_left o.lines g.feeds)) o.state.frame.subscriptions
+    by None e = absurd (some_is_none o (sym e))
+    by (Some t) e = subst (λ (z : Outcome). AllByRecursion (IsFed (feeds_left z.lines g.feeds)) z.state.frame.subscriptions) (one_some (looked_at g.machine (among g.machine t)) o e)
+        (fed_looked g.machine t g.feeds s.numbers.unique b.fed)
 
 -- ---- a subscription is opened
 

@@ -6,24 +6,26 @@ use Rattle.std.proofs.Math.Seq.{drop-append_seam}
 use Rattle.std.proofs.lemmas.Bool.{false≢true, eqb-true, eqb-false}
 use Rattle.std.proofs.lemmas.List.Concat.{flat_map-append}
 use Rattle.serde_json.specs.Data.{Data}
-use Rattle.sha2.specs.Sha256.{sha256}
 use Rattle.iv_rows.specs.Options.{if_some}
-use Rattle.iv_access.specs.Rights.{Name}
-use Rattle.iv_machine.specs.Act.{Command}
-use Rattle.iv_machine.specs.Machine.{step}
-use Rattle.iv_message.specs.Told.{Told, alive, replied, settled}
+use Rattle.iv_machine.specs.Act.{Command, Reply, refused}
+use Rattle.iv_machine.specs.Machine.{step, Outcome}
+use Rattle.iv_message.specs.Told.{Told, alive, settled}
 use Rattle.iv_clients.specs.Clients.{Client, Shown, Slots, all_shown, answered, at_all, at_client, beating, checked, client_at, closing, dropping, following, fresh, handing, is_slow, may_say, moved, opens, released, saying, settling, staying, telling, told_one}
-use Rattle.iv_clients.specs.Journal.{Entry, line_said, said_by, shape_for}
+use Rattle.iv_clients.specs.Journal.{Entry, said_by, shape_for, Request}
 use Rattle.iv_clients.specs.Tokens.{Token}
 use Rattle.iv_clients.proofs.Slots.{at_every, at_other, at_same, not_free, one_some, set_gone, set_other, some_is_none}
-use Rattle.iv_gate.specs.Events.{Event, presented, message, gone, known, ticked, synced, handed, failed, happens, next}
-use Rattle.iv_gate.specs.Gate.{Gate, came, done_for, entered, hears, in_session, is_accepted, ran, reply_to, requests, role_for, said, settles, tells, told_of, went, entries_of, informs}
+use Rattle.iv_gate.specs.Events.{Event, presented, message, gone, known, ticked, synced, handed, failed, happens, next, arrived, forgave}
+use Rattle.iv_gate.specs.Gate.{Gate, came, done_for, entered, hears, in_session, ran, reply_to, done_in, token_for, said, settles, told_of, went, entries_of, informs, at_text, replies_to, reply_told}
 use Rattle.iv_gate.specs.Replies.{ByClient, heard_by}
 use Rattle.iv_gate.proofs.Growing.{Grown, assoc, shown_more}
 use Rattle.iv_gate.proofs.Holding.{all_more}
 use Rattle.iv_gate.proofs.Running.{all_so}
-use Rattle.iv_gate.proofs.Stepping.{Keeps, Steps, came_keeps, step_done, went_keeps}
-use Rattle.iv_gate.proofs.Touching.{alive as is_alive, leaves_at, opens_role, rests}
+use Rattle.iv_gate.proofs.Stepping.{Keeps, Steps, came_keeps, step_done, went_keeps, request_of}
+use Rattle.iv_gate.proofs.Touching.{alive as is_alive, leaves_at, opens_token, rests}
+use Rattle.iv_once.specs.Names.{Ask}
+use Rattle.iv_gate.specs.Arriving.{Step, entry_of, fact_of, fault_of, is_behind, landed, takes}
+use Rattle.iv_gate.proofs.Walking.{landed_at, landed_client, step_told}
+use Rattle.iv_steps.specs.Steps.{stepped}
 
 -- ---- one client
 
@@ -168,19 +170,19 @@ came_shows : (g : Gate) (m : ℕ) (token : List ℕ) (j : ℕ) (c d : Client) �
     → IsShowing (came g m token).entries false c d
 came_shows g m token j c d h k =
     let b = came_keeps (IsTelling g.entries g.clients) (telling_kit g.entries g.clients) g m token
-    (λ i role e x. record {
+    (λ i who e x. record {
       entries = x.entries;
       clients = λ n a t. let p = x.clients n a t in record {
         now = p.now;
-        there = set_other m n (Some (fresh i.entries role (sha256 token))) i.clients (free role e n a t) ∙ p.there;
+        there = set_other m n (Some (fresh i.entries who (at_text i who))) i.clients (free who e n a t) ∙ p.there;
         so = p.so;
       };
     })
     (record { entries = refl; clients = follow_start g.entries g.clients }) in
     subst (λ z. IsShowing z false c d) (sym b.entries) (followed_by g.entries (came g m token).clients j c d (b.clients j c h) k)
   where
-    free : (role : Name) → role_for g m token ≡ Some role → (n : ℕ) (a : Client) → client_at g.clients n ≡ Some a → m ≡ n → ⊥
-    free role e n a t same = false≢true (sym (not_free m a g.clients (ap (client_at g.clients) same ∙ t)) ∙ (opens_role g m token role e).free)
+    free : (who : Token) → token_for g m token ≡ Some who → (n : ℕ) (a : Client) → client_at g.clients n ≡ Some a → m ≡ n → ⊥
+    free who e n a t same = false≢true (sym (not_free m a g.clients (ap (client_at g.clients) same ∙ t)) ∙ (opens_token g m token who e).free)
 
 -- a client goes
 went_shows : (g : Gate) (m j : ℕ) (c d : Client) → (m ≡ j → ⊥) → client_at g.clients j ≡ Some c → client_at (went g m).clients j ≡ Some d → IsShowing (went g m).entries false c d
@@ -205,13 +207,18 @@ done_reaches g m c text =
     step_done m (Keeps (IsTelling g.entries g.clients)) (telling_kit g.entries g.clients m) g (Reached g.clients)
     (λ h f. let x = f (record { entries = refl; clients = follow_start g.entries g.clients }) in subst (λ z. AllFollow z g.clients h.clients) (sym x.entries) x.clients)
     c text (said_by text)
-    (λ id act n e shared seat. asked id (record { role = c.role; line = line_said text; act = act }) n)
+    (λ id act name n e shared seat. asked id (request_of c text act) name n) (λ id act a r e shared. (shown_reply id (request_of c text act) (Some a) (refused r)).clients)
   where
-    asked : (id : Option Data) (e : Entry) (n : ℕ) → Reached g.clients (requests g m id e n)
-    asked id e n =
-        let k = in_session n e.act in let r = reply_to g k in let i = entered g e (is_accepted r) in
-        let x = ran_tells i.entries g.clients (tells i m (replied id r)) k ((telling_kit i.entries g.clients m).tell i (replied id r) refl (record { entries = refl; clients = follow_start i.entries g.clients })) in
-        (informs_tells i.entries g.clients (ran (tells i m (replied id r)) k) (entries_of e (is_accepted r)) x).clients
+    -- the reply comes when its entry is accepted
+    shown_reply : (id : Option Data) (q : Request) (name : Option Ask) (r : Reply) → IsTelling (g.entries ++ entries_of q name r) g.clients (replies_to g m id q name r)
+    shown_reply id q name r =
+        let i = entered g (entries_of q name r) in
+        one_tells i.entries g.clients i m (told_one i.entries (reply_told i id name r)) (told_more i.entries (reply_told i id name r)) (record { entries = refl; clients = follow_start i.entries g.clients })
+
+    asked : (id : Option Data) (q : Request) (name : Option Ask) (n : ℕ) → Reached g.clients (done_in g m id q name n)
+    asked id q name n =
+        let k = in_session n q.act in let r = reply_to g k in let es = g.entries ++ entries_of q name r in let i = replies_to g m id q name r in
+        (informs_tells es g.clients (ran i k) (entries_of q name r) (ran_tells es g.clients i k (shown_reply id q name r))).clients
 
 answering : (es : List Entry) (ss : List Shown) → AllByRecursion (Shows es false) ss → AllByRecursion (Shows es true) (map (λ (s : Shown). record s { answers = true }) ss)
 answering es [] a = tt
@@ -311,6 +318,24 @@ handed_shows es answers g m j c d h k = by (m == j) refl
         (one_some (handing c) d (ap (option_map handing) (sym h) ∙ (sym (at_same j handing g.clients) ∙ (ap (λ i. client_at (at_client i handing g.clients) j) (sym (eqb-true m j e)) ∙ k))))
     by false e = same_client es answers g.clients j c d h (sym (at_other m j handing g.clients (eqb-false m j e)) ∙ k)
 
+-- a step
+landed_shows : (g : Gate) (e : Entry) (o : Outcome) (c : Client) → HearsMore (g.entries ++ e ∷ []) c (landed_client g e o c)
+landed_shows g e o c =
+    let es = g.entries ++ e ∷ [] in let ts = step_told g o c in let z = staying o.lines (telling es ts c) in let more = shape_for z.role (e ∷ []) in
+    told_then es c (telling es more z) (settling es (telling es more z)) (told_then es c z (telling es more z) (told_as es c (telling es ts c) z refl refl refl (told_all es ts c)) (told_all es more z))
+    (told_settling es (telling es more z))
+
+takes_shows : (g : Gate) (s : Step) (j : ℕ) (c d : Client) → client_at g.clients j ≡ Some c → client_at (takes g s).clients j ≡ Some d → IsShowing (takes g s).entries false c d
+takes_shows g s j c d t k = by (is_some (fault_of g s)) (is_behind g s) (stepped (map fact_of s.requests) g.machine) k
+  where
+    by : (x y : Bool) (o : Option Outcome) → let h = cond x (record g { dead = true }) (cond y g (if_some o g (landed g (entry_of s)))) in client_at h.clients j ≡ Some d → IsShowing h.entries false c d
+    by true y o i = same_client g.entries false g.clients j c d t i
+    by false true o i = same_client g.entries false g.clients j c d t i
+    by false false None i = same_client g.entries false g.clients j c d t i
+    by false false (Some o) i =
+        let e = entry_of s in
+        subst (IsShowing (g.entries ++ e ∷ []) false c) (one_some (landed_client g e o c) d (sym (landed_at g e o j c t) ∙ i)) (showing (g.entries ++ e ∷ []) c (landed_client g e o c) (landed_shows g e o c))
+
 happens_shows : (g : Gate) (e : Event) (j : ℕ) (c d : Client) → client_at g.clients j ≡ Some c → client_at (happens g e).clients j ≡ Some d → d.dropped ≡ false
     → IsShowing (happens g e).entries (is_some (heard_by j c e)) c d
 happens_shows g (presented m token) j c d h k s = came_shows g m token j c d h k
@@ -326,6 +351,8 @@ happens_shows g ticked j c d h k s =
     (showing g.entries c (beating g.entries c) (told_as g.entries c (told_one g.entries alive c) (beating g.entries c) refl refl refl (told_more g.entries alive c)))
 happens_shows g synced j c d h k s = released_shows g.entries false c d (every_at released g.clients j c d h k) s
 happens_shows g (handed m) j c d h k s = handed_shows g.entries false g m j c d h k
+happens_shows g (arrived x) j c d h k s = takes_shows g x j c d h k
+happens_shows g forgave j c d h k s = same_client g.entries false g.clients j c d h k
 happens_shows g failed j c d h k s = same_client g.entries false g.clients j c d h k
 
 next_shows : (g : Gate) (e : Event) (j : ℕ) (c d : Client) → client_at g.clients j ≡ Some c → client_at (next g e).clients j ≡ Some d → d.dropped ≡ false

@@ -1,43 +1,46 @@
 -- What events leave of marks, of the entries, and of each client's card.
 use Rattle.std.proofs.Common.{◌≡◌, ℕ, zero, suc, Bool, true, false, cond, List, [], ◌∷◌, ◌++◌, map, Option, Some, None, option_map, refl, ap, ◌∙◌, sym, append-nil}
-use Rattle.std.specs.Prelude.{◌&&◌}
 use Rattle.serde_json.specs.Data.{Data}
-use Rattle.iv_rows.specs.Options.{if_some}
 use Rattle.iv_access.specs.Rights.{Name}
-use Rattle.iv_machine.specs.Act.{Act, begin, finish, create_role, create_table, create_view, grant, revoke, grant_role, revoke_role, row_security, create_policy, drop_policy, subscribe, unsubscribe, write, Command, refused, no_session, limit}
-use Rattle.iv_machine.specs.Machine.{step}
-use Rattle.iv_message.specs.Message.{Message, no_json, too_long, no_object, no_request, request}
-use Rattle.iv_message.specs.Told.{Told, replied, fault, unasked, settled}
-use Rattle.iv_clients.specs.Clients.{Client, Shown, Slots, answered, at_all, at_client, closing, following, moved, saying, settling, staying, telling, told_one}
-use Rattle.iv_clients.specs.Feeds.{Seat, seat_of}
-use Rattle.iv_clients.specs.Journal.{Entry, is_shared, line_said, said_by, shape_for}
+use Rattle.iv_machine.specs.Act.{Command, Reply, refused}
+use Rattle.iv_machine.specs.Machine.{Outcome, step}
+use Rattle.iv_message.specs.Message.{Message}
+use Rattle.iv_message.specs.Told.{Told, granted, settled}
+use Rattle.iv_clients.specs.Clients as clients
+use Rattle.iv_clients.specs.Clients.{Client, Shown, Slots, at_all, at_client, closing, following, moved, own_lines, saying, settling, staying, telling, told_one}
+use Rattle.iv_clients.specs.Feeds.{Seat}
+use Rattle.iv_clients.specs.Journal.{Entry, Request, said_by, shape_for}
+use Rattle.iv_once.specs.Names.{Ask}
 use Rattle.iv_clients.specs.Tokens.{Token}
-use Rattle.iv_gate.specs.Gate.{Gate, acts, all_rested, all_swept, closes, done_for, entered, hears, in_session, is_accepted, ran, reads, reply_to, requests, rested, settles, tells, told_of, with_session, entries_of, informs, has_shape_room}
-use Rattle.iv_gate.specs.Laws.{entries_by}
-use Rattle.iv_gate.proofs.Stepping.{Steps, step_all_rested, step_all_swept, step_closes, step_reads, step_rested, step_with}
+use Rattle.iv_gate.specs.Arriving.{landed, newly}
+use Rattle.iv_gate.specs.Gate.{Gate, Head, all_rested, all_swept, done_for, entered, entries_of, hears, in_session, informs, ran, replies_to, reply_to, reply_told, done_in, rested, settles, tells, told_of, went_on, with_session}
+use Rattle.iv_gate.proofs.Stepping.{Steps, request_of, step_all_rested, step_all_swept, step_done, step_rested, step_with}
 
 -- ---- what is looked at
 
--- what tokens it knows, what is on disk, what was sent, and whether it is dead
+-- what tokens it knows, what the journal begins with, what of it is on disk and forgiven, what was sent, and whether it is dead
 pub record Marks : Type 0 where
   pub tokens : List Token
+  pub head : Head
   pub kept : ℕ
+  pub forgiven : ℕ
   pub sent : List Shown
   pub dead : Bool
 
 abbrev pub marks : Gate → Marks
-marks g = record { tokens = g.tokens; kept = g.kept; sent = g.sent; dead = g.dead }
+marks g = record { tokens = g.tokens; head = g.head; kept = g.kept; forgiven = g.forgiven; sent = g.sent; dead = g.dead }
 
 -- what others cannot change of a client
 pub record Card : Type 0 where
   pub role : Name
+  pub user : List ℕ
   pub digest : List ℕ
   pub asked : ℕ
   pub messages : List (List ℕ)
   pub handed : List (List Shown)
 
 abbrev pub card : Client → Card
-card c = record { role = c.role; digest = c.digest; asked = c.asked; messages = c.messages; handed = c.handed }
+card c = record { role = c.role; user = c.user; digest = c.digest; asked = c.asked; messages = c.messages; handed = c.handed }
 
 pub record Mark : Type 0 where
   pub card : Card
@@ -95,6 +98,9 @@ pub sign_ran : (g : Gate) (k : Command) → sign (ran g k) ≡ sign g
 sign_ran g k = ap (λ z. record (sign g) { slots = z })
     (all_marks (λ c. staying (step g.machine k).lines (telling g.entries (told_of g k.act (step g.machine k) c) c)) (λ c. telling_mark g.entries (told_of g k.act (step g.machine k) c) c) g.clients)
 
+pub sign_went : (g : Gate) (o : Outcome) (ts : Client → List Told) → sign (went_on g o ts) ≡ sign g
+sign_went g o ts = ap (λ z. record (sign g) { slots = z }) (all_marks (λ c. staying o.lines (telling g.entries (ts c) c)) (λ c. telling_mark g.entries (ts c) c) g.clients)
+
 pub sign_tells : (g : Gate) (m : ℕ) (t : Told) → sign (tells g m t) ≡ sign g
 sign_tells g m t = sign_at g m (told_one g.entries t) (λ c. refl)
 
@@ -133,69 +139,49 @@ sign_all_rested g ss = step_all_rested 0 SameSign (sign_steps 0) g ss
 pub sign_all_swept : (g : Gate) (ks : List ℕ) → sign (all_swept g ks) ≡ sign g
 sign_all_swept g ks = step_all_swept 0 SameSign (sign_steps 0) g ks
 
+-- a step
+pub sign_landed : (g : Gate) (e : Entry) (o : Outcome) → sign (landed g e o) ≡ record (sign g) { entries = g.entries ++ e ∷ [] }
+sign_landed g e o =
+    let h = entered g (e ∷ []) in let ts = λ (c : Client). own_lines g.feeds o.lines c.subs ++ map granted (newly g.machine.frame o.state.frame c.role) in let i = went_on h o ts in
+    sign_settles (informs i (e ∷ [])) ∙ (sign_informs i (e ∷ []) ∙ sign_went h o ts)
+
 -- ---- messages
 
--- with entries behind
-abbrev pub sign_more : Gate → List Entry → Sign
-sign_more g es = record (sign g) { entries = g.entries ++ es }
+-- more entries stand behind those that were
+pub record IsMore (g h : Gate) : Type 0 where
+  pub more : List Entry
+  pub entries : h.entries ≡ g.entries ++ more
+  pub sign : sign h ≡ record (sign g) { entries = h.entries }
 
-none_more : (g h : Gate) (es : List Entry) → es ≡ [] → sign h ≡ sign g → sign h ≡ sign_more g es
-none_more g h es e s = s ∙ ap (λ z. record (sign g) { entries = z }) (sym (ap (λ z. g.entries ++ z) e ∙ append-nil g.entries))
+more_same : (g h : Gate) → sign h ≡ sign g → IsMore g h
+more_same g h e = record { more = []; entries = ap (λ (s : Sign). s.entries) e ∙ sym (append-nil g.entries); sign = e ∙ ap (λ z. record (sign g) { entries = z }) (sym (ap (λ (s : Sign). s.entries) e)) }
 
-and_false : (b : Bool) → (b && false) ≡ false
-and_false true = refl
-and_false false = refl
+-- what a request adds is what it is to
+pub sign_replies : (g : Gate) (m : ℕ) (id : Option Data) (q : Request) (name : Option Ask) (r : Reply) → sign (replies_to g m id q name r) ≡ record (sign g) { entries = g.entries ++ entries_of q name r }
+sign_replies g m id q name r = let h = entered g (entries_of q name r) in sign_tells h m (reply_told h id name r)
 
-sign_requests : (g : Gate) (m : ℕ) (id : Option Data) (e : Entry) (n : ℕ) → sign (requests g m id e n) ≡ sign_more g (cond (is_shared e.act && is_accepted (reply_to g (in_session n e.act))) (e ∷ []) [])
-sign_requests g m id e n =
-    let r = reply_to g (in_session n e.act) in let h = entered g e (is_accepted r) in let i = tells h m (replied id r) in
-    sign_informs (ran i (in_session n e.act)) (entries_of e (is_accepted r)) ∙ (sign_ran i (in_session n e.act) ∙ sign_tells h m (replied id r))
+pub sign_requests : (g : Gate) (m : ℕ) (id : Option Data) (q : Request) (name : Option Ask) (n : ℕ)
+    → sign (done_in g m id q name n) ≡ record (sign g) { entries = g.entries ++ entries_of q name (reply_to g (in_session n q.act)) }
+sign_requests g m id q name n =
+    let k = in_session n q.act in let r = reply_to g k in let h = replies_to g m id q name r in
+    sign_informs (ran h k) (entries_of q name r) ∙ (sign_ran h k ∙ sign_replies g m id q name r)
 
-sign_other : (g : Gate) (m : ℕ) (c : Client) (id : Option Data) (text : List ℕ) (act : Act) (t : Told) (o : Option ℕ)
-    → sign (if_some o (tells g m t) (requests g m id (record { role = c.role; line = line_said text; act = act })))
-    ≡ sign_more g (cond (is_shared act && if_some o false (λ n. is_accepted (reply_to g (in_session n act)))) (record { role = c.role; line = line_said text; act = act } ∷ []) [])
-sign_other g m c id text act t None =
-    none_more g (tells g m t) _ (ap (λ b. cond b (record { role = c.role; line = line_said text; act = act } ∷ []) []) (and_false (is_shared act))) (sign_tells g m t)
-sign_other g m c id text act t (Some n) = sign_requests g m id (record { role = c.role; line = line_said text; act = act }) n
-
--- what the act adds, where the shape has room for it
-abbrev acted_by : Gate → Client → List ℕ → Act → List Entry
-acted_by g c text act = cond (is_shared act && if_some (seat_of g.seats c.role) false (λ n. is_accepted (reply_to g (in_session n act)))) (record { role = c.role; line = line_said text; act = act } ∷ []) []
-
-sign_acts : (g : Gate) (m : ℕ) (c : Client) (id : Option Data) (text : List ℕ) (act : Act) → sign (acts g m c id text act) ≡ sign_more g (acted_by g c text act)
-sign_acts g m c id text (begin role) = none_more g (tells g m (fault 2)) [] refl (sign_tells g m (fault 2))
-sign_acts g m c id text finish = none_more g (tells g m (fault 2)) [] refl (sign_tells g m (fault 2))
-sign_acts g m c id text (subscribe rel) = none_more g (reads g m c id rel) [] refl (step_reads m SameSign (sign_steps m) g c id rel)
-sign_acts g m c id text (unsubscribe own) = none_more g (closes g m c id own) [] refl (step_closes m SameSign (sign_steps m) g c id own)
-sign_acts g m c id text (create_role name) = sign_other g m c id text (create_role name) (replied id (refused no_session)) (seat_of g.seats c.role)
-sign_acts g m c id text (create_table name owner columns) = sign_other g m c id text (create_table name owner columns) (replied id (refused no_session)) (seat_of g.seats c.role)
-sign_acts g m c id text (create_view name owner query) = sign_other g m c id text (create_view name owner query) (replied id (refused no_session)) (seat_of g.seats c.role)
-sign_acts g m c id text (grant rel privileges to) = sign_other g m c id text (grant rel privileges to) (replied id (refused no_session)) (seat_of g.seats c.role)
-sign_acts g m c id text (revoke rel privileges to) = sign_other g m c id text (revoke rel privileges to) (replied id (refused no_session)) (seat_of g.seats c.role)
-sign_acts g m c id text (grant_role group to) = sign_other g m c id text (grant_role group to) (replied id (refused no_session)) (seat_of g.seats c.role)
-sign_acts g m c id text (revoke_role group to) = sign_other g m c id text (revoke_role group to) (replied id (refused no_session)) (seat_of g.seats c.role)
-sign_acts g m c id text (row_security rel enable force) = sign_other g m c id text (row_security rel enable force) (replied id (refused no_session)) (seat_of g.seats c.role)
-sign_acts g m c id text (create_policy p) = sign_other g m c id text (create_policy p) (replied id (refused no_session)) (seat_of g.seats c.role)
-sign_acts g m c id text (drop_policy rel name) = sign_other g m c id text (drop_policy rel name) (replied id (refused no_session)) (seat_of g.seats c.role)
-sign_acts g m c id text (write entries) = sign_other g m c id text (write entries) (replied id (refused no_session)) (seat_of g.seats c.role)
-
-sign_done : (g : Gate) (m : ℕ) (c : Client) (text : List ℕ) (s : Message) → sign (done_for g m c text s) ≡ sign_more g (entries_by g c text s)
-sign_done g m c text no_json = none_more g (tells g m (fault 1)) [] refl (sign_tells g m (fault 1))
-sign_done g m c text too_long = none_more g (tells g m (fault 22)) [] refl (sign_tells g m (fault 22))
-sign_done g m c text no_object = none_more g (tells g m (fault 2)) [] refl (sign_tells g m (fault 2))
-sign_done g m c text (no_request id why) = none_more g (tells g m (unasked id why)) [] refl (sign_tells g m (unasked id why))
-sign_done g m c text (request id act) = by (has_shape_room g act)
-  where
-    by : (b : Bool) → sign (cond b (acts g m c id text act) (tells g m (replied id (refused limit))))
-        ≡ sign_more g (cond (is_shared act && (b && if_some (seat_of g.seats c.role) false (λ n. is_accepted (reply_to g (in_session n act))))) (record { role = c.role; line = line_said text; act = act } ∷ []) [])
-    by true = sign_acts g m c id text act
-    by false = none_more g (tells g m (replied id (refused limit))) _ (ap (λ d. cond d (record { role = c.role; line = line_said text; act = act } ∷ []) []) (and_false (is_shared act)))
-        (sign_tells g m (replied id (refused limit)))
+sign_done : (g : Gate) (m : ℕ) (c : Client) (text : List ℕ) (s : Message) → IsMore g (done_for g m c text s)
+sign_done g m c text s = step_done m SameSign (sign_steps m) g (IsMore g) (λ h e. more_same g h e) c text s
+    (λ id act name n e shared seat. let q = request_of c text act in let es = entries_of q name (reply_to g (in_session n q.act)) in let x = sign_requests g m id q name n in
+    record { more = es; entries = ap (λ (z : Sign). z.entries) x; sign = x ∙ ap (λ z. record (sign g) { entries = z }) (sym (ap (λ (z : Sign). z.entries) x)) })
+    (λ id act a r e shared. let q = request_of c text act in let es = entries_of q (Some a) (refused r) in let x = sign_replies g m id q (Some a) (refused r) in
+    record { more = es; entries = ap (λ (z : Sign). z.entries) x; sign = x ∙ ap (λ z. record (sign g) { entries = z }) (sym (ap (λ (z : Sign). z.entries) x)) })
 
 -- what is behind a message that is heard
-pub sign_hears : (g : Gate) (m : ℕ) (c : Client) (text : List ℕ)
-    → sign (hears g m c text) ≡ record (sign g) { entries = g.entries ++ entries_by g c text (said_by text); slots = marks_in (at_client m (saying text) g.clients) }
+pub record IsHeardSign (g : Gate) (m : ℕ) (c : Client) (text : List ℕ) : Type 0 where
+  pub more : List Entry
+  pub entries : (hears g m c text).entries ≡ g.entries ++ more
+  pub sign : sign (hears g m c text) ≡ record (sign g) { entries = (hears g m c text).entries; slots = marks_in (at_client m (saying text) g.clients) }
+
+pub sign_hears : (g : Gate) (m : ℕ) (c : Client) (text : List ℕ) → IsHeardSign g m c text
 sign_hears g m c text =
-    let asked = record g { clients = at_client m (saying text) g.clients } in
-    sign_at (settles (done_for asked m c text (said_by text))) m (answered c) (λ d. refl)
-    ∙ (sign_settles (done_for asked m c text (said_by text)) ∙ sign_done asked m c text (said_by text))
+    let asked = record g { clients = at_client m (saying text) g.clients } in let h = done_for asked m c text (said_by text) in
+    let x = sign_done asked m c text (said_by text) in
+    let same = sign_at (settles h) m (clients.answered c) (λ d. refl) ∙ sign_settles h in
+    record { more = x.more; entries = x.entries; sign = same ∙ x.sign }

@@ -1,19 +1,22 @@
 -- A fact of the machine and of the sessions that each step keeps, through all that an event does but finishing sessions.
 use Rattle.std.proofs.Common.{◌≡◌, ℕ, Bool, true, false, cond, not, List, [], ◌∷◌, length, Option, Some, None, refl}
-use Rattle.std.specs.Prelude.{◌==◌, ◌&&◌, nat_lt}
+use Rattle.std.specs.Prelude.{◌==◌, ◌&&◌, nat_lt, codes}
 use Rattle.serde_json.specs.Data.{Data}
 use Rattle.iv_rows.specs.Options.{if_some}
 use Rattle.iv_access.specs.Rights.{Name}
-use Rattle.iv_machine.specs.Act.{Act, begin, finish, create_role, create_table, create_view, grant, revoke, grant_role, revoke_role, row_security, create_policy, drop_policy, subscribe, unsubscribe, write, Command, Reply, done, subscribed, refused, no_session, too_many, unknown_subscription, limit}
+use Rattle.iv_machine.specs.Act.{Act, begin, finish, create_role, create_table, create_view, grant, revoke, grant_role, revoke_role, row_security, create_policy, drop_policy, subscribe, unsubscribe, write, Command, Reply, done, subscribed, refused, too_many, unknown_subscription}
 use Rattle.iv_machine.specs.Machine.{step}
 use Rattle.iv_machine.specs.State.{State}
-use Rattle.iv_message.specs.Message.{Message, no_json, too_long, no_object, no_request, request}
-use Rattle.iv_message.specs.Told.{replied}
+use Rattle.iv_message.specs.Message.{Message, no_json, too_long, no_object, no_request, request, unknown}
+use Rattle.iv_message.specs.Told.{replied, unasked}
 use Rattle.iv_clients.specs.Bounds.{most_subs}
 use Rattle.iv_clients.specs.Clients.{Client, at_client, closing, followed_by, is_followed, moved}
 use Rattle.iv_clients.specs.Feeds.{Feed, Seat, feed_for, feed_of, is_reading, room_for, seat_of}
-use Rattle.iv_clients.specs.Journal.{line_said}
-use Rattle.iv_gate.specs.Gate.{Gate, acts, all_swept, begun_for, closes, done_for, feed_begun, in_session, joined, joined_by, joins, reads, reads_first, reply_to, requests, seated, shut, subscribes, swept, tells, with_session, has_shape_room}
+use Rattle.iv_clients.specs.Journal.{Request, claim_said}
+use Rattle.iv_gate.specs.Gate.{Gate, acts, all_swept, begun_for, closes, done_for, feed_begun, in_session, joined, joined_by, joins, reads, reads_first, reply_to, seated, shut, subscribes, swept, tells, with_session, shares, may_have}
+use Rattle.iv_clients.specs.Names.{Claim}
+use Rattle.iv_gate.proofs.Choosing.{shares_so}
+use Rattle.iv_gate.proofs.Stepping.{request_of}
 
 -- ---- what an event's commands keep of the machine and the sessions
 
@@ -97,31 +100,30 @@ module _ (J : State → List Seat → Type 0) (kit : Sits J) where
       let h = record g { clients = at_client m (closing own) g.clients } in
       some_at (followed_by c.subs own) (tells g m (replied id (refused unknown_subscription))) (λ k. swept (tells h m (replied id done)) k) a (λ k e. at_swept (tells h m (replied id done)) k a)
 
-  at_other : (g : Gate) (m : ℕ) (c : Client) (id : Option Data) (text : List ℕ) (act : Act) (o : Option ℕ) → is_plain act ≡ true → At g
-      → At (if_some o (tells g m (replied id (refused no_session))) (requests g m id (record { role = c.role; line = line_said text; act = act })))
-  at_other g m c id text act None p a = a
-  at_other g m c id text act (Some n) p a = kit.step g.machine (in_session n act) g.seats p a
+  at_shares : (g : Gate) (m : ℕ) (c : Client) (id : Option Data) (q : Request) (claim : Option Claim) → is_plain q.act ≡ true → At g → At (shares g m c id q claim)
+  at_shares g m c id q claim p a =
+      shares_so At g m id q (record { tells = λ t x. a; does = λ name n e. kit.step g.machine (in_session n q.act) g.seats p a; refuses = λ name r. a }) c claim
 
   at_acts : (g : Gate) (m : ℕ) (c : Client) (id : Option Data) (text : List ℕ) (act : Act) → At g → At (acts g m c id text act)
   at_acts g m c id text (begin role) a = a
   at_acts g m c id text finish a = a
   at_acts g m c id text (subscribe rel) a = at_reads g m c id rel a
   at_acts g m c id text (unsubscribe own) a = at_closes g m c id own a
-  at_acts g m c id text (create_role name) a = at_other g m c id text (create_role name) (seat_of g.seats c.role) refl a
-  at_acts g m c id text (create_table name owner columns) a = at_other g m c id text (create_table name owner columns) (seat_of g.seats c.role) refl a
-  at_acts g m c id text (create_view name owner query) a = at_other g m c id text (create_view name owner query) (seat_of g.seats c.role) refl a
-  at_acts g m c id text (grant rel privileges to) a = at_other g m c id text (grant rel privileges to) (seat_of g.seats c.role) refl a
-  at_acts g m c id text (revoke rel privileges to) a = at_other g m c id text (revoke rel privileges to) (seat_of g.seats c.role) refl a
-  at_acts g m c id text (grant_role group to) a = at_other g m c id text (grant_role group to) (seat_of g.seats c.role) refl a
-  at_acts g m c id text (revoke_role group to) a = at_other g m c id text (revoke_role group to) (seat_of g.seats c.role) refl a
-  at_acts g m c id text (row_security rel enable force) a = at_other g m c id text (row_security rel enable force) (seat_of g.seats c.role) refl a
-  at_acts g m c id text (create_policy p) a = at_other g m c id text (create_policy p) (seat_of g.seats c.role) refl a
-  at_acts g m c id text (drop_policy rel name) a = at_other g m c id text (drop_policy rel name) (seat_of g.seats c.role) refl a
-  at_acts g m c id text (write entries) a = at_other g m c id text (write entries) (seat_of g.seats c.role) refl a
+  at_acts g m c id text (create_role name) a = at_shares g m c id (request_of c text (create_role name)) (claim_said text) refl a
+  at_acts g m c id text (create_table name owner columns) a = at_shares g m c id (request_of c text (create_table name owner columns)) (claim_said text) refl a
+  at_acts g m c id text (create_view name owner query) a = at_shares g m c id (request_of c text (create_view name owner query)) (claim_said text) refl a
+  at_acts g m c id text (grant rel privileges to) a = at_shares g m c id (request_of c text (grant rel privileges to)) (claim_said text) refl a
+  at_acts g m c id text (revoke rel privileges to) a = at_shares g m c id (request_of c text (revoke rel privileges to)) (claim_said text) refl a
+  at_acts g m c id text (grant_role group to) a = at_shares g m c id (request_of c text (grant_role group to)) (claim_said text) refl a
+  at_acts g m c id text (revoke_role group to) a = at_shares g m c id (request_of c text (revoke_role group to)) (claim_said text) refl a
+  at_acts g m c id text (row_security rel enable force) a = at_shares g m c id (request_of c text (row_security rel enable force)) (claim_said text) refl a
+  at_acts g m c id text (create_policy p) a = at_shares g m c id (request_of c text (create_policy p)) (claim_said text) refl a
+  at_acts g m c id text (drop_policy rel name) a = at_shares g m c id (request_of c text (drop_policy rel name)) (claim_said text) refl a
+  at_acts g m c id text (write entries) a = at_shares g m c id (request_of c text (write entries)) (claim_said text) refl a
 
   pub at_done : (g : Gate) (m : ℕ) (c : Client) (text : List ℕ) (s : Message) → At g → At (done_for g m c text s)
   at_done g m c text no_json a = a
   at_done g m c text too_long a = a
   at_done g m c text no_object a = a
   at_done g m c text (no_request id why) a = a
-  at_done g m c text (request id act) a = test_at (has_shape_room g act) (acts g m c id text act) (tells g m (replied id (refused limit))) (at_acts g m c id text act a) a
+  at_done g m c text (request id act) a = test_at (may_have (claim_said text) act) (acts g m c id text act) (tells g m (unasked id (unknown (codes "once")))) (at_acts g m c id text act a) a

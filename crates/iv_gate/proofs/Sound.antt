@@ -13,7 +13,7 @@ use Rattle.iv_access.specs.Rights.{Name}
 use Rattle.iv_machine.specs.Act.{Command, Line, reply, change, ended, finish, subscribe}
 use Rattle.iv_machine.specs.Held.{held, closed_in}
 use Rattle.iv_machine.specs.Lasting.{BeginOpens, EndsAreTold, Lasts, SubscribeOpens}
-use Rattle.iv_machine.specs.Machine.{step, weight}
+use Rattle.iv_machine.specs.Machine.{Outcome, step, weight}
 use Rattle.iv_machine.specs.Reached.{AddsUp, AreNumbersUnique}
 use Rattle.iv_machine.specs.Refusing.{refusal}
 use Rattle.iv_machine.specs.Sound.{IsSoundState}
@@ -24,7 +24,8 @@ use Rattle.iv_clients.specs.Clients.{Client, Shown, Sub, all_shown, client_at, o
 use Rattle.iv_clients.specs.Feeds.{Feed, ends_in, feed_of, feeds_left, is_end, rel_read}
 use Rattle.iv_clients.specs.Journal.{Entry, said_by}
 use Rattle.iv_clients.proofs.Slots.{IsFrom, at_every, from}
-use Rattle.iv_gate.specs.Gate.{Gate, granted_by, is_accepted, ran, reply_in, told_of}
+use Rattle.iv_steps.specs.Laws.{StepsAreTold}
+use Rattle.iv_gate.specs.Gate.{Gate, granted_by, is_accepted, ran, reply_in, went_on}
 use Rattle.iv_gate.specs.Replies.{ActsAs, replies}
 use Rattle.iv_gate.specs.Seen.{is_end_of}
 use Rattle.iv_gate.proofs.Ending.{ended_shows_none, not_told}
@@ -219,13 +220,14 @@ Spares s k j = list_any (λ i. j == i) (closed_in s k (refusal s k.session k.act
 abbrev pub Adds : Type 0
 Adds = (s : State) (cs : List Command) → AreNumbersUnique s.frame → AddsUp s cs
 
--- a command leads from a sound state to another, what stands lasts, no subscription ends untold, and what is named is opened
+-- a command leads from a sound state to another, what stands lasts, no subscription ends untold, and what is named is opened; and steps are told
 pub record Sounds : Type 0 where
   pub sound : (s : State) (c : Command) → IsSoundState s → IsSoundState (step s c).state
   pub lasts : (s : State) (c : Command) → Lasts c s.frame (step s c).state.frame
   pub ends : (s : State) (c : Command) → AreNumbersUnique s.frame → EndsAreTold s c
   pub begins : (s : State) (n : ℕ) (role : Name) → BeginOpens s n role
   pub subscribes : (s : State) (n : ℕ) (rel : Name) → AreNumbersUnique s.frame → SubscribeOpens s n rel
+  pub told : StepsAreTold
 
 pub one_adds : Adds → (s : State) (k : Command) (j : ℕ) (q : List Cell) → AreNumbersUnique s.frame → Spares s k j
     → held j q (step s k).lines ≡ weight (shown s j) (shown (step s k).state j) q
@@ -330,17 +332,25 @@ taken P q own (x ∷ xs) a h k = by (own == x.own) (q x) refl refl h k (taken P 
     by false true e f g i more = more g i
     by false false e f g i more = more g (neither (own == x.own) _ i).1
 
+-- lines that lead on: for each feed they add up to what it shows behind them minus what it showed before, and what they end shows nothing
+pub record Moves (s : State) (feeds : List Feed) (o : Outcome) : Type 0 where
+  pub adds : (j : ℕ) (f : Feed) → feed_of feeds j ≡ Some f → (q : List Cell) → held j q o.lines ≡ weight (shown s j) (shown o.state j) q
+  pub over : (j : ℕ) → ends_in o.lines j ≡ true → shown o.state j ≡ []
+
+step_moves : Adds → Sounds → (s : State) (k : Command) (feeds : List Feed) → AreNumbersUnique s.frame → ((j : ℕ) (f : Feed) → feed_of feeds j ≡ Some f → Spares s k j) → Moves s feeds (step s k)
+step_moves adds sounds s k feeds u spared =
+    record { adds = λ j f e q. one_adds adds s k j q u (spared j f e); over = λ j e. ended_shows_none s k j (sounds.ends s k u) e }
+
 -- a client behind the lines, and what else it is told that has no row and no end
-pub client_step : Adds → Sounds → (s : State) (k : Command) (feeds : List Feed) (v : Seer) (more : List Told) → AreNumbersUnique s.frame
-    → ((j : ℕ) (f : Feed) → feed_of feeds j ≡ Some f → Spares s k j)
+pub client_moves : (s : State) (o : Outcome) (feeds : List Feed) (v : Seer) (more : List Told) → Moves s feeds o
     → ((own : ℕ) (q : List Cell) → sum_for own q more ≡ pos 0) → ((own : ℕ) → list_any (is_end_of own) more ≡ false) → IsSoundClient s feeds v
-    → IsSoundClient (step s k).state (feeds_left (step s k).lines feeds)
-    (record v { subs = filter (λ x. not (ends_in (step s k).lines x.feed)) v.subs; told = v.told ++ (own_lines feeds (step s k).lines v.subs ++ more) })
-client_step adds sounds s k feeds v more u spared weighs ends b = record {
+    → IsSoundClient o.state (feeds_left o.lines feeds)
+    (record v { subs = filter (λ x. not (ends_in o.lines x.feed)) v.subs; told = v.told ++ (own_lines feeds o.lines v.subs ++ more) })
+client_moves s o feeds v more moves weighs ends b = record {
   own = own_left v.given (λ x. not (ends_in ls x.feed)) v.subs b.own;
-  follows = filter_all (IsFollowing (step s k).state (feeds_left ls feeds) new) (λ x. ends_in ls x.feed) v.subs
+  follows = filter_all (IsFollowing o.state (feeds_left ls feeds) new) (λ x. ends_in ls x.feed) v.subs
       (both {P = IsFollowing s feeds v} {Q = λ x. ((q : List Cell) → sum_for x.own q (own_lines feeds ls v.subs) ≡ held x.feed q ls) × (ends_in ls x.feed ≡ false → AllByRecursion (λ (y : Sub). (x.own == y.own) ≡ true → ends_in ls y.feed ≡ false) v.subs)}
-      {R = λ x. ends_in ls x.feed ≡ false → IsFollowing (step s k).state (feeds_left ls feeds) new x}
+      {R = λ x. ends_in ls x.feed ≡ false → IsFollowing o.state (feeds_left ls feeds) new x}
       (λ x a c e. record {
         feed = a.feed;
         found = left_of (ends_in ls) x.feed a.feed feeds a.found e;
@@ -355,10 +365,10 @@ client_step adds sounds s k feeds v more u spared weighs ends b = record {
 }
   where
     ls : List Line
-    ls = (step s k).lines
+    ls = o.lines
 
     new : Seer
-    new = record v { subs = filter (λ x. not (ends_in (step s k).lines x.feed)) v.subs; told = v.told ++ (own_lines feeds (step s k).lines v.subs ++ more) }
+    new = record v { subs = filter (λ x. not (ends_in o.lines x.feed)) v.subs; told = v.told ++ (own_lines feeds o.lines v.subs ++ more) }
 
     summed : (own : ℕ) (q : List Cell) → sum_for own q (v.told ++ (own_lines feeds ls v.subs ++ more)) ≡ sum_for own q v.told +ℤ sum_for own q (own_lines feeds ls v.subs)
     summed own q =
@@ -371,31 +381,31 @@ client_step adds sounds s k feeds v more u spared weighs ends b = record {
         any_more (is_end_of own) v.told (own_lines feeds ls v.subs ++ more)
         ∙ (λ i. t i || (any_more (is_end_of own) (own_lines feeds ls v.subs) more ∙ (λ j. h j || ends own j)) i)
 
-    adds_to : (x : Sub) → IsFollowing s feeds v x → ((q : List Cell) → sum_for x.own q (own_lines feeds (step s k).lines v.subs) ≡ held x.feed q (step s k).lines)
-        → (q : List Cell) → sum_for x.own q (v.told ++ (own_lines feeds (step s k).lines v.subs ++ more)) ≡ pos (copies q (shown (step s k).state x.feed))
+    adds_to : (x : Sub) → IsFollowing s feeds v x → ((q : List Cell) → sum_for x.own q (own_lines feeds o.lines v.subs) ≡ held x.feed q o.lines)
+        → (q : List Cell) → sum_for x.own q (v.told ++ (own_lines feeds o.lines v.subs ++ more)) ≡ pos (copies q (shown o.state x.feed))
     adds_to x a c q = summed x.own q
-        ∙ ((λ i. a.sum q i +ℤ (c q ∙ one_adds adds s k x.feed q u (spared x.feed a.feed a.found)) i) ∙ moved_on (pos (copies q (shown s x.feed))) (pos (copies q (shown (step s k).state x.feed))))
+        ∙ ((λ i. a.sum q i +ℤ (c q ∙ moves.adds x.feed a.feed a.found q) i) ∙ moved_on (pos (copies q (shown s x.feed))) (pos (copies q (shown o.state x.feed))))
 
     -- each that it followed adds up to what is shown now
-    all_to : AllByRecursion (λ (x : Sub). (q : List Cell) → sum_for x.own q (v.told ++ (own_lines feeds (step s k).lines v.subs ++ more)) ≡ pos (copies q (shown (step s k).state x.feed))) v.subs
-    all_to = both {P = IsFollowing s feeds v} {Q = λ x. (q : List Cell) → sum_for x.own q (own_lines feeds (step s k).lines v.subs) ≡ held x.feed q (step s k).lines}
-        {R = λ x. (q : List Cell) → sum_for x.own q (v.told ++ (own_lines feeds (step s k).lines v.subs ++ more)) ≡ pos (copies q (shown (step s k).state x.feed))}
+    all_to : AllByRecursion (λ (x : Sub). (q : List Cell) → sum_for x.own q (v.told ++ (own_lines feeds o.lines v.subs ++ more)) ≡ pos (copies q (shown o.state x.feed))) v.subs
+    all_to = both {P = IsFollowing s feeds v} {Q = λ x. (q : List Cell) → sum_for x.own q (own_lines feeds o.lines v.subs) ≡ held x.feed q o.lines}
+        {R = λ x. (q : List Cell) → sum_for x.own q (v.told ++ (own_lines feeds o.lines v.subs ++ more)) ≡ pos (copies q (shown o.state x.feed))}
         (λ x a c q. adds_to x a c q) v.subs b.follows (all_add_lines feeds ls v.given v.subs b.own)
 
-    went : (own : ℕ) → list_any (λ (y : Sub). own == y.own) (filter (λ x. not (ends_in (step s k).lines x.feed)) v.subs) ≡ false
-        → list_any (is_end_of own) (v.told ++ (own_lines feeds (step s k).lines v.subs ++ more)) ≡ true → (q : List Cell) → (t : Bool) → list_any (λ (y : Sub). own == y.own) v.subs ≡ t
-        → sum_for own q (v.told ++ (own_lines feeds (step s k).lines v.subs ++ more)) ≡ pos 0
+    went : (own : ℕ) → list_any (λ (y : Sub). own == y.own) (filter (λ x. not (ends_in o.lines x.feed)) v.subs) ≡ false
+        → list_any (is_end_of own) (v.told ++ (own_lines feeds o.lines v.subs ++ more)) ≡ true → (q : List Cell) → (t : Bool) → list_any (λ (y : Sub). own == y.own) v.subs ≡ t
+        → sum_for own q (v.told ++ (own_lines feeds o.lines v.subs ++ more)) ≡ pos 0
     went own h e q true t =
-        let x = taken (λ (x : Sub). (q : List Cell) → sum_for x.own q (v.told ++ (own_lines feeds (step s k).lines v.subs ++ more)) ≡ pos (copies q (shown (step s k).state x.feed)))
-        (λ x. ends_in (step s k).lines x.feed) own v.subs all_to t h in
-        ap (λ i. sum_for i q (v.told ++ (own_lines feeds (step s k).lines v.subs ++ more))) x.own_is
-        ∙ (x.so q ∙ ap (λ rows. pos (copies q rows)) (ended_shows_none s k x.sub.feed (sounds.ends s k u) x.goes))
+        let x = taken (λ (x : Sub). (q : List Cell) → sum_for x.own q (v.told ++ (own_lines feeds o.lines v.subs ++ more)) ≡ pos (copies q (shown o.state x.feed)))
+        (λ x. ends_in o.lines x.feed) own v.subs all_to t h in
+        ap (λ i. sum_for i q (v.told ++ (own_lines feeds o.lines v.subs ++ more))) x.own_is
+        ∙ (x.so q ∙ ap (λ rows. pos (copies q rows)) (moves.over x.sub.feed x.goes))
     went own h e q false t =
-        let quiet = lines_quiet own feeds (step s k).lines v.subs (none_apart (step s k).lines own v.subs t) in
-        let rest = any_more (is_end_of own) (own_lines feeds (step s k).lines v.subs) more ∙ (λ i. quiet i || ends own i) in
+        let quiet = lines_quiet own feeds o.lines v.subs (none_apart o.lines own v.subs t) in
+        let rest = any_more (is_end_of own) (own_lines feeds o.lines v.subs) more ∙ (λ i. quiet i || ends own i) in
         let before : list_any (is_end_of own) v.told ≡ true = sym (or_none (list_any (is_end_of own) v.told))
-        ∙ (sym (any_more (is_end_of own) v.told (own_lines feeds (step s k).lines v.subs ++ more) ∙ ap (λ z. list_any (is_end_of own) v.told || z) rest) ∙ e) in
-        summed own q ∙ (nothing_more _ _ (none_told feeds (step s k).lines own q v.subs t) ∙ b.spent own t before q)
+        ∙ (sym (any_more (is_end_of own) v.told (own_lines feeds o.lines v.subs ++ more) ∙ ap (λ z. list_any (is_end_of own) v.told || z) rest) ∙ e) in
+        summed own q ∙ (nothing_more _ _ (none_told feeds o.lines own q v.subs t) ∙ b.spent own t before q)
 
 -- ---- a gateway
 
@@ -407,7 +417,7 @@ pub record IsReady (g : Gate) (k : Command) : Type 0 where
   pub spared : (j : ℕ) (f : Feed) → feed_of g.feeds j ≡ Some f → Spares g.machine k j
   pub clients : AreSoundClients g
 
-told_quiet : (own : ℕ) (q : List Cell) (b : Bool) (names : List Name) → (sum_for own q (cond b (map granted names) []) ≡ pos 0) × (list_any (is_end_of own) (cond b (map granted names) []) ≡ false)
+pub told_quiet : (own : ℕ) (q : List Cell) (b : Bool) (names : List Name) → (sum_for own q (cond b (map granted names) []) ≡ pos 0) × (list_any (is_end_of own) (cond b (map granted names) []) ≡ false)
 told_quiet own q true names = (grants_weigh_nothing own q names, grants_end_nothing own names)
 told_quiet own q false names = (refl, refl)
 
@@ -415,26 +425,47 @@ pub telling_dropped : (es : List Entry) (ts : List Told) (c : Client) → (telli
 telling_dropped es [] c = refl
 telling_dropped es (t ∷ ts) c = telling_dropped es ts (told_one es t c)
 
-pub ran_ready : Adds → Sounds → (g : Gate) (k : Command) → IsReady g k → IsSoundGate (ran g k)
-ran_ready adds sounds g k r = record {
-  state = sounds.sound g.machine k r.state;
+-- a gateway that goes on: what else clients are told has no row and no end
+pub record IsReadyFor (g : Gate) (o : Outcome) (more : Client → List Told) : Type 0 where
+  pub state : IsSoundState o.state
+  pub seats : AllByRecursion (λ s. ActsAs o.state s.session s.role) g.seats
+  pub feeds : AllByRecursion (λ f. ends_in o.lines f.number ≡ false → IsFeed o.state f) g.feeds
+  pub moves : Moves g.machine g.feeds o
+  pub quiet : (c : Client) (own : ℕ) (q : List Cell) → (sum_for own q (more c) ≡ pos 0) × (list_any (is_end_of own) (more c) ≡ false)
+  pub clients : AreSoundClients g
+
+pub went_on_ready : (g : Gate) (o : Outcome) (more : Client → List Told) → IsReadyFor g o more → IsSoundGate (went_on g o (λ c. own_lines g.feeds o.lines c.subs ++ more c))
+went_on_ready g o more r = record {
+  state = r.state;
   seats = r.seats;
-  feeds = filter_all (IsFeed (step g.machine k).state) (λ (f : Feed). ends_in (step g.machine k).lines f.number) g.feeds r.feeds;
+  feeds = filter_all (IsFeed o.state) (λ (f : Feed). ends_in o.lines f.number) g.feeds r.feeds;
   clients = λ m c h live. one m c (from hears (client_at g.clients m) c (sym (at_every hears g.clients m) ∙ h)) live;
 }
   where
+    all : Client → List Told
+    all c = own_lines g.feeds o.lines c.subs ++ more c
+
     hears : Client → Client
-    hears c = staying (step g.machine k).lines (telling g.entries (told_of g k.act (step g.machine k) c) c)
+    hears c = staying o.lines (telling g.entries (own_lines g.feeds o.lines c.subs ++ more c) c)
 
-    seen : (c : Client) → seer (hears c)
-        ≡ record (seer c) { subs = filter (λ x. not (ends_in (step g.machine k).lines x.feed)) c.subs; told = told c ++ told_of g k.act (step g.machine k) c }
-    seen c = ap (λ (v : Seer). record v { subs = filter (λ x. not (ends_in (step g.machine k).lines x.feed)) v.subs }) (seer_telling g.entries (told_of g k.act (step g.machine k) c) c)
+    seen : (c : Client) → seer (hears c) ≡ record (seer c) { subs = filter (λ x. not (ends_in o.lines x.feed)) c.subs; told = told c ++ (own_lines g.feeds o.lines c.subs ++ more c) }
+    seen c = ap (λ (v : Seer). record v { subs = filter (λ x. not (ends_in o.lines x.feed)) v.subs }) (seer_telling g.entries (all c) c)
 
-    one : (m : ℕ) (c : Client) → IsFrom hears (client_at g.clients m) c → c.dropped ≡ false → IsSoundClient (step g.machine k).state (feeds_left (step g.machine k).lines g.feeds) (seer c)
-    one m c o live =
-        let b = o.old in
-        let stays : b.dropped ≡ false = sym (telling_dropped g.entries (told_of g k.act (step g.machine k) b) b) ∙ (ap (λ (x : Client). x.dropped) o.same ∙ live) in
-        let test = is_accepted (reply_in (step g.machine k).lines) in let names = granted_by (step g.machine k).state.frame k.act b.role in
-        subst (λ v. IsSoundClient (step g.machine k).state (feeds_left (step g.machine k).lines g.feeds) v) (sym (seen b) ∙ ap seer o.same)
-        (client_step adds sounds g.machine k g.feeds (seer b) (cond test (map granted names) []) r.state.numbers r.spared
-        (λ own q. (told_quiet own q test names).0) (λ own. (told_quiet own [] test names).1) (r.clients m b o.there stays))
+    one : (m : ℕ) (c : Client) → IsFrom hears (client_at g.clients m) c → c.dropped ≡ false → IsSoundClient o.state (feeds_left o.lines g.feeds) (seer c)
+    one m c f live =
+        let b = f.old in
+        let stays : b.dropped ≡ false = sym (telling_dropped g.entries (all b) b) ∙ (ap (λ (x : Client). x.dropped) f.same ∙ live) in
+        subst (λ v. IsSoundClient o.state (feeds_left o.lines g.feeds) v) (sym (seen b) ∙ ap seer f.same)
+        (client_moves g.machine o g.feeds (seer b) (more b) r.moves (λ own q. (r.quiet b own q).0) (λ own. (r.quiet b own []).1) (r.clients m b f.there stays))
+
+pub ran_ready : Adds → Sounds → (g : Gate) (k : Command) → IsReady g k → IsSoundGate (ran g k)
+ran_ready adds sounds g k r =
+    let o = step g.machine k in
+    went_on_ready g o (λ c. cond (is_accepted (reply_in o.lines)) (map granted (granted_by o.state.frame k.act c.role)) []) (record {
+      state = sounds.sound g.machine k r.state;
+      seats = r.seats;
+      feeds = r.feeds;
+      moves = step_moves adds sounds g.machine k g.feeds r.state.numbers r.spared;
+      quiet = λ c own q. told_quiet own q (is_accepted (reply_in o.lines)) (granted_by o.state.frame k.act c.role);
+      clients = r.clients;
+    })

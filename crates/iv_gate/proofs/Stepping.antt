@@ -1,20 +1,28 @@
 -- A relation of gateways that each step keeps, through all that an event does.
-use Rattle.std.proofs.Common.{◌≡◌, ℕ, Bool, true, false, cond, not, List, [], ◌∷◌, ◌++◌, length, map, set, Option, Some, None, refl}
-use Rattle.std.specs.Prelude.{◌==◌, ◌&&◌, nat_lt, filter}
+use Rattle.std.proofs.Common.{◌≡◌, ℕ, Bool, true, false, cond, not, List, [], ◌∷◌, ◌++◌, length, map, set, Option, Some, None, refl, ap, ◌∙◌, sym, subst, append-nil}
+use Rattle.std.specs.Prelude.{◌==◌, ◌&&◌, codes, nat_lt, filter}
 use Rattle.serde_json.specs.Data.{Data}
-use Rattle.sha2.specs.Sha256.{sha256}
 use Rattle.iv_rows.specs.Options.{if_some}
 use Rattle.iv_access.specs.Rights.{Name}
-use Rattle.iv_machine.specs.Act.{Act, begin, finish, create_role, create_table, create_view, grant, revoke, grant_role, revoke_role, row_security, create_policy, drop_policy, subscribe, unsubscribe, write, Command, Reply, done, subscribed, refused, no_session, too_many, unknown_subscription, limit}
-use Rattle.iv_message.specs.Message.{Message, no_json, too_long, no_object, no_request, request}
+use Rattle.iv_machine.specs.Act.{Act, begin, finish, create_role, create_table, create_view, grant, revoke, grant_role, revoke_role, row_security, create_policy, drop_policy, subscribe, unsubscribe, write, Command, Refusal, Reply, done, subscribed, refused, too_many, unknown_subscription}
+use Rattle.iv_message.specs.Message.{Message, no_json, too_long, no_object, no_request, request, unknown}
 use Rattle.iv_message.specs.Told.{Told, replied, opened, fault, unasked}
+use Rattle.iv_once.specs.Names.{Ask}
 use Rattle.iv_clients.specs.Bounds.{most_subs}
-use Rattle.iv_clients.specs.Clients.{Client, answered, at_client, client_at, closing, followed_by, following, fresh, is_followed, may_say, moved, saying}
+use Rattle.iv_clients.specs.Clients as clients
+use Rattle.iv_clients.specs.Clients.{Client, at_client, client_at, closing, followed_by, following, fresh, is_followed, may_say, moved, saying}
 use Rattle.iv_clients.specs.Feeds.{Feed, Seat, feed_for, feed_of, is_of_role, is_reading, room_for, seat_of, without_feed, without_seat}
-use Rattle.iv_clients.specs.Journal.{is_shared, line_said, said_by}
-use Rattle.iv_gate.specs.Gate.{Gate, acts, all_rested, all_swept, begun_for, came, closes, columns_in, done_for, feed_begun, hears, in_session, is_needed, joined, joined_by, joins, next_own, ran, reads, reads_first, reply_to, requests, rested, role_for, said, seated, settles, shut, subscribes, swept, tells, went, with_session, has_shape_room}
+use Rattle.iv_clients.specs.Journal.{Entry, Request, claim_said, is_shared, line_said, said_by}
+use Rattle.iv_clients.specs.Names.{Claim}
+use Rattle.iv_clients.specs.Tokens.{Token}
+use Rattle.iv_gate.specs.Gate.{Gate, acts, all_rested, all_swept, at_text, begun_for, came, closes, columns_in, done_for, entered, feed_begun, hears, in_session, is_needed, joined, joined_by, joins, may_have, next_own, ran, reads, reads_first, replies_to, reply_to, done_in, rested, said, seated, settles, shares, shut, subscribes, swept, tells, token_for, went, with_session}
 use Rattle.iv_gate.specs.Laws.{is_made}
+use Rattle.iv_gate.proofs.Choosing.{IsAside, refers, leaves, repeats, shares_so}
 use Rattle.iv_gate.proofs.Shaping.{test_of}
+
+-- what client c asks by a text
+abbrev pub request_of : Client → List ℕ → Act → Request
+request_of c text act = record { role = c.role; line = line_said text; act = act }
 
 -- what each step keeps; client m alone is told what is its own. The commands are those that change nothing that is shared
 pub record Steps (m : ℕ) (G : Gate → Gate → Type 0) : Type 0 where
@@ -133,42 +141,66 @@ module _ (m : ℕ) (G : Gate → Gate → Type 0) (kit : Steps m G) where
   -- ---- messages: what holds of where steps lead holds where a message leads, if it does behind a request
 
   module _ (g : Gate) (F : Gate → Type 0) (reach : (h : Gate) → G g h → F h) where
-    step_other : (c : Client) (id : Option Data) (text : List ℕ) (act : Act) (o : Option ℕ) → seat_of g.seats c.role ≡ o
-        → ((n : ℕ) → seat_of g.seats c.role ≡ Some n → F (requests g m id (record { role = c.role; line = line_said text; act = act }) n))
-        → F (if_some o (tells g m (replied id (refused no_session))) (requests g m id (record { role = c.role; line = line_said text; act = act })))
-    step_other c id text act None e f = reach (tells g m (replied id (refused no_session))) (kit.tell g (replied id (refused no_session)) refl)
-    step_other c id text act (Some n) e f = f n e
+    -- a refusal without a name is told, and nothing else
+    step_refuses : (id : Option Data) (q : Request) (name : Option Ask) (r : Refusal) → ((a : Ask) → F (replies_to g m id q (Some a) (refused r))) → F (replies_to g m id q name (refused r))
+    step_refuses id q (Some a) r f = f a
+    step_refuses id q None r f = subst F (sym same) (reach (tells g m (replied id (refused r))) (kit.tell g (replied id (refused r)) refl))
+      where
+        nothing : (b : Bool) → cond {A = List Entry} (b && false) (record { requests = []; names = []; position = None } ∷ []) [] ≡ []
+        nothing true = refl
+        nothing false = refl
+
+        same : replies_to g m id q None (refused r) ≡ tells g m (replied id (refused r))
+        same =
+            ap (λ es. tells (entered g es) m (replied id (refused r))) (nothing (is_shared q.act))
+            ∙ ap (λ es. tells (record g { entries = es }) m (replied id (refused r))) (append-nil g.entries)
+
+    step_shares : (c : Client) (id : Option Data) (q : Request) (claim : Option Claim) → ((name : Option Ask) (n : ℕ) → seat_of g.seats q.role ≡ Some n → F (done_in g m id q name n))
+        → ((b : Ask) (r : Refusal) → F (replies_to g m id q (Some b) (refused r))) → F (shares g m c id q claim)
+    step_shares c id q claim f k = shares_so F g m id q (record {
+      tells = λ t a. reach (tells g m t) (kit.tell g t (unmade t a));
+      does = f;
+      refuses = λ name r. step_refuses id q name r (λ a. k a r);
+    }) c claim
+      where
+        unmade : (t : Told) → IsAside t → is_made t ≡ false
+        unmade _ (refers i n) = refl
+        unmade _ (leaves i n) = refl
+        unmade _ (repeats i at answer) = refl
 
     step_acts : (c : Client) (id : Option Data) (text : List ℕ) (act : Act)
-        → ((n : ℕ) → is_shared act ≡ true → seat_of g.seats c.role ≡ Some n → F (requests g m id (record { role = c.role; line = line_said text; act = act }) n))
+        → ((name : Option Ask) (n : ℕ) → is_shared act ≡ true → seat_of g.seats c.role ≡ Some n → F (done_in g m id (request_of c text act) name n))
+        → ((a : Ask) (r : Refusal) → is_shared act ≡ true → F (replies_to g m id (request_of c text act) (Some a) (refused r)))
         → F (acts g m c id text act)
-    step_acts c id text (begin role) f = reach (tells g m (fault 2)) (kit.tell g (fault 2) refl)
-    step_acts c id text finish f = reach (tells g m (fault 2)) (kit.tell g (fault 2) refl)
-    step_acts c id text (subscribe rel) f = reach (reads g m c id rel) (step_reads g c id rel)
-    step_acts c id text (unsubscribe own) f = reach (closes g m c id own) (step_closes g c id own)
-    step_acts c id text (create_role name) f = step_other c id text (create_role name) (seat_of g.seats c.role) refl (λ n e. f n refl e)
-    step_acts c id text (create_table name owner columns) f = step_other c id text (create_table name owner columns) (seat_of g.seats c.role) refl (λ n e. f n refl e)
-    step_acts c id text (create_view name owner query) f = step_other c id text (create_view name owner query) (seat_of g.seats c.role) refl (λ n e. f n refl e)
-    step_acts c id text (grant rel privileges to) f = step_other c id text (grant rel privileges to) (seat_of g.seats c.role) refl (λ n e. f n refl e)
-    step_acts c id text (revoke rel privileges to) f = step_other c id text (revoke rel privileges to) (seat_of g.seats c.role) refl (λ n e. f n refl e)
-    step_acts c id text (grant_role group to) f = step_other c id text (grant_role group to) (seat_of g.seats c.role) refl (λ n e. f n refl e)
-    step_acts c id text (revoke_role group to) f = step_other c id text (revoke_role group to) (seat_of g.seats c.role) refl (λ n e. f n refl e)
-    step_acts c id text (row_security rel enable force) f = step_other c id text (row_security rel enable force) (seat_of g.seats c.role) refl (λ n e. f n refl e)
-    step_acts c id text (create_policy p) f = step_other c id text (create_policy p) (seat_of g.seats c.role) refl (λ n e. f n refl e)
-    step_acts c id text (drop_policy rel name) f = step_other c id text (drop_policy rel name) (seat_of g.seats c.role) refl (λ n e. f n refl e)
-    step_acts c id text (write entries) f = step_other c id text (write entries) (seat_of g.seats c.role) refl (λ n e. f n refl e)
+    step_acts c id text (begin role) f k = reach (tells g m (fault 2)) (kit.tell g (fault 2) refl)
+    step_acts c id text finish f k = reach (tells g m (fault 2)) (kit.tell g (fault 2) refl)
+    step_acts c id text (subscribe rel) f k = reach (reads g m c id rel) (step_reads g c id rel)
+    step_acts c id text (unsubscribe own) f k = reach (closes g m c id own) (step_closes g c id own)
+    step_acts c id text (create_role name) f k = step_shares c id (request_of c text (create_role name)) (claim_said text) (λ o n e. f o n refl e) (λ a r. k a r refl)
+    step_acts c id text (create_table name owner columns) f k = step_shares c id (request_of c text (create_table name owner columns)) (claim_said text) (λ o n e. f o n refl e) (λ a r. k a r refl)
+    step_acts c id text (create_view name owner query) f k = step_shares c id (request_of c text (create_view name owner query)) (claim_said text) (λ o n e. f o n refl e) (λ a r. k a r refl)
+    step_acts c id text (grant rel privileges to) f k = step_shares c id (request_of c text (grant rel privileges to)) (claim_said text) (λ o n e. f o n refl e) (λ a r. k a r refl)
+    step_acts c id text (revoke rel privileges to) f k = step_shares c id (request_of c text (revoke rel privileges to)) (claim_said text) (λ o n e. f o n refl e) (λ a r. k a r refl)
+    step_acts c id text (grant_role group to) f k = step_shares c id (request_of c text (grant_role group to)) (claim_said text) (λ o n e. f o n refl e) (λ a r. k a r refl)
+    step_acts c id text (revoke_role group to) f k = step_shares c id (request_of c text (revoke_role group to)) (claim_said text) (λ o n e. f o n refl e) (λ a r. k a r refl)
+    step_acts c id text (row_security rel enable force) f k = step_shares c id (request_of c text (row_security rel enable force)) (claim_said text) (λ o n e. f o n refl e) (λ a r. k a r refl)
+    step_acts c id text (create_policy p) f k = step_shares c id (request_of c text (create_policy p)) (claim_said text) (λ o n e. f o n refl e) (λ a r. k a r refl)
+    step_acts c id text (drop_policy rel name) f k = step_shares c id (request_of c text (drop_policy rel name)) (claim_said text) (λ o n e. f o n refl e) (λ a r. k a r refl)
+    step_acts c id text (write entries) f k = step_shares c id (request_of c text (write entries)) (claim_said text) (λ o n e. f o n refl e) (λ a r. k a r refl)
 
     pub step_done : (c : Client) (text : List ℕ) (s : Message)
-        → ((id : Option Data) (act : Act) (n : ℕ) → s ≡ request id act → is_shared act ≡ true → seat_of g.seats c.role ≡ Some n
-        → F (requests g m id (record { role = c.role; line = line_said text; act = act }) n))
+        → ((id : Option Data) (act : Act) (name : Option Ask) (n : ℕ) → s ≡ request id act → is_shared act ≡ true → seat_of g.seats c.role ≡ Some n
+        → F (done_in g m id (request_of c text act) name n))
+        → ((id : Option Data) (act : Act) (a : Ask) (r : Refusal) → s ≡ request id act → is_shared act ≡ true → F (replies_to g m id (request_of c text act) (Some a) (refused r)))
         → F (done_for g m c text s)
-    step_done c text no_json f = reach (tells g m (fault 1)) (kit.tell g (fault 1) refl)
-    step_done c text too_long f = reach (tells g m (fault 22)) (kit.tell g (fault 22) refl)
-    step_done c text no_object f = reach (tells g m (fault 2)) (kit.tell g (fault 2) refl)
-    step_done c text (no_request id why) f = reach (tells g m (unasked id why)) (kit.tell g (unasked id why) refl)
-    step_done c text (request id act) f =
-        test_of F (has_shape_room g act) (acts g m c id text act) (tells g m (replied id (refused limit))) (step_acts c id text act (λ n x e. f id act n refl x e))
-        (reach (tells g m (replied id (refused limit))) (kit.tell g (replied id (refused limit)) refl))
+    step_done c text no_json f k = reach (tells g m (fault 1)) (kit.tell g (fault 1) refl)
+    step_done c text too_long f k = reach (tells g m (fault 22)) (kit.tell g (fault 22) refl)
+    step_done c text no_object f k = reach (tells g m (fault 2)) (kit.tell g (fault 2) refl)
+    step_done c text (no_request id why) f k = reach (tells g m (unasked id why)) (kit.tell g (unasked id why) refl)
+    step_done c text (request id act) f k =
+        test_of F (may_have (claim_said text) act) (acts g m c id text act) (tells g m (unasked id (unknown (codes "once"))))
+        (step_acts c id text act (λ o n x e. f id act o n refl x e) (λ a r x. k id act a r refl x))
+        (reach (tells g m (unasked id (unknown (codes "once")))) (kit.tell g (unasked id (unknown (codes "once"))) refl))
 
 -- ---- a fact of gateways that each step keeps
 
@@ -178,23 +210,26 @@ Keeps P g h = P g → P h
 -- what keeps it where a message of client m, who is c, is heard: who says it, the answer, and a request
 pub record MessageKeeps (P : Gate → Type 0) (g : Gate) (m : ℕ) (c : Client) (text : List ℕ) : Type 0 where
   pub says : P g → P (record g { clients = at_client m (saying text) g.clients })
-  pub answers : (h : Gate) → P h → P (record h { clients = at_client m (answered c) h.clients })
-  pub asks : (id : Option Data) (act : Act) (n : ℕ) → said_by text ≡ request id act → is_shared act ≡ true → seat_of g.seats c.role ≡ Some n
+  pub answers : (h : Gate) → P h → P (record h { clients = at_client m (clients.answered c) h.clients })
+  pub asks : (id : Option Data) (act : Act) (name : Option Ask) (n : ℕ) → said_by text ≡ request id act → is_shared act ≡ true → seat_of g.seats c.role ≡ Some n
       → P (record g { clients = at_client m (saying text) g.clients })
-      → P (requests (record g { clients = at_client m (saying text) g.clients }) m id (record { role = c.role; line = line_said text; act = act }) n)
+      → P (done_in (record g { clients = at_client m (saying text) g.clients }) m id (request_of c text act) name n)
+  pub refuses : (id : Option Data) (act : Act) (a : Ask) (r : Refusal) → said_by text ≡ request id act → is_shared act ≡ true
+      → P (record g { clients = at_client m (saying text) g.clients })
+      → P (replies_to (record g { clients = at_client m (saying text) g.clients }) m id (request_of c text act) (Some a) (refused r))
 
 module _ (P : Gate → Type 0) (kit : (m : ℕ) → Steps m (Keeps P)) where
   -- a token is presented
   pub came_keeps : (g : Gate) (m : ℕ) (token : List ℕ)
-      → ((h : Gate) (role : Name) → role_for g m token ≡ Some role → P h → P (record h { clients = set h.clients m (Some (fresh h.entries role (sha256 token))) }))
+      → ((h : Gate) (t : Token) → token_for g m token ≡ Some t → P h → P (record h { clients = set h.clients m (Some (fresh h.entries t (at_text h t))) }))
       → P g → P (came g m token)
-  came_keeps g m token put b = by (role_for g m token) (λ role e. put (with_session g role) role e)
+  came_keeps g m token put b = by (token_for g m token) (λ t e. put (with_session g t.role) t e)
     where
-      by : (o : Option Name) → ((role : Name) → o ≡ Some role → P (with_session g role)
-          → P (record (with_session g role) { clients = set (with_session g role).clients m (Some (fresh (with_session g role).entries role (sha256 token))) }))
-          → P (if_some o g (λ role. let h = with_session g role in record h { clients = set h.clients m (Some (fresh h.entries role (sha256 token))) }))
+      by : (o : Option Token) → ((t : Token) → o ≡ Some t → P (with_session g t.role)
+          → P (record (with_session g t.role) { clients = set (with_session g t.role).clients m (Some (fresh (with_session g t.role).entries t (at_text (with_session g t.role) t))) }))
+          → P (if_some o g (λ t. let h = with_session g t.role in record h { clients = set h.clients m (Some (fresh h.entries t (at_text h t))) }))
       by None f = b
-      by (Some role) f = f role refl (step_with m (Keeps P) (kit m) g role b)
+      by (Some t) f = f t refl (step_with m (Keeps P) (kit m) g t.role b)
 
   -- a client goes
   pub went_keeps : (g : Gate) (m : ℕ) → (P g → P (record g { clients = set g.clients m None })) → P g → P (went g m)
@@ -214,7 +249,7 @@ module _ (P : Gate → Type 0) (kit : (m : ℕ) → Steps m (Keeps P)) where
       heard c x true =
           let i = record g { clients = at_client m (saying text) g.clients } in let k = kit m in let a = x.says b in
           x.answers (settles (done_for i m c text (said_by text))) (k.settle (done_for i m c text (said_by text))
-          (step_done m (Keeps P) k i P (λ h f. f a) c text (said_by text) (λ id act n e s t. x.asks id act n e s t a)))
+          (step_done m (Keeps P) k i P (λ h f. f a) c text (said_by text) (λ id act o n e s t. x.asks id act o n e s t a) (λ id act b r e s. x.refuses id act b r e s a)))
       heard c x false = b
 
       by : (o : Option Client) → ((c : Client) → o ≡ Some c → MessageKeeps P g m c text) → P (if_some o g (λ c. cond (may_say c) (hears g m c text) g))

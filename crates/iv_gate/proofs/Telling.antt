@@ -11,10 +11,10 @@ use Rattle.iv_rows.specs.Options.{if_some}
 use Rattle.iv_zset.specs.Limits.{copies}
 use Rattle.iv_zset.specs.Weights.{weight_of}
 use Rattle.iv_access.specs.Rights.{Name}
-use Rattle.iv_machine.specs.Act.{Act, Command, Line, reply, change, ended, Refusal}
+use Rattle.iv_machine.specs.Act.{Act, Line, reply, change, ended, Refusal}
 use Rattle.iv_machine.specs.Changing.{after}
 use Rattle.iv_machine.specs.Lines.{IsDifference}
-use Rattle.iv_machine.specs.Machine.{difference, ending_by, line_for, lines_told, outcome, reply_to, settled, step, weight}
+use Rattle.iv_machine.specs.Machine.{difference, ending_by, line_for, lines_told, outcome, reply_to, settled, step, weight, ending, Outcome}
 use Rattle.iv_machine.specs.Reached.{AreUnique}
 use Rattle.iv_machine.specs.Refusing.{refusal}
 use Rattle.iv_access.specs.Access.{role_number}
@@ -25,21 +25,26 @@ use Rattle.iv_clients.specs.Clients.{Client, Sub, all_shown, followed_by, own_li
 use Rattle.iv_clients.specs.Feeds.{Feed, ends_in, feed_of, is_end, rel_read}
 use Rattle.iv_clients.proofs.Slots.{one_some, some_is_none}
 use Rattle.iv_gate.specs.Events.{Event, next}
-use Rattle.iv_gate.specs.Gate.{Gate, granted_by, is_accepted, reply_in, told_of}
+use Rattle.iv_gate.specs.Gate as gates
+use Rattle.iv_gate.specs.Gate.{Gate, granted_by, is_accepted, reply_in, entries_of}
 use Rattle.iv_gate.specs.Replies.{ByClient, IsClient, told_by}
 use Rattle.iv_gate.specs.Seen.{all_rows, change_told, is_told_of, read_by, rows_told, seen}
 use Rattle.iv_gate.proofs.Doing.{AreCalm, is_news}
 use Rattle.iv_gate.proofs.Growing.{behind_front, map_front}
 use Rattle.iv_gate.proofs.Showing.{are_shown}
-use Rattle.iv_gate.proofs.News.{Hears, quietly, by_command, by_contents, IsToldContents, IsToldOf}
+use Rattle.iv_gate.proofs.News.{Hears, quietly, by_command, by_contents, IsToldContents, IsToldOf, IsToldOutcome, grants_of}
 use Rattle.iv_gate.proofs.Heeding.{IsOwn, followed_any, nothing_shown, own_each, same_subscriptions}
 use Rattle.iv_gate.proofs.Joining.{shows_view}
 use Rattle.iv_gate.proofs.Machine.{absent, any_append, ended_told, find_left, find_passes}
-use Rattle.iv_gate.proofs.Noticing.{next_all, told_now}
+use Rattle.iv_gate.proofs.Noticing.{next_all, told_now, HearsBy, IsToldStep, taken, untaken, heard}
 use Rattle.iv_gate.proofs.Running.{found_all}
 use Rattle.iv_gate.proofs.Seeing.{adds_to_view}
 use Rattle.iv_gate.proofs.Sound.{Adds, IsFeed, IsFollowing, IsSoundClient, IsSoundGate, Sounds, seer}
 use Rattle.iv_gate.proofs.Summing.{AreOwn, above, differs_back, is_back, neither, same_self, sum-append, sum_for}
+use Rattle.iv_clients.specs.Journal.{Entry}
+use Rattle.iv_gate.specs.Arriving.{Step, entry_of, fact_of, newly}
+use Rattle.iv_steps.specs.Steps.{all_carried, among, looked_at, shared}
+use Rattle.iv_gate.proofs.Ending.{step_over}
 
 -- ---- the texts of one number
 
@@ -223,7 +228,7 @@ shown_read g b m c own k x h = look c.subs (b.clients m c x.there x.stays).follo
 
 -- ---- what an event tells of a number
 
-data Texts (g : Gate) (c d : Client) (own : ℕ) : Type 0 where
+pub data Texts (g : Gate) (c d : Client) (own : ℕ) : Type 0 where
   silent : filter (is_told_of own) (told_by c d) ≡ [] → Texts g c d own
   differs : (xs ys : List (List Cell)) → filter (is_told_of own) (told_by c d) ≡ change_told own (difference xs ys) → is_some (followed_by d.subs own) ≡ true → Texts g c d own
   ends_so : (rel : Name) (why : Cause) → filter (is_told_of own) (told_by c d) ≡ over own rel why (difference (read_by g c own) []) ∷ [] → followed_by d.subs own ≡ None → Texts g c d own
@@ -276,42 +281,26 @@ three : (p : Told → Bool) (front news back : List Told) → filter p front ≡
 three p front news back f b =
     filter-append p front (news ++ back) ∙ ((λ i. f i ++ (filter-append p news back ∙ (λ j. filter p news ++ b j)) i) ∙ append-nil (filter p news))
 
-module _ (g : Gate) (e : Event) (b : IsSoundGate g) (m : ℕ) (c d : Client) (x : IsClient g m c) (own : ℕ) (a : IsToldOf g (next g e) c d) where
-  abbrev S : State
-  S = g.machine
-
-  abbrev k : Command
-  k = a.command
-
-  of_lines : filter (is_told_of own) (told_by c d) ≡ filter (is_told_of own) (own_lines g.feeds (step g.machine a.command).lines c.subs)
+module _ (g : Gate) (e : Event) (b : IsSoundGate g) (m : ℕ) (c d : Client) (x : IsClient g m c) (own : ℕ) (o : Outcome) (grants : List Told) (added : List Entry) (a : IsToldOutcome g (next g e) o grants added c d)
+    (quiet : filter (is_told_of own) grants ≡ []) where
+  of_lines : filter (is_told_of own) (told_by c d) ≡ filter (is_told_of own) (own_lines g.feeds o.lines c.subs)
   of_lines =
-      let o = step g.machine a.command in let lines = own_lines g.feeds o.lines c.subs in
-      let grants = cond (is_accepted (reply_in o.lines)) (map granted (granted_by o.state.frame a.command.act c.role)) [] in
+      let lines = own_lines g.feeds o.lines c.subs in
       ap (filter (is_told_of own)) (told_now c d _ a.told)
-      ∙ (three (is_told_of own) a.front (told_of g a.command.act o c) a.back (calm_texts own a.front a.calm.0) (calm_texts own a.back a.calm.1)
-      ∙ (filter-append (is_told_of own) lines grants
-      ∙ ((λ i. filter (is_told_of own) lines ++ grant_texts own (is_accepted (reply_in o.lines)) (granted_by o.state.frame a.command.act c.role) i) ∙ append-nil (filter (is_told_of own) lines))))
+      ∙ (three (is_told_of own) a.front (lines ++ grants) a.back (calm_texts own a.front a.calm.0) (calm_texts own a.back a.calm.1)
+      ∙ (filter-append (is_told_of own) lines grants ∙ ((λ i. filter (is_told_of own) lines ++ quiet i) ∙ append-nil (filter (is_told_of own) lines))))
 
   sound : IsSoundClient g.machine g.feeds (seer c)
   sound = b.clients m c x.there x.stays
 
-  of_sub : (s : Sub) → find (λ (y : Sub). own == y.own) c.subs ≡ Some s → (o : Option Refusal) → refusal g.machine a.command.session a.command.act ≡ o → Texts g c d own
-  of_sub s f (Some r) z =
-      silent (of_lines ∙ (lines_one own c.given g.feeds (step g.machine a.command).lines s c.subs sound.own f ∙ ap (λ q. flat_map (λ l. own_line g.feeds l s) (outcome g.machine a.command q).lines) z))
-  of_sub s f None z = by (ends x0) refl
+  -- where the lines are those of the subscriptions
+  pub of_sub : (s : Sub) → find (λ (y : Sub). own == y.own) c.subs ≡ Some s → (now : State) (ends : Subscription → Option Cause)
+      → flat_map (λ l. own_line g.feeds l s) o.lines ≡ flat_map (λ l. own_line g.feeds l s) (flat_map (line_for g.machine now ends) g.machine.frame.subscriptions)
+      → ends_in o.lines s.feed ≡ ends_in (flat_map (line_for g.machine now ends) g.machine.frame.subscriptions) s.feed
+      → ((y : Subscription) (why : Cause) → subscription_of g.machine.frame.subscriptions y.number ≡ Some y → ends y ≡ Some why → ends_in o.lines y.number ≡ true → shown now y.number ≡ [])
+      → Texts g c d own
+  of_sub s f now ends lines over_so gone = by (ends x0) refl
     where
-      n : ℕ
-      n = a.command.session
-
-      act : Act
-      act = a.command.act
-
-      now : State
-      now = settled act (after g.machine n act)
-
-      ends : Subscription → Option Cause
-      ends = ending_by act (after g.machine n act)
-
       y : IsOwn g c s
       y = found_sub (IsOwn g c) (λ (w : Sub). own == w.own) c.subs s (own_each g c sound) f
 
@@ -330,41 +319,93 @@ module _ (g : Gate) (e : Event) (b : IsSoundGate g) (m : ℕ) (c d : Client) (x 
       same : own ≡ s.own
       same = eqb-true own s.own (find_passes (λ (w : Sub). own == w.own) c.subs s f)
 
-      lines : (step g.machine a.command).lines ≡ reply n (reply_to g.machine.frame act) ∷ flat_map (line_for g.machine now ends) g.machine.frame.subscriptions
-      lines = ap (λ q. (outcome g.machine a.command q).lines) z
-          ∙ ap (λ es. reply n (reply_to g.machine.frame act) ∷ flat_map (line_for g.machine now ends) es) (same_subscriptions g.machine n act a.shared)
-
       texts : filter (is_told_of own) (told_by c d) ≡ text_of g.feeds s x0.number (ends x0) (difference (shown g.machine x0.number) (shown now x0.number))
       texts =
-          of_lines ∙ (lines_one own c.given g.feeds (step g.machine a.command).lines s c.subs sound.own f ∙ (ap (flat_map (λ l. own_line g.feeds l s)) lines
+          of_lines ∙ (lines_one own c.given g.feeds o.lines s c.subs sound.own f ∙ (lines
           ∙ of_one g.machine now ends g.feeds s g.machine.frame.subscriptions x0 b.state.numbers.unique found))
 
-      by : (o : Option Cause) → ends x0 ≡ o → Texts g c d own
+      by : (z : Option Cause) → ends x0 ≡ z → Texts g c d own
       by None q =
-          let goes : ends_in (step g.machine a.command).lines s.feed ≡ false =
-          ap (λ z. ends_in z s.feed) lines ∙ not_ended g.machine now ends g.feeds s s.feed g.machine.frame.subscriptions x0 b.state.numbers.unique found q in
+          let goes : ends_in o.lines s.feed ≡ false = over_so ∙ not_ended g.machine now ends g.feeds s s.feed g.machine.frame.subscriptions x0 b.state.numbers.unique found q in
           differs (shown g.machine x0.number) (shown now x0.number)
-          (texts ∙ (ap (λ o. text_of g.feeds s x0.number o (difference (shown g.machine x0.number) (shown now x0.number))) q ∙ ap (λ i. change_told i (difference (shown g.machine x0.number) (shown now x0.number))) (sym same)))
+          (texts ∙ (ap (λ z. text_of g.feeds s x0.number z (difference (shown g.machine x0.number) (shown now x0.number))) q ∙ ap (λ i. change_told i (difference (shown g.machine x0.number) (shown now x0.number))) (sym same)))
           (ap (λ z. is_some (followed_by z own)) a.subs ∙ ap (λ z. is_some (option_map (λ (w : Sub). w.feed) z))
-          (find_left (λ (w : Sub). own == w.own) (λ (w : Sub). not (ends_in (step g.machine a.command).lines w.feed)) c.subs s f (ap not goes)))
+          (find_left (λ (w : Sub). own == w.own) (λ (w : Sub). not (ends_in o.lines w.feed)) c.subs s f (ap not goes)))
       by (Some why) q =
-          let over_now : ends_in (step g.machine a.command).lines s.feed ≡ true =
-          ap (λ z. ends_in z s.feed) lines ∙ ended_told s.feed g.machine now ends g.machine.frame.subscriptions x0 found (ap is_some q) in
-          let gone : shown now x0.number ≡ [] = nothing_shown g.machine n act a.shared b.state.numbers.unique x0 why fd.found q in
+          let over_now : ends_in o.lines s.feed ≡ true = over_so ∙ ended_told s.feed g.machine now ends g.machine.frame.subscriptions x0 found (ap is_some q) in
+          let none : shown now x0.number ≡ [] = gone x0 why fd.found q (ap (ends_in o.lines) (sym number) ∙ over_now) in
           let was : shown g.machine x0.number ≡ read_by g c own =
           ap (shown g.machine) (sym number) ∙ shown_read g b m c own s.feed x (ap (option_map (λ (w : Sub). w.feed)) f) in
           ends_so (rel_read g.feeds x0.number) why
-          (texts ∙ (ap (λ o. text_of g.feeds s x0.number o (difference (shown g.machine x0.number) (shown now x0.number))) q
-          ∙ (λ i. over (sym same i) (rel_read g.feeds x0.number) why (difference (was i) (gone i)) ∷ [])))
+          (texts ∙ (ap (λ z. text_of g.feeds s x0.number z (difference (shown g.machine x0.number) (shown now x0.number))) q
+          ∙ (λ i. over (sym same i) (rel_read g.feeds x0.number) why (difference (was i) (none i)) ∷ [])))
           (ap (λ z. followed_by z own) a.subs ∙ ap (option_map (λ (w : Sub). w.feed))
-          (sub_gone own c.given (λ (w : Sub). not (ends_in (step g.machine a.command).lines w.feed)) c.subs s sound.own f (ap not over_now)))
+          (sub_gone own c.given (λ (w : Sub). not (ends_in o.lines w.feed)) c.subs s sound.own f (ap not over_now)))
 
-  of_command : Texts g c d own
-  of_command = by (list_any (λ (y : Sub). own == y.own) c.subs) refl
+  -- a number that is open, or is not
+  pub of_outcome : ((s : Sub) → find (λ (y : Sub). own == y.own) c.subs ≡ Some s → Texts g c d own) → Texts g c d own
+  of_outcome each = by (list_any (λ (y : Sub). own == y.own) c.subs) refl
     where
       by : (t : Bool) → list_any (λ (y : Sub). own == y.own) c.subs ≡ t → Texts g c d own
-      by false t = silent (of_lines ∙ lines_none own g.feeds (step g.machine a.command).lines c.subs t)
-      by true t = let s = find_there own c.subs t in of_sub s.sub s.is (refusal g.machine a.command.session a.command.act) refl
+      by false t = silent (of_lines ∙ lines_none own g.feeds o.lines c.subs t)
+      by true t = let s = find_there own c.subs t in each s.sub s.is
+
+  pub of_nothing : (s : Sub) → find (λ (y : Sub). own == y.own) c.subs ≡ Some s → flat_map (λ l. own_line g.feeds l s) o.lines ≡ [] → Texts g c d own
+  of_nothing s f none = silent (of_lines ∙ (lines_one own c.given g.feeds o.lines s c.subs sound.own f ∙ none))
+
+of_command : (g : Gate) (e : Event) (b : IsSoundGate g) (m : ℕ) (c d : Client) (x : IsClient g m c) (own : ℕ) → IsToldOf g (next g e) c d → Texts g c d own
+of_command g e b m c d x own a = of_outcome g e b m c d x own o grants added a.by quiet (λ s f. by s f (refusal g.machine a.command.session a.command.act) refl)
+  where
+    o : Outcome
+    o = step g.machine a.command
+
+    grants : List Told
+    grants = grants_of g.machine a.command c.role
+
+    added : List Entry
+    added = entries_of a.request a.name (gates.reply_to g a.command)
+
+    quiet : filter (is_told_of own) (grants_of g.machine a.command c.role) ≡ []
+    quiet = grant_texts own (is_accepted (reply_in (step g.machine a.command).lines)) (granted_by (step g.machine a.command).state.frame a.command.act c.role)
+
+    n : ℕ
+    n = a.command.session
+
+    act : Act
+    act = a.command.act
+
+    now : State
+    now = settled a.command.act (after g.machine a.command.session a.command.act)
+
+    ends : Subscription → Option Cause
+    ends = ending_by a.command.act (after g.machine a.command.session a.command.act)
+
+    by : (s : Sub) → find (λ (y : Sub). own == y.own) c.subs ≡ Some s → (z : Option Refusal) → refusal g.machine a.command.session a.command.act ≡ z → Texts g c d own
+    by s f (Some r) z = of_nothing g e b m c d x own o grants added a.by quiet s f (ap (λ q. flat_map (λ l. own_line g.feeds l s) (outcome g.machine a.command q).lines) z)
+    by s f None z =
+        let lines : (step g.machine a.command).lines ≡ reply n (reply_to g.machine.frame act) ∷ flat_map (line_for g.machine now ends) g.machine.frame.subscriptions =
+        ap (λ q. (outcome g.machine a.command q).lines) z
+        ∙ ap (λ es. reply n (reply_to g.machine.frame act) ∷ flat_map (line_for g.machine now ends) es) (same_subscriptions g.machine n act a.shared) in
+        of_sub g e b m c d x own o grants added a.by quiet s f now ends (ap (flat_map (λ l. own_line g.feeds l s)) lines) (ap (λ w. ends_in w s.feed) lines)
+        (λ y why there q i. nothing_shown g.machine n act a.shared b.state.numbers.unique y why there q)
+
+of_step : (g : Gate) (e : Event) (b : IsSoundGate g) (m : ℕ) (c d : Client) (x : IsClient g m c) (own : ℕ) (s : Step) → IsToldStep g (next g e) s c d → Texts g c d own
+of_step g e b m c d x own s a = of_outcome g e b m c d x own a.outcome (map granted names) (entry_of s ∷ []) a.by quiet (λ w f. by w f (all_carried (map fact_of s.requests) (shared g.machine)) a.leads)
+  where
+    names : List Name
+    names = newly g.machine.frame a.outcome.state.frame c.role
+
+    quiet : filter (is_told_of own) (map granted (newly g.machine.frame a.outcome.state.frame c.role)) ≡ []
+    quiet = grant_texts own true (newly g.machine.frame a.outcome.state.frame c.role)
+
+    by : (w : Sub) → find (λ (y : Sub). own == y.own) c.subs ≡ Some w → (t : Option State) → option_map (λ u. looked_at g.machine (among g.machine u)) t ≡ Some a.outcome → Texts g c d own
+    by w f None i = absurd (some_is_none a.outcome (sym i))
+    by w f (Some t) i =
+        let same = one_some (looked_at g.machine (among g.machine t)) a.outcome i in let ends = ending (among g.machine t) in
+        of_sub g e b m c d x own a.outcome (map granted names) (entry_of s ∷ []) a.by quiet w f a.outcome.state ends
+        (subst (λ (z : Outcome). flat_map (λ l. own_line g.feeds l w) z.lines ≡ flat_map (λ l. own_line g.feeds l w) (flat_map (line_for g.machine z.state ends) g.machine.frame.subscriptions)) same refl)
+        (subst (λ (z : Outcome). ends_in z.lines w.feed ≡ ends_in (flat_map (line_for g.machine z.state ends) g.machine.frame.subscriptions) w.feed) same refl)
+        (λ y why there q j. step_over (map fact_of s.requests) g.machine a.outcome b.state.numbers.unique a.leads y.number j)
 
 of_contents : (g : Gate) (c d : Client) (own : ℕ) → IsToldContents c d → Texts g c d own
 of_contents g c d own a = by (own == (c.given + 1)) refl
@@ -412,10 +453,15 @@ module _ (adds : Adds) (sounds : Sounds) (exact : (xs ys : List (List Cell)) →
   abbrev behind : List (List Cell)
   behind = read_by (next g e) d own
 
-  texts_of : Hears g (next g e) c d → Texts g c d own
-  texts_of (quietly a n) = silent (ap (filter (is_told_of own)) (told_now c d a.more a.told) ∙ calm_texts own a.more a.calm)
-  texts_of (by_contents a n) = of_contents g c d own a
-  texts_of (by_command a) = of_command g e b m c d x own a
+  texts_by : Hears g (next g e) c d → Texts g c d own
+  texts_by (quietly a n) = silent (ap (filter (is_told_of own)) (told_now c d a.more a.told) ∙ calm_texts own a.more a.calm)
+  texts_by (by_contents a n) = of_contents g c d own a
+  texts_by (by_command a) = of_command g e b m c d x own a
+
+  texts_of : HearsBy g e c d → Texts g c d own
+  texts_of (heard n h) = texts_by h
+  texts_of (untaken n k same) = silent (ap (filter (is_told_of own)) (told_now c d [] (ap told (sym same) ∙ sym (append-nil (told c)))))
+  texts_of (taken s q a) = of_step g e b m c d x own s a
 
   rows_filtered : (ts : List Told) → all_rows own ts ≡ all_rows own (filter (is_told_of own) ts)
   rows_filtered [] = refl
@@ -474,7 +520,7 @@ module _ (adds : Adds) (sounds : Sounds) (exact : (xs ys : List (List Cell)) →
         weights = λ q. sym (ap (λ rows. weight_of rows q) (ap (all_rows own) t ∙ rows_of_change (difference xs ys))) ∙ weighs f p q;
       }))
 
-  tells_difference : Hears g (next g e) c d → TellsApart g e c d own
+  tells_difference : HearsBy g e c d → TellsApart g e c d own
   tells_difference h = by (texts_of h)
     where
       by : Texts g c d own → TellsApart g e c d own

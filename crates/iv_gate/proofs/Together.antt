@@ -1,50 +1,123 @@
 -- What events leave and tell, as the laws say it: each in one equation.
-use Rattle.std.proofs.Common.{◌≡◌, ◌⊎◌, inl, inr, ℕ, suc, ◌+◌, ◌<◌, Bool, true, false, cond, List, [], ◌∷◌, ◌++◌, length, map, Option, Some, None, is_some, refl, ap, ◌∙◌, sym, append-nil, arith}
+use Rattle.std.proofs.Common.{◌≡◌, ◌⊎◌, inl, inr, ℕ, suc, ◌+◌, ◌<◌, Bool, true, false, cond, not, ◌||◌, List, [], ◌∷◌, ◌++◌, drop, length, map, Option, Some, None, is_some, refl, ap, ◌∙◌, sym, append-nil, arith}
 use Rattle.std.specs.Prelude.{◌==◌, ◌&&◌, Contains, filter, get_or}
 use Rattle.std.specs.List.{AllByRecursion}
 use Rattle.std.proofs.lemmas.Bool.{false≢true, eqb-true}
 use Rattle.iv_rows.specs.Options.{if_some}
 use Rattle.iv_access.specs.Rights.{Name}
 use Rattle.iv_machine.specs.declared.Cause.{Cause}
-use Rattle.iv_machine.specs.Machine.{difference}
+use Rattle.iv_machine.specs.Machine.{Outcome, difference}
 use Rattle.iv_message.specs.Told.{Told, over}
-use Rattle.iv_clients.specs.Clients.{Client, Shown, all_shown, client_at, followed_by, handing, may_say, saying, told}
-use Rattle.iv_clients.specs.Journal.{said_by}
+use Rattle.iv_clients.specs.Clients.{Client, Shown, all_shown, client_at, followed_by, fresh, handing, may_say, saying, told}
+use Rattle.iv_clients.specs.Journal.{IsRequest, Request, is_shared, said_by}
+use Rattle.iv_clients.specs.Names.{holder_of, place_text}
+use Rattle.iv_steps.specs.Laws.{RefusalsAreFound}
+use Rattle.iv_steps.specs.Steps.{stepped}
 use Rattle.iv_clients.proofs.Slots.{one_some}
-use Rattle.iv_gate.specs.Events.{Event, presented, message, gone, known, ticked, synced, handed, failed, next}
-use Rattle.iv_gate.specs.Gate.{Gate}
+use Rattle.iv_gate.specs.Arriving.{Step, entry_of, fact_of, fault_of, is_behind}
+use Rattle.iv_gate.specs.Events.{Event, presented, message, gone, known, ticked, synced, handed, arrived, forgave, failed, IsWell, happens, next}
+use Rattle.iv_gate.specs.Gate.{Gate, hears, place_of}
 use Rattle.iv_gate.specs.Implied.{EndsForCause}
-use Rattle.iv_gate.specs.Laws.{AreShown, LeavesMarks, marked, new_entries}
-use Rattle.iv_gate.specs.Replies.{ByClient, IsClient, heard_by, is_opened, told_by}
+use Rattle.iv_gate.specs.Laws.{AddsOnly, AreShown, HasMarks, LeavesMarks, marked}
+use Rattle.iv_gate.specs.Replies.{ByClient, IsClient, added_by, heard_by, is_opened, place_behind, told_by}
 use Rattle.iv_gate.specs.Seen.{IsEnd, TellsDifference, hindrance, is_told_of, read_by}
-use Rattle.iv_gate.specs.Touched.{AreTouched, StaysItself, itself_behind}
+use Rattle.iv_gate.specs.Touched.{AreTouched, IsNewcomer, StaysItself, itself_behind}
+use Rattle.iv_gate.proofs.Answered.{place_is}
 use Rattle.iv_gate.proofs.Answering.{drop_text, follows_none, heard_is, not_followed, other_hears, own_answer}
-use Rattle.iv_gate.proofs.Growing.{map_front}
+use Rattle.iv_gate.proofs.Booking.{came_adds, is_next, went_adds}
+use Rattle.iv_gate.proofs.Growing.{drop_front, map_front}
 use Rattle.iv_gate.proofs.Hearing.{is_own}
 use Rattle.iv_gate.proofs.Replying.{asked, had_before, said_reply}
 use Rattle.iv_gate.proofs.Showing.{IsShownBy, are_shown}
-use Rattle.iv_gate.proofs.Signs.{card}
+use Rattle.iv_gate.proofs.Signs.{Marks, Sign, card, marks}
 use Rattle.iv_gate.proofs.Summing.{same_self}
 use Rattle.iv_gate.proofs.Telling.{TellsApart}
-use Rattle.iv_gate.proofs.Touching.{IsKept as KeepsCard, card_behind, entered_by_event, is_gone, marked_by_event, marks_behind, rests, touched}
+use Rattle.iv_gate.proofs.Touching.{IsKept as KeepsCard, IsNewcomer as Comes, card_behind, entered_by_event, is_gone, marked_by_event, marks_behind, rests, taken_by, takes_sign, touched}
 
 -- ---- marks
 
-as_marked : (g h : Gate) (e : Event) → record h { tokens = (marks_behind g e).tokens; kept = (marks_behind g e).kept; sent = (marks_behind g e).sent; dead = (marks_behind g e).dead; entries = g.entries ++ new_entries g e }
-    ≡ record (marked g e) { machine = h.machine; seats = h.seats; feeds = h.feeds; clients = h.clients }
-as_marked g h (presented m token) = refl
-as_marked g h (message m text) = refl
-as_marked g h (gone m) = refl
-as_marked g h ticked = refl
-as_marked g h (known tokens) = λ i. record h { tokens = tokens; kept = g.kept; sent = g.sent; dead = g.dead; entries = append-nil g.entries i }
-as_marked g h synced = λ i. record h { tokens = g.tokens; kept = length g.entries; sent = g.sent; dead = g.dead; entries = append-nil g.entries i }
-as_marked g h (handed m) = λ i. record h { tokens = g.tokens; kept = g.kept; sent = (marks_behind g (handed m)).sent; dead = g.dead; entries = append-nil g.entries i }
-as_marked g h failed = λ i. record h { tokens = g.tokens; kept = g.kept; sent = g.sent; dead = true; entries = append-nil g.entries i }
+as_marked : (g h : Gate) (e : Event) → g.dead ≡ false
+    → record h { tokens = (marks_behind g e).tokens; head = (marks_behind g e).head; kept = (marks_behind g e).kept; forgiven = (marks_behind g e).forgiven; sent = (marks_behind g e).sent; dead = (marks_behind g e).dead }
+    ≡ record (marked g e) { machine = h.machine; seats = h.seats; feeds = h.feeds; clients = h.clients; entries = h.entries }
+as_marked g h (presented m token) live = refl
+as_marked g h (message m text) live = refl
+as_marked g h (gone m) live = refl
+as_marked g h ticked live = refl
+as_marked g h (known tokens) live = refl
+as_marked g h synced live = refl
+as_marked g h (handed m) live = refl
+as_marked g h forgave live = refl
+as_marked g h failed live = refl
+as_marked g h (arrived s) live = by (is_some (fault_of g s))
+  where
+    with_marks : Marks → Gate
+    with_marks m = record h { tokens = m.tokens; head = m.head; kept = m.kept; forgiven = m.forgiven; sent = m.sent; dead = m.dead }
 
-pub leaves_marks : (g : Gate) (e : Event) → g.dead ≡ false → LeavesMarks g e
-leaves_marks g e live =
-    let m = marked_by_event g e live in let n = entered_by_event g e live in
-    (λ i. record (next g e) { tokens = (m i).tokens; kept = (m i).kept; sent = (m i).sent; dead = (m i).dead; entries = n i }) ∙ as_marked g (next g e) e
+    by : (b : Bool) → with_marks (cond b (record (marks g) { dead = true }) (marks g))
+        ≡ record (record g { dead = b }) { machine = h.machine; seats = h.seats; feeds = h.feeds; clients = h.clients; entries = h.entries }
+    by true = refl
+    by false = ap (λ d. with_marks (record (marks g) { dead = d })) live
+
+has_marks : (g : Gate) (e : Event) → g.dead ≡ false → HasMarks g e
+has_marks g e live =
+    let m = marked_by_event g e live in
+    (λ i. record (next g e) { tokens = (m i).tokens; head = (m i).head; kept = (m i).kept; forgiven = (m i).forgiven; sent = (m i).sent; dead = (m i).dead }) ∙ as_marked g (next g e) e live
+
+-- where the entries stay nothing was added
+none_added : (g : Gate) (e : Event) → (next g e).entries ≡ g.entries → added_by g e ≡ []
+none_added g e h = ap (drop (length g.entries)) (h ∙ sym (append-nil g.entries)) ∙ drop_front g.entries []
+
+awake : (g : Gate) (e : Event) → g.dead ≡ false → next g e ≡ happens g e
+awake g e live = ap (λ b. cond b g (happens g e)) live
+
+-- facts that a well step has change what is shared
+facts_shared : (qs : List Request) → AllByRecursion IsRequest qs → AllByRecursion (λ f. is_shared f.act ≡ true) (map fact_of qs)
+facts_shared [] w = tt
+facts_shared (q ∷ qs) w = (w.0.shared, facts_shared qs w.1)
+
+-- a step without a fault that is not behind is taken
+step_taken : RefusalsAreFound → (g : Gate) (s : Step) → AllByRecursion IsRequest s.requests → is_some (fault_of g s) ≡ false → is_behind g s ≡ false → is_some (stepped (map fact_of s.requests) g.machine) ≡ true
+step_taken found g s w f b =
+    taken_if (is_some (stepped (map fact_of s.requests) g.machine)) (sym (found (map fact_of s.requests) g.machine (facts_shared s.requests w)) ∙ (is_next g s f b).accepted)
+  where
+    taken_if : (t : Bool) → not t ≡ false → t ≡ true
+    taken_if true h = refl
+    taken_if false h = absurd (false≢true (sym h))
+
+adds_only : RefusalsAreFound → (g : Gate) (e : Event) → IsWell e → g.dead ≡ false → AddsOnly g e (added_by g e)
+adds_only found g (arrived s) w live =
+    drop_more (ap (λ (x : Gate). x.entries) (awake g (arrived s) live) ∙ ap (λ (x : Sign). x.entries) (takes_sign g s)) ∙ by (is_some (fault_of g s)) refl (is_behind g s) refl (stepped (map fact_of s.requests) g.machine) refl
+  where
+    drop_more : (next g (arrived s)).entries ≡ g.entries ++ taken_by g s → added_by g (arrived s) ≡ taken_by g s
+    drop_more h = ap (drop (length g.entries)) h ∙ drop_front g.entries (taken_by g s)
+
+    by : (d : Bool) → is_some (fault_of g s) ≡ d → (p : Bool) → is_behind g s ≡ p → (o : Option Outcome) → stepped (map fact_of s.requests) g.machine ≡ o
+        → cond d [] (cond p [] (if_some o [] (λ x. entry_of s ∷ []))) ≡ cond (p || d) [] (entry_of s ∷ [])
+    by true e true k o h = refl
+    by true e false k o h = refl
+    by false e true k o h = refl
+    by false e false k (Some x) h = refl
+    by false e false k None h = absurd (false≢true (sym (ap is_some h) ∙ step_taken found g s w.0.requests e k))
+adds_only found g (message m text) w live = λ h. none_added g (message m text) (ap (λ (x : Gate). x.entries) (awake g (message m text) live) ∙ by (client_at g.clients m) h)
+  where
+    heard_not : (c : Client) (t : Bool) → t ≡ false → (cond t (hears g m c text) g).entries ≡ g.entries
+    heard_not c true e = absurd (false≢true (sym e))
+    heard_not c false e = refl
+
+    by : (o : Option Client) → if_some o false may_say ≡ false → (if_some o g (λ c. cond (may_say c) (hears g m c text) g)).entries ≡ g.entries
+    by None e = refl
+    by (Some c) e = heard_not c (may_say c) e
+adds_only found g (presented m token) w live = none_added g (presented m token) (ap (λ (x : Gate). x.entries) (awake g (presented m token) live) ∙ came_adds g m token)
+adds_only found g (gone m) w live = none_added g (gone m) (ap (λ (x : Gate). x.entries) (awake g (gone m) live) ∙ went_adds g m)
+adds_only found g (known tokens) w live = none_added g (known tokens) (ap (λ (x : Gate). x.entries) (awake g (known tokens) live))
+adds_only found g ticked w live = none_added g ticked (ap (λ (x : Gate). x.entries) (awake g ticked live))
+adds_only found g synced w live = none_added g synced (ap (λ (x : Gate). x.entries) (awake g synced live))
+adds_only found g (handed m) w live = none_added g (handed m) (ap (λ (x : Gate). x.entries) (awake g (handed m) live))
+adds_only found g forgave w live = none_added g forgave (ap (λ (x : Gate). x.entries) (awake g forgave live))
+adds_only found g failed w live = none_added g failed (ap (λ (x : Gate). x.entries) (awake g failed live))
+
+pub leaves_marks : RefusalsAreFound → (g : Gate) (e : Event) → IsWell e → g.dead ≡ false → LeavesMarks g e
+leaves_marks found g e w live = record { grows = entered_by_event g e live; only = adds_only found g e w live; marks = has_marks g e live }
 
 -- ---- clients
 
@@ -64,6 +137,8 @@ itself_card m c (gone n) = refl
 itself_card m c (known tokens) = refl
 itself_card m c ticked = refl
 itself_card m c synced = refl
+itself_card m c (arrived s) = refl
+itself_card m c forgave = refl
 itself_card m c failed = refl
 
 keeps : (g : Gate) (e : Event) (m : ℕ) (c : Client) → KeepsCard g e m c → StaysItself g e m c
@@ -72,7 +147,7 @@ keeps g e m c k =
     record {
       now = k.now;
       there = k.there;
-      is = λ i. record k.now { role = (x i).role; digest = (x i).digest; asked = (x i).asked; messages = (x i).messages; handed = (x i).handed; dropped = y i };
+      is = λ i. record k.now { role = (x i).role; user = (x i).user; digest = (x i).digest; asked = (x i).asked; messages = (x i).messages; handed = (x i).handed; dropped = y i };
     }
 
 not_gone : (m : ℕ) (e : Event) → (e ≡ gone m → ⊥) → is_gone m e ≡ false
@@ -87,11 +162,24 @@ not_gone m (known tokens) h = refl
 not_gone m ticked h = refl
 not_gone m synced h = refl
 not_gone m (handed n) h = refl
+not_gone m (arrived s) h = refl
+not_gone m forgave h = refl
 not_gone m failed h = refl
+
+-- a newcomer is told where its names stand before it comes, which is where they stand behind it
+newcomer : (g : Gate) (e : Event) (m : ℕ) (d : Client) → g.dead ≡ false → Comes g e m d → IsNewcomer g e m d
+newcomer g e m d live x =
+    let holder = holder_of x.token.role x.token.user in
+    let head : (next g e).head ≡ g.head = ap (λ (z : Event). (next g z).head) x.event ∙ ap (λ (z : Gate). z.head) (has_marks g (presented m x.text) live) in
+    let entries : (next g e).entries ≡ g.entries =
+    ap (λ (z : Event). (next g z).entries) x.event ∙ (ap (λ (z : Gate). z.entries) (awake g (presented m x.text) live) ∙ came_adds g m x.text) in
+    let place : place_text (place_of (next g e) holder) ≡ place_behind g holder 0 =
+    place_is (next g e) holder ∙ (λ i. place_behind (record g { head = head i; entries = entries i }) holder 0) in
+    record { text = x.text; token = x.token; event = x.event; opened = x.opened; is = x.is ∙ ap (fresh (next g e).entries x.token) place }
 
 pub touches : (g : Gate) (e : Event) → g.dead ≡ false → AreTouched g e
 touches g e live = let t = touched g e live in
-    record { stays = λ m c h n. keeps g e m c (t.stays m c h (not_gone m e n)); leaves = λ m n. t.leaves m (ap (is_gone m) n ∙ same_self m); comes = λ m d h k. let x = t.comes m d h k in (x.token, x.event, x.opened, x.is) }
+    record { stays = λ m c h n. keeps g e m c (t.stays m c h (not_gone m e n)); leaves = λ m n. t.leaves m (ap (is_gone m) n ∙ same_self m); comes = λ m d h k. newcomer g e m d live (t.comes m d h k) }
 
 -- ---- what is shown
 
@@ -121,7 +209,7 @@ comes_own g e m c d x y own h = by g.dead refl
 
     live : g.dead ≡ false → (o : Option (List ℕ)) → heard_by m c e ≡ o → (is_own own c.subs ≡ true) ⊎ (c.given < own)
     live l None q = inl (had_before c d own ((other_hears g e m c d l x.there y.there y.stays q).none own) h)
-    live l (Some text) q = heard (is_opened (said_reply (asked g m text) c (said_by text)) ≡ true) ((own_answer g e m c d text l x.there y.there (heard_is m c e text q)).comes own h)
+    live l (Some text) q = heard (is_opened (said_reply (asked g m text) c text (said_by text)) ≡ true) ((own_answer g e m c d text l x.there y.there (heard_is m c e text q)).comes own h)
       where
         heard : (P : Type 0) → (is_own own c.subs ≡ true) ⊎ (P × (own ≡ c.given + 1)) → (is_own own c.subs ≡ true) ⊎ (c.given < own)
         heard P (inl k) = inl k
@@ -132,10 +220,10 @@ comes_own g e m c d x y own h = by g.dead refl
     by false q = live q (heard_by m c e) refl
 
 first_in : {X : Type 0} (p : X → Bool) (ts : List X) (x : X) → filter p ts ≡ x ∷ [] → Contains ts x
-first_in p [] x h = absurd (no h)
+first_in p [] x h = absurd (never h)
   where
-    no : {X : Type 0} {y : X} → [] ≡ y ∷ [] → ⊥
-    no e = false≢true (ap some_there e)
+    never : {X : Type 0} {y : X} → [] ≡ y ∷ [] → ⊥
+    never e = false≢true (ap some_there e)
       where
         some_there : {Y : Type 0} → List Y → Bool
         some_there [] = false

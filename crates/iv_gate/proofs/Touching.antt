@@ -1,21 +1,24 @@
 -- Each event leaves its marks, and touches clients as it says.
-use Rattle.std.proofs.Common.{◌≡◌, ℕ, zero, suc, Bool, true, false, cond, ◌||◌, not, List, [], ◌∷◌, ◌++◌, length, map, set, Option, Some, None, option_map, refl, ap, ◌∙◌, sym, append-nil}
+use Rattle.std.proofs.Common.{◌≡◌, ℕ, zero, suc, Bool, true, false, cond, ◌||◌, not, List, [], ◌∷◌, ◌++◌, length, map, set, Option, Some, None, is_some, option_map, refl, ap, ◌∙◌, sym, append-nil}
 use Rattle.std.specs.Prelude.{◌==◌, ◌&&◌, filter, option_and_then}
 use Rattle.std.proofs.lemmas.Bool.{false≢true, eqb-true, eqb-false}
 use Rattle.sha2.specs.Sha256.{sha256}
 use Rattle.iv_rows.specs.Names.{is_name}
 use Rattle.iv_rows.specs.Options.{if_some}
-use Rattle.iv_access.specs.Rights.{Name}
 use Rattle.iv_clients.specs.Clients.{Client, Slots, at_all, at_client, beating, checked, client_at, dropping, fresh, handing, is_free, is_slow, may_say, opens, released, saying}
 use Rattle.iv_clients.specs.Feeds.{is_of_role}
-use Rattle.iv_clients.specs.Journal.{Entry, said_by}
-use Rattle.iv_clients.specs.Tokens.{Token, role_opened}
+use Rattle.iv_clients.specs.Journal.{Entry}
+use Rattle.iv_machine.specs.Machine.{Outcome}
+use Rattle.iv_steps.specs.Steps.{stepped}
+use Rattle.iv_clients.specs.Tokens.{Token, token_of}
 use Rattle.iv_clients.proofs.Slots.{at_every, at_other, at_same, not_free, one_some, set_gone, set_other, set_there, some_is_none}
-use Rattle.iv_gate.specs.Events.{Event, presented, message, gone, known, ticked, synced, handed, failed, happens, next, ticking}
-use Rattle.iv_gate.specs.Gate.{Gate, all_rested, all_swept, came, has_session, hears, role_for, said, settles, went, with_session}
-use Rattle.iv_gate.specs.Laws.{entries_by, new_entries}
+use Rattle.iv_gate.specs.Arriving.{Step, entry_of, fact_of, fault_of, is_behind, landed, takes}
+use Rattle.iv_gate.specs.Events.{Event, presented, message, gone, known, ticked, synced, handed, arrived, forgave, failed, happens, next}
+use Rattle.iv_gate.specs.Gate.{Gate, all_rested, all_swept, at_text, came, has_session, hears, said, settles, token_for, went, with_session}
+use Rattle.iv_gate.specs.Replies.{added_by}
 use Rattle.iv_gate.specs.Touched.{drops}
-use Rattle.iv_gate.proofs.Signs.{Card, Mark, Marks, card, marking, marks, Sign, mark_of, marks_in, sign, sign_all_rested, sign_all_swept, sign_hears, sign_settles, sign_with}
+use Rattle.iv_gate.proofs.Signs.{Card, Mark, Marks, card, marking, marks, Sign, mark_of, marks_in, sign, sign_all_rested, sign_all_swept, sign_hears, sign_landed, sign_settles, sign_with}
+use Rattle.iv_gate.proofs.Growing.{behind_front}
 
 -- ---- what events leave
 
@@ -24,6 +27,8 @@ abbrev pub marks_behind : Gate → Event → Marks
 marks_behind g (known tokens) = record (marks g) { tokens = tokens }
 marks_behind g synced = record (marks g) { kept = length g.entries }
 marks_behind g (handed m) = record (marks g) { sent = g.sent ++ if_some (client_at g.clients m) [] (λ c. c.sendable) }
+marks_behind g (arrived s) = cond (is_some (fault_of g s)) (record (marks g) { dead = true }) (marks g)
+marks_behind g forgave = record (marks g) { forgiven = length g.entries }
 marks_behind g failed = record (marks g) { dead = true }
 marks_behind g e = marks g
 
@@ -46,10 +51,11 @@ pub record IsKept (g : Gate) (e : Event) (m : ℕ) (c : Client) : Type 0 where
 
 -- a number that nobody had has a client who presented a token, which opens its role, and who is told its greeting alone
 pub record IsNewcomer (g : Gate) (e : Event) (m : ℕ) (d : Client) : Type 0 where
-  pub token : List ℕ
-  pub event : e ≡ presented m token
-  pub opened : role_opened g.tokens (sha256 token) ≡ Some d.role
-  pub is : d ≡ fresh (next g e).entries d.role (sha256 token)
+  pub text : List ℕ
+  pub token : Token
+  pub event : e ≡ presented m text
+  pub opened : token_of g.tokens (sha256 text) ≡ Some token
+  pub is : d ≡ fresh (next g e).entries token (at_text (next g e) token)
 
 pub record AreTouched (g : Gate) (e : Event) : Type 0 where
   pub stays : (m : ℕ) (c : Client) → client_at g.clients m ≡ Some c → is_gone m e ≡ false → IsKept g e m c
@@ -116,7 +122,7 @@ pub said_slots : (g : Gate) (m : ℕ) (text : List ℕ) → marks_in (said g m t
 said_slots g m text = by (client_at g.clients m)
   where
     heard : (c : Client) (b : Bool) → marks_in (cond b (hears g m c text) g).clients ≡ cond b (marks_in (at_client m (saying text) g.clients)) (marks_in g.clients)
-    heard c true = ap (λ (s : Sign). s.slots) (sign_hears g m c text)
+    heard c true = ap (λ (s : Sign). s.slots) (sign_hears g m c text).sign
     heard c false = refl
 
     by : (o : Option Client) → marks_in (if_some o g (λ c. cond (may_say c) (hears g m c text) g)).clients
@@ -160,49 +166,50 @@ said_at g m text j c h = ap (λ z. client_at z j) (said_slots g m text) ∙ by (
 
 -- a client comes
 
-pub record Opens (g : Gate) (m : ℕ) (token : List ℕ) (role : Name) : Type 0 where
-  pub opened : role_opened g.tokens (sha256 token) ≡ Some role
+pub record Opens (g : Gate) (m : ℕ) (token : List ℕ) (t : Token) : Type 0 where
+  pub opened : token_of g.tokens (sha256 token) ≡ Some t
   pub free : is_free m g.clients ≡ true
-  pub session : has_session g role ≡ true
+  pub session : has_session g t.role ≡ true
 
 and_true : (b d : Bool) → (b && d) ≡ true → (b ≡ true) × (d ≡ true)
 and_true true d h = (refl, h)
 and_true false d h = cc
 
-pub opens_role : (g : Gate) (m : ℕ) (token : List ℕ) (role : Name) → role_for g m token ≡ Some role → Opens g m token role
-opens_role g m token role h = by (role_opened g.tokens (sha256 token)) refl h
+pub opens_token : (g : Gate) (m : ℕ) (token : List ℕ) (t : Token) → token_for g m token ≡ Some t → Opens g m token t
+opens_token g m token t h = by (token_of g.tokens (sha256 token)) refl h
   where
-    test : (r : Name) (b : Bool) → (is_name r && (is_free m g.clients && has_session g r)) ≡ b → role_opened g.tokens (sha256 token) ≡ Some r → cond b (Some r) None ≡ Some role → Opens g m token role
-    test r true t o e =
-        let same : r ≡ role = cc in let tests = and_true (is_free m g.clients) (has_session g r) (and_true (is_name r) (is_free m g.clients && has_session g r) t).1 in
-        record { opened = o ∙ ap Some same; free = tests.0; session = ap (has_session g) (sym same) ∙ tests.1 }
-    test r false t o e = absurd (some_is_none role (sym e))
+    test : (r : Token) (b : Bool) → (is_name r.role && (is_free m g.clients && has_session g r.role)) ≡ b → token_of g.tokens (sha256 token) ≡ Some r → cond b (Some r) None ≡ Some t → Opens g m token t
+    test r true x o e =
+        let same : r ≡ t = cc in
+        let tests = and_true (is_free m g.clients) (has_session g r.role) (and_true (is_name r.role) (is_free m g.clients && has_session g r.role) x).1 in
+        record { opened = o ∙ ap Some same; free = tests.0; session = ap (λ (z : Token). has_session g z.role) (sym same) ∙ tests.1 }
+    test r false x o e = absurd (some_is_none t (sym e))
 
-    by : (o : Option Name) → role_opened g.tokens (sha256 token) ≡ o
-        → option_and_then (λ r. cond (is_name r && (is_free m g.clients && has_session g r)) (Some r) None) o ≡ Some role → Opens g m token role
-    by None o e = absurd (some_is_none role (sym e))
-    by (Some r) o e = test r (is_name r && (is_free m g.clients && has_session g r)) refl o e
+    by : (o : Option Token) → token_of g.tokens (sha256 token) ≡ o
+        → option_and_then (λ (r : Token). cond (is_name r.role && (is_free m g.clients && has_session g r.role)) (Some r) None) o ≡ Some t → Opens g m token t
+    by None o e = absurd (some_is_none t (sym e))
+    by (Some r) o e = test r (is_name r.role && (is_free m g.clients && has_session g r.role)) refl o e
 
 -- the gateway behind it
-abbrev pub came_as : Gate → ℕ → List ℕ → Name → Gate
-came_as g m token role = let h = with_session g role in record h { clients = set h.clients m (Some (fresh h.entries role (sha256 token))) }
+abbrev pub came_as : Gate → ℕ → Token → Gate
+came_as g m t = let h = with_session g t.role in record h { clients = set h.clients m (Some (fresh h.entries t (at_text h t))) }
 
-pub came_sign : (g : Gate) (m : ℕ) (token : List ℕ) (role : Name) → sign (came_as g m token role) ≡ record (sign g) { slots = set (marks_in g.clients) m (Some (mark_of (fresh g.entries role (sha256 token)))) }
-came_sign g m token role =
-    let h = with_session g role in
-    ap (λ z. record (sign h) { slots = z }) (set_marks m (Some (fresh h.entries role (sha256 token))) h.clients)
-    ∙ ap (λ (s : Sign). record s { slots = set s.slots m (Some (mark_of (fresh g.entries role (sha256 token)))) }) (sign_with g role)
+pub came_sign : (g : Gate) (m : ℕ) (t : Token) → sign (came_as g m t) ≡ record (sign g) { slots = set (marks_in g.clients) m (Some (mark_of (fresh g.entries t (at_text g t)))) }
+came_sign g m t =
+    let h = with_session g t.role in
+    ap (λ z. record (sign h) { slots = z }) (set_marks m (Some (fresh h.entries t (at_text h t))) h.clients)
+    ∙ ap (λ (s : Sign). record s { slots = set s.slots m (Some (mark_of (fresh g.entries t (at_text g t)))) }) (sign_with g t.role)
 
-came_other : (g : Gate) (m : ℕ) (token : List ℕ) (j : ℕ) (o : Option Name) → role_for g m token ≡ o → ((role : Name) → role_for g m token ≡ Some role → m ≡ j → ⊥)
-    → client_at (marks_in (if_some o g (came_as g m token)).clients) j ≡ client_at (marks_in g.clients) j
+came_other : (g : Gate) (m : ℕ) (token : List ℕ) (j : ℕ) (o : Option Token) → token_for g m token ≡ o → ((t : Token) → token_for g m token ≡ Some t → m ≡ j → ⊥)
+    → client_at (marks_in (if_some o g (came_as g m)).clients) j ≡ client_at (marks_in g.clients) j
 came_other g m token j None e ne = refl
-came_other g m token j (Some role) e ne =
-    ap (λ (s : Sign). client_at s.slots j) (came_sign g m token role) ∙ set_other m j (Some (mark_of (fresh g.entries role (sha256 token)))) (marks_in g.clients) (ne role e)
+came_other g m token j (Some t) e ne =
+    ap (λ (s : Sign). client_at s.slots j) (came_sign g m t) ∙ set_other m j (Some (mark_of (fresh g.entries t (at_text g t)))) (marks_in g.clients) (ne t e)
 
 came_at : (g : Gate) (m : ℕ) (token : List ℕ) (j : ℕ) (c : Client) → client_at g.clients j ≡ Some c → client_at (marks_in (came g m token).clients) j ≡ Some (mark_of c)
 came_at g m token j c h =
-    came_other g m token j (role_for g m token) refl
-    (λ role e same. false≢true (sym (not_free m c g.clients (ap (client_at g.clients) same ∙ h)) ∙ (opens_role g m token role e).free))
+    came_other g m token j (token_for g m token) refl
+    (λ t e same. false≢true (sym (not_free m c g.clients (ap (client_at g.clients) same ∙ h)) ∙ (opens_token g m token t e).free))
     ∙ (mark_at g.clients j ∙ ap (option_map mark_of) h)
 
 -- one goes
@@ -277,6 +284,31 @@ handed_at g m j c h = mark_at (at_client m handing g.clients) j ∙ by (m == j) 
 unchanged : (c : Client) → Some (mark_of c) ≡ Some ((marking (card c) (c.dropped || false)))
 unchanged c = ap (λ d. Some ((marking (card c) d))) (sym (or_false c.dropped))
 
+-- a step comes
+
+-- what a step adds to the journal
+abbrev pub taken_by : Gate → Step → List Entry
+taken_by g s = cond (is_some (fault_of g s)) [] (cond (is_behind g s) [] (if_some (stepped (map fact_of s.requests) g.machine) [] (λ o. entry_of s ∷ [])))
+
+pub takes_sign : (g : Gate) (s : Step) → sign (takes g s) ≡ record { marks = marks_behind g (arrived s); entries = g.entries ++ taken_by g s; slots = marks_in g.clients }
+takes_sign g s = by (is_some (fault_of g s)) (is_behind g s) (stepped (map fact_of s.requests) g.machine)
+  where
+    with_marks : Marks → List Entry → Sign
+    with_marks m es = record { marks = m; entries = es; slots = marks_in g.clients }
+
+    same : (m : Marks) → with_marks m g.entries ≡ with_marks m (g.entries ++ [])
+    same m = ap (with_marks m) (sym (append-nil g.entries))
+
+    by : (b d : Bool) (o : Option Outcome) → sign (cond b (record g { dead = true }) (cond d g (if_some o g (landed g (entry_of s)))))
+        ≡ record { marks = cond b (record (marks g) { dead = true }) (marks g); entries = g.entries ++ cond b [] (cond d [] (if_some o [] (λ x. entry_of s ∷ []))); slots = marks_in g.clients }
+    by true d o = same (record (marks g) { dead = true })
+    by false true o = same (marks g)
+    by false false None = same (marks g)
+    by false false (Some o) = sign_landed g (entry_of s) o
+
+pub takes_slots : (g : Gate) (s : Step) → marks_in (takes g s).clients ≡ marks_in g.clients
+takes_slots g s = ap (λ (x : Sign). x.slots) (takes_sign g s)
+
 -- who stays
 stays_at : (g : Gate) (e : Event) (j : ℕ) (c : Client) → client_at g.clients j ≡ Some c → is_gone j e ≡ false → client_at (marks_in (happens g e).clients) j ≡ Some (mark_behind j c e)
 stays_at g (presented m token) j c h n = came_at g m token j c h ∙ unchanged c
@@ -286,6 +318,8 @@ stays_at g (known tokens) j c h n = every_at (checked tokens) g.clients j c h �
 stays_at g ticked j c h n = every_at (beating g.entries) g.clients j c h ∙ unchanged c
 stays_at g synced j c h n = every_at released g.clients j c h ∙ ap Some (released_mark c)
 stays_at g (handed m) j c h n = handed_at g m j c h
+stays_at g (arrived s) j c h n = ap (λ z. client_at z j) (takes_slots g s) ∙ (mark_at g.clients j ∙ (ap (option_map mark_of) h ∙ unchanged c))
+stays_at g forgave j c h n = mark_at g.clients j ∙ (ap (option_map mark_of) h ∙ unchanged c)
 stays_at g failed j c h n = mark_at g.clients j ∙ (ap (option_map mark_of) h ∙ unchanged c)
 
 -- a number that nobody has stays so
@@ -315,10 +349,9 @@ said_none g m text j h = ap (λ z. client_at z j) (said_slots g m text) ∙ by (
 
 -- ---- who comes
 
-pub came_is : (g : Gate) (m : ℕ) (token : List ℕ) (role : Name) → is_free m g.clients ≡ true
-    → client_at (came_as g m token role).clients m ≡ Some (fresh (came_as g m token role).entries role (sha256 token))
-came_is g m token role free =
-    let h = with_session g role in set_there m (fresh h.entries role (sha256 token)) h.clients (free_marks h.clients)
+pub came_is : (g : Gate) (m : ℕ) (t : Token) → is_free m g.clients ≡ true → client_at (came_as g m t).clients m ≡ Some (fresh (came_as g m t).entries t (at_text (came_as g m t) t))
+came_is g m t free =
+    let h = with_session g t.role in set_there m (fresh h.entries t (at_text h t)) h.clients free_marks
   where
     free_of : (slots : Slots) (j : ℕ) → is_free j (marks_in slots) ≡ is_free j slots
     free_of [] j = refl
@@ -326,25 +359,20 @@ came_is g m token role free =
     free_of (Some c ∷ ss) zero = refl
     free_of (s ∷ ss) (suc j) = free_of ss j
 
-    free_marks : (slots : Slots) → is_free m (with_session g role).clients ≡ true
-    free_marks slots = sym (free_of (with_session g role).clients m) ∙ (ap (λ (s : Sign). is_free m s.slots) (sign_with g role) ∙ (free_of g.clients m ∙ free))
+    free_marks : is_free m (with_session g t.role).clients ≡ true
+    free_marks = sym (free_of (with_session g t.role).clients m) ∙ (ap (λ (s : Sign). is_free m s.slots) (sign_with g t.role) ∙ (free_of g.clients m ∙ free))
 
 pub record IsCome (g h : Gate) (m : ℕ) (token : List ℕ) (d : Client) : Type 0 where
-  pub opened : role_opened g.tokens (sha256 token) ≡ Some d.role
-  pub is : d ≡ fresh h.entries d.role (sha256 token)
+  pub from : Token
+  pub opened : token_of g.tokens (sha256 token) ≡ Some from
+  pub is : d ≡ fresh h.entries from (at_text h from)
 
-come_of : (g h : Gate) (m : ℕ) (token : List ℕ) (d : Client) (role : Name) → role_opened g.tokens (sha256 token) ≡ Some role
-    → d ≡ fresh h.entries role (sha256 token) → IsCome g h m token d
-come_of g h m token d role o e =
-    let same : d.role ≡ role = ap (λ (c : Client). c.role) e in
-    record { opened = o ∙ ap Some (sym same); is = e ∙ ap (λ r. fresh h.entries r (sha256 token)) (sym same) }
-
-came_new : (g : Gate) (m : ℕ) (token : List ℕ) (d : Client) (o : Option Name) → role_for g m token ≡ o → client_at g.clients m ≡ None
-    → client_at (if_some o g (came_as g m token)).clients m ≡ Some d → IsCome g (if_some o g (came_as g m token)) m token d
+came_new : (g : Gate) (m : ℕ) (token : List ℕ) (d : Client) (o : Option Token) → token_for g m token ≡ o → client_at g.clients m ≡ None
+    → client_at (if_some o g (came_as g m)).clients m ≡ Some d → IsCome g (if_some o g (came_as g m)) m token d
 came_new g m token d None e n h = absurd (some_is_none d (sym h ∙ n))
-came_new g m token d (Some role) e n h =
-    let o = opens_role g m token role e in
-    come_of g (came_as g m token role) m token d role o.opened (one_some d _ (sym h ∙ came_is g m token role o.free))
+came_new g m token d (Some t) e n h =
+    let o = opens_token g m token t e in
+    record { from = t; opened = o.opened; is = one_some d _ (sym h ∙ came_is g m t o.free) }
 
 comes_at : (g : Gate) (e : Event) (j : ℕ) (d : Client) → g.dead ≡ false → client_at g.clients j ≡ None → client_at (next g e).clients j ≡ Some d → IsNewcomer g e j d
 comes_at g e j d live n h = by e refl (ap (λ (x : Gate). client_at x.clients j) (sym (alive g e live)) ∙ h)
@@ -358,10 +386,10 @@ comes_at g e j d live n h = by e refl (ap (λ (x : Gate). client_at x.clients j)
     came_by : (m : ℕ) (token : List ℕ) (b : Bool) → (m == j) ≡ b → e ≡ presented m token → client_at (came g m token).clients j ≡ Some d → IsNewcomer g e j d
     came_by m token true q s x =
         let same = eqb-true m j q in
-        let c = came_new g j token d (role_for g j token) refl n (ap (λ i. client_at (came g i token).clients j) (sym same) ∙ x) in
+        let c = came_new g j token d (token_for g j token) refl n (ap (λ i. client_at (came g i token).clients j) (sym same) ∙ x) in
         let is_next : next g e ≡ came g j token = alive g e live ∙ (ap (happens g) s ∙ ap (λ i. came g i token) same) in
-        record { token = token; event = s ∙ ap (λ i. presented i token) same; opened = c.opened; is = c.is ∙ ap (λ (x : Gate). fresh x.entries d.role (sha256 token)) (sym is_next) }
-    came_by m token false q s x = never (came g m token).clients (came_other g m token j (role_for g m token) refl (λ role _. eqb-false m j q) ∙ nobody) x
+        record { text = token; token = c.from; event = s ∙ ap (λ i. presented i token) same; opened = c.opened; is = c.is ∙ ap (λ (x : Gate). fresh x.entries c.from (at_text x c.from)) (sym is_next) }
+    came_by m token false q s x = never (came g m token).clients (came_other g m token j (token_for g m token) refl (λ t _. eqb-false m j q) ∙ nobody) x
 
     went_by : (m : ℕ) (b : Bool) → (m == j) ≡ b → client_at (marks_in (went g m).clients) j ≡ None
     went_by m true q = ap (λ i. client_at (marks_in (went g m).clients) i) (sym (eqb-true m j q)) ∙ went_gone g m
@@ -375,6 +403,8 @@ comes_at g e j d live n h = by e refl (ap (λ (x : Gate). client_at x.clients j)
     by ticked s x = absurd (some_is_none d (sym x ∙ (at_every (beating g.entries) g.clients j ∙ ap (option_map (beating g.entries)) n)))
     by synced s x = absurd (some_is_none d (sym x ∙ (at_every released g.clients j ∙ ap (option_map released) n)))
     by (handed m) s x = absurd (some_is_none d (sym x ∙ at_none m j handing g.clients n))
+    by (arrived s) q x = never (takes g s).clients (ap (λ z. client_at z j) (takes_slots g s) ∙ nobody) x
+    by forgave s x = absurd (some_is_none d (sym x ∙ n))
     by failed s x = absurd (some_is_none d (sym x ∙ n))
 
 pub leaves_at : (g : Gate) (e : Event) (j : ℕ) → is_gone j e ≡ true → client_at (happens g e).clients j ≡ None
@@ -385,6 +415,8 @@ leaves_at g (known tokens) j h = absurd (false≢true h)
 leaves_at g ticked j h = absurd (false≢true h)
 leaves_at g synced j h = absurd (false≢true h)
 leaves_at g (handed m) j h = absurd (false≢true h)
+leaves_at g (arrived s) j h = absurd (false≢true h)
+leaves_at g forgave j h = absurd (false≢true h)
 leaves_at g failed j h = absurd (false≢true h)
 
 pub touched : (g : Gate) (e : Event) → g.dead ≡ false → AreTouched g e
@@ -403,37 +435,46 @@ pub record Left : Type 0 where
 abbrev pub left : Gate → Left
 left g = record { marks = marks g; entries = g.entries }
 
-left_more : (g h : Gate) → left h ≡ left g → left h ≡ record { marks = marks g; entries = g.entries ++ [] }
-left_more g h e = e ∙ ap (λ z. record { marks = marks g; entries = z }) (sym (append-nil g.entries))
+-- what an event adds stands behind the entries
+pub record IsLeft (g : Gate) (e : Event) : Type 0 where
+  pub more : List Entry
+  pub left : left (happens g e) ≡ record { marks = marks_behind g e; entries = g.entries ++ more }
 
-said_left : (g : Gate) (m : ℕ) (text : List ℕ) → left (said g m text) ≡ record { marks = marks g; entries = g.entries ++ new_entries g (message m text) }
-said_left g m text = by (client_at g.clients m)
+left_by : (g : Gate) (e : Event) (m : Marks) → marks_behind g e ≡ m → left (happens g e) ≡ record { marks = m; entries = g.entries } → IsLeft g e
+left_by g e m x y = record { more = []; left = y ∙ (λ i. record { marks = sym x i; entries = sym (append-nil g.entries) i }) }
+
+abbrev of_sign : Sign → Left
+of_sign s = record { marks = s.marks; entries = s.entries }
+
+said_left : (g : Gate) (m : ℕ) (text : List ℕ) → IsLeft g (message m text)
+said_left g m text = by (client_at g.clients m) refl
   where
-    heard : (c : Client) (b : Bool) → left (cond b (hears g m c text) g) ≡ record { marks = marks g; entries = g.entries ++ cond b (entries_by g c text (said_by text)) [] }
-    heard c true = ap (λ (s : Sign). record { marks = s.marks; entries = s.entries }) (sign_hears g m c text)
-    heard c false = left_more g g refl
+    heard : (c : Client) (b : Bool) → (more : List Entry) × (left (cond b (hears g m c text) g) ≡ record { marks = marks g; entries = g.entries ++ more })
+    heard c true = let x = sign_hears g m c text in (x.more, ap of_sign x.sign ∙ ap (λ z. record { marks = marks g; entries = z }) x.entries)
+    heard c false = ([], ap (λ z. record { marks = marks g; entries = z }) (sym (append-nil g.entries)))
 
-    by : (o : Option Client) → left (if_some o g (λ c. cond (may_say c) (hears g m c text) g))
-        ≡ record { marks = marks g; entries = g.entries ++ if_some o [] (λ c. cond (may_say c) (entries_by g c text (said_by text)) []) }
-    by None = left_more g g refl
-    by (Some c) = heard c (may_say c)
+    by : (o : Option Client) → client_at g.clients m ≡ o → IsLeft g (message m text)
+    by None e = left_by g (message m text) (marks g) refl (ap (λ o. left (if_some o g (λ c. cond (may_say c) (hears g m c text) g))) e)
+    by (Some c) e = let x = heard c (may_say c) in record { more = x.0; left = ap (λ o. left (if_some o g (λ c. cond (may_say c) (hears g m c text) g))) e ∙ x.1 }
 
-left_by : (g : Gate) (e : Event) → left (happens g e) ≡ record { marks = marks_behind g e; entries = g.entries ++ new_entries g e }
-left_by g (presented m token) = left_more g (came g m token) (by (role_for g m token))
+pub is_left : (g : Gate) (e : Event) → IsLeft g e
+is_left g (presented m token) = left_by g (presented m token) (marks g) refl (by (token_for g m token))
   where
-    by : (o : Option Name) → left (if_some o g (came_as g m token)) ≡ left g
+    by : (o : Option Token) → left (if_some o g (came_as g m)) ≡ left g
     by None = refl
-    by (Some role) = ap (λ (s : Sign). record { marks = s.marks; entries = s.entries }) (came_sign g m token role)
-left_by g (message m text) = said_left g m text
-left_by g (gone m) = left_more g (went g m) (ap (λ (s : Sign). record { marks = s.marks; entries = s.entries }) (went_sign g m))
-left_by g (known tokens) = ap (λ z. record { marks = record (marks g) { tokens = tokens }; entries = z }) (sym (append-nil g.entries))
-left_by g ticked = left_more g (ticking g) refl
-left_by g synced = ap (λ z. record { marks = record (marks g) { kept = length g.entries }; entries = z }) (sym (append-nil g.entries))
-left_by g (handed m) = ap (λ z. record { marks = marks_behind g (handed m); entries = z }) (sym (append-nil g.entries))
-left_by g failed = ap (λ z. record { marks = record (marks g) { dead = true }; entries = z }) (sym (append-nil g.entries))
+    by (Some t) = ap of_sign (came_sign g m t)
+is_left g (message m text) = said_left g m text
+is_left g (gone m) = left_by g (gone m) (marks g) refl (ap of_sign (went_sign g m))
+is_left g (known tokens) = left_by g (known tokens) (record (marks g) { tokens = tokens }) refl refl
+is_left g ticked = left_by g ticked (marks g) refl refl
+is_left g synced = left_by g synced (record (marks g) { kept = length g.entries }) refl refl
+is_left g (handed m) = left_by g (handed m) (marks_behind g (handed m)) refl refl
+is_left g (arrived s) = record { more = taken_by g s; left = ap of_sign (takes_sign g s) }
+is_left g forgave = left_by g forgave (record (marks g) { forgiven = length g.entries }) refl refl
+is_left g failed = left_by g failed (record (marks g) { dead = true }) refl refl
 
 pub marked_by_event : (g : Gate) (e : Event) → g.dead ≡ false → marks (next g e) ≡ marks_behind g e
-marked_by_event g e live = ap marks (alive g e live) ∙ ap (λ (x : Left). x.marks) (left_by g e)
+marked_by_event g e live = ap marks (alive g e live) ∙ ap (λ (x : Left). x.marks) (is_left g e).left
 
-pub entered_by_event : (g : Gate) (e : Event) → g.dead ≡ false → (next g e).entries ≡ g.entries ++ new_entries g e
-entered_by_event g e live = ap (λ (x : Gate). x.entries) (alive g e live) ∙ ap (λ (x : Left). x.entries) (left_by g e)
+pub entered_by_event : (g : Gate) (e : Event) → g.dead ≡ false → (next g e).entries ≡ g.entries ++ added_by g e
+entered_by_event g e live = behind_front g.entries (is_left g e).more (next g e).entries (ap (λ (x : Gate). x.entries) (alive g e live) ∙ ap (λ (x : Left). x.entries) (is_left g e).left)

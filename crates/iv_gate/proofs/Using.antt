@@ -5,15 +5,16 @@ use Rattle.std.specs.List.{AllByRecursion, list_any}
 use Rattle.std.proofs.lemmas.Bool.{false≢true, eqb-true, or_left, or_right}
 use Rattle.iv_machine.specs.Act.{Act, subscribe, unsubscribe, Command, Line, Refusal}
 use Rattle.iv_machine.specs.Changing.{after}
-use Rattle.iv_machine.specs.Machine.{outcome, settled, step}
+use Rattle.iv_machine.specs.Machine.{outcome, settled, step, Outcome}
 use Rattle.iv_machine.specs.Refusing.{refusal}
 use Rattle.iv_machine.specs.State.{State}
 use Rattle.iv_clients.specs.Clients.{Client, Slots, Sub, at_all, at_client, client_at, is_followed, staying, telling, told}
 use Rattle.iv_clients.specs.Feeds.{Feed, ends_in, without_feed}
 use Rattle.iv_clients.proofs.Slots.{at_every, from, one_some, some_is_none}
-use Rattle.iv_gate.specs.Gate.{Gate, in_session, ran, shut, told_of}
+use Rattle.iv_gate.specs.Gate.{Gate, in_session, ran, shut, told_of, went_on}
 use Rattle.iv_gate.proofs.Running.{all_so, at_one, filter_plain}
 use Rattle.iv_gate.proofs.Sound.{Seer, filter_all, seer, seer_telling}
+use Rattle.iv_message.specs.Told.{Told}
 
 -- ---- who follows
 
@@ -137,23 +138,18 @@ kept_sub k ls (x ∷ xs) e h = by (k == x.feed) refl (ends_in ls x.feed) refl h 
     by false q true w t more = more t
     by false q false w t more = or_right (k == x.feed) (follows k left) (more t)
 
-pub ran_followed : (but : ℕ → Bool) (g : Gate) (k : Command) → AreFollowed but g.feeds g.clients → AreFollowed but (ran g k).feeds (ran g k).clients
-ran_followed but g k a =
-    filter_all (λ (f : Feed). but f.number ≡ false → is_followed f.number (at_all hears g.clients) ≡ true) (λ (f : Feed). ends_in ls f.number) g.feeds
+went_followed : (but : ℕ → Bool) (g : Gate) (o : Outcome) (ts : Client → List Told) → AreFollowed but g.feeds g.clients → AreFollowed but (went_on g o ts).feeds (went_on g o ts).clients
+went_followed but g o ts a =
+    filter_all (λ (f : Feed). but f.number ≡ false → is_followed f.number (at_all hears g.clients) ≡ true) (λ (f : Feed). ends_in o.lines f.number) g.feeds
     (all_so {P = λ (f : Feed). but f.number ≡ false → is_followed f.number g.clients ≡ true}
-    {Q = λ (f : Feed). ends_in ls f.number ≡ false → but f.number ≡ false → is_followed f.number (at_all hears g.clients) ≡ true}
+    {Q = λ (f : Feed). ends_in o.lines f.number ≡ false → but f.number ≡ false → is_followed f.number (at_all hears g.clients) ≡ true}
     (λ f h e n. followed_all f.number hears g.clients (λ c t. heard f.number c e t) (h n)) g.feeds a)
   where
-    ls : List Line
-    ls = (step g.machine k).lines
-
     hears : Client → Client
-    hears c = staying (step g.machine k).lines (telling g.entries (told_of g k.act (step g.machine k) c) c)
+    hears c = staying o.lines (telling g.entries (ts c) c)
 
-    heard : (n : ℕ) (c : Client) → ends_in ls n ≡ false → follows n c.subs ≡ true → follows n (hears c).subs ≡ true
-    heard n c e t =
-        let ts = told_of g k.act (step g.machine k) c in
-        kept_sub n ls (telling g.entries ts c).subs e (ap (λ v. follows n v.subs) (seer_telling g.entries ts c) ∙ t)
+    heard : (n : ℕ) (c : Client) → ends_in o.lines n ≡ false → follows n c.subs ≡ true → follows n (hears c).subs ≡ true
+    heard n c e t = kept_sub n o.lines (telling g.entries (ts c) c).subs e (ap (λ v. follows n v.subs) (seer_telling g.entries (ts c) c) ∙ t)
 
 last_by : (s : State) (k : Command) (o : Option Refusal) → s.frame.last ≤ (outcome s k o).state.frame.last
 last_by s k (Some r) = omega arith
@@ -166,19 +162,22 @@ last_by s k None = by k.act
 pub last_kept : (s : State) (k : Command) → s.frame.last ≤ (step s k).state.frame.last
 last_kept s k = last_by s k (refusal s k.session k.act)
 
-pub ran_fit : (last : ℕ) (g : Gate) (k : Command) → last ≤ (step g.machine k).state.frame.last → AreFit last g.feeds g.clients → AreFit (ran g k).machine.frame.last (ran g k).feeds (ran g k).clients
-ran_fit last g k l a =
-    fit_all last (step g.machine k).state.frame.last g.feeds (ran g k).feeds hears g.clients l (λ P b. filter_plain P (λ (f : Feed). not (ends_in (step g.machine k).lines f.number)) g.feeds b)
-    (record { role = λ c. ap (λ (v : Seer). v.role) (seen c); fewer = λ c n h. sym (ap (λ (v : Seer). follows n v.subs) (seen c)) ∙ follows_fewer n (λ (s : Sub). not (ends_in (step g.machine k).lines s.feed)) _ h }) a
+went_fit : (last : ℕ) (g : Gate) (o : Outcome) (ts : Client → List Told) → last ≤ o.state.frame.last → AreFit last g.feeds g.clients → AreFit (went_on g o ts).machine.frame.last (went_on g o ts).feeds (went_on g o ts).clients
+went_fit last g o ts l a =
+    fit_all last o.state.frame.last g.feeds (went_on g o ts).feeds hears g.clients l (λ P b. filter_plain P (λ (f : Feed). not (ends_in o.lines f.number)) g.feeds b)
+    (record { role = λ c. ap (λ (v : Seer). v.role) (seen c); fewer = λ c n h. sym (ap (λ (v : Seer). follows n v.subs) (seen c)) ∙ follows_fewer n (λ (s : Sub). not (ends_in o.lines s.feed)) _ h }) a
   where
     hears : Client → Client
-    hears c = staying (step g.machine k).lines (telling g.entries (told_of g k.act (step g.machine k) c) c)
+    hears c = staying o.lines (telling g.entries (ts c) c)
 
-    seen : (c : Client) → seer (telling g.entries (told_of g k.act (step g.machine k) c) c) ≡ record (seer c) { told = told c ++ told_of g k.act (step g.machine k) c }
-    seen c = seer_telling g.entries (told_of g k.act (step g.machine k) c) c
+    seen : (c : Client) → seer (telling g.entries (ts c) c) ≡ record (seer c) { told = told c ++ ts c }
+    seen c = seer_telling g.entries (ts c) c
+
+pub went_using : (but : ℕ → Bool) (g : Gate) (o : Outcome) (ts : Client → List Told) → g.machine.frame.last ≤ o.state.frame.last → IsUsing but g → IsUsing but (went_on g o ts)
+went_using but g o ts l a = record { followed = went_followed but g o ts a.followed; fit = went_fit g.machine.frame.last g o ts l a.fit }
 
 pub ran_using : (but : ℕ → Bool) (g : Gate) (k : Command) → IsUsing but g → IsUsing but (ran g k)
-ran_using but g k a = record { followed = ran_followed but g k a.followed; fit = ran_fit g.machine.frame.last g k (last_kept g.machine k) a.fit }
+ran_using but g k a = went_using but g (step g.machine k) (told_of g k.act (step g.machine k)) (last_kept g.machine k) a
 
 -- ---- subscriptions that are opened and closed
 
@@ -190,8 +189,8 @@ last_more s n rel (Some r) h = absurd (some_is_none r h)
 pub ran_subscribe : (g : Gate) (n : ℕ) (rel : List ℕ) → refusal g.machine n (subscribe rel) ≡ None → AreFollowed none_but g.feeds g.clients → AreFit (g.machine.frame.last + 1) g.feeds g.clients
     → IsUsing none_but (ran g (in_session n (subscribe rel)))
 ran_subscribe g n rel accepted followed fit = record {
-  followed = ran_followed none_but g (in_session n (subscribe rel)) followed;
-  fit = ran_fit (g.machine.frame.last + 1) g (in_session n (subscribe rel)) (last_more g.machine n rel (refusal g.machine n (subscribe rel)) accepted) fit;
+  followed = went_followed none_but g (step g.machine (in_session n (subscribe rel))) (told_of g (subscribe rel) (step g.machine (in_session n (subscribe rel)))) followed;
+  fit = went_fit (g.machine.frame.last + 1) g (step g.machine (in_session n (subscribe rel))) (told_of g (subscribe rel) (step g.machine (in_session n (subscribe rel)))) (last_more g.machine n rel (refusal g.machine n (subscribe rel)) accepted) fit;
 }
 
 pub shut_using : (but : ℕ → Bool) (g : Gate) (f : Feed) → AreFollowed but (without_feed f.number g.feeds) g.clients → AreFit g.machine.frame.last g.feeds g.clients → IsUsing but (shut g f)

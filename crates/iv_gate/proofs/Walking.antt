@@ -1,21 +1,25 @@
 -- A fact of clients that each step keeps, through all that an event does.
-use Rattle.std.proofs.Common.{◌≡◌, ℕ, Bool, true, false, List, [], ◌∷◌, Option, Some, option_map, refl, ap, ◌∙◌, subst}
-use Rattle.std.specs.Prelude.{◌==◌}
+use Rattle.std.proofs.Common.{◌≡◌, ℕ, Bool, true, false, List, [], ◌∷◌, Option, Some, option_map, refl, ap, ◌∙◌, subst, cond, sym}
+use Rattle.std.specs.Prelude.{◌==◌, ◌++◌, is_some, map, None}
 use Rattle.std.specs.List.{AllByRecursion}
 use Rattle.std.proofs.lemmas.Bool.{eqb-true, eqb-false}
 use Rattle.serde_json.specs.Data.{Data}
 use Rattle.iv_access.specs.Rights.{Name}
-use Rattle.iv_machine.specs.Act.{Command}
-use Rattle.iv_machine.specs.Machine.{step}
+use Rattle.iv_machine.specs.Act.{Command, Reply, refused}
+use Rattle.iv_machine.specs.Machine.{step, Outcome}
 use Rattle.iv_message.specs.Message.{Message}
-use Rattle.iv_message.specs.Told.{Told, made, replied}
-use Rattle.iv_clients.specs.Clients.{Client, Slots, at_all, at_client, client_at, closing, following, moved, settling, staying, telling, told_one}
+use Rattle.iv_message.specs.Told.{Told, made, granted}
+use Rattle.iv_clients.specs.Clients.{Client, Slots, at_all, at_client, client_at, closing, following, moved, settling, staying, telling, told_one, own_lines}
 use Rattle.iv_clients.specs.Feeds.{Seat}
-use Rattle.iv_clients.specs.Journal.{Entry, line_said, shape_for}
-use Rattle.iv_clients.proofs.Slots.{at_every, at_other, at_same}
-use Rattle.iv_gate.specs.Gate.{Gate, all_rested, all_swept, done_for, entered, entries_of, in_session, is_accepted, ran, reply_to, requests, settles, informs, tells, told_of, with_session}
+use Rattle.iv_clients.specs.Journal.{Entry, Request, shape_for}
+use Rattle.iv_once.specs.Names.{Ask}
+use Rattle.iv_clients.proofs.Slots.{at_every, at_other, at_same, one_some}
+use Rattle.iv_gate.specs.Gate.{Gate, all_rested, all_swept, done_for, entered, entries_of, in_session, ran, replies_to, reply_to, reply_told, done_in, settles, informs, tells, told_of, with_session, went_on}
 use Rattle.iv_gate.proofs.Shaping.{all_made}
-use Rattle.iv_gate.proofs.Stepping.{Steps, step_all_rested, step_all_swept, step_done, step_with}
+use Rattle.iv_gate.proofs.Stepping.{Steps, request_of, step_all_rested, step_all_swept, step_done, step_with}
+use Rattle.iv_gate.specs.Arriving.{Step, entry_of, fact_of, fault_of, is_behind, landed, newly, takes}
+use Rattle.iv_rows.specs.Options.{if_some}
+use Rattle.iv_steps.specs.Steps.{stepped}
 
 -- what each step keeps of each client; client m alone is told what is its own
 pub record Kit (m : ℕ) (R : ℕ → Client → Client → Type 0) : Type 0 where
@@ -36,6 +40,32 @@ pub record Later (R : ℕ → Client → Client → Type 0) (slots : Slots) (j :
 
 abbrev pub Leads : (ℕ → Client → Client → Type 0) → Slots → Slots → Type 0
 Leads R old new = (j : ℕ) (c : Client) → client_at old j ≡ Some c → Later R new j c
+
+-- what a client is told of a step, but for the shape and that this is all
+abbrev pub step_told : Gate → Outcome → Client → List Told
+step_told g o c = own_lines g.feeds o.lines c.subs ++ map granted (newly g.machine.frame o.state.frame c.role)
+
+-- the client that it leads to
+abbrev pub landed_client : Gate → Entry → Outcome → Client → Client
+landed_client g e o c = let es = g.entries ++ e ∷ [] in let z = staying o.lines (telling es (step_told g o c) c) in settling es (telling es (shape_for z.role (e ∷ [])) z)
+
+pub landed_at : (g : Gate) (e : Entry) (o : Outcome) (j : ℕ) (c : Client) → client_at g.clients j ≡ Some c → client_at (landed g e o).clients j ≡ Some (landed_client g e o c)
+landed_at g e o j c t =
+    let es = g.entries ++ e ∷ [] in
+    let first : Client → Client = λ (x : Client). staying o.lines (telling es (step_told g o x) x) in
+    let shapes : Client → Client = λ (x : Client). telling es (shape_for x.role (e ∷ [])) x in
+    at_every (settling es) (at_all shapes (at_all first g.clients)) j ∙ ap (option_map (settling es)) (at_every shapes (at_all first g.clients) j ∙ ap (option_map shapes) (at_every first g.clients j ∙ ap (option_map first) t))
+
+-- whatever comes of a step, a client stays as it is, or is told of it
+pub takes_at : (P : Client → Type 0) (g : Gate) (s : Step) (j : ℕ) (c d : Client) → client_at g.clients j ≡ Some c → client_at (takes g s).clients j ≡ Some d → P c
+    → ((o : Outcome) → stepped (map fact_of s.requests) g.machine ≡ Some o → P (landed_client g (entry_of s) o c)) → P d
+takes_at P g s j c d t k same led = by (is_some (fault_of g s)) (is_behind g s) (stepped (map fact_of s.requests) g.machine) refl k
+  where
+    by : (x y : Bool) (o : Option Outcome) → stepped (map fact_of s.requests) g.machine ≡ o → client_at (cond x (record g { dead = true }) (cond y g (if_some o g (landed g (entry_of s))))).clients j ≡ Some d → P d
+    by true y o e i = subst P (one_some c d (sym t ∙ i)) same
+    by false true o e i = subst P (one_some c d (sym t ∙ i)) same
+    by false false None e i = subst P (one_some c d (sym t ∙ i)) same
+    by false false (Some o) e i = subst P (one_some (landed_client g (entry_of s) o c) d (sym (landed_at g (entry_of s) o j c t) ∙ i)) (led o e)
 
 module _ (m : ℕ) (R : ℕ → Client → Client → Type 0) (kit : Kit m R) where
   pub to_same : (slots : Slots) → Leads R slots slots
@@ -73,11 +103,14 @@ module _ (m : ℕ) (R : ℕ → Client → Client → Type 0) (kit : Kit m R) wh
   to_informs g es = to_all (λ c. telling g.entries (shape_for c.role es) c)
       (λ j c. shown_all g.entries j (shape_for c.role es) c (all_made (λ t. (d : Client) → R j d (told_one g.entries t d)) (λ role line d. kit.show j d g.entries role line) c.role es)) g.clients
 
-  to_requests : (g : Gate) (id : Option Data) (e : Entry) (n : ℕ) → Leads R g.clients (requests g m id e n).clients
-  to_requests g id e n =
-      let k = in_session n e.act in let r = reply_to g k in let h = tells (entered g e (is_accepted r)) m (replied id r) in
-      to_then g.clients h.clients (requests g m id e n).clients (to_tells (entered g e (is_accepted r)) (replied id r))
-      (to_then h.clients (ran h k).clients (requests g m id e n).clients (to_ran h k) (to_informs (ran h k) (entries_of e (is_accepted r))))
+  to_replies : (g : Gate) (id : Option Data) (q : Request) (name : Option Ask) (r : Reply) → Leads R g.clients (replies_to g m id q name r).clients
+  to_replies g id q name r = let h = entered g (entries_of q name r) in to_tells h (reply_told h id name r)
+
+  to_requests : (g : Gate) (id : Option Data) (q : Request) (name : Option Ask) (n : ℕ) → Leads R g.clients (done_in g m id q name n).clients
+  to_requests g id q name n =
+      let k = in_session n q.act in let r = reply_to g k in let h = replies_to g m id q name r in
+      to_then g.clients h.clients (done_in g m id q name n).clients (to_replies g id q name r)
+      (to_then h.clients (ran h k).clients (done_in g m id q name n).clients (to_ran h k) (to_informs (ran h k) (entries_of q name r)))
 
   steps : Steps m (λ g h. Leads R g.clients h.clients)
   steps = record {
@@ -105,4 +138,26 @@ module _ (m : ℕ) (R : ℕ → Client → Client → Type 0) (kit : Kit m R) wh
   pub to_done : (g : Gate) (c : Client) (text : List ℕ) (s : Message) → Leads R g.clients (done_for g m c text s).clients
   to_done g c text s =
       step_done m (λ h i. Leads R h.clients i.clients) steps g (λ h. Leads R g.clients h.clients) (λ h x. x) c text s
-      (λ id act n e shared seat. to_requests g id (record { role = c.role; line = line_said text; act = act }) n)
+      (λ id act name n e shared seat. to_requests g id (request_of c text act) name n) (λ id act a r e shared. to_replies g id (request_of c text act) (Some a) (refused r))
+
+  -- ---- a step of the log
+
+  pub to_landed : (g : Gate) (e : Entry) (o : Outcome) → ((j : ℕ) (c : Client) → R j c (staying o.lines (telling (g.entries ++ e ∷ []) (step_told g o c) c)))
+      → Leads R g.clients (landed g e o).clients
+  to_landed g e o hear =
+      let now = entered g (e ∷ []) in let h = went_on now o (step_told g o) in let i = informs h (e ∷ []) in
+      to_then g.clients h.clients (landed g e o).clients (to_all (λ c. staying o.lines (telling now.entries (step_told g o c) c)) hear g.clients)
+      (to_then h.clients i.clients (landed g e o).clients (to_informs h (e ∷ [])) (to_settles i))
+
+  -- whatever comes of it
+  pub to_takes : (g : Gate) (s : Step)
+      → ((o : Outcome) → stepped (map fact_of s.requests) g.machine ≡ Some o → (j : ℕ) (c : Client) → R j c (staying o.lines (telling (g.entries ++ entry_of s ∷ []) (step_told g o c) c)))
+      → Leads R g.clients (takes g s).clients
+  to_takes g s hear = by (is_some (fault_of g s)) (is_behind g s) (stepped (map fact_of s.requests) g.machine) refl
+    where
+      by : (d p : Bool) (o : Option Outcome) → stepped (map fact_of s.requests) g.machine ≡ o
+          → Leads R g.clients (cond d (record g { dead = true }) (cond p g (if_some o g (landed g (entry_of s))))).clients
+      by true p o e = to_same g.clients
+      by false true o e = to_same g.clients
+      by false false None e = to_same g.clients
+      by false false (Some o) e = to_landed g (entry_of s) o (hear o e)

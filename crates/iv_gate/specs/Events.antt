@@ -1,13 +1,20 @@
 -- What happens to a gateway.
-use Rattle.std.specs.Prelude.{ℕ, true, if◌then◌else◌, List, [], ◌∷◌, ◌++◌, length}
+use Rattle.std.specs.Prelude.{◌≡◌, ◌≤◌, ℕ, true, if◌then◌else◌, List, [], ◌∷◌, ◌++◌, length, is_some, option_and_then}
+use Rattle.std.specs.List.{AllByRecursion}
+use Rattle.serde_json.specs.Find.{as_object}
 use Rattle.iv_rows.specs.Options.{if_some}
 use Rattle.iv_clients.specs.Clients.{at_all, at_client, beating, checked, client_at, handing, released}
+use Rattle.iv_clients.specs.Bounds.{most_said}
+use Rattle.iv_clients.specs.Journal.{IsEntry}
 use Rattle.iv_clients.specs.Tokens.{Token}
+use Rattle.iv_once.specs.Names.{Named}
+use Rattle.iv_request.specs.Reading.{value_of}
+use Rattle.iv_gate.specs.Arriving.{Step, entry_of, takes}
 use Rattle.iv_gate.specs.Gate.{Gate, came, said, went}
 
 -- a token is presented for number m; client m sends a message, and goes; other tokens are known from now on; all are told that the line is
 -- alive; the journal has all entries on disk (nothing happens between its write and that); what client m may be sent is handed to its
--- socket; a call failed
+-- socket; a step of the log comes; names that were refused are forgiven; a call failed
 pub data Event : Type 0 where
   presented : (m : ℕ) → (token : List ℕ) → Event
   message : (m : ℕ) → (text : List ℕ) → Event
@@ -16,7 +23,19 @@ pub data Event : Type 0 where
   ticked : Event
   synced : Event
   handed : (m : ℕ) → Event
+  arrived : (s : Step) → Event
+  forgave : Event
   failed : Event
+
+-- an answer is a JSON object, and fits a line
+pub record IsAnswerText (e : Named) : Type 0 where
+  pub object : is_some (option_and_then as_object (value_of e.answer)) ≡ true
+  pub short : length e.answer ≤ most_said
+
+-- a step has requests and names as the journal has them: who reads the log sees to that
+abbrev pub IsWell : Event → Type 0
+IsWell (arrived s) = IsEntry (entry_of s) × AllByRecursion IsAnswerText s.names
+IsWell e = Unit {0}
 
 abbrev pub knowing : Gate → List Token → Gate
 knowing g tokens = record g { tokens = tokens; clients = at_all (checked tokens) g.clients }
@@ -39,6 +58,8 @@ happens g (known tokens) = knowing g tokens
 happens g ticked = ticking g
 happens g synced = on_disk g
 happens g (handed m) = hands g m
+happens g (arrived s) = takes g s
+happens g forgave = record g { forgiven = length g.entries }
 happens g failed = record g { dead = true }
 
 -- nothing happens to one that is dead

@@ -1,8 +1,9 @@
 -- The gateway: the access machine, its sessions by role, the feeds that clients share, the clients, and the journal's entries.
-use Rattle.std.specs.Prelude.{ℕ, ◌+◌, ◌==◌, ◌&&◌, ◌||◌, not, Bool, true, false, if◌then◌else◌, List, [], ◌∷◌, ◌++◌, map, filter, flat_map, length, nat_lt, slice_set, Option, Some, None, option_and_then, is_some}
+use Rattle.std.specs.Prelude.{ℕ, ◌+◌, ◌==◌, ◌&&◌, ◌||◌, not, Bool, true, false, if◌then◌else◌, List, [], ◌∷◌, ◌++◌, codes, drop, map, filter, flat_map, length, nat_lt, slice_set, Option, Some, None, option_and_then, option_map, unwrap_or, is_some}
 use Rattle.std.specs.List.{list_any}
 use Rattle.sha2.specs.Sha256.{sha256}
-use Rattle.serde_json.specs.Data.{Data}
+use Rattle.serde_json.specs.Data.{Data, object}
+use Rattle.serde_json.specs.Written.{compact_text}
 use Rattle.iv_rows.specs.Columns.{Column}
 use Rattle.iv_rows.specs.Names.{is_name}
 use Rattle.iv_rows.specs.Options.{if_some}
@@ -13,24 +14,48 @@ use Rattle.iv_access.specs.declared.privilege.Privilege.TheVariants.{Select, Ins
 use Rattle.iv_machine.specs.Act.{Act, begin, finish, create_table, create_view, grant, grant_role, subscribe, unsubscribe, Command, Line, reply, Reply, done, subscribed, refused, limit, no_session, too_many, unknown_subscription}
 use Rattle.iv_machine.specs.Machine.{Outcome, step}
 use Rattle.iv_machine.specs.State.{Frame, State}
-use Rattle.iv_message.specs.Message.{Message, no_json, too_long, no_object, no_request, request}
-use Rattle.iv_message.specs.Told.{Told, replied, opened, fault, unasked, granted, told_text}
+use Rattle.iv_lines.specs.Texts.{reply_members}
+use Rattle.iv_message.specs.Message.{Message, no_json, too_long, no_object, no_request, request, unknown}
+use Rattle.iv_message.specs.Told.{Told, replied, opened, fault, unasked, granted, answered, undecided, denied, told_text}
+use Rattle.iv_once.specs.Names.{Ask, Known, Named, Names, Place, Verdict, carry, again, another, late, foreign, blamed, learned, own_of, spent_more, verdict}
+use Rattle.iv_once.specs.Names as once
 use Rattle.iv_clients.specs.Bounds.{most_subs}
-use Rattle.iv_clients.specs.Clients.{Client, Shown, Slots, answered, at_all, at_client, client_at, closing, followed_by, following, fresh, has_role, is_followed, is_free, may_say, moved, own_lines, saying, settling, staying, telling, told_one}
+use Rattle.iv_clients.specs.Clients.{Client, Shown, Slots, at_all, at_client, client_at, closing, followed_by, following, fresh, has_role, is_followed, is_free, may_say, moved, own_lines, saying, settling, staying, telling, told_one}
+use Rattle.iv_clients.specs.Clients as clients
 use Rattle.iv_clients.specs.Feeds.{Feed, Seat, feed_for, feed_of, feeds_left, is_of_role, is_reading, next_seat, room_for, seat_of, without_feed, without_seat}
-use Rattle.iv_clients.specs.Journal.{Entry, is_shape, is_shared, line_said, said_by, shape_for, shape_of}
-use Rattle.iv_clients.specs.Tokens.{Token, role_opened}
+use Rattle.iv_clients.specs.Journal.{Entry, Request, claim_said, is_shape, is_shared, line_said, names_in, said_by, shape_for, shape_of}
+use Rattle.iv_clients.specs.Names.{Claim, holder_of, limits, place_text}
+use Rattle.iv_clients.specs.Tokens.{Token, token_of}
 
--- `entries` are the accepted requests; the first `kept` are on disk. Once it is `dead` nothing happens any more. `sent` is all
--- text that was handed on, to whomever; the code has no memory of it.
+-- a log that others keep, and its epoch: 32 digits that no other beginning of it has
+pub record Log : Type 0 where
+  pub name : List ℕ
+  pub epoch : List ℕ
+
+-- what the journal says before its first entry: where the names of each holder stand, of whom there are so many, and in which epoch those of
+-- others begin; the log that it follows, if it follows one, and where that stands
+pub record Head : Type 0 where
+  pub epoch : List ℕ
+  pub places : List ℕ → Option Place
+  pub holders : ℕ
+  pub log : Option Log
+  pub position : ℕ
+
+abbrev pub place_at : Head → List ℕ → Place
+place_at h holder = unwrap_or (h.places holder) (record { epoch = h.epoch; count = 0 })
+
+-- `entries` are those of the journal, of which the first `kept` are on disk; the names that were refused in the first `forgiven` are
+-- forgiven. Once it is `dead` nothing happens any more. `sent` is all text that was handed on, to whomever; the code has no memory of it.
 pub record Gate : Type 0 where
   pub tokens : List Token
   pub machine : State
   pub seats : List Seat
   pub feeds : List Feed
   pub clients : Slots
+  pub head : Head
   pub entries : List Entry
   pub kept : ℕ
+  pub forgiven : ℕ
   pub dead : Bool
   pub sent : List Shown
 
@@ -67,13 +92,17 @@ granted_by f act role = []
 abbrev pub told_of : Gate → Act → Outcome → Client → List Told
 told_of g act o c = own_lines g.feeds o.lines c.subs ++ (if is_accepted (reply_in o.lines) then map granted (granted_by o.state.frame act c.role) else [])
 
--- the machine answers: each client is told of it, and what ended is shared no more
-abbrev pub ran : Gate → Command → Gate
-ran g k = let o = step g.machine k in record g {
+-- the machine goes on to a state: each client is told of it, and what ended is shared no more
+abbrev pub went_on : Gate → Outcome → (Client → List Told) → Gate
+went_on g o told = record g {
   machine = o.state;
-  clients = at_all (λ c. staying o.lines (telling g.entries (told_of g k.act o c) c)) g.clients;
+  clients = at_all (λ c. staying o.lines (telling g.entries (told c) c)) g.clients;
   feeds = feeds_left o.lines g.feeds;
 }
+
+-- the machine answers
+abbrev pub ran : Gate → Command → Gate
+ran g k = let o = step g.machine k in went_on g o (told_of g k.act o)
 
 abbrev pub in_session : ℕ → Act → Command
 in_session n act = record { session = n; act = act }
@@ -184,32 +213,66 @@ closes g m c id own = if_some (followed_by c.subs own) (tells g m (replied id (r
 
 -- ---- other requests
 
--- what the journal is to have of a request: it, if it is accepted and changes what is shared
-abbrev pub entries_of : Entry → Bool → List Entry
-entries_of e accepted = if is_shared e.act && accepted then e ∷ [] else []
+-- what is known behind these names, in their order
+abbrev pub known_by : Known → List Named → Known
+known_by k [] = k
+known_by k (e ∷ es) = known_by (learned limits (once.named e) k) es
 
-abbrev pub entered : Gate → Entry → Bool → Gate
-entered g e accepted = record g { entries = g.entries ++ entries_of e accepted }
+-- what is known of names before the first entry: no name
+abbrev pub known_at : Head → Known
+known_at h = record { epoch = h.epoch; owns = λ holder. option_map (λ p. record { epoch = p.epoch; count = p.count; recent = [] }) (h.places holder); holders = h.holders }
+
+-- what is known of names: what the journal says of them
+abbrev pub known_of : Gate → Known
+known_of g = known_by (known_at g.head) (names_in g.entries)
+
+abbrev pub place_of : Gate → List ℕ → Place
+place_of g holder = let o = own_of (known_of g) holder in record { epoch = o.epoch; count = o.count }
+
+-- how many entries of each holder were refused and are not forgiven
+abbrev pub spent_in : List Named → List ℕ → Option ℕ
+spent_in [] holder = None
+spent_in (e ∷ es) holder = spent_more (spent_in es) (blamed (once.named e)) holder
+
+abbrev pub names_of : Gate → Names
+names_of g = record { limits = limits; known = known_of g; spent = spent_in (names_in (drop g.forgiven g.entries)) }
+
+-- an answer as it is kept
+abbrev pub answer_text : Reply → List ℕ
+answer_text r = compact_text (object (reply_members r))
+
+-- the name that has the answer
+abbrev pub answering : Option Ask → Reply → List Named
+answering None r = []
+answering (Some a) r = record { ask = a; refused = not (is_accepted r); answer = answer_text r } ∷ []
+
+-- what the journal is to have of a request that changes what is shared: it, where it is accepted, and its name, if it has one
+abbrev pub entries_of : Request → Option Ask → Reply → List Entry
+entries_of q name r = if is_shared q.act && (is_accepted r || is_some name)
+    then record { requests = if is_accepted r then q ∷ [] else []; names = answering name r; position = None } ∷ [] else []
+
+abbrev pub entered : Gate → List Entry → Gate
+entered g es = record g { entries = g.entries ++ es }
+
+-- what its client is told: the reply, or the name's answer and where its holder's names stand behind it
+abbrev pub reply_told : Gate → Option Data → Option Ask → Reply → Told
+reply_told g id None r = replied id r
+reply_told g id (Some a) r = answered id false (place_text (place_of g a.holder)) (answer_text r)
 
 -- administrators are told what these entries make of the shape
 abbrev pub informs : Gate → List Entry → Gate
 informs g es = record g { clients = at_all (λ c. telling g.entries (shape_for c.role es) c) g.clients }
 
+-- client m is told that its request is answered so
+abbrev pub replies_to : Gate → ℕ → Option Data → Request → Option Ask → Reply → Gate
+replies_to g m id q name r = let h = entered g (entries_of q name r) in tells h m (reply_told h id name r)
+
 -- client m is told the reply, then everybody what changed, and then administrators the request, if it makes the shape
-abbrev pub requests : Gate → ℕ → Option Data → Entry → ℕ → Gate
-requests g m id e n = let k = in_session n e.act in let r = reply_to g k in
-    informs (ran (tells (entered g e (is_accepted r)) m (replied id r)) k) (entries_of e (is_accepted r))
+abbrev pub done_in : Gate → ℕ → Option Data → Request → Option Ask → ℕ → Gate
+done_in g m id q name n = let k = in_session n q.act in let r = reply_to g k in
+    informs (ran (replies_to g m id q name r) k) (entries_of q name r)
 
 -- ---- messages
-
--- sessions are begun and finished by the gateway alone: no message asks that
-abbrev pub acts : Gate → ℕ → Client → Option Data → List ℕ → Act → Gate
-acts g m c id text (begin role) = tells g m (fault 2)
-acts g m c id text finish = tells g m (fault 2)
-acts g m c id text (subscribe rel) = reads g m c id rel
-acts g m c id text (unsubscribe own) = closes g m c id own
-acts g m c id text act = if_some (seat_of g.seats c.role) (tells g m (replied id (refused no_session)))
-    (requests g m id (record { role = c.role; line = line_said text; act = act }))
 
 -- bytes of the shape's text, beyond which nothing more makes the shape
 abbrev pub most_shape : ℕ
@@ -223,12 +286,54 @@ shape_text es = flat_map told_text (shape_of es)
 abbrev pub has_shape_room : Gate → Act → Bool
 has_shape_room g act = not (is_shape act && nat_lt most_shape (length (shape_text g.entries)))
 
+-- a request that changes what is shared is done in a session of its client's role
+abbrev pub carries : Gate → ℕ → Option Data → Request → Option Ask → Gate
+carries g m id q name = if has_shape_room g q.act then if_some (seat_of g.seats q.role) (replies_to g m id q name (refused no_session)) (done_in g m id q name)
+    else replies_to g m id q name (refused limit)
+
+-- what a client asks by a name
+abbrev pub asked_by : Client → List ℕ → Claim → Ask
+asked_by c line k = record { holder = holder_of c.role c.user; name = k.name; at = k.at; digest = sha256 line }
+
+-- while a log is followed, what is shared is decided there: a request is not done here, and of one with a name nobody here says whether it was
+abbrev pub decided_elsewhere : Option Data → Option Ask → Told
+decided_elsewhere id None = denied id 100
+decided_elsewhere id (Some a) = undecided id 100
+
+abbrev pub decides : Gate → ℕ → Option Data → Request → Option Ask → Gate
+decides g m id q name = if is_some g.head.log then tells g m (decided_elsewhere id name) else carries g m id q name
+
+-- by its name it is done, or told its first answer again, or that it stays undecided whether it was: for ever by 102 and 103; after 104 it may be
+-- sent again
+abbrev pub by_verdict : Gate → ℕ → Option Data → Request → Ask → Verdict → Gate
+by_verdict g m id q a carry = decides g m id q (Some a)
+by_verdict g m id q a (again answer) = tells g m (answered id true (place_text (place_of g a.holder)) answer)
+by_verdict g m id q a another = tells g m (undecided id 101)
+by_verdict g m id q a late = tells g m (undecided id 102)
+by_verdict g m id q a foreign = tells g m (undecided id 103)
+by_verdict g m id q a _ = tells g m (undecided id 104)
+
+abbrev pub shares : Gate → ℕ → Client → Option Data → Request → Option Claim → Gate
+shares g m c id q claim = if_some claim (decides g m id q None) (λ k. let a = asked_by c q.line k in by_verdict g m id q a (verdict (names_of g) a))
+
+-- sessions are begun and finished by the gateway alone: no message asks that
+abbrev pub acts : Gate → ℕ → Client → Option Data → List ℕ → Act → Gate
+acts g m c id text (begin role) = tells g m (fault 2)
+acts g m c id text finish = tells g m (fault 2)
+acts g m c id text (subscribe rel) = reads g m c id rel
+acts g m c id text (unsubscribe own) = closes g m c id own
+acts g m c id text act = shares g m c id (record { role = c.role; line = line_said text; act = act }) (claim_said text)
+
+-- what changes nothing that is shared has no name
+abbrev pub may_have : Option Claim → Act → Bool
+may_have claim act = is_shared act || not (is_some claim)
+
 abbrev pub done_for : Gate → ℕ → Client → List ℕ → Message → Gate
 done_for g m c text no_json = tells g m (fault 1)
 done_for g m c text too_long = tells g m (fault 22)
 done_for g m c text no_object = tells g m (fault 2)
 done_for g m c text (no_request id why) = tells g m (unasked id why)
-done_for g m c text (request id act) = if has_shape_room g act then acts g m c id text act else tells g m (replied id (refused limit))
+done_for g m c text (request id act) = if may_have (claim_said text) act then acts g m c id text act else tells g m (unasked id (unknown (codes "once")))
 
 -- it is heard: there is such a client, who has little under way
 abbrev pub is_heard : Gate → ℕ → Bool
@@ -237,7 +342,7 @@ is_heard g m = if_some (client_at g.clients m) false may_say
 -- client m is c, and its message is done
 abbrev pub hears : Gate → ℕ → Client → List ℕ → Gate
 hears g m c text = let h = settles (done_for (record g { clients = at_client m (saying text) g.clients }) m c text (said_by text)) in
-    record h { clients = at_client m (answered c) h.clients }
+    record h { clients = at_client m (clients.answered c) h.clients }
 
 -- client m sends a message: it is done if it is heard, and else it is to be sent again
 abbrev pub said : Gate → ℕ → List ℕ → Gate
@@ -245,15 +350,19 @@ said g m text = if_some (client_at g.clients m) g (λ c. if may_say c then hears
 
 -- ---- a client comes, and goes
 
--- the role that is opened by what is presented for number m, which nobody has
-abbrev pub role_for : Gate → ℕ → List ℕ → Option Name
-role_for g m token =
-    option_and_then (λ role. if is_name role && (is_free m g.clients && has_session g role) then Some role else None) (role_opened g.tokens (sha256 token))
+-- the token that is presented for number m, which nobody has, where it opens a role
+abbrev pub token_for : Gate → ℕ → List ℕ → Option Token
+token_for g m token =
+    option_and_then (λ t. if is_name t.role && (is_free m g.clients && has_session g t.role) then Some t else None) (token_of g.tokens (sha256 token))
+
+-- where the names of the token's holder stand
+abbrev pub at_text : Gate → Token → List ℕ
+at_text g t = place_text (place_of g (holder_of t.role t.user))
 
 -- who presents a token comes in as client m, in the role that it opens, and is told what it is to know; else nothing changes
 abbrev pub came : Gate → ℕ → List ℕ → Gate
-came g m token = if_some (role_for g m token) g
-    (λ role. let h = with_session g role in record h { clients = slice_set h.clients m (Some (fresh h.entries role (sha256 token))) })
+came g m token = if_some (token_for g m token) g
+    (λ t. let h = with_session g t.role in record h { clients = slice_set h.clients m (Some (fresh h.entries t (at_text h t))) })
 
 -- client m goes; what only it followed is closed, and sessions that were its role's alone are finished
 abbrev pub went : Gate → ℕ → Gate

@@ -1,5 +1,5 @@
 -- What the laws imply, in other words; nobody has to believe it beside them.
-use Rattle.std.specs.Prelude.{◌≡◌, ◌⊎◌, ◌≤◌, ◌<◌, ℕ, true, List, Contains, length, nat_lt, Some, is_some, ℤ}
+use Rattle.std.specs.Prelude.{◌≡◌, ◌≢◌, ◌⊎◌, ◌≤◌, ◌<◌, ◌+◌, ℕ, true, List, Contains, length, nat_lt, Some, is_some, ℤ}
 use Rattle.std.specs.List.{AllByRecursion, list_any}
 use Rattle.iv_rows.specs.Cell.{Cell}
 use Rattle.iv_access.specs.Rights.{Name}
@@ -7,9 +7,16 @@ use Rattle.iv_machine.specs.declared.Cause.{Cause}
 use Rattle.iv_message.specs.Told.{granted, over}
 use Rattle.iv_clients.specs.Clients.{Client, followed_by, is_followed}
 use Rattle.iv_clients.specs.Feeds.{rel_read}
-use Rattle.iv_gate.specs.Events.{Event, next}
-use Rattle.iv_gate.specs.Gate.{Gate, has_some, most_shape, shape_text}
-use Rattle.iv_gate.specs.Replies.{ByClient, told_by}
+use Rattle.iv_clients.specs.Names.{limits}
+use Rattle.iv_clients.specs.Tokens.{Token}
+use Rattle.iv_journal.specs.Journal.{Line}
+use Rattle.iv_once.specs.Names.{Ask}
+use Rattle.iv_gate.specs.Arriving.{Step, position, settled_at}
+use Rattle.iv_gate.specs.Events.{Event, arrived, next}
+use Rattle.iv_gate.specs.Gate.{Gate, has_some, most_shape, place_at, shape_text}
+use Rattle.iv_gate.specs.Replies.{ByClient, count_of, told_by}
+use Rattle.iv_gate.specs.Restoring.{Restores, gate_at_start}
+use Rattle.iv_gate.specs.Runs.{LeavesOnDisk}
 use Rattle.iv_gate.specs.Seen.{hindrance, is_told_of}
 
 -- what is told an end by an event was followed, and may be read no more, for the reason that is told
@@ -32,11 +39,33 @@ HearsFollowed g e = ByClient g e (λ m c d. (own : ℕ) → list_any (is_told_of
 abbrev pub GrantsAreTrue : Gate → Event → Type 0
 GrantsAreTrue g e = ByClient g e (λ m c d. (rel : Name) → Contains (told_by c d) (granted rel) → has_some (next g e).machine.frame c.role rel ≡ true)
 
--- if the shape's text is beyond its bound, an event adds nothing to it
+-- if the shape's text is beyond its bound, no client's message adds anything to it
 abbrev pub ShapeIsBounded : Gate → Event → Type 0
-ShapeIsBounded g e = nat_lt most_shape (length (shape_text g.entries)) ≡ true → shape_text (next g e).entries ≡ shape_text g.entries
+ShapeIsBounded g e = ((s : Step) → e ≡ arrived s → ⊥)
+    → nat_lt most_shape (length (shape_text g.entries)) ≡ true → shape_text (next g e).entries ≡ shape_text g.entries
 
 -- the machine reads what clients follow, and nothing else
 pub record ReadsForClients (g : Gate) : Type 0 where
   pub subscriptions : AllByRecursion (λ e. is_followed e.number g.clients ≡ true) g.machine.frame.subscriptions
   pub feeds : AllByRecursion (λ f. is_followed f.number g.clients ≡ true) g.feeds
+
+-- ---- steps
+
+-- the log goes on, in memory and on disk
+abbrev pub PositionsRise : Gate → Event → Type 0
+PositionsRise g e = (position g ≤ position (next g e)) × (settled_at g ≤ settled_at (next g e)) × (settled_at g ≤ position g)
+
+-- what the source was told to be on disk is there behind a crash
+abbrev pub PositionsLast : (cap : ℕ) → Gate → Type 0
+PositionsLast cap g = (disk : List Line) (tokens : List Token) (most : ℕ) (h : Gate) → LeavesOnDisk g disk
+    → Restores (gate_at_start cap tokens most g.head g.sent) disk h → (settled_at g ≤ settled_at h) × (settled_at h ≤ position g)
+
+-- ---- names
+
+-- all entries of the holder that were behind the place and may have borne a name are forgotten, or the place is of another epoch: what was
+-- told 102 or 103 is told it for ever
+abbrev pub IsPast : Gate → Ask → Type 0
+IsPast g a = (a.at.count + limits.names < count_of g a.holder) ⊎ (a.at.epoch ≢ (place_at g.head a.holder).epoch)
+
+abbrev pub StaysPast : Gate → Event → Type 0
+StaysPast g e = (a : Ask) → IsPast g a → IsPast (next g e) a

@@ -1,22 +1,26 @@
 -- What holds whatever happens, in the order of reading.
-use Rattle.std.specs.Prelude.{◌≡◌, ◌≤◌, ◌⊎◌, ℕ, ◌+◌, ◌==◌, ◌&&◌, Bool, true, false, if◌then◌else◌, List, [], ◌∷◌, ◌++◌, take, filter, flat_map, length, map, count_by, option_map, Some, is_some}
+use Rattle.std.specs.Prelude.{◌≡◌, ◌≤◌, ◌⊎◌, ℕ, ◌+◌, ◌==◌, ◌||◌, Bool, true, false, if◌then◌else◌, List, [], ◌∷◌, ◌++◌, take, filter, flat_map, length, map, count_by, option_map, None, Some, is_some}
 use Rattle.std.specs.List.{AllByRecursion, list_any}
 use Rattle.iv_rows.specs.Options.{if_some}
-use Rattle.iv_machine.specs.Machine.{step}
-use Rattle.iv_machine.specs.State.{State, start}
-use Rattle.iv_message.specs.Message.{Message, request}
+use Rattle.iv_access.specs.Rights.{Name}
+use Rattle.iv_machine.specs.State.{start}
 use Rattle.iv_message.specs.Told.{Told, alive, granted, made, settled}
 use Rattle.iv_clients.specs.Bounds.{most_piled, most_requests, most_subs}
 use Rattle.iv_clients.specs.Clients.{Client, Shown, all_shown, by_others, client_at, may_say, text_shown, told}
-use Rattle.iv_clients.specs.Feeds.{seat_of}
-use Rattle.iv_clients.specs.Journal.{Entry, is_shape, is_shared, line_said, said_by, shape_for}
+use Rattle.iv_clients.specs.Journal.{Entry, is_shape, requests_in, shape_for}
+use Rattle.iv_clients.specs.Names.{limits}
+use Rattle.iv_journal.specs.Journal.{Line}
+use Rattle.iv_once.specs.Laws.{times}
+use Rattle.iv_once.specs.Names.{Place}
+use Rattle.iv_steps.specs.Steps.{all_carried, shared}
 use Rattle.iv_clients.specs.Tokens.{Token}
-use Rattle.iv_gate.specs.Events.{Event, failed, handed, known, message, next, synced, ticked}
-use Rattle.iv_gate.specs.Gate.{Gate, granted_by, has_shape_room, in_session, is_accepted, reply_in}
-use Rattle.iv_gate.specs.Replies.{AreReplied, ByClient, IsAnswered, IsClient, heard_by, told_by}
+use Rattle.iv_gate.specs.Events.{Event, IsWell, arrived, failed, forgave, handed, known, message, next, synced, ticked}
+use Rattle.iv_gate.specs.Arriving.{entry_of, fact_of, fault_of, is_behind, newly}
+use Rattle.iv_gate.specs.Gate.{Gate, granted_by}
+use Rattle.iv_gate.specs.Replies.{AreReplied, ByClient, IsAnswered, IsClient, added_by, heard_by, names_by, refused_by, told_by}
 use Rattle.iv_gate.specs.Touched.{ActsByToken, AreTouched, LetsIn}
 use Rattle.iv_gate.specs.Needed.{AreSeatsBehind, KnowsMachine}
-use Rattle.iv_gate.specs.Restoring.{Restores, all_replayed, gate_at_start}
+use Rattle.iv_gate.specs.Restoring.{Restores, gate_at_start}
 use Rattle.iv_gate.specs.Runs.{LeavesOnDisk, Runs}
 use Rattle.iv_gate.specs.Seen.{AreOver, SeesViews, StaysClosed, TellsDifference}
 
@@ -41,43 +45,46 @@ abbrev pub AreShown : Gate → Event → Type 0
 AreShown g e = ByClient g e (λ m c d. all_shown d
     ≡ all_shown c ++ map (λ t. record { told = t; entries = (next g e).entries; answers = is_some (heard_by m c e) }) (told_by c d))
 
--- what is shared: tables, roles, memberships, rights, policies and rows, without sessions, subscriptions and their numbers
-abbrev pub shared : State → State
-shared s = record s { frame = record s.frame { sessions = []; subscriptions = []; last = 0 } }
-
--- the entries lead a machine with nothing to all that is shared; none is refused
+-- the entries lead a machine with nothing to all that is shared, tables, roles, memberships, rights, policies and rows; none is refused
 abbrev pub LeadsBack : (cap : ℕ) → Gate → Type 0
-LeadsBack cap g = option_map shared (all_replayed (start cap) g.entries) ≡ Some (shared g.machine)
+LeadsBack cap g = all_carried (map fact_of (requests_in g.entries)) (start cap) ≡ Some (shared g.machine)
 
--- whatever a crash leaves on disk leads a gateway to a front of the entries, with all that were kept
+-- whatever a crash leaves on disk leads a gateway to a front of the entries, with all that were kept: each step whole, or not at all
 abbrev pub CrashesAreSafe : (cap : ℕ) → Gate → Type 0
-CrashesAreSafe cap g = (disk : List ℕ) (tokens : List Token) (most : ℕ) → LeavesOnDisk g disk
-    → (h : Gate) × Restores (gate_at_start cap tokens most g.sent) disk h × IsFront (take g.kept g.entries) h.entries × IsFront h.entries g.entries
+CrashesAreSafe cap g = (disk : List Line) (tokens : List Token) (most : ℕ) → LeavesOnDisk g disk
+    → (h : Gate) × Restores (gate_at_start cap tokens most g.head g.sent) disk h × IsFront (take g.kept g.entries) h.entries × IsFront h.entries g.entries
 
--- what a client's message adds to the journal: itself, in the client's role, if it is a request that changes what is shared, the shape
--- has room for it, and the machine accepts it in the role's session
-abbrev pub entries_by : Gate → Client → List ℕ → Message → List Entry
-entries_by g c text (request id act) =
-    if is_shared act && (has_shape_room g act && if_some (seat_of g.seats c.role) false (λ n. is_accepted (reply_in (step g.machine (in_session n act)).lines)))
-    then record { role = c.role; line = line_said text; act = act } ∷ [] else []
-entries_by g c text _ = []
+-- ---- names
 
-abbrev pub new_entries : Gate → Event → List Entry
-new_entries g (message m text) = if_some (client_at g.clients m) [] (λ c. if may_say c then entries_by g c text (said_by text) else [])
-new_entries g e = []
+-- of a holder's entries at most one bears a name with a place
+abbrev pub NamesAreOnce : Gate → Type 0
+NamesAreOnce g = (holder name : List ℕ) (at : Place) → times name at (names_by g holder) ≤ 1
 
 -- ---- marks
 
--- what an event makes of what tokens it knows, what is on disk, what was sent, whether it is dead, and the entries
+-- a step that is behind the position adds nothing, one that is taken is one entry; a client's message adds what its reply says; nothing else adds
+abbrev pub AddsOnly : Gate → Event → List Entry → Type 0
+AddsOnly g (arrived s) es = es ≡ (if is_behind g s || is_some (fault_of g s) then [] else entry_of s ∷ [])
+AddsOnly g (message m text) es = if_some (client_at g.clients m) false may_say ≡ false → es ≡ []
+AddsOnly g e es = es ≡ []
+
+-- what an event makes of what tokens it knows, what is on disk, what was sent, what is forgiven, and whether it is dead
 abbrev pub marked : Gate → Event → Gate
 marked g (known tokens) = record g { tokens = tokens }
 marked g synced = record g { kept = length g.entries }
 marked g (handed m) = record g { sent = g.sent ++ if_some (client_at g.clients m) [] (λ c. c.sendable) }
+marked g (arrived s) = record g { dead = is_some (fault_of g s) }
+marked g forgave = record g { forgiven = length g.entries }
 marked g failed = record g { dead = true }
-marked g e = record g { entries = g.entries ++ new_entries g e }
+marked g e = g
 
-abbrev pub LeavesMarks : Gate → Event → Type 0
-LeavesMarks g e = let h = next g e in h ≡ record (marked g e) { machine = h.machine; seats = h.seats; feeds = h.feeds; clients = h.clients }
+abbrev pub HasMarks : Gate → Event → Type 0
+HasMarks g e = let h = next g e in h ≡ record (marked g e) { machine = h.machine; seats = h.seats; feeds = h.feeds; clients = h.clients; entries = h.entries }
+
+pub record LeavesMarks (g : Gate) (e : Event) : Type 0 where
+  pub grows : (next g e).entries ≡ g.entries ++ added_by g e
+  pub only : AddsOnly g e (added_by g e)
+  pub marks : HasMarks g e
 
 -- ---- grants
 
@@ -85,10 +92,14 @@ abbrev pub is_granted : Told → Bool
 is_granted (granted rel) = true
 is_granted _ = false
 
--- what a client is told to be granted is what an accepted request granted its role
+-- what an event grants a role: what an accepted request grants it; by a step, what it has behind and had not before
+abbrev pub granted_at : Gate → Event → Name → List Name
+granted_at g (arrived s) role = newly g.machine.frame (next g (arrived s)).machine.frame role
+granted_at g e role = flat_map (λ q. granted_by (next g e).machine.frame q.act role) (requests_in (added_by g e))
+
+-- that is what a client is told to be granted
 abbrev pub GrantsAreTold : Gate → Event → Type 0
-GrantsAreTold g e = ByClient g e (λ m c d. filter is_granted (told_by c d)
-    ≡ flat_map (λ n. map granted (granted_by (next g e).machine.frame n.act c.role)) (new_entries g e))
+GrantsAreTold g e = ByClient g e (λ m c d. filter is_granted (told_by c d) ≡ map granted (granted_at g e c.role))
 
 -- ---- the shape
 
@@ -104,7 +115,8 @@ ShapeIsTold g = (m : ℕ) (c : Client) → IsClient g m c → filter is_made (to
 -- and who goes through it in order has the shape: the entries that make it lead a machine with nothing, without the others, to the same
 -- roles, memberships, rights, relations and policies
 abbrev pub MakesShape : (cap : ℕ) → Gate → Type 0
-MakesShape cap g = option_map (λ s. (shared s).frame) (all_replayed (start cap) (filter (λ e. is_shape e.act) g.entries)) ≡ Some (shared g.machine).frame
+MakesShape cap g = option_map (λ s. s.frame)
+    (all_carried (map fact_of (filter (λ q. is_shape q.act) (requests_in g.entries))) (start cap)) ≡ Some (shared g.machine).frame
 
 -- ---- words
 
@@ -114,10 +126,14 @@ is_word settled = true
 is_word alive = true
 is_word _ = false
 
--- a message, its own or another's, tells a client nothing, or something and then that this is all; a tick tells it one word, that the line
--- is alive; no other event tells it anything
+abbrev pub IsSettled : List Told → Type 0
+IsSettled ts = (ts ≡ []) ⊎ ((t : Told) × (us : List Told) × (ts ≡ (t ∷ us) ++ settled ∷ []) × (list_any is_word (t ∷ us) ≡ false))
+
+-- a message, its own or another's, or a step tells a client nothing, or something and then that this is all; a tick tells it one word, that
+-- the line is alive; no other event tells it anything
 abbrev pub IsSettledBy : Event → List Told → Type 0
-IsSettledBy (message m text) ts = (ts ≡ []) ⊎ ((t : Told) × (us : List Told) × (ts ≡ (t ∷ us) ++ settled ∷ []) × (list_any is_word (t ∷ us) ≡ false))
+IsSettledBy (message m text) ts = IsSettled ts
+IsSettledBy (arrived s) ts = IsSettled ts
 IsSettledBy ticked ts = ts ≡ alive ∷ []
 IsSettledBy e ts = ts ≡ []
 
@@ -151,6 +167,9 @@ pub record Holds (cap : ℕ) (g : Gate) : Type 0 where
   pub bounded : (m : ℕ) (c : Client) → client_at g.clients m ≡ Some c → IsBounded g m c
   -- sessions and subscriptions of the machine are the gateway's, and nothing is read for nobody
   pub knows : KnowsMachine g
+  -- each name has one answer, in the whole journal
+  pub once : NamesAreOnce g
+  pub spent : g.head.log ≡ None → (holder : List ℕ) → refused_by g holder ≤ limits.refusals
   -- administrators know the shape
   pub shape : ShapeIsTold g
   pub makes : MakesShape cap g
@@ -171,4 +190,4 @@ pub record HoldsBy (g : Gate) (e : Event) : Type 0 where
 
 -- in whatever runs, over restarts
 abbrev pub HoldAlways : Type 0
-HoldAlways = (cap : ℕ) (g : Gate) → Runs cap g → Holds cap g × ((e : Event) → HoldsBy g e)
+HoldAlways = (cap : ℕ) (g : Gate) → Runs cap g → Holds cap g × ((e : Event) → IsWell e → HoldsBy g e)

@@ -1,4 +1,5 @@
 pub mod Gate
+pub mod Arriving
 pub mod Events
 pub mod Restoring
 pub mod Runs
@@ -8,3 +9,4 @@ pub mod Seen
 pub mod Laws
 pub mod Needed
 pub mod Implied
+pub mod Worked

@@ -1,5 +1,5 @@
 -- What a client is replied.
-use Rattle.std.specs.Prelude.{◌≡◌, ◌≤◌, bytes_eq, count_by, ◌⊎◌, ℕ, ◌+◌, ◌==◌, ◌&&◌, Bool, true, false, if◌then◌else◌, List, [], ◌∷◌, filter, drop, length, slice_get, Option, Some, None, is_some}
+use Rattle.std.specs.Prelude.{◌≡◌, ◌≢◌, ◌≤◌, ◌<◌, bytes_eq, codes, count_by, ◌⊎◌, ℕ, ◌+◌, ◌==◌, ◌&&◌, Bool, true, false, if◌then◌else◌, List, [], ◌∷◌, Contains, filter, drop, length, slice_get, Option, Some, None, is_some}
 use Rattle.std.specs.List.{AllByRecursion}
 use Rattle.serde_json.specs.Data.{Data}
 use Rattle.iv_rows.specs.Columns.{Column}
@@ -8,14 +8,16 @@ use Rattle.iv_access.specs.Rights.{Name}
 use Rattle.iv_machine.specs.Act.{Act, begin, finish, subscribe, unsubscribe, done, subscribed, refused, Reply, limit, too_many, unknown_subscription}
 use Rattle.iv_machine.specs.Machine.{step}
 use Rattle.iv_machine.specs.State.{Session, State, session_of}
-use Rattle.iv_message.specs.Message.{Message, no_json, too_long, no_object, no_request, request}
-use Rattle.iv_message.specs.Told.{Told, welcome, replied, opened, fault, unasked}
+use Rattle.iv_message.specs.Message.{Message, no_json, too_long, no_object, no_request, request, unknown}
+use Rattle.iv_message.specs.Told.{Told, welcome, replied, opened, fault, unasked, answered, undecided, denied}
 use Rattle.iv_clients.specs.Clients.{Client, client_at, followed_by, may_say, told}
 use Rattle.iv_clients.specs.Bounds.{most_feeds, most_seats, most_subs}
 use Rattle.iv_clients.specs.Feeds.{Feed, Seat, feed_for}
-use Rattle.iv_clients.specs.Journal.{said_by}
+use Rattle.iv_clients.specs.Journal.{Entry, Request, claim_said, line_said, names_in, said_by}
+use Rattle.iv_clients.specs.Names.{Claim, limits, place_text}
+use Rattle.iv_once.specs.Names.{Ask, Named}
 use Rattle.iv_gate.specs.Events.{Event, message, next}
-use Rattle.iv_gate.specs.Gate.{Gate, columns_in, has_shape_room, in_session, reply_in}
+use Rattle.iv_gate.specs.Gate.{Gate, answer_text, asked_by, columns_in, entries_of, has_shape_room, in_session, known_of, may_have, place_at, reply_in}
 
 -- ---- clients
 
@@ -41,6 +43,9 @@ is_reply (replied id r) = true
 is_reply (opened id own columns) = true
 is_reply (fault number) = true
 is_reply (unasked id why) = true
+is_reply (answered id again at answer) = true
+is_reply (undecided id number) = true
+is_reply (denied id number) = true
 is_reply _ = false
 
 abbrev pub replies : List Told → List Told
@@ -77,32 +82,86 @@ AreFull seats feeds role = AllByRecursion (λ s. bytes_eq s.role role ≡ true �
 abbrev pub IsFull : Gate → Client → Name → Type 0
 IsFull g c rel = (most_subs ≤ length c.subs) ⊎ ((feed_for g.feeds c.role rel ≡ None) × AreFull g.seats g.feeds c.role × (most_seats ≤ length g.seats))
 
+-- the reply to an act that changes what is shared: the machine's, in a session of the client's role; or 17, where the shape has no room
+abbrev pub IsSharedReply : Gate → Client → Act → Reply → Type 0
+IsSharedReply g c act r = ((has_shape_room g act ≡ true) × IsMachineReply g.machine c.role act r) ⊎ ((has_shape_room g act ≡ false) × (r ≡ refused limit))
+
+-- ---- names
+
+-- the names of a holder, in the order of the journal
+abbrev pub names_by : Gate → List ℕ → List Named
+names_by g holder = filter (λ e. bytes_eq e.ask.holder holder) (names_in g.entries)
+
+-- how many entries with names the holder has
+abbrev pub count_of : Gate → List ℕ → ℕ
+count_of g holder = (place_at g.head holder).count + length (names_by g holder)
+
+-- how many of its names were refused and are not forgiven
+abbrev pub refused_by : Gate → List ℕ → ℕ
+refused_by g holder = count_by (λ e. e.refused && bytes_eq e.ask.holder holder) (names_in (drop g.forgiven g.entries))
+
+abbrev pub IsAnswer : List Entry → Ask → List ℕ → Type 0
+IsAnswer es a answer = (refused : Bool) × Contains (names_in es) (record { ask = a; refused = refused; answer = answer })
+
+-- why nobody says whether a request with a name was done
+pub data IsUndecided (g : Gate) (a : Ask) : ℕ → Type 0 where
+  elsewhere : is_some g.head.log ≡ true → IsUndecided g a 100
+  another : (e : Named) → Contains (names_by g a.holder) e → e.ask.name ≡ a.name → e.ask ≢ a → IsUndecided g a 101
+  late : a.at.count + limits.names < count_of g a.holder → IsUndecided g a 102
+  foreign : a.at.epoch ≢ (place_at g.head a.holder).epoch → IsUndecided g a 103
+  ahead : count_of g a.holder < a.at.count → IsUndecided g a 104
+  refused_often : limits.refusals ≤ refused_by g a.holder → IsUndecided g a 104
+  many : limits.holders ≤ (known_of g).holders → count_of g a.holder ≡ 0 → IsUndecided g a 104
+
+-- where the names of a holder stand when as many more have an answer
+abbrev pub place_behind : Gate → List ℕ → ℕ → List ℕ
+place_behind g holder more = place_text (record { epoch = (place_at g.head holder).epoch; count = count_of g holder + more })
+
+-- the reply to a request with a name, and what it adds to the journal: it is done now; or it was, and its answer is told again; or it is undecided
+pub data IsNamedReply (g : Gate) (c : Client) (id : Option Data) (q : Request) (a : Ask) : Told → List Entry → Type 0 where
+  is_done : (r : Reply) → g.head.log ≡ None → IsSharedReply g c q.act r
+      → IsNamedReply g c id q a (answered id false (place_behind g a.holder 1) (answer_text r)) (entries_of q (Some a) r)
+  is_repeated : (answer : List ℕ) → IsAnswer g.entries a answer → IsNamedReply g c id q a (answered id true (place_behind g a.holder 0) answer) []
+  is_left : (number : ℕ) → IsUndecided g a number → IsNamedReply g c id q a (undecided id number) []
+
+-- ---- acts
+
+-- the reply to a request that changes what is shared, and what that adds to the journal; while a log is followed it is not done here
+abbrev pub IsReplyToShared : Gate → Client → Option Data → Request → Option Claim → Told → List Entry → Type 0
+IsReplyToShared g c id q None t es = ((is_some g.head.log ≡ true) × (t ≡ denied id 100) × (es ≡ []))
+    ⊎ ((r : Reply) × (g.head.log ≡ None) × IsSharedReply g c q.act r × (t ≡ replied id r) × (es ≡ entries_of q None r))
+IsReplyToShared g c id q (Some k) t es = IsNamedReply g c id q (asked_by c q.line k) t es
+
 -- the reply to a client's act
-abbrev pub IsReplyToAct : Gate → Client → Option Data → Act → Told → Type 0
-IsReplyToAct g c id (subscribe rel) t = (IsFull g c rel × (t ≡ replied id (refused too_many))) ⊎ IsReadingReply g c id rel t
-IsReplyToAct g c id (unsubscribe own) t = t ≡ replied id (if is_some (followed_by c.subs own) then done else refused unknown_subscription)
-IsReplyToAct g c id (begin role) t = t ≡ fault 2
-IsReplyToAct g c id finish t = t ≡ fault 2
-IsReplyToAct g c id act t = (r : Reply) × IsMachineReply g.machine c.role act r × (t ≡ replied id r)
+abbrev pub IsReplyToAct : Gate → Client → Option Data → List ℕ → Act → Told → List Entry → Type 0
+IsReplyToAct g c id text (subscribe rel) t es = (es ≡ []) × ((IsFull g c rel × (t ≡ replied id (refused too_many))) ⊎ IsReadingReply g c id rel t)
+IsReplyToAct g c id text (unsubscribe own) t es = (es ≡ []) × (t ≡ replied id (if is_some (followed_by c.subs own) then done else refused unknown_subscription))
+IsReplyToAct g c id text (begin role) t es = (es ≡ []) × (t ≡ fault 2)
+IsReplyToAct g c id text finish t es = (es ≡ []) × (t ≡ fault 2)
+IsReplyToAct g c id text act t es = IsReplyToShared g c id (record { role = c.role; line = line_said text; act = act }) (claim_said text) t es
 
 -- the reply to what a client says
-abbrev pub IsReplyTo : Gate → Client → Message → Told → Type 0
-IsReplyTo g c no_json t = t ≡ fault 1
-IsReplyTo g c too_long t = t ≡ fault 22
-IsReplyTo g c no_object t = t ≡ fault 2
-IsReplyTo g c (no_request id why) t = t ≡ unasked id why
-IsReplyTo g c (request id act) t =
-    ((has_shape_room g act ≡ true) × IsReplyToAct g c id act t) ⊎ ((has_shape_room g act ≡ false) × (t ≡ replied id (refused limit)))
+abbrev pub IsReplyTo : Gate → Client → List ℕ → Message → Told → List Entry → Type 0
+IsReplyTo g c text no_json t es = (es ≡ []) × (t ≡ fault 1)
+IsReplyTo g c text too_long t es = (es ≡ []) × (t ≡ fault 22)
+IsReplyTo g c text no_object t es = (es ≡ []) × (t ≡ fault 2)
+IsReplyTo g c text (no_request id why) t es = (es ≡ []) × (t ≡ unasked id why)
+IsReplyTo g c text (request id act) t es = ((may_have (claim_said text) act ≡ true) × IsReplyToAct g c id text act t es)
+    ⊎ ((may_have (claim_said text) act ≡ false) × (t ≡ unasked id (unknown (codes "once"))) × (es ≡ []))
+
+-- what an event adds to the journal
+abbrev pub added_by : Gate → Event → List Entry
+added_by g e = drop (length g.entries) (next g e).entries
 
 -- the event is a message of client m that is heard
 abbrev pub heard_by : ℕ → Client → Event → Option (List ℕ)
 heard_by m c (message n text) = if n == m && may_say c then Some text else None
 heard_by m c e = None
 
--- a client is told first the reply to its own message that is heard, and no other reply
+-- a client is told first the reply to its own message that is heard, and no other reply; and the journal is to have of it what the reply says
 pub record AreReplied (g : Gate) (e : Event) : Type 0 where
   pub own : ByClient g e (λ m c d. (text : List ℕ) → heard_by m c e ≡ Some text
-      → (reply : Told) × (others : List Told) × (told_by c d ≡ reply ∷ others) × IsReplyTo g c (said_by text) reply × (replies others ≡ []))
+      → (reply : Told) × (others : List Told) × (told_by c d ≡ reply ∷ others) × IsReplyTo g c text (said_by text) reply (added_by g e) × (replies others ≡ []))
   pub others : ByClient g e (λ m c d. heard_by m c e ≡ None → replies (told_by c d) ≡ [])
 
 abbrev pub is_opened : Told → Bool

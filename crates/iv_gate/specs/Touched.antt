@@ -8,10 +8,11 @@ use Rattle.iv_access.specs.Rights.{Name}
 use Rattle.iv_clients.specs.Bounds.{most_seats}
 use Rattle.iv_clients.specs.Clients.{Client, client_at, fresh, handing, is_free, is_slow, opens, saying}
 use Rattle.iv_clients.specs.Feeds.{seat_of}
-use Rattle.iv_clients.specs.Tokens.{role_opened}
+use Rattle.iv_clients.specs.Names.{holder_of}
+use Rattle.iv_clients.specs.Tokens.{Token, role_opened, token_of}
 use Rattle.iv_gate.specs.Events.{Event, presented, gone, known, synced, handed, next}
 use Rattle.iv_gate.specs.Gate.{Gate}
-use Rattle.iv_gate.specs.Replies.{heard_by}
+use Rattle.iv_gate.specs.Replies.{heard_by, place_behind}
 
 -- the client after an event, as far as others cannot change it: its own message that is heard, and what is handed to it
 abbrev pub itself_behind : ℕ → Client → Event → Client
@@ -34,10 +35,13 @@ pub record StaysItself (g : Gate) (e : Event) (m : ℕ) (c : Client) : Type 0 wh
   pub there : client_at (next g e).clients m ≡ Some now
   pub is : now ≡ record (as_told now (itself_behind m c e)) { dropped = c.dropped || drops c e }
 
--- a number that nobody had has a client who presented a token, which opens its role, and who is told its greeting alone
-abbrev pub IsNewcomer : Gate → Event → ℕ → Client → Type 0
-IsNewcomer g e m d = (token : List ℕ) × (e ≡ presented m token) × (role_opened g.tokens (sha256 token) ≡ Some d.role)
-    × (d ≡ fresh (next g e).entries d.role (sha256 token))
+-- a number that nobody had has a client who presented a token that is known, and who is told its greeting alone
+pub record IsNewcomer (g : Gate) (e : Event) (m : ℕ) (d : Client) : Type 0 where
+  pub text : List ℕ
+  pub token : Token
+  pub event : e ≡ presented m text
+  pub opened : token_of g.tokens (sha256 text) ≡ Some token
+  pub is : d ≡ fresh (next g e).entries token (place_behind g (holder_of token.role token.user) 0)
 
 pub record AreTouched (g : Gate) (e : Event) : Type 0 where
   pub stays : (m : ℕ) (c : Client) → client_at g.clients m ≡ Some c → (e ≡ gone m → ⊥) → StaysItself g e m c

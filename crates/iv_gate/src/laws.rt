@@ -3,7 +3,7 @@ ghost use Rattle.std.specs.Prelude.{◌≡◌, ℕ, false, true, Some};
 ghost use Rattle.iv_access.specs.Rights.{Name};
 ghost use Rattle.iv_clients.specs.Clients.{Client};
 ghost use Rattle.iv_clients.specs.Feeds.{seat_of};
-ghost use Rattle.iv_gate.specs.Events.{Event, next};
+ghost use Rattle.iv_gate.specs.Events.{Event, IsWell, next};
 ghost use Rattle.iv_gate.specs.Gate.{Gate};
 ghost use Rattle.iv_gate.specs.Laws.{HoldAlways, IsSettledBy, LeavesMarks};
 ghost use Rattle.iv_gate.specs.Implied.{ReadsForClients};
@@ -13,20 +13,25 @@ ghost use Rattle.iv_gate.specs.Runs.{Runs};
 ghost use Rattle.iv_gate.specs.Seen.{AreOver, SeesViews, StaysClosed};
 ghost use Rattle.iv_gate.specs.Touched.{AreTouched};
 
+pub mod examples;
 pub mod journal;
 
 use iv_machine::laws::{
     ends_are_told, lines_add_up, requests_open_what_they_name, steps_keep_sound, what_stands_lasts,
 };
+use iv_steps::laws::{refusals_are_found, steps_are_told};
 
 pub mod hearing;
+pub mod names;
 
 /// Nothing happens to a gateway that is dead; else each event makes of the tokens, of what is on disk, of what was sent and of the
 /// entries what is told of it.
 pub fn events_leave_their_marks()
     ensures rests { (g : Gate) (e : Event) → g.dead ≡ true → next g e ≡ g }
-    ensures marks { (g : Gate) (e : Event) → g.dead ≡ false → LeavesMarks g e }
-{}
+    ensures marks { (g : Gate) (e : Event) → IsWell e → g.dead ≡ false → LeavesMarks g e }
+{
+    refusals_are_found();
+}
 
 /// By an event a client stays as it is, but for its own message, what is handed to it, its leaving, and what drops it; who comes has
 /// presented a token that opens its role.
@@ -46,6 +51,7 @@ pub fn clients_see_their_views()
     what_stands_lasts();
     ends_are_told();
     requests_open_what_they_name();
+    steps_are_told();
 }
 
 /// In whatever runs, over restarts: the machine reads what clients follow, and nothing for nobody.
@@ -57,6 +63,7 @@ pub fn nothing_is_read_for_nobody()
     what_stands_lasts();
     ends_are_told();
     requests_open_what_they_name();
+    steps_are_told();
 }
 
 /// In whatever runs, over restarts: the machine's sessions are those that the gateway has begun, each in its role, of which some client
@@ -69,6 +76,7 @@ pub fn sessions_and_feeds_are_the_machines()
     what_stands_lasts();
     ends_are_told();
     requests_open_what_they_name();
+    steps_are_told();
 }
 
 /// In whatever runs, over restarts, the session of a role acts in that role.
@@ -80,6 +88,7 @@ pub fn sessions_act_in_their_roles()
     what_stands_lasts();
     ends_are_told();
     requests_open_what_they_name();
+    steps_are_told();
 }
 
 /// By an event no more than one session is begun, for a role that has none with a place.
@@ -99,6 +108,7 @@ pub fn messages_are_replied()
     what_stands_lasts();
     ends_are_told();
     requests_open_what_they_name();
+    steps_are_told();
 }
 
 /// In whatever runs, over restarts, each client that is not to go was told a welcome first, and as many replies after it as messages
@@ -122,6 +132,7 @@ pub fn events_settle_what_they_tell()
     what_stands_lasts();
     ends_are_told();
     requests_open_what_they_name();
+    steps_are_told();
 }
 
 // ---- all of them
@@ -147,4 +158,6 @@ pub fn gateways_hold_always()
     events_touch_their_clients();
     sessions_and_feeds_are_the_machines();
     sessions_are_begun_by_need();
+    names::names_are_once();
+    names::refusals_are_few();
 }

@@ -1,38 +1,41 @@
 -- Who presents a token, as the code lets it in.
-use Rattle.std.proofs.Common.{◌≡◌, ◌∙◌, ℕ, ◌||◌, Bool, true, false, cond, List, set, Option, Some, None, is_some, refl, ap, sym, subst}
-use Rattle.std.specs.Prelude.{◌&&◌, option_and_then}
+use Rattle.std.proofs.Common.{◌≡◌, ◌∙◌, ℕ, ◌||◌, Bool, true, false, cond, List, Option, Some, None, is_some, option_map, refl, ap, sym, subst}
+use Rattle.std.specs.Prelude.{◌&&◌, bytes_eq, option_and_then}
 use Rattle.sha2.specs.Sha256.{sha256}
 use Rattle.iv_rows.specs.Names.{is_name}
 use Rattle.iv_rows.specs.Options.{if_some}
 use Rattle.iv_access.specs.Rights.{Name}
-use Rattle.iv_clients.specs.Clients.{fresh, is_free}
+use Rattle.iv_clients.specs.Clients.{is_free}
 use Rattle.iv_clients.specs.Feeds.{seat_of}
 use Rattle.iv_clients.specs.Kept.{Places, kept_slots}
-use Rattle.iv_clients.specs.Tokens.{Token, role_opened}
-use Rattle.iv_gate.specs.Gate.{Gate, begun_for, came, has_session, role_for, seated, with_session}
+use Rattle.iv_clients.specs.Tokens.{Token, token_of}
+use Rattle.iv_gate.specs.Gate.{Gate, begun_for, came, has_session, seated, token_for, with_session}
+use Rattle.iv_gate.proofs.Joining.{same_name}
+use Rattle.iv_gate.proofs.Machine.{find_passes}
+use Rattle.iv_gate.proofs.Touching.{came_as}
 use Rattle.iv_gateway.specs.Views.{IsAlive}
 use Rattle.iv_gateway.specs.declared.gateway.Gateway.{Gateway}
 use Rattle.iv_gateway.proofs.Keeping.{is_free_kept}
 use Rattle.iv_gateway.proofs.Swept.{same_some}
 
-none_presented : (o : Option Name) (free : Bool) (session : Name → Bool) → option_and_then (λ r. cond (is_name r && free) (Some r) None) o ≡ None
-    → option_and_then (λ r. cond (is_name r && (free && session r)) (Some r) None) o ≡ None
+none_presented : (o : Option Token) (free : Bool) (session : Name → Bool) → option_and_then (λ (t : Token). cond (is_name t.role && free) (Some t) None) o ≡ None
+    → option_and_then (λ (t : Token). cond (is_name t.role && (free && session t.role)) (Some t) None) o ≡ None
 none_presented None free session h = refl
-none_presented (Some r) free session h = by (is_name r) free h
+none_presented (Some t) free session h = by (is_name t.role) free h
   where
-    by : (a f : Bool) → cond (a && f) (Some r) None ≡ None → cond (a && (f && session r)) (Some r) None ≡ None
+    by : (a f : Bool) → cond (a && f) (Some t) None ≡ None → cond (a && (f && session t.role)) (Some t) None ≡ None
     by true true h = cc
     by true false h = refl
     by false f h = refl
 
-some_presented : (o : Option Name) (free : Bool) (session : Name → Bool) (role : Name)
-    → option_and_then (λ r. cond (is_name r && free) (Some r) None) o ≡ Some role
-    → option_and_then (λ r. cond (is_name r && (free && session r)) (Some r) None) o ≡ cond (session role) (Some role) None
-some_presented None free session role h = cc
-some_presented (Some r) free session role h = by (is_name r) free h
+some_presented : (o : Option Token) (free : Bool) (session : Name → Bool) (t : Token)
+    → option_and_then (λ (x : Token). cond (is_name x.role && free) (Some x) None) o ≡ Some t
+    → option_and_then (λ (x : Token). cond (is_name x.role && (free && session x.role)) (Some x) None) o ≡ cond (session t.role) (Some t) None
+some_presented None free session t h = cc
+some_presented (Some x) free session t h = by (is_name x.role) free h
   where
-    by : (a f : Bool) → cond (a && f) (Some r) None ≡ Some role → cond (a && (f && session r)) (Some r) None ≡ cond (session role) (Some role) None
-    by true true h = ap (λ z. cond (session z) (Some z) None) (same_some r role h)
+    by : (a f : Bool) → cond (a && f) (Some x) None ≡ Some t → cond (a && (f && session x.role)) (Some x) None ≡ cond (session t.role) (Some t) None
+    by true true h = ap (λ (z : Token). cond (session z.role) (Some z) None) (same_some x t h)
     by true false h = cc
     by false f h = cc
 
@@ -45,41 +48,59 @@ no_session g role h = by (seat_of g.seats role) (begun_for g role) h
     by (Some n) p h = refl
 
 -- what is presented, by the gateway
-abbrev pub presented_by : Gate → ℕ → List ℕ → Option Name
-presented_by g m token = option_and_then (λ r. cond (is_name r && is_free m g.clients) (Some r) None) (role_opened g.tokens (sha256 token))
+abbrev pub presented_by : Gate → ℕ → List ℕ → Option Token
+presented_by g m token = option_and_then (λ (t : Token). cond (is_name t.role && is_free m g.clients) (Some t) None) (token_of g.tokens (sha256 token))
 
-abbrev pub entering : Gate → ℕ → List ℕ → Name → Gate
-entering g m token role = let h = with_session g role in record h { clients = set h.clients m (Some (fresh h.entries role (sha256 token))) }
-
-came_by : (g : Gate) (m : ℕ) (token : List ℕ) (o : Option Name) (x : Gateway) → role_for g m token ≡ o → IsAlive (if_some o g (entering g m token)) x
-    → (is_some o ≡ is_some (role_for g m token)) × IsAlive (came g m token) x
-came_by g m token o x e a = (ap is_some (sym e), subst (λ z. IsAlive (if_some z g (entering g m token)) x) (sym e) a)
+came_by : (g : Gate) (m : ℕ) (token : List ℕ) (o : Option Token) (x : Gateway) → token_for g m token ≡ o → IsAlive (if_some o g (came_as g m)) x
+    → (is_some o ≡ is_some (token_for g m token)) × IsAlive (came g m token) x
+came_by g m token o x e a = (ap is_some (sym e), subst (λ z. IsAlive (if_some z g (came_as g m)) x) (sym e) a)
 
 pub comes_none : (g : Gate) (m : ℕ) (token : List ℕ) (x : Gateway) → presented_by g m token ≡ None → IsAlive g x
-    → (false ≡ is_some (role_for g m token)) × IsAlive (came g m token) x
-comes_none g m token x h a = came_by g m token None x (none_presented (role_opened g.tokens (sha256 token)) (is_free m g.clients) (has_session g) h) a
+    → (false ≡ is_some (token_for g m token)) × IsAlive (came g m token) x
+comes_none g m token x h a = came_by g m token None x (none_presented (token_of g.tokens (sha256 token)) (is_free m g.clients) (has_session g) h) a
 
-pub comes_not : (g : Gate) (m : ℕ) (token : List ℕ) (role : Name) (x : Gateway) → presented_by g m token ≡ Some role → has_session g role ≡ false
-    → IsAlive (with_session g role) x
-    → (false ≡ is_some (role_for g m token)) × IsAlive (came g m token) x
-comes_not g m token role x h s a =
-    came_by g m token None x (some_presented (role_opened g.tokens (sha256 token)) (is_free m g.clients) (has_session g) role h
-    ∙ ap (λ b. cond b (Some role) None) s)
-    (subst (λ z. IsAlive z x) (no_session g role s) a)
+pub comes_not : (g : Gate) (m : ℕ) (token : List ℕ) (t : Token) (x : Gateway) → presented_by g m token ≡ Some t → has_session g t.role ≡ false
+    → IsAlive (with_session g t.role) x
+    → (false ≡ is_some (token_for g m token)) × IsAlive (came g m token) x
+comes_not g m token t x h s a =
+    came_by g m token None x (some_presented (token_of g.tokens (sha256 token)) (is_free m g.clients) (has_session g) t h
+    ∙ ap (λ b. cond b (Some t) None) s)
+    (subst (λ z. IsAlive z x) (no_session g t.role s) a)
 
-pub comes_in : (g : Gate) (m : ℕ) (token : List ℕ) (role : Name) (x : Gateway) → presented_by g m token ≡ Some role → has_session g role ≡ true
-    → IsAlive (entering g m token role) x
-    → (true ≡ is_some (role_for g m token)) × IsAlive (came g m token) x
-comes_in g m token role x h s a =
-    came_by g m token (Some role) x (some_presented (role_opened g.tokens (sha256 token)) (is_free m g.clients) (has_session g) role h
-    ∙ ap (λ b. cond b (Some role) None) s) a
+pub comes_in : (g : Gate) (m : ℕ) (token : List ℕ) (t : Token) (x : Gateway) → presented_by g m token ≡ Some t → has_session g t.role ≡ true
+    → IsAlive (came_as g m t) x
+    → (true ≡ is_some (token_for g m token)) × IsAlive (came g m token) x
+comes_in g m token t x h s a =
+    came_by g m token (Some t) x (some_presented (token_of g.tokens (sha256 token)) (is_free m g.clients) (has_session g) t h
+    ∙ ap (λ b. cond b (Some t) None) s) a
 
-pub presented_is : (g : Gate) (m : ℕ) (token : List ℕ) (tokens : List Token) (places : Places) (digest : List ℕ) (o : Option Name) → tokens ≡ g.tokens
+-- a token that is found has the digest by which it is found
+own_digest : (tokens : List Token) (digest : List ℕ) (t : Token) → token_of tokens digest ≡ Some t → record t { digest = digest } ≡ t
+own_digest tokens digest t h =
+    let same : t.digest ≡ digest = same_name t.digest digest (find_passes (λ (x : Token). bytes_eq x.digest digest) tokens t h) in
+    λ i. record t { digest = sym same i }
+
+as_found : (tokens : List Token) (digest : List ℕ) (free : Bool) → option_map (λ (t : Token). record t { digest = digest })
+    (option_and_then (λ (t : Token). cond (is_name t.role && free) (Some t) None) (token_of tokens digest))
+    ≡ option_and_then (λ (t : Token). cond (is_name t.role && free) (Some t) None) (token_of tokens digest)
+as_found tokens digest free = by (token_of tokens digest) refl
+  where
+    test : (t : Token) → record t { digest = digest } ≡ t → (b : Bool) → option_map (λ (x : Token). record x { digest = digest }) (cond b (Some t) None) ≡ cond b (Some t) None
+    test t s true = ap Some s
+    test t s false = refl
+
+    by : (o : Option Token) → token_of tokens digest ≡ o → option_map (λ (t : Token). record t { digest = digest })
+        (option_and_then (λ (t : Token). cond (is_name t.role && free) (Some t) None) o) ≡ option_and_then (λ (t : Token). cond (is_name t.role && free) (Some t) None) o
+    by None e = refl
+    by (Some t) e = test t (own_digest tokens digest t e) (is_name t.role && free)
+
+pub presented_is : (g : Gate) (m : ℕ) (token : List ℕ) (tokens : List Token) (places : Places) (digest : List ℕ) (o : Option Token) → tokens ≡ g.tokens
     → places ≡ kept_slots g.clients → digest ≡ sha256 token
-    → o ≡ option_and_then (λ r. cond (is_name r && is_free m places) (Some r) None) (role_opened tokens digest) → presented_by g m token ≡ o
+    → o ≡ option_map (λ (t : Token). record t { digest = digest }) (option_and_then (λ (t : Token). cond (is_name t.role && is_free m places) (Some t) None) (token_of tokens digest))
+    → presented_by g m token ≡ o
 presented_is g m token tokens places digest o t b d h =
     let free : is_free m places ≡ is_free m g.clients = ap (is_free m) b ∙ is_free_kept m g.clients in
-    sym (h ∙ (λ i. option_and_then (λ r. cond (is_name r && free i) (Some r) None) (role_opened (t i) (d i))))
+    sym (h ∙ (as_found tokens digest (is_free m places) ∙ (λ i. option_and_then (λ (x : Token). cond (is_name x.role && free i) (Some x) None) (token_of (t i) (d i)))))
 
 with_session_dead : (g : Gate) (role : Name) → (with_session g role).dead ≡ g.dead
 with_session_dead g role = by (seat_of g.seats role) (begun_for g role)
@@ -90,8 +111,8 @@ with_session_dead g role = by (seat_of g.seats role) (begun_for g role)
     by (Some n) p = refl
 
 pub came_dead : (g : Gate) (m : ℕ) (token : List ℕ) → (came g m token).dead ≡ g.dead
-came_dead g m token = by (role_for g m token)
+came_dead g m token = by (token_for g m token)
   where
-    by : (o : Option Name) → (if_some o g (entering g m token)).dead ≡ g.dead
+    by : (o : Option Token) → (if_some o g (came_as g m)).dead ≡ g.dead
     by None = refl
-    by (Some role) = with_session_dead g role
+    by (Some t) = with_session_dead g t.role

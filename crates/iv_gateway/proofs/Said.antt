@@ -1,8 +1,7 @@
 -- A message, as the code has it done.
-use Rattle.std.proofs.Common.{◌≡◌, ◌∙◌, ◌≤◌, ℕ, zero, suc, Bool, true, false, cond, List, [], ◌∷◌, ◌++◌, length, drop, Option, Some, None, option_map, refl, ap}
-use Rattle.std.proofs.Common.{sym, subst, arith, append-nil}
-use Rattle.std.specs.Prelude.{◌&&◌}
-use Rattle.std.proofs.lemmas.List.Concat.{flat_map-append}
+use Rattle.std.proofs.Common.{◌≡◌, ◌∙◌, ℕ, zero, suc, Bool, true, false, cond, ◌||◌, not, List, ◌∷◌, Option, Some, None, is_some, option_map, refl, ap}
+use Rattle.std.proofs.Common.{sym, subst}
+use Rattle.std.specs.Prelude.{codes}
 use Rattle.serde_json.specs.Data.{Data}
 use Rattle.iv_rows.specs.Options.{if_some}
 use Rattle.iv_access.specs.Rights.{Name}
@@ -10,23 +9,24 @@ use Rattle.iv_command.specs.Views.{act_of}
 use Rattle.iv_command.specs.declared.command.Act as code
 use Rattle.iv_command.specs.declared.command.Act.TheVariants as asks
 use Rattle.iv_machine.specs.Act.{Act, begin, finish, create_role, create_table, create_view, grant, revoke, grant_role, revoke_role, row_security}
-use Rattle.iv_machine.specs.Act.{create_policy, drop_policy, subscribe, unsubscribe, write, Line, refused, limit, no_session}
+use Rattle.iv_machine.specs.Act.{create_policy, drop_policy, subscribe, unsubscribe, write, Line}
 use Rattle.iv_machine.specs.Machine.{step}
-use Rattle.iv_message.specs.Message.{request}
-use Rattle.iv_message.specs.Told.{fault, replied}
+use Rattle.iv_message.specs.Message.{request, unknown}
+use Rattle.iv_message.specs.Told.{fault, unasked}
+use Rattle.iv_once.specs.Names.{Ask}
 use Rattle.iv_clients.specs.Clients.{Client, Slots, answered, at_client, client_at, may_say, saying}
-use Rattle.iv_clients.specs.Feeds.{seat_of}
-use Rattle.iv_clients.specs.Journal.{Entry, entry_text, is_shared, journal_of, line_said, said_by}
+use Rattle.iv_clients.specs.Journal.{Request, claim_said, is_shared, line_said, said_by}
 use Rattle.iv_clients.specs.Kept.{Kept, Places, answering, kept, kept_slots}
+use Rattle.iv_clients.specs.Names.{Claim}
 use Rattle.iv_clients.proofs.Slots.{at_same, one_some}
 use Rattle.iv_gate.specs.Events.{message}
-use Rattle.iv_gate.specs.Gate.{Gate, acts, done_for, entered, has_shape_room, hears, in_session, is_accepted, is_heard, reply_in, reply_to, requests, said}
+use Rattle.iv_gate.specs.Gate.{Gate, acts, done_for, hears, in_session, is_heard, replies_to, reply_in, reply_to, said, shares}
 use Rattle.iv_gate.specs.Gate.{settles, tells}
 use Rattle.iv_gate.specs.Laws.{LeavesMarks}
 use Rattle.iv_gate.proofs.Growing.{Grown, grows}
 use Rattle.iv_gate.proofs.Walking.{to_done, to_settles, to_then}
 use Rattle.iv_gateway.specs.Speaking.{Speaking, speaker_in, speaking}
-use Rattle.iv_gateway.specs.Views.{IsAlive, IsPending, IsRun}
+use Rattle.iv_gateway.specs.Views.{IsAlive, IsRun}
 use Rattle.iv_gateway.specs.declared.gateway.Gateway.{Gateway}
 use Rattle.iv_gateway.proofs.Keeping.{kept_answered, kept_at}
 
@@ -121,27 +121,36 @@ said_unheard g m text places x b h a = quiet_by g m text x (client_at g.clients 
 
 -- a message kills nothing
 pub message_lives : (g : Gate) (m : ℕ) (text : List ℕ) → g.dead ≡ false → LeavesMarks g (message m text) → (said g m text).dead ≡ g.dead
-message_lives g m text h law = subst (λ b. (cond b g (said g m text)).dead ≡ g.dead) h (ap (λ (z : Gate). z.dead) law)
+message_lives g m text h law = subst (λ b. (cond b g (said g m text)).dead ≡ g.dead) h (ap (λ (z : Gate). z.dead) law.marks)
 
 -- ---- acts
 
--- what is asked is done where the shape has room for it
-pub done_with_room : (g : Gate) (m : ℕ) (c : Client) (id : Option Data) (text : List ℕ) (act : Act) (x : Gateway) → has_shape_room g act ≡ true
+-- what changes what is shared may have a name
+pub done_shared : (g : Gate) (m : ℕ) (c : Client) (id : Option Data) (text : List ℕ) (act : Act) (x : Gateway) → is_shared act ≡ true
     → IsAlive (acts g m c id text act) x
     → IsAlive (done_for g m c text (request id act)) x
-done_with_room g m c id text act x h a = subst (λ b. IsAlive (cond b (acts g m c id text act) (tells g m (replied id (refused limit)))) x) (sym h) a
+done_shared g m c id text act x h a =
+    subst (λ b. IsAlive (cond (b || not (is_some (claim_said text))) (acts g m c id text act) (tells g m (unasked id (unknown (codes "once"))))) x) (sym h) a
 
-pub done_without_room : (g : Gate) (m : ℕ) (c : Client) (id : Option Data) (text : List ℕ) (act : Act) (x : Gateway) → has_shape_room g act ≡ false
-    → IsAlive (tells g m (replied id (refused limit))) x
+-- and nothing else may
+pub done_own : (g : Gate) (m : ℕ) (c : Client) (id : Option Data) (text : List ℕ) (act : Act) (x : Gateway) → is_some (claim_said text) ≡ false
+    → IsAlive (acts g m c id text act) x
     → IsAlive (done_for g m c text (request id act)) x
-done_without_room g m c id text act x h a = subst (λ b. IsAlive (cond b (acts g m c id text act) (tells g m (replied id (refused limit)))) x) (sym h) a
+done_own g m c id text act x h a =
+    subst (λ b. IsAlive (cond b (acts g m c id text act) (tells g m (unasked id (unknown (codes "once"))))) x) (sym ((λ i. is_shared act || not (h i)) ∙ or_true (is_shared act))) a
+  where
+    or_true : (b : Bool) → (b || true) ≡ true
+    or_true true = refl
+    or_true false = refl
 
--- what is done with a request that changes what is shared
-abbrev pub shares : Gate → ℕ → Option Data → Entry → Option ℕ → Gate
-shares g m id e o = if_some o (tells g m (replied id (refused no_session))) (requests g m id e)
+pub done_named : (g : Gate) (m : ℕ) (c : Client) (id : Option Data) (text : List ℕ) (act : Act) (x : Gateway) → is_shared act ≡ false → is_some (claim_said text) ≡ true
+    → IsAlive (tells g m (unasked id (unknown (codes "once")))) x
+    → IsAlive (done_for g m c text (request id act)) x
+done_named g m c id text act x h k a =
+    subst (λ b. IsAlive (cond b (acts g m c id text act) (tells g m (unasked id (unknown (codes "once"))))) x) (sym (λ i. h i || not (k i))) a
 
 pub acts_shared : (g : Gate) (m : ℕ) (c : Client) (id : Option Data) (text : List ℕ) (act : Act) → is_shared act ≡ true
-    → shares g m id (record { role = c.role; line = line_said text; act = act }) (seat_of g.seats c.role) ≡ acts g m c id text act
+    → shares g m c id (record { role = c.role; line = line_said text; act = act }) (claim_said text) ≡ acts g m c id text act
 acts_shared g m c id text (begin role) h = cc
 acts_shared g m c id text finish h = cc
 acts_shared g m c id text (subscribe rel) h = cc
@@ -158,13 +167,13 @@ acts_shared g m c id text (create_policy p) h = refl
 acts_shared g m c id text (drop_policy rel name) h = refl
 acts_shared g m c id text (write entries) h = refl
 
--- in the session of the client's role
-pub shares_as : (g : Gate) (m : ℕ) (c : Client) (id : Option Data) (text line : List ℕ) (role : Name) (act : Act) (o : Option ℕ) (x : Gateway)
-    → is_shared act ≡ true → role ≡ c.role → line_said text ≡ line
-    → o ≡ seat_of g.seats role → IsAlive (shares g m id (record { role = role; line = line; act = act }) o) x → IsAlive (acts g m c id text act) x
-shares_as g m c id text line role act o x s r l e a =
-    subst (λ z. IsAlive z x)
-    ((λ i. shares g m id (record { role = r i; line = sym l i; act = act }) ((e ∙ ap (seat_of g.seats) r) i)) ∙ acts_shared g m c id text act s) a
+-- by its name, in its client's role
+pub shares_as : (g : Gate) (m : ℕ) (c : Client) (id : Option Data) (text line : List ℕ) (role : Name) (claim : Option Claim) (act : Act) (x : Gateway)
+    → is_shared act ≡ true → role ≡ c.role → line_said text ≡ line → claim_said text ≡ claim
+    → IsAlive (shares g m c id (record { role = role; line = line; act = act }) claim) x → IsAlive (done_for g m c text (request id act)) x
+shares_as g m c id text line role claim act x s r l k a =
+    done_shared g m c id text act x s (subst (λ z. IsAlive z x)
+    ((λ i. shares g m c id (record { role = r i; line = sym l i; act = act }) (sym k i)) ∙ acts_shared g m c id text act s) a)
 
 -- sessions are begun and finished by the gateway alone
 pub acts_none : (g : Gate) (m : ℕ) (c : Client) (id : Option Data) (text : List ℕ) (act : code.Act) → is_shared (act_of act) ≡ false
@@ -186,46 +195,14 @@ acts_none g m c id text (asks.CreatePolicy p) h n k = cc
 acts_none g m c id text (asks.DropPolicy rel name) h n k = cc
 acts_none g m c id text (asks.Write entries) h n k = cc
 
--- ---- what the journal is to have
+-- ---- what is replied
 
-drop_within : {X : Type 0} (k : ℕ) (xs : List X) (x : X) → k ≤ length xs → drop k (xs ++ x ∷ []) ≡ drop k xs ++ x ∷ []
-drop_within zero xs x h = refl
-drop_within (suc k) [] x h = absurd (let no : ⊥ = omega (arith, h) in no)
-drop_within (suc k) (y ∷ ys) x h = drop_within k ys x (omega (arith, h))
-
-longer : {X : Type 0} (k : ℕ) (xs : List X) (x : X) → k ≤ length xs → k ≤ length (xs ++ x ∷ [])
-longer k [] x h = omega (arith, h)
-longer zero (y ∷ ys) x h = omega arith
-longer (suc k) (y ∷ ys) x h = let more = longer k ys x (omega (arith, h)) in omega (arith, more)
-
--- an entry that is accepted
-pub pends_more : (kept : ℕ) (es : List Entry) (e : Entry) (old new : List ℕ) → IsPending kept es old → new ≡ old ++ entry_text e
-    → IsPending kept (es ++ e ∷ []) new
-pends_more kept es e old new p h = record {
-  within = longer kept es e p.within;
-  text = h ∙ (ap (λ z. z ++ entry_text e) p.text
-      ∙ (ap (λ z. journal_of (drop kept es) ++ z) (sym (append-nil (entry_text e)))
-      ∙ (sym (flat_map-append entry_text (drop kept es) (e ∷ [])) ∙ ap journal_of (sym (drop_within kept es e p.within)))));
-}
-
--- what the reply says of it
-pub entered_by : (g : Gate) (e : Entry) (accepted : Bool) (bytes : List ℕ) → is_shared e.act ≡ true
-    → IsPending g.kept (g.entries ++ cond accepted (e ∷ []) []) bytes
-    → IsPending (entered g e accepted).kept (entered g e accepted).entries bytes
-entered_by g e accepted bytes s p = subst (λ b. IsPending g.kept (g.entries ++ cond (b && accepted) (e ∷ []) []) bytes) (sym s) p
-
-pub pends_none : (kept : ℕ) (es : List Entry) (bytes : List ℕ) → IsPending kept es bytes → IsPending kept (es ++ []) bytes
-pends_none kept es bytes p = subst (λ z. IsPending kept z bytes) (sym (append-nil es)) p
-
--- the machine has answered, the entry waits for the journal, and the reply is told
-pub told_first : (g : Gate) (m : ℕ) (id : Option Data) (e : Entry) (n : ℕ) (ls entering replying : List Line) (x : Gateway)
-    → ls ≡ (step g.machine (in_session n e.act)).lines → entering ≡ ls → replying ≡ ls
-    → IsAlive (tells (entered (record g { machine = (step g.machine (in_session n e.act)).state }) e (is_accepted (reply_in entering))) m
-    (replied id (reply_in replying))) x
-    → IsRun (tells (entered g e (is_accepted (reply_to g (in_session n e.act)))) m (replied id (reply_to g (in_session n e.act)))) (in_session n e.act) ls x
-told_first g m id e n ls entering replying x l a b h = record {
+-- the machine has answered; what the journal is to have waits for it, and the reply is told
+pub replied_first : (g : Gate) (m : ℕ) (id : Option Data) (q : Request) (name : Option Ask) (n : ℕ) (ls : List Line) (x : Gateway)
+    → ls ≡ (step g.machine (in_session n q.act)).lines
+    → IsAlive (replies_to (record g { machine = (step g.machine (in_session n q.act)).state }) m id q name (reply_in ls)) x
+    → IsRun (replies_to g m id q name (reply_to g (in_session n q.act))) (in_session n q.act) ls x
+replied_first g m id q name n ls x l h = record {
   lines = l;
-  gate = subst (λ (p : List Line × List Line). IsAlive (tells (entered (record g { machine = (step g.machine (in_session n e.act)).state }) e
-      (is_accepted (reply_in p.0))) m (replied id (reply_in p.1))) x)
-      (λ i. ((a ∙ l) i, (b ∙ l) i)) h;
+  gate = subst (λ (p : List Line). IsAlive (replies_to (record g { machine = (step g.machine (in_session n q.act)).state }) m id q name (reply_in p)) x) l h;
 }

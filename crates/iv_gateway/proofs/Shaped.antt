@@ -1,32 +1,33 @@
 -- What administrators are told of the shape, as the code tells it.
-use Rattle.std.proofs.Common.{◌≡◌, ◌∙◌, ℕ, Bool, true, false, cond, List, [], ◌∷◌, ◌++◌, length, map, refl, ap, sym, subst, append-nil}
-use Rattle.std.specs.Prelude.{◌==◌, ◌&&◌, ◌||◌, flat_map, not}
+use Rattle.std.proofs.Common.{◌≡◌, ◌∙◌, ℕ, Bool, true, false, cond, List, [], ◌∷◌, ◌++◌, length, map, refl, ap, sym, append-nil}
+use Rattle.std.specs.Prelude.{◌==◌, flat_map}
 use Rattle.std.proofs.lemmas.Bool.{false≢true}
 use Rattle.std.proofs.lemmas.List.Concat.{flat_map-append}
 use Rattle.iv_access.specs.Rights.{Name}
 use Rattle.iv_message.specs.Lines.{IsLine}
-use Rattle.iv_message.specs.Told.{Told, made, settled, told_text, welcome}
+use Rattle.iv_message.specs.Told.{Told, made, placed, settled, told_text, welcome}
 use Rattle.iv_clients.specs.Clients.{Slots, at_all, by_others, fresh, greeting, telling, text_shown}
-use Rattle.iv_clients.specs.Journal.{Entry, is_shape, is_shared, shape_for, shape_of}
+use Rattle.iv_clients.specs.Journal.{Entry, Request, is_shape, shape_for, shape_of}
 use Rattle.iv_clients.specs.Kept.{Kept, Places, coming, holding, holding_all, kept, kept_slots}
-use Rattle.iv_gate.specs.Gate.{Gate, entered, entries_of, informs, shape_text}
+use Rattle.iv_clients.specs.Tokens.{Token}
+use Rattle.iv_gate.specs.Gate.{Gate, informs, shape_text}
 use Rattle.iv_gate.proofs.Shaping.{shape_both, told_itself}
 use Rattle.iv_gateway.specs.Granting.{holding_for}
-use Rattle.iv_gateway.specs.Shaping.{greeting_text, is_admin}
+use Rattle.iv_gateway.specs.Shaping.{greeting_text, is_admin, shape_in}
 use Rattle.iv_gateway.proofs.Granted.{held_all, same_all, still_all}
 use Rattle.iv_gateway.proofs.Keeping.{keeps_all, kept_telling, nonempty}
 
 -- ---- text
 
-pub shape_more : (es : List Entry) (e : Entry) → shape_text (es ++ e ∷ []) ≡ shape_text es ++ shape_text (e ∷ [])
-shape_more es e = ap (flat_map told_text) (shape_both es (e ∷ [])) ∙ flat_map-append told_text (shape_of es) (shape_of (e ∷ []))
+pub shape_more : (es fs : List Entry) → shape_text (es ++ fs) ≡ shape_text es ++ shape_text fs
+shape_more es fs = ap (flat_map told_text) (shape_both es fs) ∙ flat_map-append told_text (shape_of es) (shape_of fs)
 
-pub one_shape : (e : Entry) → is_shape e.act ≡ true → told_text (made e.role e.line) ≡ shape_text (e ∷ [])
-one_shape e h = sym (append-nil (told_text (made e.role e.line))) ∙ ap (λ b. flat_map told_text (map (λ (x : Entry). made x.role x.line) (cond b (e ∷ []) [])))
+pub one_shape : (q : Request) → is_shape q.act ≡ true → told_text (made q.role q.line) ≡ shape_in q
+one_shape q h = sym (append-nil (told_text (made q.role q.line))) ∙ ap (λ b. flat_map told_text (map (λ (x : Request). made x.role x.line) (cond b (q ∷ []) [])))
     (sym h)
 
-pub no_shape : (e : Entry) → is_shape e.act ≡ false → shape_text (e ∷ []) ≡ []
-no_shape e h = ap (λ b. flat_map told_text (map (λ (x : Entry). made x.role x.line) (cond b (e ∷ []) []))) h
+pub no_shape : (q : Request) → is_shape q.act ≡ false → shape_in q ≡ []
+no_shape q h = ap (λ b. flat_map told_text (map (λ (x : Request). made x.role x.line) (cond b (q ∷ []) []))) h
 
 -- ---- a client that comes in
 
@@ -45,15 +46,15 @@ shape_for_text role es = by (is_admin role)
     by true = refl
     by false = refl
 
-greeting_is : (es : List Entry) (role : Name) → flat_map told_text (greeting es role) ≡ greeting_text role (shape_text es)
-greeting_is es role =
-    ap (λ z. told_text (welcome role) ++ z)
+greeting_is : (es : List Entry) (role : Name) (at : List ℕ) → flat_map told_text (greeting es role at) ≡ greeting_text role at (shape_text es)
+greeting_is es role at =
+    ap (λ z. told_text (welcome role) ++ (told_text (placed at) ++ z))
     (flat_map-append told_text (shape_for role es) (settled ∷ []) ∙ (λ i. shape_for_text role es i ++ append-nil (told_text settled) i))
 
-pub kept_fresh : (es : List Entry) (role : Name) (digest : List ℕ) → kept (fresh es role digest) ≡ coming role digest (greeting_text role (shape_text es))
-kept_fresh es role digest i = record (coming role digest (greeting_text role (shape_text es))) {
-  unsynced = (itself_text es (greeting es role) ∙ greeting_is es role) i;
-  brought = length (text_shown (itself_brought es (greeting es role) i));
+pub kept_fresh : (es : List Entry) (t : Token) (at : List ℕ) → kept (fresh es t at) ≡ coming t.role t.user t.digest (greeting_text t.role at (shape_text es))
+kept_fresh es t at i = record (coming t.role t.user t.digest (greeting_text t.role at (shape_text es))) {
+  unsynced = (itself_text es (greeting es t.role at) ∙ greeting_is es t.role at) i;
+  brought = length (text_shown (itself_brought es (greeting es t.role at) i));
 }
 
 -- ---- one request
@@ -89,10 +90,6 @@ pub informs_empty : ((t : Told) → IsLine (told_text t)) → (es : List Entry) 
     → places ≡ at_all (told_shape es) places
 informs_empty law es places h = still_all places ∙ same_all (λ k. k) (told_shape es) (λ k. empty_shape law (shape_of es) h (is_admin k.role) k) places
 
--- of no entry nothing is told
-pub informs_none : (places : Places) → places ≡ at_all (told_shape []) places
-informs_none places = still_all places ∙ same_all (λ k. k) (told_shape []) (λ k. none_told (is_admin k.role) k) places
-
 pub stands_informed : (all es : List Entry) (slots : Slots) (places : Places) → places ≡ kept_slots slots
     → at_all (told_shape es) places ≡ kept_slots (at_all (λ c. telling all (shape_for c.role es) c) slots)
 stands_informed all es slots places b =
@@ -102,42 +99,7 @@ pub stands_as : (g : Gate) (es : List Entry) (places now : Places) → places �
     → now ≡ kept_slots (informs g es).clients
 stands_as g es places now b n = n ∙ stands_informed g.entries es g.clients places b
 
--- ---- whether it is accepted
-
-refused_none : (e : Entry) → entries_of e false ≡ []
-refused_none e = by (is_shared e.act)
-  where
-    by : (b : Bool) → cond (b && false) (e ∷ []) [] ≡ []
-    by true = refl
-    by false = refl
-
-accepted_one : (e : Entry) → is_shared e.act ≡ true → entries_of e true ≡ e ∷ []
-accepted_one e s = ap (λ b. cond (b && true) (e ∷ []) []) s
-
--- a request that is refused, or makes nothing of the shape, tells nobody anything
-pub informs_nobody : ((t : Told) → IsLine (told_text t)) → (e : Entry) (a : Bool) (text : List ℕ) (places : Places) → is_shared e.act ≡ true
-    → text ≡ shape_text (e ∷ [])
-    → (not a || (length text == 0)) ≡ true → places ≡ at_all (told_shape (entries_of e a)) places
-informs_nobody law e false text places s t h = informs_none places ∙ ap (λ es. at_all (told_shape es) places) (sym (refused_none e))
-informs_nobody law e true text places s t h =
-    informs_empty law (e ∷ []) places (ap (λ z. length z == 0) (sym t) ∙ h) ∙ ap (λ es. at_all (told_shape es) places) (sym (accepted_one e s))
-
-pub informs_all : (e : Entry) (a : Bool) (text : List ℕ) (places : Places) → is_shared e.act ≡ true → text ≡ shape_text (e ∷ [])
-    → (not a || (length text == 0)) ≡ false → at_all (holding_for is_admin text) places ≡ at_all (told_shape (entries_of e a)) places
-informs_all e false text places s t h = absurd (false≢true (sym h))
-informs_all e true text places s t h =
-    ap (λ z. at_all (holding_for is_admin z) places) t
-    ∙ (informs_some (e ∷ []) places (ap (λ z. length z == 0) (sym t) ∙ h) ∙ ap (λ es. at_all (told_shape es) places) (sym (accepted_one e s)))
-
 -- ---- what the code keeps of it
 
-pub shape_added : (es : List Entry) (e : Entry) (old new text : List ℕ) → old ≡ shape_text es → text ≡ shape_text (e ∷ []) → new ≡ old ++ text
-    → new ≡ shape_text (es ++ e ∷ [])
-shape_added es e old new text o t n = n ∙ ((λ i. o i ++ t i) ∙ sym (shape_more es e))
-
-pub shape_same : (es : List Entry) (text : List ℕ) → text ≡ shape_text es → text ≡ shape_text (es ++ [])
-shape_same es text t = t ∙ ap shape_text (sym (append-nil es))
-
-pub shape_entered : (g : Gate) (e : Entry) (accepted : Bool) (text : List ℕ) → is_shared e.act ≡ true
-    → text ≡ shape_text (g.entries ++ cond accepted (e ∷ []) []) → text ≡ shape_text (entered g e accepted).entries
-shape_entered g e accepted text s t = subst (λ b. text ≡ shape_text (g.entries ++ cond (b && accepted) (e ∷ []) [])) (sym s) t
+pub shape_added : (es fs : List Entry) (old new text : List ℕ) → old ≡ shape_text es → text ≡ shape_text fs → new ≡ old ++ text → new ≡ shape_text (es ++ fs)
+shape_added es fs old new text o t n = n ∙ ((λ i. o i ++ t i) ∙ sym (shape_more es fs))

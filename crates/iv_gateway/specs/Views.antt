@@ -7,15 +7,27 @@ use Rattle.iv_machine.specs.Machine.{step}
 use Rattle.iv_store.specs.Engine.{IsBehind}
 use Rattle.iv_clients.specs.Journal.{Entry, journal_of}
 use Rattle.iv_clients.specs.Kept.{kept_slots}
-use Rattle.iv_gate.specs.Gate.{Gate, begun_for, seated, shape_text}
+use Rattle.iv_journal.specs.Journal as journal
+use Rattle.iv_once.specs.Views as once
+use Rattle.iv_clients.specs.Names.{limits}
+use Rattle.iv_gate.specs.Arriving.{position, settled_at}
+use Rattle.iv_gate.specs.Gate as gate
+use Rattle.iv_gate.specs.Gate.{Gate, begun_for, known_at, names_of, seated, shape_text}
+use Rattle.iv_gateway.specs.declared.gateway.Head.{Head}
 use Rattle.iv_gateway.specs.declared.gateway.Gateway.{Gateway}
 use Rattle.iv_gateway.specs.declared.seats.Opening.{Opening}
 use Rattle.iv_gateway.specs.declared.seats.Opening.TheVariants as opening
 
--- so many of the entries are on disk, and the text of the others is pending
-pub record IsPending (kept : ℕ) (entries : List Entry) (bytes : List ℕ) : Type 0 where
+-- so many of the entries are on disk, and the lines of the others are pending
+pub record IsPending (kept : ℕ) (entries : List Entry) (lines : List journal.Line) : Type 0 where
   pub within : kept ≤ length entries
-  pub text : bytes ≡ journal_of (drop kept entries)
+  pub lines : lines ≡ journal_of (drop kept entries)
+
+-- what the journal says before its first entry; nothing is known of names but that
+pub record IsHead (h : gate.Head) (x : Head) : Type 0 where
+  pub names : once.names_of x.names ≡ record { limits = limits; known = known_at h; spent = λ holder. None }
+  pub log : x.log ≡ h.log
+  pub position : x.position ≡ h.position
 
 -- the machine's state stands behind the engine, and all else is the same, but for what the code has no memory of
 pub record IsAlive (g : Gate) (x : Gateway) : Type 0 where
@@ -24,6 +36,11 @@ pub record IsAlive (g : Gate) (x : Gateway) : Type 0 where
   pub seats : x.seats.items ≡ g.seats
   pub feeds : x.feeds.items ≡ g.feeds
   pub clients : x.clients ≡ kept_slots g.clients
+  pub names : once.names_of x.names ≡ names_of g
+  pub log : x.log ≡ g.head.log
+  pub position : x.position ≡ position g
+  pub settled : x.settled ≡ settled_at g
+  pub forgiven : g.forgiven ≤ length g.entries
   pub pending : IsPending g.kept g.entries x.pending.items
   pub shape : x.shape.items ≡ shape_text g.entries
 

@@ -1,11 +1,10 @@
 //! What happens to a gateway: clients come and go, tokens change, all are told that the line is alive, the journal is synced. After a
 //! fault the gateway is dead.
-ghost use Rattle.std.specs.Prelude.{◌≡◌, [], ℕ, IfOk, OnErr, OnOk, false, is_some, take, true};
+ghost use Rattle.std.specs.Prelude.{◌≡◌, ◌++◌, option_map, [], ℕ, IfOk, OnErr, OnOk, false, is_some, take, true};
 ghost use Rattle.iv_rows.specs.Options.{if_some};
 ghost use Rattle.iv_clients.specs.Clients.{client_at, text_shown};
-ghost use Rattle.std.specs.Io.KnownBytes.{Appends};
-ghost use Rattle.iv_gate.specs.Events.{failed, gone, handed, known, next, on_disk, presented, synced, ticked, ticking};
-ghost use Rattle.iv_gate.specs.Gate.{Gate, role_for};
+ghost use Rattle.iv_gate.specs.Events.{failed, forgave, gone, handed, known, next, on_disk, presented, synced, ticked, ticking};
+ghost use Rattle.iv_gate.specs.Gate.{Gate, token_for};
 ghost use Rattle.iv_gateway.specs.Views.{IsAlive, IsGate};
 
 use crate::gateway::{Gateway, GatewayFault};
@@ -86,6 +85,7 @@ impl Gateway {
         ensures { OnOk result ((g : Gate) → IsAlive g self.old → IsAlive (on_disk g) self.new) }
     {
         self.pending.clear();
+        self.settled = self.position;
         self.clients.release()?;
         Ok(())
     }
@@ -93,12 +93,12 @@ impl Gateway {
     /// Has the journal keep what is pending, and only then lets be sent what waits for it.
     ///
     /// # Errors
-    /// `Journal` if the journal fails; `Memory` and `Dead` as of `left`. The journal has a front of what was pending then, after what it
+    /// `Journal` if the journal fails; `Memory` and `Dead` as of `left`. The journal has a front of the lines that were pending then, after what it
     /// had; a dead gateway gives it nothing.
     pub fn settle<J: Journal>(&mut self, journal: &mut J) -> Result<(), GatewayFault>
         ensures gate { OnOk result ((g : Gate) → IsGate g self.old → IsGate (next g synced) self.new) }
-        ensures kept { OnOk result (Appends (J.kept journal.old) (J.kept journal.new) self.old.pending.items) }
-        ensures torn { OnErr result ((n : ℕ) × Appends (J.kept journal.old) (J.kept journal.new) (take n self.old.pending.items)) }
+        ensures kept { OnOk result (J.kept journal.new ≡ option_map (λ ls. ls ++ self.old.pending.items) (J.kept journal.old)) }
+        ensures torn { OnErr result ((n : ℕ) × (J.kept journal.new ≡ option_map (λ ls. ls ++ take n self.old.pending.items) (J.kept journal.old))) }
         ensures unwritten { self.old.dead ≡ true → journal.new ≡ journal.old }
         ensures fails { OnErr result ((g : Gate) → IsGate g self.old → IsGate (next g failed) self.new) }
     {
@@ -124,6 +124,15 @@ impl Gateway {
         }
     }
 
+    /// Forgives names that were refused: once a minute.
+    pub fn forgive(&mut self)
+        ensures { (g : Gate) → IsGate g self.old → IsGate (next g forgave) self.new }
+    {
+        if !self.dead {
+            self.names.forgive();
+        }
+    }
+
     /// Takes what a client may be sent, which the gateway has no more. A dead one gives nothing.
     pub fn take(&mut self, client: u32) -> Vec<u8>
         ensures bytes { (g : Gate) → IsGate g self.old → g.dead ≡ false → result.items ≡ if_some (client_at g.clients client) [] (λ c. text_shown c.sendable) }
@@ -143,7 +152,7 @@ impl Gateway {
     /// As of `left`.
     pub fn admit(&mut self, client: u32, token: &[u8]) -> Result<bool, GatewayFault>
         ensures gate { OnOk result ((g : Gate) → IsGate g self.old → IsGate (next g (presented client token.now)) self.new) }
-        ensures came { IfOk result (λ is. (g : Gate) → IsGate g self.old → is ≡ is_some (role_for g client token.now)) }
+        ensures came { IfOk result (λ is. (g : Gate) → IsGate g self.old → is ≡ is_some (token_for g client token.now)) }
         ensures fails { OnErr result ((g : Gate) → IsGate g self.old → IsGate (next g failed) self.new) }
     {
         if self.dead {

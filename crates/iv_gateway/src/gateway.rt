@@ -9,16 +9,49 @@ ghost use Rattle.iv_clients.specs.Clients as spec;
 ghost use Rattle.iv_clients.specs.Clients.{client_at, text_shown};
 ghost use Rattle.iv_clients.specs.Journal.{journal_of};
 ghost use Rattle.iv_clients.specs.Kept.{is_due, is_told, kept};
+ghost use Rattle.iv_gate.specs.Arriving.{position, settled_at};
+ghost use Rattle.iv_gate.specs.Gate as spec_gate;
 ghost use Rattle.iv_gate.specs.Gate.{Gate, is_heard};
 ghost use Rattle.iv_gate.specs.Restoring.{gate_at_start};
-ghost use Rattle.iv_gateway.specs.Views.{IsGate};
+ghost use Rattle.iv_gateway.specs.Views.{IsGate, IsHead};
 ghost use Rattle.iv_gateway.specs.Waiting.{WaitsWithin};
 
-use iv_clients::{Feed, Seat, Token};
+use iv_clients::{Feed, OwnedLine, Seat, Token};
 use iv_engine::Engine;
 use iv_hall::Hall;
+use iv_once::Names;
 use json::Scratch;
 use std::alloc::{AllocError, Global};
+use std::marker::Model;
+
+/// A log that others keep.
+#[derive(Drop)]
+pub struct Log {
+    /// Its name.
+    pub name: String,
+    /// 32 digits that no other beginning of it has.
+    pub epoch: String,
+}
+
+impl Model for Log {
+    ghost use Rattle.std.specs.Prelude.{string_bytes};
+    ghost use Rattle.iv_gate.specs.Gate.{Log};
+
+    ghost Value = { Log };
+
+    ghost view = { λ l. record { name = string_bytes l.name; epoch = string_bytes l.epoch } };
+}
+
+/// What a journal says before its first entry.
+#[derive(Drop)]
+pub struct Head {
+    /// What is known of names: the epoch, and how many names of each holder came before.
+    pub names: Names,
+    /// The log that is followed, if one is.
+    pub log: Option<Log>,
+    /// Where that stands.
+    pub position: u64,
+}
 
 /// Why the gateway does no more. Nobody was told what the journal does not have.
 #[derive(Clone, Copy, Debug, PartialEq, Eq)]
@@ -44,8 +77,16 @@ pub struct Gateway {
     pub(crate) feeds: Vec<Feed>,
     /// The clients by their numbers.
     pub(crate) clients: Hall,
+    /// The names of requests that have an answer, and how many of each holder were refused.
+    pub(crate) names: Names,
+    /// The log that it follows, if it follows one.
+    pub(crate) log: Option<Log>,
+    /// The place of the last step that it took.
+    pub(crate) position: u64,
+    /// The place of the last step that the journal keeps.
+    pub(crate) settled: u64,
     /// The lines that the journal is to have before anyone is told.
-    pub(crate) pending: Vec<u8>,
+    pub(crate) pending: Vec<OwnedLine>,
     /// What administrators are told of the shape: the lines that make it.
     pub(crate) shape: Vec<u8>,
     /// The tokens that open roles.
@@ -66,8 +107,9 @@ impl Gateway {
         engine: Engine,
         tokens: Vec<Token>,
         most: u32,
+        head: Head,
     ) -> Result<Gateway, AllocError>
-        ensures { IfOk result (λ x. (cap : ℕ) → IsBehind (start cap) engine → IsGate (gate_at_start cap tokens.items most []) x) }
+        ensures { IfOk result (λ x. (cap : ℕ) (h : spec_gate.Head) → IsBehind (start cap) engine → IsHead h head → IsGate (gate_at_start cap tokens.items most h []) x) }
     {
         let clients = Hall::new(alloc, most)?;
         Ok(Gateway {
@@ -76,6 +118,10 @@ impl Gateway {
             seats: Vec::new(alloc),
             feeds: Vec::new(alloc),
             clients,
+            names: head.names,
+            log: head.log,
+            position: head.position,
+            settled: head.position,
             pending: Vec::new(alloc),
             shape: Vec::new(alloc),
             tokens,
@@ -116,6 +162,31 @@ impl Gateway {
         }
     }
 
+    /// Who holds the token by which a client came, if the number has one: no text where that is not said.
+    pub fn user_of(&self, client: u32) -> Option<&str>
+        ensures { (g : Gate) → IsGate g self.now → g.dead ≡ false
+            → option_map (λ u. u.now) result ≡ option_map (λ c. c.user) (client_at g.clients client) }
+    {
+        match self.clients.places().get(client as usize) {
+            Some(Some(it)) => Some(it.user()),
+            _ => None,
+        }
+    }
+
+    /// Where the log stands that is followed.
+    pub fn position(&self) -> u64
+        ensures { (g : Gate) → IsGate g self.now → g.dead ≡ false → result ≡ position g }
+    {
+        self.position
+    }
+
+    /// Up to where the journal has the log on disk: what its source is to be told, and nothing beyond it.
+    pub fn settled_at(&self) -> u64
+        ensures { (g : Gate) → IsGate g self.now → g.dead ≡ false → result ≡ settled_at g }
+    {
+        self.settled
+    }
+
     /// Whether the client is to go: its text is gone, and its socket is to be closed.
     pub fn is_dropped(&self, client: u32) -> bool
         ensures { (g : Gate) → IsGate g self.now → g.dead ≡ false → result ≡ if_some (client_at g.clients client) false (λ c. c.dropped) }
@@ -134,8 +205,8 @@ impl Gateway {
         self.clients.waiting()
     }
 
-    /// The text of the entries that wait for the journal.
-    pub fn entered(&self) -> &[u8]
+    /// The lines of the entries that wait for the journal.
+    pub fn entered(&self) -> &[OwnedLine]
         ensures { (g : Gate) → IsGate g self.now → g.dead ≡ false → result.now ≡ journal_of (drop g.kept g.entries) }
     {
         &self.pending

@@ -1,6 +1,8 @@
 //! `Journal`: where accepted requests are kept.
-ghost use Rattle.std.specs.Prelude.{ℕ, List, OnErr, OnOk, Option, take};
-ghost use Rattle.std.specs.Io.KnownBytes.{Appends};
+ghost use Rattle.std.specs.Prelude.{◌≡◌, ◌≤◌, ◌++◌, ℕ, List, OnErr, OnOk, Option, length, option_map, take};
+ghost use Rattle.iv_journal.specs.Journal.{Line};
+
+use iv_clients::OwnedLine;
 
 /// The journal could not be written.
 #[derive(Clone, Copy, Debug, PartialEq, Eq)]
@@ -8,14 +10,14 @@ pub struct JournalFault;
 
 /// Where accepted requests are kept.
 pub trait Journal {
-    /// The bytes that it was given, if it tells them.
-    ghost kept: { Self → Option (List ℕ) };
+    /// The lines that it was given, if it tells them.
+    ghost kept: { Self → Option (List Line) };
 
-    /// Appends bytes. They are on disk when it returns.
+    /// Appends lines, whole records. They are on disk when it returns.
     ///
     /// # Errors
-    /// If the system fails. A front of the bytes may be there then, and nobody may be told of them.
-    fn append(&mut self, bytes: &[u8]) -> Result<(), JournalFault>
-        ensures appended { OnOk result (Appends (kept self.old) (kept self.new) bytes.now) }
-        ensures torn { OnErr result ((n : ℕ) × Appends (kept self.old) (kept self.new) (take n bytes.now)) };
+    /// If the system fails. A front of the lines may be there then, of which whole records are read, and nobody may be told of them.
+    fn append(&mut self, lines: &[OwnedLine]) -> Result<(), JournalFault>
+        ensures appended { OnOk result (kept self.new ≡ option_map (λ ls. ls ++ lines.now) (kept self.old)) }
+        ensures torn { OnErr result ((n : ℕ) × (n ≤ length lines.now) × (kept self.new ≡ option_map (λ ls. ls ++ take n lines.now) (kept self.old))) };
 }

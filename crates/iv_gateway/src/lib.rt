@@ -18,10 +18,11 @@ mod opening;
 mod restoring;
 mod seats;
 mod shaping;
+mod sharing;
 mod subscribing;
 mod sweeping;
 mod telling;
 
-pub use gateway::{Gateway, GatewayFault};
+pub use gateway::{Gateway, GatewayFault, Head, Log};
 pub use journal::{Journal, JournalFault};
 pub use restoring::RestoreFault;

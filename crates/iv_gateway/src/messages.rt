@@ -1,35 +1,33 @@
 //! `said`: a client sends a message, which is done if it is heard. Its client is told the reply before what it changes.
-ghost use Rattle.std.specs.Prelude.{◌≡◌, ◌∷◌, [], ℕ, List, IfOk, OnErr, OnOk, Some, false, map, option_map, true};
-ghost use Rattle.iv_command.specs.Views.{act_of, line_of};
+ghost use Rattle.std.specs.Prelude.{◌≡◌, ℕ, List, IfOk, OnErr, OnOk, Some, codes, false, option_map, true};
+ghost use Rattle.iv_command.specs.Views.{act_of};
 ghost use Rattle.iv_machine.specs.Well.{is_well_act};
-ghost use Rattle.iv_message.specs.Message.{is_well_message, request};
+ghost use Rattle.iv_message.specs.Message.{is_well_message, request, unknown};
 ghost use Rattle.iv_message.specs.Seen.{id_data, said_of, why_of};
 ghost use Rattle.iv_message.specs.Told.{unasked};
 ghost use Rattle.iv_clients.specs.Clients as spec;
 ghost use Rattle.iv_clients.specs.Clients.{client_at, saying};
-ghost use Rattle.iv_clients.specs.Journal.{Entry, is_shared, line_said};
+ghost use Rattle.iv_clients.specs.Journal.{claim_said, is_shared, line_said};
 ghost use Rattle.iv_clients.specs.Kept.{kept};
 ghost use Rattle.iv_gate.specs.Events.{failed, message, next};
-ghost use Rattle.iv_gate.specs.Gate.{Gate, acts, done_for, entered, hears, in_session, is_accepted, is_heard, reply_in, requests, said, tells, shape_text};
-ghost use Rattle.iv_gateway.specs.Granting.{IsGranting};
+ghost use Rattle.iv_gate.specs.Gate.{Gate, acts, done_for, hears, is_heard, said, tells};
 ghost use Rattle.iv_gateway.specs.Speaking.{speaker_in, speaking};
-ghost use Rattle.iv_gateway.specs.Views.{IsAlive, IsGate, IsRun};
+ghost use Rattle.iv_gateway.specs.Views.{IsAlive, IsGate};
 
 use crate::gateway::{Gateway, GatewayFault};
-use crate::granting::Grants;
-use crate::seats::is_accepted;
-use crate::shaping::push_shape;
-use iv_clients::{Client, is_shared, push_entry, read_said, seat_of};
-use iv_command::{Act, Command, Line, Refusal, Reply};
+use crate::sharing::Asked;
+use iv_clients::{Claim, Client, Said, is_shared, read_said};
+use iv_command::Act;
 use iv_gate::laws::events_leave_their_marks;
 use iv_message::{Id, Message, Why, push_unasked};
 use std::alloc::{AllocError, Global};
 use std::marker::Model;
 
-/// A client whose message is heard: its role, how many of its numbers are open, and the bytes that others have brought it.
+/// A client whose message is heard: its role, who holds its token, how many of its numbers are open, and the bytes that others have brought it.
 #[derive(Drop)]
 struct Speaker {
     role: String,
+    user: String,
     subs: usize,
     brought: u64,
 }
@@ -40,7 +38,7 @@ impl Model for Speaker {
 
     ghost Value = { Speaking };
 
-    ghost view = { λ s. record { role = string_bytes s.role; subs = s.subs; brought = s.brought } };
+    ghost view = { λ s. record { role = string_bytes s.role; user = string_bytes s.user; subs = s.subs; brought = s.brought } };
 }
 
 /// The client of a number, if a message of it is heard now.
@@ -58,6 +56,7 @@ fn speaker_at(
             }
             Ok(Some(Speaker {
                 role: String::from_str(alloc, it.role())?,
+                user: String::from_str(alloc, it.user())?,
                 subs: it.subs().len(),
                 brought: it.brought(),
             }))
@@ -116,25 +115,25 @@ impl Gateway {
             → IsAlive (hears g client c text.now) self.new) }
     {
         self.clients.ask(client)?;
-        let (message, line) = read_said(self.alloc, text, &mut self.scratch)?;
-        self.answer(client, speaker, message, &line)?;
+        let said = read_said(self.alloc, text, &mut self.scratch)?;
+        self.answer(client, speaker, said)?;
         self.settle_told()?;
         self.clients.answered(client, speaker.brought);
         Ok(())
     }
 
     /// Has done what a client says.
-    fn answer(
-        &mut self,
-        client: u32,
-        speaker: &Speaker,
-        message: Message,
-        line: &[u8],
-    ) -> Result<(), AllocError>
-        requires { is_well_message (said_of message) ≡ true }
+    fn answer(&mut self, client: u32, speaker: &Speaker, said: Said) -> Result<(), AllocError>
+        requires { is_well_message (said_of said.message) ≡ true }
         ensures { OnOk result ((g : Gate) (c : spec.Client) (text : List ℕ) → IsAlive g self.old → client_at g.clients client ≡ Some (saying text c)
-            → speaker.now ≡ speaking (kept c) → line_said text ≡ line.now → IsAlive (done_for g client c text (said_of message)) self.new) }
+            → speaker.now ≡ speaking (kept c) → line_said text ≡ said.line.items → claim_said text ≡ said.claim
+            → IsAlive (done_for g client c text (said_of said.message)) self.new) }
     {
+        let Said {
+            message,
+            claim,
+            line,
+        } = said;
         match message {
             Message::NoJson => {
                 self.refuse(client, 1)?;
@@ -153,32 +152,9 @@ impl Gateway {
                 Ok(())
             }
             Message::Request { id, act } => {
-                self.act_within(client, speaker, &id, act, line)?;
+                self.act(client, speaker, &id, act, claim, &line)?;
                 Ok(())
             }
-        }
-    }
-
-    /// Has done what a client asks, if the shape has room for what it makes of it.
-    fn act_within(
-        &mut self,
-        client: u32,
-        speaker: &Speaker,
-        id: &Option<Id>,
-        act: Act,
-        line: &[u8],
-    ) -> Result<(), AllocError>
-        requires { is_well_act (act_of act) ≡ true }
-        ensures { OnOk result ((g : Gate) (c : spec.Client) (text : List ℕ) → IsAlive g self.old → client_at g.clients client ≡ Some (saying text c)
-            → speaker.now ≡ speaking (kept c) → line_said text ≡ line.now
-            → IsAlive (done_for g client c text (request (option_map id_data id.now) (act_of act))) self.new) }
-    {
-        if self.has_shape_room(&act) {
-            self.act(client, speaker, id, act, line)?;
-            Ok(())
-        } else {
-            self.reply(client, id, &Reply::Refused(Refusal::Limit))?;
-            Ok(())
         }
     }
 
@@ -192,25 +168,41 @@ impl Gateway {
         Ok(())
     }
 
-    /// Has done what a client asks. No message asks to begin a session or to finish one.
+    /// Has a client told that what it asks has no name.
+    fn refuse_name(&mut self, client: u32, id: &Option<Id>) -> Result<(), AllocError>
+        ensures { OnOk result ((g : Gate) → IsAlive g self.old → IsAlive (tells g client (unasked (option_map id_data id.now) (unknown (codes "once")))) self.new) }
+    {
+        let why = Why::Unknown(String::from_str(self.alloc, "once")?);
+        self.refuse_object(client, id, &why)
+    }
+
+    /// Has done what a client asks, by its name if it has one. No message asks to begin a session or to finish one.
     fn act(
         &mut self,
         client: u32,
         speaker: &Speaker,
         id: &Option<Id>,
         act: Act,
+        claim: Option<Claim>,
         line: &[u8],
     ) -> Result<(), AllocError>
         requires { is_well_act (act_of act) ≡ true }
         ensures { OnOk result ((g : Gate) (c : spec.Client) (text : List ℕ) → IsAlive g self.old → client_at g.clients client ≡ Some (saying text c)
-            → speaker.now ≡ speaking (kept c) → line_said text ≡ line.now → IsAlive (acts g client c (option_map id_data id.now) text (act_of act)) self.new) }
+            → speaker.now ≡ speaking (kept c) → line_said text ≡ line.now → claim_said text ≡ claim
+            → IsAlive (done_for g client c text (request (option_map id_data id.now) (act_of act))) self.new) }
     {
         if is_shared(&act) {
-            self.request(client, speaker, id, act, line)?;
-            Ok(())
+            let asked = Asked {
+                client,
+                id,
+                role: speaker.role.as_str(),
+                line,
+            };
+            self.share(&asked, speaker.user.as_str(), act, claim)
+        } else if claim.is_some() {
+            self.refuse_name(client, id)
         } else {
-            self.ask(client, speaker, id, &act)?;
-            Ok(())
+            self.ask(client, speaker, id, &act)
         }
     }
 
@@ -243,107 +235,5 @@ impl Gateway {
                 Ok(())
             }
         }
-    }
-
-    /// Has a request done that changes what is shared, in a session of the client's role.
-    fn request(
-        &mut self,
-        client: u32,
-        speaker: &Speaker,
-        id: &Option<Id>,
-        act: Act,
-        line: &[u8],
-    ) -> Result<(), AllocError>
-        requires well { is_well_act (act_of act) ≡ true }
-        requires shared { is_shared (act_of act) ≡ true }
-        ensures { OnOk result ((g : Gate) (c : spec.Client) (text : List ℕ) → IsAlive g self.old → speaker.now ≡ speaking (kept c) → line_said text ≡ line.now
-            → IsAlive (acts g client c (option_map id_data id.now) text (act_of act)) self.new) }
-    {
-        match seat_of(&self.seats, speaker.role.as_str()) {
-            None => {
-                self.reply(client, id, &Reply::Refused(Refusal::NoSession))?;
-                Ok(())
-            }
-            Some(session) => {
-                self.request_in(session, client, speaker, id, act, line)?;
-                Ok(())
-            }
-        }
-    }
-
-    /// The engine answers a request in a session, and what it answers is told.
-    fn request_in(
-        &mut self,
-        session: u32,
-        client: u32,
-        speaker: &Speaker,
-        id: &Option<Id>,
-        act: Act,
-        line: &[u8],
-    ) -> Result<(), AllocError>
-        requires well { is_well_act (act_of act) ≡ true }
-        requires shared { is_shared (act_of act) ≡ true }
-        ensures { OnOk result ((g : Gate) → IsAlive g self.old
-            → IsAlive (requests g client (option_map id_data id.now)
-            (record { role = speaker.now.role; line = line.now; act = act_of act }) session) self.new) }
-    {
-        if session == 0 {
-            return Err(AllocError);
-        }
-        let grants = Grants::of(&act)?;
-        let mut made = Vec::new(self.alloc);
-        push_shape(self.alloc, &mut made, speaker.role.as_str(), line, &act)?;
-        let lines = self.run(Command { session, act })?;
-        self.tell_request(
-            client,
-            id,
-            speaker.role.as_str(),
-            line,
-            &made,
-            &lines,
-            &grants,
-        )?;
-        Ok(())
-    }
-
-    /// Has told what the engine answered a request, by what it makes of the shape and what it grants. The journal is to have it if it is
-    /// accepted; its client is told the reply, then everybody what changed, and then administrators the request, if it makes the shape.
-    fn tell_request(
-        &mut self,
-        client: u32,
-        id: &Option<Id>,
-        role: &str,
-        line: &[u8],
-        made: &[u8],
-        lines: &[Line],
-        grants: &Grants,
-    ) -> Result<(), AllocError>
-        ensures { OnOk result ((g : Gate) (e : Entry) (n : ℕ) → IsRun g (in_session n e.act) (map line_of lines.now) self.old → is_shared e.act ≡ true
-            → e.role ≡ role.now → e.line ≡ line.now → made.now ≡ shape_text (e ∷ []) → IsGranting e.act grants.now
-            → IsAlive (requests g client (option_map id_data id.now) e n) self.new) }
-    {
-        self.enter_request(role, line, made, lines)?;
-        self.reply_first(client, id, lines)?;
-        self.hear(lines, grants)?;
-        self.inform(made, lines)?;
-        Ok(())
-    }
-
-    /// Has the journal get a request that the lines of its answer accept, and the shape what the request makes of it.
-    fn enter_request(
-        &mut self,
-        role: &str,
-        line: &[u8],
-        made: &[u8],
-        lines: &[Line],
-    ) -> Result<(), AllocError>
-        ensures { OnOk result ((g : Gate) (e : Entry) → IsAlive g self.old → is_shared e.act ≡ true → e.role ≡ role.now → e.line ≡ line.now
-            → made.now ≡ shape_text (e ∷ []) → IsAlive (entered g e (is_accepted (reply_in (map line_of lines.now)))) self.new) }
-    {
-        if is_accepted(lines) {
-            push_entry(&mut self.pending, role, line)?;
-            self.shape.extend_from_slice(made)?;
-        }
-        Ok(())
     }
 }

@@ -1,105 +1,61 @@
-//! `restore`: brings a gateway to where the bytes of a journal lead.
-ghost use Rattle.std.specs.Prelude.{◌≡◌, [], ℕ, List, if◌then◌else◌, Err, None, Ok, IfOk, IfSome, OnErr, bytes_eq, codes, false, length, option_map};
-ghost use Rattle.std.specs.Prelude.{string_bytes, take, true};
-ghost use Rattle.iv_rows.specs.Names.{is_name};
+//! `restore`: brings a gateway to where the lines of a journal lead.
+ghost use Rattle.std.specs.Prelude.{◌≡◌, [], ℕ, List, Err, IfOk, OnErr, true};
 ghost use Rattle.iv_command.specs.Views.{act_of};
 ghost use Rattle.iv_machine.specs.Well.{is_well_act};
-ghost use Rattle.iv_message.specs.Message.{is_well_message};
-ghost use Rattle.iv_message.specs.Seen.{said_of};
-ghost use Rattle.iv_clients.specs.Bounds.{entry_session};
-ghost use Rattle.iv_clients.specs.Journal.{has_newline, is_shared};
+ghost use Rattle.iv_clients.specs.Journal.{Entry, IsEntry, IsRequest};
 ghost use Rattle.iv_gate.specs.Events.{failed, next};
-ghost use Rattle.iv_gate.specs.Gate.{Gate, in_session};
-ghost use Rattle.iv_gate.specs.Restoring.{IsDamagedAt, is_torn, passed, replayed};
-ghost use Rattle.iv_gateway.specs.Replays.{HasReplayed, IsPassed, IsReplayed, IsRestored, act_plain};
+ghost use Rattle.iv_gate.specs.Gate.{Gate};
+ghost use Rattle.iv_gate.specs.Restoring.{IsDamagedAt};
+ghost use Rattle.iv_steps.specs.Steps.{passed};
+ghost use Rattle.iv_gateway.specs.Replays.{HasReplayed, IsNameReplayed, IsNew, IsPassed, IsRecordReplayed, IsReplayed, IsReplaying, IsRequestReplayed, IsRestored, within};
 ghost use Rattle.iv_gateway.specs.Views.{IsAlive, IsGate};
 
 use crate::gateway::Gateway;
 use crate::seats::is_accepted;
 use crate::shaping::push_shape;
-use iv_clients::{cut_at, entry_in, is_shared};
+use iv_clients::laws::records_are_read_back;
+use iv_clients::{Entry, Request, read_record};
 use iv_command::{Act, Command};
-use iv_message::{Message, read_message};
+use iv_journal::Line;
+use iv_once::Named;
+use iv_request::laws::requests_are_well;
 use std::alloc::AllocError;
 
-/// The session in which entries run, after those of roles.
-const ENTRY_SESSION: u32 = 256;
-
-/// What each line of a journal begins with.
-const ENTRY_FRONT: &[u8] = b"{\"as\":\"";
-
-/// The bytes of the longest entry's line, without its end.
-const MOST_TORN: usize = 65_534;
+/// The session in which entries run: nobody is there yet.
+const ENTRY_SESSION: u32 = 1;
 
 /// Why a journal restores nothing.
 #[derive(Clone, Copy, Debug, PartialEq, Eq)]
 pub enum RestoreFault {
     /// A growth of memory was refused.
     Memory,
-    /// At this byte of the journal is a line that is no entry, an entry that is not accepted again, or a last line without its end
-    /// that is no front of an entry, or longer than one.
+    /// At this line of the journal, counted from none, begins no record of an entry that is accepted again, of names that are new, at a position
+    /// behind the last.
     Damaged(usize),
     /// The gateway has entries that wait for the journal, or is dead: only a new one is restored.
     Late,
 }
 
-/// Whether bytes begin as an entry does, as far as they go.
-fn begins_entry(bytes: &[u8]) -> bool
-    ensures { result ≡ bytes_eq (take 7 bytes.now) (take (length bytes.now) (codes "{\"as\":\"")) }
-{
-    if bytes.len() < ENTRY_FRONT.len() {
-        bytes == &ENTRY_FRONT[..bytes.len()]
-    } else {
-        &bytes[..ENTRY_FRONT.len()] == ENTRY_FRONT
-    }
-}
-
-/// Where whole entries end, if what follows them, a line without its end, is torn.
-fn end_at(rest: &[u8], at: usize) -> Result<usize, RestoreFault>
-    requires { has_newline rest.now ≡ false }
-    ensures { result ≡ (if is_torn rest.now then Ok at else Err (RestoreFault.Damaged at)) }
-{
-    if rest.len() <= MOST_TORN && begins_entry(rest) {
-        Ok(at)
-    } else {
-        Err(RestoreFault::Damaged(at))
-    }
-}
-
-/// What a message asks that is a request without an id.
-fn act_plain(message: Message) -> Option<Act>
-    requires { is_well_message (said_of message) ≡ true }
-    ensures act { option_map act_of result ≡ act_plain (said_of message) }
-    ensures well { IfSome result (λ act. is_well_act (act_of act) ≡ true) }
-{
-    match message {
-        Message::Request { id: None, act } => Some(act),
-        _ => None,
-    }
-}
-
 impl Gateway {
-    /// Brings a new gateway to where a journal leads. Answers how many of its bytes that is: what follows them is a last entry that
-    /// was torn, which is to be cut off before anything happens.
+    /// Brings a new gateway to where a journal leads, of which it is given the lines of whole records. What stood behind them is to be cut
+    /// off, and the journal synced, before anything happens.
     ///
     /// # Errors
-    /// `Damaged` with the place where the journal is no journal of this gateway; `Memory` if a growth of memory was refused; `Late`
+    /// `Damaged` with the line where the journal is no journal of this gateway; `Memory` if a growth of memory was refused; `Late`
     /// if something waits for the journal, or the gateway was dead. The gateway is dead then.
-    pub fn restore(&mut self, journal: &[u8]) -> Result<usize, RestoreFault>
-        ensures restored { IfOk result (λ kept. (g : Gate) → IsGate g self.old → IsRestored g journal.now kept self.new) }
-        ensures damaged { (place : ℕ) → result ≡ Err (RestoreFault.Damaged place) → (g : Gate) → IsGate g self.old → IsDamagedAt g journal.now place }
+    pub fn restore(&mut self, journal: &[Line<'_>]) -> Result<(), RestoreFault>
+        ensures restored { IfOk result (λ _. (g : Gate) → IsNew g → IsGate g self.old → IsRestored g journal.now self.new) }
+        ensures damaged { (place : ℕ) → result ≡ Err (RestoreFault.Damaged place) → (g : Gate) → IsNew g → IsGate g self.old → IsDamagedAt g journal.now place }
         ensures fails { OnErr result ((g : Gate) → IsGate g self.old → IsGate (next g failed) self.new) }
     {
-        if self.dead || !self.pending.as_slice().is_empty() {
+        if self.dead || !self.pending.is_empty() {
             self.dead = true;
             return Err(RestoreFault::Late);
         }
-        let mut shape = Vec::new(self.alloc);
-        match self.replay(journal, &mut shape) {
-            Ok(kept) => {
-                self.shape = shape;
+        match self.replay(journal) {
+            Ok(()) => {
                 self.dead = false;
-                Ok(kept)
+                Ok(())
             }
             Err(fault) => {
                 self.dead = true;
@@ -108,77 +64,105 @@ impl Gateway {
         }
     }
 
-    /// Runs the entries of a journal, and appends what they make of the shape. Answers where they end: what follows them is torn.
-    fn replay(&mut self, journal: &[u8], shape: &mut Vec<u8>) -> Result<usize, RestoreFault>
-        requires { shape.old.items ≡ [] }
-        ensures replayed { IfOk result (λ kept. (g : Gate) → IsAlive g self.old → HasReplayed g journal.now kept shape.new.items self.new) }
-        ensures damaged { (place : ℕ) → result ≡ Err (RestoreFault.Damaged place) → (g : Gate) → IsAlive g self.old → IsDamagedAt g journal.now place }
+    /// Runs the entries of a journal. What was refused is forgiven.
+    fn replay(&mut self, journal: &[Line<'_>]) -> Result<(), RestoreFault>
+        ensures replayed { IfOk result (λ _. (g : Gate) → IsNew g → IsAlive g self.old → HasReplayed g journal.now self.new) }
+        ensures damaged { (place : ℕ) → result ≡ Err (RestoreFault.Damaged place) → (g : Gate) → IsNew g → IsAlive g self.old → IsDamagedAt g journal.now place }
     {
-        let mut rest = journal;
-        let mut at = 0;
+        let mut at = 0usize;
         for _ in 0..journal.len() {
-            match cut_at(rest, b'\n') {
-                None => return end_at(rest, at),
-                Some((line, later)) => {
-                    match self.replay_line(line, shape) {
-                        Err(_) => return Err(RestoreFault::Memory),
-                        Ok(false) => return Err(RestoreFault::Damaged(at)),
-                        Ok(true) => {}
-                    }
-                    at += line.len() + 1;
-                    rest = later;
-                }
+            if at == journal.len() {
+                break;
+            }
+            match self.replay_record(&journal[at..]) {
+                Err(_) => return Err(RestoreFault::Memory),
+                Ok(None) => return Err(RestoreFault::Damaged(at)),
+                Ok(Some(count)) => at += count,
             }
         }
-        end_at(rest, at)
+        self.names.forgive();
+        Ok(())
     }
 
-    /// Runs the entry of a line, and appends what it makes of the shape. Whether it is one that is accepted.
-    fn replay_line(&mut self, line: &[u8], shape: &mut Vec<u8>) -> Result<bool, AllocError>
-        ensures { IfOk result (λ is. (g : Gate) → IsAlive g self.old → has_newline line.now ≡ false
-            → IsReplayed g line.now shape.old.items shape.new.items is self.new) }
+    /// Runs the entry of the first record. Answers how many lines that has, where its entry is one that may stand there.
+    fn replay_record(&mut self, lines: &[Line<'_>]) -> Result<Option<usize>, AllocError>
+        ensures { IfOk result (λ o. (g : Gate) (es : List Entry) → IsReplaying g es self.old → IsRecordReplayed g es lines.now o self.new) }
     {
-        match entry_in(self.alloc, line)? {
-            None => Ok(false),
-            Some((role, text)) => {
-                let message = read_message(self.alloc, &text, &mut self.scratch)?;
-                match act_plain(message) {
-                    None => Ok(false),
-                    Some(act) => {
-                        push_shape(self.alloc, shape, role.as_str(), &text, &act)?;
-                        let is_accepted = self.replay_request(role, act)?;
-                        Ok(is_accepted)
-                    }
+        records_are_read_back();
+        match read_record(self.alloc, lines, &mut self.scratch)? {
+            None => Ok(None),
+            Some((entry, count)) => {
+                if self.replay_entry(entry)? {
+                    Ok(Some(count))
+                } else {
+                    Ok(None)
                 }
             }
         }
     }
 
-    /// Runs a request of an entry, if it changes what is shared. Whether it is accepted.
-    fn replay_request(&mut self, role: String, act: Act) -> Result<bool, AllocError>
-        requires role { is_name (string_bytes role) ≡ true }
-        requires act { is_well_act (act_of act) ≡ true }
-        ensures { IfOk result (λ is. (g : Gate) (line : List ℕ) → IsAlive g self.old
-            → IsPassed g (if is_shared (act_of act)
-            then replayed g.machine (record { role = string_bytes role; line = line; act = act_of act }) else None) is self.new) }
+    /// Runs an entry. Whether it may stand there: it is accepted, its names are new, and its position is behind the last.
+    fn replay_entry(&mut self, entry: Entry) -> Result<bool, AllocError>
+        requires { IsEntry entry }
+        ensures { IfOk result (λ is. (g : Gate) (es : List Entry) → IsReplaying g es self.old → IsReplayed g es entry is self.new) }
     {
-        if !is_shared(&act) {
+        let Entry {
+            requests,
+            names,
+            position,
+        } = entry;
+        if let Some(place) = position {
+            if place <= self.position {
+                return Ok(false);
+            }
+            self.position = place;
+            self.settled = place;
+        }
+        for request in requests {
+            if !self.replay_request(request)? {
+                return Ok(false);
+            }
+        }
+        for name in names {
+            if !self.replay_name(name)? {
+                return Ok(false);
+            }
+        }
+        Ok(true)
+    }
+
+    /// Learns a name that has its answer. Whether it had none.
+    fn replay_name(&mut self, name: Named) -> Result<bool, AllocError>
+        ensures { IfOk result (λ is. (g : Gate) (es : List Entry) (e : Entry) → IsAlive (within g es e) self.old → IsNameReplayed g es e name is self.new) }
+    {
+        if !self.names.is_new(&name.ask) {
             return Ok(false);
         }
+        self.names.push(name)?;
+        Ok(true)
+    }
+
+    /// Runs a request of an entry, and appends what it makes of the shape. Whether it is accepted.
+    fn replay_request(&mut self, request: Request) -> Result<bool, AllocError>
+        requires { IsRequest request }
+        ensures { IfOk result (λ is. (g : Gate) (es : List Entry) (e : Entry) → IsAlive (within g es e) self.old → IsRequestReplayed g es e request is self.new) }
+    {
+        requests_are_well();
+        let Request { role, line, act } = request;
+        push_shape(self.alloc, &mut self.shape, role.as_str(), &line, &act)?;
         if !self.pass(Act::Begin { role })? {
             return Ok(false);
         }
         if !self.pass(act)? {
             return Ok(false);
         }
-        let is_done = self.pass(Act::Finish)?;
-        Ok(is_done)
+        self.pass(Act::Finish)
     }
 
     /// Runs an act in the session of entries. Whether it is accepted.
     fn pass(&mut self, act: Act) -> Result<bool, AllocError>
         requires { is_well_act (act_of act) ≡ true }
-        ensures { IfOk result (λ is. (g : Gate) → IsAlive g self.old → IsPassed g (passed g.machine (in_session entry_session (act_of act))) is self.new) }
+        ensures { IfOk result (λ is. (g : Gate) → IsAlive g self.old → IsPassed g (passed (act_of act) g.machine) is self.new) }
     {
         let lines = self.run(Command {
             session: ENTRY_SESSION,

@@ -3,20 +3,19 @@ ghost use Rattle.std.specs.Prelude.{◌≡◌, ◌∷◌, ◌++◌, if◌then◌
 ghost use Rattle.iv_rows.specs.Options.{if_some};
 ghost use Rattle.iv_command.specs.Views.{act_of, line_of};
 ghost use Rattle.iv_clients.specs.Clients.{at_all, at_client, client_at};
-ghost use Rattle.iv_clients.specs.Journal.{Entry, is_shared};
+ghost use Rattle.iv_clients.specs.Journal.{Entry};
 ghost use Rattle.iv_clients.specs.Kept.{Kept};
-ghost use Rattle.iv_gate.specs.Gate.{Gate, entries_of, has_shape_room, informs, is_accepted, reply_in, shape_text};
+ghost use Rattle.iv_gate.specs.Gate.{Gate, has_shape_room, informs, shape_text};
 ghost use Rattle.iv_gateway.specs.Granting.{holding_for};
-ghost use Rattle.iv_gateway.specs.Shaping.{greeting_text, is_admin};
+ghost use Rattle.iv_gateway.specs.Shaping.{greeting_text, is_admin, shape_in};
 ghost use Rattle.iv_gateway.specs.Views.{IsAlive};
 
 use crate::gateway::Gateway;
-use crate::seats::is_accepted;
 use iv_clients::{Client, is_shape};
-use iv_command::{Act, Line};
+use iv_command::Act;
 use iv_hall::Hall;
 use iv_message::laws::told_texts_are_lines;
-use iv_message::{push_made, push_settled, push_welcome};
+use iv_message::{push_made, push_placed, push_settled, push_welcome};
 use std::alloc::{AllocError, Global};
 
 /// The most bytes of the shape's text, beyond which nothing more makes the shape.
@@ -37,7 +36,7 @@ pub fn push_shape(
     line: &[u8],
     act: &Act,
 ) -> Result<(), AllocError>
-    ensures { OnOk result (text.new.items ≡ text.old.items ++ shape_text (record { role = role.now; line = line.now; act = act_of act.now } ∷ [])) }
+    ensures { OnOk result (text.new.items ≡ text.old.items ++ shape_in (record { role = role.now; line = line.now; act = act_of act.now })) }
 {
     if !is_shape(act) {
         return Ok(());
@@ -58,11 +57,12 @@ fn push_shape_for(text: &mut Vec<u8>, role: &str, shape: &[u8]) -> Result<(), Al
 }
 
 /// What a client of a role is told as it comes in, by the text of the shape.
-pub fn greeting(alloc: Global, role: &str, shape: &[u8]) -> Result<Vec<u8>, AllocError>
-    ensures { IfOk result (λ text. text.items ≡ greeting_text role.now shape.now) }
+pub fn greeting(alloc: Global, role: &str, at: &str, shape: &[u8]) -> Result<Vec<u8>, AllocError>
+    ensures { IfOk result (λ text. text.items ≡ greeting_text role.now at.now shape.now) }
 {
     let mut text = Vec::new(alloc);
     push_welcome(alloc, &mut text, role)?;
+    push_placed(alloc, &mut text, at)?;
     push_shape_for(&mut text, role, shape)?;
     push_settled(&mut text)?;
     Ok(text)
@@ -107,16 +107,11 @@ impl Gateway {
         !(is_shape(act) && self.shape.len() > MOST_SHAPE)
     }
 
-    /// Has administrators told of a request, by the text of what it makes of the shape, if the lines of its answer accept it. If it makes
-    /// nothing nobody is looked at.
-    pub(crate) fn inform(&mut self, made: &[u8], lines: &[Line]) -> Result<(), AllocError>
-        ensures { OnOk result ((g : Gate) (e : Entry) → IsAlive g self.old → is_shared e.act ≡ true → made.now ≡ shape_text (e ∷ [])
-            → IsAlive (informs g (entries_of e (is_accepted (reply_in (map line_of lines.now))))) self.new) }
+    /// Has administrators told of entries, by the text of what they make of the shape. If they make nothing nobody is looked at.
+    pub(crate) fn inform(&mut self, made: &[u8]) -> Result<(), AllocError>
+        ensures { OnOk result ((g : Gate) (es : List Entry) → IsAlive g self.old → made.now ≡ shape_text es → IsAlive (informs g es) self.new) }
     {
         told_texts_are_lines();
-        if !is_accepted(lines) {
-            return Ok(());
-        }
         if made.is_empty() {
             return Ok(());
         }

@@ -209,15 +209,15 @@ closes most xs ys owing telling reading left n own feed h is e kept =
 -- ---- one comes or goes
 
 pub enters : (most : ℕ) (xs ys : Places) (owing owing' telling telling' : Numbers) (reading reading' : List Readers) (n : ℕ) (role : Name)
-    (digest text : List ℕ)
+    (user digest text : List ℕ)
     → IsHall most xs owing telling reading → HasLeft n (λ k. is_so_at (is_following k) xs n) reading reading' → HasLost n owing owing'
     → AreSet (λ m. m ≡ n) (is_told_at ys) telling telling'
-    → ys ≡ set xs n (Some (coming role digest text)) → IsHall most ys owing' telling' reading'
-enters most xs ys owing owing' telling telling' reading reading' n role digest text h l o t e =
-    let who = Some (coming role digest text) in let zs = set xs n who in let b = length_put n who xs in
+    → ys ≡ set xs n (Some (coming role user digest text)) → IsHall most ys owing' telling' reading'
+enters most xs ys owing owing' telling telling' reading reading' n role user digest text h l o t e =
+    let who = Some (coming role user digest text) in let zs = set xs n who in let b = length_put n who xs in
     hall_set most xs ys owing owing' telling telling' reading reading' n who h e o l t.size
     (those_one is_told n xs zs telling telling' h.told (over zs ys telling telling' e t) (others_put n who xs) (omega (arith, b, h.within, h.told_size)))
-    refl (λ feed. refl) (λ k there. let is : coming role digest text ≡ k = cc in subst (λ (z : Kept). AreNumbered z.given z.subs) is tt)
+    refl (λ feed. refl) (λ k there. let is : coming role user digest text ≡ k = cc in subst (λ (z : Kept). AreNumbered z.given z.subs) is tt)
 
 pub leaves : (most : ℕ) (xs ys : Places) (owing owing' telling telling' : Numbers) (reading reading' : List Readers) (n : ℕ)
     → IsHall most xs owing telling reading → HasLeft n (λ k. is_so_at (is_following k) xs n) reading reading' → HasLost n owing owing'

@@ -1,7 +1,7 @@
 -- Clients to whom something is done that leaves them as they were, or of whom less is so than before.
 use Rattle.std.proofs.Common.{◌≡◌, ◌∙◌, ◌⊎◌, inl, inr, ℕ, suc, ◌+◌, Bool, true, false, ◌||◌, cond, not, List, [], ◌∷◌, ◌++◌, length, map, filter, refl, ap, sym}
 use Rattle.std.proofs.Common.{arith, append-nil, length-append}
-use Rattle.std.specs.Prelude.{◌==◌, bytes_eq, flat_map, nat_lt}
+use Rattle.std.specs.Prelude.{◌==◌, ◌&&◌, bytes_eq, flat_map, nat_lt}
 use Rattle.std.specs.List.{list_any}
 use Rattle.std.proofs.lemmas.Bool.{cases_Bool, eq-eqb, eqb-true, false≢true, not-false, or_cases, or_left, or_parts, or_right}
 use Rattle.std.proofs.lemmas.List.Folds.{list_any-append}
@@ -11,7 +11,7 @@ use Rattle.iv_message.specs.Told.{Told}
 use Rattle.iv_clients.specs.Bounds.{most_piled}
 use Rattle.iv_clients.specs.Clients.{Sub, moved_sub}
 use Rattle.iv_clients.specs.Kept.{Kept, checking, emptied, holding, holding_all, holding_owed, is_due, is_following, is_told, letting_go, releasing}
-use Rattle.iv_clients.specs.Tokens.{Token, role_opened}
+use Rattle.iv_clients.specs.Tokens.{Token, token_of}
 use Rattle.iv_rows.specs.Options.{if_some}
 use Rattle.iv_hall.specs.Hearing.{hearing_for, told_as, told_for}
 
@@ -155,14 +155,14 @@ checked_by true k = refl
 checked_by false k = refl
 
 pub checked_owed : (tokens : List Token) (k : Kept) → (checking tokens k).owed ≡ k.owed
-checked_owed tokens k = checked_by (if_some (role_opened tokens k.digest) false (λ (r : Name). bytes_eq k.role r)) k
+checked_owed tokens k = checked_by (if_some (token_of tokens k.digest) false (λ (t : Token). bytes_eq k.role t.role && bytes_eq k.user t.user)) k
 
 checked_with : (b : Bool) (k : Kept) → FollowsAlike k (cond b k (letting_go k))
 checked_with true k = record { given = refl; subs = refl }
 checked_with false k = record { given = refl; subs = refl }
 
 pub checked_alike : (tokens : List Token) (k : Kept) → FollowsAlike k (checking tokens k)
-checked_alike tokens k = checked_with (if_some (role_opened tokens k.digest) false (λ (r : Name). bytes_eq k.role r)) k
+checked_alike tokens k = checked_with (if_some (token_of tokens k.digest) false (λ (t : Token). bytes_eq k.role t.role && bytes_eq k.user t.user)) k
 
 -- ---- owed
 

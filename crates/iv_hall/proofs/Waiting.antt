@@ -1,14 +1,14 @@
 -- What is counted of the bytes that wait for the journal is enough behind each call.
 use Rattle.std.proofs.Common.{◌≡◌, ◌∙◌, ℕ, zero, suc, ◌+◌, ◌*◌, ◌-◌, ◌<◌, ◌≤◌, Bool, true, false, cond, List, [], ◌∷◌, ◌++◌, length, get_or, replicate, set}
 use Rattle.std.proofs.Common.{Option, Some, None, refl, ap, sym, subst, arith, length-append}
-use Rattle.std.specs.Prelude.{◌==◌, ◌||◌, ◌^◌, bytes_eq, min, nat_lt}
+use Rattle.std.specs.Prelude.{◌==◌, ◌&&◌, ◌||◌, ◌^◌, bytes_eq, min, nat_lt}
 use Rattle.std.proofs.Math.Nat.{suc-mul}
 use Rattle.iv_rows.specs.Options.{if_some}
 use Rattle.iv_access.specs.Rights.{Name}
 use Rattle.iv_clients.specs.Bounds.{most_piled}
 use Rattle.iv_clients.specs.Clients.{at_all, at_client}
 use Rattle.iv_clients.specs.Kept.{Kept, Places, checking, coming, emptied, holding, holding_beat, holding_owed, letting_go, releasing}
-use Rattle.iv_clients.specs.Tokens.{Token, role_opened}
+use Rattle.iv_clients.specs.Tokens.{Token, token_of}
 use Rattle.iv_hall.specs.Listing.{walked}
 use Rattle.iv_hall.specs.Waiting.{AreCounted, CountsOn, bytes_of, bytes_waiting}
 
@@ -120,7 +120,7 @@ emptied_as_before k = by (length k.sendable == 0)
     by false = omega arith
 
 checked_as_before : (tokens : List Token) (k : Kept) → length (checking tokens k).unsynced ≤ length k.unsynced
-checked_as_before tokens k = by (if_some (role_opened tokens k.digest) false (bytes_eq k.role))
+checked_as_before tokens k = by (if_some (token_of tokens k.digest) false (λ (t : Token). bytes_eq k.role t.role && bytes_eq k.user t.user))
   where
     by : (b : Bool) → length (cond b k (letting_go k)).unsynced ≤ length k.unsynced
     by true = omega arith
@@ -171,12 +171,12 @@ left_at n w xs ys e h = fewer (bytes_waiting xs) (bytes_waiting ys) w (let l = p
 abbrev pub IsRaised : (w v texts length : ℕ) → Type 0
 IsRaised w v texts length = (bytes : ℕ) → AreCounted bytes w → AreCounted (bytes + texts * length) v
 
-pub entered_at : (n w v d : ℕ) (role : Name) (digest text : List ℕ) (xs ys : Places) → ys ≡ set xs n (Some (coming role digest text)) → d ≡ length text
+pub entered_at : (n w v d : ℕ) (role : Name) (user digest text : List ℕ) (xs ys : Places) → ys ≡ set xs n (Some (coming role user digest text)) → d ≡ length text
     → IsRaised w v 1 d → AreCounted (bytes_waiting xs) w
     → AreCounted (bytes_waiting ys) v
-entered_at n w v d role digest text xs ys e l r h =
+entered_at n w v d role user digest text xs ys e l r h =
     fewer (bytes_waiting xs + 1 * d) (bytes_waiting ys) v
-    (let k = put_at_most n (Some (coming role digest text)) xs in let c = ap bytes_waiting e in omega arith) (r (bytes_waiting xs) h)
+    (let k = put_at_most n (Some (coming role user digest text)) xs in let c = ap bytes_waiting e in omega arith) (r (bytes_waiting xs) h)
 
 pub held_at : (n w v d : ℕ) (text : List ℕ) (xs ys : Places) → ys ≡ at_client n (holding text) xs → d ≡ length text → IsRaised w v 1 d
     → AreCounted (bytes_waiting xs) w → AreCounted (bytes_waiting ys) v

@@ -137,10 +137,11 @@ impl Hall {
         alloc: Global,
         client: u32,
         role: String,
+        user: String,
         digest: Vec<u8>,
         text: Vec<u8>,
     )
-        ensures { self.new ≡ slice_set self.old client (Some (coming (string_bytes role) digest.items text.items)) }
+        ensures { self.new ≡ slice_set self.old client (Some (coming (string_bytes role) (string_bytes user) digest.items text.items)) }
     {
         quit_all(&mut self.readers, subs_at(&self.slots, client), client);
         self.owed.remove(client);
@@ -148,7 +149,7 @@ impl Hall {
         put_at(
             &mut self.slots,
             client,
-            Some(Client::new(alloc, role, digest, text)),
+            Some(Client::new(alloc, role, user, digest, text)),
         );
         list_one(&mut self.told, &self.slots, client);
     }

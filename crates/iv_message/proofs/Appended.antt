@@ -30,6 +30,11 @@ three_appended t a b c l m n h k e = two_appended t a (b ++ c) l n h (two_append
 pub four_appended : (t a b c d k l m n : List ℕ) → k ≡ t ++ a → l ≡ k ++ b → m ≡ l ++ c → n ≡ m ++ d → n ≡ t ++ (a ++ (b ++ (c ++ d)))
 four_appended t a b c d k l m n h i j e = two_appended t a (b ++ (c ++ d)) k n h (three_appended k b c d l m n i j e)
 
+pub six_appended : (t a b c d e f i j k l m n : List ℕ) → i ≡ t ++ a → j ≡ i ++ b → k ≡ j ++ c → l ≡ k ++ d → m ≡ l ++ e → n ≡ m ++ f
+    → n ≡ t ++ (a ++ (b ++ (c ++ (d ++ (e ++ f)))))
+six_appended t a b c d e f i j k l m n o p q r s u =
+    two_appended t a (b ++ (c ++ (d ++ (e ++ f)))) i n o (two_appended i b (c ++ (d ++ (e ++ f))) j n p (four_appended j c d e f k l m n q r s u))
+
 -- a line ends in `}` and a newline
 ends_so : (r a n : List ℕ) → r ++ (a ++ (n ++ codes "}\n")) ≡ (r ++ (a ++ (n ++ codes "}"))) ++ codes "\n"
 ends_so r a n = simp append_assoc
@@ -70,12 +75,12 @@ whole_plain : (z : ℤ) → has_float (id_data (id.Whole z)) ≡ false
 whole_plain (pos n) = refl
 whole_plain (negsuc n) = refl
 
-id_plain : (i : Id) → has_float (id_data i) ≡ false
+pub id_plain : (i : Id) → has_float (id_data i) ≡ false
 id_plain (id.Natural n) = refl
 id_plain (id.Whole z) = whole_plain z
 id_plain (id.Text t) = refl
 
-with_id_plain : (i : Option Id) (ms : Members) → members_have_float ms ≡ false → has_float (with_id (option_map id_data i) ms) ≡ false
+pub with_id_plain : (i : Option Id) (ms : Members) → members_have_float ms ≡ false → has_float (with_id (option_map id_data i) ms) ≡ false
 with_id_plain None ms h = h
 with_id_plain (Some i) ms h = put_plain (codes "id") (id_data i) ms (id_plain i) h
 

@@ -3,14 +3,15 @@ use Rattle.std.proofs.Common.{◌≡◌, ◌∙◌, ℕ, zero, suc, pos, negsuc,
 use Rattle.std.proofs.lemmas.Bool.Decides.{nat_tests}
 use Rattle.std.proofs.lemmas.List.Folds.{list_all-append}
 use Rattle.std.specs.Char.{digit_char}
-use Rattle.std.specs.Prelude.{codes, decimal}
+use Rattle.std.specs.Prelude.{codes, decimal, Option, Some, None}
 use Rattle.std.specs.Fmt.{digits, digits_onto, digit_glyph}
 use Rattle.json.specs.Print.{escape_letter, escape_byte, escape, quoted}
 use Rattle.serde_json.specs.Data.{Num, unsigned, negative, float, Data, null, boolean, number, string, array, object, Items, no_items, item, Members, no_members, member}
 use Rattle.serde_json.specs.Written.{number_text, comma_if, compact_text, items_text, members_text}
+use Rattle.iv_request.specs.Values.{natural}
 use Rattle.iv_lines.specs.Texts.{fault_data, reply_members, text_of}
 use Rattle.iv_message.specs.Message.{on_one_line}
-use Rattle.iv_message.specs.Told.{Told, welcome, replied, opened, fault, unasked, changed, over, settled, granted, made, alive, changed_data, made_text, opened_members, over_data, told_text, why_members, with_id}
+use Rattle.iv_message.specs.Told.{Told, welcome, replied, opened, fault, unasked, changed, over, settled, granted, made, alive, placed, answered, undecided, denied, again_text, answered_text, changed_data, id_text, made_text, most_names, opened_members, over_data, told_text, why_members, with_id}
 use Rattle.iv_message.specs.Lines.{is_clean, IsLine}
 
 joined : (a b : List ℕ) → is_clean a ≡ true → is_clean b ≡ true → is_clean (a ++ b) ≡ true
@@ -138,6 +139,29 @@ made_line role line =
           (joined q (b ++ (l ++ codes "}")) (data_clean (string role)) (joined b (l ++ codes "}") refl (joined l (codes "}") (on_one_clean line) refl))),
     )
 
+-- ---- an answer to a request with a name
+
+again_clean : (again : Bool) → is_clean (again_text again) ≡ true
+again_clean true = refl
+again_clean false = refl
+
+id_clean : (id : Option Data) → is_clean (id_text id) ≡ true
+id_clean None = refl
+id_clean (Some id) = joined (codes ",\"id\":") (compact_text id) refl (data_clean id)
+
+answered_so : (a l b q i : List ℕ) → a ++ (l ++ (b ++ (q ++ (i ++ codes "}\n")))) ≡ (a ++ (l ++ (b ++ (q ++ (i ++ codes "}"))))) ++ codes "\n"
+answered_so a l b q i = simp append_assoc
+
+answered_line : (id : Option Data) (again : Bool) (at answer : List ℕ) → IsLine (answered_text id again at answer)
+answered_line id again at answer =
+    let a = again_text again in let l = on_one_line answer in let b = codes ",\"at\":" in let q = compact_text (string at) in let i = id_text id in (
+      a ++ (l ++ (b ++ (q ++ (i ++ codes "}")))),
+      answered_so a l b q i,
+      joined a (l ++ (b ++ (q ++ (i ++ codes "}")))) (again_clean again)
+          (joined l (b ++ (q ++ (i ++ codes "}"))) (on_one_clean answer)
+          (joined b (q ++ (i ++ codes "}")) refl (joined q (i ++ codes "}") (data_clean (string at)) (joined i (codes "}") (id_clean id) refl)))),
+    )
+
 pub told_line : (t : Told) → IsLine (told_text t)
 told_line (welcome role) = text_line (object (member (codes "role") (string role) no_members))
 told_line (replied id r) = text_line (with_id id (reply_members r))
@@ -150,3 +174,7 @@ told_line settled = text_line (object (member (codes "settled") (boolean true) n
 told_line (granted rel) = text_line (object (member (codes "granted") (string rel) no_members))
 told_line (made role line) = made_line role line
 told_line alive = text_line (object (member (codes "alive") (boolean true) no_members))
+told_line (placed at) = text_line (object (member (codes "at") (string at) (member (codes "names") (natural most_names) no_members)))
+told_line (answered id again at answer) = answered_line id again at answer
+told_line (undecided id n) = text_line (with_id id (member (codes "undecided") (natural n) no_members))
+told_line (denied id n) = text_line (with_id id (member (codes "error") (natural n) no_members))

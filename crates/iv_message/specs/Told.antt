@@ -1,5 +1,5 @@
 -- What a client is told, and its text: JSON with keys in the order of their bytes, compact but for a request as it was written, and a newline.
-use Rattle.std.specs.Prelude.{ℕ, ℤ, true, List, ◌++◌, map, codes, Option, Some, None}
+use Rattle.std.specs.Prelude.{ℕ, ℤ, Bool, true, false, List, [], ◌++◌, map, codes, Option, Some, None}
 use Rattle.iv_rows.specs.Cell.{Cell}
 use Rattle.iv_rows.specs.Columns.{Column}
 use Rattle.iv_access.specs.Rights.{Name}
@@ -15,7 +15,8 @@ use Rattle.iv_lines.specs.Texts.{cause_text, fault_data, reply_members, text_of}
 use Rattle.iv_message.specs.Message.{Why, missing, unknown, wrong, on_one_line}
 
 -- `own` is the client's own number of a subscription, and `rel` the relation that it asked for; `line` is a request, as a client of the
--- role wrote it
+-- role wrote it. `placed` tells where the names of the client's holder stand; `answered` the answer to a request with a name, whether that is
+-- told again, and where the names stand behind it; `undecided` that nobody says whether the request was done; `denied` that it was not
 pub data Told : Type 0 where
   welcome : (role : Name) → Told
   replied : (id : Option Data) → Reply → Told
@@ -28,6 +29,10 @@ pub data Told : Type 0 where
   granted : (rel : Name) → Told
   made : (role : Name) → (line : List ℕ) → Told
   alive : Told
+  placed : (at : List ℕ) → Told
+  answered : (id : Option Data) → (again : Bool) → (at answer : List ℕ) → Told
+  undecided : (id : Option Data) → (number : ℕ) → Told
+  denied : (id : Option Data) → (number : ℕ) → Told
 
 -- the id that the client gave comes in, in the order of keys
 abbrev pub with_id : Option Data → Members → Data
@@ -64,6 +69,23 @@ over_data own rel cause rows = object (
 abbrev pub made_text : Name → List ℕ → List ℕ
 made_text role line = codes "{\"as\":" ++ (compact_text (string role) ++ (codes ",\"made\":" ++ (on_one_line line ++ codes "}\n")))
 
+-- how many names of each holder are kept
+abbrev pub most_names : ℕ
+most_names = 64
+
+abbrev pub again_text : Bool → List ℕ
+again_text true = codes "{\"again\":true,\"answer\":"
+again_text false = codes "{\"answer\":"
+
+abbrev pub id_text : Option Data → List ℕ
+id_text None = []
+id_text (Some id) = codes ",\"id\":" ++ compact_text id
+
+-- the answer stands in it as it was first given
+abbrev pub answered_text : Option Data → Bool → List ℕ → List ℕ → List ℕ
+answered_text id again at answer =
+    again_text again ++ (on_one_line answer ++ (codes ",\"at\":" ++ (compact_text (string at) ++ (id_text id ++ codes "}\n"))))
+
 -- a reply is viewd's, but for the session
 abbrev pub told_text : Told → List ℕ
 told_text (welcome role) = text_of (object (member (codes "role") (string role) no_members))
@@ -77,3 +99,7 @@ told_text settled = text_of (object (member (codes "settled") (boolean true) no_
 told_text (granted rel) = text_of (object (member (codes "granted") (string rel) no_members))
 told_text (made role line) = made_text role line
 told_text alive = text_of (object (member (codes "alive") (boolean true) no_members))
+told_text (placed at) = text_of (object (member (codes "at") (string at) (member (codes "names") (natural most_names) no_members)))
+told_text (answered id again at answer) = answered_text id again at answer
+told_text (undecided id number) = text_of (with_id id (member (codes "undecided") (natural number) no_members))
+told_text (denied id number) = text_of (with_id id (member (codes "error") (natural number) no_members))

@@ -1,6 +1,6 @@
 //! Laws of what clients say and are told, and cases worked out.
 //! Each is the contract of a function that does nothing.
-ghost use Rattle.std.specs.Prelude.{◌≡◌, ◌≤◌, ◌<◌, ℕ, List, length, ◌∷◌, [], codes, pos, Some, None};
+ghost use Rattle.std.specs.Prelude.{◌≡◌, ◌≤◌, ◌<◌, ℕ, List, length, ◌∷◌, [], codes, false, pos, true, Some, None};
 ghost use Rattle.iv_machine.specs.Act as machine;
 ghost use Rattle.iv_machine.specs.declared.Cause.TheVariants as cause;
 ghost use Rattle.serde_json.specs.Data.{string};
@@ -8,7 +8,7 @@ ghost use Rattle.iv_request.specs.Worked.{notes, notes_columns, first_row};
 ghost use Rattle.iv_message.specs.Lines.{IsLine};
 ghost use Rattle.iv_message.specs.Meaning.{OneMeaning, ValuesDecide};
 ghost use Rattle.iv_message.specs.Message.{message_of, on_one_line, no_json, too_long, no_object, no_request, request, missing, unknown, wrong};
-ghost use Rattle.iv_message.specs.Told.{Told, told_text, welcome, replied, opened, fault, unasked, changed, over, settled, granted, made, alive};
+ghost use Rattle.iv_message.specs.Told.{Told, told_text, welcome, replied, opened, fault, unasked, changed, over, settled, granted, made, alive, placed, answered, undecided, denied};
 ghost use Rattle.iv_message.specs.Worked.{Asks, IsUnasked, mia_made, notes_opened, second_wrong, seven, subscribe_text, third_wrong, using_of_insert};
 
 /// There is one meaning of requests: a client asks what viewd reads of its object in a session, and is told a reason exactly if
@@ -70,4 +70,9 @@ pub fn lines_are_told()
     ensures granted { told_text (granted notes) ≡ codes "{\"granted\":\"notes\"}\n" }
     ensures made { told_text (made (codes "admin") (codes "{\"do\":\"create_role\", \"name\":\"mia\"}")) ≡ mia_made }
     ensures alive { told_text alive ≡ codes "{\"alive\":true}\n" }
+    ensures placed { told_text (placed (codes "E.17")) ≡ codes "{\"at\":\"E.17\",\"names\":64}\n" }
+    ensures answered { told_text (answered seven false (codes "E.18") (codes "{\"ok\":true}")) ≡ codes "{\"answer\":{\"ok\":true},\"at\":\"E.18\",\"id\":7}\n" }
+    ensures again { told_text (answered None true (codes "E.18") (codes "{\"ok\":true}")) ≡ codes "{\"again\":true,\"answer\":{\"ok\":true},\"at\":\"E.18\"}\n" }
+    ensures undecided { told_text (undecided seven 102) ≡ codes "{\"id\":7,\"undecided\":102}\n" }
+    ensures denied { told_text (denied None 100) ≡ codes "{\"error\":100}\n" }
 {}

@@ -1,4 +1,4 @@
-//! `put_id`, `put_reply`, `put_why`, `put_opened`: the JSON members of what a client is told.
+//! `id_json`, `put_id`, `put_reply`, `put_why`, `put_opened`: the JSON members of what a client is told.
 ghost use Rattle.std.specs.Prelude.{◌≡◌, ◌++◌, [], ◌∷◌, IfOk, OnOk, map, option_map, string_bytes};
 ghost use Rattle.serde_json.specs.Data.{object, array, string, item, no_items, no_members, put as with_member};
 ghost use Rattle.serde_json.specs.View.{items_of, members_view, view};
@@ -16,7 +16,7 @@ use serde_json::{Map, Value as Json, put};
 use std::alloc::{AllocError, Global};
 
 /// The JSON value of an id.
-fn id_json(alloc: Global, id: &Id) -> Result<Json, AllocError>
+pub fn id_json(alloc: Global, id: &Id) -> Result<Json, AllocError>
     ensures { IfOk result (λ value. view value ≡ id_data id.now) }
 {
     match id {

@@ -2,7 +2,7 @@
 //!
 //! Changes are most of what is told: their lines are put together here, and the text of their rows is copied; so is the text of a
 //! request. The others are written by `serde_json`.
-ghost use Rattle.std.specs.Prelude.{◌≡◌, ◌++◌, ℤ, List, false, IfOk, OnOk, option_map, string_bytes};
+ghost use Rattle.std.specs.Prelude.{◌≡◌, ◌++◌, ℤ, List, false, IfOk, OnOk, codes, option_map, string_bytes};
 ghost use Rattle.serde_json.specs.Data.{object, string, member, no_members};
 ghost use Rattle.serde_json.specs.View.{members_view};
 ghost use Rattle.serde_json.specs.Written.{compact_text, has_float};
@@ -13,17 +13,21 @@ ghost use Rattle.iv_lines.specs.Texts.{reply_members, text_of};
 ghost use Rattle.iv_message.specs.Parts.{cause_key, own_text};
 ghost use Rattle.iv_message.specs.Seen.{id_data, why_of};
 ghost use Rattle.iv_message.specs.Told as told;
-ghost use Rattle.iv_message.specs.Told.{opened_members, told_text, why_members, with_id};
+ghost use Rattle.iv_request.specs.Values.{natural};
+ghost use Rattle.iv_message.specs.Told.{again_text, id_text, most_names, opened_members, told_text, why_members, with_id};
 
-use crate::members::{put_id, put_opened, put_reply, put_why};
+use crate::members::{id_json, put_id, put_opened, put_reply, put_why};
 use crate::message::{Id, Why};
 use crate::reading::on_one_line;
 use itoa::Buffer;
 use iv_command::{Cause, Reply};
-use iv_lines::{put_text, text_of, write_fault};
+use iv_lines::{put_number, put_text, text_of, write_fault};
 use iv_rows::Column;
 use serde_json::{Map, Value as Json};
 use std::alloc::{AllocError, Global};
+
+/// How many names of each holder are kept.
+pub const MOST_NAMES: u64 = 64;
 
 /// Appends the text of a JSON object with these members, as a line.
 fn push_members(
@@ -201,7 +205,7 @@ pub fn push_changed(text: &mut Vec<u8>, own: u64, rows: &[u8]) -> Result<(), All
 }
 
 /// The JSON text of a text.
-fn quoted(alloc: Global, value: &str) -> Result<String, AllocError>
+pub fn quoted(alloc: Global, value: &str) -> Result<String, AllocError>
     ensures { IfOk result (λ text. string_bytes text ≡ compact_text (string value.now)) }
 {
     let value = Json::try_from_str(alloc, value)?;
@@ -266,6 +270,147 @@ pub fn push_made(
     text.extend_from_slice(&request)?;
     text.extend_from_slice(b"}\n")?;
     Ok(())
+}
+
+/// The members of where names stand.
+fn put_placed(alloc: Global, members: &mut Map<String, Json>, at: &str) -> Result<(), AllocError>
+    requires { members_view members.old.entries ≡ no_members }
+    ensures { OnOk result (members_view members.new.entries ≡ member (codes "at") (string at.now) (member (codes "names") (natural most_names) no_members)) }
+{
+    put_text(alloc, members, "at", at)?;
+    put_number(alloc, members, "names", MOST_NAMES)
+}
+
+/// Appends where the names of the client's holder stand, and how many of them are kept.
+pub fn push_placed(alloc: Global, text: &mut Vec<u8>, at: &str) -> Result<(), AllocError>
+    ensures { OnOk result (text.new.items ≡ text.old.items ++ told_text (told.placed at.now)) }
+{
+    let mut members = Map::new(alloc);
+    match put_placed(alloc, &mut members, at) {
+        Ok(()) => push_members(alloc, text, members),
+        Err(error) => {
+            drop(members);
+            Err(error)
+        }
+    }
+}
+
+/// What an answer to a request with a name begins with.
+fn again_text(again: bool) -> &'static [u8]
+    ensures { result.now ≡ again_text again }
+{
+    if again {
+        b"{\"again\":true,\"answer\":"
+    } else {
+        b"{\"answer\":"
+    }
+}
+
+/// The JSON text of an id.
+fn id_written(alloc: Global, id: &Id) -> Result<String, AllocError>
+    ensures { IfOk result (λ text. string_bytes text ≡ compact_text (id_data id.now)) }
+{
+    let value = id_json(alloc, id)?;
+    let text = value.to_string(alloc);
+    drop(value);
+    text
+}
+
+/// Appends the id that the client gave, where it gave one.
+fn push_id(alloc: Global, text: &mut Vec<u8>, id: &Option<Id>) -> Result<(), AllocError>
+    ensures { OnOk result (text.new.items ≡ text.old.items ++ id_text (option_map id_data id.now)) }
+{
+    match id {
+        None => Ok(()),
+        Some(id) => {
+            let written = id_written(alloc, id)?;
+            text.extend_from_slice(b",\"id\":")?;
+            text.extend_from_slice(written.as_bytes())?;
+            Ok(())
+        }
+    }
+}
+
+/// Appends the answer to a request with a name, as it was first given, whether it is told again, and where the names of the client's holder
+/// stand behind it.
+pub fn push_answered(
+    alloc: Global,
+    text: &mut Vec<u8>,
+    id: &Option<Id>,
+    again: bool,
+    at: &str,
+    answer: &[u8],
+) -> Result<(), AllocError>
+    ensures { OnOk result (text.new.items ≡ text.old.items ++ told_text (told.answered (option_map id_data id.now) again at.now answer.now)) }
+{
+    let answer = on_one_line(alloc, answer)?;
+    let at = quoted(alloc, at)?;
+    text.extend_from_slice(again_text(again))?;
+    text.extend_from_slice(&answer)?;
+    text.extend_from_slice(b",\"at\":")?;
+    text.extend_from_slice(at.as_bytes())?;
+    push_id(alloc, text, id)?;
+    text.extend_from_slice(b"}\n")?;
+    Ok(())
+}
+
+/// The members of a number under a key, with the id.
+fn put_numbered(
+    alloc: Global,
+    members: &mut Map<String, Json>,
+    key: &str,
+    id: &Option<Id>,
+    number: u64,
+) -> Result<(), AllocError>
+    requires { members_view members.old.entries ≡ no_members }
+    ensures { OnOk result (object (members_view members.new.entries) ≡ with_id (option_map id_data id.now) (member key.now (natural number) no_members)) }
+{
+    put_number(alloc, members, key, number)?;
+    put_id(alloc, members, id)
+}
+
+/// Appends a number under a key, with the id.
+fn push_numbered(
+    alloc: Global,
+    text: &mut Vec<u8>,
+    key: &str,
+    id: &Option<Id>,
+    number: u64,
+) -> Result<(), AllocError>
+    ensures { OnOk result (text.new.items ≡ text.old.items ++ text_of (with_id (option_map id_data id.now) (member key.now (natural number) no_members))) }
+{
+    let mut members = Map::new(alloc);
+    match put_numbered(alloc, &mut members, key, id, number) {
+        Ok(()) => push_members(alloc, text, members),
+        Err(error) => {
+            drop(members);
+            Err(error)
+        }
+    }
+}
+
+/// Appends by which rule nobody says whether a request with a name was done: 100 to 104.
+pub fn push_undecided(
+    alloc: Global,
+    text: &mut Vec<u8>,
+    id: &Option<Id>,
+    number: u64,
+) -> Result<(), AllocError>
+    ensures { OnOk result (text.new.items ≡ text.old.items ++ told_text (told.undecided (option_map id_data id.now) number)) }
+{
+    push_numbered(alloc, text, "undecided", id, number)
+}
+
+/// Appends by which rule of the gateway a request was not done.
+pub fn push_denied(
+    alloc: Global,
+    text: &mut Vec<u8>,
+    id: &Option<Id>,
+    number: u64,
+) -> Result<(), AllocError>
+    ensures { OnOk result (text.new.items ≡ text.old.items ++ told_text (told.denied (option_map id_data id.now) number)) }
+{
+    push_numbered(alloc, text, "error", id, number)
 }
 
 /// Appends that all lines of a command are told.

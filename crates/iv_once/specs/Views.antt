@@ -10,7 +10,7 @@ use Rattle.iv_once.specs.declared.names.Names.{Names}
 
 abbrev pub verdict_of : Verdict → spec.Verdict
 verdict_of Carry = spec.carry
-verdict_of (Again answer) = spec.again (string_bytes answer)
+verdict_of (Again answer) = spec.again answer.items
 verdict_of Another = spec.another
 verdict_of Late = spec.late
 verdict_of Foreign = spec.foreign

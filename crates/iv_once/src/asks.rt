@@ -53,17 +53,16 @@ pub struct Named {
     pub ask: Ask,
     /// Whether the machine refused it.
     pub refused: bool,
-    /// What the machine answered.
-    pub answer: String,
+    /// What the machine answered, as bytes.
+    pub answer: Vec<u8>,
 }
 
 impl Model for Named {
-    ghost use Rattle.std.specs.Prelude.{string_bytes};
     ghost use Rattle.iv_once.specs.Names.{Named};
 
     ghost Value = { Named };
 
-    ghost view = { λ e. record { ask = e.ask; refused = e.refused; answer = string_bytes e.answer } };
+    ghost view = { λ e. record { ask = e.ask; refused = e.refused; answer = e.answer.items } };
 }
 
 /// What becomes of a request with a name. After all but the first two it is undecided whether the request was ever carried out.
@@ -72,7 +71,7 @@ pub enum Verdict {
     /// The machine is asked, and the entry joins the journal with its answer.
     Carry,
     /// It is told the first answer again.
-    Again(String),
+    Again(Vec<u8>),
     /// 101: its name is that of another request.
     Another,
     /// 102, final: more entries of its holder are after its place than are kept.
@@ -99,7 +98,9 @@ impl Named {
         ensures { IfOk result (λ v. verdict_of v ≡ by_entry ask.now self.now) }
     {
         if self.ask.at.is(&ask.at) && self.ask.digest == ask.digest {
-            Ok(Verdict::Again(String::from_str(alloc, &self.answer)?))
+            let mut answer = Vec::new(alloc);
+            answer.extend_from_slice(&self.answer)?;
+            Ok(Verdict::Again(answer))
         } else {
             Ok(Verdict::Another)
         }

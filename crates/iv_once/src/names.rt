@@ -1,6 +1,6 @@
 //! `Names`: what is kept of requests with names, and what becomes of one more; `Limits`, what bounds them, and the usual `LIMITS`.
-ghost use Rattle.std.specs.Prelude.{◌≡◌, ◌+◌, ◌||◌, ◌&&◌, ℕ, List, [], IfOk, OnOk, IfNone, IfSome, Option, None, Some, nat_lt, option_map, slice_get};
-ghost use Rattle.iv_once.specs.Names.{begun, by_found, by_place, find_named, is_over, named, own_of, pushed, renewed, verdict, with_own};
+ghost use Rattle.std.specs.Prelude.{◌≡◌, ◌+◌, ◌||◌, ◌&&◌, ℕ, List, [], IfOk, OnOk, IfNone, IfSome, Option, None, Some, nat_le, nat_lt, not, option_map, slice_get};
+ghost use Rattle.iv_once.specs.Names.{begun, by_found, by_place, find_named, is_new, is_over, named, own_of, pushed, renewed, verdict, with_own};
 ghost use Rattle.iv_once.specs.Runs.{nothing_known, unspent};
 ghost use Rattle.iv_once.specs.Views.{limits_of, names_of, verdict_of};
 
@@ -155,6 +155,25 @@ impl Names {
                 Ok(verdict)
             }
         }
+    }
+
+    /// Whether a name that comes with its answer, from elsewhere, has none here yet.
+    pub fn is_new(&self, ask: &Ask) -> bool
+        ensures { result ≡ is_new (names_of self.now).limits (names_of self.now).known ask.now }
+    {
+        match self.owns.get(ask.holder.as_str()) {
+            Some(own) => self.is_new_to(own.find(&ask.name).is_some(), own.count, ask),
+            None => self.is_new_to(false, 0, ask),
+        }
+    }
+
+    /// Whether a name has no answer yet, of a holder with as many entries.
+    fn is_new_to(&self, is_found: bool, count: u64, ask: &Ask) -> bool
+        ensures { result ≡ (not is_found && (nat_le ask.now.at.count count && nat_le count (ask.now.at.count + (names_of self.now).limits.names))) }
+    {
+        !is_found
+            && ask.at.count <= count
+            && count.saturating_sub(ask.at.count) <= self.limits.names as u64
     }
 
     /// The entry of a request with a name joins the journal, or is read from it.

@@ -62,10 +62,10 @@ of_web secret now w is h =
     let t : (nat_le w.since now ≡ true) × (nat_lt now w.until ≡ true) = both (nat_le w.since now) (nat_lt now w.until) h in
     record {
       text = is.text;
-      granted = record { role = w.token.role; subject = w.subject; expires = w.until };
+      granted = record { role = w.token.role; subject = w.token.user; expires = w.until };
       digest = is.digest;
       role = refl;
-      is = granted_on secret is.text w.since now (record { role = w.token.role; subject = w.subject; expires = w.until }) is.granted
+      is = granted_on secret is.text w.since now (record { role = w.token.role; subject = w.token.user; expires = w.until }) is.granted
           (since_is w.since now t.0) (until_is now w.until t.1);
     }
 

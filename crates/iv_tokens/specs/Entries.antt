@@ -5,10 +5,9 @@ use Rattle.std.specs.Str.{is_utf8}
 use Rattle.iv_clients.specs.Tokens.{Token, are_apart, behind, cut_at, is_no_token, lines_of, tokens_in}
 use Rattle.iv_tokens.specs.Moments.{moment_in}
 
--- a token, who holds it, and the second at which it ends, if these are said
+-- a token, and the second at which it ends, if that is said
 pub record Entry : Type 0 where
   pub token : Token
-  pub holder : Option (List ℕ)
   pub until : Option ℕ
 
 -- ---- a line: `"DIGEST" = "role"`, or `"DIGEST" = { role = "role", holder = "name", until = "moment" }`; holder and end may be left out
@@ -67,10 +66,10 @@ is_plain b = nat_le 32 b && (not (b == 127) && not (b == 92))
 abbrev pub is_holder : List ℕ → Bool
 is_holder name = is_utf8 name && (list_all is_plain name && (nat_lt 0 (length name) && nat_le (length name) 64))
 
--- nothing if it is left out
-abbrev pub holder_in : Option (List ℕ) → Option (Option (List ℕ))
-holder_in None = Some None
-holder_in (Some name) = if is_holder name then Some (Some name) else None
+-- no text if it is left out
+abbrev pub holder_in : Option (List ℕ) → Option (List ℕ)
+holder_in None = Some []
+holder_in (Some name) = if is_holder name then Some name else None
 
 abbrev pub end_in : Option (List ℕ) → Option (Option ℕ)
 end_in None = Some None
@@ -78,11 +77,11 @@ end_in (Some text) = option_map Some (moment_in text)
 
 abbrev pub entry_of : Parts → Option Entry
 entry_of p =
-    option_and_then (λ h. option_and_then (λ u. option_map (λ t. record { token = t; holder = h; until = u }) (token_of (plain_line p.digits p.role)))
+    option_and_then (λ h. option_and_then (λ u. option_map (λ t. record { token = record t { user = h }; until = u }) (token_of (plain_line p.digits p.role)))
     (end_in p.until)) (holder_in p.holder)
 
 abbrev pub plain_entry : Token → Entry
-plain_entry t = record { token = t; holder = None; until = None }
+plain_entry t = record { token = t; until = None }
 
 abbrev pub or_entry : Option Token → Option Entry → Option Entry
 or_entry None e = e
@@ -119,9 +118,13 @@ is_valid now e = ends_after now e.until
 abbrev pub valid_at : (now : ℕ) → List Entry → List Token
 valid_at now es = tokens_among (filter (is_valid now) es)
 
+-- a holder, if one is said
+abbrev pub said : List ℕ → Option (List ℕ)
+said holder = if length holder == 0 then None else Some holder
+
 -- who holds the token of a digest
 abbrev pub holder_of : (digest : List ℕ) → List Entry → Option (List ℕ)
-holder_of digest es = option_and_then (λ e. e.holder) (find (λ e. bytes_eq e.token.digest digest) es)
+holder_of digest es = option_and_then (λ e. said e.token.user) (find (λ e. bytes_eq e.token.digest digest) es)
 
 -- ---- in other words
 

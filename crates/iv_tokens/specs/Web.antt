@@ -9,10 +9,9 @@ use Rattle.iv_tokens.specs.declared.web.Judged.{Judged}
 use Rattle.iv_tokens.specs.declared.web.Judged.TheVariants as answer
 use Rattle.iv_tokens.specs.Entries.{Entry, IsOfEntry, holder_of, tokens_among, valid_at}
 
--- the token that was granted, whom it speaks of, the second at which it was presented, and that at which it ends
+-- the token that was granted, held by whom it speaks of, the second at which it was presented, and that at which it ends
 pub record Web : Type 0 where
   pub token : Token
-  pub subject : List ℕ
   pub since : ℕ
   pub until : ℕ
 
@@ -20,7 +19,7 @@ pub record Web : Type 0 where
 pub record IsWeb (secret : List ℕ) (w : Web) : Type 0 where
   pub text : List ℕ
   pub digest : w.token.digest ≡ sha256 text
-  pub granted : IsGranted secret w.since text (record { role = w.token.role; subject = w.subject; expires = w.until })
+  pub granted : IsGranted secret w.since text (record { role = w.token.role; subject = w.token.user; expires = w.until })
 
 abbrev pub AreWeb : (secret : List ℕ) → List Web → Type 0
 AreWeb secret [] = Unit
@@ -68,10 +67,10 @@ is_among digest es ws = has_digest digest (tokens_among es) || has_digest digest
 
 -- web tokens that are known at a time: 1,024, and of one subject 16
 abbrev pub is_full : (subject : List ℕ) → List Web → Bool
-is_full subject ws = nat_le 1024 (length ws) || nat_le 16 (count_by (λ w. bytes_eq w.subject subject) ws)
+is_full subject ws = nat_le 1024 (length ws) || nat_le 16 (count_by (λ w. bytes_eq w.token.user subject) ws)
 
 abbrev pub web_of : (now : ℕ) (digest : List ℕ) → Granted → Web
-web_of now digest g = record { token = record { digest = digest; role = g.role }; subject = g.subject; since = now; until = g.expires }
+web_of now digest g = record { token = record { digest = digest; role = g.role; user = g.subject }; since = now; until = g.expires }
 
 abbrev pub answer_of : List Web → (now : ℕ) (digest : List ℕ) → Result Granted Fault → Result Web Judged
 answer_of ws now digest (Err why) = Err (answer.Refused why)
@@ -107,7 +106,7 @@ without_web at k = record k { web = remove k.web at; handed = None }
 
 abbrev pub or_subject : Option (List ℕ) → Option Web → Option (List ℕ)
 or_subject (Some holder) w = Some holder
-or_subject None w = option_map (λ v. v.subject) w
+or_subject None w = option_map (λ v. v.token.user) w
 
 -- who holds the token of a digest: the holder of an entry, or else the subject of a web token
 abbrev pub holder_with : List ℕ → Known → Option (List ℕ)

@@ -10,24 +10,21 @@ use iv_clients::{Token, TokensFault, behind, cut_at, read_tokens};
 use std::alloc::{AllocError, Global};
 use std::marker::Model;
 
-/// A token, who holds it, and when it ends.
+/// A token, and when it ends.
 #[derive(Drop)]
 pub struct Entry {
-    /// The token.
+    /// The token. Who holds it has 1 to 64 bytes, if that is said.
     pub token: Token,
-    /// Who holds it, in 1 to 64 bytes, if that is said.
-    pub holder: Option<String>,
     /// When it ends, in seconds since 1970, if it does.
     pub until: Option<u64>,
 }
 
 impl Model for Entry {
-    ghost use Rattle.std.specs.Prelude.{option_map, string_bytes};
     ghost use Rattle.iv_tokens.specs.Entries.{Entry};
 
     ghost Value = { Entry };
 
-    ghost view = { λ e. record { token = e.token; holder = option_map string_bytes e.holder; until = e.until } };
+    ghost view = { λ e. record { token = e.token; until = e.until } };
 }
 
 /// The parts of a line that may say a holder and an end.
@@ -152,15 +149,15 @@ fn name_in(name: &[u8]) -> Option<&str>
 }
 
 /// The holder that a line says, if it says one; none if what it says is no name.
-fn holder_in(alloc: Global, name: Option<&[u8]>) -> Result<Option<Option<String>>, AllocError>
-    ensures { IfOk result (λ o. option_map (option_map string_bytes) o ≡ holder_in (option_map (λ t. t.now) name.entry)) }
+fn holder_in(alloc: Global, name: Option<&[u8]>) -> Result<Option<String>, AllocError>
+    ensures { IfOk result (λ o. option_map string_bytes o ≡ holder_in (option_map (λ t. t.now) name.entry)) }
 {
     let Some(name) = name else {
-        return Ok(Some(None));
+        return Ok(Some(String::new(alloc)));
     };
     match name_in(name) {
         None => Ok(None),
-        Some(name) => Ok(Some(Some(String::from_str(alloc, name)?))),
+        Some(name) => Ok(Some(String::from_str(alloc, name)?)),
     }
 }
 
@@ -191,8 +188,11 @@ fn entry_of(alloc: Global, parts: &Parts<'_>) -> Result<Option<Entry>, AllocErro
     match token_of(alloc, &line)? {
         None => Ok(None),
         Some(token) => Ok(Some(Entry {
-            token,
-            holder,
+            token: Token {
+                digest: token.digest,
+                role: token.role,
+                user: holder,
+            },
             until,
         })),
     }
@@ -203,11 +203,7 @@ fn entry_in(alloc: Global, line: &[u8]) -> Result<Option<Entry>, AllocError>
     ensures { IfOk result (λ o. o ≡ entry_in line.now) }
 {
     if let Some(token) = token_of(alloc, line)? {
-        return Ok(Some(Entry {
-            token,
-            holder: None,
-            until: None,
-        }));
+        return Ok(Some(Entry { token, until: None }));
     }
     match parts_in(line) {
         None => Ok(None),

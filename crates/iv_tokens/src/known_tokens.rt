@@ -45,7 +45,8 @@ pub fn copied(alloc: Global, token: &Token) -> Result<Token, AllocError>
     let mut digest = Vec::new(alloc);
     digest.extend_from_slice(&token.digest)?;
     let role = String::from_str(alloc, token.role.as_str())?;
-    Ok(Token { digest, role })
+    let user = String::from_str(alloc, token.user.as_str())?;
+    Ok(Token { digest, role, user })
 }
 
 /// Whether an entry is valid at a second.
@@ -139,9 +140,11 @@ fn entry_of<'a>(entries: &'a [Entry], digest: &[u8]) -> Option<&'a Entry>
 fn holder_of<'a>(entries: &'a [Entry], digest: &[u8]) -> Option<&'a str>
     ensures { option_map (λ t. t.now) result ≡ holder_of digest.now entries.now }
 {
-    match &entry_of(entries, digest)?.holder {
-        None => None,
-        Some(holder) => Some(holder.as_str()),
+    let entry = entry_of(entries, digest)?;
+    if entry.token.user.is_empty() {
+        None
+    } else {
+        Some(entry.token.user.as_str())
     }
 }
 
@@ -182,8 +185,8 @@ fn web_for(web: &[Web], now: u64, digest: Vec<u8>, claims: Claims) -> Result<Web
         token: Token {
             digest,
             role: claims.role,
+            user: claims.subject,
         },
-        subject: claims.subject,
         since: now,
         until: claims.expires,
     })
@@ -315,7 +318,7 @@ impl KnownTokens {
         }
         match web_of(&self.web, digest) {
             None => None,
-            Some(one) => Some(one.subject.as_str()),
+            Some(one) => Some(one.token.user.as_str()),
         }
     }
 }

@@ -16,10 +16,8 @@ const MOST_OF_SUBJECT: usize = 16;
 /// A web token that was granted.
 #[derive(Drop)]
 pub struct Web {
-    /// Its digest, and the role that it opens.
+    /// Its digest, the role that it opens, and whom it speaks of.
     pub token: Token,
-    /// Whom it speaks of.
-    pub subject: String,
     /// The second at which it was presented.
     pub since: u64,
     /// The second at which it ends.
@@ -27,12 +25,11 @@ pub struct Web {
 }
 
 impl Model for Web {
-    ghost use Rattle.std.specs.Prelude.{string_bytes};
     ghost use Rattle.iv_tokens.specs.Web.{Web};
 
     ghost Value = { Web };
 
-    ghost view = { λ w. record { token = w.token; subject = string_bytes w.subject; since = w.since; until = w.until } };
+    ghost view = { λ w. record { token = w.token; since = w.since; until = w.until } };
 }
 
 /// What becomes of a text that is presented.
@@ -79,10 +76,10 @@ pub fn has_web(web: &[Web], digest: &[u8]) -> bool
 
 /// How many are of a subject.
 fn count_of(web: &[Web], subject: &[u8]) -> usize
-    ensures { result ≡ count_by (λ w. bytes_eq w.subject subject.now) web.now }
+    ensures { result ≡ count_by (λ w. bytes_eq w.token.user subject.now) web.now }
 {
     web.iter()
-        .filter(|one| one.subject.as_bytes() == subject)
+        .filter(|one| one.token.user.as_bytes() == subject)
         .count()
 }
 

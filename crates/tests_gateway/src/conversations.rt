@@ -11,6 +11,7 @@ const SHARED: &str = r#"> come 0 admin
 > say 0 {"id":1,"do":"grant","on":"notes","privileges":["select","insert"],"to":"mia"}
 > sync
 0 {"role":"admin"}
+0 {"at":"0123456789abcdef0123456789abcdef.0","names":64}
 0 {"settled":true}
 0 {"ok":true}
 0 {"as":"admin","made":{"do":"create_role","name":"mia"}}
@@ -35,12 +36,14 @@ const SHARED: &str = r#"> come 0 admin
 0 {"ok":true}
 0 {"settled":true}
 1 {"role":"mia"}
+1 {"at":"0123456789abcdef0123456789abcdef.0","names":64}
 1 {"settled":true}
 1 {"columns":[["id","int"],["who","text"]],"id":7,"ok":true,"sub":1}
 1 {"settled":true}
 1 {"changes":[[1,[1,"ann"]]],"sub":1}
 1 {"settled":true}
 2 {"role":"mia"}
+2 {"at":"0123456789abcdef0123456789abcdef.0","names":64}
 2 {"settled":true}
 2 {"columns":[["id","int"],["who","text"]],"id":"b","ok":true,"sub":1}
 2 {"changes":[[1,[1,"ann"]]],"sub":1}
@@ -75,6 +78,7 @@ const SHARED: &str = r#"> come 0 admin
 > say 1 {"do":"subscribe","on":"notes"}
 > sync
 1 {"role":"mia"}
+1 {"at":"0123456789abcdef0123456789abcdef.0","names":64}
 1 {"settled":true}
 1 {"columns":[["id","int"],["who","text"]],"ok":true,"sub":1}
 1 {"changes":[[1,[1,"ann"]],[1,[2,"mia"]],[1,[3,"bob"]]],"sub":1}
@@ -90,6 +94,7 @@ const REFUSED: &str = r#"> come 0 admin
 > come 1 mia
 > sync
 0 {"role":"admin"}
+0 {"at":"0123456789abcdef0123456789abcdef.0","names":64}
 0 {"settled":true}
 0 {"ok":true}
 0 {"as":"admin","made":{"do":"create_role","name":"mia"}}
@@ -102,6 +107,7 @@ const REFUSED: &str = r#"> come 0 admin
 0 {"as":"admin","made":{"do":"grant","on":"notes","privileges":["insert"],"to":"mia"}}
 0 {"settled":true}
 1 {"role":"mia"}
+1 {"at":"0123456789abcdef0123456789abcdef.0","names":64}
 1 {"settled":true}
 > say 1 nonsense
 > say 1 [7]
@@ -150,10 +156,10 @@ const REFUSED: &str = r#"> come 0 admin
 1 {"id":-1,"ok":true}
 1 {"settled":true}
 > journal
-| {"as":"admin","do":"create_role","name":"mia"}
-| {"as":"admin","do":"create_table","name":"notes","owner":"admin","columns":[["id","int"],["who","text"]]}
-| {"as":"admin","do":"grant","on":"notes","privileges":["insert"],"to":"mia"}
-| {"as":"mia","do":"write","entries":[{"on":"notes","insert":[1,"ann"]}]}
+| "as":"admin","do":"create_role","name":"mia"}
+| "as":"admin","do":"create_table","name":"notes","owner":"admin","columns":[["id","int"],["who","text"]]}
+| "as":"admin","do":"grant","on":"notes","privileges":["insert"],"to":"mia"}
+| "as":"mia","do":"write","entries":[{"on":"notes","insert":[1,"ann"]}]}
 "#;
 
 /// A revoke ends what all clients of the role follow, and what no other role follows. Who has something granted is told so.
@@ -171,6 +177,7 @@ const GRANTED: &str = r#"> come 0 admin
 > say 3 {"do":"subscribe","on":"notes"}
 > sync
 0 {"role":"admin"}
+0 {"at":"0123456789abcdef0123456789abcdef.0","names":64}
 0 {"settled":true}
 0 {"ok":true}
 0 {"as":"admin","made":{"do":"create_role","name":"mia"}}
@@ -185,6 +192,7 @@ const GRANTED: &str = r#"> come 0 admin
 0 {"as":"leo","made":{"do":"grant","on":"notes","privileges":["select"],"to":"mia"}}
 0 {"settled":true}
 1 {"role":"mia"}
+1 {"at":"0123456789abcdef0123456789abcdef.0","names":64}
 1 {"settled":true}
 1 {"granted":"notes"}
 1 {"settled":true}
@@ -192,6 +200,7 @@ const GRANTED: &str = r#"> come 0 admin
 1 {"changes":[[1,[1]]],"sub":1}
 1 {"settled":true}
 2 {"role":"mia"}
+2 {"at":"0123456789abcdef0123456789abcdef.0","names":64}
 2 {"settled":true}
 2 {"granted":"notes"}
 2 {"settled":true}
@@ -199,6 +208,7 @@ const GRANTED: &str = r#"> come 0 admin
 2 {"changes":[[1,[1]]],"sub":1}
 2 {"settled":true}
 3 {"role":"leo"}
+3 {"at":"0123456789abcdef0123456789abcdef.0","names":64}
 3 {"settled":true}
 3 {"granted":"notes"}
 3 {"settled":true}
@@ -246,6 +256,7 @@ const TOKENS: &str = r#"> come 0 admin
 > say 0 {"do":"create_role","name":"mia"}
 > sync
 0 {"role":"admin"}
+0 {"at":"0123456789abcdef0123456789abcdef.0","names":64}
 0 {"settled":true}
 0 {"ok":true}
 0 {"as":"admin","made":{"do":"create_role","name":"mia"}}
@@ -263,11 +274,11 @@ const TOKENS: &str = r#"> come 0 admin
 > come 1 mia
 > sync
 1 {"role":"mia"}
+1 {"at":"0123456789abcdef0123456789abcdef.0","names":64}
 1 {"settled":true}
 "#;
 
-/// A journal leads another gateway to the same contents. A torn last entry is cut, and the journal goes on where it was cut. viewd takes
-/// the same entries as lines of its own.
+/// A journal leads another gateway to the same contents. What was not synced is not there. viewd takes the same entries as lines of its own.
 const RESTORED: &str = r#"> come 0 admin
 > say 0 {"do":"create_role","name":"mia"}
 > say 0 {"do":"create_table","name":"notes","owner":"mia","columns":[["id","int"]]}
@@ -278,6 +289,7 @@ const RESTORED: &str = r#"> come 0 admin
 > say 1 {"do":"subscribe","on":"notes"}
 > sync
 0 {"role":"admin"}
+0 {"at":"0123456789abcdef0123456789abcdef.0","names":64}
 0 {"settled":true}
 0 {"ok":true}
 0 {"as":"admin","made":{"do":"create_role","name":"mia"}}
@@ -287,6 +299,7 @@ const RESTORED: &str = r#"> come 0 admin
 0 {"as":"admin","made":{"do":"create_table","name":"notes","owner":"mia","columns":[["id","int"]]}}
 0 {"settled":true}
 1 {"role":"mia"}
+1 {"at":"0123456789abcdef0123456789abcdef.0","names":64}
 1 {"settled":true}
 1 {"ok":true}
 1 {"settled":true}
@@ -298,14 +311,14 @@ const RESTORED: &str = r#"> come 0 admin
 1 {"changes":[[1,[2]]],"sub":1}
 1 {"settled":true}
 > say 1 {"do":"write","entries":[{"on":"notes","insert":[7]}]}
-> tear {"as":"mia","do":"wri
 > restart
-restored to 296
+restored to 4
 > come 1 mia
 > say 1 {"do":"subscribe","on":"notes"}
 > say 1 {"do":"write","entries":[{"on":"notes","insert":[3]}]}
 > sync
 1 {"role":"mia"}
+1 {"at":"0123456789abcdef0123456789abcdef.0","names":64}
 1 {"settled":true}
 1 {"columns":[["id","int"]],"ok":true,"sub":1}
 1 {"changes":[[1,[2]]],"sub":1}
@@ -314,13 +327,13 @@ restored to 296
 1 {"changes":[[1,[3]]],"sub":1}
 1 {"settled":true}
 > journal
-| {"as":"admin","do":"create_role","name":"mia"}
-| {"as":"admin","do":"create_table","name":"notes","owner":"mia","columns":[["id","int"]]}
-| {"as":"mia","do":"write","entries":[{"on":"notes","insert":[1]},{"on":"notes","insert":[2]}]}
-| {"as":"mia","do":"write","entries":[{"on":"notes","delete":[1]}]}
-| {"as":"mia","do":"write","entries":[{"on":"notes","insert":[3]}]}
+| "as":"admin","do":"create_role","name":"mia"}
+| "as":"admin","do":"create_table","name":"notes","owner":"mia","columns":[["id","int"]]}
+| "as":"mia","do":"write","entries":[{"on":"notes","insert":[1]},{"on":"notes","insert":[2]}]}
+| "as":"mia","do":"write","entries":[{"on":"notes","delete":[1]}]}
+| "as":"mia","do":"write","entries":[{"on":"notes","insert":[3]}]}
 > restart
-restored to 362
+restored to 5
 > viewd notes
 viewd {"ok":true,"session":1}
 viewd {"ok":true,"session":1}
@@ -339,6 +352,7 @@ viewd {"changes":[[1,[2]],[1,[3]]],"session":100,"sub":1}
 > say 0 {"do":"subscribe","on":"notes"}
 > sync
 0 {"role":"admin"}
+0 {"at":"0123456789abcdef0123456789abcdef.0","names":64}
 0 {"as":"admin","made":{"do":"create_role","name":"mia"}}
 0 {"as":"admin","made":{"do":"create_table","name":"notes","owner":"mia","columns":[["id","int"]]}}
 0 {"settled":true}
@@ -361,6 +375,7 @@ const SHAPE: &str = r#"> come 0 admin
 > say 2 {"id":5,"do":"create_policy","on":"notes","name":"few","using":"id < 7"}
 > sync
 0 {"role":"admin"}
+0 {"at":"0123456789abcdef0123456789abcdef.0","names":64}
 0 {"settled":true}
 0 {"ok":true}
 0 {"as":"admin","made":{"do":"create_role","name":"mia"}}
@@ -377,6 +392,7 @@ const SHAPE: &str = r#"> come 0 admin
 0 {"as":"admin","made":{"do":"create_policy","on":"notes","name":"few","using":"id < 7"}}
 0 {"settled":true}
 1 {"role":"mia"}
+1 {"at":"0123456789abcdef0123456789abcdef.0","names":64}
 1 {"settled":true}
 1 {"granted":"notes"}
 1 {"settled":true}
@@ -390,6 +406,7 @@ const SHAPE: &str = r#"> come 0 admin
 1 {"ok":true}
 1 {"settled":true}
 2 {"role":"admin"}
+2 {"at":"0123456789abcdef0123456789abcdef.0","names":64}
 2 {"as":"admin","made":{"do":"create_role","name":"mia"}}
 2 {"as":"admin","made":{ "do": "create_table", "name": "notes", "owner": "mia", "columns": [["id", "int"]] }}
 2 {"as":"mia","made":{"do":"grant","on":"notes","privileges":["select"],"to":"public"}}
@@ -400,10 +417,11 @@ const SHAPE: &str = r#"> come 0 admin
 2 {"as":"admin","made":{"do":"create_policy","on":"notes","name":"few","using":"id < 7"}}
 2 {"settled":true}
 > restart
-restored to 442
+restored to 5
 > come 3 admin
 > sync
 3 {"role":"admin"}
+3 {"at":"0123456789abcdef0123456789abcdef.0","names":64}
 3 {"as":"admin","made":{"do":"create_role","name":"mia"}}
 3 {"as":"admin","made":{ "do": "create_table", "name": "notes", "owner": "mia", "columns": [["id", "int"]] }}
 3 {"as":"mia","made":{"do":"grant","on":"notes","privileges":["select"],"to":"public"}}
@@ -412,35 +430,76 @@ restored to 442
 3 {"settled":true}
 "#;
 
-/// A journal with a line that is no entry, with an entry that is not accepted, or with an end that is no front of an entry, restores
-/// nothing: its place is told.
-const DAMAGED: [&str; 5] = [
-    r#"> spoil {"as":"admin","do":"create_role","name":"mia"}
-> spoil {"as":"mia","do":"create_role","name":"bob"}
-> spoil {"as":"admin","do":"create_role","name":"bob"}
+/// A journal with a line that is no entry, with an entry that is not accepted, with a part of a record at its end, or with a name that has an
+/// answer already, restores nothing: its line is told.
+const DAMAGED: [&str; 6] = [
+    r#"> spoil "as":"admin","do":"create_role","name":"mia"}
+> spoil "as":"mia","do":"create_role","name":"bob"}
+> spoil "as":"admin","do":"create_role","name":"bob"}
 > restart
-damaged at 47
+damaged at 1
 "#,
-    r#"> spoil {"do":"create_role","name":"mia"}
+    r#"> spoil "do":"create_role","name":"mia"}
 > restart
 damaged at 0
 "#,
-    r#"> spoil {"as":"admin","do":"create_role","name":"mia"}
-> spoil {"as":"admin","id":1,"do":"create_role","name":"bob"}
+    r#"> spoil "as":"admin","do":"create_role","name":"mia"}
+> spoil "as":"admin","id":1,"do":"create_role","name":"bob"}
 > restart
-damaged at 47
+damaged at 1
 "#,
-    r#"> spoil {"as":"admin","do":"create_role","name":"mia"}
-> tear {"do":"create_role"
+    r#"> spoil "as":"admin","do":"create_role","name":"mia"}
+> tear "as":"admin","do":"create_role","name":"bob"}
 > restart
-damaged at 47
+damaged at 1
 "#,
-    r#"> spoil {"as":"admin","do":"create_role","name":"mia"}
-> spoil {"as":"mia","do":"subscribe","on":"notes"}
+    r#"> spoil "as":"admin","do":"create_role","name":"mia"}
+> spoil "as":"mia","do":"subscribe","on":"notes"}
 > restart
-damaged at 47
+damaged at 1
+"#,
+    r#"> spoil "once":"AAAAAAAAAAAAAAAAAAAAA-","at":"0123456789abcdef0123456789abcdef.0","by":"mia/m","digest":"0101010101010101010101010101010101010101010101010101010101010101","refused":{"error":5}}
+> spoil "once":"AAAAAAAAAAAAAAAAAAAAA-","at":"0123456789abcdef0123456789abcdef.0","by":"mia/m","digest":"0101010101010101010101010101010101010101010101010101010101010101","refused":{"error":5}}
+> restart
+damaged at 1
 "#,
 ];
+
+/// A request with a name is done once. It is told its first answer again, also by another gateway after a restart; a name of another request
+/// is told 101; and a place of another epoch 103. Names of others, and places, are told as they stand.
+const NAMED: &str = r#"> come 0 admin
+> say 0 {"once":"AAAAAAAAAAAAAAAAAAAAA-","at":"0123456789abcdef0123456789abcdef.0","do":"create_role","name":"mia"}
+> say 0 {"id":1,"once":"AAAAAAAAAAAAAAAAAAAAA-","at":"0123456789abcdef0123456789abcdef.0","do":"create_role","name":"mia"}
+> say 0 {"once":"AAAAAAAAAAAAAAAAAAAAA-","at":"0123456789abcdef0123456789abcdef.0","do":"create_role","name":"bob"}
+> say 0 {"id":2,"once":"AAAAAAAAAAAAAAAAAAAAB-","at":"f123456789abcdef0123456789abcdef.0","do":"create_role","name":"bob"}
+> say 0 {"once":"AAAAAAAAAAAAAAAAAAAAC-","at":"0123456789abcdef0123456789abcdef.1","do":"subscribe","on":"notes"}
+> sync
+0 {"role":"admin"}
+0 {"at":"0123456789abcdef0123456789abcdef.0","names":64}
+0 {"settled":true}
+0 {"answer":{"ok":true},"at":"0123456789abcdef0123456789abcdef.1"}
+0 {"as":"admin","made":{"do":"create_role","name":"mia"}}
+0 {"settled":true}
+0 {"again":true,"answer":{"ok":true},"at":"0123456789abcdef0123456789abcdef.1","id":1}
+0 {"settled":true}
+0 {"undecided":101}
+0 {"settled":true}
+0 {"id":2,"undecided":103}
+0 {"settled":true}
+0 {"error":2,"key":"once","why":"unknown"}
+0 {"settled":true}
+> restart
+restored to 2
+> come 0 admin
+> say 0 {"id":3,"once":"AAAAAAAAAAAAAAAAAAAAA-","at":"0123456789abcdef0123456789abcdef.0","do":"create_role","name":"mia"}
+> sync
+0 {"role":"admin"}
+0 {"at":"0123456789abcdef0123456789abcdef.1","names":64}
+0 {"as":"admin","made":{"do":"create_role","name":"mia"}}
+0 {"settled":true}
+0 {"again":true,"answer":{"ok":true},"at":"0123456789abcdef0123456789abcdef.1","id":3}
+0 {"settled":true}
+"#;
 
 #[test]
 fn clients_of_one_role_share(rt: HostRuntime) -> Result<(), Fail> {
@@ -475,6 +534,12 @@ fn administrators_are_told_the_shape(rt: HostRuntime) -> Result<(), Fail> {
 #[test]
 fn journals_lead_back(rt: HostRuntime) -> Result<(), Fail> {
     assert_eq!(rt; played(rt.alloc(), RESTORED)?.text(), RESTORED);
+    Ok(())
+}
+
+#[test]
+fn names_are_done_once(rt: HostRuntime) -> Result<(), Fail> {
+    assert_eq!(rt; played(rt.alloc(), NAMED)?.text(), NAMED);
     Ok(())
 }
 

@@ -1,5 +1,5 @@
-//! Tests of the public calls of iv_gateway: worked conversations of clients with a gateway, byte for byte, clients that do not read, and
-//! ends of journals.
+//! Tests of the public calls of iv_gateway: worked conversations of clients with a gateway, byte for byte, clients that do not read,
+//! and records of journals.
 #![tactic(auto)]
 
 #[cfg(test)]
@@ -9,8 +9,8 @@ mod out;
 #[cfg(test)]
 mod playing;
 #[cfg(test)]
-mod slow;
+mod records;
 #[cfg(test)]
-mod torn;
+mod slow;
 #[cfg(test)]
 mod viewd;

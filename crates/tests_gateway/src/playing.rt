@@ -3,16 +3,18 @@
 //!
 //! `come N TOKEN`: who presents the token is client N. `say N TEXT`: client N sends the message. `go N`: client N goes. `tokens NAME..`:
 //! these tokens are known from now on. `tick`: all are told that the line is alive. `sync`: the journal is synced, and each client that is listed
-//! as told takes what it may be sent, one line each after its number. `journal`: the journal's lines. `tear TEXT`: the journal ends with the text.
-//! `spoil TEXT`: the journal has the line. `restart`: another gateway begins from the journal. `viewd REL`: what viewd answers to the
+//! as told takes what it may be sent, one line each after its number. `journal`: the journal's lines, parts of a record after `+`. `tear TEXT`: the journal has
+//! the part of a record. `spoil TEXT`: the journal has the record. `restart`: another gateway begins from the journal. `viewd REL`: what viewd answers to the
 //! journal's entries as lines of its own, and then to a subscribe to the relation by the administrator.
 ghost use Rattle.std.specs.Prelude.{None};
 
 use crate::out::Out;
 use crate::viewd::answers;
-use iv_clients::{Token, read_tokens};
+use iv_clients::{OwnedLine, Token, read_tokens};
 use iv_engine::Engine;
-use iv_gateway::{Gateway, GatewayFault, Journal, JournalFault, RestoreFault};
+use iv_gateway::{Gateway, GatewayFault, Head, Journal, JournalFault, RestoreFault};
+use iv_journal::Line;
+use iv_once::{LIMITS, Names};
 use std::alloc::{AllocError, Global};
 use std::mem;
 
@@ -31,33 +33,63 @@ const ALL: &str = "admin mia bob leo";
 /// How many clients there may be.
 const MOST: u32 = 4;
 
+/// The epoch of names.
+const EPOCH: &str = "0123456789abcdef0123456789abcdef";
+
 /// A journal in memory.
 #[derive(Drop)]
 pub struct Kept {
+    alloc: Global,
     /// What was written.
-    bytes: Vec<u8>,
+    lines: Vec<OwnedLine>,
 }
 
 impl Kept {
     pub fn new(alloc: Global) -> Kept {
         Kept {
-            bytes: Vec::new(alloc),
+            alloc,
+            lines: Vec::new(alloc),
         }
     }
 
-    fn text(&self) -> &str {
-        str::from_utf8(&self.bytes).unwrap_or("no text")
+    fn push(&mut self, is_last: bool, text: &[u8]) -> Result<(), AllocError> {
+        let mut copy = Vec::new(self.alloc);
+        copy.extend_from_slice(text)?;
+        self.lines.push(OwnedLine {
+            is_last,
+            text: copy,
+        })
+    }
+
+    fn push_all(&mut self, lines: &[OwnedLine]) -> Result<(), AllocError> {
+        for line in lines {
+            self.push(line.is_last, &line.text)?;
+        }
+        Ok(())
+    }
+
+    /// The requests, as JSON objects, one a line.
+    fn requests(&self) -> Result<Vec<u8>, AllocError> {
+        let mut bytes = Vec::new(self.alloc);
+        for line in &self.lines {
+            if line.text.starts_with(b"\"as\":") {
+                bytes.push(b'{')?;
+                bytes.extend_from_slice(&line.text)?;
+                bytes.push(b'\n')?;
+            }
+        }
+        Ok(bytes)
     }
 }
 
 impl Journal for Kept {
     ghost kept = { λ _. None };
 
-    fn append(&mut self, bytes: &[u8]) -> Result<(), JournalFault> {
-        if self.bytes.extend_from_slice(bytes).is_err() {
-            return Err(JournalFault);
+    fn append(&mut self, lines: &[OwnedLine]) -> Result<(), JournalFault> {
+        match self.push_all(lines) {
+            Ok(()) => Ok(()),
+            Err(_) => Err(JournalFault),
         }
-        Ok(())
     }
 }
 
@@ -88,13 +120,24 @@ fn tokens_of(alloc: Global, names: &str) -> Result<Vec<Token>, AllocError> {
     }
 }
 
+/// What a journal without a line says at its head.
+fn new_head(alloc: Global) -> Result<Head, AllocError> {
+    Ok(Head {
+        names: Names::new(alloc, LIMITS, EPOCH)?,
+        log: None,
+        position: 0,
+    })
+}
+
 /// A gateway over a new engine, with places for a few clients.
 pub fn new_gateway(alloc: Global) -> Result<Gateway, AllocError> {
     let tokens = tokens_of(alloc, ALL)?;
+    let head = new_head(alloc)?;
     match Engine::new(alloc, 1_024) {
-        Ok(engine) => Gateway::new(alloc, engine, tokens, MOST),
+        Ok(engine) => Gateway::new(alloc, engine, tokens, MOST, head),
         Err(error) => {
             drop(tokens);
+            drop(head);
             Err(error)
         }
     }
@@ -146,20 +189,29 @@ fn sync(gateway: &mut Gateway, journal: &mut Kept, out: &mut Out) {
     }
 }
 
-/// Begins from the journal, and cuts it where its entries end.
-fn restore(gateway: &mut Gateway, journal: &mut Kept, out: &mut Out) {
-    match gateway.restore(&journal.bytes) {
-        Ok(kept) => {
-            journal.bytes.truncate(kept);
-            out.put_place("restored to ", kept);
-        }
-        Err(RestoreFault::Damaged(place)) => out.put_place("damaged at ", place),
-        Err(_) => out.refuse(),
+/// What comes of the journal's lines in a gateway.
+fn restored(gateway: &mut Gateway, journal: &Kept) -> Result<Result<(), RestoreFault>, AllocError> {
+    let mut lines = Vec::new(journal.alloc);
+    for line in &journal.lines {
+        lines.push(Line {
+            is_last: line.is_last,
+            text: &line.text,
+        })?;
+    }
+    Ok(gateway.restore(&lines))
+}
+
+/// Begins from the journal.
+fn restore(gateway: &mut Gateway, journal: &Kept, out: &mut Out) {
+    match restored(gateway, journal) {
+        Ok(Ok(())) => out.put_place("restored to ", journal.lines.len()),
+        Ok(Err(RestoreFault::Damaged(place))) => out.put_place("damaged at ", place),
+        _ => out.refuse(),
     }
 }
 
 /// Has another gateway begin from the journal.
-fn restart(gateway: &mut Gateway, journal: &mut Kept, out: &mut Out) {
+fn restart(gateway: &mut Gateway, journal: &Kept, out: &mut Out) {
     match new_gateway(out.alloc()) {
         Ok(other) => {
             drop(mem::replace(gateway, other));
@@ -234,16 +286,35 @@ fn happen(gateway: &mut Gateway, word: &str, text: &str, out: &mut Out) {
     }
 }
 
-/// Adds a text to the journal.
-fn append(journal: &mut Kept, text: &str, out: &mut Out) {
-    if journal.bytes.extend_from_slice(text.as_bytes()).is_err() {
+/// Adds a line to the journal.
+fn append(journal: &mut Kept, is_last: bool, text: &str, out: &mut Out) {
+    if journal.push(is_last, text.as_bytes()).is_err() {
         out.refuse();
     }
 }
 
+/// Adds the journal's lines.
+fn put_journal(journal: &Kept, out: &mut Out) {
+    for line in &journal.lines {
+        out.put(if line.is_last { "| " } else { "+ " });
+        out.put(str::from_utf8(&line.text).unwrap_or("no text"));
+        out.put("\n");
+    }
+}
+
+/// What viewd answers to the journal.
+fn answers_to(journal: &Kept, rel: &str) -> Result<Vec<u8>, AllocError> {
+    let requests = journal.requests()?;
+    answers(
+        journal.alloc,
+        str::from_utf8(&requests).unwrap_or("no text"),
+        rel,
+    )
+}
+
 /// Adds what viewd answers to the journal.
 fn put_answers(journal: &Kept, rel: &str, out: &mut Out) {
-    match answers(out.alloc(), journal.text(), rel) {
+    match answers_to(journal, rel) {
         Ok(told) => out.put_lines("viewd ", str::from_utf8(&told).unwrap_or("no text")),
         Err(_) => out.refuse(),
     }
@@ -252,13 +323,10 @@ fn put_answers(journal: &Kept, rel: &str, out: &mut Out) {
 /// Has something happen to the journal, or tells of it; whether the word is one of these.
 fn happens_to_journal(journal: &mut Kept, word: &str, text: &str, out: &mut Out) -> bool {
     match word {
-        "journal" => out.put_lines("| ", journal.text()),
+        "journal" => put_journal(journal, out),
         "viewd" => put_answers(journal, text, out),
-        "tear" => append(journal, text, out),
-        "spoil" => {
-            append(journal, text, out);
-            append(journal, "\n", out);
-        }
+        "tear" => append(journal, false, text, out),
+        "spoil" => append(journal, true, text, out),
         _ => return false,
     }
     true

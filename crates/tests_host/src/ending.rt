@@ -46,11 +46,7 @@ fn said(entries: &[Entry]) -> Option<(&str, u64)> {
     let [entry] = entries else {
         return None;
     };
-    let holder = match &entry.holder {
-        None => "",
-        Some(holder) => holder.as_str(),
-    };
-    Some((holder, entry.until.unwrap_or(0)))
+    Some((entry.token.user.as_str(), entry.until.unwrap_or(0)))
 }
 
 #[test]

@@ -40,17 +40,19 @@ fn told(
 ) -> Result<String, AllocError> {
     match names.verdict(&ask)? {
         Verdict::Carry => {
+            let mut bytes = Vec::new(alloc);
+            bytes.extend_from_slice(answer.as_bytes())?;
             let entry = Named {
                 ask,
                 refused,
-                answer: String::from_str(alloc, answer)?,
+                answer: bytes,
             };
             names.push(entry)?;
             String::from_str(alloc, answer)
         }
         Verdict::Again(first) => {
             let mut text = String::from_str(alloc, "again ")?;
-            text.push_str(&first)?;
+            text.push_str(str::from_utf8(&first).unwrap_or("no text"))?;
             Ok(text)
         }
         Verdict::Another => String::from_str(alloc, "101"),

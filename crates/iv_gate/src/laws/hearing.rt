@@ -16,6 +16,7 @@ use iv_machine::laws::{
     steps_keep_sound, what_stands_lasts,
 };
 use iv_request::laws::requests_are_well;
+use iv_steps::laws::steps_are_told;
 
 /// In whatever runs, over restarts: the token that a client presented opens its role now, and its role has a session. Who presents a token
 /// that opens a known role comes in, if the number is free and a session is there or can be begun.
@@ -28,6 +29,7 @@ pub fn tokens_open_roles()
     what_stands_lasts();
     ends_are_told();
     requests_open_what_they_name();
+    steps_are_told();
 }
 
 /// In whatever runs, over restarts, an event tells a client of numbers alone that it follows, or that it is given now, and of an end for
@@ -43,6 +45,7 @@ pub fn news_are_of_what_is_followed()
     what_stands_lasts();
     ends_are_told();
     requests_open_what_they_name();
+    steps_are_told();
     differences_are_exact();
 }
 
@@ -58,6 +61,7 @@ pub fn clients_are_bounded()
     what_stands_lasts();
     ends_are_told();
     requests_open_what_they_name();
+    steps_are_told();
 }
 
 /// In whatever runs, over restarts: what an event tells a client to be granted its role has then, and it is what the accepted request
@@ -71,6 +75,7 @@ pub fn grants_are_told()
     what_stands_lasts();
     ends_are_told();
     requests_open_what_they_name();
+    steps_are_told();
     grants_give_what_they_name();
     requests_are_well();
 }
@@ -88,4 +93,5 @@ pub fn the_shape_is_told()
     what_stands_lasts();
     ends_are_told();
     requests_open_what_they_name();
+    steps_are_told();
 }

@@ -1,14 +1,19 @@
 //! Laws of the journal and the disk. Each is the contract of a function that does nothing.
 ghost use Rattle.std.specs.Prelude.{ℕ, List};
-ghost use Rattle.iv_gate.specs.Events.{Event};
+ghost use Rattle.iv_gate.specs.Events.{Event, IsWell};
 ghost use Rattle.iv_gate.specs.Gate.{Gate};
+ghost use Rattle.iv_gate.specs.Implied.{PositionsLast, PositionsRise};
 ghost use Rattle.iv_gate.specs.Laws.{AreShown, CrashesAreSafe, LeadsBack, SentIsKept};
 ghost use Rattle.iv_gate.specs.Restoring.{IsDecided};
 ghost use Rattle.iv_gate.specs.Runs.{Runs};
+ghost use Rattle.iv_journal.specs.Journal.{Line};
 
+use iv_clients::laws::{names_are_texts, records_are_read_back};
 use iv_machine::laws::{
     ends_are_told, lines_add_up, requests_open_what_they_name, steps_keep_sound, what_stands_lasts,
 };
+use iv_message::laws::told_texts_are_lines;
+use iv_steps::laws::steps_are_told;
 
 /// By an event a client is told what shows the entries that are accepted after it, and what comes of its own message if the event
 /// is that.
@@ -20,7 +25,11 @@ pub fn told_text_shows_its_entries()
 /// disk.
 pub fn what_is_sent_is_on_disk()
     ensures { (cap : ℕ) (g : Gate) → Runs cap g → SentIsKept g }
-{}
+{
+    records_are_read_back();
+    names_are_texts();
+    told_texts_are_lines();
+}
 
 /// In whatever runs, over restarts: the entries lead a machine with nothing to the same tables, roles, memberships, rights, policies and
 /// rows, and none is refused; and whatever a crash leaves on disk leads a gateway to a front of them, with all that were kept.
@@ -33,9 +42,25 @@ pub fn the_journal_leads_back()
     what_stands_lasts();
     ends_are_told();
     requests_open_what_they_name();
+    steps_are_told();
+    records_are_read_back();
+    names_are_texts();
+    told_texts_are_lines();
+}
+
+/// In whatever runs, over restarts, the log goes on, in memory and on disk; what its source was told to be on disk is there behind a crash.
+pub fn positions_rise()
+    ensures rise { (cap : ℕ) (g : Gate) (e : Event) → Runs cap g → IsWell e → PositionsRise g e }
+    ensures last { (cap : ℕ) (g : Gate) → Runs cap g → PositionsLast cap g }
+{
+    records_are_read_back();
+    names_are_texts();
+    told_texts_are_lines();
 }
 
 /// Each journal either restores, to one gateway, or is damaged, at one place.
 pub fn journals_are_decided()
-    ensures { (g : Gate) (journal : List ℕ) → IsDecided g journal }
-{}
+    ensures { (g : Gate) (lines : List Line) → IsDecided g lines }
+{
+    records_are_read_back();
+}

@@ -1,6 +1,6 @@
 use Rattle.std.proofs.Common.{ap, sym}
 use Rattle.iv_clients.specs.Tokens.{decoded}
-use Rattle.iv_clients.proofs.Naming.{no_digest}
+use Rattle.iv_clients.proofs.Calling.{no_digest}
 use Rattle.iv_clients.proofs.tokens.digest_in.Goals as goal
 
 pub returns-in-Ok : goal.returns-in-Ok

@@ -1,4 +1,4 @@
-use Rattle.iv_clients.proofs.Naming.{no_role}
+use Rattle.iv_clients.proofs.Calling.{no_role}
 use Rattle.iv_clients.proofs.tokens.role_in.Goals as goal
 
 pub returns-in_default : goal.returns-in_default

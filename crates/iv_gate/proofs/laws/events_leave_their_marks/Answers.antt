@@ -6,4 +6,4 @@ pub returns-clause-rests : goal.returns-clause-rests
 returns-clause-rests c = rests
 
 pub returns-clause-marks : goal.returns-clause-marks
-returns-clause-marks c = leaves_marks
+returns-clause-marks c = leaves_marks c.refusals_are_found.ensures

@@ -13,12 +13,14 @@ returns c = λ cap g r. (
     safe = c.the_journal_leads_back.ensures.safe cap g r;
     bounded = c.clients_are_bounded.ensures.bounded cap g r;
     knows = c.sessions_and_feeds_are_the_machines.ensures cap g r;
+    once = c.names_are_once.ensures cap g r;
+    spent = c.refusals_are_few.ensures cap g r;
     shape = c.the_shape_is_told.ensures.told cap g r;
     makes = c.the_shape_is_told.ensures.makes cap g r;
   },
-  λ e. record {
+  λ e w. record {
     rests = c.events_leave_their_marks.ensures.rests g e;
-    marks = c.events_leave_their_marks.ensures.marks g e;
+    marks = c.events_leave_their_marks.ensures.marks g e w;
     replied = c.messages_are_replied.ensures cap g e r;
     touched = c.events_touch_their_clients.ensures g e;
     places = c.clients_are_bounded.ensures.places g e;

@@ -66,3 +66,23 @@ returns-clause-made c = refl
 pub returns-clause-alive : goal.returns-clause-alive
 unfolding serde_json_on_literals digits
 returns-clause-alive c = refl
+
+pub returns-clause-placed : goal.returns-clause-placed
+unfolding serde_json_on_literals digits
+returns-clause-placed c = refl
+
+pub returns-clause-answered : goal.returns-clause-answered
+unfolding serde_json_on_literals digits
+returns-clause-answered c = refl
+
+pub returns-clause-again : goal.returns-clause-again
+unfolding serde_json_on_literals digits
+returns-clause-again c = refl
+
+pub returns-clause-undecided : goal.returns-clause-undecided
+unfolding serde_json_on_literals digits
+returns-clause-undecided c = refl
+
+pub returns-clause-denied : goal.returns-clause-denied
+unfolding serde_json_on_literals digits
+returns-clause-denied c = refl

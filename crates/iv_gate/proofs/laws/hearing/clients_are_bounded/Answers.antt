@@ -6,7 +6,7 @@ use Rattle.iv_gate.proofs.laws.hearing.clients_are_bounded.Goals as goal
 pub returns-clause-bounded : goal.returns-clause-bounded
 returns-clause-bounded c =
     let opens = c.requests_open_what_they_name.ensures in
-    let laws : Sounds = record { sound = c.steps_keep_sound.ensures.step; lasts = c.what_stands_lasts.ensures; ends = c.ends_are_told.ensures; begins = opens.session; subscribes = opens.subscription } in
+    let laws : Sounds = record { sound = c.steps_keep_sound.ensures.step; lasts = c.what_stands_lasts.ensures; ends = c.ends_are_told.ensures; begins = opens.session; subscribes = opens.subscription; told = c.steps_are_told.ensures } in
     are_bounded c.lines_add_up.ensures c.steps_keep_sound.ensures.start laws
 
 pub returns-clause-places : goal.returns-clause-places
@@ -15,6 +15,6 @@ returns-clause-places c = places_stay
 pub returns-clause-last : goal.returns-clause-last
 returns-clause-last c =
     let opens = c.requests_open_what_they_name.ensures in
-    let laws : Sounds = record { sound = c.steps_keep_sound.ensures.step; lasts = c.what_stands_lasts.ensures; ends = c.ends_are_told.ensures; begins = opens.session; subscribes = opens.subscription } in
+    let laws : Sounds = record { sound = c.steps_keep_sound.ensures.step; lasts = c.what_stands_lasts.ensures; ends = c.ends_are_told.ensures; begins = opens.session; subscribes = opens.subscription; told = c.steps_are_told.ensures } in
     let adds = c.lines_add_up.ensures in let start = c.steps_keep_sound.ensures.start in
     λ cap g e r. last_stays laws g e (runs_sound adds start laws cap g r)

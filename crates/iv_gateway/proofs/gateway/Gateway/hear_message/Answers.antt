@@ -18,15 +18,20 @@ returns c = λ g k b there is.
       machine = b.machine;
       seats = b.seats;
       feeds = b.feeds;
+      names = b.names;
+      log = b.log;
+      position = b.position;
+      settled = b.settled;
+      forgiven = b.forgiven;
       pending = b.pending;
       shape = b.shape;
       clients = c.in_ok-ask.ensures ∙ (ap (at_client c.args.client asking) b.clients
           ∙ keeps_at c.args.client (saying c.args.text.now) asking (λ d. refl) g.clients);
     } in
     let done : IsAlive (done_for (asked g c.args.client c.args.text.now) c.args.client k c.args.text.now (said_by c.args.text.now)) c.answer.new.self =
-    subst (λ z. IsAlive (done_for (asked g c.args.client c.args.text.now) c.args.client k c.args.text.now z) c.answer.new.self) c.in_ok-message.ensures.message
+    subst (λ z. IsAlive (done_for (asked g c.args.client c.args.text.now) c.args.client k c.args.text.now z) c.answer.new.self) c.in_ok-said.ensures.message
     (c.in_ok-answer.ensures (asked g c.args.client c.args.text.now) k c.args.text.now counted (there_saying g c.args.client k c.args.text.now there) is
-    (sym (c.deref.ensures.value ∙ c.in_ok-message.ensures.line))) in
+    (sym c.in_ok-said.ensures.line) (sym c.in_ok-said.ensures.claim)) in
     let told : IsAlive (did g c.args.client k c.args.text.now) c.settle_told.new.self =
     c.in_ok-settle_told.ensures (done_for (asked g c.args.client c.args.text.now) c.args.client k c.args.text.now (said_by c.args.text.now)) done in
     let brought : c.speaker.inside.brought ≡ c.args.speaker.now.brought = search rules in
@@ -35,6 +40,11 @@ returns c = λ g k b there is.
       machine = told.machine;
       seats = told.seats;
       feeds = told.feeds;
+      names = told.names;
+      log = told.log;
+      position = told.position;
+      settled = told.settled;
+      forgiven = told.forgiven;
       pending = told.pending;
       shape = told.shape;
       clients = c.answered.ensures ∙ stands_answered g c.args.client k c.args.text.now c.speaker.inside.brought _ there (brought ∙ ap (λ s. s.brought) is)

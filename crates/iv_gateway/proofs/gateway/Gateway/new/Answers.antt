@@ -3,16 +3,20 @@ use Rattle.iv_gateway.proofs.Keeping.{nobody_kept}
 use Rattle.iv_gateway.proofs.gateway.Gateway.new.Goals as goal
 
 pub returns : goal.returns
-returns c = λ cap b. record {
+returns c = λ cap h b i. record {
   dead = refl;
   alive = λ a. record {
     tokens = refl;
     machine = b;
     seats = search rules;
     feeds = search rules;
-    clients =
-        c.in_ok-clients.ensures ∙ nobody_kept c.args.most;
-    pending = record { within = omega arith; text = search rules };
+    clients = c.in_ok-clients.ensures ∙ nobody_kept c.args.most;
+    names = i.names;
+    log = i.log;
+    position = i.position;
+    settled = i.position;
+    forgiven = omega arith;
+    pending = record { within = omega arith; lines = search rules };
     shape = search rules;
   };
 }

@@ -1,7 +1,8 @@
 use Rattle.std.proofs.Common.{◌∙◌, ap, arith, length, sym}
+use Rattle.std.proofs.Math.Seq.{take-length}
 use Rattle.std.proofs.lemmas.List.{drop_all}
 use Rattle.iv_clients.specs.Clients.{at_all, released}
-use Rattle.iv_clients.specs.Journal.{journal_of}
+use Rattle.iv_clients.specs.Journal.{journal_of, position_of}
 use Rattle.iv_clients.specs.Kept.{releasing}
 use Rattle.iv_gateway.proofs.Keeping.{keeps_all, kept_released}
 use Rattle.iv_gateway.proofs.gateway.Gateway.release.Goals as goal
@@ -12,7 +13,12 @@ returns c = λ g b. record {
   machine = b.machine;
   seats = b.seats;
   feeds = b.feeds;
-  pending = record { within = omega arith; text = c.clear.ensures.items ∙ ap journal_of (sym (drop_all (length g.entries) g.entries (omega arith))) };
+  names = b.names;
+  log = b.log;
+  position = b.position;
+  settled = b.position ∙ sym (ap (position_of g.head.position) (take-length g.entries));
+  forgiven = b.forgiven;
+  pending = record { within = omega arith; lines = c.clear.ensures.items ∙ ap journal_of (sym (drop_all (length g.entries) g.entries (omega arith))) };
   shape = b.shape;
   clients = c.in_ok-release.ensures ∙ (ap (at_all releasing) b.clients ∙ keeps_all released releasing kept_released g.clients);
 }

@@ -9,8 +9,12 @@ returns-in-Ok c = λ g b. record {
     seats = b.seats;
     feeds = b.feeds;
     clients = b.clients;
-    pending =
-        b.pending;
+    names = b.names;
+    log = b.log;
+    position = b.position;
+    settled = b.settled;
+    forgiven = b.forgiven;
+    pending = b.pending;
     shape = b.shape;
   };
 }

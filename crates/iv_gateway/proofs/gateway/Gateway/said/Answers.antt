@@ -9,8 +9,8 @@ returns-in-Ok-clause-gate c = λ g b.
     let lives = sym b.dead ∙ c.if-self.false in
     let a = (c.in-Ok.ensures g (b.alive lives)).1 in
     alive_next g (message c.args.client c.args.text.now) _ lives refl
-    (message_lives g c.args.client c.args.text.now lives (c.events_leave_their_marks.ensures.marks g (message c.args.client c.args.text.now) lives))
-    (record { tokens = a.tokens; machine = a.machine; seats = a.seats; feeds = a.feeds; clients = a.clients; pending = a.pending; shape = a.shape })
+    (message_lives g c.args.client c.args.text.now lives (c.events_leave_their_marks.ensures.marks g (message c.args.client c.args.text.now) tt lives))
+    (record { tokens = a.tokens; machine = a.machine; seats = a.seats; feeds = a.feeds; clients = a.clients; names = a.names; log = a.log; position = a.position; settled = a.settled; forgiven = a.forgiven; pending = a.pending; shape = a.shape })
 
 pub returns-in-Ok-clause-heard : goal.returns-in-Ok-clause-heard
 returns-in-Ok-clause-heard c = λ g b. (c.in-Ok.ensures g (b.alive (sym b.dead ∙ c.if-self.false))).0

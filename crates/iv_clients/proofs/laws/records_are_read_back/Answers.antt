@@ -1,0 +1,5 @@
+use Rattle.iv_clients.proofs.Recording.{reads_back}
+use Rattle.iv_clients.proofs.laws.records_are_read_back.Goals as goal
+
+pub returns : goal.returns
+returns c = reads_back

@@ -1,0 +1,41 @@
+//! Worked examples: what a client is told in small runs. Each is the contract of a function that does nothing.
+ghost use Rattle.std.specs.Prelude.{◌≡◌, ◌∷◌, [], None, Some, codes, true};
+ghost use Rattle.iv_machine.specs.Act.{not_administrator};
+ghost use Rattle.iv_machine.specs.declared.Cause.TheVariants as cause;
+ghost use Rattle.iv_message.specs.Told.{denied, over, settled, undecided};
+ghost use Rattle.iv_gate.specs.Arriving.{fault_of, gap, not_accepted, other_log, position, takes};
+ghost use Rattle.iv_gate.specs.Gate.{decides};
+ghost use Rattle.iv_gate.specs.Worked.{asks, behind, both_rows, by_ann, done_and_told, foreign_step, is_done, later, notes, put, puts, reads_notes, reads_of, sums_made, taken, taken_and_given, told_more, too_large, total, without_right, writes, wrote};
+
+/// By a step that takes a right, brings rows and gives it again, who reads is told the rows, once, and no end; where the right is not given
+/// again, the end, and no row.
+pub fn steps_are_told_once()
+    ensures given { told_more reads_notes (takes reads_notes taken_and_given) ≡ both_rows }
+    ensures taken { told_more reads_notes (takes reads_notes taken) ≡ over 1 notes cause.Privilege [] ∷ settled ∷ [] }
+{}
+
+/// A view beyond the limits ends, and refuses nothing.
+pub fn limits_refuse_no_step()
+    ensures { told_more (reads_of total sums_made) (takes (reads_of total sums_made) too_large) ≡ over 1 total cause.Limit [] ∷ settled ∷ [] }
+{}
+
+/// What was taken already changes nothing; what begins elsewhere, is of another log, or is refused, ends the gateway, in words. A client's
+/// request that changes what is shared is refused.
+pub fn steps_follow_their_log()
+    ensures behind { takes reads_notes behind ≡ reads_notes }
+    ensures gap { fault_of reads_notes later ≡ Some (gap 1) }
+    ensures foreign { fault_of reads_notes foreign_step ≡ Some other_log }
+    ensures refused { fault_of reads_notes without_right ≡ Some (not_accepted 2 not_administrator) }
+    ensures dead { (takes reads_notes later).dead ≡ true }
+    ensures position { position (takes reads_notes taken) ≡ 7 }
+    ensures denied { told_more reads_notes (decides reads_notes 0 None (by_ann (put 1)) None) ≡ denied None 100 ∷ [] }
+{}
+
+/// A request with a name is answered once: the same again gets the same answer, another by its name 101, one ahead 104.
+pub fn names_are_answered_once()
+    ensures first { told_more writes wrote ≡ done_and_told }
+    ensures again { told_more wrote (puts wrote (asks 0 (codes "d")) 7) ≡ is_done true ∷ [] }
+    ensures another { told_more wrote (puts wrote (asks 0 (codes "x")) 8) ≡ undecided None 101 ∷ [] }
+    ensures place { told_more wrote (puts wrote (asks 1 (codes "d")) 7) ≡ undecided None 101 ∷ [] }
+    ensures ahead { told_more writes (puts writes (asks 1 (codes "d")) 7) ≡ undecided None 104 ∷ [] }
+{}

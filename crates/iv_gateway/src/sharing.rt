@@ -1,0 +1,296 @@
+//! What changes what is shared: a request is done once by its name, if it has one, and its client is told the reply before what it changes.
+ghost use Rattle.std.specs.Prelude.{◌≡◌, ◌∷◌, [], ℕ, List, IfOk, OnOk, None, Option, codes, is_some, map, not, option_map, string_bytes, true};
+ghost use Rattle.serde_json.specs.Data.{object};
+ghost use Rattle.serde_json.specs.Written.{compact_text};
+ghost use Rattle.sha2.specs.Sha256.{sha256};
+ghost use Rattle.iv_rows.specs.Options.{if_some};
+ghost use Rattle.iv_command.specs.Views.{act_of, line_of, reply_of};
+ghost use Rattle.iv_machine.specs.Act.{Act, Reply};
+ghost use Rattle.iv_machine.specs.Well.{is_well_act};
+ghost use Rattle.iv_message.specs.Told.{answered, denied, undecided};
+ghost use Rattle.iv_clients.specs.Journal.{is_shared};
+ghost use Rattle.iv_clients.specs.Clients as spec;
+ghost use Rattle.iv_clients.specs.Names.{Claim, holder_of, place_text};
+ghost use Rattle.iv_once.specs.Names as once;
+ghost use Rattle.iv_once.specs.Names.{Ask, verdict};
+ghost use Rattle.iv_gate.specs.Gate.{Gate, answer_text, answering, by_verdict, carries, decides, done_in, entered, entries_of, in_session, is_accepted, names_of, place_of, replies_to, reply_in, shares, tells};
+ghost use Rattle.iv_gateway.specs.Granting.{IsGranting};
+ghost use Rattle.iv_gateway.specs.Speaking.{made_of, request_of};
+ghost use Rattle.iv_gateway.specs.Views.{IsAlive, IsRun};
+
+use crate::coming::place_text;
+use crate::gateway::Gateway;
+use crate::granting::Grants;
+use crate::seats::is_accepted;
+use crate::shaping::push_shape;
+use iv_clients::{Claim, holder_of, push_accepted, push_named, seat_of};
+use iv_command::{Act, Command, Line, Refusal, Reply};
+use iv_message::{Id, push_answered, push_denied, push_replied, push_undecided};
+use iv_once::{Ask, Named, Verdict};
+use sha2::{Digest, Sha256};
+use std::alloc::{AllocError, Global};
+use std::marker::Model;
+
+/// Who asks by which id and line.
+#[derive(Drop)]
+pub(crate) struct Asked<'a> {
+    pub(crate) client: u32,
+    pub(crate) id: &'a Option<Id>,
+    pub(crate) role: &'a str,
+    pub(crate) line: &'a [u8],
+}
+
+impl<'a> Model for Asked<'a> {
+    ghost use Rattle.std.specs.Prelude.{option_map};
+    ghost use Rattle.iv_message.specs.Seen.{id_data};
+    ghost use Rattle.iv_gateway.specs.Speaking.{Asking};
+
+    ghost Value = { Asking };
+
+    ghost view = { λ a. record { client = a.client; id = option_map id_data a.id.now; role = a.role.now; line = a.line.now } };
+}
+
+/// What a client asks by a name.
+fn ask_of(alloc: Global, asked: &Asked<'_>, user: &str, claim: Claim) -> Result<Ask, AllocError>
+    ensures { IfOk result (λ ask. ask ≡ record { holder = holder_of asked.now.role user.now; name = claim.name; at = claim.at; digest = sha256 asked.now.line }) }
+{
+    let Claim { name, at } = claim;
+    Ok(Ask {
+        holder: holder_of(alloc, asked.role, user)?,
+        name,
+        at,
+        digest: Sha256::digest(asked.line),
+    })
+}
+
+/// Whether a reply says that what was asked is done.
+fn is_done(reply: &Reply) -> bool
+    ensures { result ≡ is_accepted (reply_of reply.now) }
+{
+    !matches!(reply, Reply::Refused(_))
+}
+
+/// An answer as it is kept.
+fn answer_text(alloc: Global, reply: &Reply) -> Result<Vec<u8>, AllocError>
+    ensures { IfOk result (λ text. text.items ≡ answer_text (reply_of reply.now)) }
+{
+    let mut text = Vec::new(alloc);
+    push_replied(alloc, &mut text, &None, reply)?;
+    text.pop();
+    Ok(text)
+}
+
+impl Gateway {
+    /// Has a request told by which rule of the gateway it was not done.
+    fn deny(&mut self, asked: &Asked<'_>, number: u64) -> Result<(), AllocError>
+        ensures { OnOk result ((g : Gate) → IsAlive g self.old → IsAlive (tells g asked.now.client (denied asked.now.id number)) self.new) }
+    {
+        let mut text = Vec::new(self.alloc);
+        push_denied(self.alloc, &mut text, asked.id, number)?;
+        self.tell(asked.client, &text)
+    }
+
+    /// Has a request told that it stays undecided whether it was done.
+    fn leave(&mut self, asked: &Asked<'_>, number: u64) -> Result<(), AllocError>
+        ensures { OnOk result ((g : Gate) → IsAlive g self.old → IsAlive (tells g asked.now.client (undecided asked.now.id number)) self.new) }
+    {
+        let mut text = Vec::new(self.alloc);
+        push_undecided(self.alloc, &mut text, asked.id, number)?;
+        self.tell(asked.client, &text)
+    }
+
+    /// Has a request with a name told its answer, and where its holder's names stand.
+    fn tell_answer(
+        &mut self,
+        asked: &Asked<'_>,
+        holder: &str,
+        again: bool,
+        answer: &[u8],
+    ) -> Result<(), AllocError>
+        ensures { OnOk result ((g : Gate) → IsAlive g self.old
+            → IsAlive (tells g asked.now.client (answered asked.now.id again (place_text (place_of g holder.now)) answer.now)) self.new) }
+    {
+        let at = place_text(self.alloc, &self.names, holder)?;
+        let mut text = Vec::new(self.alloc);
+        push_answered(self.alloc, &mut text, asked.id, again, at.as_str(), answer)?;
+        self.tell(asked.client, &text)
+    }
+
+    /// The journal is to have a request that is accepted, and its name, if it has one.
+    fn enter_request(
+        &mut self,
+        asked: &Asked<'_>,
+        name: Option<Named>,
+        accepted: bool,
+        made: &[u8],
+    ) -> Result<(), AllocError>
+        ensures { OnOk result ((g : Gate) (act : Act) (by : Option Ask) (r : Reply) → IsAlive g self.old → is_shared act ≡ true
+            → accepted ≡ is_accepted r → name ≡ option_map (λ a. record { ask = a; refused = not (is_accepted r); answer = answer_text r }) by
+            → made.now ≡ made_of asked.now act by r → IsAlive (entered g (entries_of (request_of asked.now act) by r)) self.new) }
+    {
+        if accepted {
+            push_accepted(self.alloc, &mut self.pending, asked.role, asked.line, &name)?;
+        } else if let Some(named) = &name {
+            push_named(self.alloc, &mut self.pending, named)?;
+        }
+        self.shape.extend_from_slice(made)?;
+        if let Some(named) = name {
+            self.names.push(named)?;
+        }
+        Ok(())
+    }
+
+    /// Has a request told its reply, and the journal get what it is to have of it.
+    fn answer_request(
+        &mut self,
+        asked: &Asked<'_>,
+        name: Option<Ask>,
+        reply: &Reply,
+        made: &[u8],
+    ) -> Result<(), AllocError>
+        ensures { OnOk result ((g : Gate) (act : Act) → IsAlive g self.old → is_shared act ≡ true → made.now ≡ made_of asked.now act name (reply_of reply.now)
+            → IsAlive (replies_to g asked.now.client asked.now.id (request_of asked.now act) name (reply_of reply.now)) self.new) }
+    {
+        let is_accepted = is_done(reply);
+        match name {
+            None => {
+                self.enter_request(asked, None, is_accepted, made)?;
+                self.reply(asked.client, asked.id, reply)
+            }
+            Some(ask) => {
+                let holder = ask.holder.clone()?;
+                let text = answer_text(self.alloc, reply)?;
+                let named = Named {
+                    ask,
+                    refused: !is_accepted,
+                    answer: answer_text(self.alloc, reply)?,
+                };
+                self.enter_request(asked, Some(named), is_accepted, made)?;
+                self.tell_answer(asked, holder.as_str(), false, &text)
+            }
+        }
+    }
+
+    /// Has told what the engine answered a request, by what it makes of the shape if it is accepted, and what it grants. Its client is told
+    /// the reply, then everybody what changed, and then administrators the request.
+    fn tell_request(
+        &mut self,
+        asked: &Asked<'_>,
+        name: Option<Ask>,
+        made: &[u8],
+        lines: &[Line],
+        grants: &Grants,
+    ) -> Result<(), AllocError>
+        ensures { OnOk result ((g : Gate) (act : Act) (n : ℕ) → IsRun g (in_session n act) (map line_of lines.now) self.old → is_shared act ≡ true
+            → made.now ≡ made_of asked.now act name (reply_in (map line_of lines.now)) → IsGranting act grants.now
+            → IsAlive (done_in g asked.now.client asked.now.id (request_of asked.now act) name n) self.new) }
+    {
+        match lines.first() {
+            Some(Line::Reply { reply, .. }) => self.answer_request(asked, name, reply, made)?,
+            _ => {
+                let reply = Reply::Refused(Refusal::NoSession);
+                self.answer_request(asked, name, &reply, made)?;
+            }
+        }
+        self.hear(lines, grants)?;
+        self.inform(made)
+    }
+
+    /// The engine answers a request in a session, and what it answers is told.
+    fn request_in(
+        &mut self,
+        session: u32,
+        asked: &Asked<'_>,
+        name: Option<Ask>,
+        act: Act,
+    ) -> Result<(), AllocError>
+        requires well { is_well_act (act_of act) ≡ true }
+        requires shared { is_shared (act_of act) ≡ true }
+        ensures { OnOk result ((g : Gate) → IsAlive g self.old
+            → IsAlive (done_in g asked.now.client asked.now.id (request_of asked.now (act_of act)) name session) self.new) }
+    {
+        if session == 0 {
+            return Err(AllocError);
+        }
+        let grants = Grants::of(&act)?;
+        let mut made = Vec::new(self.alloc);
+        push_shape(self.alloc, &mut made, asked.role, asked.line, &act)?;
+        let lines = self.run(Command { session, act })?;
+        if !is_accepted(&lines) {
+            made.clear();
+        }
+        self.tell_request(asked, name, &made, &lines, &grants)
+    }
+
+    /// Has a request done in a session of its client's role, where the shape has room for what it makes of it.
+    fn carry(&mut self, asked: &Asked<'_>, name: Option<Ask>, act: Act) -> Result<(), AllocError>
+        requires well { is_well_act (act_of act) ≡ true }
+        requires shared { is_shared (act_of act) ≡ true }
+        ensures { OnOk result ((g : Gate) → IsAlive g self.old
+            → IsAlive (carries g asked.now.client asked.now.id (request_of asked.now (act_of act)) name) self.new) }
+    {
+        if !self.has_shape_room(&act) {
+            return self.answer_request(asked, name, &Reply::Refused(Refusal::Limit), &[]);
+        }
+        match seat_of(&self.seats, asked.role) {
+            None => self.answer_request(asked, name, &Reply::Refused(Refusal::NoSession), &[]),
+            Some(session) => self.request_in(session, asked, name, act),
+        }
+    }
+
+    /// Has a request done, if no log is followed: else it is decided where that is kept.
+    fn decide(&mut self, asked: &Asked<'_>, name: Option<Ask>, act: Act) -> Result<(), AllocError>
+        requires well { is_well_act (act_of act) ≡ true }
+        requires shared { is_shared (act_of act) ≡ true }
+        ensures { OnOk result ((g : Gate) → IsAlive g self.old
+            → IsAlive (decides g asked.now.client asked.now.id (request_of asked.now (act_of act)) name) self.new) }
+    {
+        if self.log.is_none() {
+            return self.carry(asked, name, act);
+        }
+        match name {
+            None => self.deny(asked, 100),
+            Some(_) => self.leave(asked, 100),
+        }
+    }
+
+    /// Has done what a client asks by a name, once.
+    fn ask_named(&mut self, asked: &Asked<'_>, ask: Ask, act: Act) -> Result<(), AllocError>
+        requires well { is_well_act (act_of act) ≡ true }
+        requires shared { is_shared (act_of act) ≡ true }
+        ensures { OnOk result ((g : Gate) → IsAlive g self.old
+            → IsAlive (by_verdict g asked.now.client asked.now.id (request_of asked.now (act_of act)) ask (verdict (names_of g) ask)) self.new) }
+    {
+        match self.names.verdict(&ask)? {
+            Verdict::Carry => self.decide(asked, Some(ask), act),
+            Verdict::Again(answer) => self.tell_answer(asked, ask.holder.as_str(), true, &answer),
+            Verdict::Another => self.leave(asked, 101),
+            Verdict::Late => self.leave(asked, 102),
+            Verdict::Foreign => self.leave(asked, 103),
+            Verdict::Ahead => self.leave(asked, 104),
+            Verdict::Over => self.leave(asked, 104),
+        }
+    }
+
+    /// Has done what changes what is shared, by its name if it has one.
+    pub(crate) fn share(
+        &mut self,
+        asked: &Asked<'_>,
+        user: &str,
+        act: Act,
+        claim: Option<Claim>,
+    ) -> Result<(), AllocError>
+        requires well { is_well_act (act_of act) ≡ true }
+        requires shared { is_shared (act_of act) ≡ true }
+        ensures { OnOk result ((g : Gate) (c : spec.Client) → IsAlive g self.old → asked.now.role ≡ c.role → user.now ≡ c.user
+            → IsAlive (shares g asked.now.client c asked.now.id (request_of asked.now (act_of act)) claim) self.new) }
+    {
+        match claim {
+            None => self.decide(asked, None, act),
+            Some(claim) => {
+                let ask = ask_of(self.alloc, asked, user, claim)?;
+                self.ask_named(asked, ask, act)
+            }
+        }
+    }
+}
