@@ -11,7 +11,7 @@ use Rattle.serde_json.specs.Written.{number_text, comma_if, compact_text, items_
 use Rattle.iv_request.specs.Values.{natural}
 use Rattle.iv_lines.specs.Texts.{fault_data, reply_members, text_of}
 use Rattle.iv_message.specs.Message.{on_one_line}
-use Rattle.iv_message.specs.Told.{Told, welcome, replied, opened, fault, unasked, changed, over, settled, granted, made, alive, placed, answered, undecided, denied, again_text, answered_text, changed_data, id_text, made_text, most_names, opened_members, over_data, told_text, why_members, with_id}
+use Rattle.iv_message.specs.Told.{Told, welcome, replied, opened, fault, unasked, changed, over, settled, granted, made, alive, placed, answered, undecided, denied, again_text, answered_text, changed_data, id_text, made_text, most_names, opened_members, over_data, protocol, told_text, why_members, with_id}
 use Rattle.iv_message.specs.Lines.{is_clean, IsLine}
 
 joined : (a b : List ℕ) → is_clean a ≡ true → is_clean b ≡ true → is_clean (a ++ b) ≡ true
@@ -163,7 +163,7 @@ answered_line id again at answer =
     )
 
 pub told_line : (t : Told) → IsLine (told_text t)
-told_line (welcome role) = text_line (object (member (codes "role") (string role) no_members))
+told_line (welcome role) = text_line (object (member (codes "protocol") (natural protocol) (member (codes "role") (string role) no_members)))
 told_line (replied id r) = text_line (with_id id (reply_members r))
 told_line (opened id own columns) = text_line (with_id id (opened_members own columns))
 told_line (fault n) = text_line (fault_data n)

@@ -14,7 +14,7 @@ use Rattle.iv_request.specs.Values.{natural}
 use Rattle.iv_lines.specs.Texts.{cause_text, fault_data, reply_members, text_of}
 use Rattle.iv_message.specs.Message.{Why, missing, unknown, wrong, on_one_line}
 
--- `own` is the client's own number of a subscription, and `rel` the relation that it asked for; `line` is a request, as a client of the
+-- `welcome` comes first, with the number of the protocol; `own` is the client's own number of a subscription, and `rel` the relation that it asked for; `line` is a request, as a client of the
 -- role wrote it. `placed` tells where the names of the client's holder stand; `answered` the answer to a request with a name, whether that is
 -- told again, and where the names stand behind it; `undecided` that nobody says whether the request was done; `denied` that it was not
 pub data Told : Type 0 where
@@ -69,6 +69,10 @@ over_data own rel cause rows = object (
 abbrev pub made_text : Name → List ℕ → List ℕ
 made_text role line = codes "{\"as\":" ++ (compact_text (string role) ++ (codes ",\"made\":" ++ (on_one_line line ++ codes "}\n")))
 
+-- the number of what clients say and are told; another says that a client has to be changed
+abbrev pub protocol : ℕ
+protocol = 1
+
 -- how many names of each holder are kept
 abbrev pub most_names : ℕ
 most_names = 64
@@ -88,7 +92,7 @@ answered_text id again at answer =
 
 -- a reply is viewd's, but for the session
 abbrev pub told_text : Told → List ℕ
-told_text (welcome role) = text_of (object (member (codes "role") (string role) no_members))
+told_text (welcome role) = text_of (object (member (codes "protocol") (natural protocol) (member (codes "role") (string role) no_members)))
 told_text (replied id r) = text_of (with_id id (reply_members r))
 told_text (opened id own columns) = text_of (with_id id (opened_members own columns))
 told_text (fault number) = text_of (fault_data number)

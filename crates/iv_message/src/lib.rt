@@ -14,7 +14,7 @@ pub use ids::read_id;
 pub use message::{Id, Message, Why};
 pub use reading::{on_one_line, read_message};
 pub use telling::{
-    MOST_NAMES, push_alive, push_answered, push_changed, push_denied, push_fault, push_granted,
-    push_made, push_opened, push_over, push_placed, push_replied, push_settled, push_unasked,
-    push_undecided, push_welcome, quoted,
+    MOST_NAMES, PROTOCOL, push_alive, push_answered, push_changed, push_denied, push_fault,
+    push_granted, push_made, push_opened, push_over, push_placed, push_replied, push_settled,
+    push_unasked, push_undecided, push_welcome, quoted,
 };

@@ -10,7 +10,7 @@ const SHARED: &str = r#"> come 0 admin
 > say 0 {"do":"create_table","name":"notes","owner":"admin","columns":[["id","int"],["who","text"]]}
 > say 0 {"id":1,"do":"grant","on":"notes","privileges":["select","insert"],"to":"mia"}
 > sync
-0 {"role":"admin"}
+0 {"protocol":1,"role":"admin"}
 0 {"at":"0123456789abcdef0123456789abcdef.0","names":64}
 0 {"settled":true}
 0 {"ok":true}
@@ -35,14 +35,14 @@ const SHARED: &str = r#"> come 0 admin
 > sync
 0 {"ok":true}
 0 {"settled":true}
-1 {"role":"mia"}
+1 {"protocol":1,"role":"mia"}
 1 {"at":"0123456789abcdef0123456789abcdef.0","names":64}
 1 {"settled":true}
 1 {"columns":[["id","int"],["who","text"]],"id":7,"ok":true,"sub":1}
 1 {"settled":true}
 1 {"changes":[[1,[1,"ann"]]],"sub":1}
 1 {"settled":true}
-2 {"role":"mia"}
+2 {"protocol":1,"role":"mia"}
 2 {"at":"0123456789abcdef0123456789abcdef.0","names":64}
 2 {"settled":true}
 2 {"columns":[["id","int"],["who","text"]],"id":"b","ok":true,"sub":1}
@@ -77,7 +77,7 @@ const SHARED: &str = r#"> come 0 admin
 > come 1 mia
 > say 1 {"do":"subscribe","on":"notes"}
 > sync
-1 {"role":"mia"}
+1 {"protocol":1,"role":"mia"}
 1 {"at":"0123456789abcdef0123456789abcdef.0","names":64}
 1 {"settled":true}
 1 {"columns":[["id","int"],["who","text"]],"ok":true,"sub":1}
@@ -93,7 +93,7 @@ const REFUSED: &str = r#"> come 0 admin
 > say 0 {"do":"grant","on":"notes","privileges":["insert"],"to":"mia"}
 > come 1 mia
 > sync
-0 {"role":"admin"}
+0 {"protocol":1,"role":"admin"}
 0 {"at":"0123456789abcdef0123456789abcdef.0","names":64}
 0 {"settled":true}
 0 {"ok":true}
@@ -106,7 +106,7 @@ const REFUSED: &str = r#"> come 0 admin
 0 {"ok":true}
 0 {"as":"admin","made":{"do":"grant","on":"notes","privileges":["insert"],"to":"mia"}}
 0 {"settled":true}
-1 {"role":"mia"}
+1 {"protocol":1,"role":"mia"}
 1 {"at":"0123456789abcdef0123456789abcdef.0","names":64}
 1 {"settled":true}
 > say 1 nonsense
@@ -176,7 +176,7 @@ const GRANTED: &str = r#"> come 0 admin
 > say 2 {"do":"subscribe","on":"notes"}
 > say 3 {"do":"subscribe","on":"notes"}
 > sync
-0 {"role":"admin"}
+0 {"protocol":1,"role":"admin"}
 0 {"at":"0123456789abcdef0123456789abcdef.0","names":64}
 0 {"settled":true}
 0 {"ok":true}
@@ -191,7 +191,7 @@ const GRANTED: &str = r#"> come 0 admin
 0 {"settled":true}
 0 {"as":"leo","made":{"do":"grant","on":"notes","privileges":["select"],"to":"mia"}}
 0 {"settled":true}
-1 {"role":"mia"}
+1 {"protocol":1,"role":"mia"}
 1 {"at":"0123456789abcdef0123456789abcdef.0","names":64}
 1 {"settled":true}
 1 {"granted":"notes"}
@@ -199,7 +199,7 @@ const GRANTED: &str = r#"> come 0 admin
 1 {"columns":[["id","int"]],"ok":true,"sub":1}
 1 {"changes":[[1,[1]]],"sub":1}
 1 {"settled":true}
-2 {"role":"mia"}
+2 {"protocol":1,"role":"mia"}
 2 {"at":"0123456789abcdef0123456789abcdef.0","names":64}
 2 {"settled":true}
 2 {"granted":"notes"}
@@ -207,7 +207,7 @@ const GRANTED: &str = r#"> come 0 admin
 2 {"columns":[["id","int"]],"ok":true,"sub":1}
 2 {"changes":[[1,[1]]],"sub":1}
 2 {"settled":true}
-3 {"role":"leo"}
+3 {"protocol":1,"role":"leo"}
 3 {"at":"0123456789abcdef0123456789abcdef.0","names":64}
 3 {"settled":true}
 3 {"granted":"notes"}
@@ -255,7 +255,7 @@ const GRANTED: &str = r#"> come 0 admin
 const TOKENS: &str = r#"> come 0 admin
 > say 0 {"do":"create_role","name":"mia"}
 > sync
-0 {"role":"admin"}
+0 {"protocol":1,"role":"admin"}
 0 {"at":"0123456789abcdef0123456789abcdef.0","names":64}
 0 {"settled":true}
 0 {"ok":true}
@@ -273,7 +273,7 @@ const TOKENS: &str = r#"> come 0 admin
 > tokens admin mia
 > come 1 mia
 > sync
-1 {"role":"mia"}
+1 {"protocol":1,"role":"mia"}
 1 {"at":"0123456789abcdef0123456789abcdef.0","names":64}
 1 {"settled":true}
 "#;
@@ -288,7 +288,7 @@ const RESTORED: &str = r#"> come 0 admin
 > say 1 {"do":"write","entries":[{"on":"notes","delete":[1]}]}
 > say 1 {"do":"subscribe","on":"notes"}
 > sync
-0 {"role":"admin"}
+0 {"protocol":1,"role":"admin"}
 0 {"at":"0123456789abcdef0123456789abcdef.0","names":64}
 0 {"settled":true}
 0 {"ok":true}
@@ -298,7 +298,7 @@ const RESTORED: &str = r#"> come 0 admin
 0 {"granted":"notes"}
 0 {"as":"admin","made":{"do":"create_table","name":"notes","owner":"mia","columns":[["id","int"]]}}
 0 {"settled":true}
-1 {"role":"mia"}
+1 {"protocol":1,"role":"mia"}
 1 {"at":"0123456789abcdef0123456789abcdef.0","names":64}
 1 {"settled":true}
 1 {"ok":true}
@@ -317,7 +317,7 @@ restored to 4
 > say 1 {"do":"subscribe","on":"notes"}
 > say 1 {"do":"write","entries":[{"on":"notes","insert":[3]}]}
 > sync
-1 {"role":"mia"}
+1 {"protocol":1,"role":"mia"}
 1 {"at":"0123456789abcdef0123456789abcdef.0","names":64}
 1 {"settled":true}
 1 {"columns":[["id","int"]],"ok":true,"sub":1}
@@ -351,7 +351,7 @@ viewd {"changes":[[1,[2]],[1,[3]]],"session":100,"sub":1}
 > come 0 admin
 > say 0 {"do":"subscribe","on":"notes"}
 > sync
-0 {"role":"admin"}
+0 {"protocol":1,"role":"admin"}
 0 {"at":"0123456789abcdef0123456789abcdef.0","names":64}
 0 {"as":"admin","made":{"do":"create_role","name":"mia"}}
 0 {"as":"admin","made":{"do":"create_table","name":"notes","owner":"mia","columns":[["id","int"]]}}
@@ -374,7 +374,7 @@ const SHAPE: &str = r#"> come 0 admin
 > say 1 {"do":"row_security","on":"notes","enable":true,"force":false}
 > say 2 {"id":5,"do":"create_policy","on":"notes","name":"few","using":"id < 7"}
 > sync
-0 {"role":"admin"}
+0 {"protocol":1,"role":"admin"}
 0 {"at":"0123456789abcdef0123456789abcdef.0","names":64}
 0 {"settled":true}
 0 {"ok":true}
@@ -391,7 +391,7 @@ const SHAPE: &str = r#"> come 0 admin
 0 {"settled":true}
 0 {"as":"admin","made":{"do":"create_policy","on":"notes","name":"few","using":"id < 7"}}
 0 {"settled":true}
-1 {"role":"mia"}
+1 {"protocol":1,"role":"mia"}
 1 {"at":"0123456789abcdef0123456789abcdef.0","names":64}
 1 {"settled":true}
 1 {"granted":"notes"}
@@ -405,7 +405,7 @@ const SHAPE: &str = r#"> come 0 admin
 1 {"settled":true}
 1 {"ok":true}
 1 {"settled":true}
-2 {"role":"admin"}
+2 {"protocol":1,"role":"admin"}
 2 {"at":"0123456789abcdef0123456789abcdef.0","names":64}
 2 {"as":"admin","made":{"do":"create_role","name":"mia"}}
 2 {"as":"admin","made":{ "do": "create_table", "name": "notes", "owner": "mia", "columns": [["id", "int"]] }}
@@ -420,7 +420,7 @@ const SHAPE: &str = r#"> come 0 admin
 restored to 5
 > come 3 admin
 > sync
-3 {"role":"admin"}
+3 {"protocol":1,"role":"admin"}
 3 {"at":"0123456789abcdef0123456789abcdef.0","names":64}
 3 {"as":"admin","made":{"do":"create_role","name":"mia"}}
 3 {"as":"admin","made":{ "do": "create_table", "name": "notes", "owner": "mia", "columns": [["id", "int"]] }}
@@ -474,7 +474,7 @@ const NAMED: &str = r#"> come 0 admin
 > say 0 {"id":2,"once":"AAAAAAAAAAAAAAAAAAAAB-","at":"f123456789abcdef0123456789abcdef.0","do":"create_role","name":"bob"}
 > say 0 {"once":"AAAAAAAAAAAAAAAAAAAAC-","at":"0123456789abcdef0123456789abcdef.1","do":"subscribe","on":"notes"}
 > sync
-0 {"role":"admin"}
+0 {"protocol":1,"role":"admin"}
 0 {"at":"0123456789abcdef0123456789abcdef.0","names":64}
 0 {"settled":true}
 0 {"answer":{"ok":true},"at":"0123456789abcdef0123456789abcdef.1"}
@@ -493,7 +493,7 @@ restored to 2
 > come 0 admin
 > say 0 {"id":3,"once":"AAAAAAAAAAAAAAAAAAAAA-","at":"0123456789abcdef0123456789abcdef.0","do":"create_role","name":"mia"}
 > sync
-0 {"role":"admin"}
+0 {"protocol":1,"role":"admin"}
 0 {"at":"0123456789abcdef0123456789abcdef.1","names":64}
 0 {"as":"admin","made":{"do":"create_role","name":"mia"}}
 0 {"settled":true}
