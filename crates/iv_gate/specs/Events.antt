@@ -1,12 +1,13 @@
 -- What happens to a gateway.
 use Rattle.std.specs.Prelude.{◌≡◌, ◌≤◌, ℕ, true, if◌then◌else◌, List, [], ◌∷◌, ◌++◌, length, is_some, option_and_then}
-use Rattle.std.specs.List.{AllByRecursion}
+use Rattle.std.specs.List.{AllByRecursion, list_all}
 use Rattle.serde_json.specs.Find.{as_object}
 use Rattle.iv_rows.specs.Options.{if_some}
 use Rattle.iv_clients.specs.Clients.{at_all, at_client, beating, checked, client_at, handing, released}
 use Rattle.iv_clients.specs.Bounds.{most_said}
-use Rattle.iv_clients.specs.Journal.{IsEntry}
+use Rattle.iv_clients.specs.Journal.{IsEntry, texts_of}
 use Rattle.iv_clients.specs.Tokens.{Token}
+use Rattle.iv_journal.specs.Journal.{is_text}
 use Rattle.iv_once.specs.Names.{Named}
 use Rattle.iv_request.specs.Reading.{value_of}
 use Rattle.iv_gate.specs.Arriving.{Step, entry_of, takes}
@@ -32,9 +33,9 @@ pub record IsAnswerText (e : Named) : Type 0 where
   pub object : is_some (option_and_then as_object (value_of e.answer)) ≡ true
   pub short : length e.answer ≤ most_said
 
--- a step has requests and names as the journal has them: who reads the log sees to that
+-- a step has requests and names as the journal has them, and texts that its disk takes: who reads the log sees to that
 abbrev pub IsWell : Event → Type 0
-IsWell (arrived s) = IsEntry (entry_of s) × AllByRecursion IsAnswerText s.names
+IsWell (arrived s) = IsEntry (entry_of s) × AllByRecursion IsAnswerText s.names × (list_all is_text (texts_of (entry_of s)) ≡ true)
 IsWell e = Unit {0}
 
 abbrev pub knowing : Gate → List Token → Gate
