@@ -417,7 +417,7 @@ const SHAPE: &str = r#"> come 0 admin
 2 {"as":"admin","made":{"do":"create_policy","on":"notes","name":"few","using":"id < 7"}}
 2 {"settled":true}
 > restart
-restored to 5
+restored to 6
 > come 3 admin
 > sync
 3 {"protocol":1,"role":"admin"}

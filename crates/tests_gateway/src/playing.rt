@@ -58,7 +58,8 @@ impl Kept {
         self.lines.push(OwnedLine {
             is_last,
             text: copy,
-        })
+        })?;
+        Ok(())
     }
 
     fn push_all(&mut self, lines: &[OwnedLine]) -> Result<(), AllocError> {
