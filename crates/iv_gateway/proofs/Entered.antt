@@ -1,20 +1,24 @@
 -- What the code keeps of entries that are added: names, positions, lines and the shape.
-use Rattle.std.proofs.Common.{◌≡◌, ◌∙◌, ◌≤◌, ℕ, ◌+◌, Bool, true, false, cond, List, [], ◌∷◌, ◌++◌, length, drop, Option, Some, None, refl, ap, sym, append-nil, arith, length-append}
-use Rattle.std.specs.Prelude.{bytes_eq, unwrap_or}
+use Rattle.std.proofs.Common.{◌≡◌, ◌∙◌, ◌≤◌, ℕ, ◌+◌, Bool, true, false, cond, not, ◌||◌, List, [], ◌∷◌, ◌++◌, length, drop, Option, Some, None, is_some, refl, ap, sym, subst, append-nil, append_assoc, arith, length-append}
+use Rattle.std.specs.Prelude.{◌&&◌, bytes_eq, option_map, unwrap_or}
 use Rattle.std.proofs.lemmas.Bool.{false≢true}
 use Rattle.std.proofs.lemmas.List.{drop-append-le, take-append-le}
 use Rattle.std.proofs.lemmas.List.Concat.{flat_map-append}
 use Rattle.std.proofs.lemmas.Slice.Eq.{bytes_eq-Decides}
 use Rattle.iv_journal.specs.Journal.{Line}
 use Rattle.iv_once.specs.Names as once
-use Rattle.iv_once.specs.Names.{Known, Named, Names, blamed, learned, own_of, pushed, spent_by, spent_more}
+use Rattle.iv_machine.specs.Act.{Reply}
+use Rattle.iv_once.specs.Names.{Ask, Known, Named, Names, blamed, learned, own_of, pushed, spent_by, spent_more}
 use Rattle.iv_once.specs.Views.{names_of as names_in_code}
-use Rattle.iv_clients.specs.Journal.{Entry, Request, journal_of, names_in, position_of, record_of, texts_of}
+use Rattle.iv_clients.specs.Journal.{Entry, Request, is_shared, journal_of, name_text, names_in, position_of, record_of, request_text, texts_of}
 use Rattle.iv_clients.specs.Names.{limits, place_text}
 use Rattle.iv_gate.specs.Arriving.{position, settled_at}
-use Rattle.iv_gate.specs.Gate.{Gate, entered, known_at, known_by, known_of, names_of, place_of, spent_in}
-use Rattle.iv_gateway.specs.Views.{IsPending}
+use Rattle.iv_gate.specs.Gate.{Gate, answer_text, answering, entered, entries_of, is_accepted, known_at, known_by, known_of, names_of, place_of, shape_text, spent_in}
+use Rattle.iv_rows.specs.Options.{if_some}
+use Rattle.iv_gateway.specs.Shaping.{shape_in}
+use Rattle.iv_gateway.specs.Views.{IsAlive, IsPending}
 use Rattle.iv_gateway.specs.declared.gateway.Gateway.{Gateway}
+use Rattle.iv_gateway.proofs.Shaped.{shape_added}
 
 -- ---- where names stand
 
@@ -80,42 +84,43 @@ known_last k (e ∷ es) n = known_last (learned limits (once.named e) k) es n
 abbrev pub entry_with : List Request → List Named → Entry
 entry_with qs ns = record { requests = qs; names = ns; position = None }
 
+abbrev names_by : Gate → List Named → List Named → Names
+names_by g all spent = record { limits = limits; known = known_by (known_at g.head) all; spent = spent_in spent }
+
+-- a name more
+pub one_pushed : (g : Gate) (all spent : List Named) (n : Named) → names_by g (all ++ n ∷ []) (spent ++ n ∷ []) ≡ pushed (names_by g all spent) (once.named n)
+one_pushed g all spent n = λ i. record { limits = limits; known = known_last (known_at g.head) all n i; spent = spent_last spent n i }
+
+names_more : (g : Gate) (qs : List Request) (ns : List Named) → g.forgiven ≤ length g.entries
+    → names_of (entered g (entry_with qs ns ∷ [])) ≡ names_by g (names_in g.entries ++ ns) (names_in (drop g.forgiven g.entries) ++ ns)
+names_more g qs ns f =
+    let e = entry_with qs ns in
+    let more : (es : List Entry) → names_in (es ++ e ∷ []) ≡ names_in es ++ ns = λ es. flat_map-append (λ (x : Entry). x.names) es (e ∷ [])
+    ∙ ap (λ z. names_in es ++ z) (append-nil ns) in
+    λ i. names_by g (more g.entries i) ((ap names_in (drop-append-le g.forgiven g.entries (e ∷ []) f) ∙ more (drop g.forgiven g.entries)) i)
+
 -- an entry with a name
 pub names_pushed : (g : Gate) (qs : List Request) (n : Named) → g.forgiven ≤ length g.entries → names_of (entered g (entry_with qs (n ∷ []) ∷ [])) ≡ pushed (names_of g) (once.named n)
-names_pushed g qs n f =
-    let e = entry_with qs (n ∷ []) in
-    let known : known_by (known_at g.head) (names_in (g.entries ++ e ∷ [])) ≡ learned limits (once.named n) (known_of g) =
-    ap (known_by (known_at g.head)) (flat_map-append (λ (x : Entry). x.names) g.entries (e ∷ [])) ∙ known_last (known_at g.head) (names_in g.entries) n in
-    let spent : spent_in (names_in (drop g.forgiven (g.entries ++ e ∷ []))) ≡ spent_more (spent_in (names_in (drop g.forgiven g.entries))) (blamed (once.named n)) =
-    ap (λ z. spent_in (names_in z)) (drop-append-le g.forgiven g.entries (e ∷ []) f)
-    ∙ (ap spent_in (flat_map-append (λ (x : Entry). x.names) (drop g.forgiven g.entries) (e ∷ [])) ∙ spent_last (names_in (drop g.forgiven g.entries)) n) in
-    λ i. record { limits = limits; known = known i; spent = spent i }
+names_pushed g qs n f = names_more g qs (n ∷ []) f ∙ one_pushed g (names_in g.entries) (names_in (drop g.forgiven g.entries)) n
 
 -- and one without
 pub names_stay : (g : Gate) (qs : List Request) → g.forgiven ≤ length g.entries → names_of (entered g (entry_with qs [] ∷ [])) ≡ names_of g
-names_stay g qs f =
-    let e = entry_with qs [] in
-    let known : known_by (known_at g.head) (names_in (g.entries ++ e ∷ [])) ≡ known_of g =
-    ap (known_by (known_at g.head)) (flat_map-append (λ (x : Entry). x.names) g.entries (e ∷ []) ∙ append-nil (names_in g.entries)) in
-    let spent : spent_in (names_in (drop g.forgiven (g.entries ++ e ∷ []))) ≡ spent_in (names_in (drop g.forgiven g.entries)) =
-    ap (λ z. spent_in (names_in z)) (drop-append-le g.forgiven g.entries (e ∷ []) f)
-    ∙ ap spent_in (flat_map-append (λ (x : Entry). x.names) (drop g.forgiven g.entries) (e ∷ []) ∙ append-nil (names_in (drop g.forgiven g.entries))) in
-    λ i. record { limits = limits; known = known i; spent = spent i }
+names_stay g qs f = names_more g qs [] f ∙ (λ i. names_by g (append-nil (names_in g.entries) i) (append-nil (names_in (drop g.forgiven g.entries)) i))
 
 -- ---- positions
 
-position_last : (p : ℕ) (es : List Entry) (qs : List Request) (ns : List Named) → position_of p (es ++ entry_with qs ns ∷ []) ≡ position_of p es
-position_last p [] qs ns = refl
-position_last p (e ∷ es) qs ns = position_last (unwrap_or e.position p) es qs ns
+pub position_push : (p : ℕ) (es : List Entry) (e : Entry) → position_of p (es ++ e ∷ []) ≡ unwrap_or e.position (position_of p es)
+position_push p [] e = refl
+position_push p (x ∷ xs) e = position_push (unwrap_or x.position p) xs e
 
 -- a client's request is no step
-pub position_stays : (g : Gate) (qs : List Request) (ns : List Named) → position (entered g (entry_with qs ns ∷ [])) ≡ position g
-position_stays g qs ns = position_last g.head.position g.entries qs ns
+position_stays : (g : Gate) (qs : List Request) (ns : List Named) → position (entered g (entry_with qs ns ∷ [])) ≡ position g
+position_stays g qs ns = position_push g.head.position g.entries (entry_with qs ns)
 
-pub settled_stays : (g : Gate) (es : List Entry) → g.kept ≤ length g.entries → settled_at (entered g es) ≡ settled_at g
+settled_stays : (g : Gate) (es : List Entry) → g.kept ≤ length g.entries → settled_at (entered g es) ≡ settled_at g
 settled_stays g es h = ap (position_of g.head.position) (take-append-le g.kept g.entries es h)
 
-pub forgiven_more : (g : Gate) (es : List Entry) → g.forgiven ≤ length g.entries → g.forgiven ≤ length (entered g es).entries
+forgiven_more : (g : Gate) (es : List Entry) → g.forgiven ≤ length g.entries → g.forgiven ≤ length (entered g es).entries
 forgiven_more g es h = let l = length-append g.entries es in omega (arith, h, l)
 
 -- ---- lines
@@ -123,8 +128,99 @@ forgiven_more g es h = let l = length-append g.entries es in omega (arith, h, l)
 abbrev lines_of : Entry → List Line
 lines_of e = record_of (texts_of e)
 
-pub pends_more : (kept : ℕ) (es fs : List Entry) (old new : List Line) → IsPending kept es old → new ≡ old ++ journal_of fs → IsPending kept (es ++ fs) new
+pends_more : (kept : ℕ) (es fs : List Entry) (old new : List Line) → IsPending kept es old → new ≡ old ++ journal_of fs → IsPending kept (es ++ fs) new
 pends_more kept es fs old new p h = record {
   within = let l = length-append es fs in let w = p.within in omega (arith, l, w);
   lines = h ∙ (ap (λ z. z ++ journal_of fs) p.lines ∙ (sym (flat_map-append lines_of (drop kept es) fs) ∙ ap journal_of (sym (drop-append-le kept es fs p.within))));
 }
+
+-- ---- what a request adds
+
+-- what of the code's values hangs on the entries
+pub record AreKept (g : Gate) (names : Names) (at settled : ℕ) (lines : List Line) (shape : List ℕ) : Type 0 where
+  pub names : names ≡ names_of g
+  pub position : at ≡ position g
+  pub settled : settled ≡ settled_at g
+  pub forgiven : g.forgiven ≤ length g.entries
+  pub pending : IsPending g.kept g.entries lines
+  pub shape : shape ≡ shape_text g.entries
+
+one_kept : (g : Gate) (qs : List Request) (ns : List Named) (x : Gateway) (names : Names) (lines : List Line) (shape : List ℕ) → IsAlive g x
+    → names ≡ names_of (entered g (entry_with qs ns ∷ [])) → lines ≡ x.pending.items ++ journal_of (entry_with qs ns ∷ [])
+    → shape ≡ shape_text (g.entries ++ entry_with qs ns ∷ [])
+    → AreKept (entered g (entry_with qs ns ∷ [])) names x.position x.settled lines shape
+one_kept g qs ns x names lines shape b n l s = record {
+  names = n;
+  position = b.position ∙ sym (position_stays g qs ns);
+  settled = b.settled ∙ sym (settled_stays g (entry_with qs ns ∷ []) b.pending.within);
+  forgiven = forgiven_more g (entry_with qs ns ∷ []) b.forgiven;
+  pending = pends_more g.kept g.entries (entry_with qs ns ∷ []) x.pending.items lines b.pending l;
+  shape = s;
+}
+
+none_kept : (g : Gate) (x : Gateway) (names : Names) (lines : List Line) (shape : List ℕ) → IsAlive g x → names ≡ names_in_code x.names
+    → lines ≡ x.pending.items ++ [] → shape ≡ shape_text (g.entries ++ []) → AreKept (entered g []) names x.position x.settled lines shape
+none_kept g x names lines shape b n l s = subst (λ es. AreKept (record g { entries = es }) names x.position x.settled lines shape) (sym (append-nil g.entries))
+    (record {
+      names = n ∙ b.names;
+      position = b.position;
+      settled = b.settled;
+      forgiven = b.forgiven;
+      pending = record { within = b.pending.within; lines = l ∙ (append-nil x.pending.items ∙ b.pending.lines) };
+      shape = s ∙ ap shape_text (append-nil g.entries);
+    })
+
+-- the entry of a request, by whether it is accepted
+abbrev entries_by : Bool → Request → Option Ask → Reply → List Entry
+entries_by accepted q by r = cond (accepted || is_some by) (record { requests = cond accepted (q ∷ []) []; names = answering by r; position = None } ∷ []) []
+
+entries_are : (accepted : Bool) (q : Request) (by : Option Ask) (r : Reply) → is_shared q.act ≡ true → accepted ≡ is_accepted r
+    → entries_by accepted q by r ≡ entries_of q by r
+entries_are accepted q by r h e = λ i. cond (sym h i && (e i || is_some by)) (record { requests = cond (e i) (q ∷ []) []; names = answering by r; position = None } ∷ []) []
+
+-- a name as the code has it, with the answer
+abbrev pub named_by : Option Ask → Reply → Option Named
+named_by by r = option_map (λ a. record { ask = a; refused = not (is_accepted r); answer = answer_text r }) by
+
+abbrev lines_by : Bool → Request → Option Named → List Line
+lines_by true q name = record_of (request_text q ∷ if_some name [] (λ n. name_text n ∷ []))
+lines_by false q name = if_some name [] (λ n. record_of (name_text n ∷ []))
+
+abbrev names_with : Names → Option Named → Names
+names_with n name = if_some name n (λ e. pushed n (once.named e))
+
+kept_by : (accepted : Bool) (g : Gate) (q : Request) (by : Option Ask) (r : Reply) (x : Gateway) (names : Names) (lines : List Line) (shape : List ℕ) → IsAlive g x
+    → names ≡ names_with (names_in_code x.names) (named_by by r) → lines ≡ x.pending.items ++ lines_by accepted q (named_by by r)
+    → shape ≡ shape_text (g.entries ++ entries_by accepted q by r)
+    → AreKept (entered g (entries_by accepted q by r)) names x.position x.settled lines shape
+kept_by true g q None r x names lines shape b n l s = one_kept g (q ∷ []) [] x names lines shape b (n ∙ (b.names ∙ sym (names_stay g (q ∷ []) b.forgiven))) l s
+kept_by true g q (Some a) r x names lines shape b n l s =
+    let e : Named = record { ask = a; refused = not (is_accepted r); answer = answer_text r } in
+    one_kept g (q ∷ []) (e ∷ []) x names lines shape b (n ∙ (ap (λ z. pushed z (once.named e)) b.names ∙ sym (names_pushed g (q ∷ []) e b.forgiven))) l s
+kept_by false g q None r x names lines shape b n l s = none_kept g x names lines shape b n l s
+kept_by false g q (Some a) r x names lines shape b n l s =
+    let e : Named = record { ask = a; refused = not (is_accepted r); answer = answer_text r } in
+    one_kept g [] (e ∷ []) x names lines shape b (n ∙ (ap (λ z. pushed z (once.named e)) b.names ∙ sym (names_pushed g [] e b.forgiven))) l s
+
+-- behind its entry
+pub entry_kept : (g : Gate) (q : Request) (by : Option Ask) (r : Reply) (accepted : Bool) (name : Option Named) (x : Gateway) (names : Names) (lines : List Line) (old made shape : List ℕ)
+    → IsAlive g x → is_shared q.act ≡ true → accepted ≡ is_accepted r → name ≡ named_by by r
+    → names ≡ names_with (names_in_code x.names) name → lines ≡ x.pending.items ++ lines_by accepted q name
+    → old ≡ shape_text g.entries → made ≡ shape_text (entries_of q by r) → shape ≡ old ++ made
+    → AreKept (entered g (entries_of q by r)) names x.position x.settled lines shape
+entry_kept g q by r accepted name x names lines old made shape b h a e n l o m s =
+    let are = entries_are accepted q by r h a in
+    subst (λ es. AreKept (entered g es) names x.position x.settled lines shape) are
+    (kept_by accepted g q by r x names lines shape b (n ∙ ap (names_with (names_in_code x.names)) e)
+    (l ∙ ap (λ z. x.pending.items ++ lines_by accepted q z) e)
+    (shape_added g.entries (entries_of q by r) old made shape o m s ∙ ap (λ es. shape_text (g.entries ++ es)) (sym are)))
+
+-- what the entry makes of the shape
+made_by : (accepted : Bool) (q : Request) (by : Option Ask) (r : Reply) → shape_text (entries_by accepted q by r) ≡ cond accepted (shape_in q) []
+made_by true q by r = refl
+made_by false q None r = refl
+made_by false q (Some a) r = refl
+
+pub made_is : (q : Request) (by : Option Ask) (r : Reply) (accepted : Bool) → is_shared q.act ≡ true → accepted ≡ is_accepted r
+    → cond accepted (shape_in q) [] ≡ shape_text (entries_of q by r)
+made_is q by r accepted h a = sym (made_by accepted q by r) ∙ ap shape_text (entries_are accepted q by r h a)

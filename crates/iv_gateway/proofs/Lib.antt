@@ -5,12 +5,12 @@ pub mod Seated
 pub mod Swept
 pub mod Gone
 pub mod Alive
-pub mod Entered
-pub mod Replayed
 pub mod Came
 pub mod Closed
 pub mod Agreeing
 pub mod Said
 pub mod Granted
 pub mod Shaped
+pub mod Entered
+pub mod Replayed
 pub mod Subscribed

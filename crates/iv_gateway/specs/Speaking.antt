@@ -1,14 +1,16 @@
 -- For contracts of the code: what it knows of a client whose message is heard, and of what that asks.
-use Rattle.std.specs.Prelude.{ℕ, List, [], ◌∷◌, if◌then◌else◌, length, Option, Some, None, option_and_then, option_map}
+use Rattle.std.specs.Prelude.{ℕ, Bool, true, false, List, [], ◌∷◌, if◌then◌else◌, length, Option, Some, None, option_and_then, option_map}
 use Rattle.serde_json.specs.Data.{Data}
 use Rattle.iv_rows.specs.Options.{if_some}
 use Rattle.iv_access.specs.Rights.{Name}
 use Rattle.iv_machine.specs.Act.{Act, Reply}
-use Rattle.iv_clients.specs.Journal.{Request}
+use Rattle.iv_clients.specs.Journal.{Request, name_text, record_of}
 use Rattle.iv_clients.specs.Kept.{Kept, may_ask}
 use Rattle.iv_clients.specs.Names.{Claim}
+use Rattle.iv_clients.specs.Parsed.{text_of_request}
 use Rattle.iv_gate.specs.Gate.{Gate, entries_of, shape_text}
-use Rattle.iv_once.specs.Names.{Ask}
+use Rattle.iv_journal.specs.Journal.{Line}
+use Rattle.iv_once.specs.Names.{Ask, Named}
 
 -- its role, who holds its token, how many of its numbers are open, and the bytes that others have brought it
 pub record Speaking : Type 0 where
@@ -37,3 +39,8 @@ request_of a act = record { role = a.role; line = a.line; act = act }
 -- the text of what its entry makes of the shape
 abbrev pub made_of : Asking → Act → Option Ask → Reply → List ℕ
 made_of a act name r = shape_text (entries_of (request_of a act) name r)
+
+-- the lines of its entry, if it has one: of it, where it is accepted, and of its name, if it has one
+abbrev pub lines_entered : Asking → Bool → Option Named → List Line
+lines_entered a true name = record_of (text_of_request a.role a.line ∷ if_some name [] (λ n. name_text n ∷ []))
+lines_entered a false name = if_some name [] (λ n. record_of (name_text n ∷ []))

@@ -1,13 +1,16 @@
 //! `restore`: brings a gateway to where the lines of a journal lead.
-ghost use Rattle.std.specs.Prelude.{◌≡◌, [], ℕ, List, Err, IfOk, OnErr, true};
+ghost use Rattle.std.specs.Prelude.{◌≡◌, ◌<◌, ◌≤◌, ◌++◌, ◌∷◌, [], ℕ, List, Option, Err, IfOk, IfSome, OnErr, length, map, true};
+ghost use Rattle.std.specs.List.{AllByRecursion};
 ghost use Rattle.iv_command.specs.Views.{act_of};
 ghost use Rattle.iv_machine.specs.Well.{is_well_act};
-ghost use Rattle.iv_clients.specs.Journal.{Entry, IsEntry, IsRequest};
+ghost use Rattle.iv_machine.specs.State.{State};
+ghost use Rattle.iv_clients.specs.Journal.{Entry, IsEntry, IsRequest, Request as RequestSpec};
+ghost use Rattle.iv_gate.specs.Arriving.{fact_of};
 ghost use Rattle.iv_gate.specs.Events.{failed, next};
 ghost use Rattle.iv_gate.specs.Gate.{Gate};
 ghost use Rattle.iv_gate.specs.Restoring.{IsDamagedAt};
-ghost use Rattle.iv_steps.specs.Steps.{passed};
-ghost use Rattle.iv_gateway.specs.Replays.{HasReplayed, IsNameReplayed, IsNew, IsPassed, IsRecordReplayed, IsReplayed, IsReplaying, IsRequestReplayed, IsRestored, within};
+ghost use Rattle.iv_steps.specs.Steps.{all_carried, carried, passed};
+ghost use Rattle.iv_gateway.specs.Replays.{AreNamesReplayed, HasReplayed, IsNameReplayed, IsNew, IsPassed, IsRecordReplayed, IsReplayed, IsReplaying, IsRestored, IsStepReplayed, behind, part, with_request};
 ghost use Rattle.iv_gateway.specs.Views.{IsAlive, IsGate};
 
 use crate::gateway::Gateway;
@@ -70,10 +73,7 @@ impl Gateway {
         ensures damaged { (place : ℕ) → result ≡ Err (RestoreFault.Damaged place) → (g : Gate) → IsNew g → IsAlive g self.old → IsDamagedAt g journal.now place }
     {
         let mut at = 0usize;
-        for _ in 0..journal.len() {
-            if at == journal.len() {
-                break;
-            }
+        'lines: while at < journal.len() {
             match self.replay_record(&journal[at..]) {
                 Err(_) => return Err(RestoreFault::Memory),
                 Ok(None) => return Err(RestoreFault::Damaged(at)),
@@ -86,7 +86,9 @@ impl Gateway {
 
     /// Runs the entry of the first record. Answers how many lines that has, where its entry is one that may stand there.
     fn replay_record(&mut self, lines: &[Line<'_>]) -> Result<Option<usize>, AllocError>
-        ensures { IfOk result (λ o. (g : Gate) (es : List Entry) → IsReplaying g es self.old → IsRecordReplayed g es lines.now o self.new) }
+        ensures replayed { IfOk result (λ o. (g : Gate) (es : List Entry) → IsReplaying g es self.old → IsRecordReplayed g es lines.now o self.new) }
+        ensures within { IfOk result (λ o. IfSome o (λ n. n ≤ length lines.now)) }
+        ensures some { IfOk result (λ o. IfSome o (λ n. 0 < n)) }
     {
         records_are_read_back();
         match read_record(self.alloc, lines, &mut self.scratch)? {
@@ -111,18 +113,51 @@ impl Gateway {
             names,
             position,
         } = entry;
-        if let Some(place) = position {
-            if place <= self.position {
-                return Ok(false);
-            }
-            self.position = place;
-            self.settled = place;
+        if !self.replay_position(position) {
+            return Ok(false);
         }
+        if !self.replay_requests(requests)? {
+            return Ok(false);
+        }
+        self.replay_names(names)
+    }
+
+    /// Goes on to the position of an entry, if it is a step's. Whether that is behind the last.
+    fn replay_position(&mut self, position: Option<u64>) -> bool
+        ensures { (g : Gate) (s : State) (es : List Entry) → IsAlive (behind g s es) self.old → IsStepReplayed g s es position result self.new }
+    {
+        match position {
+            None => true,
+            Some(place) => {
+                if place <= self.position {
+                    return false;
+                }
+                self.position = place;
+                self.settled = place;
+                true
+            }
+        }
+    }
+
+    /// Runs the requests of an entry. Whether all are accepted.
+    fn replay_requests(&mut self, requests: Vec<Request>) -> Result<bool, AllocError>
+        requires { AllByRecursion IsRequest requests.items }
+        ensures { IfOk result (λ is. (g : Gate) (s : State) (es : List Entry) (p : Option ℕ) → IsAlive (behind g s (es ++ part [] [] p ∷ [])) self.old
+            → IsPassed (behind g s (es ++ part requests.items [] p ∷ [])) (all_carried (map fact_of requests.items) s) is self.new) }
+    {
         for request in requests {
             if !self.replay_request(request)? {
                 return Ok(false);
             }
         }
+        Ok(true)
+    }
+
+    /// Learns the names of an entry, which have their answers. Whether they had none.
+    fn replay_names(&mut self, names: Vec<Named>) -> Result<bool, AllocError>
+        ensures { IfOk result (λ is. (g : Gate) (s : State) (es : List Entry) (qs : List RequestSpec) (p : Option ℕ)
+            → IsAlive (behind g s (es ++ part qs [] p ∷ [])) self.old → AreNamesReplayed g s es qs names.items p is self.new) }
+    {
         for name in names {
             if !self.replay_name(name)? {
                 return Ok(false);
@@ -133,7 +168,8 @@ impl Gateway {
 
     /// Learns a name that has its answer. Whether it had none.
     fn replay_name(&mut self, name: Named) -> Result<bool, AllocError>
-        ensures { IfOk result (λ is. (g : Gate) (es : List Entry) (e : Entry) → IsAlive (within g es e) self.old → IsNameReplayed g es e name is self.new) }
+        ensures { IfOk result (λ is. (g : Gate) (s : State) (es : List Entry) (e : Entry) → IsAlive (behind g s (es ++ e ∷ [])) self.old
+            → IsNameReplayed g s es e name is self.new) }
     {
         if !self.names.is_new(&name.ask) {
             return Ok(false);
@@ -145,7 +181,8 @@ impl Gateway {
     /// Runs a request of an entry, and appends what it makes of the shape. Whether it is accepted.
     fn replay_request(&mut self, request: Request) -> Result<bool, AllocError>
         requires { IsRequest request }
-        ensures { IfOk result (λ is. (g : Gate) (es : List Entry) (e : Entry) → IsAlive (within g es e) self.old → IsRequestReplayed g es e request is self.new) }
+        ensures { IfOk result (λ is. (g : Gate) (s : State) (es : List Entry) (e : Entry) → IsAlive (behind g s (es ++ e ∷ [])) self.old
+            → IsPassed (behind g s (es ++ with_request e request ∷ [])) (carried (fact_of request) s) is self.new) }
     {
         requests_are_well();
         let Request { role, line, act } = request;

@@ -1,5 +1,5 @@
 //! What changes what is shared: a request is done once by its name, if it has one, and its client is told the reply before what it changes.
-ghost use Rattle.std.specs.Prelude.{◌≡◌, ◌∷◌, [], ℕ, List, IfOk, OnOk, None, Option, codes, is_some, map, not, option_map, string_bytes, true};
+ghost use Rattle.std.specs.Prelude.{◌≡◌, ◌∷◌, ◌++◌, [], ℕ, List, IfOk, OnOk, if◌then◌else◌, None, Option, codes, is_some, map, not, option_map, string_bytes, true};
 ghost use Rattle.serde_json.specs.Data.{object};
 ghost use Rattle.serde_json.specs.Written.{compact_text};
 ghost use Rattle.sha2.specs.Sha256.{sha256};
@@ -12,10 +12,11 @@ ghost use Rattle.iv_clients.specs.Journal.{is_shared};
 ghost use Rattle.iv_clients.specs.Clients as spec;
 ghost use Rattle.iv_clients.specs.Names.{Claim, holder_of, place_text};
 ghost use Rattle.iv_once.specs.Names as once;
-ghost use Rattle.iv_once.specs.Names.{Ask, verdict};
+ghost use Rattle.iv_once.specs.Names.{Ask, named, pushed, verdict};
+ghost use Rattle.iv_once.specs.Views.{names_of as names_known};
 ghost use Rattle.iv_gate.specs.Gate.{Gate, answer_text, answering, by_verdict, carries, decides, done_in, entered, entries_of, in_session, is_accepted, names_of, place_of, replies_to, reply_in, shares, tells};
 ghost use Rattle.iv_gateway.specs.Granting.{IsGranting};
-ghost use Rattle.iv_gateway.specs.Speaking.{made_of, request_of};
+ghost use Rattle.iv_gateway.specs.Speaking.{lines_entered, made_of, request_of};
 ghost use Rattle.iv_gateway.specs.Views.{IsAlive, IsRun};
 
 use crate::coming::place_text;
@@ -23,10 +24,10 @@ use crate::gateway::Gateway;
 use crate::granting::Grants;
 use crate::seats::is_accepted;
 use crate::shaping::push_shape;
-use iv_clients::{Claim, holder_of, push_accepted, push_named, seat_of};
+use iv_clients::{Claim, OwnedLine, holder_of, push_accepted, push_named, seat_of};
 use iv_command::{Act, Command, Line, Refusal, Reply};
 use iv_message::{Id, push_answered, push_denied, push_replied, push_undecided};
-use iv_once::{Ask, Named, Verdict};
+use iv_once::{Ask, Named, Names, Verdict};
 use sha2::{Digest, Sha256};
 use std::alloc::{AllocError, Global};
 use std::marker::Model;
@@ -80,6 +81,44 @@ fn answer_text(alloc: Global, reply: &Reply) -> Result<Vec<u8>, AllocError>
     Ok(text)
 }
 
+/// Appends the lines of what the journal is to have of a request.
+fn push_entry(
+    alloc: Global,
+    lines: &mut Vec<OwnedLine>,
+    asked: &Asked<'_>,
+    name: &Option<Named>,
+    accepted: bool,
+) -> Result<(), AllocError>
+    ensures { OnOk result (lines.new.items ≡ lines.old.items ++ lines_entered asked.now accepted name.now) }
+{
+    if accepted {
+        return push_accepted(alloc, lines, asked.role, asked.line, name);
+    }
+    match name {
+        None => Ok(()),
+        Some(named) => push_named(alloc, lines, named),
+    }
+}
+
+/// One name more is known, if there is one.
+fn push_name(names: &mut Names, name: Option<Named>) -> Result<(), AllocError>
+    ensures { OnOk result (names_known names.new ≡ if_some name (names_known names.old) (λ n. pushed (names_known names.old) (named n))) }
+{
+    match name {
+        None => Ok(()),
+        Some(named) => names.push(named),
+    }
+}
+
+/// Of what was refused nothing makes the shape.
+fn clear_refused(made: &mut Vec<u8>, lines: &[Line])
+    ensures { made.new.items ≡ (if is_accepted (reply_in (map line_of lines.now)) then made.old.items else []) }
+{
+    if !is_accepted(lines) {
+        made.clear();
+    }
+}
+
 impl Gateway {
     /// Has a request told by which rule of the gateway it was not done.
     fn deny(&mut self, asked: &Asked<'_>, number: u64) -> Result<(), AllocError>
@@ -128,15 +167,9 @@ impl Gateway {
             → accepted ≡ is_accepted r → name ≡ option_map (λ a. record { ask = a; refused = not (is_accepted r); answer = answer_text r }) by
             → made.now ≡ made_of asked.now act by r → IsAlive (entered g (entries_of (request_of asked.now act) by r)) self.new) }
     {
-        if accepted {
-            push_accepted(self.alloc, &mut self.pending, asked.role, asked.line, &name)?;
-        } else if let Some(named) = &name {
-            push_named(self.alloc, &mut self.pending, named)?;
-        }
+        push_entry(self.alloc, &mut self.pending, asked, &name, accepted)?;
         self.shape.extend_from_slice(made)?;
-        if let Some(named) = name {
-            self.names.push(named)?;
-        }
+        push_name(&mut self.names, name)?;
         Ok(())
     }
 
@@ -171,6 +204,26 @@ impl Gateway {
         }
     }
 
+    /// Has a request told the reply that the engine's lines begin with, and the journal get what it is to have of it.
+    fn answer_first(
+        &mut self,
+        asked: &Asked<'_>,
+        name: Option<Ask>,
+        lines: &[Line],
+        made: &[u8],
+    ) -> Result<(), AllocError>
+        ensures { OnOk result ((g : Gate) (act : Act) → IsAlive g self.old → is_shared act ≡ true → made.now ≡ made_of asked.now act name (reply_in (map line_of lines.now))
+            → IsAlive (replies_to g asked.now.client asked.now.id (request_of asked.now act) name (reply_in (map line_of lines.now))) self.new) }
+    {
+        match lines.first() {
+            Some(Line::Reply { reply, .. }) => self.answer_request(asked, name, reply, made),
+            _ => {
+                let reply = Reply::Refused(Refusal::NoSession);
+                self.answer_request(asked, name, &reply, made)
+            }
+        }
+    }
+
     /// Has told what the engine answered a request, by what it makes of the shape if it is accepted, and what it grants. Its client is told
     /// the reply, then everybody what changed, and then administrators the request.
     fn tell_request(
@@ -185,13 +238,7 @@ impl Gateway {
             → made.now ≡ made_of asked.now act name (reply_in (map line_of lines.now)) → IsGranting act grants.now
             → IsAlive (done_in g asked.now.client asked.now.id (request_of asked.now act) name n) self.new) }
     {
-        match lines.first() {
-            Some(Line::Reply { reply, .. }) => self.answer_request(asked, name, reply, made)?,
-            _ => {
-                let reply = Reply::Refused(Refusal::NoSession);
-                self.answer_request(asked, name, &reply, made)?;
-            }
-        }
+        self.answer_first(asked, name, lines, made)?;
         self.hear(lines, grants)?;
         self.inform(made)
     }
@@ -216,9 +263,7 @@ impl Gateway {
         let mut made = Vec::new(self.alloc);
         push_shape(self.alloc, &mut made, asked.role, asked.line, &act)?;
         let lines = self.run(Command { session, act })?;
-        if !is_accepted(&lines) {
-            made.clear();
-        }
+        clear_refused(&mut made, &lines);
         self.tell_request(asked, name, &made, &lines, &grants)
     }
 
