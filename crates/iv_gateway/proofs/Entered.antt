@@ -7,7 +7,7 @@ use Rattle.std.proofs.lemmas.List.Concat.{flat_map-append}
 use Rattle.std.proofs.lemmas.Slice.Eq.{bytes_eq-Decides}
 use Rattle.iv_journal.specs.Journal.{Line}
 use Rattle.iv_once.specs.Names as once
-use Rattle.iv_machine.specs.Act.{Reply}
+use Rattle.iv_machine.specs.Act.{Act, Reply}
 use Rattle.iv_once.specs.Names.{Ask, Known, Named, Names, blamed, learned, own_of, pushed, spent_by, spent_more}
 use Rattle.iv_once.specs.Views.{names_of as names_in_code}
 use Rattle.iv_clients.specs.Journal.{Entry, Request, is_shared, journal_of, name_text, names_in, position_of, record_of, request_text, texts_of}
@@ -16,6 +16,7 @@ use Rattle.iv_gate.specs.Arriving.{position, settled_at}
 use Rattle.iv_gate.specs.Gate.{Gate, answer_text, answering, entered, entries_of, is_accepted, known_at, known_by, known_of, names_of, place_of, shape_text, spent_in}
 use Rattle.iv_rows.specs.Options.{if_some}
 use Rattle.iv_gateway.specs.Shaping.{shape_in}
+use Rattle.iv_gateway.specs.Speaking.{Asking, lines_entered, request_of}
 use Rattle.iv_gateway.specs.Views.{IsAlive, IsPending}
 use Rattle.iv_gateway.specs.declared.gateway.Gateway.{Gateway}
 use Rattle.iv_gateway.proofs.Shaped.{shape_added}
@@ -182,38 +183,34 @@ entries_are accepted q by r h e = λ i. cond (sym h i && (e i || is_some by)) (r
 abbrev pub named_by : Option Ask → Reply → Option Named
 named_by by r = option_map (λ a. record { ask = a; refused = not (is_accepted r); answer = answer_text r }) by
 
-abbrev lines_by : Bool → Request → Option Named → List Line
-lines_by true q name = record_of (request_text q ∷ if_some name [] (λ n. name_text n ∷ []))
-lines_by false q name = if_some name [] (λ n. record_of (name_text n ∷ []))
-
 abbrev names_with : Names → Option Named → Names
 names_with n name = if_some name n (λ e. pushed n (once.named e))
 
-kept_by : (accepted : Bool) (g : Gate) (q : Request) (by : Option Ask) (r : Reply) (x : Gateway) (names : Names) (lines : List Line) (shape : List ℕ) → IsAlive g x
-    → names ≡ names_with (names_in_code x.names) (named_by by r) → lines ≡ x.pending.items ++ lines_by accepted q (named_by by r)
-    → shape ≡ shape_text (g.entries ++ entries_by accepted q by r)
-    → AreKept (entered g (entries_by accepted q by r)) names x.position x.settled lines shape
-kept_by true g q None r x names lines shape b n l s = one_kept g (q ∷ []) [] x names lines shape b (n ∙ (b.names ∙ sym (names_stay g (q ∷ []) b.forgiven))) l s
-kept_by true g q (Some a) r x names lines shape b n l s =
-    let e : Named = record { ask = a; refused = not (is_accepted r); answer = answer_text r } in
-    one_kept g (q ∷ []) (e ∷ []) x names lines shape b (n ∙ (ap (λ z. pushed z (once.named e)) b.names ∙ sym (names_pushed g (q ∷ []) e b.forgiven))) l s
-kept_by false g q None r x names lines shape b n l s = none_kept g x names lines shape b n l s
-kept_by false g q (Some a) r x names lines shape b n l s =
-    let e : Named = record { ask = a; refused = not (is_accepted r); answer = answer_text r } in
+kept_by : (accepted : Bool) (g : Gate) (a : Asking) (act : Act) (by : Option Ask) (r : Reply) (x : Gateway) (names : Names) (lines : List Line) (shape : List ℕ) → IsAlive g x
+    → names ≡ names_with (names_in_code x.names) (named_by by r) → lines ≡ x.pending.items ++ lines_entered a accepted (named_by by r)
+    → shape ≡ shape_text (g.entries ++ entries_by accepted (request_of a act) by r)
+    → AreKept (entered g (entries_by accepted (request_of a act) by r)) names x.position x.settled lines shape
+kept_by true g a act None r x names lines shape b n l s = one_kept g (request_of a act ∷ []) [] x names lines shape b (n ∙ (b.names ∙ sym (names_stay g (request_of a act ∷ []) b.forgiven))) l s
+kept_by true g a act (Some ask) r x names lines shape b n l s =
+    let e : Named = record { ask = ask; refused = not (is_accepted r); answer = answer_text r } in
+    one_kept g (request_of a act ∷ []) (e ∷ []) x names lines shape b (n ∙ (ap (λ z. pushed z (once.named e)) b.names ∙ sym (names_pushed g (request_of a act ∷ []) e b.forgiven))) l s
+kept_by false g a act None r x names lines shape b n l s = none_kept g x names lines shape b n l s
+kept_by false g a act (Some ask) r x names lines shape b n l s =
+    let e : Named = record { ask = ask; refused = not (is_accepted r); answer = answer_text r } in
     one_kept g [] (e ∷ []) x names lines shape b (n ∙ (ap (λ z. pushed z (once.named e)) b.names ∙ sym (names_pushed g [] e b.forgiven))) l s
 
 -- behind its entry
-pub entry_kept : (g : Gate) (q : Request) (by : Option Ask) (r : Reply) (accepted : Bool) (name : Option Named) (x : Gateway) (names : Names) (lines : List Line) (old made shape : List ℕ)
-    → IsAlive g x → is_shared q.act ≡ true → accepted ≡ is_accepted r → name ≡ named_by by r
-    → names ≡ names_with (names_in_code x.names) name → lines ≡ x.pending.items ++ lines_by accepted q name
-    → old ≡ shape_text g.entries → made ≡ shape_text (entries_of q by r) → shape ≡ old ++ made
-    → AreKept (entered g (entries_of q by r)) names x.position x.settled lines shape
-entry_kept g q by r accepted name x names lines old made shape b h a e n l o m s =
-    let are = entries_are accepted q by r h a in
+pub entry_kept : (g : Gate) (a : Asking) (act : Act) (by : Option Ask) (r : Reply) (accepted : Bool) (name : Option Named) (x : Gateway) (names : Names) (lines : List Line) (old made shape : List ℕ)
+    → IsAlive g x → is_shared act ≡ true → accepted ≡ is_accepted r → name ≡ named_by by r
+    → names ≡ names_with (names_in_code x.names) name → lines ≡ x.pending.items ++ lines_entered a accepted name
+    → old ≡ shape_text g.entries → made ≡ shape_text (entries_of (request_of a act) by r) → shape ≡ old ++ made
+    → AreKept (entered g (entries_of (request_of a act) by r)) names x.position x.settled lines shape
+entry_kept g a act by r accepted name x names lines old made shape b h t e n l o m s =
+    let are = entries_are accepted (request_of a act) by r h t in
     subst (λ es. AreKept (entered g es) names x.position x.settled lines shape) are
-    (kept_by accepted g q by r x names lines shape b (n ∙ ap (names_with (names_in_code x.names)) e)
-    (l ∙ ap (λ z. x.pending.items ++ lines_by accepted q z) e)
-    (shape_added g.entries (entries_of q by r) old made shape o m s ∙ ap (λ es. shape_text (g.entries ++ es)) (sym are)))
+    (kept_by accepted g a act by r x names lines shape b (n ∙ ap (names_with (names_in_code x.names)) e)
+    (l ∙ ap (λ z. x.pending.items ++ lines_entered a accepted z) e)
+    (shape_added g.entries (entries_of (request_of a act) by r) old made shape o m s ∙ ap (λ es. shape_text (g.entries ++ es)) (sym are)))
 
 -- what the entry makes of the shape
 made_by : (accepted : Bool) (q : Request) (by : Option Ask) (r : Reply) → shape_text (entries_by accepted q by r) ≡ cond accepted (shape_in q) []

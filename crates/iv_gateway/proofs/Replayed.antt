@@ -465,10 +465,12 @@ reads_all g journal at x w h = record {
   leads = w.gate.leads;
 }
 
-pub names_forgiven : (g : Gate) (s : State) (es : List Entry) (x : Gateway) (names : Names) → IsAlive (behind g s es) x
-    → names ≡ record (names_in_code x.names) { spent = unspent } → names ≡ names_of (led g s es)
-names_forgiven g s es x names b h =
-    h ∙ ((λ i. record (b.names i) { spent = unspent }) ∙ (λ i. record (names_of (led g s es)) { spent = (none ∙ sym (ap (λ z. spent_in (names_in z)) (drop-length es))) i }))
+-- all refusals are forgiven
+pub forgiven_here : (g : Gate) (names old : Names) → old ≡ names_of g → names ≡ record old { spent = unspent }
+    → names ≡ names_of (record g { forgiven = length g.entries })
+forgiven_here g names old b h =
+    h ∙ ((λ i. record (b i) { spent = unspent })
+    ∙ (λ i. record (names_of g) { spent = (none ∙ sym (ap (λ z. spent_in (names_in z)) (drop-length g.entries))) i }))
   where
     none : unspent ≡ spent_in []
     none = λ i h. None

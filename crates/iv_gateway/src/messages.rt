@@ -173,7 +173,8 @@ impl Gateway {
         ensures { OnOk result ((g : Gate) → IsAlive g self.old → IsAlive (tells g client (unasked (option_map id_data id.now) (unknown (codes "once")))) self.new) }
     {
         let why = Why::Unknown(String::from_str(self.alloc, "once")?);
-        self.refuse_object(client, id, &why)
+        self.refuse_object(client, id, &why)?;
+        Ok(())
     }
 
     /// Has done what a client asks, by its name if it has one. No message asks to begin a session or to finish one.
@@ -198,11 +199,14 @@ impl Gateway {
                 role: speaker.role.as_str(),
                 line,
             };
-            self.share(&asked, speaker.user.as_str(), act, claim)
+            self.share(&asked, speaker.user.as_str(), act, claim)?;
+            Ok(())
         } else if claim.is_some() {
-            self.refuse_name(client, id)
+            self.refuse_name(client, id)?;
+            Ok(())
         } else {
-            self.ask(client, speaker, id, &act)
+            self.ask(client, speaker, id, &act)?;
+            Ok(())
         }
     }
 

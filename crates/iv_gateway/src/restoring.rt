@@ -119,7 +119,8 @@ impl Gateway {
         if !self.replay_requests(requests)? {
             return Ok(false);
         }
-        self.replay_names(names)
+        let are_new = self.replay_names(names)?;
+        Ok(are_new)
     }
 
     /// Goes on to the position of an entry, if it is a step's. Whether that is behind the last.
@@ -193,7 +194,8 @@ impl Gateway {
         if !self.pass(act)? {
             return Ok(false);
         }
-        self.pass(Act::Finish)
+        let is_finished = self.pass(Act::Finish)?;
+        Ok(is_finished)
     }
 
     /// Runs an act in the session of entries. Whether it is accepted.

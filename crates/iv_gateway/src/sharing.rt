@@ -1,11 +1,11 @@
 //! What changes what is shared: a request is done once by its name, if it has one, and its client is told the reply before what it changes.
-ghost use Rattle.std.specs.Prelude.{◌≡◌, ◌∷◌, ◌++◌, [], ℕ, List, IfOk, OnOk, if◌then◌else◌, None, Option, codes, is_some, map, not, option_map, string_bytes, true};
+ghost use Rattle.std.specs.Prelude.{◌≡◌, ◌∷◌, ◌++◌, [], ℕ, List, IfOk, OnOk, if◌then◌else◌, None, Some, Option, codes, is_some, map, not, option_map, string_bytes, true};
 ghost use Rattle.serde_json.specs.Data.{object};
 ghost use Rattle.serde_json.specs.Written.{compact_text};
 ghost use Rattle.sha2.specs.Sha256.{sha256};
 ghost use Rattle.iv_rows.specs.Options.{if_some};
-ghost use Rattle.iv_command.specs.Views.{act_of, line_of, reply_of};
-ghost use Rattle.iv_machine.specs.Act.{Act, Reply};
+ghost use Rattle.iv_command.specs.Views.{act_of, line_of, refusal_of, reply_of};
+ghost use Rattle.iv_machine.specs.Act.{Act, Reply, refused};
 ghost use Rattle.iv_machine.specs.Well.{is_well_act};
 ghost use Rattle.iv_message.specs.Told.{answered, denied, undecided};
 ghost use Rattle.iv_clients.specs.Journal.{is_shared};
@@ -126,7 +126,8 @@ impl Gateway {
     {
         let mut text = Vec::new(self.alloc);
         push_denied(self.alloc, &mut text, asked.id, number)?;
-        self.tell(asked.client, &text)
+        self.tell(asked.client, &text)?;
+        Ok(())
     }
 
     /// Has a request told that it stays undecided whether it was done.
@@ -135,7 +136,8 @@ impl Gateway {
     {
         let mut text = Vec::new(self.alloc);
         push_undecided(self.alloc, &mut text, asked.id, number)?;
-        self.tell(asked.client, &text)
+        self.tell(asked.client, &text)?;
+        Ok(())
     }
 
     /// Has a request with a name told its answer, and where its holder's names stand.
@@ -152,7 +154,8 @@ impl Gateway {
         let at = place_text(self.alloc, &self.names, holder)?;
         let mut text = Vec::new(self.alloc);
         push_answered(self.alloc, &mut text, asked.id, again, at.as_str(), answer)?;
-        self.tell(asked.client, &text)
+        self.tell(asked.client, &text)?;
+        Ok(())
     }
 
     /// The journal is to have a request that is accepted, and its name, if it has one.
@@ -173,6 +176,46 @@ impl Gateway {
         Ok(())
     }
 
+    /// Has a request without a name told its reply, and the journal get it, if it is accepted.
+    fn answer_plain(
+        &mut self,
+        asked: &Asked<'_>,
+        reply: &Reply,
+        made: &[u8],
+    ) -> Result<(), AllocError>
+        ensures { OnOk result ((g : Gate) (act : Act) → IsAlive g self.old → is_shared act ≡ true → made.now ≡ made_of asked.now act None (reply_of reply.now)
+            → IsAlive (replies_to g asked.now.client asked.now.id (request_of asked.now act) None (reply_of reply.now)) self.new) }
+    {
+        self.enter_request(asked, None, is_done(reply), made)?;
+        self.reply(asked.client, asked.id, reply)?;
+        Ok(())
+    }
+
+    /// Has a request with a name told its answer, and the journal get what it is to have of it.
+    fn answer_named(
+        &mut self,
+        asked: &Asked<'_>,
+        ask: Ask,
+        reply: &Reply,
+        made: &[u8],
+    ) -> Result<(), AllocError>
+        ensures { OnOk result ((g : Gate) (act : Act) → IsAlive g self.old → is_shared act ≡ true → made.now ≡ made_of asked.now act (Some ask) (reply_of reply.now)
+            → IsAlive (replies_to g asked.now.client asked.now.id (request_of asked.now act) (Some ask) (reply_of reply.now)) self.new) }
+    {
+        let is_accepted = is_done(reply);
+        let holder = ask.holder.clone()?;
+        let text = answer_text(self.alloc, reply)?;
+        let answer = answer_text(self.alloc, reply)?;
+        let named = Named {
+            ask,
+            refused: !is_accepted,
+            answer,
+        };
+        self.enter_request(asked, Some(named), is_accepted, made)?;
+        self.tell_answer(asked, holder.as_str(), false, &text)?;
+        Ok(())
+    }
+
     /// Has a request told its reply, and the journal get what it is to have of it.
     fn answer_request(
         &mut self,
@@ -184,22 +227,14 @@ impl Gateway {
         ensures { OnOk result ((g : Gate) (act : Act) → IsAlive g self.old → is_shared act ≡ true → made.now ≡ made_of asked.now act name (reply_of reply.now)
             → IsAlive (replies_to g asked.now.client asked.now.id (request_of asked.now act) name (reply_of reply.now)) self.new) }
     {
-        let is_accepted = is_done(reply);
         match name {
             None => {
-                self.enter_request(asked, None, is_accepted, made)?;
-                self.reply(asked.client, asked.id, reply)
+                self.answer_plain(asked, reply, made)?;
+                Ok(())
             }
             Some(ask) => {
-                let holder = ask.holder.clone()?;
-                let text = answer_text(self.alloc, reply)?;
-                let named = Named {
-                    ask,
-                    refused: !is_accepted,
-                    answer: answer_text(self.alloc, reply)?,
-                };
-                self.enter_request(asked, Some(named), is_accepted, made)?;
-                self.tell_answer(asked, holder.as_str(), false, &text)
+                self.answer_named(asked, ask, reply, made)?;
+                Ok(())
             }
         }
     }
@@ -216,10 +251,14 @@ impl Gateway {
             → IsAlive (replies_to g asked.now.client asked.now.id (request_of asked.now act) name (reply_in (map line_of lines.now))) self.new) }
     {
         match lines.first() {
-            Some(Line::Reply { reply, .. }) => self.answer_request(asked, name, reply, made),
+            Some(Line::Reply { reply, .. }) => {
+                self.answer_request(asked, name, reply, made)?;
+                Ok(())
+            }
             _ => {
                 let reply = Reply::Refused(Refusal::NoSession);
-                self.answer_request(asked, name, &reply, made)
+                self.answer_request(asked, name, &reply, made)?;
+                Ok(())
             }
         }
     }
@@ -240,7 +279,8 @@ impl Gateway {
     {
         self.answer_first(asked, name, lines, made)?;
         self.hear(lines, grants)?;
-        self.inform(made)
+        self.inform(made)?;
+        Ok(())
     }
 
     /// The engine answers a request in a session, and what it answers is told.
@@ -264,7 +304,23 @@ impl Gateway {
         push_shape(self.alloc, &mut made, asked.role, asked.line, &act)?;
         let lines = self.run(Command { session, act })?;
         clear_refused(&mut made, &lines);
-        self.tell_request(asked, name, &made, &lines, &grants)
+        self.tell_request(asked, name, &made, &lines, &grants)?;
+        Ok(())
+    }
+
+    /// Has a request told that it is refused.
+    fn refuse_request(
+        &mut self,
+        asked: &Asked<'_>,
+        name: Option<Ask>,
+        refusal: Refusal,
+    ) -> Result<(), AllocError>
+        ensures { OnOk result ((g : Gate) (act : Act) → IsAlive g self.old → is_shared act ≡ true
+            → IsAlive (replies_to g asked.now.client asked.now.id (request_of asked.now act) name (refused (refusal_of refusal))) self.new) }
+    {
+        let reply = Reply::Refused(refusal);
+        self.answer_request(asked, name, &reply, &[])?;
+        Ok(())
     }
 
     /// Has a request done in a session of its client's role, where the shape has room for what it makes of it.
@@ -275,11 +331,18 @@ impl Gateway {
             → IsAlive (carries g asked.now.client asked.now.id (request_of asked.now (act_of act)) name) self.new) }
     {
         if !self.has_shape_room(&act) {
-            return self.answer_request(asked, name, &Reply::Refused(Refusal::Limit), &[]);
+            self.refuse_request(asked, name, Refusal::Limit)?;
+            return Ok(());
         }
         match seat_of(&self.seats, asked.role) {
-            None => self.answer_request(asked, name, &Reply::Refused(Refusal::NoSession), &[]),
-            Some(session) => self.request_in(session, asked, name, act),
+            None => {
+                self.refuse_request(asked, name, Refusal::NoSession)?;
+                Ok(())
+            }
+            Some(session) => {
+                self.request_in(session, asked, name, act)?;
+                Ok(())
+            }
         }
     }
 
@@ -291,11 +354,18 @@ impl Gateway {
             → IsAlive (decides g asked.now.client asked.now.id (request_of asked.now (act_of act)) name) self.new) }
     {
         if self.log.is_none() {
-            return self.carry(asked, name, act);
+            self.carry(asked, name, act)?;
+            return Ok(());
         }
         match name {
-            None => self.deny(asked, 100),
-            Some(_) => self.leave(asked, 100),
+            None => {
+                self.deny(asked, 100)?;
+                Ok(())
+            }
+            Some(_) => {
+                self.leave(asked, 100)?;
+                Ok(())
+            }
         }
     }
 
@@ -307,13 +377,34 @@ impl Gateway {
             → IsAlive (by_verdict g asked.now.client asked.now.id (request_of asked.now (act_of act)) ask (verdict (names_of g) ask)) self.new) }
     {
         match self.names.verdict(&ask)? {
-            Verdict::Carry => self.decide(asked, Some(ask), act),
-            Verdict::Again(answer) => self.tell_answer(asked, ask.holder.as_str(), true, &answer),
-            Verdict::Another => self.leave(asked, 101),
-            Verdict::Late => self.leave(asked, 102),
-            Verdict::Foreign => self.leave(asked, 103),
-            Verdict::Ahead => self.leave(asked, 104),
-            Verdict::Over => self.leave(asked, 104),
+            Verdict::Carry => {
+                self.decide(asked, Some(ask), act)?;
+                Ok(())
+            }
+            Verdict::Again(answer) => {
+                self.tell_answer(asked, ask.holder.as_str(), true, &answer)?;
+                Ok(())
+            }
+            Verdict::Another => {
+                self.leave(asked, 101)?;
+                Ok(())
+            }
+            Verdict::Late => {
+                self.leave(asked, 102)?;
+                Ok(())
+            }
+            Verdict::Foreign => {
+                self.leave(asked, 103)?;
+                Ok(())
+            }
+            Verdict::Ahead => {
+                self.leave(asked, 104)?;
+                Ok(())
+            }
+            Verdict::Over => {
+                self.leave(asked, 104)?;
+                Ok(())
+            }
         }
     }
 
@@ -331,10 +422,14 @@ impl Gateway {
             → IsAlive (shares g asked.now.client c asked.now.id (request_of asked.now (act_of act)) claim) self.new) }
     {
         match claim {
-            None => self.decide(asked, None, act),
+            None => {
+                self.decide(asked, None, act)?;
+                Ok(())
+            }
             Some(claim) => {
                 let ask = ask_of(self.alloc, asked, user, claim)?;
-                self.ask_named(asked, ask, act)
+                self.ask_named(asked, ask, act)?;
+                Ok(())
             }
         }
     }
