@@ -1,9 +1,10 @@
 -- What each subscription is told behind a step, and what is left.
-use Rattle.std.proofs.Common.{◌≡◌, ℕ, Bool, true, false, not, cond, List, [], ◌∷◌, ◌++◌, Option, Some, None, is_some, refl, ap, ◌∙◌, sym, subst, inl, inr, arith}
+use Rattle.std.proofs.Common.{◌≡◌, ℕ, Bool, true, false, not, cond, List, [], ◌∷◌, ◌++◌, Option, Some, None, is_some, refl, ap, ◌∙◌, sym, subst, inl, inr, arith, eq-eqb}
 use Rattle.std.specs.Prelude.{◌⊎◌, ◌==◌, filter, flat_map, option_map, ℤ, pos, ◌-ℤ◌, Contains}
-use Rattle.std.specs.List.{AllByRecursion, IsDistinct}
+use Rattle.std.specs.List.{All, AllByRecursion, IsDistinct, list_any}
 use Rattle.std.proofs.lemmas.Bool.{eqb-true}
-use Rattle.std.proofs.lemmas.List.Elements.{All-nil, All-from_recursion, Contains-append_left, Contains-append_right, Contains-push}
+use Rattle.std.proofs.lemmas.Bool.Decides.{nat_tests}
+use Rattle.std.proofs.lemmas.List.Elements.{All-nil, All-cons, All-append, All-from_recursion, Contains-append_left, Contains-append_right, Contains-push}
 use Rattle.std.specs.List.Sorted.{IsStrictlySortedBy}
 use Rattle.std.specs.Map.{keys_of}
 use Rattle.std.proofs.lemmas.Int.{ints}
@@ -11,21 +12,24 @@ use Rattle.iv_rows.specs.Cell.{Cell}
 use Rattle.iv_rows.specs.Order.{row_cmp}
 use Rattle.iv_zset.specs.Limits.{copies}
 use Rattle.iv_zset.specs.Weights.{Weighed}
-use Rattle.iv_machine.specs.Act.{Line, finish, ended}
+use Rattle.iv_machine.specs.Act.{Line, finish, change, ended}
 use Rattle.iv_machine.specs.Lasting.{IsToldEnd}
 use Rattle.iv_machine.specs.Lines.{is_for, Precedes, AreLinesInOrder, place_of, AreInOrder}
 use Rattle.iv_machine.specs.Machine.{difference, ending, line_for, lines_told, settled, weight}
+use Rattle.iv_machine.specs.Reached.{AreUnique}
+use Rattle.iv_rows.specs.Options.{if_some}
 use Rattle.iv_machine.specs.Sound.{IsSoundState, MayRead}
-use Rattle.iv_machine.specs.State.{State, Subscription, shown, subscription_of}
+use Rattle.iv_machine.specs.State.{State, Subscription, shown, subscription_of, view_shown}
 use Rattle.iv_machine.specs.declared.Cause.{Cause}
-use Rattle.iv_machine.proofs.Adding.{lines_held, shows_nothing}
+use Rattle.iv_machine.proofs.Adding.{found_none, lines_held, shows_nothing}
 use Rattle.iv_machine.proofs.Placing.{HasRole, IsPlaced, all_go}
 use Rattle.iv_machine.proofs.Sending.{difference_only}
-use Rattle.iv_machine.proofs.Reached.{has_number, none_kept}
+use Rattle.iv_machine.proofs.Reached.{has_number, neither, none_kept}
+use Rattle.iv_machine.proofs.Readers.{all_found}
 use Rattle.iv_machine.proofs.Sound.{IsKept, IsWhole, may_read, settled_kept, sound_whole}
-use Rattle.iv_steps.specs.Laws.{IsStep, NothingIsTold, StepsAreTold}
+use Rattle.iv_steps.specs.Laws.{FactsDecide, IsStep, IsTold, NoneIsBetween, NothingIsTold, RefusalsAreFound, StepsAreTold}
 use Rattle.iv_steps.specs.Steps.{Fact, all_carried, among, looked_at, shared}
-use Rattle.iv_steps.proofs.Carrying.{Grows, all_carry}
+use Rattle.iv_steps.proofs.Carrying.{Grows, all_carry, one_refused}
 
 -- ---- who is left may read
 
@@ -67,7 +71,7 @@ left_whole s u k w g = record {
   served = served (among s (shared u)) s.frame.subscriptions;
 }
 
-whole_sound : (s : State) → IsWhole s → IsSoundState s
+pub whole_sound : (s : State) → IsWhole s → IsSoundState s
 whole_sound s k = record {
   numbers = k.frame.numbers;
   ordered = k.frame.ordered;
@@ -164,12 +168,86 @@ module _ (old new : State) (ends : Subscription → Option Cause) where
       by true q o v f go = let same : e ≡ x = cc in subst (Kept k x e es) (sym v) (this o v q same)
       by false q o v f go = subst (Kept k x e es) (sym v) (others false o q refl (go f))
 
+-- ---- each line tells who reads, or read
+
+pass_number : (k j : ℕ) → (k == j) ≡ false → (j == k) ≡ false
+pass_number k j h = grind (arith, nat_tests)
+
+module _ (ends : Subscription → Option Cause) where
+  abbrev pub kept_of : List Subscription → List Subscription
+  kept_of es = filter (λ e. not (is_some (ends e))) es
+
+  abbrev pub IsLeft : List Subscription → Subscription → Type 0
+  IsLeft es e = subscription_of (kept_of es) e.number ≡ cond (not (is_some (ends e))) (Some e) None
+
+  left_past : (b : Bool) (e : Subscription) (es fs : List Subscription) → list_any (λ f. e.number == f.number) fs ≡ false → AllByRecursion (IsLeft es) fs
+      → AllByRecursion (λ f. subscription_of (cond b (e ∷ kept_of es) (kept_of es)) f.number ≡ cond (not (is_some (ends f))) (Some f) None) fs
+  left_past b e es [] h a = tt
+  left_past true e es (f ∷ fs) h a =
+      let n = neither (e.number == f.number) (list_any (λ g. e.number == g.number) fs) h in
+      (ap (λ c. cond c (Some e) (subscription_of (kept_of es) f.number)) (pass_number e.number f.number n.0) ∙ a.0, left_past true e es fs n.1 a.1)
+  left_past false e es (f ∷ fs) h a =
+      let n = neither (e.number == f.number) (list_any (λ g. e.number == g.number) fs) h in
+      (a.0, left_past false e es fs n.1 a.1)
+
+  own_left : (b : Bool) (e : Subscription) (es : List Subscription) → has_number e.number es ≡ false
+      → subscription_of (cond b (e ∷ kept_of es) (kept_of es)) e.number ≡ cond b (Some e) None
+  own_left true e es h = ap (λ c. cond c (Some e) (subscription_of (kept_of es) e.number)) (eq-eqb e.number e.number refl)
+  own_left false e es h = found_none e.number (kept_of es) (none_kept e.number (λ x. not (is_some (ends x))) es h)
+
+  -- each is found by its number where it is left, and nothing else is
+  pub all_left : (es : List Subscription) → AreUnique es → AllByRecursion (IsLeft es) es
+  all_left [] u = tt
+  all_left (e ∷ es) u = (own_left (not (is_some (ends e))) e es u.0, left_past (not (is_some (ends e))) e es es u.0 (all_left es u.1))
+
+  -- what holds of those that are left
+  pub if_left : (P : Subscription → Type 0) (es : List Subscription) → AllByRecursion P (kept_of es) → AllByRecursion (λ e. ends e ≡ None → P e) es
+  if_left P [] a = tt
+  if_left P (e ∷ es) a = by (ends e) refl a (λ x. if_left P es x)
+    where
+      by : (o : Option Cause) → ends e ≡ o → AllByRecursion P (cond (not (is_some o)) (e ∷ kept_of es) (kept_of es)) → (AllByRecursion P (kept_of es) → AllByRecursion (λ f. ends f ≡ None → P f) es)
+          → (ends e ≡ None → P e) × AllByRecursion (λ f. ends f ≡ None → P f) es
+      by None h b go = ((λ n. b.0), go b.1)
+      by (Some why) h b go = ((λ n. let no : Some why ≡ None = sym h ∙ n in cc), go b)
+
+not_empty : {A : Type 0} (x : A) (xs : List A) → x ∷ xs ≡ [] → ⊥
+not_empty x xs h = cc
+
+module _ (s new : State) (es : List Subscription) (is : new.frame.subscriptions ≡ kept_of (ending new) es) where
+  told_line : (e : Subscription) (o : Option Cause) (ps : Weighed) → ending new e ≡ o → ps ≡ difference (shown s e.number) (shown new e.number)
+      → MayRead s.frame e → (ending new e ≡ None → MayRead new.frame e) → IsLeft (ending new) es e → subscription_of s.frame.subscriptions e.number ≡ Some e
+      → All (IsTold s new) (lines_told o e ps)
+  told_line e (Some why) ps v same before reads l found = All-cons (IsTold s new) (ended e.session e.number why ps) []
+      (record {
+        reader = record { subscription = e; found = found; session = refl; reads = before };
+        ends = v;
+        back = same ∙ ap (difference (shown s e.number)) (ap (λ x. if_some x [] (view_shown new)) (ap (λ fs. subscription_of fs e.number) is ∙ l ∙ ap (λ x. cond (not (is_some x)) (Some e) None) v));
+      }) (All-nil (IsTold s new))
+  told_line e None [] v same before reads l found = All-nil (IsTold s new)
+  told_line e None (p ∷ ps) v same before reads l found = All-cons (IsTold s new) (change e.session e.number (p ∷ ps)) []
+      (record {
+        reader = record { subscription = e; found = ap (λ fs. subscription_of fs e.number) is ∙ l ∙ ap (λ x. cond (not (is_some x)) (Some e) None) v; session = refl; reads = reads v };
+        has = not_empty p ps;
+        differ = same;
+      }) (All-nil (IsTold s new))
+
+  told_lines : (fs : List Subscription) → AllByRecursion (MayRead s.frame) fs → AllByRecursion (λ e. ending new e ≡ None → MayRead new.frame e) fs → AllByRecursion (IsLeft (ending new) es) fs
+      → AllByRecursion (λ e. subscription_of s.frame.subscriptions e.number ≡ Some e) fs → All (IsTold s new) (flat_map (line_for s new (ending new)) fs)
+  told_lines [] a b l found = All-nil (IsTold s new)
+  told_lines (e ∷ fs) a b l found = All-append (IsTold s new) (line_for s new (ending new) e) (flat_map (line_for s new (ending new)) fs)
+      (told_line e (ending new e) (difference (shown s e.number) (shown new e.number)) refl refl a.0 b.0 l.0 found.0)
+      (told_lines fs a.1 b.1 l.1 found.1)
+
 -- ---- a step
 
 told_behind : (fs : List Fact) (s u : State) → IsSoundState s → all_carried fs (shared s) ≡ Some (shared u) → IsWhole (shared u) → Grows s u → IsStep fs s (looked_at s (among s (shared u)))
-told_behind fs s u k c w g = let es = s.frame.subscriptions in let new = left s u in let ends = ending (among s (shared u)) in record {
-  sound = whole_sound new (left_whole s u (sound_whole s k).frame w g);
+told_behind fs s u k c w g = let es = s.frame.subscriptions in let new = left s u in let ends = ending (among s (shared u)) in let whole = left_whole s u (sound_whole s k).frame w g in record {
+  sound = whole_sound new whole;
   shared = c;
+  sessions = refl;
+  last = refl;
+  stay = refl;
+  told = told_lines s new es refl es (may_read s (sound_whole s k)) (if_left (ending new) (MayRead new.frame) es (may_read new whole)) (all_left (ending new) es k.numbers.unique) (all_found es k.numbers.unique);
   adds = λ j q. lines_held j q s new ends es k.numbers.unique ∙ adds_by s new es j q (has_number j es) refl (unread j (has_number j es) refl);
   once = in_order s new ends es k.ordered;
   ends = λ j e h. goes_on s new ends j es e h;
@@ -180,7 +258,7 @@ told_behind fs s u k c w g = let es = s.frame.subscriptions in let new = left s 
     unread j false h = inl (none_kept j (λ e. not (is_some (ending (among s (shared u)) e))) s.frame.subscriptions h)
 
 -- with nobody there
-nobody_whole : (s : State) → IsSoundState s → IsWhole (shared s)
+pub nobody_whole : (s : State) → IsSoundState s → IsWhole (shared s)
 unfolding IsDistinct
 nobody_whole s k = record {
   frame = record {
@@ -203,10 +281,10 @@ steps_are_told fs s o k h = by (all_carried fs (shared s)) refl h
     by : (t : Option State) → all_carried fs (shared s) ≡ t → option_map (λ u. looked_at s (among s u)) t ≡ Some o → IsStep fs s o
     by None c p = cc
     by (Some t) c p =
-        let x = all_carry fs s t (nobody_whole s k) c in
+        let x = all_carry fs s t c in
         let same : looked_at s (among s t) ≡ o = cc in
         subst (IsStep fs s) (ap (λ v. looked_at s (among s v)) (sym x.is) ∙ same)
-        (told_behind fs s x.now k (c ∙ ap Some x.is) x.whole x.grows)
+        (told_behind fs s x.now k (c ∙ ap Some x.is) (x.whole (nobody_whole s k)) x.grows)
 
 -- ---- of nothing
 
@@ -241,3 +319,18 @@ nothing_is_told s k =
     let stays = all_served s es k.served in
     let same : left s s ≡ s = ap (λ fs. record s { frame = record s.frame { subscriptions = fs } }) stays in
     ap Some (λ i. record { state = same i; lines = no_lines s (left s s) es same k.served i })
+
+-- ---- facts decide
+
+is_mapped : {A B : Type 0} (f : A → B) (o : Option A) → is_some (option_map f o) ≡ is_some o
+is_mapped f None = refl
+is_mapped f (Some a) = refl
+
+pub facts_decide : FactsDecide
+facts_decide facts s = is_mapped (λ t. looked_at s (among s t)) (all_carried facts (shared s))
+
+pub none_is_between : NoneIsBetween
+none_is_between facts others s h = ap (option_map (λ t. looked_at s (among s t))) h
+
+pub refusals_are_found : RefusalsAreFound
+refusals_are_found facts s all = one_refused 1 facts s all ∙ sym (ap not (is_mapped (λ t. looked_at s (among s t)) (all_carried facts (shared s))))

@@ -1,10 +1,12 @@
 -- A step: what others decided, taken at once. It is carried out where nobody is; then each who reads is looked at, in the state behind it.
-use Rattle.std.specs.Prelude.{not, Bool, true, false, List, [], ◌∷◌, filter, flat_map, if◌then◌else◌, Option, Some, None, is_some, option_and_then, option_map}
+use Rattle.std.specs.Prelude.{ℕ, ◌+◌, ◌&&◌, not, Bool, true, false, List, [], ◌∷◌, filter, flat_map, if◌then◌else◌, Option, Some, None, is_some, option_and_then, option_map}
+use Rattle.iv_rows.specs.Names.{is_name}
 use Rattle.iv_access.specs.Rights.{Name}
-use Rattle.iv_machine.specs.Act.{Act, begin, finish, subscribe, unsubscribe}
+use Rattle.iv_machine.specs.Act.{Act, Refusal, begin, finish, subscribe, unsubscribe}
 use Rattle.iv_machine.specs.Machine.{Outcome, ending, line_for, step}
-use Rattle.iv_machine.specs.Refusing.{refusal}
+use Rattle.iv_machine.specs.Refusing.{or_else, refusal}
 use Rattle.iv_machine.specs.State.{State}
+use Rattle.iv_machine.specs.Well.{is_well_act}
 
 -- what was done elsewhere, and in which role
 pub record Fact : Type 0 where
@@ -18,6 +20,10 @@ is_shared finish = false
 is_shared (subscribe rel) = false
 is_shared (unsubscribe k) = false
 is_shared _ = true
+
+-- one that a line may give
+abbrev pub is_well_fact : Fact → Bool
+is_well_fact f = is_name f.role && (is_shared f.act && is_well_act f.act)
 
 -- what is shared, with nobody there
 abbrev pub shared : State → State
@@ -47,3 +53,18 @@ looked_at old now = let left = record now { frame = record now.frame { subscript
 -- the step; none where a fact is refused
 abbrev pub stepped : List Fact → State → Option Outcome
 stepped fs s = option_map (λ t. looked_at s (among s t)) (all_carried fs (shared s))
+
+-- ---- refusals
+
+-- why a fact is refused: its role opens no session, or may not do it
+abbrev pub fact_refusal : Fact → State → Option Refusal
+fact_refusal f s = or_else (refusal s 1 (begin f.role)) (refusal (step s (record { session = 1; act = begin f.role })).state 1 f.act)
+
+abbrev pub at_place : ℕ → Option Refusal → Option (ℕ × Refusal) → Option (ℕ × Refusal)
+at_place n None later = later
+at_place n (Some r) later = Some (n, r)
+
+-- the place of the first fact that is refused, counted from n, and why
+abbrev pub first_refused : ℕ → List Fact → State → Option (ℕ × Refusal)
+first_refused n [] s = None
+first_refused n (f ∷ fs) s = at_place n (fact_refusal f s) (option_and_then (first_refused (n + 1) fs) (carried f s))
