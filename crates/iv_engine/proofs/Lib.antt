@@ -10,3 +10,6 @@ mod Reordering
 pub mod Sounding
 pub mod Enrolled
 mod Knowing
+mod Carried
+mod Looking
+mod Given

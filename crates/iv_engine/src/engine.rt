@@ -47,7 +47,7 @@ impl From<AllocError> for EngineFault {
 #[derive(Drop)]
 pub struct Engine {
     pub(crate) store: Store,
-    failed: bool,
+    pub(crate) failed: bool,
 }
 
 impl Model for Engine {

@@ -2,6 +2,7 @@
 #![tactic(auto)]
 
 mod engine;
+mod facts;
 mod known;
 mod memberships;
 mod policies;
@@ -10,4 +11,5 @@ mod step;
 mod write;
 
 pub use engine::{Engine, EngineFault};
+pub use facts::{Fact, StepFault};
 pub use iv_zset::Seed;

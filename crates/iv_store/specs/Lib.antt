@@ -10,6 +10,7 @@ pub mod Built
 pub mod Moved
 pub mod Touching
 pub mod Turned
+pub mod Aside
 pub mod Concerned
 pub mod Finished
 pub mod Openable

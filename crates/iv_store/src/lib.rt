@@ -4,6 +4,7 @@
 //! that refuse memory.
 #![tactic(auto)]
 
+mod aside;
 mod changes;
 mod circuits;
 mod concerned;
@@ -13,6 +14,7 @@ mod subscriptions;
 mod touching;
 mod turns;
 
+pub use aside::Aside;
 pub use lines::lines_of;
 pub use store::Store;
 pub use subscriptions::Subscription;

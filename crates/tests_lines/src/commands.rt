@@ -54,7 +54,7 @@ pub fn told(alloc: Global, engine: &mut Engine, line: &str) -> Option<Vec<Line>>
 }
 
 /// The texts of the lines.
-fn texts(alloc: Global, lines: &[Line]) -> Result<Vec<u8>, AllocError> {
+pub fn texts(alloc: Global, lines: &[Line]) -> Result<Vec<u8>, AllocError> {
     let mut text = Vec::new(alloc);
     for line in lines {
         text.extend_from_slice(&write_line(alloc, line)?)?;

@@ -17,3 +17,5 @@ mod messages;
 mod refused;
 #[cfg(test)]
 mod replayed;
+#[cfg(test)]
+mod stepped;

@@ -1,0 +1,67 @@
+use Rattle.std.proofs.Common.{◌≡◌, ◌∙◌, ◌+◌, ◌<◌, List, [], ◌∷◌, true, ap, arith, length, refl, rules, subst, sym}
+use Rattle.std.specs.List.{list_all}
+use Rattle.std.specs.Vec.Iter.{into_iter_items}
+use Rattle.iv_machine.specs.State.{State}
+use Rattle.iv_steps.specs.Steps.{Fact, is_well_fact}
+use Rattle.iv_store.proofs.Running.{no_items}
+use Rattle.iv_command.specs.Views.{refusal_of}
+use Rattle.iv_engine.proofs.Carried.{GoesOn, none_left, one_further, one_stops, well_first, well_rest}
+use Rattle.iv_engine.proofs.facts.carry_all.Goals as goal
+
+pub overflow_add-place : goal.overflow_add-place
+overflow_add-place c =
+    let all = c.loop-fact.invariant.3 in
+    let next = ap (λ (fs : List Fact). length fs) c.in-Some.ensures.steps.0 in
+    let low : c.loop-fact.place < length c.args.facts.items = omega (arith, all, next) in
+    search rules
+
+pub carry-requires-clause-well : goal.carry-requires-clause-well
+carry-requires-clause-well c = well_first c.in-Some.fact (into_iter_items c.next.new.self) (sym (ap (list_all is_well_fact) c.in-Some.ensures.steps.0) ∙ c.loop-fact.invariant.2)
+
+pub carry-requires-clause-sound : goal.carry-requires-clause-sound
+carry-requires-clause-sound c = c.loop-fact.invariant.4.sound
+
+pub carry-requires-clause-empty : goal.carry-requires-clause-empty
+carry-requires-clause-empty c = c.loop-fact.invariant.4.empty
+
+pub loop-fact-init : goal.loop-fact-init
+loop-fact-init c =
+    let items : into_iter_items c.into_iter-fact-iterator.result ≡ c.args.facts.items = search rules in (
+      tt,
+      tt,
+      ap (list_all is_well_fact) items ∙ c.requires.well,
+      ap (λ (fs : List Fact). length fs) items,
+      record { sound = c.requires.sound; empty = c.requires.empty },
+      λ s b. subst (λ (fs : List Fact). GoesOn s c.args.facts.items 0 fs c.args.store.now) (sym items) (record { state = s; behind = b; carries = refl; refuses = refl }),
+    )
+
+pub loop-fact-preserved : goal.loop-fact-preserved
+loop-fact-preserved c =
+    let f = c.in-Some.fact in
+    let rest = into_iter_items c.next.new.self in
+    let next = c.in-Some.ensures.steps.0 in
+    let place = c.loop-fact.place in (
+      tt,
+      tt,
+      well_rest f rest (sym (ap (list_all is_well_fact) next) ∙ c.loop-fact.invariant.2),
+      (let all = c.loop-fact.invariant.3 in let many = ap (λ (fs : List Fact). length fs) next in omega (arith, all, many)),
+      c.in-Ok.ensures.0,
+      λ s b.
+          let g = subst (λ (fs : List Fact). GoesOn s c.args.facts.items place fs c.loop-fact.store) next (c.loop-fact.invariant.5 s b) in
+          one_further s c.args.facts.items place f rest c.loop-fact.store g c.carry.new.store (c.in-Ok.ensures.1 g.state g.behind),
+    )
+
+pub returns-in-Err-in-Refused : goal.returns-in-Err-in-Refused
+returns-in-Err-in-Refused c = λ s b.
+    let f = c.in-Some.fact in
+    let rest = into_iter_items c.next.new.self in
+    let place = c.loop-fact.place in
+    let g = subst (λ (fs : List Fact). GoesOn s c.args.facts.items place fs c.loop-fact.store) c.in-Some.ensures.steps.0 (c.loop-fact.invariant.5 s b) in
+    one_stops s c.args.facts.items place f rest c.loop-fact.store g (refusal_of c.in-Err-in-Refused.refusal) (c.in-Err.ensures g.state g.behind)
+
+pub returns : goal.returns
+returns c =
+    let none : into_iter_items c.loop-fact.fact-iterator ≡ [] = no_items (into_iter_items c.loop-fact.fact-iterator) (let empty = c.in-None.ensures.steps.0 in let ok = c.loop-fact.fact-iterator.rest.ok in omega (arith, empty, ok)) in (
+      c.loop-fact.invariant.4,
+      λ s b. none_left s c.args.facts.items c.loop-fact.place (into_iter_items c.loop-fact.fact-iterator) c.loop-fact.store none (c.loop-fact.invariant.5 s b),
+    )

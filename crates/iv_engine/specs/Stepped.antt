@@ -1,0 +1,38 @@
+-- A step as an engine takes it: the machine's step in each state behind it, or which fact is refused.
+use Rattle.std.specs.Prelude.{◌≡◌, ℕ, true, List, None, Some}
+use Rattle.iv_machine.specs.Act as machine
+use Rattle.iv_machine.specs.Machine.{Outcome}
+use Rattle.iv_machine.specs.State.{State}
+use Rattle.iv_machine.specs.Stored.{HasTexts}
+use Rattle.iv_steps.specs.Steps.{Fact, first_refused, is_well_fact, shared, stepped}
+use Rattle.iv_store.specs.Engine.{Engine, IsBehind}
+use Rattle.iv_command.specs.Views.{refusal_of}
+use Rattle.iv_engine.specs.declared.facts.StepFault.{StepFault}
+use Rattle.iv_engine.specs.declared.facts.StepFault.TheVariants.{Memory, Failed, Refused}
+
+-- the machine takes the step in the state, and sends the lines; behind what is left stands the state that it leaves
+pub record IsTaken (s : State) (facts : List Fact) (lines : List machine.Line) (new : Engine) : Type 0 where
+  pub outcome : Outcome
+  pub is : stepped facts s ≡ Some outcome
+  pub lines : lines ≡ outcome.lines
+  pub left : IsBehind outcome.state new
+
+-- so it is in each state behind the engine
+abbrev pub TakesStep : Engine → List Fact → List machine.Line → Engine → Type 0
+TakesStep e facts lines new = (s : State) → IsBehind s e → IsTaken s facts lines new
+
+-- the machine does not take the step in the state: the first fact that is refused there stands at the place, counted from 1
+pub record IsRefusedAt (s : State) (facts : List Fact) (place : ℕ) (why : machine.Refusal) : Type 0 where
+  pub none : stepped facts s ≡ None
+  pub first : first_refused 1 facts (shared s) ≡ Some (place, why)
+
+-- so it is in each state behind the engine, where the fault is a refusal
+abbrev pub RefusesStep : Engine → List Fact → StepFault → Type 0
+RefusesStep e facts Memory = Unit {0}
+RefusesStep e facts Failed = Unit {0}
+RefusesStep e facts (Refused place why) = (s : State) → IsBehind s e → IsRefusedAt s facts place (refusal_of why)
+
+-- a fact that a line may give
+pub record IsGivenFact (f : Fact) : Type 0 where
+  pub well : is_well_fact f ≡ true
+  pub texts : HasTexts f.act

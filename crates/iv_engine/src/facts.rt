@@ -1,0 +1,160 @@
+//! `Engine::step`: facts that others decided are taken at once, and each reader is told once what differs.
+//!
+//! Who is there is set aside first, so no reader's limit can refuse a fact and nothing is told of a state between. Then the facts are carried
+//! out, each in a session of its role; and when all are, each reader is looked at.
+ghost use Rattle.std.specs.Prelude.{◌≡◌, ◌↔◌, IfErr, IfOk, OnErr, OnOk, map, true, false};
+ghost use Rattle.std.specs.List.{All, list_all};
+ghost use Rattle.iv_command.specs.Views.{line_of};
+ghost use Rattle.iv_engine.specs.Sound.{IsSoundEngine};
+ghost use Rattle.iv_engine.specs.Carried.{AreCarried, IsCarried, IsEmpty, IsTakenIn};
+ghost use Rattle.iv_engine.specs.Stepped.{IsGivenFact, RefusesStep, TakesStep};
+ghost use Rattle.iv_steps.specs.Steps.{is_well_fact};
+ghost use Rattle.iv_store.specs.Store.{IsSoundStore};
+
+use crate::engine::Engine;
+use crate::step::act;
+use iv_command::{Act, Line, Refusal, Stop};
+use iv_store::Store;
+use std::alloc::AllocError;
+use std::marker::Model;
+
+/// What was done elsewhere, and in which role.
+#[derive(Drop)]
+pub struct Fact {
+    /// The role in which it was done.
+    pub role: String,
+    /// What was done: a request that changes what is shared.
+    pub act: Act,
+}
+
+impl Model for Fact {
+    ghost use Rattle.std.specs.Prelude.{string_bytes};
+    ghost use Rattle.iv_command.specs.Views.{act_of};
+    ghost use Rattle.iv_steps.specs.Steps.{Fact};
+
+    ghost Value = { Fact };
+
+    ghost view = { λ f. record { role = string_bytes f.role; act = act_of f.act } };
+}
+
+/// Why a step is not taken.
+#[derive(Drop)]
+pub enum StepFault {
+    /// A growth of memory was refused.
+    Memory,
+    /// The engine had failed before.
+    Failed,
+    /// A fact is refused.
+    Refused {
+        /// The place of the first such fact, counted from 1.
+        fact: usize,
+        /// Why it is refused.
+        refusal: Refusal,
+    },
+}
+
+impl From<AllocError> for StepFault {
+    ghost use Rattle.iv_engine.specs.declared.facts.StepFault.TheVariants.{Memory};
+
+    ghost from_gives = { λ _ fault. fault ≡ Memory };
+
+    /// Out of memory, as why a step is not taken.
+    fn from(_error: AllocError) -> StepFault {
+        StepFault::Memory
+    }
+}
+
+/// The session in which a fact is carried out.
+const SESSION: u32 = 1;
+
+/// Carries a fact out where nobody is, in a session of its role that is closed behind it. After an error nothing is promised.
+fn carry(store: &mut Store, fact: Fact) -> Result<(), Stop>
+    requires well { is_well_fact fact ≡ true }
+    requires sound { IsSoundStore store.old }
+    requires empty { IsEmpty store.old }
+    ensures { IsCarried store.old fact result store.new }
+{
+    let Fact { role, act: done } = fact;
+    let begun = act(store, SESSION, Act::Begin { role })?;
+    drop(begun);
+    let acted = act(store, SESSION, done)?;
+    drop(acted);
+    let finished = act(store, SESSION, Act::Finish)?;
+    drop(finished);
+    Ok(())
+}
+
+/// Carries facts out where nobody is, in their order. After an error nothing is promised.
+fn carry_all(store: &mut Store, facts: Vec<Fact>) -> Result<(), StepFault>
+    requires well { list_all is_well_fact facts.items ≡ true }
+    requires sound { IsSoundStore store.old }
+    requires empty { IsEmpty store.old }
+    ensures { AreCarried store.old facts.items result store.new }
+{
+    let mut place = 0usize;
+    for fact in facts {
+        place += 1;
+        match carry(store, fact) {
+            Ok(()) => {}
+            Err(Stop::Refused(refusal)) => {
+                return Err(StepFault::Refused {
+                    fact: place,
+                    refusal,
+                });
+            }
+            Err(Stop::Memory) => return Err(StepFault::Memory),
+        }
+    }
+    Ok(())
+}
+
+/// Takes a step, and says what readers are told. After an error nothing is promised.
+fn take(store: &mut Store, facts: Vec<Fact>) -> Result<Vec<Line>, StepFault>
+    requires well { list_all is_well_fact facts.items ≡ true }
+    requires sound { IsSoundStore store.old }
+    ensures { IsTakenIn store.old facts.items result store.new }
+{
+    let aside = store.set_aside();
+    match carry_all(store, facts) {
+        Ok(()) => {}
+        Err(fault) => {
+            drop(aside);
+            return Err(fault);
+        }
+    }
+    store.bring_back(aside);
+    let lines = store.look()?;
+    Ok(lines)
+}
+
+impl Engine {
+    /// Takes facts that others decided as one step: all are carried out, or none is. Each reader is told at most once, what it sees more and
+    /// less behind the step than before it; who may read no more, or is beyond the limits there, its end. No limit of a reader refuses a fact.
+    ///
+    /// # Errors
+    /// `Failed` exactly where the engine had failed; `Memory` where a growth of memory was refused; `Refused` with the first fact that is
+    /// refused where nobody is. The engine has failed after each of them.
+    pub fn step(&mut self, facts: Vec<Fact>) -> Result<Vec<Line>, StepFault>
+        requires { list_all is_well_fact facts.items ≡ true }
+        ensures taken { IfOk result (λ lines. TakesStep self.old facts.items (map line_of lines.items) self.new) }
+        ensures refused { IfErr result (RefusesStep self.old facts.items) }
+        // What facts whose texts are in UTF-8 leave of rights, catalog, policies and rows is sound.
+        ensures sound { OnOk result (All IsGivenFact facts.items → IsSoundEngine self.old → IsSoundEngine self.new) }
+        ensures went_on { OnOk result (self.new.failed ≡ false) }
+        ensures fails { OnErr result (self.new.failed ≡ true) }
+        ensures failed { result ≡ Err StepFault.Failed ↔ (self.old.failed ≡ true) }
+        ensures failed_unchanged { self.old.failed ≡ true → self.new ≡ self.old }
+    {
+        if self.is_failed() {
+            drop(facts);
+            return Err(StepFault::Failed);
+        }
+        match take(&mut self.store, facts) {
+            Ok(lines) => Ok(lines),
+            Err(fault) => {
+                self.failed = true;
+                Err(fault)
+            }
+        }
+    }
+}
