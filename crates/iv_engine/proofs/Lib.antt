@@ -1,6 +1,7 @@
 mod Narrowing
 mod Widening
 mod Settling
+mod Left
 mod Righting
 mod Ending
 mod Joining

@@ -14,7 +14,7 @@ use Rattle.iv_engine.specs.declared.facts.StepFault.TheVariants.{Memory, Failed,
 pub record IsTaken (s : State) (facts : List Fact) (lines : List machine.Line) (new : Engine) : Type 0 where
   pub outcome : Outcome
   pub is : stepped facts s ≡ Some outcome
-  pub lines : lines ≡ outcome.lines
+  pub told : lines ≡ outcome.lines
   pub left : IsBehind outcome.state new
 
 -- so it is in each state behind the engine

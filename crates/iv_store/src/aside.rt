@@ -62,10 +62,8 @@ impl Store {
     fn all_concerned(&self) -> Result<Vec<bool>, AllocError>
         ensures { IfOk result (λ flags. flags.items ≡ all_concerned self.now) }
     {
-        let mut flags = Vec::with_capacity(self.alloc, self.circuits.len())?;
-        for _ in 0..self.circuits.len() {
-            flags.push(true)?;
-        }
+        let mut flags = Vec::new(self.alloc);
+        flags.resize(self.circuits.len(), true)?;
         Ok(flags)
     }
 

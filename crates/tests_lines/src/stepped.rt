@@ -10,7 +10,7 @@ use iv_engine::{Engine, Fact, StepFault};
 use std::alloc::{AllocError, Global};
 use std::test::Fail;
 
-/// `ann` reads `notes` and a view of it, `bob` the notes that are his.
+/// `ann` reads `notes` and a view of it, `bob` the notes that are his, and their sum.
 const BEFORE: &str = r#"{"do":"begin","role":"admin","session":1}
 {"do":"create_role","name":"ann","session":1}
 {"do":"create_role","name":"bob","session":1}
@@ -18,7 +18,9 @@ const BEFORE: &str = r#"{"do":"begin","role":"admin","session":1}
 {"do":"create_view","name":"ids","owner":"admin","query":"select id from notes","session":1}
 {"do":"grant","on":"notes","privileges":["select"],"to":"ann","session":1}
 {"do":"grant","on":"notes","privileges":["select"],"to":"bob","session":1}
+{"do":"create_view","name":"sums","owner":"admin","query":"select who, sum(id) as s, count(*) as n from notes group by who","session":1}
 {"do":"grant","on":"ids","privileges":["select"],"to":"ann","session":1}
+{"do":"grant","on":"sums","privileges":["select"],"to":"bob","session":1}
 {"do":"create_policy","on":"notes","name":"all","to":["ann"],"using":"true","session":1}
 {"do":"create_policy","on":"notes","name":"own","to":["bob"],"using":"who = current_user","session":1}
 {"do":"row_security","on":"notes","enable":true,"force":false,"session":1}
@@ -28,6 +30,7 @@ const BEFORE: &str = r#"{"do":"begin","role":"admin","session":1}
 {"do":"subscribe","on":"notes","session":2}
 {"do":"subscribe","on":"ids","session":2}
 {"do":"subscribe","on":"notes","session":3}
+{"do":"subscribe","on":"sums","session":3}
 "#;
 
 /// Has the engine answer all requests.
@@ -101,7 +104,7 @@ fn all_stepped(alloc: Global, engine: &mut Engine, steps: &[&str]) -> Result<Vec
     let mut text = Vec::new(alloc);
     for lines in steps {
         text.extend_from_slice(&stepped(alloc, engine, lines)?)?;
-        text.push(b'\n')?;
+        text.extend_from_slice(b"--\n")?;
     }
     Ok(text)
 }
@@ -126,27 +129,55 @@ const TAKEN_AND_GIVEN: &str =
     r#"admin {"do":"revoke","on":"notes","privileges":["select"],"to":"ann","session":1}
 admin {"do":"grant","on":"notes","privileges":["select"],"to":"ann","session":1}"#;
 
+/// A row makes the sum of `bob` too large.
+const BEYOND: &str = r#"admin {"do":"write","entries":[{"on":"notes","insert":[9223372036854775807,"bob"]}],"session":1}"#;
+
 /// A row comes, the right of `ann` goes, and so does the policy of `bob`.
 const TAKEN: &str =
     r#"admin {"do":"write","entries":[{"on":"notes","insert":[4,"bob"]}],"session":1}
 admin {"do":"revoke","on":"notes","privileges":["select"],"to":"ann","session":1}
 admin {"do":"drop_policy","on":"notes","name":"own","session":1}"#;
 
+/// What is told of these steps, one after the other: worked out by hand.
+const TOLD: &str = r#"{"changes":[[-1,[1,"ann"]],[1,[2,"bob"]],[1,[3,"ann"]]],"session":2,"sub":1}
+{"changes":[[-1,[1]],[1,[2]],[1,[3]]],"session":2,"sub":2}
+{"changes":[[1,[2,"bob"]]],"session":3,"sub":3}
+{"changes":[[1,["bob",2,1]]],"session":3,"sub":4}
+--
+--
+{"changes":[[1,[9223372036854775807,"bob"]]],"session":2,"sub":1}
+{"changes":[[1,[9223372036854775807]]],"session":2,"sub":2}
+{"changes":[[1,[9223372036854775807,"bob"]]],"session":3,"sub":3}
+{"changes":[[-1,["bob",2,1]]],"ended":"limit","session":3,"sub":4}
+--
+{"changes":[[-1,[2,"bob"]],[-1,[3,"ann"]],[-1,[9223372036854775807,"bob"]]],"ended":"privilege","session":2,"sub":1}
+{"changes":[[-1,[2]],[-1,[3]],[-1,[9223372036854775807]]],"ended":"privilege","session":2,"sub":2}
+{"changes":[[-1,[2,"bob"]],[-1,[9223372036854775807,"bob"]]],"session":3,"sub":3}
+--
+"#;
+
 /// A fact of a role that may not do it, behind one that is accepted.
 const WITHOUT_RIGHT: &str =
     r#"admin {"do":"write","entries":[{"on":"notes","insert":[5,"bob"]}],"session":1}
 bob {"do":"write","entries":[{"on":"notes","insert":[6,"bob"]}],"session":1}"#;
 
+/// What is told of such a step, and of one behind it.
+const REFUSED: &str = r#"2 {"error":13,"on":"notes","privilege":"insert","session":1}
+--
+failed
+--
+"#;
+
 #[test]
 fn steps_are_told_once(rt: HostRuntime) -> Result<(), Fail> {
-    let told = stepped_anew(rt.alloc(), &[WRITES, TAKEN_AND_GIVEN, TAKEN])?;
-    println!(rt; "{}", String::from_utf8(told)?)?;
+    let told = stepped_anew(rt.alloc(), &[WRITES, TAKEN_AND_GIVEN, BEYOND, TAKEN])?;
+    assert_eq!(rt; str::from_utf8(&told), Ok(TOLD));
     Ok(())
 }
 
 #[test]
 fn a_refused_fact_ends_the_engine(rt: HostRuntime) -> Result<(), Fail> {
     let told = stepped_anew(rt.alloc(), &[WITHOUT_RIGHT, WRITES])?;
-    println!(rt; "{}", String::from_utf8(told)?)?;
+    assert_eq!(rt; str::from_utf8(&told), Ok(REFUSED));
     Ok(())
 }

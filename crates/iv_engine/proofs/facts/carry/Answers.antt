@@ -1,4 +1,4 @@
-use Rattle.std.proofs.Common.{◌≡◌, true, refl, subst, sym}
+use Rattle.std.proofs.Common.{◌≡◌, true, subst, sym}
 use Rattle.iv_rows.specs.Names.{is_name}
 use Rattle.iv_machine.specs.Well.{is_well_act}
 use Rattle.iv_steps.specs.Steps.{Fact, is_well_fact}

@@ -1,7 +1,6 @@
-use Rattle.std.proofs.Common.{◌≡◌, ◌∙◌, ◌+◌, ◌<◌, List, [], ◌∷◌, true, ap, arith, length, refl, rules, subst, sym}
+use Rattle.std.proofs.Common.{◌≡◌, ◌∙◌, ◌<◌, List, [], ap, arith, length, refl, rules, subst, sym}
 use Rattle.std.specs.List.{list_all}
 use Rattle.std.specs.Vec.Iter.{into_iter_items}
-use Rattle.iv_machine.specs.State.{State}
 use Rattle.iv_steps.specs.Steps.{Fact, is_well_fact}
 use Rattle.iv_store.proofs.Running.{no_items}
 use Rattle.iv_command.specs.Views.{refusal_of}

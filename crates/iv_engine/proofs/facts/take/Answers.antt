@@ -1,8 +1,7 @@
-use Rattle.std.proofs.Common.{◌∙◌, ap, subst, sym}
-use Rattle.iv_steps.specs.Steps.{Fact}
+use Rattle.std.proofs.Common.{◌∙◌, subst, sym}
 use Rattle.iv_command.specs.declared.command.Reply.TheVariants.{Ok}
-use Rattle.iv_store.specs.Aside.{AreBack, all_concerned, nobody_in, with_those_of}
-use Rattle.iv_store.specs.Store.{IsSoundStore, Store}
+use Rattle.iv_store.specs.Aside.{AreBack, all_concerned}
+use Rattle.iv_store.specs.Store.{Store}
 use Rattle.iv_store.specs.Turned.{AreReaders}
 use Rattle.iv_engine.specs.Carried.{AreCarried, IsEmpty}
 use Rattle.iv_engine.proofs.Looking.{all_back, aside_back, nobody_there, step_stopped, step_taken}

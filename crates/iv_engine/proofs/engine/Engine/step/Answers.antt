@@ -1,9 +1,6 @@
 use Rattle.std.proofs.Common.{◌≡◌, ◌∙◌, ap, subst, sym}
-use Rattle.iv_machine.specs.State.{State}
 use Rattle.iv_database.specs.Stands.{Stands}
-use Rattle.iv_command.specs.Views.{line_of}
-use Rattle.iv_store.specs.Answering.{seen}
-use Rattle.iv_store.specs.Engine.{Engine, IsBehind}
+use Rattle.iv_store.specs.Engine.{Engine}
 use Rattle.iv_store.specs.Store.{frame_of}
 use Rattle.iv_engine.proofs.Given.{sound_after_step}
 use Rattle.iv_engine.proofs.Looking.{refuses_as}
@@ -14,7 +11,7 @@ returns-in-Ok-clause-taken c = λ s b.
     let frame : s.frame ≡ frame_of c.self.inside.store = b.frame ∙ ap (λ (v : Engine). v.frame) (sym c.self.view_is) in
     let rows = subst (λ (v : Engine). Stands s.rows v.tables) (sym c.self.view_is) b.rows in
     let k = c.in-Ok.ensures.1 s (record { frame = frame; rows = rows }) in
-    record { outcome = k.outcome; is = k.is; lines = k.lines; left = record { frame = k.left.frame; rows = k.left.rows } }
+    record { outcome = k.outcome; is = k.is; told = k.told; left = record { frame = k.left.frame; rows = k.left.rows } }
 
 pub returns-in-Ok-clause-sound : goal.returns-in-Ok-clause-sound
 returns-in-Ok-clause-sound c = λ g h. sound_after_step c.args.self.now _ c.args.facts.items _ g (returns-in-Ok-clause-taken c) h
