@@ -32,6 +32,15 @@ use Rattle.iv_engine.specs.declared.facts.StepFault.TheVariants.{Memory, Failed,
 use Rattle.iv_engine.proofs.Carried.{is_at, some_behind}
 use Rattle.iv_engine.proofs.Left.{if_found, left_sound, turned_lines}
 
+-- who was there in the one store has been looked at in the other, where the subscriptions and circuits are the same
+pub record IsLooked (e c : Store) (lines : List Line) (new : Store) : Type 0 where
+  pub left : (U : Lists) → Stands U c.tables → new.subscriptions ≡ filter (stays_open c U) e.subscriptions
+  pub told : (T U : Lists) → Stands T e.tables → Stands U c.tables → map line_of lines ≡ flat_map (λ s. turned_line c U s (shown_rows e T s)) e.subscriptions
+  pub circuits : AllByRecursion (IsRoleCircuit c) new.circuits
+  pub there : AllByRecursion (λ s. is_some (place_of new s) ≡ true) new.subscriptions
+  pub read : AllByRecursion (λ k. is_read (frame_of new) k ≡ true) new.circuits
+  pub state : new ≡ record c { subscriptions = new.subscriptions; circuits = new.circuits }
+
 -- ---- those who were there, over other rights, relations and rows
 
 module _ (e d : Store) (h : IsSoundStore e) (g : IsSoundStore d) (roles : length e.known.rights.roles ≤ length d.known.rights.roles) (relations : length e.catalog ≤ length d.catalog) where
@@ -83,7 +92,17 @@ module _ (e d : Store) (h : IsSoundStore e) (g : IsSoundStore d) (roles : length
 
   -- ---- what is left
 
-  module _ (lines : List Line) (new : Store) (told : AreReaders c (all_concerned c) Ok lines new) where
+  pub looked : (lines : List Line) (new : Store) → AreReaders c (all_concerned c) Ok lines new → IsLooked e c lines new
+  looked lines new told = record {
+    left = told.left;
+    told = λ T U s t. told.told U t (shown_rows e T) (all_showed T s);
+    circuits = told.circuits;
+    there = told.there;
+    read = told.read;
+    state = told.state;
+  }
+
+  module _ (lines : List Line) (new : Store) (told : IsLooked e c lines new) where
     pub new_sound : IsSoundStore new
     new_sound = subst IsSoundStore (sym told.state) (left_sound c back_stored new.subscriptions new.circuits told.left told.circuits
         (subst (λ (v : Store). AllByRecursion (λ s. is_some (place_of v s) ≡ true) new.subscriptions) told.state told.there)
@@ -104,7 +123,7 @@ module _ (e d : Store) (h : IsSoundStore e) (g : IsSoundStore d) (roles : length
       is_taken = record {
         outcome = looked_at (at e s.rows) (at c t.rows);
         is = ap (option_map (λ x. looked_at s (among s x))) carried ∙ ap Some looked_is;
-        told = told.told t.rows a.rows (shown_rows e s.rows) (all_showed s.rows b.rows) ∙ sym (lines_are s.rows t.rows);
+        told = told.told s.rows t.rows b.rows a.rows ∙ sym (lines_are s.rows t.rows);
         left = new_behind;
       }
 
@@ -156,11 +175,14 @@ module _ (e d : Store) (facts : List Fact) (h : IsSoundStore e) (carried : IsSti
   pub all_back : AreBack (with_those_of e d)
   all_back = are_back e d h carried.0.sound roles relations
 
-  pub step_taken : (lines : Vec Line) (new : Store) → AreReaders (with_those_of e d) (all_concerned (with_those_of e d)) Ok lines.items new → IsTakenIn e facts (OkResult lines) new
-  step_taken lines new told = (
+  pub taken_as : (lines : Vec Line) (new : Store) → IsLooked e (with_those_of e d) lines.items new → IsTakenIn e facts (OkResult lines) new
+  taken_as lines new told = (
     new_sound e d h carried.0.sound roles relations lines.items new told,
     λ s b. let k = from_shared s b in is_taken e d h carried.0.sound roles relations lines.items new told facts s k.state b k.is k.behind,
   )
+
+  pub step_taken : (lines : Vec Line) (new : Store) → AreReaders (with_those_of e d) (all_concerned (with_those_of e d)) Ok lines.items new → IsTakenIn e facts (OkResult lines) new
+  step_taken lines new told = taken_as lines new (looked e d h carried.0.sound roles relations lines.items new told)
 
 -- what stops a fact stops the step
 pub step_stopped : (e d new : Store) (facts : List Fact) (fault : StepFault) → AreCarried (nobody_in e) facts (Err fault) d → IsTakenIn e facts (Err fault) new

@@ -4,6 +4,9 @@ use Rattle.std.specs.Vec.Iter.{into_iter_items}
 use Rattle.iv_steps.specs.Steps.{Fact, is_well_fact}
 use Rattle.iv_store.proofs.Running.{no_items}
 use Rattle.iv_command.specs.Views.{refusal_of}
+use Rattle.std.specs.Prelude.{Err}
+use Rattle.iv_command.specs.declared.stop.Stop.{Stop}
+use Rattle.iv_engine.specs.Carried.{IsCarried}
 use Rattle.iv_engine.proofs.Carried.{GoesOn, none_left, one_further, one_stops, well_first, well_rest}
 use Rattle.iv_engine.proofs.facts.carry_all.Goals as goal
 
@@ -50,13 +53,14 @@ loop-fact-preserved c =
           one_further s c.args.facts.items place f rest c.loop-fact.store g c.carry.new.store (c.in-Ok.ensures.1 g.state g.behind),
     )
 
-pub returns-in-Err-in-Refused : goal.returns-in-Err-in-Refused
-returns-in-Err-in-Refused c = λ s b.
+pub returns-in-Err-Refused : goal.returns-in-Err-Refused
+returns-in-Err-Refused c = λ s b.
     let f = c.in-Some.fact in
     let rest = into_iter_items c.next.new.self in
     let place = c.loop-fact.place in
     let g = subst (λ (fs : List Fact). GoesOn s c.args.facts.items place fs c.loop-fact.store) c.in-Some.ensures.steps.0 (c.loop-fact.invariant.5 s b) in
-    one_stops s c.args.facts.items place f rest c.loop-fact.store g (refusal_of c.in-Err-in-Refused.refusal) (c.in-Err.ensures g.state g.behind)
+    let refused = subst (λ (x : Stop). IsCarried c.loop-fact.store f (Err x) c.carry.new.store) c.in-Err-Refused.field-0-is c.in-Err-Refused.ensures in
+    one_stops s c.args.facts.items place f rest c.loop-fact.store g (refusal_of c.in-Err-Refused.refusal) (refused g.state g.behind)
 
 pub returns : goal.returns
 returns c =

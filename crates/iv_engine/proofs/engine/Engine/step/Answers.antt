@@ -1,9 +1,10 @@
-use Rattle.std.proofs.Common.{◌≡◌, ◌∙◌, ap, subst, sym}
+use Rattle.std.proofs.Common.{◌≡◌, ◌∙◌, true, false, ap, subst, sym}
 use Rattle.iv_database.specs.Stands.{Stands}
 use Rattle.iv_store.specs.Engine.{Engine}
 use Rattle.iv_store.specs.Store.{frame_of}
 use Rattle.iv_engine.proofs.Given.{sound_after_step}
-use Rattle.iv_engine.proofs.Looking.{refuses_as}
+use Rattle.iv_engine.specs.declared.facts.StepFault.TheVariants.{Failed}
+use Rattle.iv_engine.proofs.Looking.{had_not_failed, refuses_as}
 use Rattle.iv_engine.proofs.engine.Engine.step.Goals as goal
 
 pub returns-in-Ok-clause-taken : goal.returns-in-Ok-clause-taken
@@ -21,3 +22,10 @@ returns-in-Err-clause-refused c =
     refuses_as c.self.inside.store c.args.self.now _ c.args.facts.items
     (λ s b. record { frame = b.frame ∙ ap (λ (v : Engine). v.frame) (sym c.self.view_is); rows = subst (λ (v : Engine). Stands s.rows v.tables) (sym c.self.view_is) b.rows })
     c.in-Err.fault c.in-Err.ensures
+
+pub returns-in-Err-clause-failed : goal.returns-in-Err-clause-failed
+returns-in-Err-clause-failed c =
+    let on : c.args.self.now.failed ≡ false = sym c.is_failed.ensures.failed ∙ c.if-is_failed.false in (
+      (λ is. absurd (had_not_failed c.self.inside.store _ c.args.facts.items c.in-Err.fault c.in-Err.ensures (let e : c.in-Err.fault ≡ Failed = cc in e))),
+      (λ off. let no : true ≡ false = sym off ∙ on in cc),
+    )
