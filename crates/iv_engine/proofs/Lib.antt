@@ -14,3 +14,5 @@ mod Knowing
 mod Carried
 mod Looking
 mod Given
+mod Following
+mod Summing

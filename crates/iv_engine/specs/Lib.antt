@@ -4,4 +4,5 @@ pub mod Restricted
 pub mod Sound
 pub mod Stepped
 pub mod Carried
+pub mod Summed
 pub use Rattle.iv_store.specs.Engine

@@ -1,18 +1,25 @@
 //! `Engine::step`: facts that others decided are taken at once, and each reader is told once what differs.
 //!
 //! Who is there is set aside first, so no reader's limit can refuse a fact and nothing is told of a state between. Then the facts are carried
-//! out, each in a session of its role; and when all are, each reader is looked at.
-ghost use Rattle.std.specs.Prelude.{◌≡◌, ◌↔◌, IfErr, IfOk, OnErr, OnOk, map, true, false};
-ghost use Rattle.std.specs.List.{All, list_all};
+//! out, each in a session of its role; and when all are, each reader is looked at. Where they were writes, its circuit takes in what they changed
+//! together, unless it would be beyond the limits; else it is built anew.
+ghost use Rattle.std.specs.Prelude.{◌≡◌, ◌==◌, ◌↔◌, [], IfErr, IfOk, OnErr, OnOk, map, true, false, ℕ};
+ghost use Rattle.std.specs.List.{All, list_all, list_any};
+ghost use Rattle.iv_circuit.specs.Deltas.{change_in};
+ghost use Rattle.iv_database.specs.Database.{IsDatabase};
 ghost use Rattle.iv_command.specs.Views.{line_of};
 ghost use Rattle.iv_engine.specs.Sound.{IsSoundEngine};
 ghost use Rattle.iv_engine.specs.Carried.{AreCarried, IsCarried, IsEmpty, IsTakenIn};
 ghost use Rattle.iv_engine.specs.Stepped.{IsGivenFact, RefusesStep, TakesStep};
 ghost use Rattle.iv_steps.specs.Steps.{is_well_fact};
-ghost use Rattle.iv_store.specs.Store.{IsSoundStore};
+ghost use Rattle.iv_engine.specs.Summed.{AreSumsOf, AreSumsSince, AreTold};
+ghost use Rattle.iv_store.specs.Aside.{AreBack};
+ghost use Rattle.iv_store.specs.Followed.{AreReady};
+ghost use Rattle.iv_store.specs.Store.{IsSoundStore, Store, database_of};
 
 use crate::engine::Engine;
 use crate::step::act;
+use crate::sums::{Sums, carry_out};
 use iv_command::{Act, Line, Refusal, Stop};
 use iv_store::Store;
 use std::alloc::AllocError;
@@ -67,34 +74,39 @@ impl From<AllocError> for StepFault {
 /// The session in which a fact is carried out.
 const SESSION: u32 = 1;
 
-/// Carries a fact out where nobody is, in a session of its role that is closed behind it. After an error nothing is promised.
-fn carry(store: &mut Store, fact: Fact) -> Result<(), Stop>
+/// Carries a fact out where nobody is, in a session of its role that is closed behind it, and adds what a write changes of tables. After an
+/// error nothing is promised.
+fn carry(store: &mut Store, fact: Fact, sums: &mut Sums) -> Result<(), Stop>
     requires well { is_well_fact fact ≡ true }
     requires sound { IsSoundStore store.old }
     requires empty { IsEmpty store.old }
-    ensures { IsCarried store.old fact result store.new }
+    requires sums { AreSumsSince sums.old store.old }
+    ensures carried { IsCarried store.old fact result store.new }
+    ensures sums { OnOk result ((before : Store) → IsDatabase (database_of before) → AreSumsOf before sums.old store.old → AreSumsOf before sums.new store.new) }
 {
     let Fact { role, act: done } = fact;
     let begun = act(store, SESSION, Act::Begin { role })?;
     drop(begun);
-    let acted = act(store, SESSION, done)?;
+    let acted = carry_out(store, SESSION, done, sums)?;
     drop(acted);
     let finished = act(store, SESSION, Act::Finish)?;
     drop(finished);
     Ok(())
 }
 
-/// Carries facts out where nobody is, in their order. After an error nothing is promised.
-fn carry_all(store: &mut Store, facts: Vec<Fact>) -> Result<(), StepFault>
+/// Carries facts out where nobody is, in their order, and adds what writes change of tables. After an error nothing is promised.
+fn carry_all(store: &mut Store, facts: Vec<Fact>, sums: &mut Sums) -> Result<(), StepFault>
     requires well { list_all is_well_fact facts.items ≡ true }
     requires sound { IsSoundStore store.old }
     requires empty { IsEmpty store.old }
-    ensures { AreCarried store.old facts.items result store.new }
+    requires sums { AreSumsOf store.old sums.old store.old }
+    ensures carried { AreCarried store.old facts.items result store.new }
+    ensures sums { OnOk result (AreSumsOf store.old sums.new store.new) }
 {
     let mut place = 0usize;
     for fact in facts {
         place += 1;
-        match carry(store, fact) {
+        match carry(store, fact, sums) {
             Ok(()) => {}
             Err(Stop::Refused(refusal)) => {
                 return Err(StepFault::Refused {
@@ -108,6 +120,24 @@ fn carry_all(store: &mut Store, facts: Vec<Fact>) -> Result<(), StepFault>
     Ok(())
 }
 
+/// Says what readers see more and less, once facts were carried out: where these were writes their circuits take the changes in, unless one
+/// would be beyond the limits; else each is built anew.
+fn told(store: &mut Store, sums: Sums) -> Result<Vec<Line>, AllocError>
+    requires back { AreBack store.old }
+    requires ready { sums.others ≡ false → AreReady store.old (change_in sums.deltas) }
+    requires tables { sums.others ≡ false → (t : ℕ) → list_any (λ s. t == s) sums.tables.items ≡ false → change_in sums.deltas t ≡ [] }
+    ensures { IfOk result (λ lines. AreTold store.old sums lines.items store.new) }
+{
+    if !sums.others {
+        let Sums { deltas, tables, .. } = sums;
+        let followed = store.follow(&deltas, tables)?;
+        if let Some(lines) = followed {
+            return Ok(lines);
+        }
+    }
+    store.look()
+}
+
 /// Takes a step, and says what readers are told. After an error nothing is promised.
 fn take(store: &mut Store, facts: Vec<Fact>) -> Result<Vec<Line>, StepFault>
     requires well { list_all is_well_fact facts.items ≡ true }
@@ -115,15 +145,17 @@ fn take(store: &mut Store, facts: Vec<Fact>) -> Result<Vec<Line>, StepFault>
     ensures { IsTakenIn store.old facts.items result store.new }
 {
     let aside = store.set_aside();
-    match carry_all(store, facts) {
+    let mut sums = Sums::new(store);
+    match carry_all(store, facts, &mut sums) {
         Ok(()) => {}
         Err(fault) => {
             drop(aside);
+            drop(sums);
             return Err(fault);
         }
     }
     store.bring_back(aside);
-    let lines = store.look()?;
+    let lines = told(store, sums)?;
     Ok(lines)
 }
 

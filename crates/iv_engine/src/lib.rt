@@ -8,6 +8,7 @@ mod memberships;
 mod policies;
 mod privileges;
 mod step;
+mod sums;
 mod write;
 
 pub use engine::{Engine, EngineFault};

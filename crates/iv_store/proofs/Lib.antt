@@ -26,6 +26,7 @@ pub mod Carrying
 mod Giving
 mod Building
 mod Pairing
+pub mod Following
 pub mod Counted
 mod Opened
 pub mod Touches
