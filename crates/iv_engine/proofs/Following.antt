@@ -24,7 +24,7 @@ use Rattle.iv_readers.specs.Changes.{TookChange}
 use Rattle.iv_readers.specs.Each.{Each}
 use Rattle.iv_command.specs.declared.command.Line.{Line}
 use Rattle.iv_readers.proofs.Lists.{all_map, all_zip}
-use Rattle.iv_store.proofs.Following.{all_ready}
+use Rattle.iv_store.proofs.Due.{all_ready}
 use Rattle.iv_store.proofs.Replaced.{IsSameReader, place_same, read_still, readers_same}
 use Rattle.iv_store.proofs.Shared.{AreLinesAt, each_within, lines_are}
 use Rattle.iv_store.proofs.Showing.{lists_behind, stands_behind}

@@ -26,7 +26,7 @@ pub mod Carrying
 mod Giving
 mod Building
 mod Pairing
-pub mod Following
+pub mod Due
 pub mod Counted
 mod Opened
 pub mod Touches
