@@ -138,7 +138,7 @@ by_reader e given (i ∷ is) (p ∷ ps) h =
     (λ k. Each (λ j q. (q.place ≡ j) × (k.at ≡ j → IsMadeOf given k.circuit q)) (i ∷ is) (p ∷ ps)) e.circuits
     (λ k m r. ((h.0.place, m), r)) h.0.made (by_reader e given is ps h.1)
 
-each_place : (e : Store) (given : Given) (is : List ℕ) (ps : List Prepared) → Each (IsMadeAt e given) is ps → places_in ps ≡ is
+pub each_place : (e : Store) (given : Given) (is : List ℕ) (ps : List Prepared) → Each (IsMadeAt e given) is ps → places_in ps ≡ is
 each_place e given [] [] h = refl
 each_place e given [] (p ∷ ps) h = absurd h
 each_place e given (i ∷ is) [] h = absurd h
