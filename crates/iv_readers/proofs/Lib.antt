@@ -6,6 +6,7 @@ pub mod Alike
 pub mod Bags
 pub mod Partly
 pub mod Placing
+pub mod Showing
 pub mod Left
 pub mod Turning
 pub mod Flagging

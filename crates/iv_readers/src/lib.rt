@@ -9,12 +9,13 @@ mod changes;
 mod circuits;
 mod flags;
 mod rows;
+mod shown;
 mod touching;
 mod turns;
 
 pub use changes::{Prepared, add_delta, prepared_of};
 pub use circuits::Circuits;
 pub use flags::differing;
-pub use rows::{in_order, more_rows, shared};
+pub use rows::{in_order, more_rows};
 pub use touching::{places_of, rels_of};
 pub use turns::{Outcome, anew};

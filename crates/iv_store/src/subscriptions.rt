@@ -15,11 +15,11 @@ ghost use Rattle.iv_store.specs.Openable.{AreFirstLines, MayOpen, with_subscript
 ghost use Rattle.iv_machine.specs.Refusing.{has_subscription};
 ghost use Rattle.iv_store.specs.Finished.{without_session, without_subscription};
 
-use crate::lines::push_change;
+use crate::lines::push_rows;
 use crate::store::Store;
 use iv_access::{Privilege, RoleId};
 use iv_command::{Answer, LAST_NUMBER, Line, Refusal, Reply, Stop};
-use iv_readers::{Circuits, in_order};
+use iv_readers::Circuits;
 use iv_rows::RelId;
 use std::alloc::AllocError;
 use std::marker::Model;
@@ -137,10 +137,10 @@ impl Store {
         ensures lines { IfOk result (λ lines. AreFirstLines subscription (total_at self.old place) (map line_of lines.items)) }
         ensures state { OnOk result (self.new ≡ with_subscription subscription place self.old) }
     {
-        let rows = in_order(self.alloc, self.circuits.circuit(place).total(), false)?;
-        let mut lines = Vec::new(self.alloc);
-        push_change(self.alloc, &mut lines, &subscription, rows)?;
         self.found.clear();
+        let rows = self.circuits.rows(self.alloc, place)?;
+        let mut lines = Vec::new(self.alloc);
+        push_rows(&mut lines, &subscription, &rows)?;
         self.circuits.open(place, subscription.number);
         self.last = subscription.number;
         insert(&mut self.subscriptions, subscription)?;
