@@ -26,6 +26,7 @@ pub mod Carrying
 mod Giving
 mod Building
 mod Pairing
+pub mod Due
 pub mod Counted
 mod Opened
 pub mod Touches

@@ -11,6 +11,7 @@ pub mod Moved
 pub mod Touching
 pub mod Turned
 pub mod Aside
+pub mod Followed
 pub mod Concerned
 pub mod Finished
 pub mod Openable

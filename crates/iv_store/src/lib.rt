@@ -8,6 +8,7 @@ mod aside;
 mod changes;
 mod circuits;
 mod concerned;
+mod following;
 mod lines;
 mod store;
 mod subscriptions;
@@ -15,6 +16,7 @@ mod touching;
 mod turns;
 
 pub use aside::Aside;
+pub use changes::add_changes;
 pub use lines::lines_of;
 pub use store::Store;
 pub use subscriptions::Subscription;
