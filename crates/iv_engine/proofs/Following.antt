@@ -1,6 +1,7 @@
 -- Circuits take in what writes changed of tables while nobody was there: the lines and what is left are those of the machine's step.
-use Rattle.std.proofs.Common.{◌≡◌, ◌++◌, ℕ, Bool, true, false, cond, not, List, [], ◌∷◌, map, None, refl, sym, ap, subst, ◌∙◌}
-use Rattle.std.specs.Prelude.{filter, flat_map, is_some}
+use Rattle.std.proofs.Common.{◌≡◌, ◌++◌, ℕ, Bool, true, false, cond, not, List, [], ◌∷◌, map, None, refl, sym, ap, subst, ◌∙◌, inl, inr}
+use Rattle.std.specs.Global.{Vec}
+use Rattle.std.specs.Prelude.{Ok as OkResult, filter, flat_map, is_some}
 use Rattle.std.specs.List.{AllByRecursion}
 use Rattle.iv_zset.specs.Limits.{copies}
 use Rattle.iv_zset.specs.Weights.{weight_of}
@@ -9,13 +10,16 @@ use Rattle.iv_algebra.specs.Contents.{rows_of}
 use Rattle.iv_algebra.specs.Plans.{Lists}
 use Rattle.iv_bind.specs.Catalogs.{CatalogEntry, schema_of}
 use Rattle.iv_circuit.specs.Changing.{Given}
+use Rattle.iv_circuit.specs.Deltas.{change_in}
 use Rattle.iv_machine.specs.Machine.{ending, first_cause}
-use Rattle.iv_machine.specs.State.{Subscription, actor, is_within, missing_for}
+use Rattle.iv_machine.specs.State.{State, Subscription, actor, is_within, missing_for}
+use Rattle.iv_steps.specs.Steps.{Fact}
 use Rattle.iv_database.specs.Database.{HoldsKinds, relation_in}
 use Rattle.iv_database.specs.Stands.{Stands}
 use Rattle.iv_database.proofs.Holding.{to_list}
-use Rattle.iv_store.specs.Answering.{moved_lines}
-use Rattle.iv_store.specs.Aside.{with_those_of}
+use Rattle.iv_store.specs.Answering.{moved_lines, seen}
+use Rattle.iv_store.specs.Aside.{nobody_in, with_those_of}
+use Rattle.iv_store.specs.Engine.{IsBehind}
 use Rattle.iv_store.specs.Followed.{AreReady, HaveFollowed}
 use Rattle.iv_store.specs.Moved.{IsAfter, IsFollowed}
 use Rattle.iv_store.specs.Store.{IsRoleCircuit, IsSoundStore, Store, at, frame_of, is_read, may_read, place_of, shown_rows}
@@ -28,8 +32,10 @@ use Rattle.iv_store.proofs.Due.{all_ready}
 use Rattle.iv_store.proofs.Replaced.{IsSameReader, place_same, read_still, readers_same}
 use Rattle.iv_store.proofs.Shared.{AreLinesAt, each_within, lines_are}
 use Rattle.iv_store.proofs.Showing.{lists_behind, stands_behind}
-use Rattle.iv_engine.specs.Summed.{AreWritten}
-use Rattle.iv_engine.proofs.Looking.{IsLooked}
+use Rattle.iv_engine.specs.Carried.{AreCarriedTo, IsStillEmpty, IsTakenIn}
+use Rattle.iv_engine.specs.Summed.{AreTold, AreWritten}
+use Rattle.iv_engine.specs.declared.sums.Sums.{Sums}
+use Rattle.iv_engine.proofs.Looking.{IsLooked, step_taken, taken_as}
 use Rattle.iv_engine.proofs.Settling.{all_taken, made_long, moved}
 
 -- why a subscription stays open
@@ -106,3 +112,24 @@ module _ (e d : Store) (given : Given) (tables : List ℕ) (h : IsSoundStore e) 
 
     pub now_looked : IsLooked e (with_those_of e d) lines new
     now_looked = subst (λ (x : Store). IsLooked e x lines new) (sym v_is) at_v
+
+-- ---- the whole step
+
+-- since who is there was set aside
+pub since_aside : (e d : Store) (given : Given) (tables : List ℕ) → AreWritten (nobody_in e) given tables d → AreWritten e given tables d
+since_aside e d given tables w = record { cap = w.cap; rights = w.rights; catalog = w.catalog; zsets = w.zsets; sums = w.sums; others = w.others }
+
+module _ (e d : Store) (facts : List Fact) (h : IsSoundStore e) (carried : IsStillEmpty d × ((s : State) → IsBehind s (seen (nobody_in e)) → AreCarriedTo s facts d)) (s : Sums)
+    (w : s.others ≡ false → AreWritten (nobody_in e) (change_in s.deltas) s.tables.items d) where
+  since : s.others ≡ false → AreWritten e (change_in s.deltas) s.tables.items d
+  since writes = since_aside e d (change_in s.deltas) s.tables.items (w writes)
+
+  pub told_ready : s.others ≡ false → AreReady (with_those_of e d) (change_in s.deltas)
+  told_ready writes = ready_now e d (change_in s.deltas) s.tables.items h carried.0.sound (since writes)
+
+  pub told_taken : (lines : Vec Line) (new : Store) → AreTold (with_those_of e d) s lines.items new → IsTakenIn e facts (OkResult lines) new
+  told_taken lines new (inl looked) = step_taken e d facts h carried lines new looked
+  told_taken lines new (inr f) =
+      let x = since f.0 in
+      taken_as e d facts h carried lines new (now_looked e d (change_in s.deltas) s.tables.items h carried.0.sound x lines.items new
+      (subst (λ (y : Store). HaveFollowed y (change_in s.deltas) lines.items new) (v_is e d (change_in s.deltas) s.tables.items h carried.0.sound x) f.1))

@@ -22,6 +22,7 @@ use Rattle.iv_database.specs.Changes.{Change, change_at}
 use Rattle.iv_database.specs.Database.{Database, IsDatabase}
 use Rattle.iv_database.specs.Resolving.{Passes}
 use Rattle.iv_database.specs.Stands.{Stands}
+use Rattle.iv_database.proofs.Stored.{empty_zset}
 use Rattle.iv_store.specs.Answering.{IsAccepted, seen}
 use Rattle.iv_store.specs.Engine.{IsBehind}
 use Rattle.iv_store.specs.Store.{IsStored, Store, at, database_of}
@@ -30,6 +31,17 @@ use Rattle.iv_store.proofs.Showing.{lists_behind, stands_behind}
 use Rattle.iv_store.proofs.Spreading.{no_change}
 use Rattle.iv_engine.proofs.Settling.{write_left}
 use Rattle.iv_engine.specs.Summed.{AreWritten}
+
+-- nothing yet
+pub none_written : (e : Store) (given : Given) → ((t : ℕ) → given t ≡ []) → AreWritten e given [] e
+none_written e given none = record {
+  cap = refl;
+  rights = refl;
+  catalog = refl;
+  zsets = λ t. subst IsZSet (sym (none t)) empty_zset;
+  sums = λ t q. ap (λ (es : Weighed). weight_of (es ++ rows_of e.tables t) q) (sym (none t));
+  others = λ t h. none t;
+}
 
 -- where rights, relations and rows stay
 pub still_written : (before d n : Store) (given : Given) (tables : List ℕ) → AreWritten before given tables d → n.cap ≡ d.cap → n.known.rights ≡ d.known.rights → n.catalog ≡ d.catalog

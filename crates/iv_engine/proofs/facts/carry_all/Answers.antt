@@ -26,6 +26,9 @@ carry-requires-clause-sound c = c.loop-fact.invariant.4.sound
 pub carry-requires-clause-empty : goal.carry-requires-clause-empty
 carry-requires-clause-empty c = c.loop-fact.invariant.4.empty
 
+pub carry-requires-clause-sums : goal.carry-requires-clause-sums
+carry-requires-clause-sums c = record { before = c.args.store.now; stored = c.requires.sound.stored.database; are = c.loop-fact.invariant.6 }
+
 pub loop-fact-init : goal.loop-fact-init
 loop-fact-init c =
     let items : into_iter_items c.into_iter-fact-iterator.result ≡ c.args.facts.items = search rules in (
@@ -35,6 +38,7 @@ loop-fact-init c =
       ap (λ (fs : List Fact). length fs) items,
       record { sound = c.requires.sound; empty = c.requires.empty },
       λ s b. subst (λ (fs : List Fact). GoesOn s c.args.facts.items 0 fs c.args.store.now) (sym items) (record { state = s; behind = b; carries = refl; refuses = refl }),
+      c.requires.sums,
     )
 
 pub loop-fact-preserved : goal.loop-fact-preserved
@@ -47,24 +51,28 @@ loop-fact-preserved c =
       tt,
       well_rest f rest (sym (ap (list_all is_well_fact) next) ∙ c.loop-fact.invariant.2),
       (let all = c.loop-fact.invariant.3 in let many = ap (λ (fs : List Fact). length fs) next in omega (arith, all, many)),
-      c.in-Ok.ensures.0,
+      c.in-Ok.ensures.carried.0,
       λ s b.
           let g = subst (λ (fs : List Fact). GoesOn s c.args.facts.items place fs c.loop-fact.store) next (c.loop-fact.invariant.5 s b) in
-          one_further s c.args.facts.items place f rest c.loop-fact.store g c.carry.new.store (c.in-Ok.ensures.1 g.state g.behind),
+          one_further s c.args.facts.items place f rest c.loop-fact.store g c.carry.new.store (c.in-Ok.ensures.carried.1 g.state g.behind),
+      c.in-Ok.ensures.sums c.args.store.now c.requires.sound.stored.database c.loop-fact.invariant.6,
     )
 
-pub returns-in-Err-Refused : goal.returns-in-Err-Refused
-returns-in-Err-Refused c = λ s b.
+pub returns-in-Err-Refused-clause-carried : goal.returns-in-Err-Refused-clause-carried
+returns-in-Err-Refused-clause-carried c = λ s b.
     let f = c.in-Some.fact in
     let rest = into_iter_items c.next.new.self in
     let place = c.loop-fact.place in
     let g = subst (λ (fs : List Fact). GoesOn s c.args.facts.items place fs c.loop-fact.store) c.in-Some.ensures.steps.0 (c.loop-fact.invariant.5 s b) in
-    let refused = subst (λ (x : Stop). IsCarried c.loop-fact.store f (Err x) c.carry.new.store) c.in-Err-Refused.field-0-is c.in-Err-Refused.ensures in
+    let refused = subst (λ (x : Stop). IsCarried c.loop-fact.store f (Err x) c.carry.new.store) c.in-Err-Refused.field-0-is c.in-Err-Refused.ensures.carried in
     one_stops s c.args.facts.items place f rest c.loop-fact.store g (refusal_of c.in-Err-Refused.refusal) (refused g.state g.behind)
 
-pub returns : goal.returns
-returns c =
+pub returns-clause-carried : goal.returns-clause-carried
+returns-clause-carried c =
     let none : into_iter_items c.loop-fact.fact-iterator ≡ [] = no_items (into_iter_items c.loop-fact.fact-iterator) (let empty = c.in-None.ensures.steps.0 in let ok = c.loop-fact.fact-iterator.rest.ok in omega (arith, empty, ok)) in (
       c.loop-fact.invariant.4,
       λ s b. none_left s c.args.facts.items c.loop-fact.place (into_iter_items c.loop-fact.fact-iterator) c.loop-fact.store none (c.loop-fact.invariant.5 s b),
     )
+
+pub returns-clause-sums : goal.returns-clause-sums
+returns-clause-sums c = c.loop-fact.invariant.6
