@@ -24,7 +24,7 @@ pub still_reads : (m w : Bool) → not (is_some (first_cause m w)) ≡ true → 
 still_reads true w h = cc
 still_reads false w h = refl
 
-still_within : (m w : Bool) → not (is_some (first_cause m w)) ≡ true → w ≡ true
+pub still_within : (m w : Bool) → not (is_some (first_cause m w)) ≡ true → w ≡ true
 still_within true w h = cc
 still_within false true h = refl
 still_within false false h = cc

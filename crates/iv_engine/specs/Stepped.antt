@@ -1,10 +1,12 @@
 -- A step as an engine takes it: the machine's step in each state behind it, or which fact is refused.
-use Rattle.std.specs.Prelude.{◌≡◌, ℕ, true, List, None, Some}
+use Rattle.std.specs.Prelude.{◌≡◌, Bool, ℕ, false, true, List, None, Some}
+use Rattle.std.specs.List.{AllByRecursion, list_all}
 use Rattle.iv_machine.specs.Act as machine
 use Rattle.iv_machine.specs.Machine.{Outcome}
 use Rattle.iv_machine.specs.State.{State}
 use Rattle.iv_machine.specs.Stored.{HasTexts}
 use Rattle.iv_steps.specs.Steps.{Fact, first_refused, is_well_fact, shared, stepped}
+use Rattle.iv_store.specs.Counting.{IsCounted, rounds_at}
 use Rattle.iv_store.specs.Engine.{Engine, IsBehind}
 use Rattle.iv_command.specs.Views.{refusal_of}
 use Rattle.iv_engine.specs.declared.facts.StepFault.{StepFault}
@@ -36,3 +38,17 @@ RefusesStep e facts (Refused place why) = (s : State) → IsBehind s e → IsRef
 pub record IsGivenFact (f : Fact) : Type 0 where
   pub well : is_well_fact f ≡ true
   pub texts : HasTexts f.act
+
+-- ---- work
+
+-- it writes rows, and does nothing else
+abbrev pub is_write : machine.Act → Bool
+is_write (machine.write entries) = true
+is_write _ = false
+
+abbrev pub AreWrites : List Fact → Type 0
+AreWrites facts = list_all (λ f. is_write f.act) facts ≡ true
+
+-- each open subscription has counted one round more exactly where the counts of a table have changed that it scans
+abbrev pub AreCountedOnce : Engine → Engine → Type 0
+AreCountedOnce old new = AllByRecursion (λ s. IsCounted old new s.rel (rounds_at old s.number) (rounds_at new s.number)) new.frame.subscriptions

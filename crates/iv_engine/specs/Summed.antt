@@ -7,7 +7,7 @@ use Rattle.iv_circuit.specs.Changing.{Given}
 use Rattle.iv_circuit.specs.Deltas.{change_in}
 use Rattle.iv_database.specs.Database.{IsDatabase}
 use Rattle.iv_store.specs.Aside.{all_concerned}
-use Rattle.iv_store.specs.Followed.{HaveFollowed}
+use Rattle.iv_store.specs.Followed.{HaveFollowed, IsSomeBroken}
 use Rattle.iv_store.specs.Store.{Store, database_of}
 use Rattle.iv_store.specs.Turned.{AreReaders}
 use Rattle.iv_command.specs.declared.command.Line.{Line}
@@ -34,6 +34,11 @@ pub record AreSumsSince (s : Sums) (now : Store) : Type 0 where
   pub stored : IsDatabase (database_of before)
   pub are : AreSumsOf before s now
 
--- the readers of the store were looked at, or their circuits have taken the sums in
+-- the readers of the store were looked at, since more was carried out than writes or a circuit would not be within the limits
+pub record AreLookedAt (e : Store) (s : Sums) (lines : List Line) (new : Store) : Type 0 where
+  pub readers : AreReaders e (all_concerned e) Ok lines new
+  pub why : s.others ≡ false → IsSomeBroken e (change_in s.deltas)
+
+-- or the circuits have taken the sums of writes in
 abbrev pub AreTold : Store → Sums → List Line → Store → Type 0
-AreTold e s lines new = AreReaders e (all_concerned e) Ok lines new ⊎ ((s.others ≡ false) × HaveFollowed e (change_in s.deltas) lines new)
+AreTold e s lines new = AreLookedAt e s lines new ⊎ ((s.others ≡ false) × HaveFollowed e (change_in s.deltas) lines new)

@@ -10,7 +10,8 @@ ghost use Rattle.iv_database.specs.Database.{IsDatabase};
 ghost use Rattle.iv_command.specs.Views.{line_of};
 ghost use Rattle.iv_engine.specs.Sound.{IsSoundEngine};
 ghost use Rattle.iv_engine.specs.Carried.{AreCarried, IsCarried, IsEmpty, IsTakenIn};
-ghost use Rattle.iv_engine.specs.Stepped.{IsGivenFact, RefusesStep, TakesStep};
+ghost use Rattle.iv_engine.specs.Stepped.{AreCountedOnce, AreWrites, IsGivenFact, RefusesStep, TakesStep, is_write};
+ghost use Rattle.iv_store.specs.Answering.{seen};
 ghost use Rattle.iv_steps.specs.Steps.{is_well_fact};
 ghost use Rattle.iv_engine.specs.Summed.{AreSumsOf, AreSumsSince, AreTold};
 ghost use Rattle.iv_store.specs.Aside.{AreBack};
@@ -82,6 +83,7 @@ fn carry(store: &mut Store, fact: Fact, sums: &mut Sums) -> Result<(), Stop>
     requires empty { IsEmpty store.old }
     requires sums { AreSumsSince sums.old store.old }
     ensures carried { IsCarried store.old fact result store.new }
+    ensures others { OnOk result (is_write fact.act ≡ true → sums.new.others ≡ sums.old.others) }
     ensures sums { OnOk result ((before : Store) → IsDatabase (database_of before) → AreSumsOf before sums.old store.old → AreSumsOf before sums.new store.new) }
 {
     let Fact { role, act: done } = fact;
@@ -101,6 +103,7 @@ fn carry_all(store: &mut Store, facts: Vec<Fact>, sums: &mut Sums) -> Result<(),
     requires empty { IsEmpty store.old }
     requires sums { AreSumsOf store.old sums.old store.old }
     ensures carried { AreCarried store.old facts.items result store.new }
+    ensures others { OnOk result (AreWrites facts.items → sums.new.others ≡ sums.old.others) }
     ensures sums { OnOk result (AreSumsOf store.old sums.new store.new) }
 {
     let mut place = 0usize;
@@ -142,7 +145,8 @@ fn told(store: &mut Store, sums: Sums) -> Result<Vec<Line>, AllocError>
 fn take(store: &mut Store, facts: Vec<Fact>) -> Result<Vec<Line>, StepFault>
     requires well { list_all is_well_fact facts.items ≡ true }
     requires sound { IsSoundStore store.old }
-    ensures { IsTakenIn store.old facts.items result store.new }
+    ensures taken { IsTakenIn store.old facts.items result store.new }
+    ensures rounds { OnOk result (AreWrites facts.items → store.new.subscriptions ≡ store.old.subscriptions → AreCountedOnce (seen store.old) (seen store.new)) }
 {
     let aside = store.set_aside();
     let mut sums = Sums::new(store);
@@ -172,6 +176,9 @@ impl Engine {
         ensures refused { IfErr result (RefusesStep self.old facts.items) }
         // What facts whose texts are in UTF-8 leave of rights, catalog, policies and rows is sound.
         ensures sound { OnOk result (All IsGivenFact facts.items → IsSoundEngine self.old → IsSoundEngine self.new) }
+        // Where all facts are writes, and nobody is ended, no circuit is built anew: however many they are, each subscription that scans a table whose
+        // counts differ behind them counts one round more, and all others are as before.
+        ensures rounds { OnOk result (AreWrites facts.items → self.new.frame.subscriptions ≡ self.old.frame.subscriptions → AreCountedOnce self.old self.new) }
         ensures went_on { OnOk result (self.new.failed ≡ false) }
         ensures fails { OnErr result (self.new.failed ≡ true) }
         ensures failed { result ≡ Err StepFault.Failed ↔ (self.old.failed ≡ true) }

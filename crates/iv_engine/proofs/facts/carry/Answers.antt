@@ -3,6 +3,7 @@ use Rattle.iv_rows.specs.Names.{is_name}
 use Rattle.iv_machine.specs.Well.{is_well_act}
 use Rattle.iv_steps.specs.Steps.{Fact, is_well_fact}
 use Rattle.iv_engine.specs.Carried.{IsCarried}
+use Rattle.iv_engine.specs.Stepped.{is_write}
 use Rattle.iv_engine.proofs.Carried.{stops_acted, stops_begun, stops_finished, well_act, well_role, whole_carried}
 use Rattle.iv_circuit.specs.Deltas.{change_in}
 use Rattle.iv_engine.proofs.Summing.{begun_sums, finished_sums}
@@ -65,3 +66,6 @@ returns-clause-sums c = λ before stored h writes.
     finished_sums before c.carry_out-acted.new.store c.act-finished.new.store (change_in t.deltas) t.tables.items 1 c.in_ok-finished.finished c.in_ok-acted.ensures.step.sound.stored c.in_ok-finished.ensures
     (c.in_ok-acted.ensures.sums before stored
     (λ w. begun_sums before c.args.store.now c.act-begun.new.store (change_in s.deltas) s.tables.items 1 c.in_ok-begun.begun c.requires.sound.stored _ c.in_ok-begun.ensures (h w)) writes)
+
+pub returns-clause-others : goal.returns-clause-others
+returns-clause-others c = λ writes. c.in_ok-acted.ensures.others (subst (λ (x : Fact). is_write x.act ≡ true) (sym c.fact.view_is) writes)

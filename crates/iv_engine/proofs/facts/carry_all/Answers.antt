@@ -7,7 +7,8 @@ use Rattle.iv_command.specs.Views.{refusal_of}
 use Rattle.std.specs.Prelude.{Err}
 use Rattle.iv_command.specs.declared.stop.Stop.{Stop}
 use Rattle.iv_engine.specs.Carried.{IsCarried}
-use Rattle.iv_engine.proofs.Carried.{GoesOn, none_left, one_further, one_stops, well_first, well_rest}
+use Rattle.iv_engine.specs.Stepped.{is_write}
+use Rattle.iv_engine.proofs.Carried.{GoesOn, each_writes, none_left, one_further, one_stops, well_first, well_rest}
 use Rattle.iv_engine.proofs.facts.carry_all.Goals as goal
 
 pub overflow_add-place : goal.overflow_add-place
@@ -39,6 +40,7 @@ loop-fact-init c =
       record { sound = c.requires.sound; empty = c.requires.empty },
       λ s b. subst (λ (fs : List Fact). GoesOn s c.args.facts.items 0 fs c.args.store.now) (sym items) (record { state = s; behind = b; carries = refl; refuses = refl }),
       c.requires.sums,
+      λ writes. (refl, ap (list_all (λ f. is_write f.act)) items ∙ writes),
     )
 
 pub loop-fact-preserved : goal.loop-fact-preserved
@@ -56,6 +58,10 @@ loop-fact-preserved c =
           let g = subst (λ (fs : List Fact). GoesOn s c.args.facts.items place fs c.loop-fact.store) next (c.loop-fact.invariant.5 s b) in
           one_further s c.args.facts.items place f rest c.loop-fact.store g c.carry.new.store (c.in-Ok.ensures.carried.1 g.state g.behind),
       c.in-Ok.ensures.sums c.args.store.now c.requires.sound.stored.database c.loop-fact.invariant.6,
+      λ writes.
+          let all = c.loop-fact.invariant.7 writes in
+          let both = each_writes f rest (sym (ap (list_all (λ g. is_write g.act)) next) ∙ all.1) in
+          (c.in-Ok.ensures.others both.0 ∙ all.0, both.1),
     )
 
 pub returns-in-Err-Refused-clause-carried : goal.returns-in-Err-Refused-clause-carried
@@ -76,3 +82,6 @@ returns-clause-carried c =
 
 pub returns-clause-sums : goal.returns-clause-sums
 returns-clause-sums c = c.loop-fact.invariant.6
+
+pub returns-clause-others : goal.returns-clause-others
+returns-clause-others c = λ writes. (c.loop-fact.invariant.7 writes).0

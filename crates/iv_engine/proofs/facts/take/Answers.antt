@@ -5,7 +5,7 @@ use Rattle.iv_store.specs.Followed.{AreReady}
 use Rattle.iv_store.specs.Store.{Store}
 use Rattle.iv_engine.specs.Carried.{AreCarried, IsEmpty}
 use Rattle.iv_engine.specs.Summed.{AreTold, AreWritten}
-use Rattle.iv_engine.proofs.Following.{told_ready, told_taken}
+use Rattle.iv_engine.proofs.Following.{told_once, told_ready, told_taken}
 use Rattle.iv_engine.proofs.Looking.{all_back, aside_back, nobody_there, step_stopped}
 use Rattle.iv_engine.proofs.Summing.{none_written}
 use Rattle.iv_engine.proofs.facts.take.Goals as goal
@@ -19,8 +19,8 @@ carry_all-requires-clause-sums c = λ writes.
     let given = change_in c.new-sums.result.deltas in
     subst (λ ts. AreWritten e given ts e) (sym c.new-sums.ensures.tables) (none_written e given (λ t. ap (λ ds. change_in ds t) c.new-sums.ensures.deltas))
 
-pub returns-in-Err : goal.returns-in-Err
-returns-in-Err c =
+pub returns-in-Err-clause-taken : goal.returns-in-Err-clause-taken
+returns-in-Err-clause-taken c =
     let e = c.args.store.now in
     step_stopped e c.carry_all.new.store _ c.args.facts.items c.in-Err.fault
     (subst (λ (v : Store). AreCarried v c.args.facts.items _ c.carry_all.new.store) c.set_aside.ensures.left c.in-Err.ensures.carried)
@@ -44,8 +44,8 @@ told-requires-clause-ready c = λ writes.
 pub told-requires-clause-tables : goal.told-requires-clause-tables
 told-requires-clause-tables c = λ writes t none. (c.in-Ok.ensures.sums writes).others t none
 
-pub returns : goal.returns
-returns c =
+pub returns-clause-taken : goal.returns-clause-taken
+returns-clause-taken c =
     let e = c.args.store.now in
     let d = c.carry_all.new.store in
     let s = c.carry_all.new.sums in
@@ -53,3 +53,14 @@ returns c =
     let sums = subst (λ (v : Store). s.others ≡ false → AreWritten v (change_in s.deltas) s.tables.items d) c.set_aside.ensures.left c.in-Ok.ensures.sums in
     told_taken e d c.args.facts.items c.requires.sound carried s sums c.in_ok-lines.lines c.told.new.store
     (subst (λ (v : Store). AreTold v s c.in_ok-lines.lines.items c.told.new.store) (c.bring_back.ensures ∙ aside_back e d c.set_aside.result c.set_aside.ensures.aside) c.in_ok-lines.ensures)
+
+pub returns-clause-rounds : goal.returns-clause-rounds
+returns-clause-rounds c = λ writes same.
+    let e = c.args.store.now in
+    let d = c.carry_all.new.store in
+    let s = c.carry_all.new.sums in
+    let carried = subst (λ (v : Store). AreCarried v c.args.facts.items _ d) c.set_aside.ensures.left c.in-Ok.ensures.carried in
+    let sums = subst (λ (v : Store). s.others ≡ false → AreWritten v (change_in s.deltas) s.tables.items d) c.set_aside.ensures.left c.in-Ok.ensures.sums in
+    told_once e d c.args.facts.items c.requires.sound carried s sums c.in_ok-lines.lines.items c.told.new.store
+    (subst (λ (v : Store). AreTold v s c.in_ok-lines.lines.items c.told.new.store) (c.bring_back.ensures ∙ aside_back e d c.set_aside.result c.set_aside.ensures.aside) c.in_ok-lines.ensures)
+    (c.in-Ok.ensures.others writes ∙ c.new-sums.ensures.others) same
