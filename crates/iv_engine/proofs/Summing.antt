@@ -1,36 +1,42 @@
 -- What writes change of tables, summed.
-use Rattle.std.proofs.Common.{◌≡◌, ◌++◌, ◌||◌, ◌≤◌, ℕ, Bool, true, false, List, [], ◌∷◌, map, length, ℤ, pos, ◌+ℤ◌, ◌^◌, ◌-◌, negsuc, refl, sym, ap, subst, ◌∙◌, arith}
+use Rattle.std.proofs.Common.{◌≡◌, ◌++◌, ◌||◌, ◌≤◌, ℕ, Bool, true, false, List, [], ◌∷◌, map, length, ℤ, pos, ◌+ℤ◌, ◌-◌, refl, sym, ap, subst, ◌∙◌, arith}
 use Rattle.std.proofs.lemmas.Int.{ints}
 use Rattle.std.proofs.lemmas.List.Folds.{list_any-append}
-use Rattle.std.specs.Prelude.{◌==◌, ◌≤ℤ◌}
+use Rattle.std.specs.Global.{Vec}
+use Rattle.std.specs.Prelude.{◌==◌, ◌≤ℤ◌, OnOk, Result, Ok, Err}
 use Rattle.std.specs.List.{list_any}
-use Rattle.iv_rows.specs.Cell.{Cell}
-use Rattle.iv_zset.specs.Limits.{copies}
 use Rattle.iv_zset.specs.Weights.{AllInRange, InRange, IsZSet, SameZ, Weighed, weight_of}
 use Rattle.iv_zset.proofs.Places.{all_in_range, weight_of-append}
 use Rattle.iv_zset.proofs.Support.{rows_same, rows_stored}
 use Rattle.iv_algebra.specs.Contents.{rows_of}
 use Rattle.iv_algebra.specs.Plans.{Lists}
 use Rattle.iv_circuit.specs.Changing.{Given}
+use Rattle.iv_circuit.specs.Deltas.{change_in}
 use Rattle.iv_access.specs.Rights.{Name}
+use Rattle.iv_command.specs.Views.{act_of}
 use Rattle.iv_command.specs.declared.answer.Answer.{Answer}
+use Rattle.iv_command.specs.declared.command.Act.{Act}
+use Rattle.iv_command.specs.declared.command.Act.TheVariants.{Begin, Finish, CreateRole, CreateTable, CreateView, Grant, Revoke, GrantRole, RevokeRole, RowSecurity, CreatePolicy, DropPolicy, Write, Subscribe, Unsubscribe}
+use Rattle.iv_command.specs.declared.stop.Stop.{Stop}
 use Rattle.iv_machine.specs.Act.{Entry, begin, finish, write}
 use Rattle.iv_machine.specs.Changing.{after}
 use Rattle.iv_machine.specs.Machine.{settled}
 use Rattle.iv_machine.specs.State.{Frame, State}
 use Rattle.iv_database.specs.Changes.{Change, change_at}
-use Rattle.iv_database.specs.Database.{Database, IsDatabase}
+use Rattle.iv_database.specs.Database.{IsDatabase}
 use Rattle.iv_database.specs.Resolving.{Passes}
 use Rattle.iv_database.specs.Stands.{Stands}
 use Rattle.iv_database.proofs.Stored.{empty_zset}
-use Rattle.iv_store.specs.Answering.{IsAccepted, seen}
+use Rattle.iv_store.specs.Answering.{IsAccepted, IsStep, seen}
 use Rattle.iv_store.specs.Engine.{IsBehind}
 use Rattle.iv_store.specs.Store.{IsStored, Store, at, database_of}
 use Rattle.iv_store.specs.Taken.{AreGivenMore}
 use Rattle.iv_store.proofs.Showing.{lists_behind, stands_behind}
 use Rattle.iv_store.proofs.Spreading.{no_change}
 use Rattle.iv_engine.proofs.Settling.{write_left}
-use Rattle.iv_engine.specs.Summed.{AreWritten}
+use Rattle.iv_engine.specs.Stepped.{is_write}
+use Rattle.iv_engine.specs.Summed.{AreSumsOf, AreWritten}
+use Rattle.iv_engine.specs.declared.sums.Sums.{Sums}
 
 -- nothing yet
 pub none_written : (e : Store) (given : Given) → ((t : ℕ) → given t ≡ []) → AreWritten e given [] e
@@ -134,3 +140,32 @@ module _ (before e one : Store) (given : Given) (tables : List ℕ) (n : ℕ) (a
       let b = subst (λ (s : State). IsBehind s (seen one)) (write_left e n es stored T) (k.left T stands) in
       more_written before e given tables w changes one more m (ap (λ (f : Frame). f.cap) (sym b.frame)) (ap (λ (f : Frame). f.rights) (sym b.frame)) (ap (λ (f : Frame). f.catalog) (sym b.frame))
       (λ t q. b.rows t q ∙ sym ((p.leads T stands).lead t q))
+
+-- ---- acts of the code
+
+-- one that is no write
+pub no_write : (a : Act) → ((entries : Vec Entry) → a ≡ Write entries → ⊥) → is_write (act_of a) ≡ true → ⊥
+no_write (Begin role) n h = cc
+no_write Finish n h = cc
+no_write (CreateRole name) n h = cc
+no_write (CreateTable name owner columns) n h = cc
+no_write (CreateView name owner query) n h = cc
+no_write (Grant rel privileges grantee) n h = cc
+no_write (Revoke rel privileges grantee) n h = cc
+no_write (GrantRole role to) n h = cc
+no_write (RevokeRole role to) n h = cc
+no_write (RowSecurity rel enable force) n h = cc
+no_write (CreatePolicy policy) n h = cc
+no_write (DropPolicy rel name) n h = cc
+no_write (Write entries) n h = n entries refl
+no_write (Subscribe rel) n h = cc
+no_write (Unsubscribe sub) n h = cc
+
+-- what an answered write makes of the sums, where it was one that passed
+pub noted : (before e two : Store) (s t : Sums) (n : ℕ) (es : List Entry) (changes : List Change) (stored : IsStored e) → Passes (database_of e) n es changes → (r : Result Answer Stop) → IsStep e n (write es) r two
+    → AreGivenMore (change_in s.deltas) changes (change_in t.deltas) → t.tables.items ≡ s.tables.items ++ map (λ c. c.rel) changes → t.others ≡ s.others
+    → OnOk r (AreSumsOf before s e → AreSumsOf before t two)
+noted before e two s t n es changes stored p (Err x) k m tables others = tt
+noted before e two s t n es changes stored p (Ok a) k m tables others = λ h writes.
+    subst (λ ts. AreWritten before (change_in t.deltas) ts two) (sym tables)
+    (write_sums before e two (change_in s.deltas) s.tables.items n a stored es changes p k (change_in t.deltas) m (h (sym others ∙ writes)))
