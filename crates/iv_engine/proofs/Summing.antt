@@ -122,7 +122,7 @@ kept_sums before e one given tables s b cap rights catalog stands w = still_writ
     (ap (λ (f : Frame). f.cap) (sym b.frame) ∙ cap) (ap (λ (f : Frame). f.rights) (sym b.frame) ∙ rights) (ap (λ (f : Frame). f.catalog) (sym b.frame) ∙ catalog) (same_rows e one s.rows stands b.rows)
 
 module _ (before e one : Store) (given : Given) (tables : List ℕ) (n : ℕ) (a : Answer) (stored : IsStored e) where
-  T : Lists
+  abbrev T : Lists
   T = lists_behind e
 
   stands : Stands T e.tables
