@@ -143,6 +143,10 @@ module _ (before e one : Store) (given : Given) (tables : List ℕ) (n : ℕ) (a
 
 -- ---- acts of the code
 
+pub on_ok : {A E : Type 0} (r : Result A E) (P : Type 0) → P → OnOk r P
+on_ok (Ok a) P p = p
+on_ok (Err x) P p = tt
+
 -- one that is no write
 pub no_write : (a : Act) → ((entries : Vec Entry) → a ≡ Write entries → ⊥) → is_write (act_of a) ≡ true → ⊥
 no_write (Begin role) n h = cc

@@ -131,14 +131,15 @@ fn told(store: &mut Store, sums: Sums) -> Result<Vec<Line>, AllocError>
     requires tables { sums.others ≡ false → (t : ℕ) → list_any (λ s. t == s) sums.tables.items ≡ false → change_in sums.deltas t ≡ [] }
     ensures { IfOk result (λ lines. AreTold store.old sums lines.items store.new) }
 {
-    if !sums.others {
-        let Sums { deltas, tables, .. } = sums;
-        let followed = store.follow(&deltas, tables)?;
-        if let Some(lines) = followed {
-            return Ok(lines);
-        }
+    if sums.others {
+        drop(sums);
+        return store.look();
     }
-    store.look()
+    let Sums { deltas, tables, .. } = sums;
+    match store.follow(&deltas, tables)? {
+        Some(lines) => Ok(lines),
+        None => store.look(),
+    }
 }
 
 /// Takes a step, and says what readers are told. After an error nothing is promised.
