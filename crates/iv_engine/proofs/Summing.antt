@@ -166,10 +166,10 @@ no_write (Subscribe rel) n h = cc
 no_write (Unsubscribe sub) n h = cc
 
 -- what an answered write makes of the sums, where it was one that passed
-pub noted : (before e two : Store) (s t : Sums) (n : ℕ) (es : List Entry) (changes : List Change) (stored : IsStored e) → Passes (database_of e) n es changes → (r : Result Answer Stop) → IsStep e n (write es) r two
+pub noted : (e two : Store) (s t : Sums) (n : ℕ) (es : List Entry) (changes : List Change) → IsStored e → Passes (database_of e) n es changes → (r : Result Answer Stop) → IsStep e n (write es) r two
     → AreGivenMore (change_in s.deltas) changes (change_in t.deltas) → t.tables.items ≡ s.tables.items ++ map (λ c. c.rel) changes → t.others ≡ s.others
-    → OnOk r (AreSumsOf before s e → AreSumsOf before t two)
-noted before e two s t n es changes stored p (Err x) k m tables others = tt
-noted before e two s t n es changes stored p (Ok a) k m tables others = λ h writes.
+    → OnOk r ((before : Store) → IsDatabase (database_of before) → AreSumsOf before s e → AreSumsOf before t two)
+noted e two s t n es changes stored p (Err x) k m tables others = tt
+noted e two s t n es changes stored p (Ok a) k m tables others = λ before d h writes.
     subst (λ ts. AreWritten before (change_in t.deltas) ts two) (sym tables)
     (write_sums before e two (change_in s.deltas) s.tables.items n a stored es changes p k (change_in t.deltas) m (h (sym others ∙ writes)))
