@@ -144,18 +144,6 @@ impl Doors {
         Ok(judged)
     }
 
-    /// The name of who holds the token by which the client of a number came: none if it has none.
-    ///
-    /// # Errors
-    /// As of `open_at`.
-    pub fn holder_at(&self, desk: &Desk, at: u32) -> Result<String, Fault> {
-        let holder = match desk.digest_of(at) {
-            Some(digest) => self.known.holder_of(digest),
-            None => None,
-        };
-        Ok(String::from_str(self.alloc, holder.unwrap_or(""))?)
-    }
-
     /// Whether the head of a request presents the token of an administrator.
     ///
     /// # Errors

@@ -186,7 +186,7 @@ impl Hall {
         if end == before {
             return Ok(());
         }
-        let holder = self.doors.holder_at(desk, at)?;
+        let holder = String::from_str(self.alloc, desk.user_of(at).unwrap_or(""))?;
         self.shares.push(Share { end, holder })?;
         Ok(())
     }

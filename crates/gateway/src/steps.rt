@@ -1,8 +1,10 @@
 //! The desk's calls as the program makes them: each leads from a run to a run.
 //!
 //! So after each of them all holds that `browsers_are_told_their_views` of iv_desk says of runs.
-ghost use Rattle.std.specs.Prelude.{◌≡◌, ℕ, IfOk, false, true};
+ghost use Rattle.std.specs.Prelude.{◌≡◌, ℕ, IfOk, OnOk, false, true};
 ghost use Rattle.iv_rows.specs.RowLimit.{IsRowLimit};
+ghost use Rattle.iv_gate.specs.Gate as spec;
+ghost use Rattle.iv_gateway.specs.Views.{IsHead};
 ghost use Rattle.iv_gateway.specs.Waiting.{WaitsWithin};
 ghost use Rattle.iv_desk.specs.Desks.{IsDesk};
 ghost use Rattle.iv_desk.specs.Front.{Front, may_tell};
@@ -14,13 +16,14 @@ use iv_desk::laws::calls_lead_from_runs_to_runs;
 use iv_desk::{Desk, Hearing};
 use iv_engine::{Engine, Seed};
 use iv_gate::laws::events_leave_their_marks;
-use iv_gateway::{Gateway, Journal, RestoreFault};
+use iv_gateway::{Gateway, Head, Journal, RestoreFault};
+use iv_journal::Line;
 use std::alloc::{AllocError, Global};
 
 /// Bytes that wait for the journal, at most, before one more socket is read in a round: 16 MiB.
 const MOST_TOLD: u64 = 16_777_216;
 
-/// A desk over an engine with nothing, with places for as many clients.
+/// A desk over an engine with nothing, with places for as many clients, whose journal says this at its head.
 ///
 /// # Errors
 /// `AllocError` if a growth of memory was refused.
@@ -30,28 +33,30 @@ pub fn new_desk(
     rows: u32,
     clients: u32,
     tokens: Vec<Token>,
+    head: Head,
 ) -> Result<Desk, AllocError>
-    requires { IsRowLimit rows }
+    requires head { (h : spec.Head) × IsHead h head }
+    requires rows { IsRowLimit rows }
     ensures { IfOk result (IsNew rows) }
 {
     let engine = Engine::with_seed(alloc, seed, rows)?;
-    let gateway = Gateway::new(alloc, engine, tokens, clients)?;
+    let gateway = Gateway::new(alloc, engine, tokens, clients, head)?;
     match Desk::new(alloc, gateway, clients) {
         Ok(desk) => Ok(desk),
         Err(error) => Err(error),
     }
 }
 
-/// Brings a new desk to where a journal leads. Answers how many of its bytes that is.
+/// Brings a new desk to where a journal leads, of which it is given the lines of whole records.
 ///
 /// # Errors
 /// As of the desk's `restore`.
-pub fn restore(desk: &mut Desk, journal: &[u8]) -> Result<usize, RestoreFault>
-    ensures { IfOk result (λ kept. (cap : ℕ) → IsNew cap desk.old → IsRunning cap desk.new) }
+pub fn restore(desk: &mut Desk, journal: &[Line<'_>]) -> Result<(), RestoreFault>
+    ensures { OnOk result ((cap : ℕ) → IsNew cap desk.old → IsRunning cap desk.new) }
 {
     calls_lead_from_runs_to_runs();
     match desk.restore(journal) {
-        Ok(kept) => Ok(kept),
+        Ok(()) => Ok(()),
         Err(fault) => Err(fault),
     }
 }
@@ -156,6 +161,14 @@ pub fn tick(desk: &mut Desk) -> Result<(), Fault>
         Ok(()) => Ok(()),
         Err(fault) => Err(Fault::from(fault)),
     }
+}
+
+/// Forgives names that were refused.
+pub fn forgive(desk: &mut Desk)
+    ensures { Leads desk.old desk.new }
+{
+    events_leave_their_marks();
+    desk.forgive();
 }
 
 /// Closes the connection of a number by a code and words that tell why.

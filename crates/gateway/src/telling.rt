@@ -22,17 +22,7 @@ impl Hall {
         };
     }
 
-    /// Tells that a client came in by the token of a digest, and who holds that, if it is known.
-    fn say_held(&self, rt: &HostRuntime, address: SocketAddr, role: &str, digest: &[u8]) {
-        let _ = match self.doors.known.holder_of(digest) {
-            Some(holder) => {
-                eprintln!(rt; "gateway: {address} came in as {role}, held by {holder:?}")
-            }
-            None => eprintln!(rt; "gateway: {address} came in as {role}"),
-        };
-    }
-
-    /// Tells that a client came in, and who holds its token.
+    /// Tells that a client came in, and who holds its token, if that is said.
     pub fn say_came(
         &mut self,
         rt: &HostRuntime,
@@ -44,8 +34,11 @@ impl Hall {
         if !self.log.may_say(rt, self.now) {
             return;
         }
-        if let Some(digest) = desk.digest_of(at) {
-            self.say_held(rt, address, role, digest);
-        }
+        let _ = match desk.user_of(at) {
+            Some(user) if !user.is_empty() => {
+                eprintln!(rt; "gateway: {address} came in as {role}, held by {user:?}")
+            }
+            _ => eprintln!(rt; "gateway: {address} came in as {role}"),
+        };
     }
 }

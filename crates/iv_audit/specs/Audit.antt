@@ -1,24 +1,11 @@
--- A gateway's journal with an audit: after a head, a record of one text for each entry, with when it was written and who held the token.
+-- A gateway's journal with an audit: after a head its lines, and with each request when it was written and who held the token.
 use Rattle.std.specs.Prelude.{ℕ, ◌==◌, ◌||◌, Bool, true, if◌then◌else◌, List, [], ◌∷◌, ◌++◌, Option, None, Some, bytes_eq, codes, decimal, flat_map, map, nat_lt, take}
 use Rattle.hex.specs.Hex.{encode_lower}
 use Rattle.iv_journal.specs.Journal.{Line, head_of}
 
--- ---- the gateway's own bytes
-
--- an entry is a line of them: an object, here without its first brace
-abbrev pub line_of : List ℕ → List ℕ
-line_of entry = 123 ∷ entry ++ 10 ∷ []
-
-abbrev pub lines_of : List (List ℕ) → List ℕ
-lines_of entries = flat_map line_of entries
-
--- it begins with the role
-abbrev pub is_entry : List ℕ → Bool
-is_entry entry = bytes_eq (take 6 entry) (codes "\"as\":\"")
-
 -- ---- notes
 
--- when an entry was written, in seconds since 1970, and the name of who held the token: none if it has none
+-- when a request was written, in seconds since 1970, and the name of who held the token: none if it has none
 pub record Note : Type 0 where
   pub at : ℕ
   pub holder : List ℕ
@@ -34,26 +21,31 @@ escaped_byte b = if is_escaped b then codes "\\u00" ++ encode_lower (b ∷ []) e
 abbrev pub escaped : List ℕ → List ℕ
 escaped name = flat_map escaped_byte name
 
--- what comes before an entry: `"at":1764489600,"by":"Ann Lee",`
+-- what comes before a request: `"at":1764489600,"by":"Ann Lee",`
 abbrev pub note_text : Note → List ℕ
 note_text n = codes "\"at\":" ++ (decimal n.at ++ (codes ",\"by\":\"" ++ (escaped n.holder ++ codes "\",")))
 
+-- it begins as a note does, which no line of a gateway does
+abbrev pub is_noted : List ℕ → Bool
+is_noted text = bytes_eq (take 5 text) (codes "\"at\":")
+
+-- it is a request's: it begins with the role that made it
+abbrev pub is_request : List ℕ → Bool
+is_request text = bytes_eq (take 6 text) (codes "\"as\":\"")
+
 -- ---- the journal
 
--- an entry, and its note: none if it is of a journal of the form before
+-- a line of the gateway, and its note: none if it is no request, or of a journal of the form before
 pub record Written : Type 0 where
   pub note : Option Note
-  pub entry : List ℕ
+  pub line : Line
 
 abbrev pub text_by : Option Note → List ℕ → List ℕ
-text_by None entry = entry
-text_by (Some n) entry = note_text n ++ entry
-
-abbrev pub text_of : Written → List ℕ
-text_of w = text_by w.note w.entry
+text_by None text = text
+text_by (Some n) text = note_text n ++ text
 
 abbrev pub record_of : Written → Line
-record_of w = record { is_last = true; text = text_of w }
+record_of w = record { is_last = w.line.is_last; text = text_by w.note w.line.text }
 
 -- what the head says after the form and the epoch
 abbrev pub version : List ℕ

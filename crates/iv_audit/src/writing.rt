@@ -1,9 +1,9 @@
-//! `push_records`: what a journal has of a gateway's bytes; `push_head`: what it begins with; `anew`: all of one, of the bytes of the form before.
-ghost use Rattle.std.specs.Prelude.{◌≡◌, ◌≤◌, ◌++◌, ℕ, IfOk, IfSome, OnOk, option_map, true};
-ghost use Rattle.iv_audit.specs.Audit.{escaped, escaped_byte, head_line, is_entry, line_of, note_text, text_of};
-ghost use Rattle.iv_audit.specs.Writing.{GoesOnWith, IsAnew, IsPushed, holder_at};
+//! `push_records`: what a journal has of a gateway's lines; `push_head`: what it begins with; `anew`: all of one, of lines of the form before.
+ghost use Rattle.std.specs.Prelude.{◌≡◌, ◌≤◌, ◌++◌, ◌∷◌, [], ℕ, IfOk, OnOk, if◌then◌else◌, None, bytes_eq, codes, false, length, option_map, take};
+ghost use Rattle.iv_audit.specs.Audit.{escaped, escaped_byte, head_line, is_noted, is_request, note_text, text_by};
+ghost use Rattle.iv_audit.specs.Writing.{GoesOnWith, IsAnew, IsPushed, holder_at, note_by};
 
-use crate::laws::bytes_have_entries;
+use crate::laws::bytes_have_lines;
 use hex::encode_to_slice;
 use itoa::Buffer;
 use iv_journal::{Chain, Line, PushFault, head_text};
@@ -15,8 +15,8 @@ pub const VERSION: &[u8] = b"\"audit\":1}";
 /// Why nothing is written.
 #[derive(Clone, Copy, Debug, PartialEq, Eq)]
 pub enum WriteFault {
-    /// The bytes are no entries, or one has a zero byte or is too long.
-    NotEntries,
+    /// A line begins as a note does, has a newline or a zero byte, or is too long.
+    NotLines,
     /// A growth of memory was refused.
     Memory,
 }
@@ -27,10 +27,10 @@ impl From<AllocError> for WriteFault {
     }
 }
 
-/// The entries of a gateway's bytes up to an end, after those of an earlier share, were made by one holder of a token.
+/// The lines of a gateway up to an end, after those of an earlier share, were made by one holder of a token.
 #[derive(Drop)]
 pub struct Share {
-    /// The byte where they end.
+    /// How many lines there are up to the end.
     pub end: usize,
     /// The holder's name: none if it has none.
     pub holder: String,
@@ -74,8 +74,8 @@ fn push_note(out: &mut Vec<u8>, at: u64, holder: &[u8]) -> Result<(), AllocError
     Ok(())
 }
 
-/// The shares that end after a byte, and those after them.
-fn behind_byte(shares: &[Share], at: usize) -> &[Share]
+/// The shares that end after a line, and those after them.
+fn behind_line(shares: &[Share], at: usize) -> &[Share]
     ensures { (n : ℕ) → at ≤ n → holder_at result.now n ≡ holder_at shares.now n }
 {
     for place in 0..shares.len() {
@@ -86,7 +86,7 @@ fn behind_byte(shares: &[Share], at: usize) -> &[Share]
     &[]
 }
 
-/// The holder of an entry that begins at a byte.
+/// The holder of a line, which has this number from none on.
 fn holder_at(shares: &[Share], at: usize) -> &[u8]
     ensures { result.now ≡ holder_at shares.now at }
 {
@@ -98,72 +98,89 @@ fn holder_at(shares: &[Share], at: usize) -> &[u8]
     &[]
 }
 
-/// Whether it begins as an entry does.
-fn is_entry(entry: &[u8]) -> bool
-    ensures { result ≡ is_entry entry.now }
+/// Whether a text begins with a prefix.
+fn begins(text: &[u8], prefix: &[u8]) -> bool
+    ensures { result ≡ bytes_eq (take (length prefix.now) text.now) prefix.now }
 {
-    match entry.get(..6) {
-        Some(front) => front == b"\"as\":\"".as_slice(),
+    match text.get(..prefix.len()) {
+        Some(front) => front == prefix,
         None => false,
     }
 }
 
-/// The first entry of a gateway's bytes, and what follows its line.
-fn first_entry(bytes: &[u8]) -> Option<(&[u8], &[u8])>
-    ensures { IfSome result (λ p. (bytes.now ≡ line_of p.0.now ++ p.1.now) × (is_entry p.0.now ≡ true)) }
+/// Whether a text begins with a note.
+pub fn is_noted(text: &[u8]) -> bool
+    ensures { result ≡ is_noted text.now }
 {
-    if bytes.first() != Some(&b'{') {
-        return None;
-    }
-    for at in 1..bytes.len() {
-        if bytes[at] == b'\n' {
-            let entry = &bytes[1..at];
-            if !is_entry(entry) {
-                return None;
-            }
-            return Some((entry, &bytes[at + 1..]));
-        }
-    }
-    None
+    begins(text, b"\"at\":")
 }
 
-/// Appends a record of one text.
-fn push_text(chain: &mut Chain, out: &mut Vec<u8>, text: &[u8]) -> Result<(), WriteFault>
-    ensures { OnOk result (IsPushed text.now chain.old chain.new out.old.items out.new.items) }
+/// Whether a text begins as that of a request does.
+fn is_request(text: &[u8]) -> bool
+    ensures { result ≡ is_request text.now }
 {
-    let line = Line {
-        is_last: true,
-        text,
-    };
-    match chain.push(out, &line) {
+    begins(text, b"\"as\":\"")
+}
+
+/// Appends a line.
+fn push_line(chain: &mut Chain, out: &mut Vec<u8>, line: &Line) -> Result<(), WriteFault>
+    ensures { OnOk result (IsPushed line.now chain.old chain.new out.old.items out.new.items) }
+{
+    match chain.push(out, line) {
         Ok(()) => Ok(()),
-        Err(PushFault::NotText) => Err(WriteFault::NotEntries),
+        Err(PushFault::NotText) => Err(WriteFault::NotLines),
         Err(PushFault::Memory) => Err(WriteFault::Memory),
     }
 }
 
-/// Makes the text of an entry, with a note if a second is given.
+/// Makes the text of a line: that of a request with a note, if a second is given.
 fn make_text(
-    text: &mut Vec<u8>,
+    made: &mut Vec<u8>,
     at: Option<u64>,
     holder: &[u8],
-    entry: &[u8],
+    text: &[u8],
 ) -> Result<(), AllocError>
-    ensures { OnOk result (text.new.items ≡ text_of (record { note = option_map (λ t. record { at = t; holder = holder.now }) at; entry = entry.now })) }
+    ensures { OnOk result (made.new.items ≡ text_by (note_by at holder.now text.now) text.now) }
 {
-    text.clear();
-    if let Some(at) = at {
-        push_note(text, at, holder)?;
+    made.clear();
+    if is_request(text) {
+        if let Some(at) = at {
+            push_note(made, at, holder)?;
+        }
     }
-    text.extend_from_slice(entry)?;
+    made.extend_from_slice(text)?;
     Ok(())
 }
 
-/// Appends a record for each entry of a gateway's bytes. With a second, in seconds since 1970, each has a note of it and of who held the token
-/// by which it was made, as the shares tell.
+/// Appends a line, with a note if it is a request and a second is given.
+fn push_noted(
+    chain: &mut Chain,
+    out: &mut Vec<u8>,
+    made: &mut Vec<u8>,
+    at: Option<u64>,
+    holder: &[u8],
+    line: &Line,
+) -> Result<(), WriteFault>
+    ensures line { OnOk result (is_noted line.now.text ≡ false) }
+    ensures pushed { OnOk result (IsPushed (record { is_last = line.now.is_last; text = text_by (note_by at holder.now line.now.text) line.now.text })
+        chain.old chain.new out.old.items out.new.items) }
+{
+    if is_noted(line.text) {
+        return Err(WriteFault::NotLines);
+    }
+    make_text(made, at, holder, line.text)?;
+    let line = Line {
+        is_last: line.is_last,
+        text: made,
+    };
+    push_line(chain, out, &line)
+}
+
+/// Appends the lines of a gateway. With a second, in seconds since 1970, each request has a note of it and of who held the token by which it
+/// was made, as the shares tell.
 ///
 /// # Errors
-/// `NotEntries` if the bytes are none, or an entry is no text of a journal; `Memory` if a growth of memory was refused. Nothing of what was
+/// `NotLines` if one begins as a note does, or is no text of a journal; `Memory` if a growth of memory was refused. Nothing of what was
 /// appended is to be used then.
 pub fn push_records(
     alloc: Global,
@@ -171,61 +188,57 @@ pub fn push_records(
     out: &mut Vec<u8>,
     at: Option<u64>,
     shares: &[Share],
-    bytes: &[u8],
+    lines: &[Line],
 ) -> Result<(), WriteFault>
-    ensures { OnOk result (GoesOnWith at shares.now bytes.now chain.old chain.new out.old.items out.new.items) }
+    ensures { OnOk result (GoesOnWith at shares.now lines.now chain.old chain.new out.old.items out.new.items) }
 {
-    let mut text = Vec::new(alloc);
-    let mut rest = bytes;
+    let mut made = Vec::new(alloc);
     let mut left = shares;
-    for _ in 0..bytes.len() {
-        if rest.is_empty() {
-            return Ok(());
-        }
-        let Some((entry, later)) = first_entry(rest) else {
-            return Err(WriteFault::NotEntries);
-        };
-        let place = bytes.len() - rest.len();
-        left = behind_byte(left, place);
-        make_text(&mut text, at, holder_at(left, place), entry)?;
-        push_text(chain, out, &text)?;
-        rest = later;
+    for place in 0..lines.len() {
+        left = behind_line(left, place);
+        push_noted(
+            chain,
+            out,
+            &mut made,
+            at,
+            holder_at(left, place),
+            &lines[place],
+        )?;
     }
-    if rest.is_empty() {
-        Ok(())
-    } else {
-        Err(WriteFault::NotEntries)
-    }
+    Ok(())
 }
 
 /// Appends the head, by 32 digits that no other journal has.
 ///
 /// # Errors
-/// `NotEntries` if these are no text; `Memory` if a growth of memory was refused.
+/// `NotLines` if these are no text; `Memory` if a growth of memory was refused.
 pub fn push_head(
     alloc: Global,
     chain: &mut Chain,
     out: &mut Vec<u8>,
     epoch: &[u8; 32],
 ) -> Result<(), WriteFault>
-    ensures { OnOk result (IsPushed (head_line epoch.now).text chain.old chain.new out.old.items out.new.items) }
+    ensures { OnOk result (IsPushed (head_line epoch.now) chain.old chain.new out.old.items out.new.items) }
 {
     let text = head_text(alloc, epoch, VERSION)?;
-    push_text(chain, out, &text)?;
-    Ok(())
+    let line = Line {
+        is_last: true,
+        text: &text,
+    };
+    push_line(chain, out, &line)
 }
 
-/// A journal with the entries of bytes that have the form before, without notes.
+/// A journal with these lines, without notes.
 ///
 /// # Errors
 /// As of `push_records`.
-pub fn anew(alloc: Global, epoch: &[u8; 32], bytes: &[u8]) -> Result<Vec<u8>, WriteFault>
-    ensures { IfOk result (λ out. IsAnew epoch.now bytes.now out.items) }
+pub fn anew(alloc: Global, epoch: &[u8; 32], lines: &[Line]) -> Result<Vec<u8>, WriteFault>
+    ensures { IfOk result (λ out. IsAnew epoch.now lines.now out.items) }
 {
-    bytes_have_entries();
+    bytes_have_lines();
     let mut chain = Chain::new();
     let mut out = Vec::new(alloc);
     push_head(alloc, &mut chain, &mut out, epoch)?;
-    push_records(alloc, &mut chain, &mut out, None, &[], bytes)?;
+    push_records(alloc, &mut chain, &mut out, None, &[], lines)?;
     Ok(out)
 }

@@ -4,7 +4,7 @@ use Rattle.httparse.specs.Grammar.{RequestHead, HasNoRequest}
 use Rattle.websocket.specs.declared.error.Error.{Error}
 use Rattle.websocket.specs.Content.{Content, binary, close}
 use Rattle.websocket.specs.Connection.{Connection, Effect, read_step}
-use Rattle.iv_gate.specs.Gate.{Gate, role_for}
+use Rattle.iv_gate.specs.Gate.{Gate, token_for}
 use Rattle.iv_peer.specs.Socket.{Socket, IsAccepted, at_start, most_head}
 use Rattle.iv_peer.specs.Hearing.{AsksOther, IsBadHead}
 use Rattle.iv_peer.specs.Lives.{Decodes, texts_of}
@@ -43,7 +43,7 @@ pub record HasFailed (s : Socket) : Type 0 where
 pub record IsRefused (g : Gate) (m : ℕ) (s : Socket) : Type 0 where
   pub token : List ℕ
   pub said : texts_of s.effects ≡ token ∷ []
-  pub nobody : role_for g m token ≡ None
+  pub nobody : token_for g m token ≡ None
 
 -- why socket m is over: by what its own bytes say, by its token, or since its client is to go
 pub data IsOverFor (g : Gate) (m : ℕ) (s : Socket) : Type 0 where

@@ -2,10 +2,10 @@
 use Rattle.std.specs.Prelude.{◌≡◌, ◌⊎◌, ◌<◌, ◌||◌, ℕ, Bool, true, false, if◌then◌else◌, List, [], ◌∷◌, Contains, length, map, Option, Some, None, option_map}
 use Rattle.iv_rows.specs.Options.{if_some}
 use Rattle.iv_clients.specs.Clients.{Client, client_at}
-use Rattle.iv_clients.specs.Journal.{journal_of}
 use Rattle.iv_gate.specs.Gate.{Gate, is_heard}
 use Rattle.iv_gate.specs.Restoring.{Restores}
 use Rattle.iv_gateway.specs.Views.{IsGate}
+use Rattle.iv_journal.specs.Journal.{Line}
 use Rattle.iv_gateway.specs.declared.gateway.Gateway.{Gateway}
 use Rattle.iv_peer.specs.Socket.{Socket, forget}
 use Rattle.iv_peer.specs.Hearing.{Hears, IsWaiting}
@@ -49,11 +49,10 @@ pub record IsDesk (d : Front) (x : Desk) : Type 0 where
 
 -- ---- restoring
 
--- the journal leads the gateway there, by as many of its bytes
-pub record IsRestored (d : Front) (journal : List ℕ) (kept : ℕ) (x : Desk) : Type 0 where
+-- the journal leads the gateway there
+pub record IsRestored (d : Front) (journal : List Line) (x : Desk) : Type 0 where
   pub now : Gate
   pub restores : Restores d.gate journal now
-  pub bytes : kept ≡ length (journal_of now.entries)
   pub stands : IsDesk (record d { gate = now }) x
 
 -- ---- hearing

@@ -5,8 +5,8 @@ use Rattle.sha2.specs.Sha256.{sha256}
 use Rattle.iv_rows.specs.Options.{if_some}
 use Rattle.iv_clients.specs.Clients.{at_client, client_at, is_free, text_shown}
 use Rattle.iv_clients.specs.Tokens.{Token, role_opened}
-use Rattle.iv_gate.specs.Events.{Event, failed, gone, handed, known, message, next, presented, synced, ticked}
-use Rattle.iv_gate.specs.Gate.{Gate, is_heard, role_for}
+use Rattle.iv_gate.specs.Events.{Event, failed, forgave, gone, handed, known, message, next, presented, synced, ticked}
+use Rattle.iv_gate.specs.Gate.{Gate, is_heard, token_for}
 use Rattle.iv_gate.specs.Runs.{Runs}
 use Rattle.iv_peer.specs.Socket.{Socket, closed, fresh, is_open, passing, told_text, took}
 use Rattle.iv_peer.specs.Hearing.{Hears}
@@ -62,7 +62,7 @@ put_off s = closed 1013 (codes "No place is free, or the role is not there.") s
 
 -- who does not come in by its token is closed
 abbrev pub let_in : Gate → ℕ → List ℕ → Socket → Socket
-let_in g m token s = if is_some (role_for g m token) then s
+let_in g m token s = if is_some (token_for g m token) then s
     else if is_some (role_opened g.tokens (sha256 token)) then put_off s else turned_away s
 
 -- bytes that may wait at a number that is heard
@@ -137,6 +137,7 @@ pub data Happens (d : Front) : Front → Type 0 where
   syncs : Happens d (by_event synced d)
   knows : (tokens : List Token) → Happens d (by_event (known tokens) d)
   ticks : Happens d (by_event ticked d)
+  forgives : Happens d (by_event forgave d)
   fails : Happens d (by_event failed d)
 
 -- no socket is before a gateway that began, also again after a crash, and that has no client; while it is alive anything happens, and

@@ -1,11 +1,11 @@
 //! `Desk`: the peers by their numbers, and the gateway whose clients have the same numbers.
-ghost use Rattle.std.specs.Prelude.{◌≡◌, ℕ, [], Err, IfOk, OnErr, OnOk, drop, false, option_map, take, true};
-ghost use Rattle.std.specs.Io.KnownBytes.{Appends};
+ghost use Rattle.std.specs.Prelude.{◌≡◌, ◌++◌, ℕ, [], Err, IfOk, OnErr, OnOk, drop, false, option_map, take, true};
 ghost use Rattle.iv_clients.specs.Clients.{client_at, is_free};
 ghost use Rattle.iv_clients.specs.Journal.{journal_of};
-ghost use Rattle.iv_gate.specs.Events.{failed, known, synced, ticked};
+ghost use Rattle.iv_gate.specs.Events.{failed, forgave, known, synced, ticked};
 ghost use Rattle.iv_gate.specs.Gate.{Gate};
 ghost use Rattle.iv_gate.specs.Restoring.{IsDamagedAt};
+ghost use Rattle.iv_gateway.specs.Replays.{IsNew};
 ghost use Rattle.iv_gateway.specs.Views.{IsGate};
 ghost use Rattle.iv_gateway.specs.Waiting.{WaitsWithin};
 ghost use Rattle.iv_peer.specs.Socket.{closed, passing, took};
@@ -16,9 +16,10 @@ use crate::place::{Hearing, Place};
 use crate::places::{
     close_at, dismiss_told, empty_places, hear_at, is_free, offer_told, pass_at, put_at, read_at,
 };
-use iv_clients::Token;
+use iv_clients::{OwnedLine, Token};
 use iv_gate::laws::events_leave_their_marks;
 use iv_gateway::{Gateway, GatewayFault, Journal, RestoreFault};
+use iv_journal::Line;
 use std::alloc::{AllocError, Global};
 
 /// Peers by their numbers, and the gateway whose clients have the same numbers. After a fault it is dead: it hears, tells and offers nothing
@@ -52,21 +53,20 @@ impl Desk {
         })
     }
 
-    /// Brings the gateway to where a journal leads. Answers how many of its bytes that is: what follows them is a last entry that was
-    /// torn, which is to be cut off before anything happens.
+    /// Brings the gateway to where a journal leads, of which it is given the lines of whole records.
     ///
     /// # Errors
     /// Those of the gateway's `restore`. The desk is dead then.
-    pub fn restore(&mut self, journal: &[u8]) -> Result<usize, RestoreFault>
-        ensures restored { IfOk result (λ kept. (d : Front) → IsDesk d self.old → IsRestored d journal.now kept self.new) }
-        ensures damaged { (place : ℕ) → result ≡ Err (RestoreFault.Damaged place) → (d : Front) → IsDesk d self.old → IsDamagedAt d.gate journal.now place }
+    pub fn restore(&mut self, journal: &[Line<'_>]) -> Result<(), RestoreFault>
+        ensures restored { OnOk result ((d : Front) → IsNew d.gate → IsDesk d self.old → IsRestored d journal.now self.new) }
+        ensures damaged { (place : ℕ) → result ≡ Err (RestoreFault.Damaged place) → (d : Front) → IsNew d.gate → IsDesk d self.old → IsDamagedAt d.gate journal.now place }
         ensures fails { OnErr result ((d : Front) → IsDesk d self.old → IsDesk (by_event failed d) self.new) }
     {
         if self.dead {
             return Err(RestoreFault::Late);
         }
         match self.gateway.restore(journal) {
-            Ok(kept) => Ok(kept),
+            Ok(()) => Ok(()),
             Err(fault) => {
                 self.dead = true;
                 Err(fault)
@@ -160,13 +160,13 @@ impl Desk {
     /// it was offered before was sent. One whose client is to go is closed.
     ///
     /// # Errors
-    /// `Journal` if the journal fails; else as of `read`. The journal has a front of what was pending then, after what it had; a dead
+    /// `Journal` if the journal fails; else as of `read`. The journal has a front of the lines that were pending then, after what it had; a dead
     /// desk gives it nothing.
     pub fn settle<J: Journal>(&mut self, journal: &mut J) -> Result<(), GatewayFault>
         ensures kept { OnOk result ((d : Front) → IsDesk d self.old → d.gate.dead ≡ false
-            → Appends (J.kept journal.old) (J.kept journal.new) (journal_of (drop d.gate.kept d.gate.entries))) }
+            → J.kept journal.new ≡ option_map (λ ls. ls ++ journal_of (drop d.gate.kept d.gate.entries)) (J.kept journal.old)) }
         ensures torn { OnErr result ((d : Front) → IsDesk d self.old → d.gate.dead ≡ false
-            → (n : ℕ) × Appends (J.kept journal.old) (J.kept journal.new) (take n (journal_of (drop d.gate.kept d.gate.entries)))) }
+            → (n : ℕ) × (J.kept journal.new ≡ option_map (λ ls. ls ++ take n (journal_of (drop d.gate.kept d.gate.entries))) (J.kept journal.old))) }
         ensures unwritten { (d : Front) → IsDesk d self.old → d.gate.dead ≡ true → journal.new ≡ journal.old }
         ensures front { OnOk result ((d : Front) → IsDesk d self.old → IsCalledOut offered (by_event synced d) self.new) }
         ensures fails { OnErr result ((d : Front) → IsDesk d self.old → IsDesk (by_event failed d) self.new) }
@@ -237,6 +237,17 @@ impl Desk {
         }
     }
 
+    /// Forgives names that were refused: once a minute. A dead desk does nothing.
+    pub fn forgive(&mut self)
+        ensures front { (d : Front) → IsDesk d self.old → IsDesk (by_event forgave d) self.new }
+    {
+        if self.dead {
+            return;
+        }
+        events_leave_their_marks();
+        self.gateway.forgive();
+    }
+
     /// Closes the connection of a number by a code and words that tell why, if it is open. Nothing more is heard or told at it. The code is
     /// one that may be sent (1000 to 1003, 1007 to 1014, 3000 to 4999), and the words have at most 123 bytes.
     ///
@@ -276,6 +287,14 @@ impl Desk {
         self.gateway.digest_of(at)
     }
 
+    /// Who holds the token by which the client of a number came in: no text if that is not said.
+    pub fn user_of(&self, at: u32) -> Option<&str>
+        ensures { (d : Front) → IsDesk d self.now → d.gate.dead ≡ false
+            → option_map (λ u. u.now) result ≡ option_map (λ c. c.user) (client_at d.gate.clients at) }
+    {
+        self.gateway.user_of(at)
+    }
+
     /// What waits for the journal has no more bytes than that, unless it is the greatest number. What clients are told raises it by its
     /// bytes, and `settle` makes it 0.
     pub fn waiting(&self) -> u64
@@ -284,9 +303,9 @@ impl Desk {
         self.gateway.waiting()
     }
 
-    /// The text of the entries that wait for the journal. A dead desk has none.
-    pub fn entered(&self) -> &[u8]
-        ensures text { (d : Front) → IsDesk d self.now → d.gate.dead ≡ false → result.now ≡ journal_of (drop d.gate.kept d.gate.entries) }
+    /// The lines of the entries that wait for the journal. A dead desk has none.
+    pub fn entered(&self) -> &[OwnedLine]
+        ensures lines { (d : Front) → IsDesk d self.now → d.gate.dead ≡ false → result.now ≡ journal_of (drop d.gate.kept d.gate.entries) }
         ensures dead { (d : Front) → IsDesk d self.now → d.gate.dead ≡ true → result.now ≡ [] }
     {
         if self.dead {

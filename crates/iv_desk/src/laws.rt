@@ -2,9 +2,10 @@
 ghost use Rattle.std.specs.Prelude.{◌≡◌, ℕ, List, false};
 ghost use Rattle.iv_clients.specs.Clients.{Shown};
 ghost use Rattle.iv_clients.specs.Tokens.{Token};
-ghost use Rattle.iv_gate.specs.Gate.{Gate};
+ghost use Rattle.iv_gate.specs.Gate.{Gate, Head};
 ghost use Rattle.iv_gate.specs.Restoring.{Restores, gate_at_start};
 ghost use Rattle.iv_gate.specs.Runs.{Runs};
+ghost use Rattle.iv_journal.specs.Journal.{Line};
 ghost use Rattle.iv_desk.specs.Front.{Front, FrontRuns, dismissed, front_at_start, offered, socket_at};
 ghost use Rattle.iv_desk.specs.Served.{BrowsersAreTold};
 ghost use Rattle.iv_desk.specs.Progress.{HeldAreFreed};
@@ -53,8 +54,8 @@ pub fn sockets_are_closed_for_cause()
 /// What the contracts of a desk's calls name leads from a run to a run: to restore, to hear all that a number says, to offer to each of
 /// some numbers what it may be sent, and to close each of some whose token opens its role no more. The other calls are steps themselves.
 pub fn calls_lead_from_runs_to_runs()
-    ensures restores { (cap most places : ℕ) (tokens : List Token) (sent : List Shown) (journal : List ℕ) (g : Gate)
-        → Restores (gate_at_start cap tokens most sent) journal g → Runs cap g → FrontRuns cap (front_at_start g places) }
+    ensures restores { (cap most places : ℕ) (tokens : List Token) (head : Head) (sent : List Shown) (journal : List Line) (g : Gate)
+        → Restores (gate_at_start cap tokens most head sent) journal g → Runs cap g → FrontRuns cap (front_at_start g places) }
     ensures hears { (cap m : ℕ) (d e : Front) (hearing : Hearing) → FrontRuns cap d → d.gate.dead ≡ false
         → IsHeardBy d m (socket_at d m) hearing e → FrontRuns cap e }
     ensures offers { (cap : ℕ) (ms : List ℕ) (d : Front) → FrontRuns cap d → d.gate.dead ≡ false → FrontRuns cap (at_each offered ms d) }

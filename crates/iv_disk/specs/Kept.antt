@@ -3,13 +3,13 @@ use Rattle.std.specs.Prelude.{◌≡◌, ℕ, Bool, true, List, [], ◌∷◌, O
 use Rattle.std.specs.List.{AllByRecursion}
 use Rattle.std.specs.Io.KnownBytes.{Appends}
 use Rattle.iv_journal.specs.Journal.{Line, digest_behind, is_text, journal_of, no_digest}
-use Rattle.iv_audit.specs.Reading.{bytes_in, ends_line}
+use Rattle.iv_audit.specs.Reading.{ends_line, lines_in}
 use Rattle.iv_audit.specs.Writing.{GoesOnWith}
 use Rattle.iv_audit.specs.declared.writing.Share.{Share}
 
--- the gateway's bytes among those of a disk
-abbrev pub given_to : Option (List ℕ) → Option (List ℕ)
-given_to held = option_map bytes_in held
+-- the gateway's lines among those of a disk
+abbrev pub given_to : Option (List ℕ) → Option (List Line)
+given_to held = option_map lines_in held
 
 -- a journal of a head and more, whose last digest is this
 pub record IsJournalTo (digest bytes : List ℕ) : Type 0 where
@@ -24,8 +24,8 @@ abbrev pub is_whole : Option (List ℕ) → Bool
 is_whole None = true
 is_whole (Some bytes) = ends_line bytes
 
--- it goes on by records of what was given, each with a note of the second and of its holder
-pub record GoesOnNoted (second : ℕ) (shares : List Share) (given before after : List ℕ) (old new : Option (List ℕ)) : Type 0 where
+-- it goes on by the lines that were given, each request with a note of the second and of its holder
+pub record GoesOnNoted (second : ℕ) (shares : List Share) (given : List Line) (before after : List ℕ) (old new : Option (List ℕ)) : Type 0 where
   pub text : List ℕ
   pub records : GoesOnWith (Some second) shares given before after [] text
   pub appended : Appends old new text

@@ -1,3 +1,4 @@
+pub mod Beginning
 pub mod Admins
 pub mod Counts
 pub mod Figures

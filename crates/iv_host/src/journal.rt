@@ -1,7 +1,6 @@
 //! `DiskJournal`: the journal on a disk, and `FileJournal`, that in a file which one process at a time writes; `JournalFile`: that file before.
-ghost use Rattle.std.specs.Prelude.{◌≡◌, ◌==◌, ◌<◌, ℕ, IfOk, IfSome, List, OnErr, OnOk, Option, count_by, length, take, true};
-ghost use Rattle.std.specs.Io.KnownBytes.{Appends};
-ghost use Rattle.iv_audit.specs.Reading.{IsAudit, bytes_in};
+ghost use Rattle.std.specs.Prelude.{◌≡◌, ◌≤◌, ◌<◌, ◌++◌, ℕ, IfOk, IfSome, List, OnErr, OnOk, Option, count_by, length, option_map, take, true};
+ghost use Rattle.iv_audit.specs.Reading.{IsAudit, lines_in};
 ghost use Rattle.iv_disk.specs.Kept.{given_to};
 ghost use Rattle.iv_host.specs.Counts.{raised};
 
@@ -9,9 +8,12 @@ use crate::counts::{BOUNDS, raise};
 use crate::files::{check_file, read_file};
 use crate::tokens::second_now;
 use hex::encode_to_slice;
-use iv_audit::{Audit, Share, WriteFault, anew};
+use iv_audit::{Audit, Share, WriteFault};
+use iv_clients::OwnedLine;
 use iv_disk::{Disk, KeepFault, Keeper};
 use iv_gateway::{Journal, JournalFault};
+use iv_journal::Line;
+use std::alloc::{AllocError, Global};
 use std::fs::{File, OpenOptions, TryLockError};
 use std::io::{ErrorKind, Write};
 use std::os::unix::fs::OpenOptionsExt;
@@ -25,8 +27,8 @@ use std::{fs, io, mem};
 pub enum OpenFault {
     /// Another process writes it.
     Taken,
-    /// It has no entries that can be written.
-    NotEntries,
+    /// It has a line that cannot be written.
+    NotLines,
     /// The system refused.
     System(io::Error),
 }
@@ -102,11 +104,25 @@ pub struct DiskJournal<D: Disk> {
 /// The journal in a file.
 pub type FileJournal = DiskJournal<File>;
 
-/// How many lines end among bytes.
-pub fn lines_in(bytes: &[u8]) -> u64
-    ensures { result ≡ count_by (λ b. b == 10) bytes.now }
+/// How many records end among lines.
+fn records_in(lines: &[Line]) -> u64
+    ensures { result ≡ count_by (λ l. l.is_last) lines.now }
 {
-    bytes.iter().filter(|byte| **byte == b'\n').count() as u64
+    lines.iter().filter(|line| line.is_last).count() as u64
+}
+
+/// Lines, where their texts are.
+fn lines_of<'a>(alloc: Global, lines: &'a [OwnedLine]) -> Result<Vec<Line<'a>>, AllocError>
+    ensures { IfOk result (λ out. out.items ≡ lines.now) }
+{
+    let mut out = Vec::new(alloc);
+    for line in lines {
+        out.push(Line {
+            is_last: line.is_last,
+            text: &line.text,
+        })?;
+    }
+    Ok(out)
 }
 
 /// A file that belongs to this user alone.
@@ -198,19 +214,11 @@ fn micros_since(rt: &HostRuntime, start: &io::Result<Instant>) -> u64 {
     }
 }
 
-/// As many of the first bytes.
-fn first(bytes: &[u8], count: usize) -> &[u8]
-    ensures { result.now ≡ take count bytes.now }
-{
-    if count < bytes.len() {
-        &bytes[..count]
-    } else {
-        bytes
-    }
-}
-
 /// 32 digits that no other journal has.
-fn random_digits(rt: &HostRuntime) -> io::Result<[u8; 32]> {
+///
+/// # Errors
+/// If the system refuses random bytes.
+pub fn random_digits(rt: &HostRuntime) -> io::Result<[u8; 32]> {
     let mut bytes = [0; 16];
     rt.fill_bytes(&mut bytes)?;
     let mut digits = [0; 32];
@@ -222,7 +230,7 @@ impl From<WriteFault> for OpenFault {
     fn from(fault: WriteFault) -> OpenFault {
         match fault {
             WriteFault::Memory => OpenFault::System(out_of_memory()),
-            WriteFault::NotEntries => OpenFault::NotEntries,
+            WriteFault::NotLines => OpenFault::NotLines,
         }
     }
 }
@@ -231,13 +239,18 @@ impl From<KeepFault> for OpenFault {
     fn from(fault: KeepFault) -> OpenFault {
         match fault {
             KeepFault::Memory => OpenFault::System(out_of_memory()),
-            KeepFault::NotEntries | KeepFault::Failed => OpenFault::NotEntries,
+            KeepFault::NotLines | KeepFault::Failed => OpenFault::NotLines,
             KeepFault::System(error) => OpenFault::System(error),
         }
     }
 }
 
-/// The file of a journal, before anything is known of what it has, and the lock.
+/// Whether bytes are a journal of the form before, in which each line is an object that begins with the role.
+pub fn is_plain(bytes: &[u8]) -> bool {
+    bytes.starts_with(b"{\"a")
+}
+
+/// The file of a journal, before anything is written to it, and the lock.
 #[derive(Drop)]
 pub struct JournalFile {
     /// The right to ask the system.
@@ -246,12 +259,10 @@ pub struct JournalFile {
     file: File,
     /// The file that is locked as long as this lives.
     lock: File,
-    /// What the file has.
-    bytes: Vec<u8>,
 }
 
 impl JournalFile {
-    /// Opens the file of a journal, and makes it if it is missing, with the bytes of a seed.
+    /// Opens the file of a journal, and makes it if it is missing, with the bytes of a seed. Answers what it has, too.
     ///
     /// # Errors
     /// `Taken` if another process writes it; `System` if the system refuses a step.
@@ -259,61 +270,49 @@ impl JournalFile {
         rt: &HostRuntime,
         path: &str,
         seed: Option<&str>,
-    ) -> Result<JournalFile, OpenFault> {
+    ) -> Result<(JournalFile, Vec<u8>), OpenFault> {
         let lock = lock(rt, path)?;
         sow_seed(rt, path, seed)?;
         check_file(rt, path)?;
         let file = locked(own().append(true).create(true).open(rt, path)?)?;
         let bytes = read_file(rt, path)?;
         sync_folder(rt, path)?;
-        Ok(JournalFile {
+        let file = JournalFile {
             rt: *rt,
             file,
             lock,
-            bytes,
-        })
+        };
+        Ok((file, bytes))
     }
 
-    /// What it has.
-    pub fn bytes(&self) -> &[u8]
-        ensures { result.now ≡ self.now.bytes.items }
-    {
-        &self.bytes
-    }
-
-    /// Whether it has the form before, in which a line begins with the role.
-    pub fn is_old(&self) -> bool {
-        self.bytes.starts_with(b"{\"a")
-    }
-
-    /// Puts a file of this form in its place, with the entries of as many of its bytes, which have the form before. It is put there whole or
-    /// not at all.
+    /// Puts a file with these bytes in its place, whole or not at all.
     ///
     /// # Errors
-    /// `NotEntries` if these are none; else as of `open`.
-    pub fn renew(self, path: &str, kept: usize) -> Result<JournalFile, OpenFault> {
+    /// As of `open`.
+    pub fn renew(self, path: &str, bytes: &[u8]) -> Result<JournalFile, OpenFault> {
         let rt = self.rt;
-        let digits = random_digits(&rt)?;
-        let bytes = anew(rt.alloc(), &digits, first(&self.bytes, kept))?;
-        sow(&rt, path, &bytes)?;
+        sow(&rt, path, bytes)?;
         let file = locked(own().append(true).open(&rt, path)?)?;
         sync_folder(&rt, path)?;
         Ok(JournalFile {
             rt,
             file,
             lock: self.lock,
-            bytes,
         })
     }
 
-    /// The journal in it, which this was read of. What follows whole records is cut, a head is written if there is none, and all of it is
-    /// synced.
+    /// The journal in it, which this was read of, with as many of its lines before the first entry. What follows whole records is cut, a head with
+    /// these digits is written if there is none, and all of it is synced.
     ///
     /// # Errors
     /// `System` if the system refuses a step.
-    pub fn begin(self, audit: &Audit) -> Result<FileJournal, OpenFault> {
-        let digits = random_digits(&self.rt)?;
-        let journal = DiskJournal::begin(&self.rt, self.file, self.lock, audit, &digits)?;
+    pub fn begin(
+        self,
+        audit: &Audit<'_>,
+        said: usize,
+        digits: &[u8; 32],
+    ) -> Result<FileJournal, OpenFault> {
+        let journal = DiskJournal::begin(&self.rt, self.file, self.lock, audit, said, digits)?;
         Ok(journal)
     }
 }
@@ -324,11 +323,12 @@ impl<D: Disk + Drop> DiskJournal<D> {
         rt: &HostRuntime,
         disk: D,
         lock: File,
-        audit: &Audit,
+        audit: &Audit<'_>,
+        said: usize,
         digits: &[u8; 32],
     ) -> Result<DiskJournal<D>, OpenFault>
         requires { IfSome (D.held disk) (λ bytes. IsAudit bytes audit.now) }
-        ensures kept { IfOk result (λ j. IfSome (D.held j.keeper.disk) (λ bytes. bytes_in bytes ≡ audit.now.bytes.items)) }
+        ensures kept { IfOk result (λ j. IfSome (D.held j.keeper.disk) (λ bytes. lines_in bytes ≡ audit.now.lines.items)) }
         ensures synced { IfOk result (λ j. D.synced j.keeper.disk ≡ D.held j.keeper.disk) }
     {
         let alloc = rt.alloc();
@@ -339,7 +339,7 @@ impl<D: Disk + Drop> DiskJournal<D> {
             keeper,
             _lock: lock,
             end,
-            entries: lines_in(&audit.bytes),
+            entries: records_in(audit.lines.get(said..).unwrap_or(&[])),
             syncs: Syncs::new(),
             shares: Vec::new(alloc),
             why: None,
@@ -392,23 +392,28 @@ impl<D: Disk + Drop> DiskJournal<D> {
 impl<D: Disk + Drop> Journal for DiskJournal<D> {
     ghost kept = { λ j. given_to (D.held j.keeper.disk) };
 
-    /// Each entry is written with the second, and with who held the token by which it was made. Nothing is to stay of what could not be written
-    /// whole. If that fails too, the next start cuts what is torn.
-    fn append(&mut self, bytes: &[u8]) -> Result<(), JournalFault>
-        ensures appended { OnOk result (Appends (given_to (D.held self.old.keeper.disk)) (given_to (D.held self.new.keeper.disk)) bytes.now) }
-        ensures torn { OnErr result ((n : ℕ) × Appends (given_to (D.held self.old.keeper.disk)) (given_to (D.held self.new.keeper.disk)) (take n bytes.now)) }
-        ensures synced { OnOk result (0 < length bytes.now → D.synced self.new.keeper.disk ≡ D.held self.new.keeper.disk) }
+    /// Each request is written with the second, and with who held the token by which it was made. Nothing is to stay of what could not be
+    /// written whole. If that fails too, the next start cuts what is torn.
+    fn append(&mut self, lines: &[OwnedLine]) -> Result<(), JournalFault>
+        ensures appended { OnOk result (given_to (D.held self.new.keeper.disk) ≡ option_map (λ ls. ls ++ lines.now) (given_to (D.held self.old.keeper.disk))) }
+        ensures torn { OnErr result ((n : ℕ) × (n ≤ length lines.now)
+            × (given_to (D.held self.new.keeper.disk) ≡ option_map (λ ls. ls ++ take n lines.now) (given_to (D.held self.old.keeper.disk)))) }
+        ensures synced { OnOk result (0 < length lines.now → D.synced self.new.keeper.disk ≡ D.held self.new.keeper.disk) }
         ensures over { self.old.keeper.failed ≡ true → self.new.keeper ≡ self.old.keeper }
     {
-        if bytes.is_empty() {
+        if lines.is_empty() {
             return Ok(());
         }
         let start = Instant::now(&self.rt);
         let second = second_now(&self.rt);
         let shares = mem::replace(&mut self.shares, Vec::new(self.rt.alloc()));
-        match self.keeper.append(self.rt.alloc(), second, &shares, bytes) {
+        let Ok(lines) = lines_of(self.rt.alloc(), lines) else {
+            self.why = Some(KeepFault::Memory);
+            return Err(JournalFault);
+        };
+        match self.keeper.append(self.rt.alloc(), second, &shares, &lines) {
             Ok(length) => {
-                self.count(&start, length, lines_in(bytes));
+                self.count(&start, length, records_in(&lines));
                 Ok(())
             }
             Err(fault) => {

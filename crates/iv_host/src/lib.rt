@@ -3,6 +3,7 @@
 
 mod admins;
 mod arguments;
+mod beginning;
 mod counts;
 mod figures;
 mod files;
@@ -15,9 +16,12 @@ mod tokens;
 
 pub use admins::{ADMIN, Admins, presented_in};
 pub use arguments::{Settings, asked_for};
+pub use beginning::head_of;
 pub use counts::{BOUNDS, Counts, Why, raise};
 pub use figures::{Now, figures_now, state_now};
-pub use journal::{DiskJournal, FileJournal, JournalFile, OpenFault, Syncs};
+pub use journal::{
+    DiskJournal, FileJournal, JournalFile, OpenFault, Syncs, is_plain, random_digits,
+};
 pub use log::Log;
 pub use pages::{answer, page_in, refusal};
 pub use tokens::{SecretFault, TokenFault, TokenFile, read_secret, second_now};

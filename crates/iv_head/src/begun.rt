@@ -1,0 +1,401 @@
+//! `Begun`: what a journal says before its first entry; `push_begun` writes its lines, `read_begun` reads them.
+ghost use Rattle.std.specs.Prelude.{◌≡◌, ◌++◌, ◌∷◌, [], ◌≤◌, Bool, false, IfOk, OnOk, List, ℕ, codes, decimal, drop, length, map, option_map, string_bytes};
+ghost use Rattle.serde_json.specs.Data.{string};
+ghost use Rattle.serde_json.specs.Written.{compact_text};
+ghost use Rattle.iv_clients.specs.Names.{count_in, is_epoch, place_text};
+ghost use Rattle.iv_clients.specs.Parsed.{cut_quote, string_in};
+ghost use Rattle.iv_head.specs.Begun as spec;
+ghost use Rattle.iv_head.specs.Begun.{begun_in, followed_in, is_epoch_text, lines_of, log_text, place_in, standing_in, standing_text, standings_in};
+
+use itoa::Buffer;
+use iv_clients::{OwnedLine, behind, cut_at};
+use iv_journal::Line;
+use iv_message::{Id, quoted, read_id};
+use iv_once::Place;
+use iv_request::read_value;
+use json::{Scratch, Value as Json};
+use std::alloc::{AllocError, Global};
+use std::marker::Model;
+
+/// Where names of a holder stand.
+#[derive(Drop)]
+pub struct Standing {
+    /// Whose they are.
+    pub holder: String,
+    /// The epoch, and how many names came before those that follow.
+    pub at: Place,
+}
+
+impl Model for Standing {
+    ghost use Rattle.std.specs.Prelude.{string_bytes};
+    ghost use Rattle.iv_head.specs.Begun.{Standing};
+
+    ghost Value = { Standing };
+
+    ghost view = { λ s. record { holder = string_bytes s.holder; at = s.at } };
+}
+
+/// A log that is followed.
+#[derive(Drop)]
+pub struct Followed {
+    /// Its name.
+    pub name: String,
+    /// 32 digits that no other beginning of it has.
+    pub epoch: String,
+    /// Where it stood.
+    pub position: u64,
+}
+
+impl Model for Followed {
+    ghost use Rattle.std.specs.Prelude.{string_bytes};
+    ghost use Rattle.iv_head.specs.Begun.{Followed};
+
+    ghost Value = { Followed };
+
+    ghost view = { λ f. record { name = string_bytes f.name; epoch = string_bytes f.epoch; position = f.position } };
+}
+
+/// What a journal says before its first entry.
+#[derive(Drop)]
+pub struct Begun {
+    /// The log that is followed, if one is.
+    pub log: Option<Followed>,
+    /// Where names stand of holders that had some, each once.
+    pub standings: Vec<Standing>,
+}
+
+impl Model for Begun {
+    ghost use Rattle.iv_head.specs.Begun.{Begun};
+
+    ghost Value = { Begun };
+
+    ghost view = { λ b. record { log = b.log; standings = b.standings.items } };
+}
+
+// ---- written
+
+/// Appends the digits of a number.
+fn push_count(text: &mut Vec<u8>, count: u64) -> Result<(), AllocError>
+    ensures { OnOk result (text.new.items ≡ text.old.items ++ decimal count) }
+{
+    text.extend_from_slice(Buffer::new().format(count).as_bytes())?;
+    Ok(())
+}
+
+/// Appends a key, and a text as JSON has it.
+fn push_member(alloc: Global, text: &mut Vec<u8>, key: &[u8], value: &str) -> Result<(), AllocError>
+    ensures { OnOk result (text.new.items ≡ text.old.items ++ (key.now ++ compact_text (string value.now))) }
+{
+    let value = quoted(alloc, value)?;
+    text.extend_from_slice(key)?;
+    text.extend_from_slice(value.as_bytes())?;
+    Ok(())
+}
+
+/// Appends the text of where names stand.
+fn push_standing(alloc: Global, text: &mut Vec<u8>, standing: &Standing) -> Result<(), AllocError>
+    ensures { OnOk result (text.new.items ≡ text.old.items ++ standing_text standing.now) }
+{
+    push_member(alloc, text, b"\"holder\":", standing.holder.as_str())?;
+    text.extend_from_slice(b",\"at\":\"")?;
+    text.extend_from_slice(standing.at.epoch.as_bytes())?;
+    text.push(b'.')?;
+    push_count(text, standing.at.count)?;
+    text.extend_from_slice(b"\"}")?;
+    Ok(())
+}
+
+/// Appends the text of a log.
+fn push_log(alloc: Global, text: &mut Vec<u8>, log: &Followed) -> Result<(), AllocError>
+    ensures { OnOk result (text.new.items ≡ text.old.items ++ log_text log.now) }
+{
+    push_member(alloc, text, b"\"log\":", log.name.as_str())?;
+    text.extend_from_slice(b",\"epoch\":\"")?;
+    text.extend_from_slice(log.epoch.as_bytes())?;
+    text.extend_from_slice(b"\",\"step\":")?;
+    push_count(text, log.position)?;
+    text.push(b'}')?;
+    Ok(())
+}
+
+/// Appends the lines of where names stand.
+fn push_standings(
+    alloc: Global,
+    lines: &mut Vec<OwnedLine>,
+    standings: &[Standing],
+) -> Result<(), AllocError>
+    ensures { OnOk result (lines.new.items ≡ lines.old.items ++ map (λ s. spec.line (standing_text s)) standings.now) }
+{
+    for standing in standings {
+        let mut text = Vec::new(alloc);
+        push_standing(alloc, &mut text, standing)?;
+        lines.push(OwnedLine {
+            is_last: true,
+            text,
+        })?;
+    }
+    Ok(())
+}
+
+/// Appends the lines of what a journal says before its first entry.
+///
+/// # Errors
+/// `AllocError` if a growth of memory was refused.
+pub fn push_begun(
+    alloc: Global,
+    lines: &mut Vec<OwnedLine>,
+    begun: &Begun,
+) -> Result<(), AllocError>
+    ensures { OnOk result (lines.new.items ≡ lines.old.items ++ lines_of begun.now) }
+{
+    if let Some(log) = &begun.log {
+        let mut text = Vec::new(alloc);
+        push_log(alloc, &mut text, log)?;
+        lines.push(OwnedLine {
+            is_last: true,
+            text,
+        })?;
+    }
+    push_standings(alloc, lines, &begun.standings)
+}
+
+// ---- read
+
+/// What stands before the first quotation mark that no backslash escapes, and behind it.
+fn cut_quote(bytes: &[u8]) -> Option<(&[u8], &[u8])>
+    ensures { option_map (λ p. (p.0.now, p.1.now)) result ≡ cut_quote false bytes.now }
+{
+    let mut escaped = false;
+    for at in 0..bytes.len() {
+        if !escaped && bytes[at] == b'"' {
+            return Some((&bytes[..at], &bytes[at + 1..]));
+        }
+        escaped = !escaped && bytes[at] == b'\\';
+    }
+    None
+}
+
+/// The text of a JSON value that is one.
+fn str_of(alloc: Global, value: &Json<'_>) -> Result<Option<String>, AllocError> {
+    match value {
+        Json::String(text) => Ok(Some(String::from_str(alloc, text)?)),
+        _ => Ok(None),
+    }
+}
+
+/// The text that a JSON string has between its quotation marks.
+fn string_in(
+    alloc: Global,
+    text: &[u8],
+    scratch: &mut Scratch,
+) -> Result<Option<String>, AllocError>
+    ensures { IfOk result (λ o. option_map string_bytes o ≡ string_in text.now) }
+{
+    let mut quoted = Vec::new(alloc);
+    quoted.push(b'"')?;
+    quoted.extend_from_slice(text)?;
+    quoted.push(b'"')?;
+    match read_value(alloc, &quoted, scratch)? {
+        None => Ok(None),
+        Some(value) => str_of(alloc, &value),
+    }
+}
+
+/// A number of 64 bits by its digits.
+fn count_in(alloc: Global, digits: &[u8], scratch: &mut Scratch) -> Result<Option<u64>, AllocError>
+    ensures { IfOk result (λ o. o ≡ count_in digits.now) }
+{
+    match read_id(alloc, digits, scratch)? {
+        Some(Id::Natural(count)) => Ok(Some(count)),
+        _ => Ok(None),
+    }
+}
+
+/// Whether a byte is a hexadecimal digit, of small letters.
+fn is_digit(byte: u8) -> bool {
+    b'0' <= byte && byte <= b'9' || b'a' <= byte && byte <= b'f'
+}
+
+/// The epoch that a text is, of 32 digits, if it is one.
+///
+/// # Errors
+/// `AllocError` if a growth of memory was refused.
+pub fn epoch_in(alloc: Global, text: &[u8]) -> Result<Option<String>, AllocError>
+    ensures { IfOk result (λ o. option_map string_bytes o ≡ is_epoch_text text.now) }
+{
+    if text.len() != 32 || !text.iter().all(|byte| is_digit(*byte)) {
+        return Ok(None);
+    }
+    match str::from_utf8(text) {
+        Ok(text) => Ok(Some(String::from_str(alloc, text)?)),
+        Err(_) => Ok(None),
+    }
+}
+
+/// The place of a text `EPOCH.COUNT`.
+fn place_in(alloc: Global, text: &[u8], scratch: &mut Scratch) -> Result<Option<Place>, AllocError>
+    ensures { IfOk result (λ o. o ≡ place_in text.now) }
+{
+    let Some((epoch, digits)) = cut_at(text, b'.') else {
+        return Ok(None);
+    };
+    let Some(epoch) = epoch_in(alloc, epoch)? else {
+        return Ok(None);
+    };
+    let Some(count) = count_in(alloc, digits, scratch)? else {
+        return Ok(None);
+    };
+    Ok(Some(Place { epoch, count }))
+}
+
+/// What a member of a text says between quotation marks, and what stands behind these.
+fn member_in<'a>(text: &'a [u8], key: &[u8]) -> Option<(&'a [u8], &'a [u8])> {
+    cut_quote(behind(text, key)?)
+}
+
+/// Where names stand that a text says.
+fn said_standing(
+    alloc: Global,
+    text: &[u8],
+    scratch: &mut Scratch,
+) -> Result<Option<Standing>, AllocError> {
+    let Some((holder, rest)) = member_in(text, b"\"holder\":\"") else {
+        return Ok(None);
+    };
+    let Some((place, _)) = member_in(rest, b",\"at\":\"") else {
+        return Ok(None);
+    };
+    let Some(at) = place_in(alloc, place, scratch)? else {
+        return Ok(None);
+    };
+    match string_in(alloc, holder, scratch)? {
+        None => Ok(None),
+        Some(holder) => Ok(Some(Standing { holder, at })),
+    }
+}
+
+/// Where names stand, if a text says that as it is written.
+fn standing_in(
+    alloc: Global,
+    text: &[u8],
+    scratch: &mut Scratch,
+) -> Result<Option<Standing>, AllocError>
+    ensures { IfOk result (λ o. o ≡ standing_in text.now) }
+{
+    let Some(standing) = said_standing(alloc, text, scratch)? else {
+        return Ok(None);
+    };
+    let mut again = Vec::new(alloc);
+    push_standing(alloc, &mut again, &standing)?;
+    if again.as_slice() == text {
+        Ok(Some(standing))
+    } else {
+        Ok(None)
+    }
+}
+
+/// The log that a text says.
+fn said_log(
+    alloc: Global,
+    text: &[u8],
+    scratch: &mut Scratch,
+) -> Result<Option<Followed>, AllocError> {
+    let Some((name, rest)) = member_in(text, b"\"log\":\"") else {
+        return Ok(None);
+    };
+    let Some((epoch, rest)) = member_in(rest, b",\"epoch\":\"") else {
+        return Ok(None);
+    };
+    let Some(digits) = behind(rest, b",\"step\":") else {
+        return Ok(None);
+    };
+    let Some((digits, _)) = cut_at(digits, b'}') else {
+        return Ok(None);
+    };
+    let Some(epoch) = epoch_in(alloc, epoch)? else {
+        return Ok(None);
+    };
+    let Some(position) = count_in(alloc, digits, scratch)? else {
+        return Ok(None);
+    };
+    match string_in(alloc, name, scratch)? {
+        None => Ok(None),
+        Some(name) => Ok(Some(Followed {
+            name,
+            epoch,
+            position,
+        })),
+    }
+}
+
+/// The log, if a text says one as it is written.
+fn followed_in(
+    alloc: Global,
+    text: &[u8],
+    scratch: &mut Scratch,
+) -> Result<Option<Followed>, AllocError>
+    ensures { IfOk result (λ o. o ≡ followed_in text.now) }
+{
+    let Some(log) = said_log(alloc, text, scratch)? else {
+        return Ok(None);
+    };
+    let mut again = Vec::new(alloc);
+    push_log(alloc, &mut again, &log)?;
+    if again.as_slice() == text {
+        Ok(Some(log))
+    } else {
+        Ok(None)
+    }
+}
+
+/// Where names stand that the first lines say, as far as they do.
+fn standings_in(
+    alloc: Global,
+    lines: &[Line],
+    scratch: &mut Scratch,
+) -> Result<Vec<Standing>, AllocError>
+    ensures { IfOk result (λ out. out.items ≡ standings_in lines.now) }
+{
+    let mut out = Vec::new(alloc);
+    for line in lines {
+        if !line.is_last {
+            return Ok(out);
+        }
+        let Some(standing) = standing_in(alloc, line.text, scratch)? else {
+            return Ok(out);
+        };
+        out.push(standing)?;
+    }
+    Ok(out)
+}
+
+/// The log that the first line says, if it does.
+fn log_in(
+    alloc: Global,
+    lines: &[Line],
+    scratch: &mut Scratch,
+) -> Result<Option<Followed>, AllocError> {
+    match lines.first() {
+        Some(line) if line.is_last => followed_in(alloc, line.text, scratch),
+        _ => Ok(None),
+    }
+}
+
+/// What a journal's lines behind its head say before its first entry, and how many of them say it.
+///
+/// # Errors
+/// `AllocError` if a growth of memory was refused.
+pub fn read_begun(
+    alloc: Global,
+    lines: &[Line],
+    scratch: &mut Scratch,
+) -> Result<(Begun, usize), AllocError>
+    ensures within { IfOk result (λ p. p.1 ≤ length lines.now) }
+    ensures read { IfOk result (λ p. (p.0, drop p.1 lines.now) ≡ begun_in lines.now) }
+{
+    let log = log_in(alloc, lines, scratch)?;
+    let first = if log.is_some() { 1 } else { 0 };
+    let standings = standings_in(alloc, lines.get(first..).unwrap_or(&[]), scratch)?;
+    let count = first + standings.len();
+    Ok((Begun { log, standings }, count))
+}

@@ -1,0 +1,40 @@
+//! `head_of`: what a gateway begins with, by what its journal says before its first entry.
+ghost use Rattle.std.specs.Prelude.{◌≡◌, IfOk};
+ghost use Rattle.iv_gateway.specs.Views.{IsHead};
+ghost use Rattle.iv_host.specs.Beginning.{head_with};
+
+use iv_gateway::{Head, Log};
+use iv_head::{Begun, Followed, names_in};
+use std::alloc::{AllocError, Global};
+
+/// The log of a journal, and where it stood.
+fn log_of(followed: Option<Followed>) -> (Option<Log>, u64) {
+    match followed {
+        None => (None, 0),
+        Some(followed) => {
+            let Followed {
+                name,
+                epoch,
+                position,
+            } = followed;
+            (Some(Log { name, epoch }), position)
+        }
+    }
+}
+
+/// What a gateway begins with whose journal has this epoch, and says this before its first entry.
+///
+/// # Errors
+/// `AllocError` if a growth of memory was refused.
+pub fn head_of(alloc: Global, epoch: &str, begun: Begun) -> Result<Head, AllocError>
+    ensures { IfOk result (λ x. IsHead (head_with epoch.now begun) x) }
+{
+    let Begun { log, standings } = begun;
+    let names = names_in(alloc, epoch, &standings)?;
+    let (log, position) = log_of(log);
+    Ok(Head {
+        names,
+        log,
+        position,
+    })
+}
